@@ -1,0 +1,4 @@
+pub mod Tree
+pub mod Traces
+pub mod Run
+pub mod Promises

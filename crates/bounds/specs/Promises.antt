@@ -1,0 +1,114 @@
+-- What is promised of the bound and of the run, as statements. `proofs/Theorems` proves each by its name.
+use mathlib.Core.Path.{_≡_}
+use mathlib.Core.Bool.{Bool, true, false}
+use mathlib.Core.List.{List}
+use mathlib.Core.Logic.{_↔_}
+use Prim.Native.Nat.{ℕ, _+_, _≤_}
+use lib.IntN.{ℤ}
+use Rattle.refusals.specs.declared.Refusal.{Refusal}
+use Rattle.cells.specs.Order.{Refines, Allowed}
+use Rattle.cells.specs.Cells.{unknown}
+use Rattle.machine.specs.Machine.{State, Code, height, step}
+use Rattle.machine.specs.Order.{Cellwise}
+use Rattle.bounds.specs.Tree.{tree, verdict, Report, Verdict, accepted, refused, openingLimit, bound}
+use Rattle.bounds.specs.Traces.{Move, cost, wordSum, decisions, Trace, Path, CostMax, RunMax, Finite, Listed}
+use Rattle.bounds.specs.Run.{Run, begin, after, isStuck, left, run}
+
+-- no figure of the report r is greater than that of q
+pub record NoGreater (r q : Report) : Type 0 where
+  pub cycles : r .cycles ≤ q .cycles
+  pub words : r .words ≤ q .words
+  pub depth : r .depth ≤ q .depth
+  pub steps : r .steps ≤ q .steps
+
+-- Demand 3, of a run r that n steps have made, under the report q of the bound M
+pub record Safe (c : Code) (M : State → Verdict) (q : Report) (n : ℕ) (r : Run) : Type 0 where
+  -- "it is not stuck, its stack has nowhere been deeper than reported"
+  pub moves : isStuck c r ≡ false
+  pub depth : r .depth ≤ q .depth
+  pub steps : r .steps ≤ q .steps
+  -- "bounding it afresh from the state reached, under the same budget, is never refused"; "after STOP nothing is left to bound"
+  pub fresh : Report
+  pub accepts : left M (r .stopped) (r .state) ≡ accepted fresh
+  -- "The cycles spent plus those bounded afresh are at most the reported cycles, and the same for words"
+  pub cycles : r .cycles + fresh .cycles ≤ q .cycles
+  pub words : r .words + fresh .words ≤ q .words
+  -- "Every such run makes its STOP within the reported steps."
+  pub stops : q .steps ≤ n → r .stopped ≡ true
+
+-- Demand 3, whole: for every start that t allows, every list of answers and every number of steps
+abbrev pub Interruptible : Code → (State → Verdict) → Type 0
+Interruptible c M =
+    (t : State) (q : Report) → M t ≡ accepted q →
+    (s : State) → Cellwise Allowed s t → (answers : List ℤ) (n : ℕ) → Safe c M q n (after c n (begin s answers))
+
+-- "STOP is a step, and none follows it: a larger number of steps gives the same state and sums."
+abbrev pub NothingFollows : Type 0
+NothingFollows = (c : Code) (n : ℕ) (r : Run) → r .stopped ≡ true → after c n r ≡ r
+
+-- Theorem 14 of document 000: the maximum cost from an erasure of the start is at least the cost of the run
+abbrev pub Theorem14 : Type 0
+Theorem14 =
+    (c : Code) (t : State) (k : ℕ) → CostMax (step c unknown) t k →
+    (s : State) → Cellwise Allowed s t → (answers : List ℤ) (n : ℕ) → after c n (begin s answers) .stopped ≡ true → after c n (begin s answers) .cycles ≤ k
+
+-- knowing more never costs more, of a bound M
+abbrev pub Monotone : (State → Verdict) → Type 0
+Monotone M = (t : State) (q : Report) → M t ≡ accepted q → (s : State) → Cellwise Refines s t → (r : Report) × (M s ≡ accepted r) × NoGreater r q
+
+-- k is the value of f on some path, and no path has a larger one
+pub record LargestOver (P : List Move → Type 0) (f : List Move → ℕ) (k : ℕ) : Type 0 where
+  pub witness : List Move
+  pub path : P witness
+  pub attains : f witness ≡ k
+  pub most : (ms : List Move) → P ms → f ms ≤ k
+
+-- Demand 2, of the report q of the bound from s
+pub record Exact (c : Code) (s : State) (q : Report) : Type 0 where
+  -- CYCLES is the maximum cost, and the cost of a path, and no path costs more
+  pub cycles : CostMax (step c unknown) s (q .cycles)
+  pub costliest : LargestOver (Path (step c unknown) s) cost (q .cycles)
+  -- PATH is the decisions of the maximum trace, whose cost is CYCLES (Lemma 12)
+  pub trace : List Move
+  pub worst : RunMax (step c unknown) s trace
+  pub lemma12 : cost trace ≡ q .cycles
+  pub path : decisions trace ≡ q .path
+  -- WORDS is the largest word sum over all paths
+  pub words : LargestOver (Path (step c unknown) s) wordSum (q .words)
+  -- DEPTH is the largest height over all states reached
+  pub deepest : State
+  pub reached : (ms : List Move) × Trace (step c unknown) s ms deepest
+  pub attains : height deepest ≡ q .depth
+  pub depth : (ms : List Move) (t : State) → Trace (step c unknown) s ms t → height t ≤ q .depth
+  -- STEPS is the number of steps of the tree
+  pub steps : Finite (step c unknown) openingLimit s (q .steps)
+
+abbrev pub ExactReports : Type 0
+ExactReports = (c : Code) (budget : ℕ) (s : State) (q : Report) → bound c budget s ≡ accepted q → Exact c s q
+
+-- both relations have one value
+abbrev pub OneMaximum : Type 0
+OneMaximum =
+    (c : Code) (s : State) →
+    ((k l : ℕ) → CostMax (step c unknown) s k → CostMax (step c unknown) s l → k ≡ l)
+    × ((xs ys : List Move) → RunMax (step c unknown) s xs → RunMax (step c unknown) s ys → xs ≡ ys)
+
+-- "A routine is refused in the listed cases and in no other"
+abbrev pub AcceptedWhere : Type 0
+AcceptedWhere =
+    (c : Code) (budget : ℕ) (s : State) →
+    ((q : Report) × (bound c budget s ≡ accepted q)) ↔ ((n : ℕ) × Finite (step c unknown) openingLimit s n × (n ≤ budget))
+
+abbrev pub RefusedWhere : Type 0
+RefusedWhere = (c : Code) (budget : ℕ) (s : State) (r : Refusal) → (bound c budget s ≡ refused r) ↔ Listed (step c unknown) openingLimit budget s r
+
+-- where the tree is cut off does not matter
+abbrev pub FuelIrrelevant : Type 0
+FuelIrrelevant = (c : Code) (budget fuel : ℕ) (s : State) → budget ≤ fuel → verdict budget (tree (step c unknown) fuel openingLimit s) ≡ bound c budget s
+
+-- two starts of one code, the first plain and allowed by the second: where the bound accepts the second, the run of the first under the
+-- same BUDGET, with any answers, is refused by neither 7 nor 9 and is within the report's four figures
+abbrev pub RunWithinBound : Type 0
+RunWithinBound =
+    (c : Code) (budget : ℕ) (t : State) (q : Report) → bound c budget t ≡ accepted q →
+    (s : State) → Cellwise Allowed s t → (answers : List ℤ) → (r : Report) × (run c budget s answers ≡ accepted r) × NoGreater r q

@@ -1,0 +1,150 @@
+-- The laws of cells, for the erasure order and for the plain cells that a cell allows. With specs/ these are all that knows what a
+-- cell is. Assumes nothing.
+use mathlib.Core.Path.{_≡_, refl}
+use Prim.Native.Nat.{ℕ, zero, suc}
+use lib.IntN.{ℤ, pos, negsuc}
+use Rattle.numbers.specs.Numbers.{IsNumber, wrap}
+use Rattle.numbers.proofs.NumberLaws.{wrap-number}
+use Rattle.cells.specs.declared.Value.{Value}
+use Rattle.cells.specs.declared.Value.the-variants.{Number, Unknown, Handle}
+use Rattle.cells.specs.declared.Cell.{Cell}
+use Rattle.cells.specs.Try.{Try, stuck, done}
+use Rattle.cells.specs.Cells.{cell, number, unknown, handle, Unary, calculate₁, Binary, calculate₂, map₁, map₂, operate₁, operate₂, Condition, test, condition, handled, block}
+use Rattle.cells.specs.Order.{Refines, same, erased, Allowed, known, some-number, same-handle}
+use Rattle.cells.proofs.Covering.{Covered, by-stuck, both, covered-self, Narrower, zeros, nonzeros, zero-unknown, nonzero-unknown, unknowns}
+
+-- all that the machine's laws ask of a relation of cells
+pub record Lawful (R : Cell → Cell → Type 0) (two : Type 0) : Type 0 where
+  pub numbers : (n : ℤ) → R (number n) (number n)
+  pub operates₁ : (u : Unary) (i : ℤ) {a a′ : Cell} → R a a′ → Covered R (operate₁ u i a) (operate₁ u i a′)
+  pub operates₂ : (b : Binary) {a c a′ c′ : Cell} → R a a′ → R c c′ → Covered R (operate₂ b a c) (operate₂ b a′ c′)
+  pub conditions : {a a′ : Cell} → R a a′ → Covered (Narrower two) (condition a) (condition a′)
+  pub blocks : {a a′ : Cell} → R a a′ → Covered _≡_ (block a) (block a′)
+
+-- the order
+
+pub refines-trans : {a b c : Cell} → Refines a b → Refines b c → Refines a c
+refines-trans same q = q
+refines-trans (erased h) same = erased h
+
+pub allowed-refines : {a b : Cell} → Allowed a b → Refines a b
+allowed-refines known = same
+allowed-refines (some-number h) = erased h
+allowed-refines same-handle = same
+
+-- an allowed cell allows itself: it is plain
+pub allowed-plain : {a b : Cell} → Allowed a b → Allowed a a
+allowed-plain known = known
+allowed-plain (some-number h) = known
+allowed-plain same-handle = same-handle
+
+pub allowed-trans : {a b c : Cell} → Allowed a b → Refines b c → Allowed a c
+allowed-trans p same = p
+allowed-trans known (erased h) = some-number h
+
+pub number-allowed : (n : ℤ) → Allowed (number n) unknown
+number-allowed n = some-number (wrap-number n)
+
+wrapped : (n : ℤ) → Refines (number n) unknown
+wrapped n = erased (wrap-number n)
+
+-- the operations
+
+map₁-refines : (f : ℤ → ℤ) {a a′ : Cell} → Refines a a′ → Covered Refines (map₁ f (a .value)) (map₁ f (a′ .value))
+unfolding map₁
+map₁-refines f same = covered-self (λ c. same) _
+map₁-refines f (erased {n} h) = both (wrapped (f n))
+
+map₁-allowed : (f : ℤ → ℤ) {a a′ : Cell} → Allowed a a′ → Covered Allowed (map₁ f (a .value)) (map₁ f (a′ .value))
+unfolding map₁
+map₁-allowed f known = both known
+map₁-allowed f (some-number {n} h) = both (number-allowed (f n))
+map₁-allowed f same-handle = by-stuck
+
+-- with one operand erased
+map₂-left : (f : ℤ → ℤ → ℤ) (m : ℤ) (w : Value) → Covered Refines (map₂ f (Number m) w) (map₂ f Unknown w)
+unfolding map₂
+map₂-left f m (Number n) = both (wrapped (f m n))
+map₂-left f m Unknown = both same
+map₂-left f m (Handle k) = by-stuck
+
+map₂-right : (f : ℤ → ℤ → ℤ) (v : Value) (n : ℤ) → Covered Refines (map₂ f v (Number n)) (map₂ f v Unknown)
+unfolding map₂
+map₂-right f (Number m) n = both (wrapped (f m n))
+map₂-right f Unknown n = both same
+map₂-right f (Handle k) n = by-stuck
+
+map₂-refines : (f : ℤ → ℤ → ℤ) {a c a′ c′ : Cell} → Refines a a′ → Refines c c′ → Covered Refines (map₂ f (a .value) (c .value)) (map₂ f (a′ .value) (c′ .value))
+unfolding map₂
+map₂-refines f same same = covered-self (λ c. same) _
+map₂-refines f (same {a}) (erased {n} h) = map₂-right f (a .value) n
+map₂-refines f (erased {n} h) (same {a}) = map₂-left f n (a .value)
+map₂-refines f (erased {n = m} h) (erased {n} k) = both (wrapped (f m n))
+
+map₂-allowed : (f : ℤ → ℤ → ℤ) {a c a′ c′ : Cell} → Allowed a a′ → Allowed c c′ → Covered Allowed (map₂ f (a .value) (c .value)) (map₂ f (a′ .value) (c′ .value))
+unfolding map₂
+map₂-allowed f known known = both known
+map₂-allowed f (known {n = m}) (some-number {n} h) = both (number-allowed (f m n))
+map₂-allowed f known same-handle = by-stuck
+map₂-allowed f (some-number {n = m} h) (known {n}) = both (number-allowed (f m n))
+map₂-allowed f (some-number {n = m} h) (some-number {n} k) = both (number-allowed (f m n))
+map₂-allowed f (some-number h) same-handle = by-stuck
+map₂-allowed f same-handle q = by-stuck
+
+-- conditions and handles
+
+test-self : (v : Value) → Covered (Narrower (Unit {0})) (test v) (test v)
+unfolding test
+test-self (Number (pos zero)) = both zeros
+test-self (Number (pos (suc n))) = both nonzeros
+test-self (Number (negsuc n)) = both nonzeros
+test-self Unknown = both (unknowns tt)
+test-self (Handle k) = by-stuck
+
+test-erased : {two : Type 0} (n : ℤ) → Covered (Narrower two) (test (Number n)) (test Unknown)
+unfolding test
+test-erased (pos zero) = both zero-unknown
+test-erased (pos (suc n)) = both nonzero-unknown
+test-erased (negsuc n) = both nonzero-unknown
+
+test-known : {two : Type 0} (n : ℤ) → Covered (Narrower two) (test (Number n)) (test (Number n))
+unfolding test
+test-known (pos zero) = both zeros
+test-known (pos (suc n)) = both nonzeros
+test-known (negsuc n) = both nonzeros
+
+condition-refines : {a a′ : Cell} → Refines a a′ → Covered (Narrower (Unit {0})) (condition a) (condition a′)
+unfolding condition
+condition-refines (same {a}) = test-self (a .value)
+condition-refines (erased {n} h) = test-erased n
+
+condition-allowed : {a a′ : Cell} → Allowed a a′ → Covered (Narrower ⊥) (condition a) (condition a′)
+unfolding condition test
+condition-allowed (known {n}) = test-known n
+condition-allowed (some-number {n} h) = test-erased n
+condition-allowed same-handle = by-stuck
+
+block-refines : {a a′ : Cell} → Refines a a′ → Covered _≡_ (block a) (block a′)
+unfolding block handled
+block-refines same = covered-self (λ k. refl) _
+block-refines (erased h) = by-stuck
+
+pub refines-lawful : Lawful Refines (Unit {0})
+unfolding operate₁ operate₂
+refines-lawful = record {
+  numbers = λ n. same;
+  operates₁ = λ u i r. map₁-refines (calculate₁ u i) r;
+  operates₂ = λ b r q. map₂-refines (calculate₂ b) r q;
+  conditions = condition-refines;
+  blocks = block-refines;
+}
+
+pub allowed-lawful : Lawful Allowed ⊥
+unfolding operate₁ operate₂
+allowed-lawful = record {
+  numbers = λ n. known;
+  operates₁ = λ u i r. map₁-allowed (calculate₁ u i) r;
+  operates₂ = λ b r q. map₂-allowed (calculate₂ b) r q;
+  conditions = condition-allowed;
+  blocks = λ r. block-refines (allowed-refines r);
+}

@@ -1,0 +1,86 @@
+-- Cells, and all that the machine does with them: nothing above this layer looks inside a cell. (document 01, Cells and machine)
+use Prim.Native.Nat.{ℕ, zero, suc}
+use lib.IntN.{ℤ, pos, negsuc, negℤ, _+ℤ_, _-ℤ_}
+use Rattle.numbers.specs.Numbers.{wrap, Comparison, holds, bit}
+use Rattle.cells.specs.declared.Value.{Value}
+use Rattle.cells.specs.declared.Value.the-variants.{Number, Unknown, Handle}
+use Rattle.cells.specs.declared.Cell.{Cell}
+use Rattle.cells.specs.Try.{Try, stuck, done}
+
+abbrev pub cell : Value → Cell
+cell v = record { value = v }
+
+-- a number enters a cell only here, and wraps
+abbrev pub number : ℤ → Cell
+number n = cell (Number (wrap n))
+
+abbrev pub unknown : Cell
+unknown = cell Unknown
+
+abbrev pub handle : ℕ → Cell
+handle k = cell (Handle k)
+
+-- "OFFSETINT i adds i. NEGINT negates. BOOLNOT gives 1 minus the accumulator."
+pub data Unary : Type 0 where
+  offset negate complement : Unary
+
+-- with the instruction's number i
+unfoldable pub calculate₁ : Unary → ℤ → ℤ → ℤ
+calculate₁ offset i n = n +ℤ i
+calculate₁ negate i n = negℤ n
+calculate₁ complement i n = pos 1 -ℤ n
+
+-- "ADDINT, SUBINT, EQ, NEQ, LTINT, LEINT, GTINT, GEINT"
+pub data Binary : Type 0 where
+  add subtract : Binary
+  compare : Comparison → Binary
+
+-- "accumulator on the left, popped entry on the right"
+unfoldable pub calculate₂ : Binary → ℤ → ℤ → ℤ
+calculate₂ add m n = m +ℤ n
+calculate₂ subtract m n = m -ℤ n
+calculate₂ (compare c) m n = bit (holds c m n)
+
+-- "Arithmetic or comparison with an unknown gives an unknown. Stuck: a handle in arithmetic, comparison or branch condition"
+unfoldable pub map₁ : (ℤ → ℤ) → Value → Try Cell
+map₁ f (Number n) = done (number (f n))
+map₁ f Unknown = done unknown
+map₁ f (Handle k) = stuck
+
+unfoldable pub map₂ : (ℤ → ℤ → ℤ) → Value → Value → Try Cell
+map₂ f (Number m) (Number n) = done (number (f m n))
+map₂ f (Number m) Unknown = done unknown
+map₂ f (Number m) (Handle k) = stuck
+map₂ f Unknown (Number n) = done unknown
+map₂ f Unknown Unknown = done unknown
+map₂ f Unknown (Handle k) = stuck
+map₂ f (Handle j) w = stuck
+
+unfoldable pub operate₁ : Unary → ℤ → Cell → Try Cell
+operate₁ u i a = map₁ (calculate₁ u i) (a .value)
+
+unfoldable pub operate₂ : Binary → Cell → Cell → Try Cell
+operate₂ b a c = map₂ (calculate₂ b) (a .value) (c .value)
+
+-- a branch condition
+pub data Condition : Type 0 where
+  is-zero is-nonzero is-unknown : Condition
+
+unfoldable pub test : Value → Try Condition
+test (Number (pos zero)) = done is-zero
+test (Number (pos (suc n))) = done is-nonzero
+test (Number (negsuc n)) = done is-nonzero
+test Unknown = done is-unknown
+test (Handle k) = stuck
+
+unfoldable pub condition : Cell → Try Condition
+condition a = test (a .value)
+
+-- "Stuck: a field access through a non-handle"
+unfoldable pub handled : Value → Try ℕ
+handled (Number n) = stuck
+handled Unknown = stuck
+handled (Handle k) = done k
+
+unfoldable pub block : Cell → Try ℕ
+block a = handled (a .value)

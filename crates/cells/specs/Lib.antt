@@ -1,0 +1,3 @@
+pub mod Try
+pub mod Cells
+pub mod Order

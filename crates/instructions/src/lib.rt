@@ -1,0 +1,1 @@
+// The 61 instruction kinds. The table is in specs/.

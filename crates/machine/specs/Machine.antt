@@ -1,0 +1,167 @@
+-- The machine: its state, its code, and the one step that the bound and the run share. (document 01, Cells and machine)
+use Prim.Native.Nat.{ℕ, zero, suc, _+_, _-_}
+use mathlib.Core.Bool.{Bool, true, false, cond}
+use mathlib.Core.List.{List, [], _∷_}
+use lib.Dec.{ltb}
+use lib.IntN.{ℤ, pos, natAbs}
+use lib.ListN.{length}
+use Rattle.cells.specs.Try.{Try, stuck, done, _>>=_}
+use Rattle.cells.specs.declared.Cell.{Cell}
+use Rattle.cells.specs.Cells.{number, operate₁, operate₂, Condition, is-zero, is-nonzero, is-unknown, condition, block}
+use Rattle.instructions.specs.Kinds.{Argument, none, target, primitive, number-in, calls, Operation, nothing, access, drop, assign, constant, get-field, set-field, branch, branch-if, branch-if-not, call, stop, unary, binary, Kind, kinds, operand}
+use Rattle.machine.specs.Lists.{nth, put, without}
+
+-- "The state is an address, an accumulator, a stack of at most 64 cells (entry 0 on top) and at most eight blocks of sixteen fields
+-- each." A block has the fields that the file names, sixteen at most.
+pub record State : Type 0 where
+  pub at : ℕ
+  pub accu : Cell
+  pub stack : List Cell
+  pub blocks : List (List Cell)
+
+abbrev pub stackLimit : ℕ
+stackLimit = 64
+
+-- the stack's height
+unfoldable pub height : State → ℕ
+height s = length (s .stack)
+
+pub record Price : Type 0 where
+  pub cycles : ℕ
+  pub words : ℕ
+
+-- an instruction of the code: its kind's place in the table, its argument (a number, a target, a primitive's place), what it costs
+pub record Instruction : Type 0 where
+  pub kind : ℕ
+  pub argument : ℤ
+  pub price : Price
+
+-- prices by place: of the kinds in the table, of the primitives on their line
+pub record Prices : Type 0 where
+  pub kinds : ℕ → Price
+  pub primitives : ℕ → Price
+
+abbrev pub sum : Price → Price → Price
+sum p q = record { cycles = p .cycles + q .cycles; words = p .words + q .words }
+
+-- "A step costs its kind's price, a C_CALL also its primitive's."
+unfoldable pub cost : Prices → Argument → ℕ → ℤ → Price
+cost ps none k a = ps .kinds k
+cost ps target k a = ps .kinds k
+cost ps primitive k a = sum (ps .kinds k) (ps .primitives (natAbs a))
+cost ps (number-in r) k a = ps .kinds k
+
+-- the code: its instructions, and the address of the first
+pub record Code : Type 0 where
+  pub first : ℕ
+  pub instructions : List Instruction
+
+-- "Stuck: address outside the code", below it or above it
+unfoldable pub fetch : Code → ℕ → Try Instruction
+fetch c a = cond (ltb a (c .first)) stuck (nth (a - c .first) (c .instructions))
+
+-- what a step leads to: STOP, one way, or the two ways of an unknown branch, not taken and taken; each way with its price
+pub data Next : Type 0 where
+  stops : Price → Next
+  goes : Price → State → Next
+  opens : Price → State → Price → State → Next
+
+-- a state with one part replaced
+unfoldable pub jump : ℕ → State → State
+jump a s = record { at = a; accu = s .accu; stack = s .stack; blocks = s .blocks }
+
+unfoldable pub load : Cell → State → State
+load c s = record { at = s .at; accu = c; stack = s .stack; blocks = s .blocks }
+
+unfoldable pub restack : List Cell → State → State
+restack cs s = record { at = s .at; accu = s .accu; stack = cs; blocks = s .blocks }
+
+unfoldable pub store : List (List Cell) → State → State
+store bs s = record { at = s .at; accu = s .accu; stack = s .stack; blocks = bs }
+
+-- "PUSH: push accumulator"; "Stuck: a push on 64 entries"
+unfoldable pub push : State → Try State
+push s = cond (ltb (height s) stackLimit) (done (restack (s .accu ∷ s .stack) s)) stuck
+
+-- "POP n: drop n"; "Stuck: an entry popped that is not there"
+unfoldable pub pop : ℕ → State → Try State
+pop n s = without n (s .stack) >>= λ cs. done (restack cs s)
+
+-- "field n of the handled block"; "Stuck: a field access through a non-handle; a field the block lacks"
+unfoldable pub getField : ℕ → State → Try Cell
+getField n s =
+    block (s .accu) >>= λ k.
+    nth k (s .blocks) >>= λ b.
+    nth n b
+
+unfoldable pub setField : ℕ → Cell → State → Try State
+setField n c s =
+    block (s .accu) >>= λ k.
+    nth k (s .blocks) >>= λ b.
+    put n c b >>= λ b′.
+    put k b′ (s .blocks) >>= λ bs.
+    done (store bs s)
+
+-- "The address rises by one unless a branch jumps."
+unfoldable pub advance : State → State
+advance s = jump (suc (s .at)) s
+
+unfoldable pub ahead : Price → Try State → Try Next
+ahead p m = m >>= λ s. done (goes p (advance s))
+
+-- a conditional branch to a that jumps on non-zero: "on an unknown opens two ways: not taken (N) first, then taken (T)"
+unfoldable pub ways : Price → ℕ → State → Condition → Next
+ways p a s is-zero = goes p (advance s)
+ways p a s is-nonzero = goes p (jump a s)
+ways p a s is-unknown = opens p (advance s) p (jump a s)
+
+-- "BRANCHIFNOT a on zero"
+unfoldable pub opposite : Condition → Condition
+opposite is-zero = is-nonzero
+opposite is-nonzero = is-zero
+opposite is-unknown = is-unknown
+
+-- what an operation with operand i does, at the price p; r is the answer that a C_CALL gets
+unfoldable pub perform : Price → Cell → Operation → ℤ → State → Try Next
+perform p r nothing i s = ahead p (done s)
+-- "accumulator becomes entry n"
+perform p r access i s = ahead p (nth (natAbs i) (s .stack) >>= λ c. done (load c s))
+perform p r drop i s = ahead p (pop (natAbs i) s)
+-- "entry n becomes the accumulator, which becomes 0"
+perform p r assign i s = ahead p (put (natAbs i) (s .accu) (s .stack) >>= λ cs. done (load (number (pos 0)) (restack cs s)))
+perform p r constant i s = ahead p (done (load (number i) s))
+perform p r (unary u) i s = ahead p (operate₁ u i (s .accu) >>= λ c. done (load c s))
+-- "accumulator on the left, popped entry on the right"
+perform p r (binary b) i s = ahead p (nth 0 (s .stack) >>= λ c. operate₂ b (s .accu) c >>= λ d. pop 1 s >>= λ t. done (load d t))
+perform p r get-field i s = ahead p (getField (natAbs i) s >>= λ c. done (load c s))
+-- "field n becomes the popped entry, accumulator 0"
+perform p r set-field i s = ahead p (nth 0 (s .stack) >>= λ c. pop 1 s >>= λ t. setField (natAbs i) c t >>= λ u. done (load (number (pos 0)) u))
+perform p r branch i s = done (goes p (jump (natAbs i) s))
+perform p r branch-if i s = condition (s .accu) >>= λ x. done (ways p (natAbs i) s x)
+perform p r branch-if-not i s = condition (s .accu) >>= λ x. done (ways p (natAbs i) s (opposite x))
+-- "one fewer popped than the digit; blocks untouched"
+perform p r call i s = ahead p (pop (natAbs i) s >>= λ t. done (load r t))
+perform p r stop i s = done (stops p)
+
+-- "push, then ACC n on the longer stack"; "PUSHCONST0 to 3, PUSHCONSTINT i push first"
+unfoldable pub prepare : Bool → State → Try State
+prepare true s = push s
+prepare false s = done s
+
+unfoldable pub execute : Cell → Instruction → Kind → State → Try Next
+execute r i k s = prepare (k .pushes) s >>= λ t. perform (i .price) r (k .operation) (operand k (i .argument)) t
+
+-- one step from s, where a C_CALL gets the answer r: unknown in the bound, a number in a run
+unfoldable pub step : Code → Cell → State → Try Next
+step c r s =
+    fetch c (s .at) >>= λ i.
+    nth (i .kind) kinds >>= λ k.
+    execute r i k s
+
+-- whether the step from s takes an answer
+unfoldable pub takes : Try Kind → Bool
+takes stuck = false
+takes (done k) = calls (k .argument)
+
+unfoldable pub takesAnswer : Code → State → Bool
+takesAnswer c s = takes (fetch c (s .at) >>= λ i. nth (i .kind) kinds)

@@ -1,0 +1,1 @@
+// The machine: its state and its step. The meaning is in specs/.

@@ -1,0 +1,43 @@
+-- What is printed: a report, a run's report, a refusal. (document 01, The printed report)
+use Prim.Native.Nat.{ℕ, _+_, _*_, _/_}
+use mathlib.Core.List.{List, [], _∷_, _++_, map}
+use Rattle.refusals.specs.Refusals.{number, place}
+use Rattle.refusals.specs.declared.Refusal.{Refusal}
+use Rattle.text.specs.Text.{bytes}
+use Rattle.text.specs.Decimal.{decimal}
+use Rattle.bounds.specs.Tree.{Report, Decision, N, T}
+
+-- "SHARE is CYCLES × 1000 / TICK to the nearest whole number, a half going up": the whole part of that and a half
+unfoldable pub share : ℕ → ℕ → ℕ
+share tick cycles = (2 * (cycles * 1000) + tick) / (2 * tick)
+
+abbrev pub letter : Decision → ℕ
+letter N = 78
+letter T = 84
+
+-- "PATH is `-` with no unknown branch."
+unfoldable pub pathText : List Decision → List ℕ
+pathText [] = bytes "-"
+pathText (d ∷ ds) = letter d ∷ map letter ds
+
+abbrev pub space : List ℕ
+space = bytes " "
+
+abbrev pub feed : List ℕ
+feed = bytes "\n"
+
+-- the first four figures
+unfoldable pub figures : Report → List ℕ
+figures q = decimal (q .cycles) ++ space ++ decimal (q .words) ++ space ++ decimal (q .depth) ++ space ++ decimal (q .steps)
+
+unfoldable pub boundText : ℕ → Report → List ℕ
+boundText tick q =
+    bytes "CYCLES WORDS DEPTH STEPS SHARE PATH\n" ++ figures q ++ space ++ decimal (share tick (q .cycles)) ++ space ++ pathText (q .path) ++ feed
+
+-- "The run program prints the first four names and their values for the run made."
+unfoldable pub runText : Report → List ℕ
+runText q = bytes "CYCLES WORDS DEPTH STEPS\n" ++ figures q ++ feed
+
+-- "A refusal prints one line: `REFUSED`, number and place in decimal, parted by one space."
+unfoldable pub refusalText : Refusal → List ℕ
+refusalText r = bytes "REFUSED " ++ decimal (number r) ++ space ++ decimal (place r) ++ feed

@@ -1,0 +1,112 @@
+-- What each line of a routine file holds. (document 01, The routine file, the table)
+use Prim.Native.Nat.{ℕ, zero, suc, _+_, _*_}
+use mathlib.Core.Bool.{Bool, true, false, cond}
+use mathlib.Core.List.{List, [], _∷_, _++_, map}
+use lib.Dec.{eqb}
+use lib.ListN.{length, drop}
+use Rattle.text.specs.Text.{bytes, equals, words, Line}
+
+-- "Each section is a line of names, then lines of values in that order"
+pub data Section : Type 0 where
+  limits kinds primitives cells fields instructions answers : Section
+
+-- the lines of values
+pub data Column : Type 0 where
+  limit cycles words-column cell : Column
+
+-- what a line holds: a section's names, a section's values, code line k or answer k (from 0)
+pub data Role : Type 0 where
+  names : Section → Role
+  values : Section → Column → Role
+  code : ℕ → Role
+  answer : ℕ → Role
+
+abbrev pub section : Section → List Column → List Role
+section s cs = names s ∷ map (values s) cs
+
+-- "Lines 1, 2 · 3 to 5 · 6 to 8 · 9, 10 · 11, 12 · 13 on": every line number follows from this list
+abbrev pub layout : List Role
+layout =
+    section limits (limit ∷ [])
+    ++ section kinds (cycles ∷ words-column ∷ [])
+    ++ section primitives (cycles ∷ words-column ∷ [])
+    ++ section cells (cell ∷ [])
+    ++ section fields (cell ∷ [])
+    ++ section instructions []
+
+-- "last, optional · ANSWER": a line of that word alone, after at least one code line
+unfoldable pub isAnswer : Line → Bool
+isAnswer l = equals (l .text) (bytes "ANSWER")
+
+-- the lines after the layout, and of them the code lines and the answers
+unfoldable pub body : List Line → List Line
+body ls = drop (length layout) ls
+
+unfoldable pub upToAnswer : List Line → List Line
+upToAnswer [] = []
+upToAnswer (l ∷ ls) = cond (isAnswer l) [] (l ∷ upToAnswer ls)
+
+unfoldable pub pastAnswer : List Line → List Line
+pastAnswer [] = []
+pastAnswer (l ∷ ls) = cond (isAnswer l) ls (pastAnswer ls)
+
+unfoldable pub codeLines : List Line → List Line
+codeLines [] = []
+codeLines (l ∷ ls) = l ∷ upToAnswer ls
+
+unfoldable pub answerLines : List Line → List Line
+answerLines [] = []
+answerLines (l ∷ ls) = pastAnswer ls
+
+-- the roles of the lines after the layout. At least one code line is wanted, and one answer below ANSWER
+unfoldable pub answerRoles : ℕ → List Line → List Role
+answerRoles zero [] = answer 0 ∷ []
+answerRoles (suc k) [] = []
+answerRoles k (l ∷ ls) = answer k ∷ answerRoles (suc k) ls
+
+unfoldable pub codeRoles : ℕ → List Line → List Role
+codeRoles k [] = []
+codeRoles k (l ∷ ls) = cond (isAnswer l) (names answers ∷ answerRoles 0 ls) (code k ∷ codeRoles (suc k) ls)
+
+unfoldable pub bodyRoles : List Line → List Role
+bodyRoles [] = code 0 ∷ []
+bodyRoles (l ∷ ls) = code 0 ∷ codeRoles 1 ls
+
+-- what the lines of a file hold, line by line; a role past the last line is a line that is missing
+unfoldable pub roles : List Line → List Role
+roles ls = layout ++ bodyRoles (body ls)
+
+-- "an empty list is `-` on each of its lines"
+unfoldable pub list : List ℕ → List (List ℕ)
+list text = cond (equals text (bytes "-")) [] (words text)
+
+-- a number for each section, each column, each role of the layout
+abbrev pub sectionTag : Section → ℕ
+sectionTag limits = 0
+sectionTag kinds = 1
+sectionTag primitives = 2
+sectionTag cells = 3
+sectionTag fields = 4
+sectionTag instructions = 5
+sectionTag answers = 6
+
+abbrev pub columnTag : Column → ℕ
+columnTag limit = 1
+columnTag cycles = 2
+columnTag words-column = 3
+columnTag cell = 4
+
+abbrev pub tag : Role → ℕ
+tag (names s) = 8 * sectionTag s
+tag (values s c) = 8 * sectionTag s + columnTag c
+tag (code k) = 100
+tag (answer k) = 101
+
+-- the text of the line that holds r, empty where there is no such line, and the words listed on it
+unfoldable pub textAt : Role → List Role → List Line → List ℕ
+textAt r [] ls = []
+textAt r (x ∷ xs) [] = []
+textAt r (x ∷ xs) (l ∷ ls) = cond (eqb (tag r) (tag x)) (l .text) (textAt r xs ls)
+
+unfoldable pub listed : Role → List Line → List (List ℕ)
+listed r ls = list (textAt r layout ls)

@@ -1,0 +1,137 @@
+-- The routine of a text that passes refusals 1 to 6, and which refusal a text has that does not.
+-- Every definition is total: what a passing text never needs is 0 or empty.
+use Prim.Native.Nat.{ℕ, zero, suc}
+use mathlib.Core.Bool.{Bool, true, false, cond}
+use mathlib.Core.List.{List, [], _∷_, map}
+use mathlib.Core.Option.{Option, some}
+use lib.Dec.{ltb}
+use lib.IntN.{ℤ, pos, natAbs}
+use lib.ListN.{length, getD, take, drop}
+use Rattle.refusals.specs.declared.Refusal.{Refusal}
+use Rattle.refusals.specs.declared.Refusal.the-variants.{TextLength, Layout, Range, Name, Unpriced, Target, UnknownCell}
+use Rattle.text.specs.Text.{Line, lines, find}
+use Rattle.cells.specs.declared.Cell.{Cell}
+use Rattle.cells.specs.Cells.{number, handle}
+use Rattle.cells.specs.Cells as cells-of
+use Rattle.instructions.specs.Kinds.{Argument, none, target, primitive, number-in, Kind, kindNames}
+use Rattle.machine.specs.Machine.{State, Price, Instruction, Prices, cost, Code}
+use Rattle.routine.specs.Layout.{Section, limits, kinds, primitives, cells, fields, limit, cycles, words-column, cell, names, values, body, codeLines, answerLines, listed}
+use Rattle.routine.specs.Rows.{value, CellWord, wrong, unknown, known, block, cellWord, blockSizes, kindNamed, argumentOf, at, op, arg, firstAt, Row, layout-row, range-row, name-row, price-row, target-row, known-row, Fault, clean, line, fault}
+
+pub record Routine : Type 0 where
+  pub budget : ℕ
+  pub tick : ℕ
+  pub code : Code
+  pub start : State
+  pub answers : List ℤ
+
+-- ---- the limits
+
+abbrev pub natural : List ℕ → ℕ
+natural w = natAbs (value w)
+
+unfoldable pub limitAt : ℕ → List Line → ℕ
+limitAt i ls = natural (getD (listed (values limits limit) ls) i [])
+
+-- ---- prices
+
+-- the price at place i of a section: entry i of its cycles and of its words
+unfoldable pub priceAt : Section → List Line → ℕ → Price
+priceAt s ls i = record { cycles = natural (getD (listed (values s cycles) ls) i []); words = natural (getD (listed (values s words-column) ls) i []) }
+
+-- a kind's price stands where its name stands on line 3, a primitive's at its place on line 6
+unfoldable pub prices : List Line → Prices
+prices ls = record {
+  kinds = λ k. priceAt kinds ls (find (getD kindNames k []) (listed (names kinds) ls));
+  primitives = λ i. priceAt primitives ls i;
+}
+
+-- ---- code
+
+-- an argument: a number, an address, or a primitive's place on line 6
+unfoldable pub argumentValue : List (List ℕ) → List ℕ → Argument → ℤ
+argumentValue ps w none = pos 0
+argumentValue ps w target = value w
+argumentValue ps w primitive = pos (find w ps)
+argumentValue ps w (number-in r) = value w
+
+unfoldable pub argumentKind : Option Kind → Argument
+argumentKind Option.none = none
+argumentKind (some k) = k .argument
+
+unfoldable pub instruction : List Line → List ℕ → Instruction
+instruction ls text =
+    let a = argumentKind (kindNamed (op text)) in
+    let k = find (op text) kindNames in
+    let v = argumentValue (listed (names primitives) ls) (arg text) a in
+    record { kind = k; argument = v; price = cost (prices ls) a k v }
+
+-- "AT starts anywhere from 0 to 60,000"
+unfoldable pub codeOf : List Line → Code
+codeOf ls = record { first = natAbs (firstAt (body ls)); instructions = map (λ l. instruction ls (l .text)) (codeLines (body ls)) }
+
+-- ---- cells
+
+unfoldable pub cellOf : CellWord → Cell
+cellOf wrong = number (pos 0)
+cellOf unknown = cells-of.unknown
+cellOf (known z) = number z
+cellOf (block k) = handle (natAbs k)
+
+unfoldable pub cellsOf : Section → List Line → List Cell
+cellsOf s ls = map (λ w. cellOf (cellWord w)) (listed (values s cell) ls)
+
+-- the fields, "block after block"
+unfoldable pub blocksOf : List ℕ → List Cell → List (List Cell)
+blocksOf [] cs = []
+blocksOf (n ∷ ns) cs = take n cs ∷ blocksOf ns (drop n cs)
+
+-- "The start address is that of the first AT line."; ACCU first, then S0, the top, and on
+unfoldable pub startOf : List Line → State
+startOf ls =
+    let cs = cellsOf cells ls in
+    record {
+      at = codeOf ls .first;
+      accu = getD cs 0 (number (pos 0));
+      stack = drop 1 cs;
+      blocks = blocksOf (blockSizes (listed (names fields) ls)) (cellsOf fields ls);
+    }
+
+unfoldable pub routineOf : List Line → Routine
+routineOf ls = record {
+  budget = limitAt 0 ls;
+  tick = limitAt 1 ls;
+  code = codeOf ls;
+  start = startOf ls;
+  answers = map (λ l. value (l .text)) (answerLines (body ls));
+}
+
+-- ---- the reading of a text
+
+pub data Reading : Type 0 where
+  refused : Refusal → Reading
+  routine : Routine → Reading
+
+unfoldable pub orElse : Fault → (ℕ → Refusal) → Reading → Reading
+orElse clean r next = next
+orElse (line n) r next = refused (r n)
+
+-- "Checked in the order of the rows"; "Refusal 11 .. run only"
+unfoldable pub rowsThen : List Line → Reading → Reading
+rowsThen ls next =
+    orElse (fault layout-row ls) Layout
+    (orElse (fault range-row ls) Range (orElse (fault name-row ls) Name (orElse (fault price-row ls) Unpriced (orElse (fault target-row ls) Target next))))
+
+-- "ASCII, at most 32,768 bytes"
+abbrev pub textLimit : ℕ
+textLimit = 32768
+
+unfoldable pub limited : List ℕ → Reading → Reading
+limited text next = cond (ltb textLimit (length text)) (refused TextLength) next
+
+-- as the bound reads a text, and as the run does
+unfoldable pub readBound : List ℕ → Reading
+readBound text = let ls = lines text in limited text (rowsThen ls (routine (routineOf ls)))
+
+unfoldable pub readRun : List ℕ → Reading
+readRun text = let ls = lines text in limited text (rowsThen ls (orElse (fault known-row ls) UnknownCell (routine (routineOf ls))))

@@ -1,0 +1,293 @@
+-- Refusals 2 to 6 and 11: each row of the refusal table is a test of one line, and refuses the earliest line that fails it.
+-- (document 01, The routine file and Refusal table)
+use Prim.Native.Nat.{ℕ, zero, suc, _+_}
+use mathlib.Core.Bool.{Bool, true, false, cond, not, _&&_}
+use mathlib.Core.List.{List, [], _∷_, _++_, map}
+use mathlib.Core.Option.{Option, some}
+use lib.Dec.{eqb, leb, ltb}
+use lib.IntN.{ℤ, pos, natAbs, _+ℤ_}
+use lib.Signed.{leZ, ltZ}
+use lib.ListN.{length, getD, take, getElem?}
+use Rattle.text.specs.Text.{bytes, isEmpty, equals, words, Line, find, among, all, distinct}
+use Rattle.text.specs.Decimal.{Numeral, misspelt, number, numeral, isDigit, decimal}
+use Rattle.numbers.specs.Numbers.{Range, range, within, numbers, same}
+use Rattle.instructions.specs.Kinds.{Argument, none, target, primitive, number-in, addresses, Kind, kindNames}
+use Rattle.instructions.specs.Kinds as table
+use Rattle.routine.specs.Layout.{Section, limits, kinds, primitives, cells, fields, instructions, answers, Column, limit, cycles, words-column, cell, Role, names, values, code, answer, body, codeLines, roles, list, listed}
+
+-- ---- words
+
+unfoldable pub isNumeral : Numeral → Bool
+isNumeral misspelt = false
+isNumeral (number z) = true
+
+-- the number that a word spells; 0 where it spells none, which row 2 refuses
+unfoldable pub valueOf : Numeral → ℤ
+valueOf misspelt = pos 0
+valueOf (number z) = z
+
+unfoldable pub value : List ℕ → ℤ
+value w = valueOf (numeral w)
+
+-- "number, `?` for unknown, `#k` for block k (0 to 7)"
+pub data CellWord : Type 0 where
+  wrong unknown : CellWord
+  known block : ℤ → CellWord
+
+unfoldable pub knownOf : Numeral → CellWord
+knownOf misspelt = wrong
+knownOf (number z) = known z
+
+unfoldable pub blockOf : Numeral → CellWord
+blockOf misspelt = wrong
+blockOf (number z) = block z
+
+unfoldable pub hashed : List ℕ → CellWord
+hashed [] = wrong
+hashed (d ∷ ds) = cond (eqb d 35) (blockOf (numeral ds)) (knownOf (numeral (d ∷ ds)))
+
+unfoldable pub cellWord : List ℕ → CellWord
+cellWord w = cond (equals w (bytes "?")) unknown (hashed w)
+
+unfoldable pub isCell : CellWord → Bool
+isCell wrong = false
+isCell unknown = true
+isCell (known z) = true
+isCell (block k) = true
+
+-- "`#k` with k outside 0 to 7 is 3"
+unfoldable pub cellInRange : CellWord → Bool
+cellInRange wrong = true
+cellInRange unknown = true
+cellInRange (known z) = within numbers z
+cellInRange (block k) = within (range 0 7) k
+
+-- "handle to an absent block": n blocks are present
+unfoldable pub cellPresent : ℕ → CellWord → Bool
+cellPresent n wrong = true
+cellPresent n unknown = true
+cellPresent n (known z) = true
+cellPresent n (block k) = ltb (natAbs k) n
+
+unfoldable pub isKnown : CellWord → Bool
+isKnown wrong = true
+isKnown unknown = false
+isKnown (known z) = true
+isKnown (block k) = true
+
+-- ---- names
+
+-- "A primitive's name has 1 to 8 characters: capitals, digits, underscore, a capital first."
+abbrev pub isCapital : ℕ → Bool
+isCapital c = leb 65 c && leb c 90
+
+abbrev pub inName : ℕ → Bool
+inName c = cond (isCapital c) true (cond (isDigit c) true (eqb c 95))
+
+unfoldable pub isName : List ℕ → Bool
+isName [] = false
+isName (c ∷ cs) = isCapital c && all inName cs && ltb (length cs) 8
+
+-- "ACCU, then S0 on to S31 at most"
+unfoldable pub stackNames : ℕ → ℕ → List (List ℕ)
+stackNames k zero = []
+stackNames k (suc n) = (bytes "S" ++ decimal k) ∷ stackNames (suc k) n
+
+unfoldable pub cellNames : List (List ℕ)
+cellNames = bytes "ACCU" ∷ stackNames 0 32
+
+-- whether two lists of words are the same
+unfoldable pub equalLists : List (List ℕ) → List (List ℕ) → Bool
+equalLists [] [] = true
+equalLists [] (y ∷ ys) = false
+equalLists (x ∷ xs) [] = false
+equalLists (x ∷ xs) (y ∷ ys) = equals x y && equalLists xs ys
+
+-- whether w is the name of field n of block k: "B0.0 B0.1 and on, block after block, no gap, 1 to 16 fields in each", eight blocks
+unfoldable pub isField : ℕ → ℕ → List ℕ → Bool
+isField k n w = ltb k 8 && ltb n 16 && equals w (bytes "B" ++ decimal k ++ bytes "." ++ decimal n)
+
+-- the sizes of block k, of which n fields are named so far, and of the blocks after it, up to the first name that is out of sequence
+unfoldable pub sizesFrom : ℕ → ℕ → List (List ℕ) → List ℕ
+sizesFrom k n [] = n ∷ []
+sizesFrom k n (w ∷ ws) = cond (isField k n w) (sizesFrom k (suc n) ws) (cond (isField (suc k) 0 w) (n ∷ sizesFrom (suc k) 1 ws) (n ∷ []))
+
+-- the sizes of the blocks that the names make
+unfoldable pub blockSizes : List (List ℕ) → List ℕ
+blockSizes [] = []
+blockSizes (w ∷ ws) = cond (isField 0 0 w) (sizesFrom 0 1 ws) []
+
+unfoldable pub total : List ℕ → ℕ
+total [] = 0
+total (n ∷ ns) = n + total ns
+
+-- ---- a code line: "AT OP ARG"
+
+unfoldable pub kindNamed : List ℕ → Option Kind
+kindNamed w = getElem? table.kinds (find w kindNames)
+
+-- "The ARG of an unknown OP is not looked at.": a test of the argument that OP calls for, passed where OP is unknown
+unfoldable pub argumentOf : (Argument → Bool) → Option Kind → Bool
+argumentOf t Option.none = true
+argumentOf t (some k) = t (k .argument)
+
+abbrev pub at : List ℕ → List ℕ
+at text = getD (words text) 0 []
+
+abbrev pub op : List ℕ → List ℕ
+op text = getD (words text) 1 []
+
+abbrev pub arg : List ℕ → List ℕ
+arg text = getD (words text) 2 []
+
+unfoldable pub onArgument : (Argument → Bool) → List ℕ → Bool
+onArgument t text = argumentOf t (kindNamed (op text))
+
+-- "ARG is `-` where none"; a primitive's name is looked up in row 4
+unfoldable pub argumentLaidOut : List ℕ → Argument → Bool
+argumentLaidOut w none = equals w (bytes "-")
+argumentLaidOut w target = isNumeral (numeral w)
+argumentLaidOut w primitive = not (equals w (bytes "-"))
+argumentLaidOut w (number-in r) = isNumeral (numeral w)
+
+unfoldable pub argumentInRange : List ℕ → Argument → Bool
+argumentInRange w none = true
+argumentInRange w target = within addresses (value w)
+argumentInRange w primitive = true
+argumentInRange w (number-in r) = within r (value w)
+
+unfoldable pub argumentNamed : List (List ℕ) → List ℕ → Argument → Bool
+argumentNamed ps w none = true
+argumentNamed ps w target = true
+argumentNamed ps w primitive = among w ps
+argumentNamed ps w (number-in r) = true
+
+-- a target among the n addresses from `first` on
+unfoldable pub argumentReaches : ℤ → ℕ → List ℕ → Argument → Bool
+argumentReaches first n w none = true
+argumentReaches first n w target = leZ first (value w) && ltZ (value w) (first +ℤ pos n)
+argumentReaches first n w primitive = true
+argumentReaches first n w (number-in r) = true
+
+-- ---- ranges and counts of the table
+
+-- "AT starts anywhere from 0 to 60,000 and rises by one; a later AT outside 0 to 62,000 is refusal 3"
+abbrev pub atRange : ℕ → Range
+atRange zero = range 0 60000
+atRange (suc k) = addresses
+
+-- "1 to 1,000,000; cycles per tick, 1 to 4,000,000,000 · cycles 0 to 65,535; words 0 to 255"
+unfoldable pub columnInRange : Column → List (List ℕ) → Bool
+columnInRange limit ws = within (range 1 1000000) (value (getD ws 0 [])) && within (range 1 4000000000) (value (getD ws 1 []))
+columnInRange cycles ws = all (λ w. within (range 0 65535) (value w)) ws
+columnInRange words-column ws = all (λ w. within (range 0 255) (value w)) ws
+columnInRange cell ws = all (λ w. cellInRange (cellWord w)) ws
+
+unfoldable pub columnLaidOut : Column → List (List ℕ) → Bool
+columnLaidOut limit ws = all (λ w. isNumeral (numeral w)) ws
+columnLaidOut cycles ws = all (λ w. isNumeral (numeral w)) ws
+columnLaidOut words-column ws = all (λ w. isNumeral (numeral w)) ws
+columnLaidOut cell ws = all (λ w. isCell (cellWord w)) ws
+
+unfoldable pub onCells : Column → (CellWord → Bool) → List (List ℕ) → Bool
+onCells limit t ws = true
+onCells cycles t ws = true
+onCells words-column t ws = true
+onCells cell t ws = all (λ w. t (cellWord w)) ws
+
+-- ---- the rows
+
+pub data Row : Type 0 where
+  layout-row range-row name-row price-row target-row known-row : Row
+
+-- row 2 on a line of names: "a wrong fixed word (BUDGET TICK, AT OP ARG, ANSWER), an empty list on line 9, a 33rd primitive"
+unfoldable pub namesLaidOut : Section → List ℕ → Bool
+namesLaidOut limits text = equals text (bytes "BUDGET TICK")
+namesLaidOut kinds text = true
+namesLaidOut primitives text = leb (length (list text)) 32
+namesLaidOut cells text = not (isEmpty (list text))
+namesLaidOut fields text = true
+namesLaidOut instructions text = equals text (bytes "AT OP ARG")
+namesLaidOut answers text = equals text (bytes "ANSWER")
+
+-- row 2: "layout, counts, spelling of a number, an ARG missing or not called for"; "fewer or more values than names (at the line of
+-- values)", "a 1,025th code line and a 65th answer"
+unfoldable pub laidOut : List Line → Role → List ℕ → Bool
+laidOut ls (names s) text = namesLaidOut s text
+laidOut ls (values s c) text = eqb (length (list text)) (length (listed (names s) ls)) && columnLaidOut c (list text)
+laidOut ls (code k) text =
+    ltb k 1024 && eqb (length (words text)) 3 && isNumeral (numeral (at text)) && onArgument (argumentLaidOut (arg text)) text
+laidOut ls (answer k) text = ltb k 64 && isNumeral (numeral text)
+
+-- row 3: "number outside its range"
+unfoldable pub inRange : Role → List ℕ → Bool
+inRange (names s) text = true
+inRange (values s c) text = columnInRange c (list text)
+inRange (code k) text = within (atRange k) (value (at text)) && onArgument (argumentInRange (arg text)) text
+inRange (answer k) text = within numbers (value text)
+
+-- row 4 on a line of names: "name unknown, repeated or out of sequence"
+unfoldable pub wellNamed : Section → List (List ℕ) → Bool
+wellNamed limits ws = true
+wellNamed kinds ws = all (λ w. among w kindNames) ws && distinct ws
+wellNamed primitives ws = all isName ws && distinct ws
+wellNamed cells ws = equalLists ws (take (length ws) cellNames)
+wellNamed fields ws = eqb (total (blockSizes ws)) (length ws)
+wellNamed instructions ws = true
+wellNamed answers ws = true
+
+-- the first address
+unfoldable pub firstAt : List Line → ℤ
+firstAt [] = pos 0
+firstAt (l ∷ ls) = value (at (l .text))
+
+-- row 4: also "handle to an absent block; AT not following"
+unfoldable pub named : List Line → Role → List ℕ → Bool
+named ls (names s) text = wellNamed s (list text)
+named ls (values s c) text = onCells c (cellPresent (length (blockSizes (listed (names fields) ls)))) (list text)
+named ls (code k) text =
+    same (value (at text)) (firstAt (body ls) +ℤ pos k) && among (op text) kindNames && onArgument (argumentNamed (listed (names primitives) ls) (arg text)) text
+named ls (answer k) text = true
+
+-- row 5: "kind in the code without a price"
+unfoldable pub priced : List Line → Role → List ℕ → Bool
+priced ls (names s) text = true
+priced ls (values s c) text = true
+priced ls (code k) text = among (op text) (listed (names kinds) ls)
+priced ls (answer k) text = true
+
+-- row 6: "target not an address of the code"
+unfoldable pub reaches : List Line → Role → List ℕ → Bool
+reaches ls (names s) text = true
+reaches ls (values s c) text = true
+reaches ls (code k) text = onArgument (argumentReaches (firstAt (body ls)) (length (codeLines (body ls))) (arg text)) text
+reaches ls (answer k) text = true
+
+-- row 11: "run only: a `?` on line 10, then 12"
+unfoldable pub allKnown : Role → List ℕ → Bool
+allKnown (names s) text = true
+allKnown (values s c) text = onCells c isKnown (list text)
+allKnown (code k) text = true
+allKnown (answer k) text = true
+
+unfoldable pub test : Row → List Line → Role → Line → Bool
+test layout-row ls r l = l .ended && all (λ w. not (isEmpty w)) (words (l .text)) && laidOut ls r (l .text)
+test range-row ls r l = inRange r (l .text)
+test name-row ls r l = named ls r (l .text)
+test price-row ls r l = priced ls r (l .text)
+test target-row ls r l = reaches ls r (l .text)
+test known-row ls r l = allKnown r (l .text)
+
+-- the earliest line that fails a test, counted from n; "A missing line has the number it would have."
+pub data Fault : Type 0 where
+  clean : Fault
+  line : ℕ → Fault
+
+unfoldable pub earliest : (Role → Line → Bool) → ℕ → List Role → List Line → Fault
+earliest t n [] ls = clean
+earliest t n (r ∷ rs) [] = line n
+earliest t n (r ∷ rs) (l ∷ ls) = cond (t r l) (earliest t (suc n) rs ls) (line n)
+
+-- "each over the whole file, earliest line first"
+unfoldable pub fault : Row → List Line → Fault
+fault row ls = earliest (test row ls) 1 (roles ls) ls

@@ -1,0 +1,74 @@
+-- A text is the list of its bytes. Lines end in a line feed (byte 10), and words are parted by one space (byte 32).
+-- Nothing here knows how long a text may be.
+use Prim.Native.Nat.{ℕ, zero, suc}
+use Prim.Native.Char.{code}
+use Prim.Native.String.{String}
+use Prim.Native.String.{[] as ends, _∷_ as _then_}
+use mathlib.Core.Bool.{Bool, true, false, cond, not, _&&_}
+use mathlib.Core.List.{List, [], _∷_}
+use lib.Dec.{eqb}
+
+-- the bytes of a quoted text, which is ASCII
+abbrev pub bytes : String → List ℕ
+bytes ends = []
+bytes (_then_ c s) = code c ∷ bytes s
+
+abbrev pub isEmpty {ℓ} : {A : Type ℓ} → List A → Bool
+isEmpty [] = true
+isEmpty (x ∷ xs) = false
+
+-- whether two texts are the same
+unfoldable pub equals : List ℕ → List ℕ → Bool
+equals [] [] = true
+equals [] (y ∷ ys) = false
+equals (x ∷ xs) [] = false
+equals (x ∷ xs) (y ∷ ys) = cond (eqb x y) (equals xs ys) false
+
+-- x in front of the first piece
+abbrev pub onto : ℕ → List (List ℕ) → List (List ℕ)
+onto x [] = (x ∷ []) ∷ []
+onto x (w ∷ ws) = (x ∷ w) ∷ ws
+
+-- the pieces of a text that the byte c parts: one more than c stands in it
+unfoldable pub split : ℕ → List ℕ → List (List ℕ)
+split c [] = [] ∷ []
+split c (x ∷ xs) = cond (eqb x c) ([] ∷ split c xs) (onto x (split c xs))
+
+-- "words are parted by one space": an empty word shows a space too many
+unfoldable pub words : List ℕ → List (List ℕ)
+words line = split 32 line
+
+-- a line, and whether a line feed ends it
+pub record Line : Type 0 where
+  pub text : List ℕ
+  pub ended : Bool
+
+-- the last piece is a line only if it holds a byte, and then no line feed ends it
+unfoldable pub linesOf : List (List ℕ) → List Line
+linesOf [] = []
+linesOf (p ∷ []) = cond (isEmpty p) [] (record { text = p; ended = false } ∷ [])
+linesOf (p ∷ q ∷ ps) = record { text = p; ended = true } ∷ linesOf (q ∷ ps)
+
+-- "Each line ends in a line feed"
+unfoldable pub lines : List ℕ → List Line
+lines text = linesOf (split 10 text)
+
+-- where the first of the given words is w, counted from 0; their number where none is
+unfoldable pub find : List ℕ → List (List ℕ) → ℕ
+find w [] = 0
+find w (x ∷ xs) = cond (equals w x) 0 (suc (find w xs))
+
+-- whether w is one of the given words
+unfoldable pub among : List ℕ → List (List ℕ) → Bool
+among w [] = false
+among w (x ∷ xs) = cond (equals w x) true (among w xs)
+
+-- whether all pass a test
+unfoldable pub all : {A : Type 0} → (A → Bool) → List A → Bool
+all t [] = true
+all t (x ∷ xs) = t x && all t xs
+
+-- whether no word stands twice
+unfoldable pub distinct : List (List ℕ) → Bool
+distinct [] = true
+distinct (w ∷ ws) = not (among w ws) && distinct ws

@@ -1,0 +1,1 @@
+// Texts as bytes: lines, words, decimal numbers. The meaning is in specs/.
