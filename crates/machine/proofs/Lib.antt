@@ -1,0 +1,6 @@
+pub mod Instances
+pub mod NextCovering
+pub mod StateLaws
+pub mod StepLaws
+pub mod PriceLaws
+pub mod HeightLaws

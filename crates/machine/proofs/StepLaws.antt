@@ -1,0 +1,102 @@
+-- The law of the step, for any lawful relation of cells: where the step from the larger state is not stuck, neither is that from the
+-- smaller, and what they lead to is related. With specs/ this, PriceLaws and HeightLaws are all that knows the instructions.
+-- Assumes nothing.
+use mathlib.Core.Path.{_≡_, refl, ap}
+use mathlib.Core.Bool.{Bool, true, false}
+use Prim.Native.Nat.{ℕ}
+use lib.IntN.{ℤ, pos, natAbs}
+use Rattle.cells.specs.Try.{Try, _>>=_}
+use Rattle.cells.specs.declared.Cell.{Cell}
+use Rattle.cells.specs.Cells.{number, Condition}
+use Rattle.cells.specs.Order.{cons}
+use Rattle.cells.proofs.Covering.{Covered, both, bind, covered-equal, Narrower, zeros, nonzeros, zero-unknown, nonzero-unknown, unknowns}
+use Rattle.cells.proofs.CellLaws.{Lawful}
+use Rattle.instructions.specs.Kinds.{Operation, nothing, access, drop, assign, constant, get-field, set-field, branch, branch-if, branch-if-not, call, stop, unary, binary, Kind, kinds, operand}
+use Rattle.machine.specs.Lists.{nth}
+use Rattle.machine.specs.Machine.{State, Price, Instruction, Code, fetch, Next, getField, setField, ahead, ways, opposite, perform, prepare, execute, step}
+use Rattle.machine.specs.Order.{Cellwise}
+use Rattle.machine.proofs.NextCovering.{NextCovered, stops-too, goes-too, opens-too, goes-not-taken, goes-taken}
+use Rattle.machine.proofs.StateLaws.{nth-law, put-law, jump-law, advance-law, load-law, restack-law, store-law, push-law, pop-law}
+
+module _ {R : Cell → Cell → Type 0} {two : Type 0} (L : Lawful R two) where
+  getField-law : (n : ℕ) {s t : State} → Cellwise R s t → Covered R (getField n s) (getField n t)
+  unfolding getField
+  getField-law n e =
+      bind (L .blocks (e .accu)) (λ k k′ h.
+      bind (nth-law h (e .blocks)) (λ b b′ g.
+      nth-law refl g))
+
+  setField-law : (n : ℕ) {s t : State} {c d : Cell} → Cellwise R s t → R c d → Covered (Cellwise R) (setField n c s) (setField n d t)
+  unfolding setField
+  setField-law n e r =
+      bind (L .blocks (e .accu)) (λ k k′ h.
+      bind (nth-law h (e .blocks)) (λ b b′ g.
+      bind (put-law refl g r) (λ b b′ g′.
+      bind (put-law h (e .blocks) g′) (λ bs bs′ f.
+      both (store-law e f)))))
+
+  ahead-law : (p : Price) {m n : Try State} → Covered (Cellwise R) m n → Covered (NextCovered (Cellwise R) two) (ahead p m) (ahead p n)
+  unfolding ahead
+  ahead-law p h = bind h (λ s t e. both (goes-too (advance-law e)))
+
+  ways-law : (p : Price) (a : ℕ) {s t : State} {x y : Condition} → Cellwise R s t → Narrower two x y → NextCovered (Cellwise R) two (ways p a s x) (ways p a t y)
+  unfolding ways
+  ways-law p a e zeros = goes-too (advance-law e)
+  ways-law p a e nonzeros = goes-too (jump-law a e)
+  ways-law p a e zero-unknown = goes-not-taken (advance-law e)
+  ways-law p a e nonzero-unknown = goes-taken (jump-law a e)
+  ways-law p a e (unknowns h) = opens-too h (advance-law e) (jump-law a e)
+
+  opposite-law : {x y : Condition} → Narrower two x y → Narrower two (opposite x) (opposite y)
+  unfolding opposite
+  opposite-law zeros = nonzeros
+  opposite-law nonzeros = zeros
+  opposite-law zero-unknown = nonzero-unknown
+  opposite-law nonzero-unknown = zero-unknown
+  opposite-law (unknowns h) = unknowns h
+
+  perform-law : (p : Price) {r r′ : Cell} (o : Operation) (i : ℤ) {s t : State} → R r r′ → Cellwise R s t →
+      Covered (NextCovered (Cellwise R) two) (perform p r o i s) (perform p r′ o i t)
+  unfolding perform
+  perform-law p nothing i k e = ahead-law p (both e)
+  perform-law p access i k e = ahead-law p (bind (nth-law refl (e .stack)) (λ c d h. both (load-law e h)))
+  perform-law p drop i k e = ahead-law p (pop-law (natAbs i) e)
+  perform-law p assign i k e = ahead-law p (bind (put-law refl (e .stack) (e .accu)) (λ c d h. both (load-law (restack-law e h) (L .numbers (pos 0)))))
+  perform-law p constant i k e = ahead-law p (both (load-law e (L .numbers i)))
+  perform-law p (unary u) i k e = ahead-law p (bind (L .operates₁ u i (e .accu)) (λ c d h. both (load-law e h)))
+  perform-law p (binary b) i k e =
+      ahead-law p
+      (bind (nth-law refl (e .stack)) (λ c c′ h.
+      bind (L .operates₂ b (e .accu) h) (λ d d′ g.
+      bind (pop-law 1 e) (λ s t f.
+      both (load-law f g)))))
+  perform-law p get-field i k e = ahead-law p (bind (getField-law (natAbs i) e) (λ c d h. both (load-law e h)))
+  perform-law p set-field i k e =
+      ahead-law p
+      (bind (nth-law refl (e .stack)) (λ c c′ h.
+      bind (pop-law 1 e) (λ s t f.
+      bind (setField-law (natAbs i) f h) (λ u u′ g.
+      both (load-law g (L .numbers (pos 0)))))))
+  perform-law p branch i k e = both (goes-too (jump-law (natAbs i) e))
+  perform-law p branch-if i k e = bind (L .conditions (e .accu)) (λ x y h. both (ways-law p (natAbs i) e h))
+  perform-law p branch-if-not i k e = bind (L .conditions (e .accu)) (λ x y h. both (ways-law p (natAbs i) e (opposite-law h)))
+  perform-law p call i k e = ahead-law p (bind (pop-law (natAbs i) e) (λ s t h. both (load-law h k)))
+  perform-law p stop i k e = both stops-too
+
+  prepare-law : (b : Bool) {s t : State} → Cellwise R s t → Covered (Cellwise R) (prepare b s) (prepare b t)
+  unfolding prepare
+  prepare-law true e = push-law e
+  prepare-law false e = both e
+
+  execute-law : {r r′ : Cell} (i : Instruction) (k : Kind) {s t : State} → R r r′ → Cellwise R s t →
+      Covered (NextCovered (Cellwise R) two) (execute r i k s) (execute r′ i k t)
+  unfolding execute
+  execute-law i k h e = bind (prepare-law (k .pushes) e) (λ s t f. perform-law (i .price) (k .operation) (operand k (i .argument)) h f)
+
+  pub step-law : (c : Code) {r r′ : Cell} {s t : State} → R r r′ → Cellwise R s t → Covered (NextCovered (Cellwise R) two) (step c r s) (step c r′ t)
+  unfolding step
+  step-law c h e =
+      bind (covered-equal (ap (λ a. fetch c a) (e .at))) (λ i i′ f.
+      rw f
+      (bind (covered-equal {m = nth (i′ .kind) kinds} refl) (λ k k′ g.
+      rw g (execute-law i′ k′ h e))))
