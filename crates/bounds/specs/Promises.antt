@@ -8,7 +8,8 @@ use lib.IntN.{ℤ}
 use Rattle.refusals.specs.declared.Refusal.{Refusal}
 use Rattle.cells.specs.Order.{Refines, Allowed}
 use Rattle.cells.specs.Cells.{unknown}
-use Rattle.machine.specs.Machine.{State, Code, height, step}
+use Rattle.machine.specs.Machine.{State, Next, Code, height, step}
+use Rattle.cells.specs.Try.{Try}
 use Rattle.machine.specs.Order.{Cellwise}
 use Rattle.bounds.specs.Tree.{tree, verdict, Report, Verdict, accepted, refused, openingLimit, bound}
 use Rattle.bounds.specs.Traces.{Move, cost, wordSum, decisions, Trace, Path, CostMax, RunMax, Finite, Listed}
@@ -63,6 +64,14 @@ pub record LargestOver (P : List Move → Type 0) (f : List Move → ℕ) (k : �
   pub attains : f witness ≡ k
   pub most : (ms : List Move) → P ms → f ms ≤ k
 
+-- k is the height of some state that a trace reaches from s, and no trace reaches a higher one
+pub record LargestHeight (act : State → Try Next) (s : State) (k : ℕ) : Type 0 where
+  pub deepest : State
+  pub trace : List Move
+  pub reached : Trace act s trace deepest
+  pub attains : height deepest ≡ k
+  pub most : (ms : List Move) (t : State) → Trace act s ms t → height t ≤ k
+
 -- Demand 2, of the report q of the bound from s
 pub record Exact (c : Code) (s : State) (q : Report) : Type 0 where
   -- CYCLES is the maximum cost, and the cost of a path, and no path costs more
@@ -76,10 +85,7 @@ pub record Exact (c : Code) (s : State) (q : Report) : Type 0 where
   -- WORDS is the largest word sum over all paths
   pub words : LargestOver (Path (step c unknown) s) wordSum (q .words)
   -- DEPTH is the largest height over all states reached
-  pub deepest : State
-  pub reached : (ms : List Move) × Trace (step c unknown) s ms deepest
-  pub attains : height deepest ≡ q .depth
-  pub depth : (ms : List Move) (t : State) → Trace (step c unknown) s ms t → height t ≤ q .depth
+  pub depth : LargestHeight (step c unknown) s (q .depth)
   -- STEPS is the number of steps of the tree
   pub steps : Finite (step c unknown) openingLimit s (q .steps)
 

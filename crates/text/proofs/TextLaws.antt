@@ -1,0 +1,145 @@
+-- Laws of texts: what holds of each byte of the pieces holds of each byte of the text, and the other way; a word among the given
+-- ones is one of them, at its place. Assumes nothing.
+use mathlib.Core.Path.{_≡_, refl, sym, ap₂, subst}
+use mathlib.Core.Bool.{Bool, true, false, cond, false≢true, and-eq-true-iff, _&&_}
+use mathlib.Core.List.{List, [], _∷_, _++_}
+use Prim.Native.Nat.{ℕ, zero, suc, _<_}
+use native.Mathlib.Omega.{arith}
+use lib.Dec.{eqb}
+use lib.ListN.{length, getD}
+use borrow.Author.Tests.{eqb-true, eq-eqb}
+use Rattle.text.specs.Text.{equals, onto, split, linesOf, lines, find, among, all}
+
+-- tests that hold together
+
+pub and-left : (a b : Bool) → (a && b) ≡ true → a ≡ true
+and-left a b e = and-eq-true-iff a b .0 e .0
+
+pub and-right : (a b : Bool) → (a && b) ≡ true → b ≡ true
+and-right a b e = and-eq-true-iff a b .0 e .1
+
+-- the same, written with `cond`
+pub cond-left : (a b : Bool) → cond a b false ≡ true → a ≡ true
+cond-left true b e = refl
+cond-left false b e = e
+
+pub cond-right : (a b : Bool) → cond a b false ≡ true → b ≡ true
+cond-right true b e = e
+cond-right false b e = absurd (false≢true e)
+
+-- P holds of each element
+pub data Every {A : Type 0} (P : A → Type 0) : List A → Type 0 where
+  none : Every P []
+  more : {x : A} {xs : List A} → P x → Every P xs → Every P (x ∷ xs)
+
+module _ {A : Type 0} {P : A → Type 0} where
+  pub every-append : {xs ys : List A} → Every P xs → Every P ys → Every P (xs ++ ys)
+  every-append none q = q
+  every-append (more p ps) q = more p (every-append ps q)
+
+  pub every-left : (xs ys : List A) → Every P (xs ++ ys) → Every P xs
+  every-left [] ys h = none
+  every-left (x ∷ xs) ys (more p ps) = more p (every-left xs ys ps)
+
+  pub every-right : (xs ys : List A) → Every P (xs ++ ys) → Every P ys
+  every-right [] ys h = h
+  every-right (x ∷ xs) ys (more p ps) = every-right xs ys ps
+
+  pub every-map : {Q : A → Type 0} → ((x : A) → P x → Q x) → {xs : List A} → Every P xs → Every Q xs
+  every-map f none = none
+  every-map f (more {x} p ps) = more (f x p) (every-map f ps)
+
+  pub every-getD : {xs : List A} {d : A} → Every P xs → P d → (i : ℕ) → P (getD xs i d)
+  every-getD none q i = q
+  every-getD (more p ps) q zero = p
+  every-getD (more p ps) q (suc i) = every-getD ps q i
+
+pub all-every : {A : Type 0} (t : A → Bool) (xs : List A) → all t xs ≡ true → Every (λ x. t x ≡ true) xs
+unfolding all
+all-every t [] e = none
+all-every t (x ∷ xs) e = more (and-left (t x) (all t xs) e) (all-every t xs (and-right (t x) (all t xs) e))
+
+-- the same text
+
+pub equals-path : (x y : List ℕ) → equals x y ≡ true → x ≡ y
+unfolding equals
+equals-path [] [] e = refl
+equals-path [] (y ∷ ys) e = absurd (false≢true e)
+equals-path (x ∷ xs) [] e = absurd (false≢true e)
+equals-path (x ∷ xs) (y ∷ ys) e =
+    ap₂ _∷_ (eqb-true x y (cond-left (eqb x y) (equals xs ys) e)) (equals-path xs ys (cond-right (eqb x y) (equals xs ys) e))
+
+pub equals-refl : (x : List ℕ) → equals x x ≡ true
+unfolding equals
+equals-refl [] = refl
+equals-refl (x ∷ xs) = rw (eq-eqb x x refl) (equals-refl xs)
+
+-- a word among the given ones
+
+pub among-every : {P : List ℕ → Type 0} (w : List ℕ) (ws : List (List ℕ)) → among w ws ≡ true → Every P ws → P w
+unfolding among
+among-every w [] e h = absurd (false≢true e)
+among-every {P} w (x ∷ xs) e (more p ps) = go (equals w x) refl e (λ q. among-every w xs q ps)
+  where
+    go : (b : Bool) → equals w x ≡ b → cond b true (among w xs) ≡ true → (among w xs ≡ true → P w) → P w
+    go true s q ih = subst P (sym (equals-path w x s)) p
+    go false s q ih = ih q
+
+pub find-below : (w : List ℕ) (ws : List (List ℕ)) → among w ws ≡ true → find w ws < length ws
+unfolding among find
+find-below w [] e = absurd (false≢true e)
+find-below w (x ∷ xs) e = go (equals w x) e (find-below w xs)
+  where
+    go : (b : Bool) → cond b true (among w xs) ≡ true → (among w xs ≡ true → find w xs < length xs) → cond b 0 (suc (find w xs)) < suc (length xs)
+    go true q ih = omega arith
+    go false q ih = omega (arith, ih q)
+
+pub find-at : (w : List ℕ) (ws : List (List ℕ)) → among w ws ≡ true → getD ws (find w ws) [] ≡ w
+unfolding among find
+find-at w [] e = absurd (false≢true e)
+find-at w (x ∷ xs) e = go (equals w x) refl e (find-at w xs)
+  where
+    go : (b : Bool) → equals w x ≡ b → cond b true (among w xs) ≡ true → (among w xs ≡ true → getD xs (find w xs) [] ≡ w)
+        → getD (x ∷ xs) (cond b 0 (suc (find w xs))) [] ≡ w
+    go true s q ih = sym (equals-path w x s)
+    go false s q ih = ih q
+
+-- the bytes of a text's pieces
+
+onto-every : {P : ℕ → Type 0} (x : ℕ) (ps : List (List ℕ)) → P x → Every (Every P) ps → Every (Every P) (onto x ps)
+onto-every x [] p h = more (more p none) none
+onto-every x (w ∷ ws) p (more q qs) = more (more p q) qs
+
+onto-parts : {P : ℕ → Type 0} (x : ℕ) (ps : List (List ℕ)) → Every (Every P) (onto x ps) → P x × Every (Every P) ps
+onto-parts x [] (more (more p none) none) = (p, none)
+onto-parts x (w ∷ ws) (more (more p q) qs) = (p, more q qs)
+
+pub every-split : {P : ℕ → Type 0} (c : ℕ) (text : List ℕ) → Every P text → Every (Every P) (split c text)
+unfolding split
+every-split c [] none = more none none
+every-split {P} c (x ∷ xs) (more p ps) = go (eqb x c) (every-split c xs ps)
+  where
+    go : (b : Bool) → Every (Every P) (split c xs) → Every (Every P) (cond b ([] ∷ split c xs) (onto x (split c xs)))
+    go true ih = more none ih
+    go false ih = onto-every x (split c xs) p ih
+
+pub split-every : {P : ℕ → Type 0} (c : ℕ) → P c → (text : List ℕ) → Every (Every P) (split c text) → Every P text
+unfolding split
+split-every c k [] h = none
+split-every {P} c k (x ∷ xs) h = go (eqb x c) refl h (split-every c k xs)
+  where
+    go : (b : Bool) → eqb x c ≡ b → Every (Every P) (cond b ([] ∷ split c xs) (onto x (split c xs))) → (Every (Every P) (split c xs) → Every P xs) → Every P (x ∷ xs)
+    go true e (more p ps) ih = more (subst P (sym (eqb-true x c e)) k) (ih ps)
+    go false e g ih = let t = onto-parts x (split c xs) g in more (t .0) (ih (t .1))
+
+-- an empty last piece is no line, and has no byte
+linesOf-every : {P : ℕ → Type 0} (ps : List (List ℕ)) → Every (λ l. Every P (l .text)) (linesOf ps) → Every (Every P) ps
+unfolding linesOf
+linesOf-every [] h = none
+linesOf-every ([] ∷ []) h = more none none
+linesOf-every ((x ∷ xs) ∷ []) (more p none) = more p none
+linesOf-every (p ∷ q ∷ ps) (more k h) = more k (linesOf-every (q ∷ ps) h)
+
+pub lines-every : {P : ℕ → Type 0} → P 10 → (text : List ℕ) → Every (λ l. Every P (l .text)) (lines text) → Every P text
+unfolding lines
+lines-every k text h = split-every 10 k text (linesOf-every (split 10 text) h)
