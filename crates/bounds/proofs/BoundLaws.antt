@@ -4,10 +4,9 @@ use mathlib.Core.Path.{_≡_, refl, ap}
 use mathlib.Core.List.{List, []}
 use Prim.Native.Nat.{ℕ, zero, suc, _+_, max, _≤_}
 use native.Mathlib.Omega.{arith}
-use lib.IntN.{ℤ}
 use Rattle.cells.specs.Try.{Try, stuck, done}
 use Rattle.cells.specs.Cells.{unknown}
-use Rattle.cells.specs.Order.{Refines, same, Allowed}
+use Rattle.cells.specs.Order.{Refines, same}
 use Rattle.cells.proofs.CellLaws.{refines-lawful}
 use Rattle.machine.specs.Machine.{State, Price, Next, stops, goes, opens, Code, height, step}
 use Rattle.machine.specs.Order.{Cellwise}
@@ -17,12 +16,13 @@ use Rattle.machine.proofs.StepLaws.{step-law}
 use Rattle.machine.proofs.PriceLaws.{opening-price}
 use Rattle.bounds.specs.Tree.{Tree, expand, tree, cycles, words, depth, size, Report, report, Verdict, accepted, openingLimit, explore, bound, verdict}
 use Rattle.bounds.specs.Traces.{CostMax, Finite}
-use Rattle.bounds.specs.Run.{Run, begin, after, left, run}
-use Rattle.bounds.specs.Promises.{NoGreater, Interruptible, Monotone, Exact, ExactReports, RunWithinBound, Theorem14}
+use Rattle.bounds.specs.Run.{begin, after, run}
+use Rattle.bounds.specs.Promises.{NoGreater, Interruptible, Monotone, ExactReports, OneMaximum, AcceptedWhere, RefusedWhere, FuelIrrelevant, RunWithinBound, Theorem14}
 use Rattle.bounds.proofs.TreeLaws.{Complete, tree-law, tree-root, accepted-complete, complete-accepted}
-use Rattle.bounds.proofs.MaxLaws.{OpensAlike, cost-unique, Worst, tree-worst}
+use Rattle.bounds.proofs.FuelLaws.{verdict-fuel}
+use Rattle.bounds.proofs.MaxLaws.{OpensAlike, cost-unique, run-unique, tree-worst}
 use Rattle.bounds.proofs.PathLaws.{tree-costliest, tree-wordiest, tree-height}
-use Rattle.bounds.proofs.ListedLaws.{accepted-finite, finite-accepted, finite-more}
+use Rattle.bounds.proofs.ListedLaws.{accepted-finite, finite-accepted, finite-more, refused-listed, listed-refused}
 use Rattle.bounds.proofs.RunLaws.{Leaves, Ways, stopping, going, opening, Stepwise, stepwise-interruptible, stopped-verdict}
 
 equal-reports : (r q : Report) → r ≡ q → NoGreater r q
@@ -124,3 +124,50 @@ exact-reports c budget s q a =
       depth = tree-height (acts c) budget openingLimit s w;
       steps = rw (← eq) at f;
     })
+
+-- a maximum cost is of a finite tree, with enough openings
+cost-finite : (act : State → Try Next) {t : State} {k : ℕ} → CostMax act t k → (o : ℕ) × (n : ℕ) × Finite act o t n
+cost-finite act (CostMax.stop e) = (0, 1, Finite.stop e)
+cost-finite act (CostMax.next e d) = let (o, n, f) = cost-finite act d in (o, suc n, Finite.next e f)
+cost-finite act (CostMax.fork e d d′) =
+    let (o, m, f) = cost-finite act d in
+    let (o′, n, g) = cost-finite act d′ in
+    (suc (max o o′), suc (m + n), Finite.fork e (finite-more act f (max o o′) (omega arith)) (finite-more act g (max o o′) (omega arith)))
+
+pub theorem14 : Theorem14
+theorem14 c t k d s e answers m stopped =
+    let (o, n, f) = cost-finite (acts c) d in
+    let (q, a, sized) = finite-accepted (acts c) f n (omega arith) in
+    let h : q .cycles ≡ k = cost-unique (acts c) (worst c o n t q a) d in
+    let safe = interruptible c o n t q a s e answers m in
+    omega (arith, safe .cycles)
+
+-- a run that the bounded start allows
+pub run-within-bound : RunWithinBound
+unfolding bound run
+run-within-bound c budget t q a s e answers =
+    let r = after c budget (begin s answers) in
+    let safe = interruptible c openingLimit budget t q a s e answers budget in
+    let (f, fits) = accepted-finite (acts c) budget openingLimit t q a in
+    let stopped = safe .stops fits in
+    (record { cycles = r .cycles; words = r .words; depth = r .depth; steps = r .steps; path = [] },
+    stopped-verdict budget r stopped,
+    record { cycles = omega (arith, safe .cycles); words = omega (arith, safe .words); depth = safe .depth; steps = safe .steps })
+
+-- the rest, of the bound itself
+pub one-maximum : OneMaximum
+one-maximum c s = (λ k l a b. cost-unique (acts c) a b, λ xs ys a b. run-unique (acts c) a b)
+
+pub accepted-where : AcceptedWhere
+unfolding bound
+accepted-where c budget s =
+    (λ (q, a). let (f, fits) = accepted-finite (acts c) budget openingLimit s q a in (q .steps, f, fits),
+    λ (n, f, fits). let (q, a, sized) = finite-accepted (acts c) f budget fits in (q, a))
+
+pub refused-where : RefusedWhere
+unfolding bound
+refused-where c budget s r = (λ a. refused-listed (acts c) openingLimit budget s r a, λ l. listed-refused (acts c) l)
+
+pub fuel-irrelevant : FuelIrrelevant
+unfolding bound explore
+fuel-irrelevant c budget fuel s le = verdict-fuel (acts c) budget fuel openingLimit s le

@@ -6,3 +6,4 @@ pub mod PathLaws
 pub mod ListedLaws
 pub mod RunLaws
 pub mod BoundLaws
+pub mod FigureLaws

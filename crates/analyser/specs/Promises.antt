@@ -1,0 +1,71 @@
+-- What is promised of the answers to a text, as statements. `proofs/Theorems` proves each by its name.
+use mathlib.Core.Path.{_≡_}
+use mathlib.Core.Bool.{true}
+use mathlib.Core.List.{List}
+use Prim.Native.Nat.{ℕ, _≤_}
+use lib.Dec.{ltb}
+use lib.IntN.{ℤ, pos}
+use lib.ListN.{length, take}
+use Rattle.text.specs.Text.{lines, all}
+use Rattle.text.specs.Decimal.{numeral, number, decimal}
+use Rattle.cells.specs.Order.{Allowed}
+use Rattle.machine.specs.Machine.{State}
+use Rattle.machine.specs.Order.{Cellwise}
+use Rattle.bounds.specs.Tree.{Report, accepted, bound}
+use Rattle.bounds.specs.Run.{begin, after, run}
+use Rattle.bounds.specs.Promises.{Exact, Safe, NoGreater}
+use Rattle.routine.specs.Layout.{layout, body, codeLines}
+use Rattle.routine.specs.Routine.{Routine, Reading, readBound, readRun}
+use Rattle.routine.specs.Routine as readings
+use Rattle.report.specs.Report.{boundText, runText}
+use Rattle.analyser.specs.Answers.{Answer, reported, memoryLimit, boundAnswer, runAnswer}
+
+-- the report bs of the bound on a text: demands 2 and 3 in terms of the file
+pub record Kept (text bs : List ℕ) : Type 0 where
+  pub routine : Routine
+  pub report : Report
+  pub reads : readBound text ≡ readings.routine routine
+  pub accepts : bound (routine .code) (routine .budget) (routine .start) ≡ accepted report
+  pub prints : bs ≡ boundText (routine .tick) report
+  pub exact : Exact (routine .code) (routine .start) report
+  -- "starts from any memory that has the file's cells and no others, agrees with each known one and holds some number in each unknown
+  -- one; it is fed any list of input answers and interrupted after any number of steps, 0 included"
+  pub safe : (s : State) → Cellwise Allowed s (routine .start) → (answers : List ℤ) (n : ℕ) →
+      Safe (routine .code) (bound (routine .code) (routine .budget)) report n (after (routine .code) n (begin s answers))
+
+abbrev pub ReportsKept : Type 0
+ReportsKept = (text : List ℕ) (n : ℕ) (bs : List ℕ) → boundAnswer text n ≡ reported bs → Kept text bs
+
+-- two files: y is x with numbers for its `?`, and with any answers
+pub record FilledIn (y x : Routine) : Type 0 where
+  pub budget : y .budget ≡ x .budget
+  pub code : y .code ≡ x .code
+  pub start : Cellwise Allowed (y .start) (x .start)
+
+-- the run of a file that fills in a bounded one is refused by neither 7 nor 9 and is within the report's four figures
+abbrev pub FilledInRuns : Type 0
+FilledInRuns =
+    (x y : Routine) (q : Report) → bound (x .code) (x .budget) (x .start) ≡ accepted q → FilledIn y x →
+    (text : List ℕ) (n : ℕ) → readRun text ≡ readings.routine y → memoryLimit ≤ n →
+    (r : Report) × (run (y .code) (y .budget) (y .start) (y .answers) ≡ accepted r) × (runAnswer text n ≡ reported (runText r)) × NoGreater r q
+
+-- "Once a file passes 1 to 6, the bound does not depend on ANSWER.": two files with the same lines up to the last code line
+abbrev pub AnswersIrrelevant : Type 0
+AnswersIrrelevant =
+    (text text′ : List ℕ) (x x′ : Routine) → readBound text ≡ readings.routine x → readBound text′ ≡ readings.routine x′ →
+    take (length layout) (lines text) ≡ take (length layout) (lines text′) → codeLines (body (lines text)) ≡ codeLines (body (lines text′)) →
+    (n : ℕ) → boundAnswer text n ≡ boundAnswer text′ n
+
+-- "ASCII": no byte of a text that passes is 128 or more
+abbrev pub PassingIsAscii : Type 0
+PassingIsAscii = (text : List ℕ) (x : Routine) → readBound text ≡ readings.routine x → all (λ b. ltb b 128) text ≡ true
+
+-- 128 bytes are enough for every report, and no report is given with fewer lent
+abbrev pub ReportsFit : Type 0
+ReportsFit =
+    ((text : List ℕ) (n : ℕ) (bs : List ℕ) → boundAnswer text n ≡ reported bs → (length bs ≤ memoryLimit) × (memoryLimit ≤ n))
+    × ((text : List ℕ) (n : ℕ) (bs : List ℕ) → runAnswer text n ≡ reported bs → (length bs ≤ memoryLimit) × (memoryLimit ≤ n))
+
+-- reading a decimal number that was written gives it back
+abbrev pub WrittenReadsBack : Type 0
+WrittenReadsBack = (n : ℕ) → numeral (decimal n) ≡ number (pos n)

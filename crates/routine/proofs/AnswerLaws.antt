@@ -1,0 +1,92 @@
+-- "Once a file passes 1 to 6, the bound does not depend on ANSWER.": the routine but for its answers is read off the lines of the
+-- layout and the code lines alone. Assumes nothing.
+use Prim.Native.Nat.{ℕ, _<_, _≤_}
+use mathlib.Core.Path.{_≡_, refl, sym, ap, _∙_}
+use mathlib.Core.Bool.{true, cond}
+use mathlib.Core.List.{List, [], _∷_, _++_}
+use native.Mathlib.Omega.{arith}
+use lib.Dec.{eqb}
+use lib.ListN.{length, take, length-drop}
+use lib.Seq.{take-append-le, drop-append-le}
+use Rattle.text.specs.Text.{Line}
+use Rattle.routine.specs.Layout.{Section, Role, layout, isAnswer, body, upToAnswer, codeLines, list, tag, textAt, listed}
+use Rattle.routine.specs.Rows.{firstAt}
+use Rattle.routine.specs.Routine.{Routine, limitAt, priceAt, prices, instruction, codeOf, cellsOf, startOf, routineOf}
+
+-- the two routines differ in their answers at most
+abbrev pub SameButAnswers : Routine → Routine → Type 0
+SameButAnswers x y = (x .budget ≡ y .budget) × (x .tick ≡ y .tick) × (x .code ≡ y .code) × (x .start ≡ y .start)
+
+-- the line of a role is among as many lines as there are roles
+text-among : (r : Role) (rs : List Role) (ls : List Line) → textAt r rs (take (length rs) ls) ≡ textAt r rs ls
+unfolding textAt
+text-among r [] ls = refl
+text-among r (x ∷ xs) [] = refl
+text-among r (x ∷ xs) (l ∷ ls) = ap (cond (eqb (tag r) (tag x)) (l .text)) (text-among r xs ls)
+
+-- the first address is that of the first code line
+first-code : (ls : List Line) → firstAt (codeLines ls) ≡ firstAt ls
+unfolding firstAt codeLines
+first-code [] = refl
+first-code (l ∷ ls) = refl
+
+module _ (ls ms : List Line) (e : take (length layout) ls ≡ take (length layout) ms) (c : codeLines (body ls) ≡ codeLines (body ms)) where
+  same-listed : (r : Role) → listed r ls ≡ listed r ms
+  unfolding listed
+  same-listed r = ap list (sym (text-among r layout ls) ∙ ap (textAt r layout) e ∙ text-among r layout ms)
+
+  same-limit : (i : ℕ) → limitAt i ls ≡ limitAt i ms
+  unfolding limitAt
+  same-limit i = rw same-listed refl
+
+  same-price : (s : Section) (i : ℕ) → priceAt s ls i ≡ priceAt s ms i
+  unfolding priceAt
+  same-price s i = simp same-listed
+
+  same-prices : prices ls ≡ prices ms
+  unfolding prices
+  same-prices = simp (same-listed, same-price)
+
+  same-instruction : (text : List ℕ) → instruction ls text ≡ instruction ms text
+  unfolding instruction
+  same-instruction text = simp (same-listed, same-prices)
+
+  same-first : firstAt (body ls) ≡ firstAt (body ms)
+  same-first = sym (first-code (body ls)) ∙ ap firstAt c ∙ first-code (body ms)
+
+  same-code : codeOf ls ≡ codeOf ms
+  unfolding codeOf
+  same-code = simp (same-first, same-instruction, c)
+
+  same-cells : (s : Section) → cellsOf s ls ≡ cellsOf s ms
+  unfolding cellsOf
+  same-cells s = rw same-listed refl
+
+  same-start : startOf ls ≡ startOf ms
+  unfolding startOf
+  same-start = simp (same-code, same-cells, same-listed)
+
+  pub same-but-answers : SameButAnswers (routineOf ls) (routineOf ms)
+  unfolding routineOf
+  same-but-answers = (same-limit 0, same-limit 1, same-code, same-start)
+
+-- ---- a file with an ANSWER section and without it
+
+module _ (a : Line) (answers : List Line) (e : isAnswer a ≡ true) where
+  up-to-answer : (ls : List Line) → upToAnswer (ls ++ a ∷ answers) ≡ upToAnswer ls
+  unfolding upToAnswer
+  up-to-answer [] = rw e refl
+  up-to-answer (l ∷ ls) = rw (up-to-answer ls) refl
+
+  code-apart : (ls : List Line) → 0 < length ls → codeLines (ls ++ a ∷ answers) ≡ codeLines ls
+  unfolding codeLines
+  code-apart [] h = absurd (omega arith)
+  code-apart (l ∷ ls) h = rw (up-to-answer ls) refl
+
+  -- with at least one code line in front of it, the section changes the answers alone
+  pub answers-apart : (ls : List Line) → length layout < length ls → SameButAnswers (routineOf (ls ++ a ∷ answers)) (routineOf ls)
+  unfolding body
+  answers-apart ls h =
+      let k : length layout ≤ length ls = omega arith in
+      same-but-answers (ls ++ a ∷ answers) ls (take-append-le (length layout) ls (a ∷ answers) k)
+      (rw (drop-append-le (length layout) ls (a ∷ answers) k) (code-apart (body ls) (rw length-drop (omega arith))))

@@ -1,0 +1,70 @@
+-- What rows 2 and 4 say of a code line, part by part, and that the kind that OP names is known. Assumes nothing.
+use Prim.Native.Nat.{ℕ, zero, suc, _<_}
+use mathlib.Core.Path.{_≡_, refl, subst}
+use mathlib.Core.Bool.{Bool, true, _&&_}
+use mathlib.Core.List.{List, [], _∷_}
+use mathlib.Core.Option.{some}
+use native.Mathlib.Omega.{arith}
+use lib.Dec.{eqb, ltb}
+use lib.IntN.{pos, _+ℤ_}
+use lib.ListN.{length, getElem?, length-map}
+use borrow.Author.Tests.{eqb-true, ltb-true}
+use Rattle.text.specs.Text.{words, Line, find, among}
+use Rattle.text.specs.Decimal.{numeral}
+use Rattle.text.proofs.TextLaws.{and-left, and-right, find-below}
+use Rattle.numbers.specs.Numbers.{same}
+use Rattle.instructions.specs.Kinds.{Argument, Kind, kindNames}
+use Rattle.instructions.specs.Kinds as table
+use Rattle.routine.specs.Layout.{primitives, names, code, body, listed}
+use Rattle.routine.specs.Rows.{isNumeral, value, kindNamed, argumentOf, at, op, arg, onArgument, argumentLaidOut, argumentNamed, laidOut, firstAt, named}
+
+pub record CodeLaidOut (k : ℕ) (text : List ℕ) : Type 0 where
+  pub few : k < 1024
+  pub three : length (words text) ≡ 3
+  pub spelt : isNumeral (numeral (at text)) ≡ true
+  pub argument : onArgument (argumentLaidOut (arg text)) text ≡ true
+
+pub code-laid-out : (ls : List Line) (k : ℕ) (text : List ℕ) → laidOut ls (code k) text ≡ true → CodeLaidOut k text
+unfolding laidOut
+code-laid-out ls k text e =
+    let few = ltb k 1024 in
+    let count = eqb (length (words text)) 3 in
+    let spelt = isNumeral (numeral (at text)) in
+    let argument = onArgument (argumentLaidOut (arg text)) text in
+    let e₃ = and-left (few && count && spelt) argument e in
+    let e₂ = and-left (few && count) spelt e₃ in
+    record {
+      few = ltb-true k 1024 (and-left few count e₂);
+      three = eqb-true (length (words text)) 3 (and-right few count e₂);
+      spelt = and-right (few && count) spelt e₃;
+      argument = and-right (few && count && spelt) argument e;
+    }
+
+pub record CodeNamed (ls : List Line) (k : ℕ) (text : List ℕ) : Type 0 where
+  pub follows : same (value (at text)) (firstAt (body ls) +ℤ pos k) ≡ true
+  pub kind : among (op text) kindNames ≡ true
+  pub argument : onArgument (argumentNamed (listed (names primitives) ls) (arg text)) text ≡ true
+
+pub code-named : (ls : List Line) (k : ℕ) (text : List ℕ) → named ls (code k) text ≡ true → CodeNamed ls k text
+unfolding named
+code-named ls k text e =
+    let follows = same (value (at text)) (firstAt (body ls) +ℤ pos k) in
+    let kind = among (op text) kindNames in
+    let argument = onArgument (argumentNamed (listed (names primitives) ls) (arg text)) text in
+    let e₂ = and-left (follows && kind) argument e in
+    record { follows = and-left follows kind e₂; kind = and-right follows kind e₂; argument = and-right (follows && kind) argument e }
+
+there : {A : Type 0} (xs : List A) (i : ℕ) → i < length xs → (x : A) × (getElem? xs i ≡ some x)
+there [] i h = absurd (omega arith)
+there (x ∷ xs) zero h = (x, refl)
+there (x ∷ xs) (suc i) h = there xs i (omega arith)
+
+-- a kind's name has its kind
+pub kind-there : (w : List ℕ) → among w kindNames ≡ true → (k : Kind) × (kindNamed w ≡ some k)
+unfolding kindNamed kindNames
+kind-there w e = there table.kinds (find w kindNames) (rw length-map at (find-below w kindNames e))
+
+-- a test of the argument is one of what that kind calls for
+pub on-kind : (t : Argument → Bool) (text : List ℕ) (k : Kind) → kindNamed (op text) ≡ some k → onArgument t text ≡ true → t (k .argument) ≡ true
+unfolding onArgument argumentOf
+on-kind t text k e h = subst (λ o. argumentOf t o ≡ true) e h

@@ -1,0 +1,5 @@
+pub mod RowLaws
+pub mod CodeLaws
+pub mod AnswerLaws
+pub mod RangeLaws
+pub mod AsciiLaws

@@ -1,0 +1,125 @@
+-- What the ranges of a passing text say of its routine: prices, limits and the height of the start are small. Assumes nothing.
+use Prim.Native.Nat.{ℕ, _+_, _≤_, min}
+use mathlib.Core.Path.{_≡_, refl, ap, _∙_}
+use mathlib.Core.Bool.{true, false≢true}
+use mathlib.Core.List.{List, [], _∷_, map}
+use native.Mathlib.Omega.{arith}
+use lib.Dec.{leb, eqb}
+use lib.IntN.{ℤ, pos, negsuc, natAbs}
+use lib.ListN.{length, getD, take, length-map, length-take, length-drop}
+use borrow.Author.Tests.{leb-true, eqb-true}
+use Rattle.text.specs.Text.{Line, all}
+use Rattle.text.specs.Decimal.{numeral}
+use Rattle.text.proofs.TextLaws.{Every, more, every-map, every-getD, all-every, and-left, and-right, cond-left, cond-right}
+use Rattle.numbers.specs.Numbers.{range, within}
+use Rattle.instructions.specs.Kinds.{Argument, none, target, primitive, number-in}
+use Rattle.machine.specs.Machine.{Price, Prices, cost}
+use Rattle.routine.specs.Layout.{Section, limits, kinds, primitives, cells, limit, cycles, words-column, cell, names, values, layout, body, codeLines, list, textAt, listed}
+use Rattle.routine.specs.Rows.{cellWord, value, valueOf, cellNames, stackNames, columnInRange, columnLaidOut, inRange, laidOut, named, wellNamed}
+use Rattle.routine.specs.Routine.{natural, limitAt, priceAt, prices, instruction, codeOf, cellOf, cellsOf, startOf, routineOf}
+use Rattle.routine.proofs.RowLaws.{Passes, First, passes-range, passes-laid-out, passes-named, lists-path}
+
+-- a number within a range from a natural number on is natural, between the two ends
+within-ends : (low high : ℕ) (z : ℤ) → within (range low high) z ≡ true → (low ≤ natAbs z) × (natAbs z ≤ high)
+within-ends low high (negsuc n) e = absurd (false≢true e)
+within-ends low high (pos n) e = (leb-true low n (cond-left (leb low n) (leb n high) e), leb-true n high (cond-right (leb low n) (leb n high) e))
+
+-- ---- limits
+
+limit-ends : (ls : List Line) → Passes ls → ((1 ≤ limitAt 0 ls) × (limitAt 0 ls ≤ 1000000)) × ((1 ≤ limitAt 1 ls) × (limitAt 1 ls ≤ 4000000000))
+unfolding limitAt listed inRange columnInRange
+limit-ends ls p =
+    let ws = listed (values limits limit) ls in
+    let budget = value (getD ws 0 []) in
+    let tick = value (getD ws 1 []) in
+    let e = passes-range p (values limits limit) refl in (
+      within-ends 1 1000000 budget (and-left (within (range 1 1000000) budget) (within (range 1 4000000000) tick) e),
+      within-ends 1 4000000000 tick (and-right (within (range 1 1000000) budget) (within (range 1 4000000000) tick) e),
+    )
+
+module _ {ls : List Line} (p : Passes ls) where
+  pub budget-positive : 1 ≤ routineOf ls .budget
+  unfolding routineOf
+  budget-positive = limit-ends ls p .0 .0
+
+  pub budget-small : routineOf ls .budget ≤ 1000000
+  unfolding routineOf
+  budget-small = limit-ends ls p .0 .1
+
+  pub tick-positive : 1 ≤ routineOf ls .tick
+  unfolding routineOf
+  tick-positive = limit-ends ls p .1 .0
+
+  pub tick-small : routineOf ls .tick ≤ 4000000000
+  unfolding routineOf
+  tick-small = limit-ends ls p .1 .1
+
+-- ---- prices
+
+-- at most c cycles and w words
+pub record AtMost (c w : ℕ) (p : Price) : Type 0 where
+  pub cycles : p .cycles ≤ c
+  pub words : p .words ≤ w
+
+-- a word past the end of a line counts 0
+word-small : (high : ℕ) (ws : List (List ℕ)) → all (λ w. within (range 0 high) (value w)) ws ≡ true → (i : ℕ) → natural (getD ws i []) ≤ high
+unfolding value valueOf numeral
+word-small high ws e i =
+    every-getD {P = λ w. natural w ≤ high}
+    (every-map (λ w h. within-ends 0 high (value w) h .1) (all-every (λ w. within (range 0 high) (value w)) ws e)) (omega arith) i
+
+-- a kind's price and a primitive's, each at most c cycles and w words
+cost-small : (c w : ℕ) (ps : Prices) → ((k : ℕ) → AtMost c w (ps .kinds k)) → ((i : ℕ) → AtMost c w (ps .primitives i))
+    → (a : Argument) (k : ℕ) (v : ℤ) → AtMost (c + c) (w + w) (cost ps a k v)
+unfolding cost
+cost-small c w ps f g none k v = let h = f k in omega arith
+cost-small c w ps f g target k v = let h = f k in omega arith
+cost-small c w ps f g primitive k v = let h = f k in let i = g (natAbs v) in omega arith
+cost-small c w ps f g (number-in r) k v = let h = f k in omega arith
+
+module _ (ls : List Line) (p : Passes ls) where
+  price-small : (s : Section) → First (values s cycles) layout → First (values s words-column) layout → (i : ℕ) → AtMost 65535 255 (priceAt s ls i)
+  unfolding priceAt listed inRange columnInRange
+  price-small s f g i = record {
+    cycles = word-small 65535 (list (textAt (values s cycles) layout ls)) (passes-range p (values s cycles) f) i;
+    words = word-small 255 (list (textAt (values s words-column) layout ls)) (passes-range p (values s words-column) g) i;
+  }
+
+  instruction-small : (text : List ℕ) → AtMost 131070 510 (instruction ls text .price)
+  unfolding instruction prices
+  instruction-small text =
+      cost-small 65535 255 (prices ls)
+      (λ k. price-small kinds refl refl _) (λ i. price-small primitives refl refl _) _ _ _
+
+every-mapped : {A B : Type 0} {P : B → Type 0} (f : A → B) → ((x : A) → P (f x)) → (xs : List A) → Every P (map f xs)
+every-mapped f h [] = Every.none
+every-mapped f h (x ∷ xs) = more (h x) (every-mapped f h xs)
+
+pub prices-small : {ls : List Line} → Passes ls → Every (λ i. AtMost 131070 510 (i .price)) (routineOf ls .code .instructions)
+unfolding routineOf codeOf
+prices-small {ls} p = every-mapped (λ l. instruction ls (l .text)) (λ l. instruction-small ls p (l .text)) (codeLines (body ls))
+
+-- ---- the start
+
+-- "ACCU, then S0 on to S31 at most"
+cells-few : (ls : List Line) → Passes ls → length (listed (names cells) ls) ≤ 33
+unfolding listed named wellNamed cellNames stackNames
+cells-few ls p =
+    let ws = listed (names cells) ls in
+    let e : length ws ≡ min (length ws) 33 = ap length (lists-path ws (take (length ws) cellNames) (passes-named p (names cells) refl)) ∙ length-take (length ws) cellNames in
+    omega arith
+
+-- as many values as names
+cells-counted : (ls : List Line) → Passes ls → length (cellsOf cells ls) ≡ length (listed (names cells) ls)
+unfolding cellsOf listed laidOut
+cells-counted ls p =
+    let vs = listed (values cells cell) ls in
+    let n = length (listed (names cells) ls) in
+    length-map vs (λ w. cellOf (cellWord w)) ∙ eqb-true (length vs) n (and-left (eqb (length vs) n) (columnLaidOut cell vs) (passes-laid-out p (values cells cell) refl))
+
+pub start-low : {ls : List Line} → Passes ls → length (routineOf ls .start .stack) ≤ 32
+unfolding routineOf startOf
+start-low {ls} p =
+    let l = cells-few ls p in
+    let e = cells-counted ls p in
+    simp length-drop (omega arith)
