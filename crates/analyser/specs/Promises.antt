@@ -15,10 +15,10 @@ use Rattle.bounds.specs.Tree.{Report, accepted, bound}
 use Rattle.bounds.specs.Run.{begin, after, run}
 use Rattle.bounds.specs.Promises.{Exact, Safe, NoGreater}
 use Rattle.routine.specs.Layout.{layout, body, codeLines}
-use Rattle.routine.specs.Routine.{Routine, Reading, readBound, readRun}
+use Rattle.routine.specs.Routine.{Routine, readBound, readRun}
 use Rattle.routine.specs.Routine as readings
 use Rattle.report.specs.Report.{boundText, runText}
-use Rattle.analyser.specs.Answers.{Answer, reported, memoryLimit, boundAnswer, runAnswer}
+use Rattle.analyser.specs.Answers.{reported, memoryLimit, boundAnswer, runAnswer}
 
 -- the report bs of the bound on a text: demands 2 and 3 in terms of the file
 pub record Kept (text bs : List ℕ) : Type 0 where

@@ -2,7 +2,7 @@
 -- budget and o the openings that are left. Assumes nothing.
 use mathlib.Core.Path.{_≡_, refl, _∙_, ap, fun-ext}
 use mathlib.Core.List.{List, [], _∷_, _++_}
-use Prim.Native.Nat.{ℕ, zero, suc, _+_, _-_, max, _≤_}
+use Prim.Native.Nat.{ℕ, zero, suc, _+_, _-_, max}
 use native.Mathlib.Omega.{arith}
 use lib.Dec.{leb}
 use lib.ListN.{length}
@@ -10,7 +10,7 @@ use Rattle.refusals.specs.declared.Refusal.{Refusal}
 use Rattle.refusals.specs.declared.Refusal.the-variants.{Stuck, Openings, Spent}
 use Rattle.cells.specs.Try.{Try, stuck, done}
 use Rattle.machine.specs.Machine.{State, Price, Next, stops, goes, opens, height}
-use Rattle.bounds.specs.Tree.{Tree, unmade, stop, next, fork, expand, tree, cycles, words, depth, size, path, worse, Report, report, refusal, Step, made, not-made, address, steps, Verdict, accepted, refused, judge, verdict, explore}
+use Rattle.bounds.specs.Tree.{Tree, next, fork, expand, tree, cycles, words, depth, size, path, worse, Report, report, refusal, Step, made, not-made, address, steps, Verdict, accepted, refused, judge, verdict, explore}
 use Rattle.bounds.proofs.TreeLaws.{steps-size}
 use Rattle.bounds.proofs.FuelLaws.{verdict-fuel}
 

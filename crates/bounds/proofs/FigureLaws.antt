@@ -1,7 +1,7 @@
 -- How large the figures of a report can be, by the largest price, the steps, the openings and the stack's limit. Assumes nothing.
-use mathlib.Core.Path.{_≡_, refl, sym, ap, _∙_}
+use mathlib.Core.Path.{_≡_, refl}
 use mathlib.Core.Bool.{Bool, true, false}
-use mathlib.Core.List.{List, [], _∷_}
+use mathlib.Core.List.{List, []}
 use Prim.Native.Nat.{ℕ, zero, suc, _+_, _*_, max, _≤_}
 use native.Mathlib.Omega.{arith}
 use lib.Dec.{leb}
@@ -12,10 +12,10 @@ use Rattle.cells.specs.declared.Cell.{Cell}
 use Rattle.cells.specs.Cells.{unknown}
 use Rattle.machine.specs.Machine.{State, Price, Instruction, Code, fetch, Next, stops, goes, opens, stackLimit, height, step}
 use Rattle.machine.proofs.PriceLaws.{OnePrice, is-stuck, stops-at, goes-at, opens-at, step-price}
-use Rattle.machine.proofs.HeightLaws.{Low, LowNext, stops-low, goes-low, opens-low, step-low}
-use Rattle.bounds.specs.Tree.{Tree, unmade, stop, next, fork, expand, tree, cycles, words, depth, size, path, worse, Decision, Report, report, Verdict, accepted, refused, openingLimit, explore, bound, verdict}
+use Rattle.machine.proofs.HeightLaws.{Low, LowNext, goes-low, opens-low, step-low}
+use Rattle.bounds.specs.Tree.{Tree, expand, tree, cycles, words, depth, size, path, worse, Decision, Report, report, accepted, openingLimit, explore, bound, verdict}
 use Rattle.bounds.specs.Run.{Run, begin, answer, moved, leads, once, after, judgeRun, run}
-use Rattle.bounds.proofs.TreeLaws.{Complete, accepted-complete}
+use Rattle.bounds.proofs.TreeLaws.{accepted-complete}
 
 -- a price of at most C cycles and W words
 pub record Cheap (C W : ℕ) (p : Price) : Type 0 where

@@ -8,7 +8,7 @@ use native.Mathlib.Omega.{arith}
 use Rattle.refusals.specs.declared.Refusal.the-variants.{Spent}
 use Rattle.cells.specs.Try.{Try, stuck, done}
 use Rattle.machine.specs.Machine.{State, Next, stops, goes, opens}
-use Rattle.bounds.specs.Tree.{Tree, unmade, stop, next, fork, expand, tree, Report, report, Step, made, not-made, address, steps, Verdict, accepted, refused, judge, verdict}
+use Rattle.bounds.specs.Tree.{Tree, expand, tree, Report, report, Step, made, not-made, address, steps, accepted, refused, judge, verdict}
 use Rattle.bounds.proofs.TreeLaws.{Complete, accepted-complete}
 
 -- two lists of steps that are judged alike, under each budget up to b

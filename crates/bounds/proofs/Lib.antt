@@ -1,3 +1,4 @@
+pub mod Examples
 pub mod TreeLaws
 pub mod FuelLaws
 pub mod ExploreLaws
@@ -5,5 +6,7 @@ pub mod MaxLaws
 pub mod PathLaws
 pub mod ListedLaws
 pub mod RunLaws
-pub mod BoundLaws
+pub mod RunVerdictLaws
+pub mod PromiseLaws
 pub mod FigureLaws
+pub mod Interrupted

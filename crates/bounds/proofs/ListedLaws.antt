@@ -1,8 +1,7 @@
 -- Accepted where the tree is finite with every step made and within the budget, and refused in the listed cases: in each direction, and
 -- apart from any fuel. Assumes nothing.
 use mathlib.Core.Path.{_≡_, refl, sym, subst, _∙_, ap}
-use mathlib.Core.List.{List, [], _∷_}
-use Prim.Native.Nat.{ℕ, zero, suc, _+_, _-_, _≤_, _<_}
+use Prim.Native.Nat.{ℕ, zero, suc, _+_, _-_, _≤_}
 use native.Mathlib.Omega.{arith}
 use Rattle.refusals.specs.declared.Refusal.{Refusal}
 use Rattle.refusals.specs.declared.Refusal.the-variants.{Stuck, Openings, Spent}
@@ -11,7 +10,7 @@ use Rattle.machine.specs.Machine.{State, Price, Next, stops, goes, opens}
 use Rattle.bounds.specs.Tree.{Tree, expand, tree, size, Report, report, Verdict, accepted, refused, verdict, explore}
 use Rattle.bounds.specs.Traces.{Finite, Comes, Listed}
 use Rattle.bounds.proofs.TreeLaws.{Complete, accepted-complete, complete-accepted}
-use Rattle.bounds.proofs.ExploreLaws.{before, join, joined, both-ways, explore-spent, explore-stuck, explore-stops, explore-goes, explore-over, explore-opens}
+use Rattle.bounds.proofs.ExploreLaws.{before, join, both-ways, explore-spent, explore-stuck, explore-stops, explore-goes, explore-over, explore-opens}
 
 module _ (act : State → Try Next) where
   -- a complete tree is a finite one, of its size

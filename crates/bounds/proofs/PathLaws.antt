@@ -1,6 +1,6 @@
 -- The largest sums over the paths of a complete tree, for any figure of a price, and the largest height over the states reached.
 -- Assumes nothing.
-use mathlib.Core.Path.{_≡_, refl, sym, ap}
+use mathlib.Core.Path.{_≡_, refl, ap}
 use mathlib.Core.List.{List, [], _∷_}
 use Prim.Native.Nat.{ℕ, zero, suc, _+_, max, _≤_}
 use mathlib.Core.Bool.{Bool, true, false}

@@ -1,24 +1,23 @@
 -- Demand 3 of any bound that goes by a step's ways: what it accepts at a state it accepts after the step, for what the step leaves.
 -- Nothing here knows how the bound is made. Assumes nothing.
 use mathlib.Core.Path.{_≡_, refl, sym, _∙_, ap}
-use mathlib.Core.Bool.{Bool, true, false, cond, true≢false}
+use mathlib.Core.Bool.{Bool, true, false, true≢false}
 use mathlib.Core.List.{List, [], _∷_}
-use Prim.Native.Nat.{ℕ, zero, suc, _+_, max, _≤_}
+use Prim.Native.Nat.{ℕ, zero, suc, _+_, _≤_}
 use native.Mathlib.Omega.{arith}
-use lib.Dec.{ltb}
 use lib.IntN.{ℤ, pos}
-use Rattle.cells.specs.Try.{Try, stuck, done}
+use Rattle.cells.specs.Try.{Try, done}
 use Rattle.cells.specs.Cells.{unknown}
 use Rattle.cells.specs.Order.{Refines, Allowed}
-use Rattle.cells.proofs.Covering.{Covered, by-stuck, both}
+use Rattle.cells.proofs.Covering.{Covered, both}
 use Rattle.cells.proofs.CellLaws.{allowed-refines, allowed-plain, number-allowed, allowed-lawful}
 use Rattle.machine.specs.Machine.{State, Price, Next, stops, goes, opens, Code, height, step}
 use Rattle.machine.specs.Order.{Cellwise}
 use Rattle.machine.proofs.NextCovering.{NextCovered, stops-too, goes-too, opens-too, goes-not-taken, goes-taken}
-use Rattle.machine.proofs.StateLaws.{height-law, cellwise-map, cellwise-self}
+use Rattle.machine.proofs.StateLaws.{cellwise-map, cellwise-self}
 use Rattle.machine.proofs.StepLaws.{step-law}
 use Rattle.bounds.specs.Tree.{Report, Verdict, accepted}
-use Rattle.bounds.specs.Run.{Run, begin, answer, moved, leads, once, after, stuckAt, isStuck, left, judgeRun, run}
+use Rattle.bounds.specs.Run.{Run, begin, answer, moved, leads, once, after, stuckAt, isStuck, left, judgeRun}
 use Rattle.bounds.specs.Promises.{NoGreater, Safe, Interruptible, Monotone, NothingFollows}
 
 module _ (c : Code) (M : State → Verdict) where

@@ -2,16 +2,16 @@
 -- is greater. Over any action on states and any relation that the action keeps: nothing here knows a cell or an instruction.
 -- Assumes nothing.
 use mathlib.Core.Path.{_≡_, refl, _∙_}
-use mathlib.Core.List.{List, [], _∷_, _++_, append-assoc, append-nil}
-use Prim.Native.Nat.{ℕ, zero, suc, _+_, _-_, max, _≤_}
+use mathlib.Core.List.{List, [], _++_, append-assoc, append-nil}
+use Prim.Native.Nat.{ℕ, zero, suc, _+_, _-_, _≤_}
 use native.Mathlib.Omega.{arith}
 use lib.ListN.{length, length-append}
 use Rattle.refusals.specs.declared.Refusal.{Refusal}
 use Rattle.cells.specs.Try.{Try, stuck, done}
 use Rattle.cells.proofs.Covering.{Covered, by-stuck, both}
-use Rattle.machine.specs.Machine.{State, Price, Next, stops, goes, opens, height}
+use Rattle.machine.specs.Machine.{State, Next, stops, goes, opens, height}
 use Rattle.machine.proofs.NextCovering.{NextCovered, stops-too, goes-too, opens-too, goes-not-taken, goes-taken}
-use Rattle.bounds.specs.Tree.{Tree, unmade, stop, next, fork, expand, tree, cycles, words, depth, size, Report, report, Step, made, not-made, steps, Verdict, accepted, refused, judge}
+use Rattle.bounds.specs.Tree.{Tree, unmade, stop, next, fork, expand, tree, cycles, words, depth, size, Report, report, Step, steps, accepted, refused, judge}
 use Rattle.bounds.specs.Promises.{NoGreater}
 
 -- every step of the tree is made

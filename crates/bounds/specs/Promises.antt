@@ -1,17 +1,19 @@
--- What is promised of the bound and of the run, as statements. `proofs/Theorems` proves each by its name.
+-- What is promised of the bound and of the run, as statements. The file Theorems of the crate `analyser` proves each by its name.
 use mathlib.Core.Path.{_≡_}
-use mathlib.Core.Bool.{Bool, true, false}
+use mathlib.Core.Bool.{true, false}
 use mathlib.Core.List.{List}
 use mathlib.Core.Logic.{_↔_}
-use Prim.Native.Nat.{ℕ, _+_, _≤_}
+use Prim.Native.Nat.{ℕ, _+_, _≤_, _<_}
 use lib.IntN.{ℤ}
+use lib.ListN.{length}
 use Rattle.refusals.specs.declared.Refusal.{Refusal}
+use Rattle.refusals.specs.declared.Refusal.the-variants.{Stuck, Spent}
 use Rattle.cells.specs.Order.{Refines, Allowed}
 use Rattle.cells.specs.Cells.{unknown}
 use Rattle.machine.specs.Machine.{State, Next, Code, height, step}
 use Rattle.cells.specs.Try.{Try}
 use Rattle.machine.specs.Order.{Cellwise}
-use Rattle.bounds.specs.Tree.{tree, verdict, Report, Verdict, accepted, refused, openingLimit, bound}
+use Rattle.bounds.specs.Tree.{tree, steps, verdict, Report, Verdict, accepted, refused, openingLimit, bound}
 use Rattle.bounds.specs.Traces.{Move, cost, wordSum, decisions, Trace, Path, CostMax, RunMax, Finite, Listed}
 use Rattle.bounds.specs.Run.{Run, begin, after, isStuck, left, run}
 
@@ -92,6 +94,10 @@ pub record Exact (c : Code) (s : State) (q : Report) : Type 0 where
 abbrev pub ExactReports : Type 0
 ExactReports = (c : Code) (budget : ℕ) (s : State) (q : Report) → bound c budget s ≡ accepted q → Exact c s q
 
+-- STEPS is the number of steps listed in depth-first order
+abbrev pub StepsListed : Type 0
+StepsListed = (c : Code) (budget : ℕ) (s : State) (q : Report) → bound c budget s ≡ accepted q → length (steps (tree (step c unknown) budget openingLimit s)) ≡ q .steps
+
 -- both relations have one value
 abbrev pub OneMaximum : Type 0
 OneMaximum =
@@ -107,6 +113,14 @@ AcceptedWhere =
 
 abbrev pub RefusedWhere : Type 0
 RefusedWhere = (c : Code) (budget : ℕ) (s : State) (r : Refusal) → (bound c budget s ≡ refused r) ↔ Listed (step c unknown) openingLimit budget s r
+
+-- of a run: 7 where a step among the first BUDGET is stuck; 9 where BUDGET steps are made and STOP is none of them; else it is accepted
+abbrev pub RunRefusedWhere : Type 0
+RunRefusedWhere =
+    (c : Code) (budget : ℕ) (s : State) (answers : List ℤ) →
+    ((a : ℕ) → (run c budget s answers ≡ refused (Stuck a)) ↔ ((k : ℕ) × (k < budget) × (isStuck c (after c k (begin s answers)) ≡ true) × (after c k (begin s answers) .state .at ≡ a)))
+    × ((a : ℕ) → (run c budget s answers ≡ refused (Spent a)) ↔ ((after c budget (begin s answers) .steps ≡ budget) × (after c budget (begin s answers) .stopped ≡ false) × (after c budget (begin s answers) .state .at ≡ a)))
+    × (((q : Report) × (run c budget s answers ≡ accepted q)) ↔ (after c budget (begin s answers) .stopped ≡ true))
 
 -- where the tree is cut off does not matter
 abbrev pub FuelIrrelevant : Type 0

@@ -8,8 +8,8 @@ use Rattle.refusals.specs.declared.Refusal.the-variants.{Stuck, Spent}
 use Rattle.cells.specs.Try.{Try, stuck, done}
 use Rattle.cells.specs.declared.Cell.{Cell}
 use Rattle.cells.specs.Cells.{number}
-use Rattle.machine.specs.Machine.{State, Price, Next, stops, goes, opens, Code, height, step, takesAnswer}
-use Rattle.bounds.specs.Tree.{Report, Verdict, accepted, refused}
+use Rattle.machine.specs.Machine.{State, Next, stops, goes, opens, Code, height, step, takesAnswer}
+use Rattle.bounds.specs.Tree.{Verdict, accepted, refused}
 
 -- "A run of the plain machine has a state, the answers still to come and the cycles and words spent, and remembers whether STOP was
 -- made"; with its largest height and its steps

@@ -2,7 +2,7 @@
 -- (Definition 11); and, apart from any fuel, which step of the tree has which number.
 use mathlib.Core.Path.{_≡_}
 use mathlib.Core.List.{List, [], _∷_, _++_}
-use Prim.Native.Nat.{ℕ, zero, suc, _+_, max, _≤_, _<_}
+use Prim.Native.Nat.{ℕ, suc, _+_, max, _≤_, _<_}
 use Rattle.refusals.specs.declared.Refusal.{Refusal}
 use Rattle.refusals.specs.declared.Refusal.the-variants.{Stuck, Openings, Spent}
 use Rattle.cells.specs.Try.{Try, stuck, done}

@@ -1,15 +1,13 @@
 -- The laws of cells, for the erasure order and for the plain cells that a cell allows. With specs/ these are all that knows what a
 -- cell is. Assumes nothing.
 use mathlib.Core.Path.{_≡_, refl}
-use Prim.Native.Nat.{ℕ, zero, suc}
+use Prim.Native.Nat.{zero, suc}
 use lib.IntN.{ℤ, pos, negsuc}
-use Rattle.numbers.specs.Numbers.{IsNumber, wrap}
 use Rattle.numbers.proofs.NumberLaws.{wrap-number}
 use Rattle.cells.specs.declared.Value.{Value}
 use Rattle.cells.specs.declared.Value.the-variants.{Number, Unknown, Handle}
 use Rattle.cells.specs.declared.Cell.{Cell}
-use Rattle.cells.specs.Try.{Try, stuck, done}
-use Rattle.cells.specs.Cells.{cell, number, unknown, handle, Unary, calculate₁, Binary, calculate₂, map₁, map₂, operate₁, operate₂, Condition, test, condition, handled, block}
+use Rattle.cells.specs.Cells.{number, unknown, Unary, calculate₁, Binary, calculate₂, map₁, map₂, operate₁, operate₂, test, condition, handled, block}
 use Rattle.cells.specs.Order.{Refines, same, erased, Allowed, known, some-number, same-handle}
 use Rattle.cells.proofs.Covering.{Covered, by-stuck, both, covered-self, Narrower, zeros, nonzeros, zero-unknown, nonzero-unknown, unknowns}
 

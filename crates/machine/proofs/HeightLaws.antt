@@ -2,7 +2,7 @@
 use mathlib.Core.Path.{_≡_, refl}
 use mathlib.Core.Bool.{Bool, true, false, cond}
 use mathlib.Core.List.{List, [], _∷_}
-use Prim.Native.Nat.{ℕ, zero, suc, _≤_, _<_}
+use Prim.Native.Nat.{ℕ, zero, suc, _≤_}
 use native.Mathlib.Omega.{arith}
 use lib.Dec.{ltb}
 use lib.IntN.{ℤ, natAbs}
@@ -10,10 +10,10 @@ use lib.ListN.{length}
 use borrow.Author.Tests.{ltb-true}
 use Rattle.cells.specs.Try.{Try, stuck, done, _>>=_}
 use Rattle.cells.specs.declared.Cell.{Cell}
-use Rattle.cells.specs.Cells.{number, Condition, is-zero, is-nonzero, is-unknown, condition, operate₁, operate₂, block}
-use Rattle.instructions.specs.Kinds.{Operation, nothing, access, drop, assign, constant, get-field, set-field, branch, branch-if, branch-if-not, call, stop, unary, binary, Kind, kinds, operand}
+use Rattle.cells.specs.Cells.{Condition, is-zero, is-nonzero, is-unknown, condition, operate₁, operate₂, block}
+use Rattle.instructions.specs.Kinds.{Operation, nothing, access, drop, assign, constant, get-field, set-field, branch, branch-if, branch-if-not, call, stop, unary, binary, kinds, operand}
 use Rattle.machine.specs.Lists.{nth, put, without}
-use Rattle.machine.specs.Machine.{State, stackLimit, height, Price, Instruction, Code, fetch, Next, stops, goes, opens, jump, load, restack, store, push, pop, getField, setField, advance, ahead, ways, opposite, perform, prepare, execute, step}
+use Rattle.machine.specs.Machine.{State, stackLimit, height, Price, Code, fetch, Next, stops, goes, opens, jump, load, restack, store, push, pop, getField, setField, advance, ahead, ways, opposite, perform, prepare, execute, step}
 
 -- what an action gives, if it gives anything, has a property
 data Gives {A : Type 0} (P : A → Type 0) : Try A → Type 0 where

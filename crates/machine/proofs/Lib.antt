@@ -1,4 +1,4 @@
-pub mod Instances
+pub mod Examples
 pub mod NextCovering
 pub mod StateLaws
 pub mod StepLaws

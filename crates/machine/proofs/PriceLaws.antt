@@ -1,12 +1,11 @@
 -- Every way of a step costs the price of its instruction; so both ways of an unknown branch cost the same. Assumes nothing.
-use mathlib.Core.Path.{_≡_, refl, ap}
-use mathlib.Core.Bool.{Bool, true, false}
+use mathlib.Core.Path.{_≡_, refl}
 use Prim.Native.Nat.{ℕ}
 use lib.IntN.{ℤ, natAbs}
 use Rattle.cells.specs.Try.{Try, stuck, done, _>>=_}
 use Rattle.cells.specs.declared.Cell.{Cell}
 use Rattle.cells.specs.Cells.{Condition, is-zero, is-nonzero, is-unknown, condition}
-use Rattle.instructions.specs.Kinds.{Operation, nothing, access, drop, assign, constant, get-field, set-field, branch, branch-if, branch-if-not, call, stop, unary, binary, Kind, kinds, operand}
+use Rattle.instructions.specs.Kinds.{Operation, nothing, access, drop, assign, constant, get-field, set-field, branch, branch-if, branch-if-not, call, stop, unary, binary, kinds, operand}
 use Rattle.machine.specs.Lists.{nth}
 use Rattle.machine.specs.Machine.{State, Price, Instruction, Code, fetch, Next, stops, goes, opens, ahead, ways, opposite, perform, prepare, execute, step}
 

@@ -5,7 +5,7 @@ use mathlib.Core.List.{List, [], _∷_}
 use Prim.Native.Nat.{ℕ, zero, suc}
 use lib.Dec.{ltb}
 use lib.ListN.{length}
-use Rattle.cells.specs.Try.{Try, stuck, done, _>>=_}
+use Rattle.cells.specs.Try.{stuck, done}
 use Rattle.cells.specs.declared.Cell.{Cell}
 use Rattle.cells.specs.Order.{Pointwise, end, cons}
 use Rattle.cells.proofs.Covering.{Covered, by-stuck, both, bind}

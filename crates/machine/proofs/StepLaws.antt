@@ -1,19 +1,18 @@
 -- The law of the step, for any lawful relation of cells: where the step from the larger state is not stuck, neither is that from the
 -- smaller, and what they lead to is related. With specs/ this, PriceLaws and HeightLaws are all that knows the instructions.
 -- Assumes nothing.
-use mathlib.Core.Path.{_≡_, refl, ap}
+use mathlib.Core.Path.{refl, ap}
 use mathlib.Core.Bool.{Bool, true, false}
 use Prim.Native.Nat.{ℕ}
 use lib.IntN.{ℤ, pos, natAbs}
-use Rattle.cells.specs.Try.{Try, _>>=_}
+use Rattle.cells.specs.Try.{Try}
 use Rattle.cells.specs.declared.Cell.{Cell}
-use Rattle.cells.specs.Cells.{number, Condition}
-use Rattle.cells.specs.Order.{cons}
+use Rattle.cells.specs.Cells.{Condition}
 use Rattle.cells.proofs.Covering.{Covered, both, bind, covered-equal, Narrower, zeros, nonzeros, zero-unknown, nonzero-unknown, unknowns}
 use Rattle.cells.proofs.CellLaws.{Lawful}
 use Rattle.instructions.specs.Kinds.{Operation, nothing, access, drop, assign, constant, get-field, set-field, branch, branch-if, branch-if-not, call, stop, unary, binary, Kind, kinds, operand}
 use Rattle.machine.specs.Lists.{nth}
-use Rattle.machine.specs.Machine.{State, Price, Instruction, Code, fetch, Next, getField, setField, ahead, ways, opposite, perform, prepare, execute, step}
+use Rattle.machine.specs.Machine.{State, Price, Instruction, Code, fetch, getField, setField, ahead, ways, opposite, perform, prepare, execute, step}
 use Rattle.machine.specs.Order.{Cellwise}
 use Rattle.machine.proofs.NextCovering.{NextCovered, stops-too, goes-too, opens-too, goes-not-taken, goes-taken}
 use Rattle.machine.proofs.StateLaws.{nth-law, put-law, jump-law, advance-law, load-law, restack-law, store-law, push-law, pop-law}

@@ -1,6 +1,6 @@
 -- Laws of what is printed: SHARE is the nearest whole number, and a report or a run's report with figures that are not too large fits
 -- 128 bytes. Assumes nothing.
-use mathlib.Core.Path.{_≡_, refl, sym}
+use mathlib.Core.Path.{_≡_, sym}
 use mathlib.Core.List.{List, [], _∷_}
 use Prim.Native.Nat.{ℕ, _+_, _*_, _^_, _<_, _≤_}
 use native.Mathlib.Nat.{mul-div-le, lt-mul-div-succ, div-eq-of-lt-le, div-lt-iff-lt-mul}
@@ -28,11 +28,6 @@ share-nearest tick cycles h = record {
 pub share-unique : (tick cycles n : ℕ) → 1 ≤ tick → Nearest tick cycles n → n ≡ share tick cycles
 unfolding share
 share-unique tick cycles n h k = sym (div-eq-of-lt-le (2 * tick) (omega arith) (omega arith))
-
--- a half goes up: 65 cycles of 2000 are 32.5 thousandths
-pub half-up : share 2000 65 ≡ 33
-unfolding share
-half-up = refl
 
 -- what a report needs to fit: its figures, its path, and a TICK t that is not 0
 pub record Small (t : ℕ) (q : Report) : Type 0 where

@@ -1,5 +1,6 @@
+pub mod Examples
 pub mod RowLaws
 pub mod CodeLaws
 pub mod AnswerLaws
 pub mod RangeLaws
-pub mod AsciiLaws
+pub mod SpellingLaws

@@ -9,40 +9,21 @@ use lib.Dec.{ltb, eqb}
 use lib.ListN.{length, length-append, length-drop}
 use borrow.Author.Tests.{ltb-false, lt-ltb, le-ltb}
 use Rattle.refusals.specs.declared.Refusal.{Refusal}
-use Rattle.refusals.specs.declared.Refusal.the-variants.{TextLength, Layout, Range, Name, Unpriced, Target, UnknownCell}
+use Rattle.refusals.specs.declared.Refusal.the-variants.{TextLength}
 use Rattle.text.specs.Text.{isEmpty, equals, words, Line, lines, all}
 use Rattle.text.proofs.TextLaws.{Every, none, more, and-left, and-right, equals-path}
 use Rattle.routine.specs.Layout.{answers, Role, names, code, layout, isAnswer, body, answerRoles, codeRoles, bodyRoles, roles, tag, textAt}
 use Rattle.routine.specs.Rows.{equalLists, Row, layout-row, range-row, name-row, price-row, target-row, known-row, Fault, clean, line, earliest, fault, test, laidOut, inRange, named}
-use Rattle.routine.specs.Routine.{Routine, routineOf, Reading, refused, routine, orElse, rowsThen, textLimit, limited, readBound, readRun}
+use Rattle.routine.specs.Routine.{Routine, routineOf, Reading, refused, routine, orElse, Check, boundChecks, runChecks, checked, textLimit, limited, readBound, readRun}
 
 -- ---- the rows in their order
 
--- a row and the refusal that it gives at a line
-pub record Check : Type 0 where
-  pub row : Row
-  pub refusal : ℕ → Refusal
-
-abbrev pub check : Row → (ℕ → Refusal) → Check
-check r f = record { row = r; refusal = f }
-
-abbrev pub boundChecks : List Check
-boundChecks = check layout-row Layout ∷ check range-row Range ∷ check name-row Name ∷ check price-row Unpriced ∷ check target-row Target ∷ []
-
-abbrev pub runChecks : List Check
-runChecks = boundChecks ++ (check known-row UnknownCell ∷ [])
-
--- the reading of a text by the rows of a list
-unfoldable pub checked : List Check → List Line → Reading
-checked [] ls = routine (routineOf ls)
-checked (c ∷ cs) ls = orElse (fault (c .row) ls) (c .refusal) (checked cs ls)
-
 pub bound-checked : (text : List ℕ) → readBound text ≡ limited text (checked boundChecks (lines text))
-unfolding readBound rowsThen checked
+unfolding readBound
 bound-checked text = refl
 
 pub run-checked : (text : List ℕ) → readRun text ≡ limited text (checked runChecks (lines text))
-unfolding readRun rowsThen checked
+unfolding readRun
 run-checked text = refl
 
 -- the rows of cs are clean

@@ -1,8 +1,8 @@
 -- The routine of a text that passes refusals 1 to 6, and which refusal a text has that does not.
 -- Every definition is total: what a passing text never needs is 0 or empty.
-use Prim.Native.Nat.{ℕ, zero, suc}
-use mathlib.Core.Bool.{Bool, true, false, cond}
-use mathlib.Core.List.{List, [], _∷_, map}
+use Prim.Native.Nat.{ℕ}
+use mathlib.Core.Bool.{cond}
+use mathlib.Core.List.{List, [], _∷_, _++_, map}
 use mathlib.Core.Option.{Option, some}
 use lib.Dec.{ltb}
 use lib.IntN.{ℤ, pos, natAbs}
@@ -16,7 +16,7 @@ use Rattle.cells.specs.Cells as cells-of
 use Rattle.instructions.specs.Kinds.{Argument, none, target, primitive, number-in, Kind, kindNames}
 use Rattle.machine.specs.Machine.{State, Price, Instruction, Prices, cost, Code}
 use Rattle.routine.specs.Layout.{Section, limits, kinds, primitives, cells, fields, limit, cycles, words-column, cell, names, values, body, codeLines, answerLines, listed}
-use Rattle.routine.specs.Rows.{value, CellWord, wrong, unknown, known, block, cellWord, blockSizes, kindNamed, argumentOf, at, op, arg, firstAt, Row, layout-row, range-row, name-row, price-row, target-row, known-row, Fault, clean, line, fault}
+use Rattle.routine.specs.Rows.{value, CellWord, wrong, unknown, known, block, cellWord, blockSizes, kindNamed, at, op, arg, firstAt, Row, layout-row, range-row, name-row, price-row, target-row, known-row, Fault, clean, line, fault}
 
 pub record Routine : Type 0 where
   pub budget : ℕ
@@ -116,11 +116,25 @@ unfoldable pub orElse : Fault → (ℕ → Refusal) → Reading → Reading
 orElse clean r next = next
 orElse (line n) r next = refused (r n)
 
--- "Checked in the order of the rows"; "Refusal 11 .. run only"
-unfoldable pub rowsThen : List Line → Reading → Reading
-rowsThen ls next =
-    orElse (fault layout-row ls) Layout
-    (orElse (fault range-row ls) Range (orElse (fault name-row ls) Name (orElse (fault price-row ls) Unpriced (orElse (fault target-row ls) Target next))))
+-- a row of the refusal table, and its refusal at a line
+pub record Check : Type 0 where
+  pub row : Row
+  pub refusal : ℕ → Refusal
+
+abbrev pub check : Row → (ℕ → Refusal) → Check
+check r f = record { row = r; refusal = f }
+
+-- "Checked in the order of the rows"
+abbrev pub boundChecks : List Check
+boundChecks = check layout-row Layout ∷ check range-row Range ∷ check name-row Name ∷ check price-row Unpriced ∷ check target-row Target ∷ []
+
+-- "run only: a `?` on line 10, then 12"
+abbrev pub runChecks : List Check
+runChecks = boundChecks ++ (check known-row UnknownCell ∷ [])
+
+unfoldable pub checked : List Check → List Line → Reading
+checked [] ls = routine (routineOf ls)
+checked (c ∷ cs) ls = orElse (fault (c .row) ls) (c .refusal) (checked cs ls)
 
 -- "ASCII, at most 32,768 bytes"
 abbrev pub textLimit : ℕ
@@ -131,7 +145,7 @@ limited text next = cond (ltb textLimit (length text)) (refused TextLength) next
 
 -- as the bound reads a text, and as the run does
 unfoldable pub readBound : List ℕ → Reading
-readBound text = let ls = lines text in limited text (rowsThen ls (routine (routineOf ls)))
+readBound text = let ls = lines text in limited text (checked boundChecks ls)
 
 unfoldable pub readRun : List ℕ → Reading
-readRun text = let ls = lines text in limited text (rowsThen ls (orElse (fault known-row ls) UnknownCell (routine (routineOf ls))))
+readRun text = let ls = lines text in limited text (checked runChecks ls)

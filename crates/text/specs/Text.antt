@@ -1,6 +1,6 @@
 -- A text is the list of its bytes. Lines end in a line feed (byte 10), and words are parted by one space (byte 32).
 -- Nothing here knows how long a text may be.
-use Prim.Native.Nat.{ℕ, zero, suc}
+use Prim.Native.Nat.{ℕ, suc}
 use Prim.Native.Char.{code}
 use Prim.Native.String.{String}
 use Prim.Native.String.{[] as ends, _∷_ as _then_}

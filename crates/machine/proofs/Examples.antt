@@ -1,17 +1,16 @@
--- Worked instances of a step: what document 01 warns of under "Mistakes a bench would pass". Assumes nothing.
+-- Worked examples of a step: what document 01 warns of under "Mistakes a bench would pass". Assumes nothing.
 use mathlib.Core.Path.{_≡_, refl}
-use mathlib.Core.Bool.{cond}
 use mathlib.Core.List.{List, [], _∷_}
 use Prim.Native.Nat.{ℕ}
 use lib.IntN.{ℤ, pos, negsuc}
 use Rattle.text.specs.Text.{bytes, find, equals}
 use Rattle.numbers.specs.Numbers.{wrap, holds}
-use Rattle.cells.specs.Try.{Try, stuck, done, _>>=_}
+use Rattle.cells.specs.Try.{stuck, done, _>>=_}
 use Rattle.cells.specs.declared.Cell.{Cell}
 use Rattle.cells.specs.Cells.{number, unknown, handle, calculate₁, calculate₂, map₁, map₂, operate₁, operate₂, test, condition, handled, block}
 use Rattle.instructions.specs.Kinds.{kinds, kindNames, operand}
 use Rattle.machine.specs.Lists.{nth, put, without}
-use Rattle.machine.specs.Machine.{State, Price, Instruction, Code, fetch, Next, goes, opens, height, jump, load, restack, store, push, pop, getField, setField, advance, ahead, ways, opposite, perform, prepare, execute, step}
+use Rattle.machine.specs.Machine.{State, Price, Code, fetch, goes, opens, height, jump, load, restack, store, push, pop, getField, setField, advance, ahead, ways, opposite, perform, prepare, execute, step}
 
 -- one instruction of the kind that is named, with its argument, at address 5 and at the price of 3 cycles
 abbrev price : Price
@@ -23,7 +22,7 @@ one name a = record { first = 5; instructions = record { kind = find name kindNa
 abbrev state : ℕ → Cell → List Cell → State
 state a c cs = record { at = a; accu = c; stack = cs; blocks = (number (pos 8) ∷ unknown ∷ []) ∷ [] }
 
-pub instances :
+pub examples :
     -- "here ADDINT always pops", an unknown operand or not
     (step (one (bytes "ADDINT") (pos 0)) unknown (state 5 unknown (number (pos 4) ∷ handle 0 ∷ [])) ≡ done (goes price (state 6 unknown (handle 0 ∷ []))))
     × (step (one (bytes "ADDINT") (pos 0)) unknown (state 5 (number (pos 3)) (number (pos 4) ∷ [])) ≡ done (goes price (state 6 (number (pos 7)) [])))
@@ -43,4 +42,4 @@ pub instances :
     × (step (one (bytes "GETFIELD2") (pos 0)) unknown (state 5 (handle 0) []) ≡ stuck)
     × (step (one (bytes "ADDINT") (pos 0)) unknown (state 5 (handle 0) (unknown ∷ [])) ≡ stuck)
 unfolding equals find kindNames wrap holds _>>=_ calculate₁ calculate₂ map₁ map₂ operate₁ operate₂ test condition handled block kinds operand nth put without fetch height jump load restack store push pop getField setField advance ahead ways opposite perform prepare execute step
-instances = (refl, refl, refl, refl, refl, refl, refl, refl, refl, refl, refl, refl)
+examples = (refl, refl, refl, refl, refl, refl, refl, refl, refl, refl, refl, refl)

@@ -1,24 +1,24 @@
 -- The bound by trees is monotone and goes by a step's ways, so demand 3 holds of it; and its reports are exact (demand 2).
 -- With any number of openings on a path. Assumes nothing.
-use mathlib.Core.Path.{_≡_, refl, ap}
-use mathlib.Core.List.{List, []}
+use mathlib.Core.Path.{_≡_, refl, ap, _∙_}
+use mathlib.Core.List.{[]}
 use Prim.Native.Nat.{ℕ, zero, suc, _+_, max, _≤_}
 use native.Mathlib.Omega.{arith}
 use Rattle.cells.specs.Try.{Try, stuck, done}
 use Rattle.cells.specs.Cells.{unknown}
 use Rattle.cells.specs.Order.{Refines, same}
 use Rattle.cells.proofs.CellLaws.{refines-lawful}
-use Rattle.machine.specs.Machine.{State, Price, Next, stops, goes, opens, Code, height, step}
+use Rattle.machine.specs.Machine.{State, Price, Next, stops, goes, opens, Code, step}
 use Rattle.machine.specs.Order.{Cellwise}
 use Rattle.machine.proofs.NextCovering.{Leads, leads-self}
 use Rattle.machine.proofs.StateLaws.{height-law}
 use Rattle.machine.proofs.StepLaws.{step-law}
 use Rattle.machine.proofs.PriceLaws.{opening-price}
-use Rattle.bounds.specs.Tree.{Tree, expand, tree, cycles, words, depth, size, Report, report, Verdict, accepted, openingLimit, explore, bound, verdict}
+use Rattle.bounds.specs.Tree.{Tree, expand, tree, cycles, words, depth, size, Report, report, accepted, openingLimit, explore, bound, verdict}
 use Rattle.bounds.specs.Traces.{CostMax, Finite}
 use Rattle.bounds.specs.Run.{begin, after, run}
-use Rattle.bounds.specs.Promises.{NoGreater, Interruptible, Monotone, ExactReports, OneMaximum, AcceptedWhere, RefusedWhere, FuelIrrelevant, RunWithinBound, Theorem14}
-use Rattle.bounds.proofs.TreeLaws.{Complete, tree-law, tree-root, accepted-complete, complete-accepted}
+use Rattle.bounds.specs.Promises.{NoGreater, Interruptible, Monotone, ExactReports, StepsListed, OneMaximum, AcceptedWhere, RefusedWhere, FuelIrrelevant, RunWithinBound, Theorem14}
+use Rattle.bounds.proofs.TreeLaws.{Complete, tree-law, tree-root, steps-size, accepted-complete, complete-accepted}
 use Rattle.bounds.proofs.FuelLaws.{verdict-fuel}
 use Rattle.bounds.proofs.MaxLaws.{OpensAlike, cost-unique, run-unique, tree-worst}
 use Rattle.bounds.proofs.PathLaws.{tree-costliest, tree-wordiest, tree-height}
@@ -149,20 +149,28 @@ run-within-bound c budget t q a s e answers =
     let r = after c budget (begin s answers) in
     let safe = interruptible c openingLimit budget t q a s e answers budget in
     let (f, fits) = accepted-finite (acts c) budget openingLimit t q a in
-    let stopped = safe .stops fits in
-    (record { cycles = r .cycles; words = r .words; depth = r .depth; steps = r .steps; path = [] },
-    stopped-verdict budget r stopped,
-    record { cycles = omega (arith, safe .cycles); words = omega (arith, safe .words); depth = safe .depth; steps = safe .steps })
+    let stopped = safe .stops fits in (
+      record { cycles = r .cycles; words = r .words; depth = r .depth; steps = r .steps; path = [] },
+      stopped-verdict budget r stopped,
+      record { cycles = omega (arith, safe .cycles); words = omega (arith, safe .words); depth = safe .depth; steps = safe .steps },
+    )
 
 -- the rest, of the bound itself
+pub steps-listed : StepsListed
+unfolding bound whole report
+steps-listed c budget s q a =
+    let (w, le, e) = complete-of c openingLimit budget s q a in
+    steps-size (whole c openingLimit budget s) ∙ ap (λ r. r .steps) e
+
 pub one-maximum : OneMaximum
 one-maximum c s = (λ k l a b. cost-unique (acts c) a b, λ xs ys a b. run-unique (acts c) a b)
 
 pub accepted-where : AcceptedWhere
 unfolding bound
-accepted-where c budget s =
-    (λ (q, a). let (f, fits) = accepted-finite (acts c) budget openingLimit s q a in (q .steps, f, fits),
-    λ (n, f, fits). let (q, a, sized) = finite-accepted (acts c) f budget fits in (q, a))
+accepted-where c budget s = (
+  λ (q, a). let (f, fits) = accepted-finite (acts c) budget openingLimit s q a in (q .steps, f, fits),
+  λ (n, f, fits). let (q, a, sized) = finite-accepted (acts c) f budget fits in (q, a),
+)
 
 pub refused-where : RefusedWhere
 unfolding bound

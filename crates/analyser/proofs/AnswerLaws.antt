@@ -1,0 +1,173 @@
+-- The promises of the answers to a text, from the laws of the layers below. Assumes nothing.
+use mathlib.Core.Path.{_≡_, refl, sym}
+use mathlib.Core.Bool.{Bool, true, false, cond}
+use mathlib.Core.List.{List, [], _∷_}
+use Prim.Native.Nat.{ℕ, zero, suc, _-_, _≤_, _<_}
+use native.Mathlib.Omega.{arith}
+use lib.Dec.{ltb}
+use lib.ListN.{length}
+use borrow.Author.Tests.{lt-ltb, le-ltb, ltb-false}
+use Rattle.refusals.specs.declared.Refusal.{Refusal}
+use Rattle.refusals.specs.declared.Refusal.the-variants.{ReportMemory}
+use Rattle.text.specs.Text.{lines, all}
+use Rattle.text.proofs.TextLaws.{Every, none, more}
+use Rattle.cells.specs.Try.{stuck, done}
+use Rattle.machine.specs.Lists.{nth}
+use Rattle.machine.specs.Machine.{height, Instruction, fetch}
+use Rattle.machine.proofs.HeightLaws.{Low}
+use Rattle.bounds.specs.Tree.{Report, Verdict, openingLimit, bound}
+use Rattle.bounds.specs.Tree as verdicts
+use Rattle.bounds.specs.Run.{run}
+use Rattle.bounds.proofs.PromiseLaws.{interruptible, exact-reports, run-within-bound}
+use Rattle.bounds.proofs.FigureLaws.{Cheap, Bounded, bound-bounded, run-bounded}
+use Rattle.routine.specs.Routine.{Routine, routineOf, Reading, routine, readBound, readRun}
+use Rattle.routine.specs.Routine as readings
+use Rattle.routine.proofs.RowLaws.{Passes, read-passes, run-passes}
+use Rattle.routine.proofs.RangeLaws.{prices-small, budget-small, tick-positive, start-low}
+use Rattle.routine.proofs.SpellingLaws.{accepted-ascii}
+use Rattle.routine.proofs.AnswerLaws.{SameButAnswers, same-but-answers}
+use Rattle.report.specs.Report.{boundText, runText}
+use Rattle.report.proofs.ReportLaws.{Small, bound-fits, run-fits}
+use Rattle.analyser.specs.Answers.{Answer, reported, refused, memoryLimit, ofVerdict, ofReading, boundRoutine, runRoutine, boundAnswer, runAnswer}
+use Rattle.analyser.specs.Promises.{ReportsKept, FilledInRuns, AnswersIrrelevant, PassingIsAscii, ReportsFit}
+
+-- ---- what a report comes from
+
+never : {A : Type 0} (r : Refusal) (bs : List ℕ) → refused r ≡ reported bs → A
+never r bs e = let z : _≡_ {A = ℕ} 0 1 = cc in absurd (omega arith)
+
+record FromVerdict (text : Report → List ℕ) (v : Verdict) (bs : List ℕ) : Type 0 where
+  report : Report
+  accepts : v ≡ verdicts.accepted report
+  prints : text report ≡ bs
+
+from-verdict : (text : Report → List ℕ) (v : Verdict) (bs : List ℕ) → ofVerdict text v ≡ reported bs → FromVerdict text v bs
+unfolding ofVerdict
+from-verdict text (verdicts.accepted q) bs e = record { report = q; accepts = refl; prints = cc }
+from-verdict text (verdicts.refused r) bs e = never r bs e
+
+record FromReading (f : Routine → Answer) (m : Reading) (n : ℕ) (bs : List ℕ) : Type 0 where
+  lent : memoryLimit ≤ n
+  routine : Routine
+  reads : m ≡ readings.routine routine
+  gives : f routine ≡ reported bs
+
+from-reading : (f : Routine → Answer) (m : Reading) (n : ℕ) (bs : List ℕ) → cond (ltb n memoryLimit) (refused ReportMemory) (ofReading f m) ≡ reported bs → FromReading f m n bs
+unfolding ofReading
+from-reading f m n bs = lent (ltb n memoryLimit) refl
+  where
+    read : memoryLimit ≤ n → (m : Reading) → ofReading f m ≡ reported bs → FromReading f m n bs
+    read h (readings.refused r) e = never r bs e
+    read h (readings.routine x) e = record { lent = h; routine = x; reads = refl; gives = e }
+
+    lent : (b : Bool) → ltb n memoryLimit ≡ b → cond b (refused ReportMemory) (ofReading f m) ≡ reported bs → FromReading f m n bs
+    lent true h e = never ReportMemory bs e
+    lent false h e = read (ltb-false n memoryLimit h) m e
+
+-- ---- demands 2 and 3
+
+pub reports-kept : ReportsKept
+unfolding boundAnswer boundRoutine bound
+reports-kept text n bs e =
+    let a = from-reading boundRoutine (readBound text) n bs e in
+    let x = a .routine in
+    let v = from-verdict (boundText (x .tick)) (bound (x .code) (x .budget) (x .start)) bs (a .gives) in
+    record {
+      routine = x;
+      report = v .report;
+      reads = a .reads;
+      accepts = v .accepts;
+      prints = sym (v .prints);
+      exact = exact-reports (x .code) (x .budget) (x .start) (v .report) (v .accepts);
+      safe = λ s h answers m. interruptible (x .code) openingLimit (x .budget) (x .start) (v .report) (v .accepts) s h answers m;
+    }
+
+-- ---- two files
+
+pub filled-in-runs : FilledInRuns
+unfolding runAnswer runRoutine ofReading ofVerdict
+filled-in-runs x y q a h text n e lent =
+    let a′ : bound (y .code) (y .budget) (x .start) ≡ verdicts.accepted q = rw (h .code, h .budget) a in
+    let (r, b, le) = run-within-bound (y .code) (y .budget) (x .start) q a′ (y .start) (h .start) (y .answers) in
+    (r, b, rw (le-ltb n memoryLimit lent, e, b) refl, le)
+
+pub answers-irrelevant : AnswersIrrelevant
+unfolding boundAnswer ofReading boundRoutine
+answers-irrelevant text text′ x x′ e e′ h k n =
+    let p = read-passes text x e .1 in
+    let p′ = read-passes text′ x′ e′ .1 in
+    let s : SameButAnswers x x′ = rw (p, p′) (same-but-answers (lines text) (lines text′) h k) in
+    rw (e, e′, s .0, s .1, s .2, s .3) refl
+
+-- ---- ASCII
+
+every-all : (bs : List ℕ) → Every (λ b. b < 128) bs → all (λ b. ltb b 128) bs ≡ true
+unfolding all
+every-all [] h = refl
+every-all (b ∷ bs) (more h hs) = rw (lt-ltb b 128 h) (every-all bs hs)
+
+pub passing-is-ascii : PassingIsAscii
+passing-is-ascii text x e = every-all text (accepted-ascii text (read-passes text x e .0))
+
+-- ---- 128 bytes
+
+nth-every : {A : Type 0} {P : A → Type 0} {xs : List A} → Every P xs → (n : ℕ) {x : A} → nth n xs ≡ done x → P x
+unfolding nth
+nth-every none n e = let z : _≡_ {A = ℕ} 0 1 = cc in absurd (omega arith)
+nth-every {A} {P} (more {x = y} p ps) zero {x} e = let h : y ≡ x = cc in rw h at p
+nth-every (more p ps) (suc n) e = nth-every ps n e
+
+module _ (text : List ℕ) (x : Routine) (passes : Passes (lines text)) (is : x ≡ routineOf (lines text)) where
+  cheap : (a : ℕ) (i : Instruction) → fetch (x .code) a ≡ done i → Cheap 131070 510 (i .price)
+  unfolding fetch
+  cheap a i e = go (ltb a (x .code .first)) e
+    where
+      go : (b : Bool) → cond b stuck (nth (a - x .code .first) (x .code .instructions)) ≡ done i → Cheap 131070 510 (i .price)
+      go true e = let z : _≡_ {A = ℕ} 0 1 = cc in absurd (omega arith)
+      go false e =
+          let h = nth-every (rw (← is) at (prices-small passes)) (a - x .code .first) e in
+          record { cycles = h .cycles; words = h .words }
+
+  low : Low (x .start)
+  unfolding height
+  low = let h = rw (← is) at (start-low passes) in record { low = omega arith }
+
+  within : x .budget ≤ 1000000
+  within = rw (← is) at (budget-small passes)
+
+  ticks : 1 ≤ x .tick
+  ticks = rw (← is) at (tick-positive passes)
+
+bound-small : (tick budget : ℕ) (q : Report) → 1 ≤ tick → budget ≤ 1000000 → Bounded 131070 510 budget q → Small tick q
+bound-small tick budget q t h b = record {
+  cycles = omega (arith, b .cycles, b .steps);
+  words = omega (arith, b .words, b .steps);
+  depth = omega (arith, b .depth);
+  steps = omega (arith, b .steps);
+  path = b .path;
+  tick = t;
+}
+
+pub reports-fit : ReportsFit
+unfolding boundAnswer boundRoutine runAnswer runRoutine
+reports-fit = (λ text n bs e. of-bound text n bs e, λ text n bs e. of-run text n bs e)
+  where
+    of-bound : (text : List ℕ) (n : ℕ) (bs : List ℕ) → boundAnswer text n ≡ reported bs → (length bs ≤ memoryLimit) × (memoryLimit ≤ n)
+    of-bound text n bs e =
+        let a = from-reading boundRoutine (readBound text) n bs e in
+        let x = a .routine in
+        let v = from-verdict (boundText (x .tick)) (bound (x .code) (x .budget) (x .start)) bs (a .gives) in
+        let p = read-passes text x (a .reads) in
+        let b = bound-bounded 131070 510 (x .code) (cheap text x (p .0) (p .1)) (x .budget) (x .start) (low text x (p .0) (p .1)) (v .report) (v .accepts) in
+        let s = bound-small (x .tick) (x .budget) (v .report) (ticks text x (p .0) (p .1)) (within text x (p .0) (p .1)) b in
+        (rw (← v .prints) (bound-fits (x .tick) (v .report) s), a .lent)
+
+    of-run : (text : List ℕ) (n : ℕ) (bs : List ℕ) → runAnswer text n ≡ reported bs → (length bs ≤ memoryLimit) × (memoryLimit ≤ n)
+    of-run text n bs e =
+        let a = from-reading runRoutine (readRun text) n bs e in
+        let x = a .routine in
+        let v = from-verdict runText (run (x .code) (x .budget) (x .start) (x .answers)) bs (a .gives) in
+        let p = run-passes text x (a .reads) in
+        let b = run-bounded 131070 510 (x .code) (cheap text x (p .0) (p .2)) (x .budget) (x .start) (low text x (p .0) (p .2)) (x .answers) (v .report) (v .accepts) in
+        let s = bound-small (x .tick) (x .budget) (v .report) (ticks text x (p .0) (p .2)) (within text x (p .0) (p .2)) b in
+        (rw (← v .prints) (run-fits (v .report) (s .cycles) (s .words) (s .depth) (s .steps)), a .lent)

@@ -1,0 +1,109 @@
+-- What is proved, by the names of the statements in specs/. Nothing else of proofs/ needs to be read.
+-- Assumes nothing.
+use mathlib.Core.List.{[], _∷_}
+use Prim.Native.Nat.{ℕ}
+use lib.IntN.{pos}
+use Rattle.text.proofs.DecimalLaws.{decimal-read}
+use Rattle.cells.specs.declared.Cell.{Cell}
+use Rattle.cells.specs.Cells.{unknown}
+use Rattle.cells.specs.Order.{Refines, same, Allowed}
+use Rattle.cells.proofs.Covering.{Covered}
+use Rattle.cells.proofs.CellLaws.{refines-trans, refines-lawful, allowed-lawful}
+use Rattle.machine.specs.Machine.{State, Code, step}
+use Rattle.machine.specs.Order.{Cellwise}
+use Rattle.machine.proofs.NextCovering.{NextCovered}
+use Rattle.machine.proofs.StateLaws.{cellwise-refl, cellwise-trans}
+use Rattle.machine.proofs.StepLaws.{step-law}
+use Rattle.bounds.specs.Tree.{openingLimit, bound}
+use Rattle.bounds.specs.Run.{begin, after}
+use Rattle.bounds.specs.Promises as bounds
+use Rattle.bounds.proofs.PromiseLaws as promise-laws
+use Rattle.bounds.proofs.RunLaws as run-laws
+use Rattle.bounds.proofs.RunVerdictLaws as run-verdict-laws
+use Rattle.bounds.proofs.Interrupted as example
+use Rattle.analyser.specs.Answers.{reported}
+use Rattle.analyser.specs.Promises as answers
+use Rattle.analyser.proofs.AnswerLaws as answer-laws
+
+-- ---- the erasure order and the step
+
+pub order-reflexive : (s : State) → Cellwise Refines s s
+order-reflexive s = cellwise-refl (λ a. same) s
+
+pub order-transitive : {s t u : State} → Cellwise Refines s t → Cellwise Refines t u → Cellwise Refines s u
+order-transitive e f = cellwise-trans (λ a b c h k. refines-trans h k) e f
+
+-- where the step from t is not stuck, neither is that from a state that refines t, and what they lead to is related
+pub step-refines : (c : Code) {s t : State} → Cellwise Refines s t → Covered (NextCovered (Cellwise Refines) (Unit {0})) (step c unknown s) (step c unknown t)
+step-refines c e = step-law refines-lawful c same e
+
+-- the same for a plain state that t allows and an answer that an unknown allows; the plain state never opens two ways
+pub step-plain : (c : Code) {a : Cell} {s t : State} → Allowed a unknown → Cellwise Allowed s t → Covered (NextCovered (Cellwise Allowed) ⊥) (step c a s) (step c unknown t)
+step-plain c h e = step-law allowed-lawful c h e
+
+-- ---- the bound and the run of a code
+
+pub monotone : (c : Code) (budget : ℕ) → bounds.Monotone (bound c budget)
+unfolding bound
+monotone c budget = promise-laws.monotone c openingLimit budget
+
+-- demand 3
+pub interruptible : (c : Code) (budget : ℕ) → bounds.Interruptible c (bound c budget)
+unfolding bound
+interruptible c budget = promise-laws.interruptible c openingLimit budget
+
+-- with one instance: case 1's start, the answer 7
+pub interruptible-instance : (n : ℕ) → bounds.Safe example.code (bound example.code 1000) example.reported n (after example.code n (begin example.plain (pos 7 ∷ [])))
+interruptible-instance = example.interrupted .1
+
+pub nothing-follows : bounds.NothingFollows
+nothing-follows = run-laws.nothing-follows
+
+pub theorem14 : bounds.Theorem14
+theorem14 = promise-laws.theorem14
+
+pub run-within-bound : bounds.RunWithinBound
+run-within-bound = promise-laws.run-within-bound
+
+-- demand 2
+pub exact-reports : bounds.ExactReports
+exact-reports = promise-laws.exact-reports
+
+pub steps-listed : bounds.StepsListed
+steps-listed = promise-laws.steps-listed
+
+pub one-maximum : bounds.OneMaximum
+one-maximum = promise-laws.one-maximum
+
+pub accepted-where : bounds.AcceptedWhere
+accepted-where = promise-laws.accepted-where
+
+pub refused-where : bounds.RefusedWhere
+refused-where = promise-laws.refused-where
+
+pub run-refused-where : bounds.RunRefusedWhere
+run-refused-where = run-verdict-laws.run-refused-where
+
+pub fuel-irrelevant : bounds.FuelIrrelevant
+fuel-irrelevant = promise-laws.fuel-irrelevant
+
+-- ---- the answers to a text
+
+-- demands 2 and 3, of the file
+pub reports-kept : answers.ReportsKept
+reports-kept = answer-laws.reports-kept
+
+pub filled-in-runs : answers.FilledInRuns
+filled-in-runs = answer-laws.filled-in-runs
+
+pub answers-irrelevant : answers.AnswersIrrelevant
+answers-irrelevant = answer-laws.answers-irrelevant
+
+pub passing-is-ascii : answers.PassingIsAscii
+passing-is-ascii = answer-laws.passing-is-ascii
+
+pub reports-fit : answers.ReportsFit
+reports-fit = answer-laws.reports-fit
+
+pub written-reads-back : answers.WrittenReadsBack
+written-reads-back = decimal-read

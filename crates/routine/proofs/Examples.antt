@@ -1,0 +1,38 @@
+-- Worked examples of the refusal table: its small examples, and texts with two faults, where the earlier row decides and within a row
+-- the earlier line. Assumes nothing.
+use mathlib.Core.Path.{_≡_, refl}
+use mathlib.Core.List.{List, [], _++_}
+use Prim.Native.Nat.{ℕ}
+use Prim.Native.String.{String}
+use Rattle.refusals.specs.declared.Refusal.the-variants.{Layout, Range, Name, Unpriced, Target, UnknownCell}
+use Rattle.text.specs.Text as text
+use Rattle.text.specs.Decimal as decimals
+use Rattle.instructions.specs.Kinds as table
+use Rattle.routine.specs.Layout as layout
+use Rattle.routine.specs.Rows as rows
+use Rattle.routine.specs.Routine as routines
+use Rattle.routine.specs.Routine.{refused, readBound, readRun}
+
+-- a file with its limits, its kinds, its cell and its code
+abbrev file : String → String → String → String → List ℕ
+file limits kinds accu code =
+    text.bytes "BUDGET TICK\n" ++ text.bytes limits ++ text.bytes "\n" ++ text.bytes kinds
+    ++ text.bytes "\n1\n0\n-\n-\n-\nACCU\n" ++ text.bytes accu ++ text.bytes "\n-\n-\nAT OP ARG\n" ++ text.bytes code ++ text.bytes "\n"
+
+pub examples :
+    -- "empty text: line 1"
+    (readBound [] ≡ refused (Layout 1))
+    -- "BUDGET 0", and a name that is unknown too
+    × (readBound (file "0 5" "HALT" "0" "0 STOP -") ≡ refused (Range 2))
+    -- a leading zero, and a BUDGET of 0 too
+    × (readBound (file "0 5" "STOP" "01" "0 STOP -") ≡ refused (Layout 10))
+    -- a handle to an absent block on line 10, and an unknown OP on line 14
+    × (readBound (file "9 5" "STOP" "#0" "0 HALT x") ≡ refused (Name 10))
+    -- "STOP not on line 3"
+    × (readBound (file "9 5" "PUSH" "0" "0 STOP -") ≡ refused (Unpriced 14))
+    -- "BRANCH 5 in 0 to 4": a target one past the code
+    × (readBound (file "9 5" "BRANCH" "0" "0 BRANCH 1") ≡ refused (Target 14))
+    -- "ACCU `?`", of the run
+    × (readRun (file "9 5" "STOP" "?" "0 STOP -") ≡ refused (UnknownCell 10))
+unfolding text.equals text.split text.words text.linesOf text.lines text.find text.among text.all text.distinct decimals.digitsFrom decimals.natural decimals.numeral decimals.digits decimals.decimal table.kinds table.kindNames layout.isAnswer layout.body layout.upToAnswer layout.codeLines layout.answerRoles layout.codeRoles layout.bodyRoles layout.roles layout.list layout.textAt layout.listed rows.isNumeral rows.valueOf rows.value rows.knownOf rows.blockOf rows.hashed rows.cellWord rows.isCell rows.cellInRange rows.cellPresent rows.isKnown rows.isName rows.stackNames rows.cellNames rows.equalLists rows.isField rows.sizesFrom rows.blockSizes rows.total rows.kindNamed rows.argumentOf rows.onArgument rows.argumentLaidOut rows.argumentInRange rows.argumentNamed rows.argumentReaches rows.columnInRange rows.columnLaidOut rows.onCells rows.namesLaidOut rows.laidOut rows.inRange rows.wellNamed rows.firstAt rows.named rows.priced rows.reaches rows.allKnown rows.test rows.earliest rows.fault routines.orElse routines.checked routines.limited routines.readBound routines.readRun
+examples = (refl, refl, refl, refl, refl, refl, refl)
