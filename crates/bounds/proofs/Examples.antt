@@ -1,9 +1,11 @@
 -- Worked examples of a tree's report and verdict. Assumes nothing.
 use mathlib.Core.Path.{_≡_, refl}
+use mathlib.Core.Bool.{false}
 use mathlib.Core.List.{[], _∷_}
 use Prim.Native.Nat.{ℕ}
 use Rattle.refusals.specs.declared.Refusal.the-variants.{Stuck, Spent}
 use Rattle.machine.specs.Machine.{State, Price}
+use Rattle.bounds.specs.Run.{Run, judgeRun}
 use Rattle.bounds.specs.Tree.{Tree, unmade, is-stuck, stop, next, fork, cycles, words, path, worse, N, T, size, steps, address, report, refusal, refused, judge, verdict}
 
 abbrev price : ℕ → ℕ → Price
@@ -12,6 +14,9 @@ price c w = record { cycles = c; words = w }
 -- a branch of price 1, to a STOP with one price or a STOP with another
 abbrev branch : State → Price → Price → Tree
 branch s p q = fork s (price 1 0) (stop s p) (price 1 0) (stop s q)
+
+abbrev made-two : State → Run
+made-two s = record { state = s; answers = []; cycles = 2; words = 0; depth = 0; steps = 2; stopped = false }
 
 pub examples : (s : State) →
     -- case 4: WORDS is not that of the path that is worst in cycles
@@ -24,5 +29,8 @@ pub examples : (s : State) →
     × (size (next s (price 1 0) (unmade is-stuck s)) ≡ 2)
     × (verdict 2 (next s (price 1 0) (unmade is-stuck s)) ≡ refused (Stuck (s .at)))
     × (verdict 1 (next s (price 1 0) (unmade is-stuck s)) ≡ refused (Spent (s .at)))
-unfolding cycles words path worse size steps address report refusal judge verdict
-examples s = (refl, refl, refl, refl, refl, refl, refl, refl)
+    -- of a run that has made two steps: its third is one of the first three, or step BUDGET + 1
+    × (judgeRun 3 (made-two s) ≡ refused (Stuck (s .at)))
+    × (judgeRun 2 (made-two s) ≡ refused (Spent (s .at)))
+unfolding cycles words path worse size steps address report refusal judge verdict judgeRun
+examples s = (refl, refl, refl, refl, refl, refl, refl, refl, refl, refl)

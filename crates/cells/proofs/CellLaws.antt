@@ -7,7 +7,9 @@ use Rattle.numbers.proofs.NumberLaws.{wrap-number}
 use Rattle.cells.specs.declared.Value.{Value}
 use Rattle.cells.specs.declared.Value.the-variants.{Number, Unknown, Handle}
 use Rattle.cells.specs.declared.Cell.{Cell}
-use Rattle.cells.specs.Cells.{number, unknown, Unary, calculate₁, Binary, calculate₂, map₁, map₂, operate₁, operate₂, test, condition, handled, block}
+use Rattle.cells.specs.declared.Unary.{Unary}
+use Rattle.cells.specs.declared.Binary.{Binary}
+use Rattle.cells.specs.Cells.{number, unknown, calculate₁, calculate₂, map₁, map₂, operate₁, operate₂, test, condition, handled, block}
 use Rattle.cells.specs.Order.{Refines, same, erased, Allowed, known, some-number, same-handle}
 use Rattle.cells.proofs.Covering.{Covered, by-stuck, both, covered-self, Narrower, zeros, nonzeros, zero-unknown, nonzero-unknown, unknowns}
 

@@ -2,7 +2,8 @@
 -- stuck, neither is it. Assumes nothing.
 use mathlib.Core.Path.{_≡_, refl}
 use Rattle.cells.specs.Try.{Try, stuck, done, _>>=_}
-use Rattle.cells.specs.Cells.{Condition, is-zero, is-nonzero, is-unknown}
+use Rattle.cells.specs.declared.Condition.{Condition}
+use Rattle.cells.specs.declared.Condition.the-variants.{IsZero, IsNonzero, IsUnknown}
 
 pub data Covered {A : Type 0} (R : A → A → Type 0) : Try A → Try A → Type 0 where
   by-stuck : {m : Try A} → Covered R m stuck
@@ -24,8 +25,8 @@ covered-equal {m} {n} e = rw e (covered-self (λ a. refl) n)
 -- a condition that another leaves open. `two` is what must hold for both sides to be unknown: Unit where either side may be, ⊥ where
 -- the first is plain
 pub data Narrower (two : Type 0) : Condition → Condition → Type 0 where
-  zeros : Narrower two is-zero is-zero
-  nonzeros : Narrower two is-nonzero is-nonzero
-  zero-unknown : Narrower two is-zero is-unknown
-  nonzero-unknown : Narrower two is-nonzero is-unknown
-  unknowns : two → Narrower two is-unknown is-unknown
+  zeros : Narrower two IsZero IsZero
+  nonzeros : Narrower two IsNonzero IsNonzero
+  zero-unknown : Narrower two IsZero IsUnknown
+  nonzero-unknown : Narrower two IsNonzero IsUnknown
+  unknowns : two → Narrower two IsUnknown IsUnknown

@@ -1,10 +1,16 @@
 -- Cells, and all that the machine does with them: nothing above this layer looks inside a cell. (document 01, Cells and machine)
 use Prim.Native.Nat.{ℕ, zero, suc}
 use lib.IntN.{ℤ, pos, negsuc, negℤ, _+ℤ_, _-ℤ_}
-use Rattle.numbers.specs.Numbers.{wrap, Comparison, holds, bit}
+use Rattle.numbers.specs.Numbers.{wrap, holds, bit}
 use Rattle.cells.specs.declared.Value.{Value}
 use Rattle.cells.specs.declared.Value.the-variants.{Number, Unknown, Handle}
 use Rattle.cells.specs.declared.Cell.{Cell}
+use Rattle.cells.specs.declared.Unary.{Unary}
+use Rattle.cells.specs.declared.Unary.the-variants.{Offset, Negate, Complement}
+use Rattle.cells.specs.declared.Binary.{Binary}
+use Rattle.cells.specs.declared.Binary.the-variants.{Add, Subtract, Compare}
+use Rattle.cells.specs.declared.Condition.{Condition}
+use Rattle.cells.specs.declared.Condition.the-variants.{IsZero, IsNonzero, IsUnknown}
 use Rattle.cells.specs.Try.{Try, stuck, done}
 
 abbrev pub cell : Value → Cell
@@ -21,25 +27,16 @@ abbrev pub handle : ℕ → Cell
 handle k = cell (Handle k)
 
 -- "OFFSETINT i adds i. NEGINT negates. BOOLNOT gives 1 minus the accumulator."
-pub data Unary : Type 0 where
-  offset negate complement : Unary
-
--- with the instruction's number i
 unfoldable pub calculate₁ : Unary → ℤ → ℤ → ℤ
-calculate₁ offset i n = n +ℤ i
-calculate₁ negate i n = negℤ n
-calculate₁ complement i n = pos 1 -ℤ n
-
--- "ADDINT, SUBINT, EQ, NEQ, LTINT, LEINT, GTINT, GEINT"
-pub data Binary : Type 0 where
-  add subtract : Binary
-  compare : Comparison → Binary
+calculate₁ Offset i n = n +ℤ i
+calculate₁ Negate i n = negℤ n
+calculate₁ Complement i n = pos 1 -ℤ n
 
 -- "accumulator on the left, popped entry on the right"
 unfoldable pub calculate₂ : Binary → ℤ → ℤ → ℤ
-calculate₂ add m n = m +ℤ n
-calculate₂ subtract m n = m -ℤ n
-calculate₂ (compare c) m n = bit (holds c m n)
+calculate₂ Add m n = m +ℤ n
+calculate₂ Subtract m n = m -ℤ n
+calculate₂ (Compare c) m n = bit (holds c m n)
 
 -- "Arithmetic or comparison with an unknown gives an unknown. Stuck: a handle in arithmetic, comparison or branch condition"
 unfoldable pub map₁ : (ℤ → ℤ) → Value → Try Cell
@@ -63,14 +60,11 @@ unfoldable pub operate₂ : Binary → Cell → Cell → Try Cell
 operate₂ b a c = map₂ (calculate₂ b) (a .value) (c .value)
 
 -- a branch condition
-pub data Condition : Type 0 where
-  is-zero is-nonzero is-unknown : Condition
-
 unfoldable pub test : Value → Try Condition
-test (Number (pos zero)) = done is-zero
-test (Number (pos (suc n))) = done is-nonzero
-test (Number (negsuc n)) = done is-nonzero
-test Unknown = done is-unknown
+test (Number (pos zero)) = done IsZero
+test (Number (pos (suc n))) = done IsNonzero
+test (Number (negsuc n)) = done IsNonzero
+test Unknown = done IsUnknown
 test (Handle k) = stuck
 
 unfoldable pub condition : Cell → Try Condition

@@ -10,8 +10,12 @@ use lib.ListN.{length}
 use borrow.Author.Tests.{ltb-true}
 use Rattle.cells.specs.Try.{Try, stuck, done, _>>=_}
 use Rattle.cells.specs.declared.Cell.{Cell}
-use Rattle.cells.specs.Cells.{Condition, is-zero, is-nonzero, is-unknown, condition, operate₁, operate₂, block}
-use Rattle.instructions.specs.Kinds.{Operation, nothing, access, drop, assign, constant, get-field, set-field, branch, branch-if, branch-if-not, call, stop, unary, binary, kinds, operand}
+use Rattle.cells.specs.Cells.{condition, operate₁, operate₂, block}
+use Rattle.cells.specs.declared.Condition.{Condition}
+use Rattle.cells.specs.declared.Condition.the-variants.{IsZero, IsNonzero, IsUnknown}
+use Rattle.instructions.specs.Kinds.{kinds, operand}
+use Rattle.instructions.specs.declared.Operation.{Operation}
+use Rattle.instructions.specs.declared.Operation.the-variants.{Nothing, Access, Drop, Assign, Constant, GetField, SetField, Branch, BranchIf, BranchIfNot, Call, Stop, Alter, Combine}
 use Rattle.machine.specs.Lists.{nth, put, without}
 use Rattle.machine.specs.Machine.{State, stackLimit, height, Price, Code, fetch, Next, stops, goes, opens, jump, load, restack, store, push, pop, getField, setField, advance, ahead, ways, opposite, perform, prepare, execute, step}
 
@@ -100,36 +104,36 @@ ahead-low p g = bind g (λ s h. given (goes-low (advance-low h)))
 
 ways-low : (p : Price) (a : ℕ) (s : State) (x : Condition) → Low s → LowNext (ways p a s x)
 unfolding ways
-ways-low p a s is-zero h = goes-low (advance-low h)
-ways-low p a s is-nonzero h = goes-low (jump-low _ h)
-ways-low p a s is-unknown h = opens-low (advance-low h) (jump-low _ h)
+ways-low p a s IsZero h = goes-low (advance-low h)
+ways-low p a s IsNonzero h = goes-low (jump-low _ h)
+ways-low p a s IsUnknown h = opens-low (advance-low h) (jump-low _ h)
 
 perform-low : (p : Price) (r : Cell) (o : Operation) (i : ℤ) (s : State) → Low s → Gives LowNext (perform p r o i s)
 unfolding perform height
-perform-low p r nothing i s h = ahead-low p (given h)
-perform-low p r access i s h = ahead-low p (bind (any (nth (natAbs i) (s .stack))) (λ c u. given (load-low _ h)))
-perform-low p r drop i s h = ahead-low p (pop-low (natAbs i) s h)
-perform-low p r assign i s h = ahead-low p (bind (put-length (natAbs i) (s .accu) (s .stack)) (λ cs e. given (load-low _ (restack-low cs s (omega (arith, h .low))))))
-perform-low p r constant i s h = ahead-low p (given (load-low _ h))
-perform-low p r (unary u) i s h = ahead-low p (bind (any (operate₁ u i (s .accu))) (λ c v. given (load-low _ h)))
-perform-low p r (binary b) i s h =
+perform-low p r Nothing i s h = ahead-low p (given h)
+perform-low p r Access i s h = ahead-low p (bind (any (nth (natAbs i) (s .stack))) (λ c u. given (load-low _ h)))
+perform-low p r Drop i s h = ahead-low p (pop-low (natAbs i) s h)
+perform-low p r Assign i s h = ahead-low p (bind (put-length (natAbs i) (s .accu) (s .stack)) (λ cs e. given (load-low _ (restack-low cs s (omega (arith, h .low))))))
+perform-low p r Constant i s h = ahead-low p (given (load-low _ h))
+perform-low p r (Alter u) i s h = ahead-low p (bind (any (operate₁ u i (s .accu))) (λ c v. given (load-low _ h)))
+perform-low p r (Combine b) i s h =
     ahead-low p
     (bind (any (nth 0 (s .stack))) (λ c u.
     bind (any (operate₂ b (s .accu) c)) (λ d v.
     bind (pop-low 1 s h) (λ t l.
     given (load-low _ l)))))
-perform-low p r get-field i s h = ahead-low p (bind (any (getField (natAbs i) s)) (λ c u. given (load-low _ h)))
-perform-low p r set-field i s h =
+perform-low p r GetField i s h = ahead-low p (bind (any (getField (natAbs i) s)) (λ c u. given (load-low _ h)))
+perform-low p r SetField i s h =
     ahead-low p
     (bind (any (nth 0 (s .stack))) (λ c u.
     bind (pop-low 1 s h) (λ t l.
     bind (setField-low (natAbs i) c t l) (λ v m.
     given (load-low _ m)))))
-perform-low p r branch i s h = given (goes-low (jump-low _ h))
-perform-low p r branch-if i s h = bind (any (condition (s .accu))) (λ x u. given (ways-low p (natAbs i) s x h))
-perform-low p r branch-if-not i s h = bind (any (condition (s .accu))) (λ x u. given (ways-low p (natAbs i) s (opposite x) h))
-perform-low p r call i s h = ahead-low p (bind (pop-low (natAbs i) s h) (λ t l. given (load-low _ l)))
-perform-low p r stop i s h = given stops-low
+perform-low p r Branch i s h = given (goes-low (jump-low _ h))
+perform-low p r BranchIf i s h = bind (any (condition (s .accu))) (λ x u. given (ways-low p (natAbs i) s x h))
+perform-low p r BranchIfNot i s h = bind (any (condition (s .accu))) (λ x u. given (ways-low p (natAbs i) s (opposite x) h))
+perform-low p r Call i s h = ahead-low p (bind (pop-low (natAbs i) s h) (λ t l. given (load-low _ l)))
+perform-low p r Stop i s h = given stops-low
 
 prepare-low : (b : Bool) (s : State) → Low s → Gives Low (prepare b s)
 unfolding prepare

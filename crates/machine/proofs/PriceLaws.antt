@@ -4,8 +4,12 @@ use Prim.Native.Nat.{ℕ}
 use lib.IntN.{ℤ, natAbs}
 use Rattle.cells.specs.Try.{Try, stuck, done, _>>=_}
 use Rattle.cells.specs.declared.Cell.{Cell}
-use Rattle.cells.specs.Cells.{Condition, is-zero, is-nonzero, is-unknown, condition}
-use Rattle.instructions.specs.Kinds.{Operation, nothing, access, drop, assign, constant, get-field, set-field, branch, branch-if, branch-if-not, call, stop, unary, binary, kinds, operand}
+use Rattle.cells.specs.Cells.{condition}
+use Rattle.cells.specs.declared.Condition.{Condition}
+use Rattle.cells.specs.declared.Condition.the-variants.{IsZero, IsNonzero, IsUnknown}
+use Rattle.instructions.specs.Kinds.{kinds, operand}
+use Rattle.instructions.specs.declared.Operation.{Operation}
+use Rattle.instructions.specs.declared.Operation.the-variants.{Nothing, Access, Drop, Assign, Constant, GetField, SetField, Branch, BranchIf, BranchIfNot, Call, Stop, Alter, Combine}
 use Rattle.machine.specs.Lists.{nth}
 use Rattle.machine.specs.Machine.{State, Price, Instruction, Code, fetch, Next, stops, goes, opens, ahead, ways, opposite, perform, prepare, execute, step}
 
@@ -27,26 +31,26 @@ module _ (P : Price → Type 0) where
 
   ways-price : (p : Price) → P p → (a : ℕ) (s : State) (x : Condition) → OnePrice P (done (ways p a s x))
   unfolding ways
-  ways-price p h a s is-zero = goes-at h
-  ways-price p h a s is-nonzero = goes-at h
-  ways-price p h a s is-unknown = opens-at h
+  ways-price p h a s IsZero = goes-at h
+  ways-price p h a s IsNonzero = goes-at h
+  ways-price p h a s IsUnknown = opens-at h
 
   perform-price : (p : Price) → P p → (r : Cell) (o : Operation) (i : ℤ) (s : State) → OnePrice P (perform p r o i s)
   unfolding perform
-  perform-price p h r nothing i s = ahead-price p h _
-  perform-price p h r access i s = ahead-price p h _
-  perform-price p h r drop i s = ahead-price p h _
-  perform-price p h r assign i s = ahead-price p h _
-  perform-price p h r constant i s = ahead-price p h _
-  perform-price p h r (unary u) i s = ahead-price p h _
-  perform-price p h r (binary b) i s = ahead-price p h _
-  perform-price p h r get-field i s = ahead-price p h _
-  perform-price p h r set-field i s = ahead-price p h _
-  perform-price p h r branch i s = goes-at h
-  perform-price p h r branch-if i s = then (condition (s .accu)) (λ x e. ways-price p h (natAbs i) s x)
-  perform-price p h r branch-if-not i s = then (condition (s .accu)) (λ x e. ways-price p h (natAbs i) s (opposite x))
-  perform-price p h r call i s = ahead-price p h _
-  perform-price p h r stop i s = stops-at h
+  perform-price p h r Nothing i s = ahead-price p h _
+  perform-price p h r Access i s = ahead-price p h _
+  perform-price p h r Drop i s = ahead-price p h _
+  perform-price p h r Assign i s = ahead-price p h _
+  perform-price p h r Constant i s = ahead-price p h _
+  perform-price p h r (Alter u) i s = ahead-price p h _
+  perform-price p h r (Combine b) i s = ahead-price p h _
+  perform-price p h r GetField i s = ahead-price p h _
+  perform-price p h r SetField i s = ahead-price p h _
+  perform-price p h r Branch i s = goes-at h
+  perform-price p h r BranchIf i s = then (condition (s .accu)) (λ x e. ways-price p h (natAbs i) s x)
+  perform-price p h r BranchIfNot i s = then (condition (s .accu)) (λ x e. ways-price p h (natAbs i) s (opposite x))
+  perform-price p h r Call i s = ahead-price p h _
+  perform-price p h r Stop i s = stops-at h
 
   pub step-price : (c : Code) → ((a : ℕ) (i : Instruction) → fetch c a ≡ done i → P (i .price)) → (r : Cell) (s : State) → OnePrice P (step c r s)
   unfolding step execute

@@ -7,10 +7,12 @@ use Prim.Native.Nat.{ℕ}
 use lib.IntN.{ℤ, pos, natAbs}
 use Rattle.cells.specs.Try.{Try}
 use Rattle.cells.specs.declared.Cell.{Cell}
-use Rattle.cells.specs.Cells.{Condition}
+use Rattle.cells.specs.declared.Condition.{Condition}
 use Rattle.cells.proofs.Covering.{Covered, both, bind, covered-equal, Narrower, zeros, nonzeros, zero-unknown, nonzero-unknown, unknowns}
 use Rattle.cells.proofs.CellLaws.{Lawful}
-use Rattle.instructions.specs.Kinds.{Operation, nothing, access, drop, assign, constant, get-field, set-field, branch, branch-if, branch-if-not, call, stop, unary, binary, Kind, kinds, operand}
+use Rattle.instructions.specs.Kinds.{Kind, kinds, operand}
+use Rattle.instructions.specs.declared.Operation.{Operation}
+use Rattle.instructions.specs.declared.Operation.the-variants.{Nothing, Access, Drop, Assign, Constant, GetField, SetField, Branch, BranchIf, BranchIfNot, Call, Stop, Alter, Combine}
 use Rattle.machine.specs.Lists.{nth}
 use Rattle.machine.specs.Machine.{State, Price, Instruction, Code, fetch, getField, setField, ahead, ways, opposite, perform, prepare, execute, step}
 use Rattle.machine.specs.Order.{Cellwise}
@@ -57,30 +59,30 @@ module _ {R : Cell → Cell → Type 0} {two : Type 0} (L : Lawful R two) where
   perform-law : (p : Price) {r r′ : Cell} (o : Operation) (i : ℤ) {s t : State} → R r r′ → Cellwise R s t →
       Covered (NextCovered (Cellwise R) two) (perform p r o i s) (perform p r′ o i t)
   unfolding perform
-  perform-law p nothing i k e = ahead-law p (both e)
-  perform-law p access i k e = ahead-law p (bind (nth-law refl (e .stack)) (λ c d h. both (load-law e h)))
-  perform-law p drop i k e = ahead-law p (pop-law (natAbs i) e)
-  perform-law p assign i k e = ahead-law p (bind (put-law refl (e .stack) (e .accu)) (λ c d h. both (load-law (restack-law e h) (L .numbers (pos 0)))))
-  perform-law p constant i k e = ahead-law p (both (load-law e (L .numbers i)))
-  perform-law p (unary u) i k e = ahead-law p (bind (L .operates₁ u i (e .accu)) (λ c d h. both (load-law e h)))
-  perform-law p (binary b) i k e =
+  perform-law p Nothing i k e = ahead-law p (both e)
+  perform-law p Access i k e = ahead-law p (bind (nth-law refl (e .stack)) (λ c d h. both (load-law e h)))
+  perform-law p Drop i k e = ahead-law p (pop-law (natAbs i) e)
+  perform-law p Assign i k e = ahead-law p (bind (put-law refl (e .stack) (e .accu)) (λ c d h. both (load-law (restack-law e h) (L .numbers (pos 0)))))
+  perform-law p Constant i k e = ahead-law p (both (load-law e (L .numbers i)))
+  perform-law p (Alter u) i k e = ahead-law p (bind (L .operates₁ u i (e .accu)) (λ c d h. both (load-law e h)))
+  perform-law p (Combine b) i k e =
       ahead-law p
       (bind (nth-law refl (e .stack)) (λ c c′ h.
       bind (L .operates₂ b (e .accu) h) (λ d d′ g.
       bind (pop-law 1 e) (λ s t f.
       both (load-law f g)))))
-  perform-law p get-field i k e = ahead-law p (bind (getField-law (natAbs i) e) (λ c d h. both (load-law e h)))
-  perform-law p set-field i k e =
+  perform-law p GetField i k e = ahead-law p (bind (getField-law (natAbs i) e) (λ c d h. both (load-law e h)))
+  perform-law p SetField i k e =
       ahead-law p
       (bind (nth-law refl (e .stack)) (λ c c′ h.
       bind (pop-law 1 e) (λ s t f.
       bind (setField-law (natAbs i) f h) (λ u u′ g.
       both (load-law g (L .numbers (pos 0)))))))
-  perform-law p branch i k e = both (goes-too (jump-law (natAbs i) e))
-  perform-law p branch-if i k e = bind (L .conditions (e .accu)) (λ x y h. both (ways-law p (natAbs i) e h))
-  perform-law p branch-if-not i k e = bind (L .conditions (e .accu)) (λ x y h. both (ways-law p (natAbs i) e (opposite-law h)))
-  perform-law p call i k e = ahead-law p (bind (pop-law (natAbs i) e) (λ s t h. both (load-law h k)))
-  perform-law p stop i k e = both stops-too
+  perform-law p Branch i k e = both (goes-too (jump-law (natAbs i) e))
+  perform-law p BranchIf i k e = bind (L .conditions (e .accu)) (λ x y h. both (ways-law p (natAbs i) e h))
+  perform-law p BranchIfNot i k e = bind (L .conditions (e .accu)) (λ x y h. both (ways-law p (natAbs i) e (opposite-law h)))
+  perform-law p Call i k e = ahead-law p (bind (pop-law (natAbs i) e) (λ s t h. both (load-law h k)))
+  perform-law p Stop i k e = both stops-too
 
   prepare-law : (b : Bool) {s t : State} → Cellwise R s t → Covered (Cellwise R) (prepare b s) (prepare b t)
   unfolding prepare

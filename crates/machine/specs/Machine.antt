@@ -7,8 +7,14 @@ use lib.IntN.{ℤ, pos, natAbs}
 use lib.ListN.{length}
 use Rattle.cells.specs.Try.{Try, stuck, done, _>>=_}
 use Rattle.cells.specs.declared.Cell.{Cell}
-use Rattle.cells.specs.Cells.{number, operate₁, operate₂, Condition, is-zero, is-nonzero, is-unknown, condition, block}
-use Rattle.instructions.specs.Kinds.{Argument, none, target, primitive, number-in, calls, Operation, nothing, access, drop, assign, constant, get-field, set-field, branch, branch-if, branch-if-not, call, stop, unary, binary, Kind, kinds, operand}
+use Rattle.cells.specs.Cells.{number, operate₁, operate₂, condition, block}
+use Rattle.cells.specs.declared.Condition.{Condition}
+use Rattle.cells.specs.declared.Condition.the-variants.{IsZero, IsNonzero, IsUnknown}
+use Rattle.instructions.specs.Kinds.{calls, Kind, kinds, operand}
+use Rattle.instructions.specs.declared.Argument.{Argument}
+use Rattle.instructions.specs.declared.Argument.the-variants.{Absent, Target, Primitive, Within}
+use Rattle.instructions.specs.declared.Operation.{Operation}
+use Rattle.instructions.specs.declared.Operation.the-variants.{Nothing, Access, Drop, Assign, Constant, GetField, SetField, Branch, BranchIf, BranchIfNot, Call, Stop, Alter, Combine}
 use Rattle.machine.specs.Lists.{nth, put, without}
 
 -- "The state is an address, an accumulator, a stack of at most 64 cells (entry 0 on top) and at most eight blocks of sixteen fields
@@ -46,10 +52,10 @@ sum p q = record { cycles = p .cycles + q .cycles; words = p .words + q .words }
 
 -- "A step costs its kind's price, a C_CALL also its primitive's."
 unfoldable pub cost : Prices → Argument → ℕ → ℤ → Price
-cost ps none k a = ps .kinds k
-cost ps target k a = ps .kinds k
-cost ps primitive k a = sum (ps .kinds k) (ps .primitives (natAbs a))
-cost ps (number-in r) k a = ps .kinds k
+cost ps Absent k a = ps .kinds k
+cost ps Target k a = ps .kinds k
+cost ps Primitive k a = sum (ps .kinds k) (ps .primitives (natAbs a))
+cost ps (Within r) k a = ps .kinds k
 
 -- the code: its instructions, and the address of the first
 pub record Code : Type 0 where
@@ -111,37 +117,37 @@ ahead p m = m >>= λ s. done (goes p (advance s))
 
 -- a conditional branch to a that jumps on non-zero: "on an unknown opens two ways: not taken (N) first, then taken (T)"
 unfoldable pub ways : Price → ℕ → State → Condition → Next
-ways p a s is-zero = goes p (advance s)
-ways p a s is-nonzero = goes p (jump a s)
-ways p a s is-unknown = opens p (advance s) p (jump a s)
+ways p a s IsZero = goes p (advance s)
+ways p a s IsNonzero = goes p (jump a s)
+ways p a s IsUnknown = opens p (advance s) p (jump a s)
 
 -- "BRANCHIFNOT a on zero"
 unfoldable pub opposite : Condition → Condition
-opposite is-zero = is-nonzero
-opposite is-nonzero = is-zero
-opposite is-unknown = is-unknown
+opposite IsZero = IsNonzero
+opposite IsNonzero = IsZero
+opposite IsUnknown = IsUnknown
 
 -- what an operation with operand i does, at the price p; r is the answer that a C_CALL gets
 unfoldable pub perform : Price → Cell → Operation → ℤ → State → Try Next
-perform p r nothing i s = ahead p (done s)
+perform p r Nothing i s = ahead p (done s)
 -- "accumulator becomes entry n"
-perform p r access i s = ahead p (nth (natAbs i) (s .stack) >>= λ c. done (load c s))
-perform p r drop i s = ahead p (pop (natAbs i) s)
+perform p r Access i s = ahead p (nth (natAbs i) (s .stack) >>= λ c. done (load c s))
+perform p r Drop i s = ahead p (pop (natAbs i) s)
 -- "entry n becomes the accumulator, which becomes 0"
-perform p r assign i s = ahead p (put (natAbs i) (s .accu) (s .stack) >>= λ cs. done (load (number (pos 0)) (restack cs s)))
-perform p r constant i s = ahead p (done (load (number i) s))
-perform p r (unary u) i s = ahead p (operate₁ u i (s .accu) >>= λ c. done (load c s))
+perform p r Assign i s = ahead p (put (natAbs i) (s .accu) (s .stack) >>= λ cs. done (load (number (pos 0)) (restack cs s)))
+perform p r Constant i s = ahead p (done (load (number i) s))
+perform p r (Alter u) i s = ahead p (operate₁ u i (s .accu) >>= λ c. done (load c s))
 -- "accumulator on the left, popped entry on the right"
-perform p r (binary b) i s = ahead p (nth 0 (s .stack) >>= λ c. operate₂ b (s .accu) c >>= λ d. pop 1 s >>= λ t. done (load d t))
-perform p r get-field i s = ahead p (getField (natAbs i) s >>= λ c. done (load c s))
+perform p r (Combine b) i s = ahead p (nth 0 (s .stack) >>= λ c. operate₂ b (s .accu) c >>= λ d. pop 1 s >>= λ t. done (load d t))
+perform p r GetField i s = ahead p (getField (natAbs i) s >>= λ c. done (load c s))
 -- "field n becomes the popped entry, accumulator 0"
-perform p r set-field i s = ahead p (nth 0 (s .stack) >>= λ c. pop 1 s >>= λ t. setField (natAbs i) c t >>= λ u. done (load (number (pos 0)) u))
-perform p r branch i s = done (goes p (jump (natAbs i) s))
-perform p r branch-if i s = condition (s .accu) >>= λ x. done (ways p (natAbs i) s x)
-perform p r branch-if-not i s = condition (s .accu) >>= λ x. done (ways p (natAbs i) s (opposite x))
+perform p r SetField i s = ahead p (nth 0 (s .stack) >>= λ c. pop 1 s >>= λ t. setField (natAbs i) c t >>= λ u. done (load (number (pos 0)) u))
+perform p r Branch i s = done (goes p (jump (natAbs i) s))
+perform p r BranchIf i s = condition (s .accu) >>= λ x. done (ways p (natAbs i) s x)
+perform p r BranchIfNot i s = condition (s .accu) >>= λ x. done (ways p (natAbs i) s (opposite x))
 -- "one fewer popped than the digit; blocks untouched"
-perform p r call i s = ahead p (pop (natAbs i) s >>= λ t. done (load r t))
-perform p r stop i s = done (stops p)
+perform p r Call i s = ahead p (pop (natAbs i) s >>= λ t. done (load r t))
+perform p r Stop i s = done (stops p)
 
 -- "push, then ACC n on the longer stack"; "PUSHCONST0 to 3, PUSHCONSTINT i push first"
 unfoldable pub prepare : Bool → State → Try State

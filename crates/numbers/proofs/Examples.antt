@@ -2,7 +2,8 @@
 use mathlib.Core.Path.{_≡_, refl}
 use mathlib.Core.Bool.{true, false}
 use lib.IntN.{pos, negsuc}
-use Rattle.numbers.specs.Numbers.{wrap, holds, less, at-least, unequal}
+use Rattle.numbers.specs.Numbers.{wrap, holds}
+use Rattle.numbers.specs.declared.Comparison.the-variants.{Less, AtLeast, Unequal}
 
 pub examples :
     (wrap (pos 2147483647) ≡ pos 2147483647)
@@ -10,8 +11,8 @@ pub examples :
     × (wrap (negsuc 2147483647) ≡ negsuc 2147483647)
     × (wrap (negsuc 2147483648) ≡ pos 2147483647)
     × (wrap (pos 4294967296) ≡ pos 0)
-    × (holds less (negsuc 2147483647) (pos 2147483647) ≡ true)
-    × (holds at-least (negsuc 0) (pos 0) ≡ false)
-    × (holds unequal (negsuc 0) (pos 0) ≡ true)
+    × (holds Less (negsuc 2147483647) (pos 2147483647) ≡ true)
+    × (holds AtLeast (negsuc 0) (pos 0) ≡ false)
+    × (holds Unequal (negsuc 0) (pos 0) ≡ true)
 unfolding wrap holds
 examples = (refl, refl, refl, refl, refl, refl, refl, refl)

@@ -4,6 +4,9 @@ use mathlib.Core.Bool.{Bool, true, false, cond, not}
 use lib.Dec.{ltb, eqb}
 use lib.IntN.{ℤ, pos, negsuc}
 use lib.Signed.{mag, ltZ, leZ}
+use Rattle.numbers.specs.declared.Comparison.{Comparison}
+use Rattle.numbers.specs.declared.Comparison.the-variants.{Equal, Unequal, Less, AtMost, Greater, AtLeast}
+use Rattle.numbers.specs.declared.Range.{Range}
 
 -- "32 bits": the width stands here and nowhere else
 abbrev pub bits : ℕ
@@ -32,10 +35,6 @@ signed r = cond (ltb r half) (pos r) (negsuc (modulus - suc r))
 unfoldable pub wrap : ℤ → ℤ
 wrap z = signed (residue z)
 
--- "EQ, NEQ, LTINT, LEINT, GTINT, GEINT"
-pub data Comparison : Type 0 where
-  equal unequal less at-most greater at-least : Comparison
-
 abbrev pub same : ℤ → ℤ → Bool
 same (pos m) (pos n) = eqb m n
 same (pos m) (negsuc n) = false
@@ -44,22 +43,17 @@ same (negsuc m) (negsuc n) = eqb m n
 
 -- "comparisons are signed"
 unfoldable pub holds : Comparison → ℤ → ℤ → Bool
-holds equal m n = same m n
-holds unequal m n = not (same m n)
-holds less m n = ltZ m n
-holds at-most m n = leZ m n
-holds greater m n = ltZ n m
-holds at-least m n = leZ n m
+holds Equal m n = same m n
+holds Unequal m n = not (same m n)
+holds Less m n = ltZ m n
+holds AtMost m n = leZ m n
+holds Greater m n = ltZ n m
+holds AtLeast m n = leZ n m
 
 -- "and give 1 or 0"
 abbrev pub bit : Bool → ℤ
 bit true = pos 1
 bit false = pos 0
-
--- a range of integers, both ends included
-pub record Range : Type 0 where
-  pub low : ℤ
-  pub high : ℤ
 
 abbrev pub within : Range → ℤ → Bool
 within r z = cond (leZ (r .low) z) (leZ z (r .high)) false

@@ -1,17 +1,17 @@
 -- The refusal table of document 01: the number and the place of each refusal.
 use Prim.Native.Nat.{ℕ}
 use Rattle.refusals.specs.declared.Refusal.{Refusal}
-use Rattle.refusals.specs.declared.Refusal.the-variants.{ReportMemory, TextLength, Layout, Range, Name, Unpriced, Target, UnknownCell, Stuck, Openings, Spent}
+use Rattle.refusals.specs.declared.Refusal.the-variants.{ReportMemory, TextLength, Layout, OutOfRange, BadName, Unpriced, NoTarget, UnknownCell, Stuck, Openings, Spent}
 
 -- column "No."
 unfoldable pub number : Refusal → ℕ
 number ReportMemory = 10
 number TextLength = 1
 number (Layout line) = 2
-number (Range line) = 3
-number (Name line) = 4
+number (OutOfRange line) = 3
+number (BadName line) = 4
 number (Unpriced line) = 5
-number (Target line) = 6
+number (NoTarget line) = 6
 number (UnknownCell line) = 11
 number (Stuck address) = 7
 number (Openings address) = 8
@@ -22,10 +22,10 @@ unfoldable pub place : Refusal → ℕ
 place ReportMemory = 0
 place TextLength = 0
 place (Layout line) = line
-place (Range line) = line
-place (Name line) = line
+place (OutOfRange line) = line
+place (BadName line) = line
 place (Unpriced line) = line
-place (Target line) = line
+place (NoTarget line) = line
 place (UnknownCell line) = line
 place (Stuck address) = address
 place (Openings address) = address

@@ -13,7 +13,8 @@ use Rattle.text.specs.Text.{words, Line, find, among}
 use Rattle.text.specs.Decimal.{numeral}
 use Rattle.text.proofs.TextLaws.{and-left, and-right, find-below}
 use Rattle.numbers.specs.Numbers.{same}
-use Rattle.instructions.specs.Kinds.{Argument, Kind, kindNames}
+use Rattle.instructions.specs.Kinds.{Kind, kindNames}
+use Rattle.instructions.specs.declared.Argument.{Argument}
 use Rattle.instructions.specs.Kinds as table
 use Rattle.routine.specs.Layout.{primitives, names, code, body, listed}
 use Rattle.routine.specs.Rows.{isNumeral, value, kindNamed, argumentOf, at, op, arg, onArgument, argumentLaidOut, argumentNamed, laidOut, firstAt, named}

@@ -4,7 +4,7 @@ use mathlib.Core.Path.{_≡_, refl}
 use mathlib.Core.List.{List, [], _++_}
 use Prim.Native.Nat.{ℕ}
 use Prim.Native.String.{String}
-use Rattle.refusals.specs.declared.Refusal.the-variants.{Layout, Range, Name, Unpriced, Target, UnknownCell}
+use Rattle.refusals.specs.declared.Refusal.the-variants.{Layout, OutOfRange, BadName, Unpriced, NoTarget, UnknownCell}
 use Rattle.text.specs.Text as text
 use Rattle.text.specs.Decimal as decimals
 use Rattle.instructions.specs.Kinds as table
@@ -23,15 +23,15 @@ pub examples :
     -- "empty text: line 1"
     (readBound [] ≡ refused (Layout 1))
     -- "BUDGET 0", and a name that is unknown too
-    × (readBound (file "0 5" "HALT" "0" "0 STOP -") ≡ refused (Range 2))
+    × (readBound (file "0 5" "HALT" "0" "0 STOP -") ≡ refused (OutOfRange 2))
     -- a leading zero, and a BUDGET of 0 too
     × (readBound (file "0 5" "STOP" "01" "0 STOP -") ≡ refused (Layout 10))
     -- a handle to an absent block on line 10, and an unknown OP on line 14
-    × (readBound (file "9 5" "STOP" "#0" "0 HALT x") ≡ refused (Name 10))
+    × (readBound (file "9 5" "STOP" "#0" "0 HALT x") ≡ refused (BadName 10))
     -- "STOP not on line 3"
     × (readBound (file "9 5" "PUSH" "0" "0 STOP -") ≡ refused (Unpriced 14))
     -- "BRANCH 5 in 0 to 4": a target one past the code
-    × (readBound (file "9 5" "BRANCH" "0" "0 BRANCH 1") ≡ refused (Target 14))
+    × (readBound (file "9 5" "BRANCH" "0" "0 BRANCH 1") ≡ refused (NoTarget 14))
     -- "ACCU `?`", of the run
     × (readRun (file "9 5" "STOP" "?" "0 STOP -") ≡ refused (UnknownCell 10))
 unfolding text.equals text.split text.words text.linesOf text.lines text.find text.among text.all text.distinct decimals.digitsFrom decimals.natural decimals.numeral decimals.digits decimals.decimal table.kinds table.kindNames layout.isAnswer layout.body layout.upToAnswer layout.codeLines layout.answerRoles layout.codeRoles layout.bodyRoles layout.roles layout.list layout.textAt layout.listed rows.isNumeral rows.valueOf rows.value rows.knownOf rows.blockOf rows.hashed rows.cellWord rows.isCell rows.cellInRange rows.cellPresent rows.isKnown rows.isName rows.stackNames rows.cellNames rows.equalLists rows.isField rows.sizesFrom rows.blockSizes rows.total rows.kindNamed rows.argumentOf rows.onArgument rows.argumentLaidOut rows.argumentInRange rows.argumentNamed rows.argumentReaches rows.columnInRange rows.columnLaidOut rows.onCells rows.namesLaidOut rows.laidOut rows.inRange rows.wellNamed rows.firstAt rows.named rows.priced rows.reaches rows.allKnown rows.test rows.earliest rows.fault routines.orElse routines.checked routines.limited routines.readBound routines.readRun

@@ -12,7 +12,8 @@ use Rattle.text.specs.Text.{Line, all}
 use Rattle.text.specs.Decimal.{numeral}
 use Rattle.text.proofs.TextLaws.{Every, more, every-map, every-getD, all-every, and-left, and-right, cond-left, cond-right}
 use Rattle.numbers.specs.Numbers.{range, within}
-use Rattle.instructions.specs.Kinds.{Argument, none, target, primitive, number-in}
+use Rattle.instructions.specs.declared.Argument.{Argument}
+use Rattle.instructions.specs.declared.Argument.the-variants.{Absent, Target, Primitive, Within}
 use Rattle.machine.specs.Machine.{Price, Prices, cost}
 use Rattle.routine.specs.Layout.{Section, limits, kinds, primitives, cells, limit, cycles, words-column, cell, names, values, layout, body, codeLines, list, textAt, listed}
 use Rattle.routine.specs.Rows.{cellWord, value, valueOf, cellNames, stackNames, columnInRange, columnLaidOut, inRange, laidOut, named, wellNamed}
@@ -72,10 +73,10 @@ word-small high ws e i =
 cost-small : (c w : ℕ) (ps : Prices) → ((k : ℕ) → AtMost c w (ps .kinds k)) → ((i : ℕ) → AtMost c w (ps .primitives i))
     → (a : Argument) (k : ℕ) (v : ℤ) → AtMost (c + c) (w + w) (cost ps a k v)
 unfolding cost
-cost-small c w ps f g none k v = let h = f k in omega arith
-cost-small c w ps f g target k v = let h = f k in omega arith
-cost-small c w ps f g primitive k v = let h = f k in let i = g (natAbs v) in omega arith
-cost-small c w ps f g (number-in r) k v = let h = f k in omega arith
+cost-small c w ps f g Absent k v = let h = f k in omega arith
+cost-small c w ps f g Target k v = let h = f k in omega arith
+cost-small c w ps f g Primitive k v = let h = f k in let i = g (natAbs v) in omega arith
+cost-small c w ps f g (Within r) k v = let h = f k in omega arith
 
 module _ (ls : List Line) (p : Passes ls) where
   price-small : (s : Section) → First (values s cycles) layout → First (values s words-column) layout → (i : ℕ) → AtMost 65535 255 (priceAt s ls i)

@@ -12,7 +12,9 @@ use Rattle.text.specs.Text.{bytes, equals, words, Line, lines, among, all, dist
 use Rattle.text.specs.Decimal.{Numeral, misspelt, number, numeral, isDigit, digits, decimal}
 use Rattle.text.proofs.TextLaws.{Every, more, every-append, every-left, every-map, all-every, and-left, and-right, equals-path, among-every, split-every, lines-every}
 use Rattle.text.proofs.DecimalLaws.{digit-ascii, decimal-digits, numeral-ascii}
-use Rattle.instructions.specs.Kinds.{Argument, none, target, primitive, number-in, kindNames}
+use Rattle.instructions.specs.Kinds.{kindNames}
+use Rattle.instructions.specs.declared.Argument.{Argument}
+use Rattle.instructions.specs.declared.Argument.the-variants.{Absent, Target, Primitive, Within}
 use Rattle.instructions.specs.Kinds as table
 use Rattle.routine.specs.Layout.{Section, limits, kinds, primitives, cells, fields, instructions, answers, Column, limit, cycles, words-column, cell, Role, names, values, code, answer, list, listed}
 use Rattle.routine.specs.Rows.{isNumeral, unknown, knownOf, blockOf, hashed, cellWord, isCell, isCapital, inName, isName, stackNames, cellNames, isField, sizesFrom, blockSizes, total, at, op, arg, argumentLaidOut, argumentNamed, columnLaidOut, layout-row, name-row, namesLaidOut, laidOut, wellNamed, named, test}
@@ -178,10 +180,10 @@ column-ascii cell ws e = every-map cell-ascii (all-every (λ w. isCell (cellWord
 
 argument-ascii : (ps : List (List ℕ)) → Every Ascii ps → (w : List ℕ) (a : Argument) → argumentLaidOut w a ≡ true → argumentNamed ps w a ≡ true → Ascii w
 unfolding argumentLaidOut argumentNamed isAscii all
-argument-ascii ps h w none l n = fixed w (bytes "-") refl l
-argument-ascii ps h w target l n = spelt-ascii w l
-argument-ascii ps h w primitive l n = among-every w ps n h
-argument-ascii ps h w (number-in r) l n = spelt-ascii w l
+argument-ascii ps h w Absent l n = fixed w (bytes "-") refl l
+argument-ascii ps h w Target l n = spelt-ascii w l
+argument-ascii ps h w Primitive l n = among-every w ps n h
+argument-ascii ps h w (Within r) l n = spelt-ascii w l
 
 three : {P : List ℕ → Type 0} (ws : List (List ℕ)) → length ws ≡ 3 → P (getD ws 0 []) → P (getD ws 1 []) → P (getD ws 2 []) → Every P ws
 three [] e a b c = absurd (omega arith)

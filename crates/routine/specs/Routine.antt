@@ -8,12 +8,14 @@ use lib.Dec.{ltb}
 use lib.IntN.{ℤ, pos, natAbs}
 use lib.ListN.{length, getD, take, drop}
 use Rattle.refusals.specs.declared.Refusal.{Refusal}
-use Rattle.refusals.specs.declared.Refusal.the-variants.{TextLength, Layout, Range, Name, Unpriced, Target, UnknownCell}
+use Rattle.refusals.specs.declared.Refusal.the-variants.{TextLength, Layout, OutOfRange, BadName, Unpriced, NoTarget, UnknownCell}
 use Rattle.text.specs.Text.{Line, lines, find}
 use Rattle.cells.specs.declared.Cell.{Cell}
 use Rattle.cells.specs.Cells.{number, handle}
 use Rattle.cells.specs.Cells as cells-of
-use Rattle.instructions.specs.Kinds.{Argument, none, target, primitive, number-in, Kind, kindNames}
+use Rattle.instructions.specs.Kinds.{Kind, kindNames}
+use Rattle.instructions.specs.declared.Argument.{Argument}
+use Rattle.instructions.specs.declared.Argument.the-variants.{Absent, Target, Primitive, Within}
 use Rattle.machine.specs.Machine.{State, Price, Instruction, Prices, cost, Code}
 use Rattle.routine.specs.Layout.{Section, limits, kinds, primitives, cells, fields, limit, cycles, words-column, cell, names, values, body, codeLines, answerLines, listed}
 use Rattle.routine.specs.Rows.{value, CellWord, wrong, unknown, known, block, cellWord, blockSizes, kindNamed, at, op, arg, firstAt, Row, layout-row, range-row, name-row, price-row, target-row, known-row, Fault, clean, line, fault}
@@ -50,13 +52,13 @@ prices ls = record {
 
 -- an argument: a number, an address, or a primitive's place on line 6
 unfoldable pub argumentValue : List (List ℕ) → List ℕ → Argument → ℤ
-argumentValue ps w none = pos 0
-argumentValue ps w target = value w
-argumentValue ps w primitive = pos (find w ps)
-argumentValue ps w (number-in r) = value w
+argumentValue ps w Absent = pos 0
+argumentValue ps w Target = value w
+argumentValue ps w Primitive = pos (find w ps)
+argumentValue ps w (Within r) = value w
 
 unfoldable pub argumentKind : Option Kind → Argument
-argumentKind Option.none = none
+argumentKind Option.none = Absent
 argumentKind (some k) = k .argument
 
 unfoldable pub instruction : List Line → List ℕ → Instruction
@@ -126,7 +128,7 @@ check r f = record { row = r; refusal = f }
 
 -- "Checked in the order of the rows"
 abbrev pub boundChecks : List Check
-boundChecks = check layout-row Layout ∷ check range-row Range ∷ check name-row Name ∷ check price-row Unpriced ∷ check target-row Target ∷ []
+boundChecks = check layout-row Layout ∷ check range-row OutOfRange ∷ check name-row BadName ∷ check price-row Unpriced ∷ check target-row NoTarget ∷ []
 
 -- "run only: a `?` on line 10, then 12"
 abbrev pub runChecks : List Check

@@ -10,8 +10,11 @@ use lib.Signed.{leZ, ltZ}
 use lib.ListN.{length, getD, take, getElem?}
 use Rattle.text.specs.Text.{bytes, isEmpty, equals, words, Line, find, among, all, distinct}
 use Rattle.text.specs.Decimal.{Numeral, misspelt, number, numeral, isDigit, decimal}
-use Rattle.numbers.specs.Numbers.{Range, range, within, numbers, same}
-use Rattle.instructions.specs.Kinds.{Argument, none, target, primitive, number-in, addresses, Kind, kindNames}
+use Rattle.numbers.specs.declared.Range.{Range}
+use Rattle.numbers.specs.Numbers.{range, within, numbers, same}
+use Rattle.instructions.specs.Kinds.{addresses, Kind, kindNames}
+use Rattle.instructions.specs.declared.Argument.{Argument}
+use Rattle.instructions.specs.declared.Argument.the-variants.{Absent, Target, Primitive, Within}
 use Rattle.instructions.specs.Kinds as table
 use Rattle.routine.specs.Layout.{Section, limits, kinds, primitives, cells, fields, instructions, answers, Column, limit, cycles, words-column, cell, Role, names, values, code, answer, body, codeLines, roles, list, listed}
 
@@ -145,29 +148,29 @@ onArgument t text = argumentOf t (kindNamed (op text))
 
 -- "ARG is `-` where none"; a primitive's name is looked up in row 4
 unfoldable pub argumentLaidOut : List ℕ → Argument → Bool
-argumentLaidOut w none = equals w (bytes "-")
-argumentLaidOut w target = isNumeral (numeral w)
-argumentLaidOut w primitive = not (equals w (bytes "-"))
-argumentLaidOut w (number-in r) = isNumeral (numeral w)
+argumentLaidOut w Absent = equals w (bytes "-")
+argumentLaidOut w Target = isNumeral (numeral w)
+argumentLaidOut w Primitive = not (equals w (bytes "-"))
+argumentLaidOut w (Within r) = isNumeral (numeral w)
 
 unfoldable pub argumentInRange : List ℕ → Argument → Bool
-argumentInRange w none = true
-argumentInRange w target = within addresses (value w)
-argumentInRange w primitive = true
-argumentInRange w (number-in r) = within r (value w)
+argumentInRange w Absent = true
+argumentInRange w Target = within addresses (value w)
+argumentInRange w Primitive = true
+argumentInRange w (Within r) = within r (value w)
 
 unfoldable pub argumentNamed : List (List ℕ) → List ℕ → Argument → Bool
-argumentNamed ps w none = true
-argumentNamed ps w target = true
-argumentNamed ps w primitive = among w ps
-argumentNamed ps w (number-in r) = true
+argumentNamed ps w Absent = true
+argumentNamed ps w Target = true
+argumentNamed ps w Primitive = among w ps
+argumentNamed ps w (Within r) = true
 
 -- a target among the n addresses from `first` on
 unfoldable pub argumentReaches : ℤ → ℕ → List ℕ → Argument → Bool
-argumentReaches first n w none = true
-argumentReaches first n w target = leZ first (value w) && ltZ (value w) (first +ℤ pos n)
-argumentReaches first n w primitive = true
-argumentReaches first n w (number-in r) = true
+argumentReaches first n w Absent = true
+argumentReaches first n w Target = leZ first (value w) && ltZ (value w) (first +ℤ pos n)
+argumentReaches first n w Primitive = true
+argumentReaches first n w (Within r) = true
 
 -- ---- ranges and counts of the table
 
