@@ -4,3 +4,4 @@ pub mod StateLaws
 pub mod StepLaws
 pub mod PriceLaws
 pub mod HeightLaws
+pub mod Stack
