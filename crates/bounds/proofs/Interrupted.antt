@@ -11,7 +11,7 @@ use Rattle.cells.specs.Try.{_>>=_}
 use Rattle.cells.specs.Cells.{number, unknown, calculate₂, map₂, operate₂, test, condition}
 use Rattle.cells.specs.Order.{Allowed, known, end, cons}
 use Rattle.cells.proofs.CellLaws.{number-allowed}
-use Rattle.instructions.specs.Kinds.{kinds, kindNames, operand}
+use Rattle.instructions.specs.Kinds.{kinds, kindNames}
 use Rattle.machine.specs.Lists.{nth, without}
 use Rattle.machine.specs.Machine.{State, Instruction, Code, fetch, height, jump, load, restack, push, pop, advance, ahead, ways, perform, prepare, execute, step, takes, takesAnswer}
 use Rattle.machine.specs.Order.{Cellwise}
@@ -21,7 +21,7 @@ use Rattle.bounds.specs.Promises.{Safe}
 use Rattle.bounds.proofs.PromiseLaws.{interruptible}
 
 abbrev instruction : List ℕ → ℕ → ℕ → ℕ → Instruction
-instruction name a c w = record { kind = find name kindNames; argument = pos a; price = record { cycles = c; words = w } }
+instruction name a c w = record { kind = find name kindNames; operand = pos a; price = record { cycles = c; words = w } }
 
 pub code : Code
 code = record {
@@ -46,7 +46,7 @@ abbrev pub reported : Report
 reported = record { cycles = 65; words = 4; depth = 1; steps = 6; path = N ∷ [] }
 
 is-bounded : bound code 1000 bounded ≡ accepted reported
-unfolding code equals find wrap holds _>>=_ calculate₂ map₂ operate₂ test condition kinds kindNames operand nth without fetch height jump load restack push pop advance ahead ways perform prepare execute step expand tree steps size cycles words depth worse path report judge verdict explore bound
+unfolding code equals find wrap holds _>>=_ calculate₂ map₂ operate₂ test condition kinds kindNames nth without fetch height jump load restack push pop advance ahead ways perform prepare execute step expand tree steps size cycles words depth worse path report judge verdict explore bound
 is-bounded = refl
 
 is-allowed : Cellwise Allowed plain bounded
@@ -57,7 +57,7 @@ unfolding bound
 is-safe n = interruptible code openingLimit 1000 bounded reported is-bounded plain is-allowed (pos 7 ∷ []) n
 
 stops-third : (after code 3 (begin plain (pos 7 ∷ [])) .stopped ≡ true) × (after code 3 (begin plain (pos 7 ∷ [])) .cycles ≡ 56)
-unfolding code equals find wrap _>>=_ test condition kinds kindNames operand nth without fetch height jump load restack pop advance ahead ways perform prepare execute step takes takesAnswer begin answer remaining moved leads once after
+unfolding code equals find wrap _>>=_ test condition kinds kindNames nth without fetch height jump load restack pop advance ahead ways perform prepare execute step takes takesAnswer begin answer remaining moved leads once after
 stops-third = (refl, refl)
 
 pub interrupted :

@@ -5,10 +5,10 @@ use Prim.Native.Nat.{ℕ}
 use lib.IntN.{ℤ, pos, negsuc}
 use Rattle.text.specs.Text.{bytes, find, equals}
 use Rattle.numbers.specs.Numbers.{wrap, holds}
-use Rattle.cells.specs.Try.{stuck, done, _>>=_}
+use Rattle.cells.specs.Try.{Try, stuck, done, _>>=_}
 use Rattle.cells.specs.declared.Cell.{Cell}
 use Rattle.cells.specs.Cells.{number, unknown, handle, calculate₁, calculate₂, map₁, map₂, operate₁, operate₂, test, condition, handled, block}
-use Rattle.instructions.specs.Kinds.{kinds, kindNames, operand}
+use Rattle.instructions.specs.Kinds.{Kind, kinds, kindNames, operand}
 use Rattle.machine.specs.Lists.{nth, put, without}
 use Rattle.machine.specs.Machine.{State, Price, Code, fetch, goes, opens, height, jump, load, restack, store, push, pop, getField, setField, advance, ahead, ways, opposite, perform, prepare, execute, step}
 
@@ -16,8 +16,15 @@ use Rattle.machine.specs.Machine.{State, Price, Code, fetch, goes, opens
 abbrev price : Price
 price = record { cycles = 3; words = 1 }
 
+abbrev operandOf : Try Kind → ℤ → ℤ
+operandOf stuck a = a
+operandOf (done k) a = operand k a
+
 abbrev one : List ℕ → ℤ → Code
-one name a = record { first = 5; instructions = record { kind = find name kindNames; argument = a; price = price } ∷ [] }
+one name a = record {
+  first = 5;
+  instructions = record { kind = find name kindNames; operand = operandOf (nth (find name kindNames) kinds) a; price = price } ∷ [];
+}
 
 abbrev state : ℕ → Cell → List Cell → State
 state a c cs = record { at = a; accu = c; stack = cs; blocks = (number (pos 8) ∷ unknown ∷ []) ∷ [] }

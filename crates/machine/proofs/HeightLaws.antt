@@ -5,7 +5,7 @@ use mathlib.Core.List.{List, [], _∷_}
 use Prim.Native.Nat.{ℕ, zero, suc, _≤_}
 use native.Mathlib.Omega.{arith}
 use lib.Dec.{ltb}
-use lib.IntN.{ℤ, natAbs}
+use lib.IntN.{ℤ}
 use lib.ListN.{length}
 use borrow.Author.Tests.{ltb-true}
 use Rattle.cells.specs.Try.{Try, stuck, done, _>>=_}
@@ -13,11 +13,11 @@ use Rattle.cells.specs.declared.Cell.{Cell}
 use Rattle.cells.specs.Cells.{condition, operate₁, operate₂, block}
 use Rattle.cells.specs.declared.Condition.{Condition}
 use Rattle.cells.specs.declared.Condition.the-variants.{IsZero, IsNonzero, IsUnknown}
-use Rattle.instructions.specs.Kinds.{kinds, operand}
+use Rattle.instructions.specs.Kinds.{kinds}
 use Rattle.instructions.specs.declared.Operation.{Operation}
 use Rattle.instructions.specs.declared.Operation.the-variants.{Nothing, Access, Drop, Assign, Constant, GetField, SetField, Branch, BranchIf, BranchIfNot, Call, Stop, Alter, Combine}
 use Rattle.machine.specs.Lists.{nth, put, without}
-use Rattle.machine.specs.Machine.{State, stackLimit, height, Price, Code, fetch, Next, stops, goes, opens, jump, load, restack, store, push, pop, getField, setField, advance, ahead, ways, opposite, perform, prepare, execute, step}
+use Rattle.machine.specs.Machine.{index, State, stackLimit, height, Price, Code, fetch, Next, stops, goes, opens, jump, load, restack, store, push, pop, getField, setField, advance, ahead, ways, opposite, perform, prepare, execute, step}
 
 -- what an action gives, if it gives anything, has a property
 data Gives {A : Type 0} (P : A → Type 0) : Try A → Type 0 where
@@ -111,9 +111,9 @@ ways-low p a s IsUnknown h = opens-low (advance-low h) (jump-low _ h)
 perform-low : (p : Price) (r : Cell) (o : Operation) (i : ℤ) (s : State) → Low s → Gives LowNext (perform p r o i s)
 unfolding perform height
 perform-low p r Nothing i s h = ahead-low p (given h)
-perform-low p r Access i s h = ahead-low p (bind (any (nth (natAbs i) (s .stack))) (λ c u. given (load-low _ h)))
-perform-low p r Drop i s h = ahead-low p (pop-low (natAbs i) s h)
-perform-low p r Assign i s h = ahead-low p (bind (put-length (natAbs i) (s .accu) (s .stack)) (λ cs e. given (load-low _ (restack-low cs s (omega (arith, h .low))))))
+perform-low p r Access i s h = ahead-low p (bind (any (nth (index i) (s .stack))) (λ c u. given (load-low _ h)))
+perform-low p r Drop i s h = ahead-low p (pop-low (index i) s h)
+perform-low p r Assign i s h = ahead-low p (bind (put-length (index i) (s .accu) (s .stack)) (λ cs e. given (load-low _ (restack-low cs s (omega (arith, h .low))))))
 perform-low p r Constant i s h = ahead-low p (given (load-low _ h))
 perform-low p r (Alter u) i s h = ahead-low p (bind (any (operate₁ u i (s .accu))) (λ c v. given (load-low _ h)))
 perform-low p r (Combine b) i s h =
@@ -122,17 +122,17 @@ perform-low p r (Combine b) i s h =
     bind (any (operate₂ b (s .accu) c)) (λ d v.
     bind (pop-low 1 s h) (λ t l.
     given (load-low _ l)))))
-perform-low p r GetField i s h = ahead-low p (bind (any (getField (natAbs i) s)) (λ c u. given (load-low _ h)))
+perform-low p r GetField i s h = ahead-low p (bind (any (getField (index i) s)) (λ c u. given (load-low _ h)))
 perform-low p r SetField i s h =
     ahead-low p
     (bind (any (nth 0 (s .stack))) (λ c u.
     bind (pop-low 1 s h) (λ t l.
-    bind (setField-low (natAbs i) c t l) (λ v m.
+    bind (setField-low (index i) c t l) (λ v m.
     given (load-low _ m)))))
 perform-low p r Branch i s h = given (goes-low (jump-low _ h))
-perform-low p r BranchIf i s h = bind (any (condition (s .accu))) (λ x u. given (ways-low p (natAbs i) s x h))
-perform-low p r BranchIfNot i s h = bind (any (condition (s .accu))) (λ x u. given (ways-low p (natAbs i) s (opposite x) h))
-perform-low p r Call i s h = ahead-low p (bind (pop-low (natAbs i) s h) (λ t l. given (load-low _ l)))
+perform-low p r BranchIf i s h = bind (any (condition (s .accu))) (λ x u. given (ways-low p (index i) s x h))
+perform-low p r BranchIfNot i s h = bind (any (condition (s .accu))) (λ x u. given (ways-low p (index i) s (opposite x) h))
+perform-low p r Call i s h = ahead-low p (bind (pop-low (index i) s h) (λ t l. given (load-low _ l)))
 perform-low p r Stop i s h = given stops-low
 
 prepare-low : (b : Bool) (s : State) → Low s → Gives Low (prepare b s)
@@ -146,7 +146,7 @@ step-gives c r s h =
     bind (any (fetch c (s .at))) (λ i u.
     bind (any (nth (i .kind) kinds)) (λ k v.
     bind (prepare-low (k .pushes) s h) (λ t l.
-    perform-low (i .price) r (k .operation) (operand k (i .argument)) t l)))
+    perform-low (i .price) r (k .operation) (i .operand) t l)))
 
 gives : {P : Next → Type 0} {m : Try Next} {n : Next} → m ≡ done n → Gives P m → P n
 gives {P} e g = out (rw e at g)

@@ -5,3 +5,5 @@ pub mod StepLaws
 pub mod PriceLaws
 pub mod HeightLaws
 pub mod Stack
+pub mod OutcomeLaws
+pub mod BlockLaws

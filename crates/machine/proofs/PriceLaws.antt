@@ -1,17 +1,17 @@
 -- Every way of a step costs the price of its instruction; so both ways of an unknown branch cost the same. Assumes nothing.
 use mathlib.Core.Path.{_≡_, refl}
 use Prim.Native.Nat.{ℕ}
-use lib.IntN.{ℤ, natAbs}
+use lib.IntN.{ℤ}
 use Rattle.cells.specs.Try.{Try, stuck, done, _>>=_}
 use Rattle.cells.specs.declared.Cell.{Cell}
 use Rattle.cells.specs.Cells.{condition}
 use Rattle.cells.specs.declared.Condition.{Condition}
 use Rattle.cells.specs.declared.Condition.the-variants.{IsZero, IsNonzero, IsUnknown}
-use Rattle.instructions.specs.Kinds.{kinds, operand}
+use Rattle.instructions.specs.Kinds.{kinds}
 use Rattle.instructions.specs.declared.Operation.{Operation}
 use Rattle.instructions.specs.declared.Operation.the-variants.{Nothing, Access, Drop, Assign, Constant, GetField, SetField, Branch, BranchIf, BranchIfNot, Call, Stop, Alter, Combine}
 use Rattle.machine.specs.Lists.{nth}
-use Rattle.machine.specs.Machine.{State, Price, Instruction, Code, fetch, Next, stops, goes, opens, ahead, ways, opposite, perform, prepare, execute, step}
+use Rattle.machine.specs.Machine.{index, State, Price, Instruction, Code, fetch, Next, stops, goes, opens, ahead, ways, opposite, perform, prepare, execute, step}
 
 pub data OnePrice (P : Price → Type 0) : Try Next → Type 0 where
   is-stuck : OnePrice P stuck
@@ -47,8 +47,8 @@ module _ (P : Price → Type 0) where
   perform-price p h r GetField i s = ahead-price p h _
   perform-price p h r SetField i s = ahead-price p h _
   perform-price p h r Branch i s = goes-at h
-  perform-price p h r BranchIf i s = then (condition (s .accu)) (λ x e. ways-price p h (natAbs i) s x)
-  perform-price p h r BranchIfNot i s = then (condition (s .accu)) (λ x e. ways-price p h (natAbs i) s (opposite x))
+  perform-price p h r BranchIf i s = then (condition (s .accu)) (λ x e. ways-price p h (index i) s x)
+  perform-price p h r BranchIfNot i s = then (condition (s .accu)) (λ x e. ways-price p h (index i) s (opposite x))
   perform-price p h r Call i s = ahead-price p h _
   perform-price p h r Stop i s = stops-at h
 
@@ -58,7 +58,7 @@ module _ (P : Price → Type 0) where
       then (fetch c (s .at)) (λ i e.
       then (nth (i .kind) kinds) (λ k f.
       then (prepare (k .pushes) s) (λ t g.
-      perform-price (i .price) (h (s .at) i e) r (k .operation) (operand k (i .argument)) t)))
+      perform-price (i .price) (h (s .at) i e) r (k .operation) (i .operand) t)))
 
 -- both ways of an unknown branch
 one-price : {P : Price → Type 0} {m : Try Next} {p q : Price} {t u : State} → m ≡ done (opens p t q u) → OnePrice P m → p ≡ q

@@ -4,17 +4,17 @@
 use mathlib.Core.Path.{refl, ap}
 use mathlib.Core.Bool.{Bool, true, false}
 use Prim.Native.Nat.{ℕ}
-use lib.IntN.{ℤ, pos, natAbs}
+use lib.IntN.{ℤ, pos}
 use Rattle.cells.specs.Try.{Try}
 use Rattle.cells.specs.declared.Cell.{Cell}
 use Rattle.cells.specs.declared.Condition.{Condition}
 use Rattle.cells.proofs.Covering.{Covered, both, bind, covered-equal, Narrower, zeros, nonzeros, zero-unknown, nonzero-unknown, unknowns}
 use Rattle.cells.proofs.CellLaws.{Lawful}
-use Rattle.instructions.specs.Kinds.{Kind, kinds, operand}
+use Rattle.instructions.specs.Kinds.{Kind, kinds}
 use Rattle.instructions.specs.declared.Operation.{Operation}
 use Rattle.instructions.specs.declared.Operation.the-variants.{Nothing, Access, Drop, Assign, Constant, GetField, SetField, Branch, BranchIf, BranchIfNot, Call, Stop, Alter, Combine}
 use Rattle.machine.specs.Lists.{nth}
-use Rattle.machine.specs.Machine.{State, Price, Instruction, Code, fetch, getField, setField, ahead, ways, opposite, perform, prepare, execute, step}
+use Rattle.machine.specs.Machine.{index, State, Price, Instruction, Code, fetch, getField, setField, ahead, ways, opposite, perform, prepare, execute, step}
 use Rattle.machine.specs.Order.{Cellwise}
 use Rattle.machine.proofs.NextCovering.{NextCovered, stops-too, goes-too, opens-too, goes-not-taken, goes-taken}
 use Rattle.machine.proofs.StateLaws.{nth-law, put-law, jump-law, advance-law, load-law, restack-law, store-law, push-law, pop-law}
@@ -61,7 +61,7 @@ module _ {R : Cell → Cell → Type 0} {two : Type 0} (L : Lawful R two) where
   unfolding perform
   perform-law p Nothing i k e = ahead-law p (both e)
   perform-law p Access i k e = ahead-law p (bind (nth-law refl (e .stack)) (λ c d h. both (load-law e h)))
-  perform-law p Drop i k e = ahead-law p (pop-law (natAbs i) e)
+  perform-law p Drop i k e = ahead-law p (pop-law (index i) e)
   perform-law p Assign i k e = ahead-law p (bind (put-law refl (e .stack) (e .accu)) (λ c d h. both (load-law (restack-law e h) (L .numbers (pos 0)))))
   perform-law p Constant i k e = ahead-law p (both (load-law e (L .numbers i)))
   perform-law p (Alter u) i k e = ahead-law p (bind (L .operates₁ u i (e .accu)) (λ c d h. both (load-law e h)))
@@ -71,17 +71,17 @@ module _ {R : Cell → Cell → Type 0} {two : Type 0} (L : Lawful R two) where
       bind (L .operates₂ b (e .accu) h) (λ d d′ g.
       bind (pop-law 1 e) (λ s t f.
       both (load-law f g)))))
-  perform-law p GetField i k e = ahead-law p (bind (getField-law (natAbs i) e) (λ c d h. both (load-law e h)))
+  perform-law p GetField i k e = ahead-law p (bind (getField-law (index i) e) (λ c d h. both (load-law e h)))
   perform-law p SetField i k e =
       ahead-law p
       (bind (nth-law refl (e .stack)) (λ c c′ h.
       bind (pop-law 1 e) (λ s t f.
-      bind (setField-law (natAbs i) f h) (λ u u′ g.
+      bind (setField-law (index i) f h) (λ u u′ g.
       both (load-law g (L .numbers (pos 0)))))))
-  perform-law p Branch i k e = both (goes-too (jump-law (natAbs i) e))
-  perform-law p BranchIf i k e = bind (L .conditions (e .accu)) (λ x y h. both (ways-law p (natAbs i) e h))
-  perform-law p BranchIfNot i k e = bind (L .conditions (e .accu)) (λ x y h. both (ways-law p (natAbs i) e (opposite-law h)))
-  perform-law p Call i k e = ahead-law p (bind (pop-law (natAbs i) e) (λ s t h. both (load-law h k)))
+  perform-law p Branch i k e = both (goes-too (jump-law (index i) e))
+  perform-law p BranchIf i k e = bind (L .conditions (e .accu)) (λ x y h. both (ways-law p (index i) e h))
+  perform-law p BranchIfNot i k e = bind (L .conditions (e .accu)) (λ x y h. both (ways-law p (index i) e (opposite-law h)))
+  perform-law p Call i k e = ahead-law p (bind (pop-law (index i) e) (λ s t h. both (load-law h k)))
   perform-law p Stop i k e = both stops-too
 
   prepare-law : (b : Bool) {s t : State} → Cellwise R s t → Covered (Cellwise R) (prepare b s) (prepare b t)
@@ -92,7 +92,7 @@ module _ {R : Cell → Cell → Type 0} {two : Type 0} (L : Lawful R two) where
   execute-law : {r r′ : Cell} (i : Instruction) (k : Kind) {s t : State} → R r r′ → Cellwise R s t →
       Covered (NextCovered (Cellwise R) two) (execute r i k s) (execute r′ i k t)
   unfolding execute
-  execute-law i k h e = bind (prepare-law (k .pushes) e) (λ s t f. perform-law (i .price) (k .operation) (operand k (i .argument)) h f)
+  execute-law i k h e = bind (prepare-law (k .pushes) e) (λ s t f. perform-law (i .price) (k .operation) (i .operand) h f)
 
   pub step-law : (c : Code) {r r′ : Cell} {s t : State} → R r r′ → Cellwise R s t → Covered (NextCovered (Cellwise R) two) (step c r s) (step c r′ t)
   unfolding step

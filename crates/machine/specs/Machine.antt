@@ -3,14 +3,14 @@ use Prim.Native.Nat.{ℕ, suc, _+_, _-_}
 use mathlib.Core.Bool.{Bool, true, false, cond}
 use mathlib.Core.List.{List, _∷_}
 use lib.Dec.{ltb}
-use lib.IntN.{ℤ, pos, natAbs}
+use lib.IntN.{ℤ, pos, negsuc, natAbs}
 use lib.ListN.{length}
 use Rattle.cells.specs.Try.{Try, stuck, done, _>>=_}
 use Rattle.cells.specs.declared.Cell.{Cell}
 use Rattle.cells.specs.Cells.{number, operate₁, operate₂, condition, block}
 use Rattle.cells.specs.declared.Condition.{Condition}
 use Rattle.cells.specs.declared.Condition.the-variants.{IsZero, IsNonzero, IsUnknown}
-use Rattle.instructions.specs.Kinds.{calls, Kind, kinds, operand}
+use Rattle.instructions.specs.Kinds.{calls, Kind, kinds}
 use Rattle.instructions.specs.declared.Argument.{Argument}
 use Rattle.instructions.specs.declared.Argument.the-variants.{Absent, Target, Primitive, Within}
 use Rattle.instructions.specs.declared.Operation.{Operation}
@@ -36,10 +36,10 @@ pub record Price : Type 0 where
   pub cycles : ℕ
   pub words : ℕ
 
--- an instruction of the code: its kind's place in the table, its argument (a number, a target, a primitive's place), what it costs
+-- an instruction of the code: its kind's place in the table, its operand, what it costs
 pub record Instruction : Type 0 where
   pub kind : ℕ
-  pub argument : ℤ
+  pub operand : ℤ
   pub price : Price
 
 -- prices by place: of the kinds in the table, of the primitives on their line
@@ -56,6 +56,11 @@ cost ps Absent k a = ps .kinds k
 cost ps Target k a = ps .kinds k
 cost ps Primitive k a = sum (ps .kinds k) (ps .primitives (natAbs a))
 cost ps (Within r) k a = ps .kinds k
+
+-- an operand that numbers an entry, a field, an address or a count of entries; no file has a negative one there
+abbrev pub index : ℤ → ℕ
+index (pos n) = n
+index (negsuc n) = 0
 
 -- the code: its instructions, and the address of the first
 pub record Code : Type 0 where
@@ -131,22 +136,22 @@ opposite IsUnknown = IsUnknown
 unfoldable pub perform : Price → Cell → Operation → ℤ → State → Try Next
 perform p r Nothing i s = ahead p (done s)
 -- "accumulator becomes entry n"
-perform p r Access i s = ahead p (nth (natAbs i) (s .stack) >>= λ c. done (load c s))
-perform p r Drop i s = ahead p (pop (natAbs i) s)
+perform p r Access i s = ahead p (nth (index i) (s .stack) >>= λ c. done (load c s))
+perform p r Drop i s = ahead p (pop (index i) s)
 -- "entry n becomes the accumulator, which becomes 0"
-perform p r Assign i s = ahead p (put (natAbs i) (s .accu) (s .stack) >>= λ cs. done (load (number (pos 0)) (restack cs s)))
+perform p r Assign i s = ahead p (put (index i) (s .accu) (s .stack) >>= λ cs. done (load (number (pos 0)) (restack cs s)))
 perform p r Constant i s = ahead p (done (load (number i) s))
 perform p r (Alter u) i s = ahead p (operate₁ u i (s .accu) >>= λ c. done (load c s))
 -- "accumulator on the left, popped entry on the right"
 perform p r (Combine b) i s = ahead p (nth 0 (s .stack) >>= λ c. operate₂ b (s .accu) c >>= λ d. pop 1 s >>= λ t. done (load d t))
-perform p r GetField i s = ahead p (getField (natAbs i) s >>= λ c. done (load c s))
+perform p r GetField i s = ahead p (getField (index i) s >>= λ c. done (load c s))
 -- "field n becomes the popped entry, accumulator 0"
-perform p r SetField i s = ahead p (nth 0 (s .stack) >>= λ c. pop 1 s >>= λ t. setField (natAbs i) c t >>= λ u. done (load (number (pos 0)) u))
-perform p r Branch i s = done (goes p (jump (natAbs i) s))
-perform p r BranchIf i s = condition (s .accu) >>= λ x. done (ways p (natAbs i) s x)
-perform p r BranchIfNot i s = condition (s .accu) >>= λ x. done (ways p (natAbs i) s (opposite x))
+perform p r SetField i s = ahead p (nth 0 (s .stack) >>= λ c. pop 1 s >>= λ t. setField (index i) c t >>= λ u. done (load (number (pos 0)) u))
+perform p r Branch i s = done (goes p (jump (index i) s))
+perform p r BranchIf i s = condition (s .accu) >>= λ x. done (ways p (index i) s x)
+perform p r BranchIfNot i s = condition (s .accu) >>= λ x. done (ways p (index i) s (opposite x))
 -- "one fewer popped than the digit; blocks untouched"
-perform p r Call i s = ahead p (pop (natAbs i) s >>= λ t. done (load r t))
+perform p r Call i s = ahead p (pop (index i) s >>= λ t. done (load r t))
 perform p r Stop i s = done (stops p)
 
 -- "push, then ACC n on the longer stack"; "PUSHCONST0 to 3, PUSHCONSTINT i push first"
@@ -155,7 +160,7 @@ prepare true s = push s
 prepare false s = done s
 
 unfoldable pub execute : Cell → Instruction → Kind → State → Try Next
-execute r i k s = prepare (k .pushes) s >>= λ t. perform (i .price) r (k .operation) (operand k (i .argument)) t
+execute r i k s = prepare (k .pushes) s >>= λ t. perform (i .price) r (k .operation) (i .operand) t
 
 -- one step from s, where a C_CALL gets the answer r: unknown in the bound, a number in a run
 unfoldable pub step : Code → Cell → State → Try Next

@@ -7,6 +7,24 @@ ghost use lib.ListN.{drop, set};
 ghost use Rattle.machine.specs.Machine.{restack, load, advance, jump};
 ghost use Rattle.machine.specs.View.{view};
 
+// What an instruction's operands come to, before the state is changed.
+pub enum Outcome {
+    // The accumulator becomes the cell.
+    Gives(Cell),
+    // The entry becomes the cell, the accumulator 0.
+    Stores(Cell),
+    // The field becomes the cell, the accumulator 0.
+    Sets(Cell),
+    // The accumulator becomes the field.
+    Gets,
+    // The target is the next address.
+    Goes,
+    // Both ways of an unknown branch are open.
+    Opens,
+    Halts,
+    Stuck,
+}
+
 // The stack's entries are the last 64 - `free` elements of `stack`, the top entry first. The blocks lie beside the state.
 pub struct State {
     pub at: usize,

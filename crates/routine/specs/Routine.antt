@@ -13,7 +13,7 @@ use Rattle.text.specs.Text.{Line, lines, find}
 use Rattle.cells.specs.declared.Cell.{Cell}
 use Rattle.cells.specs.Cells.{number, handle}
 use Rattle.cells.specs.Cells as cells-of
-use Rattle.instructions.specs.Kinds.{Kind, kindNames}
+use Rattle.instructions.specs.Kinds.{Kind, kindNames, operand}
 use Rattle.instructions.specs.declared.Argument.{Argument}
 use Rattle.instructions.specs.declared.Argument.the-variants.{Absent, Target, Primitive, Within}
 use Rattle.machine.specs.Machine.{State, Price, Instruction, Prices, cost, Code}
@@ -61,12 +61,16 @@ unfoldable pub argumentKind : Option Kind → Argument
 argumentKind Option.none = Absent
 argumentKind (some k) = k .argument
 
+unfoldable pub operandOf : Option Kind → ℤ → ℤ
+operandOf Option.none v = v
+operandOf (some k) v = operand k v
+
 unfoldable pub instruction : List Line → List ℕ → Instruction
 instruction ls text =
     let a = argumentKind (kindNamed (op text)) in
     let k = find (op text) kindNames in
     let v = argumentValue (listed (names primitives) ls) (arg text) a in
-    record { kind = k; argument = v; price = cost (prices ls) a k v }
+    record { kind = k; operand = operandOf (kindNamed (op text)) v; price = cost (prices ls) a k v }
 
 -- "AT starts anywhere from 0 to 60,000"
 unfoldable pub codeOf : List Line → Code
