@@ -4,6 +4,7 @@ pub mod FuelLaws
 pub mod ExploreLaws
 pub mod MaxLaws
 pub mod PathLaws
+pub mod PrefixLaws
 pub mod ListedLaws
 pub mod RunLaws
 pub mod RunVerdictLaws
