@@ -1,7 +1,14 @@
-// The 61 instruction kinds. The table is in specs/.
+// The 61 instruction kinds, and their table by columns. The meaning is in specs/.
+ghost use mathlib.Core.Path.{_≡_};
+ghost use Prim.Native.Nat.{_<_};
+ghost use Rattle.text.specs.Text.{find};
+ghost use Rattle.instructions.specs.Kinds.{kindNames};
+ghost use Rattle.instructions.specs.Columns.{kindAt, argumentCode, lowest, highest, operationCode};
 use cells::Binary;
 use cells::Unary;
 use numbers::Range;
+
+mod columns;
 
 // "argument range after each": no argument, a number in a range, a target, or a primitive.
 // A kind with a target jumps there, and a kind with a primitive calls it.
@@ -28,4 +35,74 @@ pub enum Operation {
     Stop,
     Alter(Unary),
     Combine(Binary),
+}
+
+// The code of a kind's argument.
+fn argument_code_at(k: usize) -> u8
+    requires { ⌜ k < 61 ⌝ }
+    ensures { λ r. ⌜ r ≡ argumentCode (kindAt k .argument) ⌝ }
+{
+    columns::ARGUMENTS[k]
+}
+
+// The ends of its range, or 0 where there is none.
+fn low_at(k: usize) -> i64
+    requires { ⌜ k < 61 ⌝ }
+    ensures { λ r. ⌜ r ≡ lowest (kindAt k .argument) ⌝ }
+{
+    columns::LOWS[k]
+}
+
+fn high_at(k: usize) -> i64
+    requires { ⌜ k < 61 ⌝ }
+    ensures { λ r. ⌜ r ≡ highest (kindAt k .argument) ⌝ }
+{
+    columns::HIGHS[k]
+}
+
+// What a kind takes.
+pub fn argument_at(k: usize) -> Argument
+    requires { ⌜ k < 61 ⌝ }
+    ensures { λ r. ⌜ r ≡ kindAt k .argument ⌝ }
+{
+    match argument_code_at(k) {
+        0 => Argument::Absent,
+        1 => Argument::Within(Range {
+            low: low_at(k),
+            high: high_at(k),
+        }),
+        2 => Argument::Target,
+        _ => Argument::Primitive,
+    }
+}
+
+// Whether a kind pushes first.
+pub fn pushes_at(k: usize) -> bool
+    requires { ⌜ k < 61 ⌝ }
+    ensures { λ r. ⌜ r ≡ kindAt k .pushes ⌝ }
+{
+    columns::PUSHES[k] == 1
+}
+
+// The code of a kind's operation.
+pub fn operation_at(k: usize) -> u8
+    requires { ⌜ k < 61 ⌝ }
+    ensures { λ r. ⌜ r ≡ operationCode (kindAt k .operation) ⌝ }
+{
+    columns::OPERATIONS[k]
+}
+
+// The operand that a kind's name fixes.
+pub fn fixed_at(k: usize) -> i32
+    requires { ⌜ k < 61 ⌝ }
+    ensures { λ r. ⌜ r ≡ kindAt k .fixed ⌝ }
+{
+    columns::FIXED[k]
+}
+
+// The kind that a word names, by its place in the table; 61 where it names none.
+pub fn kind_named(w: &[u8]) -> usize
+    ensures { λ r. ⌜ r ≡ find (now (w .entry)) kindNames ⌝ }
+{
+    text::find(w, &columns::NAMES)
 }

@@ -1,0 +1,22 @@
+-- `fixed_at` meets its contract: the column is `map` of the rule over the table, by computation.
+-- Assumes nothing.
+use mathlib.Core.Path.{refl}
+use mir.Syntax.{w32}
+use Rattle.instructions.specs.Kinds.{kinds}
+use Rattle.instructions.proofs.ColumnLaws.{integer-at}
+use borrow.Author.Needs.{needs}
+use Rattle.instructions.proofs.fixed_at.Statement.{statement}
+use Rattle.instructions.proofs.fixed_at.Tie as tie
+
+mul-result : tie.Need-mul-result
+mul-result c = search needs
+
+array-copy-out-result : tie.Need-array-copy-out-result
+array-copy-out-result c = search needs
+
+returns : tie.Need-returns
+unfolding kinds
+returns c = integer-at w32 (λ r. r .fixed) refl (c .before .args .k) (c .before .pre)
+
+pub fixed-at-spec : {M : Type 1} → statement M
+fixed-at-spec = tie.close (tie.spec mul-result array-copy-out-result returns)

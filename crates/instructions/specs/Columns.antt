@@ -1,0 +1,76 @@
+-- The table by columns of numbers, as the code has it: what stands in each column at a kind.
+use Prim.Native.Nat.{ℕ}
+use lib.IntN.{ℤ, pos}
+use lib.ListN.{getD}
+use Rattle.numbers.specs.declared.Comparison.{Comparison}
+use Rattle.numbers.specs.declared.Comparison.the-variants.{Equal, Unequal, Less, AtMost, Greater, AtLeast}
+use Rattle.cells.specs.declared.Unary.{Unary}
+use Rattle.cells.specs.declared.Unary.the-variants.{Offset, Negate, Complement}
+use Rattle.cells.specs.declared.Binary.{Binary}
+use Rattle.cells.specs.declared.Binary.the-variants.{Add, Subtract, Compare}
+use Rattle.instructions.specs.declared.Argument.{Argument}
+use Rattle.instructions.specs.declared.Argument.the-variants.{Absent, Target, Primitive, Within}
+use Rattle.instructions.specs.declared.Operation.{Operation}
+use Rattle.instructions.specs.declared.Operation.the-variants.{Nothing, Access, Drop, Assign, Constant, GetField, SetField, Branch, BranchIf, BranchIfNot, Call, Stop, Alter, Combine}
+use Rattle.instructions.specs.Kinds.{Kind, kind, kinds, stays}
+
+-- the kind at a place of the table, counted from 0; past its end, the last
+unfoldable pub kindAt : ℕ → Kind
+kindAt k = getD kinds k (kind "STOP" Absent stays Stop 0)
+
+-- what a kind takes
+unfoldable pub argumentCode : Argument → ℕ
+argumentCode Absent = 0
+argumentCode (Within r) = 1
+argumentCode Target = 2
+argumentCode Primitive = 3
+
+-- the ends of the range of a kind that takes a number, else 0
+
+unfoldable pub lowest : Argument → ℤ
+lowest Absent = pos 0
+lowest (Within r) = r .low
+lowest Target = pos 0
+lowest Primitive = pos 0
+
+unfoldable pub highest : Argument → ℤ
+highest Absent = pos 0
+highest (Within r) = r .high
+highest Target = pos 0
+highest Primitive = pos 0
+
+-- the operations, and those of them that alter the accumulator or combine it with an entry
+
+unfoldable pub comparisonCode : Comparison → ℕ
+comparisonCode Equal = 17
+comparisonCode Unequal = 18
+comparisonCode Less = 19
+comparisonCode AtMost = 20
+comparisonCode Greater = 21
+comparisonCode AtLeast = 22
+
+unfoldable pub binaryCode : Binary → ℕ
+binaryCode Add = 15
+binaryCode Subtract = 16
+binaryCode (Compare c) = comparisonCode c
+
+unfoldable pub unaryCode : Unary → ℕ
+unaryCode Offset = 5
+unaryCode Negate = 6
+unaryCode Complement = 7
+
+unfoldable pub operationCode : Operation → ℕ
+operationCode Nothing = 0
+operationCode Access = 1
+operationCode Drop = 2
+operationCode Assign = 3
+operationCode Constant = 4
+operationCode (Alter u) = unaryCode u
+operationCode GetField = 8
+operationCode SetField = 9
+operationCode Branch = 10
+operationCode BranchIf = 11
+operationCode BranchIfNot = 12
+operationCode Call = 13
+operationCode Stop = 14
+operationCode (Combine b) = binaryCode b

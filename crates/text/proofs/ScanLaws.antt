@@ -1,0 +1,114 @@
+-- Laws of a scan, byte by byte or piece by piece, as the code makes it: of the length of a text's first piece, of a comparison and
+-- of a search. Assumes nothing.
+use Prim.Native.Nat.{ℕ, suc, _+_, _-_, _<_, _≤_}
+use mathlib.Core.Path.{_≡_, refl, ap}
+use mathlib.Core.Bool.{Bool, true, false, cond}
+use mathlib.Core.List.{List, [], _∷_}
+use mathlib.Core.Logic.{⊎-elim}
+use native.Mathlib.Omega.{arith}
+use native.Mathlib.Numerals.{add-one}
+use native.Mathlib.Nat.{eq-or-lt-of-le}
+use lib.Dec.{eqb}
+use lib.ListN.{length, getD, take, drop, length-drop, drop-of-length-le}
+use lib.Seq.{drop-cons, take-all}
+use borrow.Author.Tests.{eq-eqb, ne-eqb}
+use Rattle.text.specs.Text.{equals, onto, split, words, find}
+
+-- the length of a text's first piece
+abbrev pub firstLength : ℕ → List ℕ → ℕ
+firstLength c s = length (getD (split c s) 0 [])
+
+onto-first : (x : ℕ) (ps : List (List ℕ)) → length (getD (onto x ps) 0 []) ≡ suc (length (getD ps 0 []))
+onto-first x [] = refl
+onto-first x (p ∷ ps) = refl
+
+-- the piece ends at the byte at i; it goes on there; the text is at its end
+
+pub first-here : (c : ℕ) (s : List ℕ) (i : ℕ) → i < length s → getD s i 0 ≡ c → firstLength c (drop i s) ≡ 0
+unfolding split
+first-here c s i h e = rw (drop-cons s i 0, eq-eqb (getD s i 0) c e) refl
+
+pub first-next : (c : ℕ) (s : List ℕ) (i : ℕ) → i < length s → (getD s i 0 ≡ c → ⊥) → firstLength c (drop i s) ≡ suc (firstLength c (drop (suc i) s))
+unfolding split
+first-next c s i h n = rw (drop-cons s i 0, ne-eqb (getD s i 0) c n) (onto-first (getD s i 0) (split c (drop (suc i) s)))
+
+pub first-end : (c : ℕ) (s : List ℕ) (i : ℕ) → length s ≤ i → firstLength c (drop i s) ≡ 0
+unfolding split
+first-end c s i h = rw (drop-of-length-le s h) refl
+
+-- where the first piece is shorter than the text, a c ends it, and the other pieces are those of what follows
+split-more : (c : ℕ) (s : List ℕ) → firstLength c s < length s → split c s ≡ take (firstLength c s) s ∷ split c (drop (suc (firstLength c s)) s)
+unfolding split
+split-more c [] h = absurd (omega arith)
+split-more c (x ∷ xs) h = go (eqb x c) refl h (split-more c xs)
+  where
+    go : (b : Bool) → eqb x c ≡ b → firstLength c (x ∷ xs) < suc (length xs)
+        → (firstLength c xs < length xs → split c xs ≡ take (firstLength c xs) xs ∷ split c (drop (suc (firstLength c xs)) xs))
+        → split c (x ∷ xs) ≡ take (firstLength c (x ∷ xs)) (x ∷ xs) ∷ split c (drop (suc (firstLength c (x ∷ xs))) (x ∷ xs))
+    go true e l ih = rw e refl
+    go false e l ih =
+        let k : length (getD (onto x (split c xs)) 0 []) < suc (length xs) = rw e at l in
+        let m = onto-first x (split c xs) in
+        rw (e, m) (ap (onto x) (ih (omega arith)))
+
+-- else the text is its only piece
+split-last : (c : ℕ) (s : List ℕ) → length s ≤ firstLength c s → split c s ≡ s ∷ []
+unfolding split
+split-last c [] h = refl
+split-last c (x ∷ xs) h = go (eqb x c) refl h (split-last c xs)
+  where
+    go : (b : Bool) → eqb x c ≡ b → suc (length xs) ≤ firstLength c (x ∷ xs) → (length xs ≤ firstLength c xs → split c xs ≡ xs ∷ []) → split c (x ∷ xs) ≡ (x ∷ xs) ∷ []
+    go true e l ih = let k : suc (length xs) ≤ 0 = rw e at l in absurd (omega arith)
+    go false e l ih =
+        let k : suc (length xs) ≤ length (getD (onto x (split c xs)) 0 []) = rw e at l in
+        let m = onto-first x (split c xs) in
+        rw e (ap (onto x) (ih (omega arith)))
+
+-- what is left from a place on, as the code takes it: `&l[a..]`
+rest-is : (a : ℕ) (l : List ℕ) → take (length l - a) (drop a l) ≡ drop a l
+rest-is a l = take-all (length l - a) (drop a l) (rw length-drop (omega arith))
+
+-- the same as a loop has it, where n is the length of the first piece
+
+pub cut-more : (c : ℕ) (l : List ℕ) (n : ℕ) → n ≡ firstLength c l → n < length l → split c l ≡ take n l ∷ split c (take (length l - (n + 1)) (drop (n + 1) l))
+cut-more c l n q h = rw (rest-is, add-one, q) (split-more c l (rw q at h))
+
+pub cut-last : (c : ℕ) (l : List ℕ) (n : ℕ) → n ≡ firstLength c l → length l ≤ n → split c l ≡ l ∷ []
+cut-last c l n q h = split-last c l (rw q at h)
+
+-- a comparison at i: b is at its end, the bytes differ, they agree, a is at its end
+
+pub equals-short : (a b : List ℕ) (i : ℕ) → i < length a → length b ≤ i → equals (drop i a) (drop i b) ≡ false
+unfolding equals
+equals-short a b i h k = rw (drop-cons a i 0, drop-of-length-le b k) refl
+
+pub equals-differ : (a b : List ℕ) (i : ℕ) → i < length a → i < length b → (getD a i 0 ≡ getD b i 0 → ⊥) → equals (drop i a) (drop i b) ≡ false
+unfolding equals
+equals-differ a b i h k n = rw (drop-cons a i 0 h, drop-cons b i 0 k, ne-eqb (getD a i 0) (getD b i 0) n) refl
+
+pub equals-agree : (a b : List ℕ) (i : ℕ) → i < length a → i < length b → getD a i 0 ≡ getD b i 0 → equals (drop i a) (drop i b) ≡ equals (drop (suc i) a) (drop (suc i) b)
+unfolding equals
+equals-agree a b i h k e = rw (drop-cons a i 0 h, drop-cons b i 0 k, eq-eqb (getD a i 0) (getD b i 0) e) refl
+
+pub equals-end : (a b : List ℕ) (i : ℕ) → length a ≤ i → i ≤ length b → equals (drop i a) (drop i b) ≡ eqb i (length b)
+unfolding equals
+equals-end a b i h k =
+    ⊎-elim
+    (λ (e : i ≡ length b). let k′ : length b ≤ i = omega arith in rw (drop-of-length-le a h, drop-of-length-le b k′, eq-eqb i (length b) e) refl)
+    (λ (l : i < length b). rw (drop-of-length-le a h, drop-cons b i 0 l, ne-eqb i (length b) (omega arith)) refl)
+    (eq-or-lt-of-le k)
+
+-- a search among the words of l, whose first word has the length n: that word is w, it is another, or it is the last
+
+pub find-here : (w l : List ℕ) (n : ℕ) → n ≡ firstLength 32 l → n < length l → equals w (take n l) ≡ true → find w (words l) ≡ 0
+unfolding find words
+find-here w l n q h e = rw (cut-more 32 l n q h, e) refl
+
+pub find-next : (w l : List ℕ) (n : ℕ) → n ≡ firstLength 32 l → n < length l → equals w (take n l) ≡ false
+    → find w (words l) ≡ suc (find w (words (take (length l - (n + 1)) (drop (n + 1) l))))
+unfolding find words
+find-next w l n q h e = rw (cut-more 32 l n q h, e) refl
+
+pub find-last : (w l : List ℕ) (n : ℕ) → n ≡ firstLength 32 l → length l ≤ n → find w (words l) ≡ cond (equals w l) 0 1
+unfolding find words
+find-last w l n q h = rw (cut-last 32 l n q h) refl
