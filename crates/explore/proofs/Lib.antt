@@ -1,1 +1,2 @@
 pub mod UsedLaws
+pub mod LoopLaws

@@ -1,14 +1,19 @@
 -- What the explorer's answer stands for: the verdict of the bound, and how many steps were walked.
-use Prim.Native.Nat.{ℕ, zero, suc, _+_, _*_, _/_, _%_}
-use mathlib.Core.Bool.{Bool, true, false, cond}
+use Prim.Native.Nat.{ℕ, zero, suc, _+_, _*_, max}
+use mathlib.Core.Bool.{cond}
 use mathlib.Core.List.{List, [], _∷_}
-use lib.Dec.{eqb, leb}
+use mathlib.Core.Option.{Option, some}
+use mathlib.Core.Path.{_≡_}
+use lib.Dec.{leb}
+use Rattle.refusals.specs.declared.Refusal.{Refusal}
 use Rattle.refusals.specs.declared.Refusal.the-variants as refusals
+use Rattle.machine.specs.Machine.{Price}
 use Rattle.bounds.specs.Tree.{Decision, N, T, Step, made, not-made, Report, accepted, refused}
 use Rattle.bounds.specs.Tree as bounds
 use Rattle.explore.specs.declared.Verdict.{Verdict}
 use Rattle.explore.specs.declared.Verdict.the-variants.{Accepted, Stuck, Openings, Spent}
 use Rattle.explore.specs.declared.Found.{Found}
+use Rattle.explore.specs.declared.Tally.{Tally}
 
 -- the decisions of a path as one number: the first lowest, 1 for taken, with a 1 above the last
 unfoldable pub encode : List Decision → ℕ
@@ -16,12 +21,21 @@ encode [] = 1
 encode (N ∷ ds) = 2 * encode ds
 encode (T ∷ ds) = 2 * encode ds + 1
 
--- the verdict that a case stands for, with the report that an accepted one gives
-unfoldable pub verdictOf : Verdict → Report → bounds.Verdict
-verdictOf Accepted q = accepted q
-verdictOf (Stuck a) q = refused (refusals.Stuck a)
-verdictOf (Openings a) q = refused (refusals.Openings a)
-verdictOf (Spent a) q = refused (refusals.Spent a)
+-- the refusal that a case stands for: 7, 8 or 9 with its address
+unfoldable pub refusalOf : Verdict → Option Refusal
+refusalOf Accepted = Option.none
+refusalOf (Stuck a) = some (refusals.Stuck a)
+refusalOf (Openings a) = some (refusals.Openings a)
+refusalOf (Spent a) = some (refusals.Spent a)
+
+-- an accepted answer with the figures of a report
+unfoldable pub acceptedAs : Report → Found
+acceptedAs q = record { verdict = Accepted; used = q .steps; cycles = q .cycles; words = q .words; depth = q .depth; path = encode (q .path) }
+
+-- the answer r shows the verdict v
+abbrev pub Shows : Found → bounds.Verdict → Type 0
+Shows r (accepted q) = r ≡ acceptedAs q
+Shows r (refused x) = refusalOf (r .verdict) ≡ some x
 
 -- the steps walked under a budget: all of them, or those up to and with the first that is not made
 unfoldable pub walked : ℕ → List Step → ℕ
@@ -29,3 +43,32 @@ walked b [] = 0
 walked zero (x ∷ xs) = 0
 walked (suc b) (made a ∷ xs) = suc (walked b xs)
 walked (suc b) (not-made r a ∷ xs) = 1
+
+-- ---- the parts of the explorer
+
+-- the steps since the last branch, with one more of price p from a state of height h
+unfoldable pub moreOf : Tally → Price → ℕ → Tally
+moreOf t p h = record { cycles = t .cycles + p .cycles; words = t .words + p .words; depth = max (t .depth) h }
+
+-- the larger of two costs decides: "T where both ways cost the same cycles"
+unfoldable pub decidedOf : ℕ → ℕ → ℕ → ℕ → ℕ
+decidedOf k l p q = cond (leb k l) (2 * q + 1) (2 * p)
+
+-- n steps of a tally, and then the two ways of a branch
+unfoldable pub joinedOf : Tally → ℕ → Found → Found → Found
+joinedOf t n f g = record {
+  verdict = Accepted;
+  used = n + f .used + g .used;
+  cycles = t .cycles + max (f .cycles) (g .cycles);
+  words = t .words + max (f .words) (g .words);
+  depth = max (t .depth) (max (f .depth) (g .depth));
+  path = decidedOf (f .cycles) (g .cycles) (f .path) (g .path);
+}
+
+-- n steps of a tally, the last of them STOP
+unfoldable pub finishedOf : Tally → ℕ → Found
+finishedOf t n = record { verdict = Accepted; used = n; cycles = t .cycles; words = t .words; depth = t .depth; path = 1 }
+
+-- n steps walked, and a refusal
+unfoldable pub refusedAs : Verdict → ℕ → Found
+refusedAs v n = record { verdict = v; used = n; cycles = 0; words = 0; depth = 0; path = 1 }
