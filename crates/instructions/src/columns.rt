@@ -328,7 +328,7 @@ pub const OPERATIONS: [u8; 61] = [
 ];
 
 // The operand that the name fixes, or 0.
-pub const FIXED: [i32; 61] = [
+pub const FIXED: [u8; 61] = [
     0, // ACC0
     1, // ACC1
     2, // ACC2

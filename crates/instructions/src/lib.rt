@@ -97,7 +97,7 @@ pub fn fixed_at(k: usize) -> i32
     requires { ⌜ k < 61 ⌝ }
     ensures { λ r. ⌜ r ≡ kindAt k .fixed ⌝ }
 {
-    columns::FIXED[k]
+    columns::FIXED[k] as i32
 }
 
 // The kind that a word names, by its place in the table; 61 where it names none.
