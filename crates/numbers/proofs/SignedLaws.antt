@@ -19,9 +19,12 @@ use Rattle.numbers.proofs.NumberLaws.{signed-low, signed-high, wrap-num
 abbrev pub read : Width → ℤ → ℤ
 read w z = toZ w (ofZ w z)
 
+pub read-both {ℓ} : {X : Type ℓ} (f : ℤ → ℤ → X) (w : Width) (x y : ℤ) → SFits w x → SFits w y → f (read w x) (read w y) ≡ f x y
+read-both f w x y h k = ap (λ a. f a (read w y)) (toZ-ofZ w x h) ∙ ap (f x) (toZ-ofZ w y k)
+
 -- ---- numbers and widths
 
-pub fits-number : (z : ℤ) → SFits w32 z → IsNumber z
+fits-number : (z : ℤ) → SFits w32 z → IsNumber z
 fits-number z h = record { fits = h .sfits }
 
 pub fits-keeps : (z : ℤ) → SFits w32 z → wrap z ≡ z
@@ -153,10 +156,7 @@ negative (negsuc n) h f = let k : n < half = h .sfits in record { fits = omega (
 pub wrap-negative : (x : ℤ) → SFits w32 x → (ofZ w32 x ≡ half → ⊥) → wrap (negℤ x) ≡ pos 0 -ℤ read w32 x
 wrap-negative x h f = wrap-keeps (negℤ x) (negative x h f) ∙ sym (zero-minus x h)
 
--- ---- tests: the machine compares what it reads back, and for equality the bits
-
-pub test-read : (f : ℤ → ℤ → Bool) (w : Width) (x y : ℤ) → SFits w x → SFits w y → f (read w x) (read w y) ≡ f x y
-test-read f w x y h k = ap (λ a. f a (read w y)) (toZ-ofZ w x h) ∙ ap (f x) (toZ-ofZ w y k)
+-- ---- equality is tested on the bits
 
 -- two numbers are equal where their bits are
 pub bits-equal : (w : Width) (x y : ℤ) → SFits w x → SFits w y → ofZ w x ≡ ofZ w y → x ≡ y
@@ -179,7 +179,12 @@ same-bits w x y h k = go (eqb (ofZ w x) (ofZ w y)) refl
     go true e = sym (subst (λ z. same x z ≡ true) (bits-equal w x y h k (eqb-true _ _ e)) (same-self x))
     go false e = sym (same-not x y (λ q. eqb-false _ _ e (ap (ofZ w) q)))
 
--- the number of a test is read back
+-- the number of a test
 pub bit-read : (b : Bool) → read w32 (bit b) ≡ bit b
 bit-read true = refl
 bit-read false = refl
+
+pub bit-keeps : (b : Bool) → wrap (bit b) ≡ bit b
+unfolding wrap
+bit-keeps true = refl
+bit-keeps false = refl

@@ -6,7 +6,7 @@ use lib.Signed.{ltZ, leZ}
 use mir.Syntax.{w32}
 use Rattle.numbers.specs.declared.Comparison.{Comparison}
 use Rattle.numbers.specs.Numbers.{holds, bit}
-use Rattle.numbers.proofs.SignedLaws.{read, test-read, same-bits, bit-read}
+use Rattle.numbers.proofs.SignedLaws.{read, read-both, same-bits, bit-read}
 use borrow.Author.Needs.{needs}
 use Rattle.numbers.proofs.compare.Statement.{statement}
 use Rattle.numbers.proofs.compare.Tie as tie
@@ -61,19 +61,19 @@ returns-2 c = answer _ _ _ (c .before .enum-told2 .given .1) (c .bit2 .ensures) 
 
 returns-3 : tie.Need-returns-3
 unfolding holds
-returns-3 c = answer _ _ _ (c .before .enum-told3 .given .1) (c .bit3 .ensures) (test-read ltZ w32 _ _ (c .before .before .before .fits .x) (c .before .before .before .fits .y))
+returns-3 c = answer _ _ _ (c .before .enum-told3 .given .1) (c .bit3 .ensures) (read-both ltZ w32 _ _ (c .before .before .before .fits .x) (c .before .before .before .fits .y))
 
 returns-4 : tie.Need-returns-4
 unfolding holds
-returns-4 c = answer _ _ _ (c .before .enum-told4 .given .1) (c .bit4 .ensures) (test-read leZ w32 _ _ (c .before .before .before .fits .x) (c .before .before .before .fits .y))
+returns-4 c = answer _ _ _ (c .before .enum-told4 .given .1) (c .bit4 .ensures) (read-both leZ w32 _ _ (c .before .before .before .fits .x) (c .before .before .before .fits .y))
 
 returns-5 : tie.Need-returns-5
 unfolding holds
-returns-5 c = answer _ _ _ (c .before .enum-told5 .given .1) (c .bit5 .ensures) (test-read ltZ w32 _ _ (c .before .before .before .fits .y) (c .before .before .before .fits .x))
+returns-5 c = answer _ _ _ (c .before .enum-told5 .given .1) (c .bit5 .ensures) (read-both ltZ w32 _ _ (c .before .before .before .fits .y) (c .before .before .before .fits .x))
 
 returns-6 : tie.Need-returns-6
 unfolding holds
-returns-6 c = answer _ _ _ (c .before .enum-told6 .given .1) (c .bit6 .ensures) (test-read leZ w32 _ _ (c .before .before .before .fits .y) (c .before .before .before .fits .x))
+returns-6 c = answer _ _ _ (c .before .enum-told6 .given .1) (c .bit6 .ensures) (read-both leZ w32 _ _ (c .before .before .before .fits .y) (c .before .before .before .fits .x))
 
 pub compare-spec : {M : Type 1} → statement M
 compare-spec =

@@ -8,18 +8,18 @@ use mir.Val.{SFits}
 use borrow.Author.Needs.{needs}
 use Rattle.numbers.specs.declared.Range.{Range}
 use Rattle.numbers.specs.Numbers.{within}
-use Rattle.numbers.proofs.SignedLaws.{read, test-read}
+use Rattle.numbers.proofs.SignedLaws.{read, read-both}
 use Rattle.numbers.proofs.within.Statement.{statement}
 use Rattle.numbers.proofs.within.Tie as tie
 
 module _ (r : Range) (z : ℤ) (h : SFits w64 (r .low)) (k : SFits w64 z) where
   from-low : SFits w64 (r .high) → leZ (read w64 (r .low)) (read w64 z) ≡ true → leZ (read w64 z) (read w64 (r .high)) ≡ within r z
   from-low g t =
-      test-read leZ w64 z (r .high) k g
-      ∙ ap (λ b. cond b (leZ z (r .high)) false) (sym t ∙ test-read leZ w64 (r .low) z h k)
+      read-both leZ w64 z (r .high) k g
+      ∙ ap (λ b. cond b (leZ z (r .high)) false) (sym t ∙ read-both leZ w64 (r .low) z h k)
 
   below-low : leZ (read w64 (r .low)) (read w64 z) ≡ false → leZ (read w64 (r .low)) (read w64 z) ≡ within r z
-  below-low t = t ∙ ap (λ b. cond b (leZ z (r .high)) false) (sym t ∙ test-read leZ w64 (r .low) z h k)
+  below-low t = t ∙ ap (λ b. cond b (leZ z (r .high)) false) (sym t ∙ read-both leZ w64 (r .low) z h k)
 
 returns : tie.Need-returns
 returns c =
