@@ -1,3 +1,4 @@
 pub mod Try
 pub mod Cells
+pub mod Answers
 pub mod Order

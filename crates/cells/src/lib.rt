@@ -1,5 +1,9 @@
 // Cells, and the operations on them. The meaning is in specs/.
 use numbers::Comparison;
+ghost use mathlib.Core.Path.{_≡_};
+ghost use Rattle.numbers.specs.Numbers.{wrap};
+ghost use Rattle.cells.specs.Cells.{number, unknown, calculate₁, calculate₂, operate₁, operate₂, condition, block};
+ghost use Rattle.cells.specs.Answers.{ofOperand, ofTested, ofHandled};
 
 // "A cell holds a number, an unknown number or a block handle."
 pub enum Value {
@@ -31,4 +35,119 @@ pub enum Condition {
     IsZero,
     IsNonzero,
     IsUnknown,
+}
+
+// What an operation gives.
+pub enum Operand {
+    Is(Cell),
+    Stuck,
+}
+
+// What a test of a cell gives.
+pub enum Tested {
+    Is(Condition),
+    Stuck,
+}
+
+// The block that a cell is a handle of.
+pub enum Handled {
+    Block(u8),
+    Stuck,
+}
+
+pub fn number(n: i32) -> Cell
+    ensures { λ r. ⌜ r ≡ number n ⌝ }
+{
+    Cell {
+        value: Value::Number(n),
+    }
+}
+
+pub fn unknown() -> Cell
+    ensures { λ r. ⌜ r ≡ unknown ⌝ }
+{
+    Cell {
+        value: Value::Unknown,
+    }
+}
+
+// The wrapped result of an operation on numbers.
+fn calculate1(u: Unary, i: i32, n: i32) -> i32
+    ensures { λ r. ⌜ r ≡ wrap (calculate₁ u i n) ⌝ }
+{
+    match u {
+        Unary::Offset => numbers::wrapping_add(n, i),
+        Unary::Negate => numbers::negate(n),
+        Unary::Complement => numbers::wrapping_sub(1, n),
+    }
+}
+
+fn calculate2(b: Binary, m: i32, n: i32) -> i32
+    ensures { λ r. ⌜ r ≡ wrap (calculate₂ b m n) ⌝ }
+{
+    match b {
+        Binary::Add => numbers::wrapping_add(m, n),
+        Binary::Subtract => numbers::wrapping_sub(m, n),
+        Binary::Compare(c) => numbers::compare(c, m, n),
+    }
+}
+
+// "Arithmetic or comparison with an unknown gives an unknown"; with a handle it is stuck.
+pub fn operate1(u: Unary, i: i32, a: Cell) -> Operand
+    ensures { λ r. ⌜ ofOperand r ≡ operate₁ u i a ⌝ }
+{
+    let value = a.value;
+    match value {
+        Value::Number(n) => Operand::Is(number(calculate1(u, i, n))),
+        Value::Unknown => Operand::Is(unknown()),
+        Value::Handle(_) => Operand::Stuck,
+    }
+}
+
+pub fn operate2(b: Binary, a: Cell, c: Cell) -> Operand
+    ensures { λ r. ⌜ ofOperand r ≡ operate₂ b a c ⌝ }
+{
+    let left = a.value;
+    let right = c.value;
+    match left {
+        Value::Number(m) => match right {
+            Value::Number(n) => Operand::Is(number(calculate2(b, m, n))),
+            Value::Unknown => Operand::Is(unknown()),
+            Value::Handle(_) => Operand::Stuck,
+        },
+        Value::Unknown => match right {
+            Value::Number(_) => Operand::Is(unknown()),
+            Value::Unknown => Operand::Is(unknown()),
+            Value::Handle(_) => Operand::Stuck,
+        },
+        Value::Handle(_) => Operand::Stuck,
+    }
+}
+
+// The branch condition of a cell.
+pub fn condition_of(a: Cell) -> Tested
+    ensures { λ r. ⌜ ofTested r ≡ condition a ⌝ }
+{
+    let value = a.value;
+    match value {
+        Value::Number(n) => {
+            if n == 0 {
+                Tested::Is(Condition::IsZero)
+            } else {
+                Tested::Is(Condition::IsNonzero)
+            }
+        }
+        Value::Unknown => Tested::Is(Condition::IsUnknown),
+        Value::Handle(_) => Tested::Stuck,
+    }
+}
+
+pub fn block(a: Cell) -> Handled
+    ensures { λ r. ⌜ ofHandled r ≡ block a ⌝ }
+{
+    let value = a.value;
+    let Value::Handle(k) = value else {
+        return Handled::Stuck;
+    };
+    Handled::Block(k)
 }

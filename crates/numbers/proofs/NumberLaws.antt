@@ -16,10 +16,10 @@ residue-fits : (z : ℤ) → residue z < modulus
 residue-fits (pos n) = mod-lt n (omega arith)
 residue-fits (negsuc n) = omega arith
 
-signed-low : (r : ℕ) → r < half → signed r ≡ pos r
+pub signed-low : (r : ℕ) → r < half → signed r ≡ pos r
 signed-low r h = ap (λ t. cond t (pos r) (negsuc (modulus - suc r))) (lt-ltb r half h)
 
-signed-high : (r : ℕ) → half ≤ r → signed r ≡ negsuc (modulus - suc r)
+pub signed-high : (r : ℕ) → half ≤ r → signed r ≡ negsuc (modulus - suc r)
 signed-high r h = ap (λ t. cond t (pos r) (negsuc (modulus - suc r))) (le-ltb r half h)
 
 -- a remainder is below half or not

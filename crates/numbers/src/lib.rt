@@ -1,4 +1,9 @@
 // Signed numbers of 32 bits that wrap. The meaning is in specs/.
+ghost use mathlib.Core.Path.{_≡_};
+ghost use Prim.Native.Nat.{_<_};
+ghost use lib.IntN.{negℤ, _+ℤ_, _-ℤ_};
+ghost use lib.Signed.{mag};
+ghost use Rattle.numbers.specs.Numbers.{modulus, wrap, holds, bit, within};
 
 // "EQ, NEQ, LTINT, LEINT, GTINT, GEINT"
 pub enum Comparison {
@@ -14,4 +19,66 @@ pub enum Comparison {
 pub struct Range {
     pub low: i64,
     pub high: i64,
+}
+
+// The number that a sum or a difference of two numbers wraps to.
+pub fn narrow(s: i64) -> i32
+    requires { ⌜ mag s < modulus ⌝ }
+    ensures { λ r. ⌜ r ≡ wrap s ⌝ }
+{
+    if s > 2147483647 {
+        return (s - 4294967296) as i32;
+    }
+    if s < -2147483648 {
+        return (s + 4294967296) as i32;
+    }
+    s as i32
+}
+
+pub fn wrapping_add(x: i32, y: i32) -> i32
+    ensures { λ r. ⌜ r ≡ wrap (x +ℤ y) ⌝ }
+{
+    narrow((x as i64) + (y as i64))
+}
+
+pub fn wrapping_sub(x: i32, y: i32) -> i32
+    ensures { λ r. ⌜ r ≡ wrap (x -ℤ y) ⌝ }
+{
+    narrow((x as i64) - (y as i64))
+}
+
+// Exact at both ends of the range: only the lowest number has no negative, and it wraps to itself.
+pub fn negate(x: i32) -> i32
+    ensures { λ r. ⌜ r ≡ wrap (negℤ x) ⌝ }
+{
+    if x == -2147483648 {
+        return wrapping_sub(0, x);
+    }
+    -x
+}
+
+fn bit(b: bool) -> i32
+    ensures { λ r. ⌜ r ≡ bit b ⌝ }
+{
+    if b { 1 } else { 0 }
+}
+
+// "comparisons are signed and give 1 or 0"
+pub fn compare(c: Comparison, x: i32, y: i32) -> i32
+    ensures { λ r. ⌜ r ≡ bit (holds c x y) ⌝ }
+{
+    match c {
+        Comparison::Equal => bit(x == y),
+        Comparison::Unequal => bit(x != y),
+        Comparison::Less => bit(x < y),
+        Comparison::AtMost => bit(x <= y),
+        Comparison::Greater => bit(x > y),
+        Comparison::AtLeast => bit(x >= y),
+    }
+}
+
+pub fn within(range: Range, z: i64) -> bool
+    ensures { λ r. ⌜ r ≡ within range z ⌝ }
+{
+    range.low <= z && z <= range.high
 }

@@ -1,0 +1,30 @@
+-- What the code's operations give is what their definitions give. Assumes nothing.
+use mathlib.Core.Path.{_≡_, sym, ap, _∙_}
+use lib.IntN.{ℤ}
+use mir.Syntax.{w32}
+use Rattle.numbers.specs.Numbers.{wrap}
+use Rattle.numbers.proofs.NumberLaws.{wrap-number, wrap-keeps}
+use Rattle.numbers.proofs.SignedLaws.{read, wrapped-read}
+use Rattle.cells.specs.declared.Value.{Value}
+use Rattle.cells.specs.declared.Value.the-variants.{Number}
+use Rattle.cells.specs.declared.Cell.{Cell}
+use Rattle.cells.specs.declared.Unary.{Unary}
+use Rattle.cells.specs.declared.Binary.{Binary}
+use Rattle.cells.specs.Cells.{cell, number, calculate₁, calculate₂, map₁, map₂, operate₁, operate₂}
+use Rattle.cells.specs.Try.{Try, done}
+
+-- r is the wrapped result of the operation d
+pub calculated : {D : Type 0} (f : D → ℤ) (d : D) {e : D} {r m : ℤ} → d ≡ e → r ≡ wrap m → m ≡ f e → read w32 r ≡ wrap (f d)
+calculated f d {r = r} {m = m} p q g = wrapped-read m r (sym q) ∙ ap wrap (g ∙ ap f (sym p))
+
+-- c is the cell of such a result
+pub entered : (n : ℤ) {r : ℤ} {c : Cell} → r ≡ wrap n → c ≡ number (read w32 r) → done c ≡ done (number n)
+entered n {r = r} q p = ap done (p ∙ ap number (wrapped-read n r (sym q)) ∙ ap (λ z. cell (Number z)) (wrap-keeps (wrap n) (wrap-number n)))
+
+pub operated₁ : (u : Unary) (i : ℤ) (a : Cell) {v : Value} {m : Try Cell} → a .value ≡ v → m ≡ map₁ (calculate₁ u i) v → m ≡ operate₁ u i a
+unfolding operate₁
+operated₁ u i a p e = e ∙ ap (map₁ (calculate₁ u i)) (sym p)
+
+pub operated₂ : (b : Binary) (a c : Cell) {v w : Value} {m : Try Cell} → a .value ≡ v → c .value ≡ w → m ≡ map₂ (calculate₂ b) v w → m ≡ operate₂ b a c
+unfolding operate₂
+operated₂ b a c {w = w} p q e = e ∙ ap (λ v. map₂ (calculate₂ b) v w) (sym p) ∙ ap (map₂ (calculate₂ b) (a .value)) (sym q)

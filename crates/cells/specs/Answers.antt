@@ -1,0 +1,23 @@
+-- What the code's answers stand for.
+use Prim.Native.Nat.{ℕ}
+use Rattle.cells.specs.declared.Cell.{Cell}
+use Rattle.cells.specs.declared.Condition.{Condition}
+use Rattle.cells.specs.declared.Operand.{Operand}
+use Rattle.cells.specs.declared.Operand.the-variants as operand
+use Rattle.cells.specs.declared.Tested.{Tested}
+use Rattle.cells.specs.declared.Tested.the-variants as tested
+use Rattle.cells.specs.declared.Handled.{Handled}
+use Rattle.cells.specs.declared.Handled.the-variants as handled
+use Rattle.cells.specs.Try.{Try, stuck, done}
+
+abbrev pub ofOperand : Operand → Try Cell
+ofOperand (operand.Is c) = done c
+ofOperand operand.Stuck = stuck
+
+abbrev pub ofTested : Tested → Try Condition
+ofTested (tested.Is c) = done c
+ofTested tested.Stuck = stuck
+
+abbrev pub ofHandled : Handled → Try ℕ
+ofHandled (handled.Block k) = done k
+ofHandled handled.Stuck = stuck
