@@ -1,26 +1,22 @@
 -- The explorer's loop, apart from its code: what holds at each turn, and what each way out of a turn shows. Over any action on states
 -- whose openings have one price. Assumes nothing.
 use mathlib.Core.Path.{_≡_, refl, sym, subst, _∙_, ap}
-use mathlib.Core.Bool.{Bool, true, false, cond}
-use mathlib.Core.List.{List, [], _∷_}
-use mathlib.Core.Option.{Option, some}
-use Prim.Native.Nat.{ℕ, zero, suc, _+_, _-_, _*_, max, _≤_, _<_}
+use mathlib.Core.Option.{some}
+use Prim.Native.Nat.{ℕ, suc, _+_, _-_, max, _≤_, _<_}
 use native.Mathlib.Omega.{arith}
-use lib.Dec.{leb}
-use borrow.Author.Tests.{leb-true, leb-false, le-leb, lt-leb}
 use Rattle.refusals.specs.declared.Refusal.{Refusal}
 use Rattle.refusals.specs.declared.Refusal.the-variants as refusals
 use Rattle.cells.specs.Try.{Try, stuck, done}
-use Rattle.machine.specs.Machine.{State, height, Price, Next, stops, goes, opens}
-use Rattle.bounds.specs.Tree.{Decision, N, T, worse, Report, accepted, refused, explore}
+use Rattle.machine.specs.Machine.{State, height, Price, Next, stops, goes}
+use Rattle.bounds.specs.Tree.{Report, accepted, refused, explore}
 use Rattle.bounds.specs.Tree as bounds
-use Rattle.bounds.proofs.ExploreLaws.{before, join, joined, both-ways, explore-spent, explore-stuck, explore-stops, explore-goes, explore-over, explore-opens}
+use Rattle.bounds.proofs.ExploreLaws.{before, explore-stuck, explore-stops, explore-goes}
 use Rattle.explore.specs.declared.Verdict.{Verdict}
-use Rattle.explore.specs.declared.Verdict.the-variants.{Accepted, Stuck, Openings, Spent}
+use Rattle.explore.specs.declared.Verdict.the-variants.{Accepted, Stuck}
 use Rattle.explore.specs.declared.Found.{Found}
 use Rattle.explore.specs.declared.Tally.{Tally}
-use Rattle.explore.specs.Found.{encode, refusalOf, acceptedAs, Shows, moreOf, decidedOf, joinedOf, finishedOf, refusedAs}
-use Rattle.explore.proofs.UsedLaws.{used, used-spent, used-stuck, used-stops, used-goes, used-over, used-first, used-both}
+use Rattle.explore.specs.Found.{encode, refusalOf, acceptedAs, Shows, moreOf, finishedOf, refusedAs}
+use Rattle.explore.proofs.UsedLaws.{used, used-stuck, used-stops, used-goes}
 
 -- n steps of a tally before what follows
 unfoldable pub shift : Tally → ℕ → bounds.Verdict → bounds.Verdict

@@ -7,9 +7,9 @@ use lib.ListN.{take, length}
 use Rattle.refusals.specs.declared.Refusal.{Refusal}
 use Rattle.cells.specs.Try.{Try, stuck, done}
 use Rattle.machine.specs.Machine.{State, Price, Next, stops, goes, opens}
-use Rattle.bounds.specs.Tree.{Tree, expand, tree, size, Step, made, not-made, steps, Report, report, accepted, refused, judge, verdict}
+use Rattle.bounds.specs.Tree.{expand, tree, Step, made, not-made, steps, Report, report, accepted, refused, judge, verdict}
 use Rattle.bounds.specs.Tree as bounds
-use Rattle.bounds.proofs.TreeLaws.{Complete, steps-size, accepted-complete}
+use Rattle.bounds.proofs.TreeLaws.{steps-size, accepted-complete}
 use Rattle.bounds.proofs.PrefixLaws.{tree-prefix}
 use Rattle.explore.specs.Found.{walked}
 

@@ -5,26 +5,20 @@ use Prim.Native.Nat.{ℕ}
 use lib.IntN.{ℤ, pos, negsuc}
 use Rattle.text.specs.Text.{bytes, find, equals}
 use Rattle.numbers.specs.Numbers.{wrap, holds}
-use Rattle.cells.specs.Try.{Try, stuck, done, _>>=_}
+use Rattle.cells.specs.Try.{stuck, done, _>>=_}
 use Rattle.cells.specs.declared.Cell.{Cell}
 use Rattle.cells.specs.Cells.{number, unknown, handle, calculate₁, calculate₂, map₁, map₂, operate₁, operate₂, test, condition, handled, block}
-use Rattle.instructions.specs.Kinds.{Kind, kinds, kindNames, operand}
+use Rattle.instructions.specs.Kinds.{kinds, kindNames, operand}
+use Rattle.instructions.specs.Columns.{kindAt}
 use Rattle.machine.specs.Lists.{nth, put, without}
-use Rattle.machine.specs.Machine.{State, Price, Code, fetch, goes, opens, height, jump, load, restack, store, push, pop, getField, setField, advance, ahead, ways, opposite, perform, prepare, execute, step}
+use Rattle.machine.specs.Machine.{instruction, State, Price, Code, fetch, goes, opens, height, jump, load, restack, store, push, pop, getField, setField, advance, ahead, ways, opposite, perform, prepare, execute, step}
 
 -- one instruction of the kind that is named, with its argument, at address 5 and at the price of 3 cycles
 abbrev price : Price
 price = record { cycles = 3; words = 1 }
 
-abbrev operandOf : Try Kind → ℤ → ℤ
-operandOf stuck a = a
-operandOf (done k) a = operand k a
-
 abbrev one : List ℕ → ℤ → Code
-one name a = record {
-  first = 5;
-  instructions = record { kind = find name kindNames; operand = operandOf (nth (find name kindNames) kinds) a; price = price } ∷ [];
-}
+one name a = record { first = 5; instructions = instruction (kindAt (find name kindNames)) a price ∷ [] }
 
 abbrev state : ℕ → Cell → List Cell → State
 state a c cs = record { at = a; accu = c; stack = cs; blocks = (number (pos 8) ∷ unknown ∷ []) ∷ [] }
@@ -48,5 +42,5 @@ pub examples :
     × (step (one (bytes "STOP") (pos 0)) unknown (state 4 unknown []) ≡ stuck)
     × (step (one (bytes "GETFIELD2") (pos 0)) unknown (state 5 (handle 0) []) ≡ stuck)
     × (step (one (bytes "ADDINT") (pos 0)) unknown (state 5 (handle 0) (unknown ∷ [])) ≡ stuck)
-unfolding equals find kindNames wrap holds _>>=_ calculate₁ calculate₂ map₁ map₂ operate₁ operate₂ test condition handled block kinds operand nth put without fetch height jump load restack store push pop getField setField advance ahead ways opposite perform prepare execute step
+unfolding equals find kindNames wrap holds _>>=_ calculate₁ calculate₂ map₁ map₂ operate₁ operate₂ test condition handled block kinds operand kindAt instruction nth put without fetch height jump load restack store push pop getField setField advance ahead ways opposite perform prepare execute step
 examples = (refl, refl, refl, refl, refl, refl, refl, refl, refl, refl, refl, refl)

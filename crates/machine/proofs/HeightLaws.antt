@@ -13,7 +13,6 @@ use Rattle.cells.specs.declared.Cell.{Cell}
 use Rattle.cells.specs.Cells.{condition, operate₁, operate₂, block}
 use Rattle.cells.specs.declared.Condition.{Condition}
 use Rattle.cells.specs.declared.Condition.the-variants.{IsZero, IsNonzero, IsUnknown}
-use Rattle.instructions.specs.Kinds.{kinds}
 use Rattle.instructions.specs.declared.Operation.{Operation}
 use Rattle.instructions.specs.declared.Operation.the-variants.{Nothing, Access, Drop, Assign, Constant, GetField, SetField, Branch, BranchIf, BranchIfNot, Call, Stop, Alter, Combine}
 use Rattle.machine.specs.Lists.{nth, put, without}
@@ -144,9 +143,8 @@ step-gives : (c : Code) (r : Cell) (s : State) → Low s → Gives LowNext (step
 unfolding step execute
 step-gives c r s h =
     bind (any (fetch c (s .at))) (λ i u.
-    bind (any (nth (i .kind) kinds)) (λ k v.
-    bind (prepare-low (k .pushes) s h) (λ t l.
-    perform-low (i .price) r (k .operation) (i .operand) t l)))
+    bind (prepare-low (i .pushes) s h) (λ t l.
+    perform-low (i .price) r (i .operation) (i .operand) t l))
 
 gives : {P : Next → Type 0} {m : Try Next} {n : Next} → m ≡ done n → Gives P m → P n
 gives {P} e g = out (rw e at g)

@@ -1,5 +1,5 @@
 -- An operation is its outcome, resumed: what the run and the explorer do to their states is `perform`. Assumes nothing.
-use mathlib.Core.Path.{_≡_, refl, sym, ap, _∙_}
+use mathlib.Core.Path.{_≡_, refl}
 use mathlib.Core.Bool.{Bool, true, false, cond}
 use mathlib.Core.List.{List, [], _∷_}
 use Prim.Native.Nat.{ℕ, zero, suc, _≤_, _<_}
@@ -20,7 +20,7 @@ use Rattle.instructions.specs.declared.Operation.the-variants.{Nothing, Access,
 use Rattle.machine.specs.declared.Outcome.{Outcome}
 use Rattle.machine.specs.declared.Outcome.the-variants.{Gives, Stores, Sets, Stuck}
 use Rattle.machine.specs.Lists.{nth, put, without}
-use Rattle.machine.specs.Machine.{State, height, Price, Next, goes, index, load, restack, pop, setField, advance, ahead, ways, opposite, perform}
+use Rattle.machine.specs.Machine.{State, height, Price, index, load, restack, pop, setField, ahead, ways, opposite, perform}
 use Rattle.machine.specs.Outcome.{entryOf, drops, given, branching, outcome, resume}
 
 -- entries by their number, where they are and where they are not
@@ -140,14 +140,14 @@ module _ (p : Price) (r : Cell) (i : ℤ) (s : State) (d : Cell) where
       go stuck = refl
       go (done c) = refl
 
-  branch-is : (m : Try Condition) → (m >>= λ x. done (ways p (index i) s x)) ≡ resume p BranchIf i s (branching (s .accu) m)
+  branch-is : (m : Try Condition) → (m >>= λ x. done (ways p (index i) s x)) ≡ resume p BranchIf i s (branching false (s .accu) m)
   unfolding ways resume branching drops _>>=_ restack load
   branch-is stuck = refl
   branch-is (done IsZero) = refl
   branch-is (done IsNonzero) = refl
   branch-is (done IsUnknown) = refl
 
-  branch-not-is : (m : Try Condition) → (m >>= λ x. done (ways p (index i) s (opposite x))) ≡ resume p BranchIfNot i s (branching (s .accu) (m >>= λ x. done (opposite x)))
+  branch-not-is : (m : Try Condition) → (m >>= λ x. done (ways p (index i) s (opposite x))) ≡ resume p BranchIfNot i s (branching true (s .accu) m)
   unfolding ways opposite resume branching drops _>>=_ restack load
   branch-not-is stuck = refl
   branch-not-is (done IsZero) = refl

@@ -7,10 +7,8 @@ use Rattle.cells.specs.declared.Cell.{Cell}
 use Rattle.cells.specs.Cells.{condition}
 use Rattle.cells.specs.declared.Condition.{Condition}
 use Rattle.cells.specs.declared.Condition.the-variants.{IsZero, IsNonzero, IsUnknown}
-use Rattle.instructions.specs.Kinds.{kinds}
 use Rattle.instructions.specs.declared.Operation.{Operation}
 use Rattle.instructions.specs.declared.Operation.the-variants.{Nothing, Access, Drop, Assign, Constant, GetField, SetField, Branch, BranchIf, BranchIfNot, Call, Stop, Alter, Combine}
-use Rattle.machine.specs.Lists.{nth}
 use Rattle.machine.specs.Machine.{index, State, Price, Instruction, Code, fetch, Next, stops, goes, opens, ahead, ways, opposite, perform, prepare, execute, step}
 
 pub data OnePrice (P : Price → Type 0) : Try Next → Type 0 where
@@ -56,9 +54,8 @@ module _ (P : Price → Type 0) where
   unfolding step execute
   step-price c h r s =
       then (fetch c (s .at)) (λ i e.
-      then (nth (i .kind) kinds) (λ k f.
-      then (prepare (k .pushes) s) (λ t g.
-      perform-price (i .price) (h (s .at) i e) r (k .operation) (i .operand) t)))
+      then (prepare (i .pushes) s) (λ t g.
+      perform-price (i .price) (h (s .at) i e) r (i .operation) (i .operand) t))
 
 -- both ways of an unknown branch
 one-price : {P : Price → Type 0} {m : Try Next} {p q : Price} {t u : State} → m ≡ done (opens p t q u) → OnePrice P m → p ≡ q

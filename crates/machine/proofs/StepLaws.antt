@@ -10,10 +10,8 @@ use Rattle.cells.specs.declared.Cell.{Cell}
 use Rattle.cells.specs.declared.Condition.{Condition}
 use Rattle.cells.proofs.Covering.{Covered, both, bind, covered-equal, Narrower, zeros, nonzeros, zero-unknown, nonzero-unknown, unknowns}
 use Rattle.cells.proofs.CellLaws.{Lawful}
-use Rattle.instructions.specs.Kinds.{Kind, kinds}
 use Rattle.instructions.specs.declared.Operation.{Operation}
 use Rattle.instructions.specs.declared.Operation.the-variants.{Nothing, Access, Drop, Assign, Constant, GetField, SetField, Branch, BranchIf, BranchIfNot, Call, Stop, Alter, Combine}
-use Rattle.machine.specs.Lists.{nth}
 use Rattle.machine.specs.Machine.{index, State, Price, Instruction, Code, fetch, getField, setField, ahead, ways, opposite, perform, prepare, execute, step}
 use Rattle.machine.specs.Order.{Cellwise}
 use Rattle.machine.proofs.NextCovering.{NextCovered, stops-too, goes-too, opens-too, goes-not-taken, goes-taken}
@@ -89,15 +87,12 @@ module _ {R : Cell → Cell → Type 0} {two : Type 0} (L : Lawful R two) where
   prepare-law true e = push-law e
   prepare-law false e = both e
 
-  execute-law : {r r′ : Cell} (i : Instruction) (k : Kind) {s t : State} → R r r′ → Cellwise R s t →
-      Covered (NextCovered (Cellwise R) two) (execute r i k s) (execute r′ i k t)
+  execute-law : {r r′ : Cell} (i : Instruction) {s t : State} → R r r′ → Cellwise R s t → Covered (NextCovered (Cellwise R) two) (execute r i s) (execute r′ i t)
   unfolding execute
-  execute-law i k h e = bind (prepare-law (k .pushes) e) (λ s t f. perform-law (i .price) (k .operation) (i .operand) h f)
+  execute-law i h e = bind (prepare-law (i .pushes) e) (λ s t f. perform-law (i .price) (i .operation) (i .operand) h f)
 
   pub step-law : (c : Code) {r r′ : Cell} {s t : State} → R r r′ → Cellwise R s t → Covered (NextCovered (Cellwise R) two) (step c r s) (step c r′ t)
   unfolding step
   step-law c h e =
       bind (covered-equal (ap (λ a. fetch c a) (e .at))) (λ i i′ f.
-      rw f
-      (bind (covered-equal {m = nth (i′ .kind) kinds} refl) (λ k k′ g.
-      rw g (execute-law i′ k′ h e))))
+      rw f (execute-law i′ h e))

@@ -10,7 +10,7 @@ use Rattle.cells.specs.declared.Cell.{Cell}
 use Rattle.cells.specs.Cells.{number, operate₁, operate₂, condition, block}
 use Rattle.cells.specs.declared.Condition.{Condition}
 use Rattle.cells.specs.declared.Condition.the-variants.{IsZero, IsNonzero, IsUnknown}
-use Rattle.instructions.specs.Kinds.{calls, Kind, kinds}
+use Rattle.instructions.specs.Kinds.{calls, Kind, operand}
 use Rattle.instructions.specs.declared.Argument.{Argument}
 use Rattle.instructions.specs.declared.Argument.the-variants.{Absent, Target, Primitive, Within}
 use Rattle.instructions.specs.declared.Operation.{Operation}
@@ -36,11 +36,17 @@ pub record Price : Type 0 where
   pub cycles : ℕ
   pub words : ℕ
 
--- an instruction of the code: its kind's place in the table, its operand, what it costs
+-- an instruction of the code, as its kind and its argument say: whether it pushes first, its operation and operand, whether it calls a
+-- primitive and so takes an answer, what it costs
 pub record Instruction : Type 0 where
-  pub kind : ℕ
+  pub pushes : Bool
+  pub operation : Operation
   pub operand : ℤ
+  pub calls : Bool
   pub price : Price
+
+unfoldable pub instruction : Kind → ℤ → Price → Instruction
+instruction k a p = record { pushes = k .pushes; operation = k .operation; operand = operand k a; calls = calls (k .argument); price = p }
 
 -- prices by place: of the kinds in the table, of the primitives on their line
 pub record Prices : Type 0 where
@@ -159,20 +165,17 @@ unfoldable pub prepare : Bool → State → Try State
 prepare true s = push s
 prepare false s = done s
 
-unfoldable pub execute : Cell → Instruction → Kind → State → Try Next
-execute r i k s = prepare (k .pushes) s >>= λ t. perform (i .price) r (k .operation) (i .operand) t
+unfoldable pub execute : Cell → Instruction → State → Try Next
+execute r i s = prepare (i .pushes) s >>= λ t. perform (i .price) r (i .operation) (i .operand) t
 
 -- one step from s, where a C_CALL gets the answer r: unknown in the bound, a number in a run
 unfoldable pub step : Code → Cell → State → Try Next
-step c r s =
-    fetch c (s .at) >>= λ i.
-    nth (i .kind) kinds >>= λ k.
-    execute r i k s
+step c r s = fetch c (s .at) >>= λ i. execute r i s
 
 -- whether the step from s takes an answer
-unfoldable pub takes : Try Kind → Bool
+unfoldable pub takes : Try Instruction → Bool
 takes stuck = false
-takes (done k) = calls (k .argument)
+takes (done i) = i .calls
 
 unfoldable pub takesAnswer : Code → State → Bool
-takesAnswer c s = takes (fetch c (s .at) >>= λ i. nth (i .kind) kinds)
+takesAnswer c s = takes (fetch c (s .at))

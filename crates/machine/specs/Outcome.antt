@@ -1,7 +1,7 @@
 -- What an operation comes to before the state is changed, in the code's own type: the run and the explorer share it, and each changes its
 -- own state and blocks.
 use Prim.Native.Nat.{ℕ}
-use mathlib.Core.Bool.{cond}
+use mathlib.Core.Bool.{Bool, true, false, cond}
 use mathlib.Core.List.{List, [], _∷_}
 use lib.Dec.{leb, ltb}
 use lib.IntN.{ℤ, pos}
@@ -68,12 +68,14 @@ unfoldable pub given : Try Cell → Outcome
 given stuck = Stuck
 given (done c) = Gives c
 
--- a conditional branch that jumps on non-zero, with the accumulator a
-unfoldable pub branching : Cell → Try Condition → Outcome
-branching a stuck = Stuck
-branching a (done IsZero) = Gives a
-branching a (done IsNonzero) = Goes
-branching a (done IsUnknown) = Opens
+-- a conditional branch that jumps on zero or on non-zero, with the accumulator a
+unfoldable pub branching : Bool → Cell → Try Condition → Outcome
+branching z a stuck = Stuck
+branching true a (done IsZero) = Goes
+branching false a (done IsZero) = Gives a
+branching true a (done IsNonzero) = Gives a
+branching false a (done IsNonzero) = Goes
+branching z a (done IsUnknown) = Opens
 
 -- an operation with operand i and answer r, on a stack of height h, with the accumulator a and the entry e that it looks at
 unfoldable pub outcome : Operation → ℤ → Cell → ℕ → Cell → Cell → Outcome
@@ -85,8 +87,8 @@ outcome Constant i r h a e = Gives (number i)
 outcome GetField i r h a e = Gets
 outcome SetField i r h a e = cond (ltb 0 h) (Sets e) Stuck
 outcome Branch i r h a e = Goes
-outcome BranchIf i r h a e = branching a (condition a)
-outcome BranchIfNot i r h a e = branching a (condition a >>= λ x. done (opposite x))
+outcome BranchIf i r h a e = branching false a (condition a)
+outcome BranchIfNot i r h a e = branching true a (condition a)
 outcome Call i r h a e = cond (leb (index i) h) (Gives r) Stuck
 outcome Stop i r h a e = Halts
 outcome (Alter u) i r h a e = given (operate₁ u i a)

@@ -8,6 +8,8 @@ use Rattle.cells.specs.Try.{Try, stuck, done, _>>=_}
 use Rattle.cells.specs.declared.Cell.{Cell}
 use Rattle.cells.specs.Cells.{block}
 use Rattle.machine.specs.declared.State as code
+use Rattle.machine.specs.declared.Slot.{Slot}
+use Rattle.machine.specs.declared.Slot.the-variants.{At, Lacks}
 use Rattle.machine.specs.Machine.{State}
 
 -- the state without its blocks
@@ -27,3 +29,8 @@ slot ns a n = block a >>= λ k. cond (ltb k (length ns)) (cond (ltb n (getD ns k
 pub record Fits (ns : List ℕ) (fs : List Cell) : Type 0 where
   pub few : (k : ℕ) → getD ns k 0 ≤ 16
   pub room : length ns * 16 ≤ length fs
+
+-- what the code's answer stands for
+abbrev pub ofSlot : Slot → Try ℕ
+ofSlot (At j) = done j
+ofSlot Lacks = stuck

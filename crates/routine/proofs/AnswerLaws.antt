@@ -11,7 +11,7 @@ use lib.Seq.{take-append-le, drop-append-le}
 use Rattle.text.specs.Text.{Line}
 use Rattle.routine.specs.Layout.{Section, Role, layout, isAnswer, body, upToAnswer, codeLines, list, tag, textAt, listed}
 use Rattle.routine.specs.Rows.{firstAt}
-use Rattle.routine.specs.Routine.{Routine, limitAt, priceAt, prices, instruction, codeOf, cellsOf, startOf, routineOf}
+use Rattle.routine.specs.Routine.{Routine, limitAt, priceAt, prices, instructionOf, codeOf, cellsOf, startOf, routineOf}
 
 -- the two routines differ in their answers at most
 abbrev pub SameButAnswers : Routine → Routine → Type 0
@@ -47,8 +47,8 @@ module _ (ls ms : List Line) (e : take (length layout) ls ≡ take (length layou
   unfolding prices
   same-prices = simp (same-listed, same-price)
 
-  same-instruction : (text : List ℕ) → instruction ls text ≡ instruction ms text
-  unfolding instruction
+  same-instruction : (text : List ℕ) → instructionOf ls text ≡ instructionOf ms text
+  unfolding instructionOf
   same-instruction text = simp (same-listed, same-prices)
 
   same-first : firstAt (body ls) ≡ firstAt (body ms)

@@ -14,10 +14,10 @@ use Rattle.text.proofs.TextLaws.{Every, more, every-map, every-getD, all-every,
 use Rattle.numbers.specs.Numbers.{range, within}
 use Rattle.instructions.specs.declared.Argument.{Argument}
 use Rattle.instructions.specs.declared.Argument.the-variants.{Absent, Target, Primitive, Within}
-use Rattle.machine.specs.Machine.{Price, Prices, cost}
+use Rattle.machine.specs.Machine.{instruction, Price, Prices, cost}
 use Rattle.routine.specs.Layout.{Section, limits, kinds, primitives, cells, limit, cycles, words-column, cell, names, values, layout, body, codeLines, list, textAt, listed}
 use Rattle.routine.specs.Rows.{cellWord, value, valueOf, cellNames, stackNames, columnInRange, columnLaidOut, inRange, laidOut, named, wellNamed}
-use Rattle.routine.specs.Routine.{natural, limitAt, priceAt, prices, instruction, codeOf, cellOf, cellsOf, startOf, routineOf}
+use Rattle.routine.specs.Routine.{natural, limitAt, priceAt, prices, instructionOf, codeOf, cellOf, cellsOf, startOf, routineOf}
 use Rattle.routine.proofs.RowLaws.{Passes, First, passes-range, passes-laid-out, passes-named, lists-path}
 
 -- a number within a range from a natural number on is natural, between the two ends
@@ -86,8 +86,8 @@ module _ (ls : List Line) (p : Passes ls) where
     words = word-small 255 (list (textAt (values s words-column) layout ls)) (passes-range p (values s words-column) g) i;
   }
 
-  instruction-small : (text : List ℕ) → AtMost 131070 510 (instruction ls text .price)
-  unfolding instruction prices
+  instruction-small : (text : List ℕ) → AtMost 131070 510 (instructionOf ls text .price)
+  unfolding instructionOf instruction prices
   instruction-small text =
       cost-small 65535 255 (prices ls)
       (λ k. price-small kinds refl refl _) (λ i. price-small primitives refl refl _) _ _ _
@@ -98,7 +98,7 @@ every-mapped f h (x ∷ xs) = more (h x) (every-mapped f h xs)
 
 pub prices-small : {ls : List Line} → Passes ls → Every (λ i. AtMost 131070 510 (i .price)) (routineOf ls .code .instructions)
 unfolding routineOf codeOf
-prices-small {ls} p = every-mapped (λ l. instruction ls (l .text)) (λ l. instruction-small ls p (l .text)) (codeLines (body ls))
+prices-small {ls} p = every-mapped (λ l. instructionOf ls (l .text)) (λ l. instruction-small ls p (l .text)) (codeLines (body ls))
 
 -- ---- the start
 

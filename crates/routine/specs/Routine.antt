@@ -3,7 +3,6 @@
 use Prim.Native.Nat.{ℕ}
 use mathlib.Core.Bool.{cond}
 use mathlib.Core.List.{List, [], _∷_, _++_, map}
-use mathlib.Core.Option.{Option, some}
 use lib.Dec.{ltb}
 use lib.IntN.{ℤ, pos, natAbs}
 use lib.ListN.{length, getD, take, drop}
@@ -13,12 +12,13 @@ use Rattle.text.specs.Text.{Line, lines, find}
 use Rattle.cells.specs.declared.Cell.{Cell}
 use Rattle.cells.specs.Cells.{number, handle}
 use Rattle.cells.specs.Cells as cells-of
-use Rattle.instructions.specs.Kinds.{Kind, kindNames, operand}
+use Rattle.instructions.specs.Kinds.{kindNames}
+use Rattle.instructions.specs.Columns.{kindAt}
 use Rattle.instructions.specs.declared.Argument.{Argument}
 use Rattle.instructions.specs.declared.Argument.the-variants.{Absent, Target, Primitive, Within}
-use Rattle.machine.specs.Machine.{State, Price, Instruction, Prices, cost, Code}
+use Rattle.machine.specs.Machine.{instruction, State, Price, Instruction, Prices, cost, Code}
 use Rattle.routine.specs.Layout.{Section, limits, kinds, primitives, cells, fields, limit, cycles, words-column, cell, names, values, body, codeLines, answerLines, listed}
-use Rattle.routine.specs.Rows.{value, CellWord, wrong, unknown, known, block, cellWord, blockSizes, kindNamed, at, op, arg, firstAt, Row, layout-row, range-row, name-row, price-row, target-row, known-row, Fault, clean, line, fault}
+use Rattle.routine.specs.Rows.{value, CellWord, wrong, unknown, known, block, cellWord, blockSizes, at, op, arg, firstAt, Row, layout-row, range-row, name-row, price-row, target-row, known-row, Fault, clean, line, fault}
 
 pub record Routine : Type 0 where
   pub budget : ℕ
@@ -57,24 +57,15 @@ argumentValue ps w Target = value w
 argumentValue ps w Primitive = pos (find w ps)
 argumentValue ps w (Within r) = value w
 
-unfoldable pub argumentKind : Option Kind → Argument
-argumentKind Option.none = Absent
-argumentKind (some k) = k .argument
-
-unfoldable pub operandOf : Option Kind → ℤ → ℤ
-operandOf Option.none v = v
-operandOf (some k) v = operand k v
-
-unfoldable pub instruction : List Line → List ℕ → Instruction
-instruction ls text =
-    let a = argumentKind (kindNamed (op text)) in
-    let k = find (op text) kindNames in
-    let v = argumentValue (listed (names primitives) ls) (arg text) a in
-    record { kind = k; operand = operandOf (kindNamed (op text)) v; price = cost (prices ls) a k v }
+unfoldable pub instructionOf : List Line → List ℕ → Instruction
+instructionOf ls text =
+    let k = kindAt (find (op text) kindNames) in
+    let v = argumentValue (listed (names primitives) ls) (arg text) (k .argument) in
+    instruction k v (cost (prices ls) (k .argument) (find (op text) kindNames) v)
 
 -- "AT starts anywhere from 0 to 60,000"
 unfoldable pub codeOf : List Line → Code
-codeOf ls = record { first = natAbs (firstAt (body ls)); instructions = map (λ l. instruction ls (l .text)) (codeLines (body ls)) }
+codeOf ls = record { first = natAbs (firstAt (body ls)); instructions = map (λ l. instructionOf ls (l .text)) (codeLines (body ls)) }
 
 -- ---- cells
 

@@ -1,0 +1,24 @@
+use borrow.Author.Needs.{needs}
+use Rattle.machine.proofs.drops_of.Statement.{statement}
+use Rattle.machine.proofs.drops_of.Tie as tie
+use Rattle.machine.proofs.drops_of.Reads as reads
+use Rattle.machine.proofs.drops_of.Lts as lts
+
+-- src/lib.rt:263:1
+returns : tie.Need-returns
+returns c = ?
+
+-- src/lib.rt:263:1
+returns-2 : tie.Need-returns-2
+returns-2 c = ?
+
+-- src/lib.rt:263:1
+returns-3 : tie.Need-returns-3
+returns-3 c = ?
+
+-- src/lib.rt:263:1
+returns-4 : tie.Need-returns-4
+returns-4 c = search needs
+
+pub drops-of-spec : {M : Type 1} → statement M
+drops-of-spec = tie.close (tie.spec returns returns-2 returns-3 returns-4)
