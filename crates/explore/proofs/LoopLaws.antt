@@ -1,22 +1,24 @@
 -- The explorer's loop, apart from its code: what holds at each turn, and what each way out of a turn shows. Over any action on states
 -- whose openings have one price. Assumes nothing.
 use mathlib.Core.Path.{_≡_, refl, sym, subst, _∙_, ap}
-use mathlib.Core.Option.{some}
-use Prim.Native.Nat.{ℕ, suc, _+_, _-_, max, _≤_, _<_}
+use mathlib.Core.Bool.{Bool, true, false, cond}
+use mathlib.Core.List.{List, [], _∷_}
+use mathlib.Core.Option.{Option, some}
+use Prim.Native.Nat.{ℕ, zero, suc, _+_, _-_, _*_, max, _≤_, _<_}
 use native.Mathlib.Omega.{arith}
+use lib.Dec.{leb}
+use borrow.Author.Tests.{leb-true, leb-false, le-leb, lt-leb}
 use Rattle.refusals.specs.declared.Refusal.{Refusal}
-use Rattle.refusals.specs.declared.Refusal.the-variants as refusals
 use Rattle.cells.specs.Try.{Try, stuck, done}
-use Rattle.machine.specs.Machine.{State, height, Price, Next, stops, goes}
-use Rattle.bounds.specs.Tree.{Report, accepted, refused, explore}
+use Rattle.machine.specs.Machine.{State, height, Price, Next, stops, goes, opens}
+use Rattle.bounds.specs.Tree.{Decision, worse, Report, accepted, refused, explore}
 use Rattle.bounds.specs.Tree as bounds
-use Rattle.bounds.proofs.ExploreLaws.{before, explore-stuck, explore-stops, explore-goes}
-use Rattle.explore.specs.declared.Verdict.{Verdict}
-use Rattle.explore.specs.declared.Verdict.the-variants.{Accepted, Stuck}
+use Rattle.bounds.proofs.ExploreLaws.{before, join, joined, both-ways, explore-spent, explore-stuck, explore-stops, explore-goes, explore-over, explore-opens}
+use Rattle.explore.specs.declared.Verdict.the-variants.{Accepted, Stuck, Openings, Spent}
 use Rattle.explore.specs.declared.Found.{Found}
 use Rattle.explore.specs.declared.Tally.{Tally}
-use Rattle.explore.specs.Found.{encode, refusalOf, acceptedAs, Shows, moreOf, finishedOf, refusedAs}
-use Rattle.explore.proofs.UsedLaws.{used, used-stuck, used-stops, used-goes}
+use Rattle.explore.specs.Found.{encode, refusalOf, acceptedAs, Shows, moreOf, decidedOf, joinedOf, finishedOf, refusedAs}
+use Rattle.explore.proofs.UsedLaws.{used, used-spent, used-stuck, used-stops, used-goes, used-over, used-first, used-both}
 
 -- n steps of a tally before what follows
 unfoldable pub shift : Tally → ℕ → bounds.Verdict → bounds.Verdict
@@ -49,6 +51,51 @@ shift-refused : (t : Tally) (n : ℕ) (x : Refusal) (v : bounds.Verdict) → v �
 unfolding shift
 shift-refused t n x v e r f = subst (Shows r) (sym e) f
 
+-- the larger cost, with one price before both
+worse-path : (b : Bool) (ns ts : List Decision) → encode (worse b ns ts) ≡ cond b (2 * encode ts + 1) (2 * encode ns)
+unfolding encode worse
+worse-path true ns ts = refl
+worse-path false ns ts = refl
+
+leb-after : (p k l : ℕ) → leb k l ≡ leb (p + k) (p + l)
+leb-after p k l = go (leb k l) refl
+  where
+    go : (b : Bool) → leb k l ≡ b → leb k l ≡ leb (p + k) (p + l)
+    go true e = let h = leb-true k l e in e ∙ sym (le-leb (p + k) (p + l) (omega arith))
+    go false e = let h = leb-false k l e in e ∙ sym (lt-leb (p + k) (p + l) (omega arith))
+
+founds : (f g : Found) → f .verdict ≡ g .verdict → f .used ≡ g .used → f .cycles ≡ g .cycles → f .words ≡ g .words → f .depth ≡ g .depth → f .path ≡ g .path → f ≡ g
+founds f g v u c w d p = λ i. record { verdict = v i; used = u i; cycles = c i; words = w i; depth = d i; path = p i }
+
+-- the two ways of a branch, both accepted, after n steps of a tally
+joined-found : (t : Tally) (n : ℕ) (s : State) (p : Price) (r r′ : Report) (f g : Found) → f ≡ acceptedAs r → g ≡ acceptedAs r′ →
+    joinedOf (moreOf t p (height s)) (n + 1) f g
+    ≡ acceptedAs (record {
+      cycles = t .cycles + joined s p r p r′ .cycles;
+      words = t .words + joined s p r p r′ .words;
+      depth = max (t .depth) (joined s p r p r′ .depth);
+      steps = n + joined s p r p r′ .steps;
+      path = joined s p r p r′ .path;
+    })
+unfolding joinedOf moreOf acceptedAs joined decidedOf
+joined-found t n s p r r′ f g e d =
+    rw (e, d)
+    (founds _ _ refl (omega arith) (omega arith) (omega arith) (omega arith)
+    (ap (λ b. cond b (2 * encode (r′ .path) + 1) (2 * encode (r .path))) (leb-after (p .cycles) (r .cycles) (r′ .cycles))
+    ∙ sym (worse-path (leb (p .cycles + r .cycles) (p .cycles + r′ .cycles)) (r .path) (r′ .path))))
+
+-- an answer that is accepted shows a report, and one that is not a refusal
+
+pub accepted-shows : (f : Found) (v : bounds.Verdict) → Shows f v → f .verdict ≡ Accepted → (q : Report) × (v ≡ accepted q) × (f ≡ acceptedAs q)
+unfolding refusalOf
+accepted-shows f (accepted q) h e = (q, refl, h)
+accepted-shows f (refused x) h e = let g : Option.none ≡ some x = sym (ap refusalOf e) ∙ h in let z : _≡_ {A = ℕ} 0 1 = cc in absurd (omega arith)
+
+refused-shows : (f : Found) (v : bounds.Verdict) → Shows f v → (f .verdict ≡ Accepted → ⊥) → (x : Refusal) × (v ≡ refused x) × (refusalOf (f .verdict) ≡ some x)
+unfolding acceptedAs
+refused-shows f (accepted q) h no-way = absurd (no-way (ap (λ r. r .verdict) h))
+refused-shows f (refused x) h no-way = (x, refl, h)
+
 module _ (act : State → Try Next) (o budget : ℕ) (start : State) where
   -- the tally, and then what is left, come to what the whole comes to
   pub record Inv (s : State) (left : ℕ) (t : Tally) : Type 0 where
@@ -56,10 +103,24 @@ module _ (act : State → Try Next) (o budget : ℕ) (start : State) where
     pub spent : used act o budget start ≡ (budget - left) + used act o left s
     pub within : left ≤ budget
 
+  -- an answer shows the whole verdict, and has the steps walked
+  pub record Shown (r : Found) : Type 0 where
+    pub shows : Shows r (explore act o budget start)
+    pub counts : r .used ≡ used act o budget start
+
   pub begins : Inv start budget zeroTally
   begins =
       let e : budget - budget ≡ 0 = omega arith in
       record { total = sym (ap (λ n. shift zeroTally n (explore act o budget start)) e ∙ shift-zero (explore act o budget start)); spent = omega arith; within = omega arith }
+
+  pub spends : (s : State) (left : ℕ) (t : Tally) → Inv s left t → left ≤ 0 → Shown (refusedAs (Spent (s .at)) budget)
+  unfolding refusedAs refusalOf
+  spends s left t i h =
+      let z : left ≡ 0 = omega arith in
+      record {
+        shows = shift-refused t (budget - left) _ (explore act o budget start) (i .total ∙ ap (shift t (budget - left)) (ap (λ b. explore act o b s) z ∙ explore-spent act o s)) _ refl;
+        counts = let k = i .spent ∙ ap (λ b. (budget - left) + used act o b s) z in let l = used-spent act o s in omega (arith, k, l, i .within);
+      }
 
   module _ (s : State) (left : ℕ) (t : Tally) (i : Inv s left t) (h : 0 < left) where
     -- one more than is left after the step
@@ -82,17 +143,10 @@ module _ (act : State → Try Next) (o budget : ℕ) (start : State) where
           within = omega (arith, i .within);
         }
 
-    -- an answer shows the whole verdict, and has the steps walked
-    pub record Shown (r : Found) : Type 0 where
-      pub shows : Shows r (explore act o budget start)
-      pub counts : r .used ≡ used act o budget start
-
     pub halts : (p : Price) → act s ≡ done (stops p) → Shown (finishedOf (moreOf t p (height s)) (budget - left + 1))
     unfolding finishedOf moreOf acceptedAs encode
     halts p e = record {
-      shows =
-          shift-accepted t (budget - left) _ (explore act o budget start) (verdict-from (explore-stops act (left - 1) o s p e)) _
-          (λ i. record { verdict = Accepted; used = budget - left + 1; cycles = t .cycles + p .cycles; words = t .words + p .words; depth = max (t .depth) (height s); path = 1 });
+      shows = shift-accepted t (budget - left) _ (explore act o budget start) (verdict-from (explore-stops act (left - 1) o s p e)) _ refl;
       counts = let k = used-from (used-stops act (left - 1) o s p e) in omega (arith, k);
     }
 
@@ -103,5 +157,68 @@ module _ (act : State → Try Next) (o budget : ℕ) (start : State) where
       counts = let k = used-from (used-stuck act (left - 1) o s e) in omega (arith, k);
     }
 
-  pub spends : (s : State) (left : ℕ) (t : Tally) → Inv s left t → left ≤ 0 → Shown s left t
-  spends = ?
+    module _ (p q : Price) (u v : State) (e : act s ≡ done (opens p u q v)) where
+      pub deepens : o ≡ 0 → Shown (refusedAs (Openings (s .at)) (budget - left + 1))
+      unfolding refusedAs refusalOf
+      deepens z = record {
+        shows = shift-refused t (budget - left) _ (explore act o budget start) (verdict-from (ap (λ k. explore act k (suc (left - 1)) s) z ∙ explore-over act (left - 1) s u v p q e)) _ refl;
+        counts = let k = used-from (ap (λ k. used act k (suc (left - 1)) s) z ∙ used-over act (left - 1) s u v p q e) in omega (arith, k);
+      }
+
+      -- the way not taken, explored with one opening less
+      module _ (o′ : ℕ) (lower : o ≡ suc o′) (f : Found) (shows : Shows f (explore act o′ (left - 1) u)) (counts : f .used ≡ used act o′ (left - 1) u) where
+        opened : explore act o (suc (left - 1)) s ≡ both-ways s p (explore act o′ (left - 1) u) q (λ k. explore act o′ (left - 1 - k) v)
+        opened = ap (λ k. explore act k (suc (left - 1)) s) lower ∙ explore-opens act (left - 1) o′ s u v p q e
+
+        pub first-fails : (f .verdict ≡ Accepted → ⊥) → Shown (refusedAs (f .verdict) (budget - left + 1 + f .used))
+        unfolding refusedAs both-ways
+        first-fails no-way =
+            let (x, g, r) = refused-shows f (explore act o′ (left - 1) u) shows no-way in
+            record {
+              shows = shift-refused t (budget - left) x (explore act o budget start) (verdict-from (opened ∙ ap (λ w. both-ways s p w q (λ k. explore act o′ (left - 1 - k) v)) g)) _ r;
+              counts = let k = used-from (ap (λ k. used act k (suc (left - 1)) s) lower ∙ used-first act (left - 1) o′ s u v p q x e g) in omega (arith, k, counts);
+            }
+
+        -- the way taken, explored with what the first left of the budget
+        module _ (done-first : f .verdict ≡ Accepted) (g : Found) (shows′ : Shows g (explore act o′ (left - 1 - f .used) v)) (counts′ : g .used ≡ used act o′ (left - 1 - f .used) v) where
+          first : (r : Report) × (explore act o′ (left - 1) u ≡ accepted r) × (f ≡ acceptedAs r)
+          first = accepted-shows f (explore act o′ (left - 1) u) shows done-first
+
+          same-used : first .0 .steps ≡ f .used
+          unfolding acceptedAs
+          same-used = sym (ap (λ r. r .used) (first .2))
+
+          opened-second : explore act o (suc (left - 1)) s ≡ join s p (first .0) q (explore act o′ (left - 1 - f .used) v)
+          unfolding both-ways
+          opened-second =
+              opened ∙ ap (λ w. both-ways s p w q (λ k. explore act o′ (left - 1 - k) v)) (first .1)
+              ∙ ap (λ k. join s p (first .0) q (explore act o′ (left - 1 - k) v)) same-used
+
+          used-second : used act o budget start ≡ (budget - left) + suc (f .used + g .used)
+          used-second =
+              used-from (ap (λ k. used act k (suc (left - 1)) s) lower ∙ used-both act (left - 1) o′ s u v p q (first .0) e (first .1)
+              ∙ ap (λ k. suc (k + used act o′ (left - 1 - k) v)) same-used ∙ ap (λ k. suc (f .used + k)) (sym counts′))
+
+          pub second-fails : (g .verdict ≡ Accepted → ⊥) → Shown (refusedAs (g .verdict) (budget - left + 1 + f .used + g .used))
+          unfolding refusedAs join
+          second-fails no-way =
+              let (x, w, r) = refused-shows g (explore act o′ (left - 1 - f .used) v) shows′ no-way in
+              record {
+                shows = shift-refused t (budget - left) x (explore act o budget start) (verdict-from (opened-second ∙ ap (join s p (first .0) q) w)) _ r;
+                counts = omega (arith, used-second);
+              }
+
+          pub both-done : p ≡ q → g .verdict ≡ Accepted → Shown (joinedOf (moreOf t p (height s)) (budget - left + 1) f g)
+          unfolding join
+          both-done same done-second =
+              let (r′, w, d) = accepted-shows g (explore act o′ (left - 1 - f .used) v) shows′ done-second in
+              record {
+                shows =
+                    shift-accepted t (budget - left) (joined s p (first .0) p r′) (explore act o budget start)
+                    (verdict-from (opened-second ∙ ap (join s p (first .0) q) w ∙ ap (λ q. accepted (joined s p (first .0) q r′)) (sym same))) _
+                    (joined-found t (budget - left) s p (first .0) r′ f g (first .2) d);
+                counts = counted;
+              }
+            where
+              counted : joinedOf (moreOf t p (height s)) (budget - left + 1) f g .used ≡ used act o budget start
+              counted = unfold joinedOf in omega (arith, used-second)
