@@ -6,4 +6,5 @@ pub mod PriceLaws
 pub mod HeightLaws
 pub mod Stack
 pub mod OutcomeLaws
+pub mod CodeLaws
 pub mod BlockLaws

@@ -161,10 +161,18 @@ fn outcome_branching(a: Cell, zero: bool) -> Outcome
     };
     match x {
         Condition::IsZero => {
-            if zero { Outcome::Goes } else { Outcome::Gives(a) }
+            if zero {
+                Outcome::Goes
+            } else {
+                Outcome::Gives(a)
+            }
         }
         Condition::IsNonzero => {
-            if zero { Outcome::Gives(a) } else { Outcome::Goes }
+            if zero {
+                Outcome::Gives(a)
+            } else {
+                Outcome::Goes
+            }
         }
         Condition::IsUnknown => Outcome::Opens,
     }
@@ -217,13 +225,25 @@ pub fn outcome_of(code: u8, i: i32, r: Cell, h: usize, a: Cell, e: Cell) -> Outc
     match code {
         0 => Outcome::Gives(a),
         1 => {
-            if n < h { Outcome::Gives(e) } else { Outcome::Stuck }
+            if n < h {
+                Outcome::Gives(e)
+            } else {
+                Outcome::Stuck
+            }
         }
         2 => {
-            if n <= h { Outcome::Gives(a) } else { Outcome::Stuck }
+            if n <= h {
+                Outcome::Gives(a)
+            } else {
+                Outcome::Stuck
+            }
         }
         3 => {
-            if n < h { Outcome::Stores(a) } else { Outcome::Stuck }
+            if n < h {
+                Outcome::Stores(a)
+            } else {
+                Outcome::Stuck
+            }
         }
         4 => Outcome::Gives(cells::number(i)),
         5 => outcome_given(cells::operate1(Unary::Offset, i, a)),
@@ -231,13 +251,21 @@ pub fn outcome_of(code: u8, i: i32, r: Cell, h: usize, a: Cell, e: Cell) -> Outc
         7 => outcome_given(cells::operate1(Unary::Complement, i, a)),
         8 => Outcome::Gets,
         9 => {
-            if 0 < h { Outcome::Sets(e) } else { Outcome::Stuck }
+            if 0 < h {
+                Outcome::Sets(e)
+            } else {
+                Outcome::Stuck
+            }
         }
         10 => Outcome::Goes,
         11 => outcome_branching(a, false),
         12 => outcome_branching(a, true),
         13 => {
-            if n <= h { Outcome::Gives(r) } else { Outcome::Stuck }
+            if n <= h {
+                Outcome::Gives(r)
+            } else {
+                Outcome::Stuck
+            }
         }
         14 => Outcome::Halts,
         _ => {

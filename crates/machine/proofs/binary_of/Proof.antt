@@ -1,23 +1,20 @@
+-- `machine::binary_of` meets its contract: each arm's code computes. Assumes nothing.
 use borrow.Author.Needs.{needs}
+use Rattle.machine.specs.Outcome.{operations, operationOf}
 use Rattle.machine.proofs.binary_of.Statement.{statement}
 use Rattle.machine.proofs.binary_of.Tie as tie
-use Rattle.machine.proofs.binary_of.Reads as reads
-use Rattle.machine.proofs.binary_of.Lts as lts
-use Rattle.machine.proofs.comparison_of.Reads as comparison-of-reads
 
--- src/lib.rt:196:30
 comparison-of-requires : tie.Need-comparison-of-requires
 comparison-of-requires c κs = search needs
 
--- src/lib.rt:189:1
 returns : tie.Need-returns
-returns c = ?
+unfolding operations operationOf
+returns c = rw (c .match .keys1)
 
--- src/lib.rt:189:1
 returns-2 : tie.Need-returns-2
-returns-2 c = ?
+unfolding operations operationOf
+returns-2 c = rw (c .match .keys2)
 
--- src/lib.rt:189:1
 returns-3 : tie.Need-returns-3
 returns-3 c = search needs
 

@@ -1,31 +1,35 @@
+-- `machine::comparison_of` meets its contract: each arm's code computes. Assumes nothing.
+use mathlib.Core.Path.{_≡_}
+use native.Mathlib.Omega.{arith}
+use Rattle.machine.specs.Outcome.{operations, operationOf}
 use Rattle.machine.proofs.comparison_of.Statement.{statement}
 use Rattle.machine.proofs.comparison_of.Tie as tie
-use Rattle.machine.proofs.comparison_of.Reads as reads
-use Rattle.machine.proofs.comparison_of.Lts as lts
 
--- src/lib.rt:174:1
 returns : tie.Need-returns
-returns c = ?
+unfolding operations operationOf
+returns c = rw (c .match .keys1)
 
--- src/lib.rt:174:1
 returns-2 : tie.Need-returns-2
-returns-2 c = ?
+unfolding operations operationOf
+returns-2 c = rw (c .match .keys2)
 
--- src/lib.rt:174:1
 returns-3 : tie.Need-returns-3
-returns-3 c = ?
+unfolding operations operationOf
+returns-3 c = rw (c .match .keys3)
 
--- src/lib.rt:174:1
 returns-4 : tie.Need-returns-4
-returns-4 c = ?
+unfolding operations operationOf
+returns-4 c = rw (c .match .keys4)
 
--- src/lib.rt:174:1
 returns-5 : tie.Need-returns-5
-returns-5 c = ?
+unfolding operations operationOf
+returns-5 c = rw (c .match .keys5)
 
--- src/lib.rt:174:1
 returns-6 : tie.Need-returns-6
-returns-6 c = ?
+unfolding operations operationOf
+returns-6 c =
+    let e : c .before .args .code ≡ 22 = omega arith in
+    rw e
 
 pub comparison-of-spec : {M : Type 1} → statement M
 comparison-of-spec = tie.close (tie.spec returns returns-2 returns-3 returns-4 returns-5 returns-6)
