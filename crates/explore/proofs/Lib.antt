@@ -1,2 +1,3 @@
 pub mod UsedLaws
 pub mod LoopLaws
+pub mod PartLaws

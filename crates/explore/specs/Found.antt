@@ -1,5 +1,5 @@
 -- What the explorer's answer stands for: the verdict of the bound, and how many steps were walked.
-use Prim.Native.Nat.{ℕ, zero, suc, _+_, _*_, max}
+use Prim.Native.Nat.{ℕ, zero, suc, _+_, _*_, max, _≤_}
 use mathlib.Core.Bool.{cond}
 use mathlib.Core.List.{List, [], _∷_}
 use mathlib.Core.Option.{Option, some}
@@ -72,3 +72,14 @@ finishedOf t n = record { verdict = Accepted; used = n; cycles = t .cycles; word
 -- n steps walked, and a refusal
 unfoldable pub refusedAs : Verdict → ℕ → Found
 refusedAs v n = record { verdict = v; used = n; cycles = 0; words = 0; depth = 0; path = 1 }
+
+abbrev pub price : ℕ → ℕ → Price
+price c w = record { cycles = c; words = w }
+
+-- no sum of the two ways is too large for the code's numbers
+pub record Summable (t : Tally) (n : ℕ) (f g : Found) : Type 0 where
+  pub steps : n + f .used + g .used ≤ 1000000
+  pub tally : (t .cycles ≤ 4294967296000000) × (t .words ≤ 4294967296000000)
+  pub first : (f .cycles ≤ 4294967296000000) × (f .words ≤ 4294967296000000)
+  pub second : (g .cycles ≤ 4294967296000000) × (g .words ≤ 4294967296000000)
+  pub paths : (f .path ≤ 4294967296) × (g .path ≤ 4294967296)

@@ -8,3 +8,5 @@ pub mod Stack
 pub mod OutcomeLaws
 pub mod CodeLaws
 pub mod BlockLaws
+pub mod ColumnLaws
+pub mod TurnLaws

@@ -3,3 +3,4 @@ pub mod Machine
 pub mod Order
 pub mod View
 pub mod Outcome
+pub mod Columns

@@ -10,7 +10,7 @@ use Rattle.cells.specs.Cells.{block}
 use Rattle.machine.specs.declared.State as code
 use Rattle.machine.specs.declared.Slot.{Slot}
 use Rattle.machine.specs.declared.Slot.the-variants.{At, Lacks}
-use Rattle.machine.specs.Machine.{State}
+use Rattle.machine.specs.Machine.{State, store}
 
 -- the state without its blocks
 abbrev pub view : code.State → State
@@ -34,3 +34,7 @@ pub record Fits (ns : List ℕ) (fs : List Cell) : Type 0 where
 abbrev pub ofSlot : Slot → Try ℕ
 ofSlot (At j) = done j
 ofSlot Lacks = stuck
+
+-- the state with its blocks
+unfoldable pub whole : List ℕ → List Cell → code.State → State
+whole ns fs s = store (blocksOf ns fs) (view s)

@@ -19,6 +19,8 @@ ghost use Rattle.instructions.specs.declared.Operation.the-variants.{Combine};
 ghost use Rattle.machine.specs.View.{view, slot, ofSlot};
 ghost use Rattle.machine.specs.Outcome.{given, branching, outcome, operationOf, entryOf, drops};
 
+pub mod code;
+
 // What an instruction's operands come to, before the state is changed.
 pub enum Outcome {
     // The accumulator becomes the cell.
