@@ -1,6 +1,13 @@
 // The explorer: every way of a routine, under a budget of steps. The meaning is in specs/.
+use cells::Cell;
+use machine::Outcome;
+use machine::Slot;
+use machine::State;
+use machine::code::Fetched;
 ghost use mathlib.Core.Path.{_≡_};
 ghost use Prim.Native.Nat.{_+_, _*_, _≤_, max};
+ghost use Rattle.machine.specs.Columns.{codeOf, Sized};
+ghost use Rattle.explore.specs.Contract.{Ready, Explores, Modest};
 ghost use Rattle.explore.specs.Found.{price, moreOf, decidedOf, joinedOf, finishedOf, refusedAs, Summable};
 
 // The bound's verdict: accepted, or refusal 7, 8 or 9 with its address.
@@ -110,3 +117,4 @@ fn joined(t: Tally, n: usize, f: Found, g: Found) -> Found
         path: path,
     }
 }
+

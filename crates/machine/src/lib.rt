@@ -209,7 +209,7 @@ fn binary_of(code: u8) -> Binary
 
 // An operand as the number of an entry, a field, an address or a count.
 pub fn index_of(i: i32) -> usize
-    ensures { λ r. ⌜ r ≡ index i ⌝ }
+    ensures { λ r. ⌜ (r ≡ index i) × (r < 2147483648) ⌝ }
 {
     if i < 0 {
         return 0;

@@ -19,7 +19,7 @@ same : (c : tie.Start) → read w32 (c .args .i) ≡ c .args .i
 same c = toZ-ofZ w32 (c .args .i) (c .fits .i)
 
 found : (c : tie.After-index-of) → c .index-of .result ≡ index (c .before .args .i)
-found c = c .index-of .ensures ∙ ap index (same (c .before))
+found c = c .index-of .ensures .0 ∙ ap index (same (c .before))
 
 index-of-requires : tie.Need-index-of-requires
 index-of-requires c κs = search needs

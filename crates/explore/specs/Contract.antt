@@ -1,0 +1,34 @@
+-- The explorer's contract, by the names of its parts.
+use mathlib.Core.Path.{_≡_}
+use mathlib.Core.List.{List}
+use Prim.Native.Nat.{ℕ, _+_, _*_, _^_, _≤_, _<_}
+use lib.ListN.{length}
+use Rattle.cells.specs.declared.Cell.{Cell}
+use Rattle.cells.specs.Cells.{unknown}
+use Rattle.machine.specs.declared.State as code
+use Rattle.machine.specs.Machine.{Code, jump, step}
+use Rattle.machine.specs.View.{Fits, whole}
+use Rattle.bounds.specs.Tree.{explore, tree, steps}
+use Rattle.explore.specs.declared.Found.{Found}
+use Rattle.explore.specs.Found.{Shows, walked}
+
+-- what is asked: addresses, counts and blocks within their limits
+pub record Ready (bs ns : List ℕ) (first : ℕ) (fs : List Cell) (start : code.State) (place openings budget : ℕ) : Type 0 where
+  pub addresses : first + length bs ≤ 65536
+  pub place-fits : place < 4294967296
+  pub free : start .free ≤ 64
+  pub budget-fits : budget ≤ 1000000
+  pub openings-fit : openings ≤ 32
+  pub fits : Fits ns fs
+
+-- what is promised: the answer shows the verdict of the tree, and the steps walked
+pub record Explores (c : Code) (ns : List ℕ) (fs : List Cell) (start : code.State) (place openings budget : ℕ) (r : Found) : Type 0 where
+  pub shows : Shows r (explore (step c unknown) openings budget (jump place (whole ns fs start)))
+  pub counts : r .used ≡ walked budget (steps (tree (step c unknown) budget openings (jump place (whole ns fs start))))
+
+-- the answer's numbers are within what the code's numbers hold
+pub record Modest (openings budget : ℕ) (r : Found) : Type 0 where
+  pub used : r .used ≤ budget
+  pub cycles : r .cycles ≤ 4294967296 * r .used
+  pub words : r .words ≤ 4294967296 * r .used
+  pub path : r .path < 2 ^ (openings + 1)
