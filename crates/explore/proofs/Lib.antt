@@ -3,3 +3,4 @@ pub mod LoopLaws
 pub mod PartLaws
 pub mod TurnLaws
 pub mod ReturnLaws
+pub mod ArmLaws

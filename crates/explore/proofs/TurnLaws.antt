@@ -37,8 +37,13 @@ module _ (first : ℕ) (bs : List ℕ) (is : List ℤ) (cs ws ns : List ℕ) (o 
     pub stack : length (s .stack) ≡ 64
     pub at-fits : s .at < 4294967296
     pub fits : Fits ns fs
+    pub size : length fs ≡ length fs₀
     pub cycles : t .cycles ≤ 4294967296 * (budget - left)
     pub words : t .words ≤ 4294967296 * (budget - left)
+
+  pub starts : s₀ .free ≤ 64 → length (s₀ .stack) ≡ 64 → s₀ .at < 4294967296 → Fits ns fs₀ → Turn fs₀ s₀ budget loop.zeroTally
+  starts free full low fits =
+      record { inv = loop.begins act o budget (whole ns fs₀ s₀); free = free; stack = full; at-fits = low; fits = fits; size = refl; cycles = omega arith; words = omega arith }
 
   -- the height of a stack that lies at the end of 64 places
   pub high : (s : code.State) → length (s .stack) ≡ 64 → length (view s .stack) ≡ 64 - s .free
@@ -77,7 +82,7 @@ module _ (first : ℕ) (bs : List ℕ) (is : List ℤ) (cs ws ns : List ℕ) (o 
       let h : prepare true (whole ns fs s) ≡ stuck = turn.full ns fs s (omega (arith, high s full)) in
       rw (sym found, pushes, h) refl
 
-  outside : (fs : List Cell) (s : code.State) → stuck ≡ fetch (codeOf first bs is cs ws) (s .at) → act (whole ns fs s) ≡ stuck
+  pub outside : (fs : List Cell) (s : code.State) → stuck ≡ fetch (codeOf first bs is cs ws) (s .at) → act (whole ns fs s) ≡ stuck
   unfolding step _>>=_ whole store
   outside fs s e = rw (sym e) refl
 
@@ -85,7 +90,7 @@ module _ (first : ℕ) (bs : List ℕ) (is : List ℤ) (cs ws ns : List ℕ) (o 
 
   module _ (fs : List Cell) (s : code.State) (left : ℕ) (t : Tally) (i : Turn fs s left t) (h : 0 < left) (p : Price) (small : (p .cycles < 4294967296) × (p .words < 4294967296)) (t′ : Tally)
       (grown : t′ ≡ moreOf t p (64 - s .free)) where
-    more-is : t′ ≡ moreOf t p (height (whole ns fs s))
+    pub more-is : t′ ≡ moreOf t p (height (whole ns fs s))
     more-is = grown ∙ ap (moreOf t p) (sym (whole-height fs s (i .stack)))
 
     -- the tally stays within what the code's numbers hold
@@ -97,13 +102,14 @@ module _ (first : ℕ) (bs : List ℕ) (is : List ℤ) (cs ws ns : List ℕ) (o 
         let w = i .inv .within in
         (omega (arith, i .cycles), omega (arith, i .words))
 
-    pub again : (fs′ : List Cell) (v : code.State) → act (whole ns fs s) ≡ done (goes p (whole ns fs′ v)) → v .free ≤ 64 → length (v .stack) ≡ 64 → v .at < 4294967296 → Fits ns fs′ → Turn fs′ v (left - 1) t′
-    again fs′ v e free full low fits = record {
+    pub again : (fs′ : List Cell) (v : code.State) → act (whole ns fs s) ≡ done (goes p (whole ns fs′ v)) → v .free ≤ 64 → length (v .stack) ≡ 64 → v .at < 4294967296 → Fits ns fs′ → length fs′ ≡ length fs → Turn fs′ v (left - 1) t′
+    again fs′ v e free full low fits size = record {
       inv = subst (loop.Inv act o budget (whole ns fs₀ s₀) (whole ns fs′ v) (left - 1)) (sym more-is) (loop.again act o budget (whole ns fs₀ s₀) (whole ns fs s) left t (i .inv) h p (whole ns fs′ v) e);
       free = free;
       stack = full;
       at-fits = low;
       fits = fits;
+      size = size ∙ i .size;
       cycles = costs .0;
       words = costs .1;
     }

@@ -118,3 +118,125 @@ fn joined(t: Tally, n: usize, f: Found, g: Found) -> Found
     }
 }
 
+// Every way from `start` at the address `place`: a loop of steps, and a call for each way of an unknown branch.
+pub fn explore(
+    codes: &[u8],
+    operands: &[i32],
+    cycles: &[u32],
+    words: &[u32],
+    sizes: &[u8],
+    first: usize,
+    mut blocks: [Cell; 128],
+    start: State,
+    place: usize,
+    openings: usize,
+    budget: usize,
+) -> Found
+    requires { ⌜ Sized (now codes) (now operands) (now cycles) (now words) ⌝ }
+    requires { ⌜ Ready (now codes) (now sizes) first blocks start place openings budget ⌝ }
+    ensures { λ r. ⌜ Explores (codeOf first (now (codes .entry)) (now (operands .entry)) (now (cycles .entry)) (now (words .entry))) (now (sizes .entry)) blocks start place openings budget r ⌝ }
+    ensures { λ r. ⌜ Modest openings budget r ⌝ }
+{
+    let mut s = start.jump(place);
+    let mut left = budget;
+    let mut tally = Tally {
+        cycles: 0,
+        words: 0,
+        depth: 0,
+    };
+    while 0 < left {
+        let used = budget - left + 1;
+        left = left - 1;
+        let at = s.at;
+        let fetched = machine::code::fetch(codes, operands, cycles, words, first, at);
+        let Fetched::Is(line) = fetched else {
+            return refused(Verdict::Stuck(at), used);
+        };
+        tally = more(tally, line.cycles, line.words, 64 - s.free);
+        if line.pushes {
+            if s.free == 0 {
+                return refused(Verdict::Stuck(at), used);
+            }
+            s = s.push(s.accu);
+        }
+        let n = machine::index_of(line.operand);
+        let free = s.free;
+        let i = machine::place_of(line.code, n, free);
+        let k = machine::drops_of(line.code, n);
+        let r = cells::unknown();
+        let out = machine::outcome_of(line.code, line.operand, r, 64 - free, s.accu, s.stack[i]);
+        match out {
+            Outcome::Gives(c) => {
+                s = s.pop(k).load(c).advance();
+            }
+            Outcome::Stores(c) => {
+                s = s.store(n, c).load(cells::number(0)).advance();
+            }
+            Outcome::Sets(c) => {
+                let field = machine::slot_of(sizes, s.accu, n);
+                let Slot::At(j) = field else {
+                    return refused(Verdict::Stuck(at), used);
+                };
+                blocks[j] = c;
+                s = s.pop(1).load(cells::number(0)).advance();
+            }
+            Outcome::Gets => {
+                let field = machine::slot_of(sizes, s.accu, n);
+                let Slot::At(j) = field else {
+                    return refused(Verdict::Stuck(at), used);
+                };
+                s = s.load(blocks[j]).advance();
+            }
+            Outcome::Goes => {
+                s = s.jump(n);
+            }
+            Outcome::Opens => {
+                if openings == 0 {
+                    return refused(Verdict::Openings(at), used);
+                }
+                let f = explore(
+                    codes,
+                    operands,
+                    cycles,
+                    words,
+                    sizes,
+                    first,
+                    blocks,
+                    s,
+                    at + 1,
+                    openings - 1,
+                    left,
+                );
+                let v = f.verdict;
+                let Verdict::Accepted = v else {
+                    return refused(v, used + f.used);
+                };
+                let g = explore(
+                    codes,
+                    operands,
+                    cycles,
+                    words,
+                    sizes,
+                    first,
+                    blocks,
+                    s,
+                    n,
+                    openings - 1,
+                    left - f.used,
+                );
+                let w = g.verdict;
+                let Verdict::Accepted = w else {
+                    return refused(w, used + f.used + g.used);
+                };
+                return joined(tally, used, f, g);
+            }
+            Outcome::Halts => {
+                return finished(tally, used);
+            }
+            Outcome::Stuck => {
+                return refused(Verdict::Stuck(at), used);
+            }
+        }
+    }
+    refused(Verdict::Spent(s.at), budget)
+}

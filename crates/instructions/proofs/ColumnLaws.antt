@@ -18,7 +18,7 @@ use Rattle.instructions.specs.Kinds.{Kind, kinds}
 use Rattle.instructions.specs.Columns.{kindAt, argumentCode, lowest, highest}
 
 -- within a list the default does not matter
-getD-any : {A : Type 0} (l : List A) (k : ℕ) (d e : A) → k < length l → getD l k d ≡ getD l k e
+pub getD-any : {A : Type 0} (l : List A) (k : ℕ) (d e : A) → k < length l → getD l k d ≡ getD l k e
 getD-any [] k d e h = absurd (not-suc-le-zero h)
 getD-any (x ∷ xs) zero d e h = refl
 getD-any (x ∷ xs) (suc k) d e h = getD-any xs k d e (le-of-suc-le-suc h)

@@ -1,0 +1,649 @@
+-- `explore` meets its contract. It calls itself with fewer openings, and its loop goes on with a smaller budget.
+-- Assumes nothing.
+use Prim.Native.Nat.{ℕ, _<_}
+use borrow.Fn.Kinds.{In}
+use borrow.Fn.PlainCycle.{Measures, is, falls, and}
+use Rattle.explore.proofs.explore.Reads as explore
+use Rattle.explore.proofs.explore.Kinds as explore-kinds
+use Rattle.explore.proofs.+explore.Lts-explore as explore-lts
+use Rattle.cells.proofs.number.Reads as number-reads
+use Rattle.cells.proofs.unknown.Reads as unknown-reads
+use Rattle.explore.proofs.finished.Reads as finished-reads
+use Rattle.explore.proofs.joined.Reads as joined-reads
+use Rattle.explore.proofs.more.Reads as more-reads
+use Rattle.explore.proofs.refused.Reads as refused-reads
+use Rattle.machine.proofs.State.advance.Reads as advance-reads
+use Rattle.machine.proofs.State.jump.Reads as jump-reads
+use Rattle.machine.proofs.State.load.Reads as load-reads
+use Rattle.machine.proofs.State.pop.Reads as pop-reads
+use Rattle.machine.proofs.State.push.Reads as push-reads
+use Rattle.machine.proofs.State.store.Reads as store-reads
+use Rattle.machine.proofs.code.fetch.Reads as fetch-reads
+use Rattle.machine.proofs.drops_of.Reads as drops-of-reads
+use Rattle.machine.proofs.index_of.Reads as index-of-reads
+use Rattle.machine.proofs.outcome_of.Reads as outcome-of-reads
+use Rattle.machine.proofs.place_of.Reads as place-of-reads
+use Rattle.machine.proofs.slot_of.Reads as slot-of-reads
+use Rattle.explore.proofs.+explore.{statement}
+use Rattle.explore.proofs.+explore.Tie.{close}
+use mathlib.Core.Path.{_≡_, refl, sym, ap, subst, _∙_}
+use mathlib.Core.Bool.{true, false}
+use mathlib.Core.Logic.{⊎-elim}
+use mathlib.Core.List.{_∷_, []}
+use denote.Enum.Declared.{tagOf}
+use types.Run.{OneOf}
+use Prim.Native.Nat.{_+_, _-_, _*_, _≤_}
+use native.Mathlib.Omega.{arith}
+use lib.ListN.{length, getD}
+use lib.IntN.{pos}
+use mir.Syntax.{w32}
+use mir.Val.{SFits}
+use mir.ValLaws.{toZ-ofZ}
+use borrow.Author.Needs.{needs}
+use Rattle.cells.specs.Try.{stuck, done}
+use Rattle.cells.specs.declared.Cell.{Cell}
+use Rattle.cells.specs.declared.Value.the-variants.{Number}
+use Rattle.cells.specs.Cells.{unknown, cell}
+use Rattle.machine.specs.declared.State as code
+use Rattle.machine.specs.declared.code.Line.{Line}
+use Rattle.machine.specs.declared.Outcome.{Outcome}
+use Rattle.machine.specs.Machine.{index, fetch, store, jump, prepare}
+use Rattle.machine.specs.Outcome.{operationOf, entryOf, outcome}
+use Rattle.machine.specs.View.{view, whole, ofSlot}
+use Rattle.machine.specs.Columns.{codeOf, lineOf, ofFetched, Known}
+use Rattle.explore.specs.declared.Verdict.{Verdict}
+use Rattle.explore.specs.declared.Verdict.the-variants.{Accepted}
+use Rattle.explore.proofs.Verdict as verdict
+use Rattle.explore.specs.declared.Found.{Found}
+use Rattle.explore.specs.Found.{refusedAs}
+use Rattle.machine.proofs.Stack.{length-images}
+use Rattle.instructions.proofs.ColumnLaws.{getD-any}
+use Rattle.explore.proofs.TurnLaws.{Turn, act, starts, turns, inside, overflows, outside}
+use Rattle.explore.proofs.ArmLaws.{Arm, Pushed, pushes, keeps, Kept, jumped-at, restacked-at, loaded-at, stuck-out}
+use Rattle.explore.proofs.ArmLaws as arms
+
+-- the number of openings
+abbrev μ-explore : Measures 5 explore-kinds.ps ℕ
+μ-explore κs a = a .1 .1 .1 .1 .1 .1 .1 .1 .1 .0
+
+abbrev explore-at : ℕ → In 5 explore-kinds.ps
+explore-at t = and 5 explore-kinds.ps (is 5 explore-kinds.ps μ-explore t) explore.Pre
+
+abbrev explore-below : ℕ → In 5 explore-kinds.ps
+explore-below t = and 5 explore-kinds.ps (falls 5 explore-kinds.ps _<_ μ-explore t) explore.Pre
+
+abbrev Inv-loop : explore-lts.InvT-loop
+Inv-loop codes operands cycles words sizes first place openings budget blocks₀ s₀ left₀ tally₀ blocks s left tally =
+    Turn first codes operands cycles words sizes openings budget blocks₀ s₀ blocks s left tally
+
+abbrev μ-loop : explore-lts.MeasureT-loop
+μ-loop codes operands cycles words sizes first place openings budget blocks₀ s₀ left₀ tally₀ blocks s left tally = left
+
+abbrev claims : ℕ → explore-lts.Claims
+claims t = (
+  jump-reads.Asked,
+  jump-reads.Learnt,
+  fetch-reads.Asked,
+  fetch-reads.Learnt,
+  refused-reads.Asked,
+  refused-reads.Learnt,
+  more-reads.Asked,
+  more-reads.Learnt,
+  push-reads.Asked,
+  push-reads.Learnt,
+  index-of-reads.Asked,
+  index-of-reads.Learnt,
+  place-of-reads.Asked,
+  place-of-reads.Learnt,
+  drops-of-reads.Asked,
+  drops-of-reads.Learnt,
+  unknown-reads.Asked,
+  unknown-reads.Learnt,
+  outcome-of-reads.Asked,
+  outcome-of-reads.Learnt,
+  pop-reads.Asked,
+  pop-reads.Learnt,
+  load-reads.Asked,
+  load-reads.Learnt,
+  advance-reads.Asked,
+  advance-reads.Learnt,
+  store-reads.Asked,
+  store-reads.Learnt,
+  number-reads.Asked,
+  number-reads.Learnt,
+  slot-of-reads.Asked,
+  slot-of-reads.Learnt,
+  explore-below t,
+  explore.Post,
+  joined-reads.Asked,
+  joined-reads.Learnt,
+  finished-reads.Asked,
+  finished-reads.Learnt,
+)
+
+-- a verdict of another variant is not accepted
+fails : (v : Verdict) → OneOf (1 ∷ 2 ∷ 3 ∷ []) (tagOf verdict.the-type v) → v ≡ Accepted → ⊥
+fails v h e = ⊎-elim
+    (λ (k : _≡_ {A = ℕ} 0 1). omega arith)
+    (⊎-elim (λ (k : _≡_ {A = ℕ} 0 2). omega arith) (λ (k : _≡_ {A = ℕ} 0 3). omega arith))
+    (subst (λ v. OneOf (1 ∷ 2 ∷ 3 ∷ []) (tagOf verdict.the-type v)) e h)
+
+-- places in a turn, and what is known there
+
+abbrev Entry : ℕ → Type 0
+Entry t = explore-lts.Start (claims t) (explore-at t) explore.Post Inv-loop μ-loop
+
+abbrev Body : ℕ → Type 0
+Body t = explore-lts.In-loop (claims t) (explore-at t) explore.Post Inv-loop μ-loop
+
+abbrev Lined : ℕ → Type 0
+Lined t = explore-lts.After-known-told (claims t) (explore-at t) explore.Post Inv-loop μ-loop
+
+abbrev Acted : ℕ → Type 0
+Acted t = explore-lts.After-outcome-of (claims t) (explore-at t) explore.Post Inv-loop μ-loop
+
+abbrev Joined : ℕ → Type 0
+Joined t = explore-lts.Joined1 (claims t) (explore-at t) explore.Post Inv-loop μ-loop
+
+abbrev entry : {t : ℕ} → Body t → Entry t
+entry b = b .before .before .before .before .before .before .before
+
+abbrev body : {t : ℕ} → Lined t → Body t
+body k = k .before .before .before .before
+
+abbrev line : {t : ℕ} → Lined t → Line
+line k = k .before .fetched .given .0 .0
+
+abbrev joined : {t : ℕ} → Acted t → Joined t
+joined a = a .before .before .before .before .before .before .before .before .before
+
+abbrev lined : {t : ℕ} → Acted t → Lined t
+lined a = joined a .before .before
+
+abbrev after : {t : ℕ} → Acted t → code.State
+after a = joined a .if1 .s
+
+sized : (t : ℕ) (e : Entry t) → length (e .args .t7) ≡ 128
+sized t e = search (needs, length-images)
+
+module _ (t : ℕ) (k : Lined t) where
+  found : done (lineOf (line k)) ≡
+      fetch (codeOf (entry (body k) .args .first) (entry (body k) .args .codes .now) (entry (body k) .args .operands .now) (entry (body k) .args .cycles .now) (entry (body k) .args .words .now)) (body k .before .loop .s .at)
+  found = ap ofFetched (sym (k .before .fetched .given .1)) ∙ k .before .before .before .fetch .ensures .0
+
+  known : line k .code ≤ 22
+  known = subst Known (k .before .fetched .given .1) (k .before .before .before .fetch .ensures .1)
+
+  small : (line k .cycles < 4294967296) × (line k .words < 4294967296)
+  small = search needs
+
+module _ (t : ℕ) (j : Joined t) where
+  abbrev s : code.State
+  s = body (j .before .before) .before .loop .s
+
+  pushed : Pushed (line (j .before .before) .pushes) (entry (body (j .before .before)) .args .sizes .now) (body (j .before .before) .before .loop .blocks) s (j .if1 .s)
+  pushed = ⊎-elim
+      (λ x.
+      let h : length (s .stack) ≡ 64 = body (j .before .before) .before .loop .inv .stack in
+      pushes _ _ _ s (j .if1 .s) (x .3 .result) (x .0 .taken) (omega (arith, x .1 .left)) (body (j .before .before) .before .loop .inv .free) h (x .4) (x .3 .ensures .0) (x .3 .ensures .1))
+      (λ x. keeps _ _ _ s (j .if1 .s) (x .0 .left) (body (j .before .before) .before .loop .inv .free) (x .1))
+      (j .if1 .came)
+
+  full : length (j .if1 .s .stack) ≡ 64
+  full = ⊎-elim
+      (λ x. let n : length (x .3 .result .stack) ≡ 64 = search (x .3 .ok, needs, length-images) in ap (λ s. length (s .stack)) (x .4) ∙ n)
+      (λ x. let h : length (s .stack) ≡ 64 = body (j .before .before) .before .loop .inv .stack in ap (λ s. length (s .stack)) (x .1) ∙ h)
+      (j .if1 .came)
+
+module _ (t : ℕ) (a : Acted t) where
+  fitting : SFits w32 (line (lined a) .operand)
+  fitting = search needs
+
+  abbrev r₀ : Cell
+  r₀ = a .before .before .before .before .unknown .result
+
+  seen : a .outcome-of .result ≡ outcome (operationOf (line (lined a) .code)) (line (lined a) .operand) r₀ (64 - after a .free) (after a .accu) (getD (after a .stack) (a .before .before .before .before .before .before .place-of .result) (cell (Number (pos 0))))
+  seen = a .outcome-of .ensures ∙ ap (λ z. outcome (operationOf (line (lined a) .code)) z r₀ (64 - after a .free) (after a .accu) (getD (after a .stack) (a .before .before .before .before .before .before .place-of .result) (cell (Number (pos 0))))) (toZ-ofZ w32 _ fitting)
+
+  indexed : a .before .before .before .before .before .before .before .index-of .result ≡ index (line (lined a) .operand)
+  indexed = let e = a .before .before .before .before .before .before .before .index-of .ensures .0 in e ∙ ap index (toZ-ofZ w32 _ fitting)
+
+  placed : (a .before .before .before .before .before .before .place-of .result < 64)
+      × (after a .free + entryOf (operationOf (line (lined a) .code)) (a .before .before .before .before .before .before .before .index-of .result) < 64
+      → a .before .before .before .before .before .before .place-of .result ≡ after a .free + entryOf (operationOf (line (lined a) .code)) (a .before .before .before .before .before .before .before .index-of .result))
+  placed = a .before .before .before .before .before .before .place-of .ensures
+
+  abbrev element : Cell
+  element = getD (after a .stack) (a .before .before .before .before .before .before .place-of .result) (cell (Number (pos 0)))
+
+  seen-unknown : a .outcome-of .result ≡ outcome (operationOf (line (lined a) .code)) (line (lined a) .operand) unknown (64 - after a .free) (after a .accu) element
+  seen-unknown = seen ∙ ap (λ z. outcome (operationOf (line (lined a) .code)) (line (lined a) .operand) z (64 - after a .free) (after a .accu) element) (a .before .before .before .before .unknown .ensures)
+
+  abbrev arm-at : Outcome → Type 0
+  arm-at = Arm (entry (body (lined a)) .args .first) (entry (body (lined a)) .args .codes .now) (entry (body (lined a)) .args .operands .now) (entry (body (lined a)) .args .cycles .now) (entry (body (lined a)) .args .words .now) (entry (body (lined a)) .args .sizes .now)
+      (entry (body (lined a)) .args .openings) (entry (body (lined a)) .args .budget) (entry (body (lined a)) .args .t7) (body (lined a) .before .before .jump .result)
+      (body (lined a) .before .loop .blocks) (s t (joined a)) (body (lined a) .before .loop .left) (body (lined a) .before .loop .tally) (line (lined a))
+      (a .before .before .before .before .before .before .before .before .before .before .more .result) (after a) (a .before .before .before .before .before .before .before .index-of .result)
+
+  arm : arm-at (a .outcome-of .result)
+  arm = record {
+    turn = body (lined a) .before .loop .inv;
+    some = body (lined a) .loop-test .taken;
+    small = small t (lined a);
+    grown = a .before .before .before .before .before .before .before .before .before .before .more .ensures;
+    free = pushed t (joined a) .free;
+    full = full t (joined a);
+    stays = pushed t (joined a) .stays;
+    low = omega (arith, inside _ _ _ _ _ (entry (body (lined a)) .args .sizes .now) (entry (body (lined a)) .args .openings) (entry (body (lined a)) .args .budget) (entry (body (lined a)) .args .t7) (body (lined a) .before .before .jump .result) (body (lined a) .before .loop .blocks) (s t (joined a)) (after a) (line (lined a)) (found t (lined a)) (full t (joined a)) (pushed t (joined a) .ready), entry (body (lined a)) .pre .1 .1 .addresses);
+    index-is = indexed;
+    index-fits = omega (arith, a .before .before .before .before .before .before .before .index-of .ensures .1);
+    entry = element;
+    out-is = seen-unknown;
+    makes =
+        turns _ _ _ _ _ (entry (body (lined a)) .args .sizes .now) (entry (body (lined a)) .args .openings) (entry (body (lined a)) .args .budget) (entry (body (lined a)) .args .t7) (body (lined a) .before .before .jump .result) (body (lined a) .before .loop .blocks) (s t (joined a)) (after a) (line (lined a)) (found t (lined a)) (full t (joined a)) (pushed t (joined a) .ready)
+        (a .before .before .before .before .before .before .before .index-of .result) (64 - after a .free) (a .before .before .before .before .before .before .place-of .result) element (a .outcome-of .result)
+        indexed refl (pushed t (joined a) .free) (placed .1) (getD-any (after a .stack) _ (cell (Number (pos 0))) element (omega (arith, full t (joined a), placed .0))) seen-unknown;
+  }
+
+-- ---- the ways out before the outcome
+
+module _ (t : ℕ) (b : Body t) where
+  abbrev keeps-at : Found → Type 0
+  keeps-at = Kept (entry b .args .first) (entry b .args .codes .now) (entry b .args .operands .now) (entry b .args .cycles .now) (entry b .args .words .now) (entry b .args .sizes .now) (entry b .args .openings) (entry b .args .budget)
+      (entry b .args .t7) (b .before .before .jump .result) (entry b .args .start) (entry b .args .place) (b .before .before .jump .ensures .0)
+
+  sticks : act (entry b .args .first) (entry b .args .codes .now) (entry b .args .operands .now) (entry b .args .cycles .now) (entry b .args .words .now) (entry b .args .sizes .now) (entry b .args .openings) (entry b .args .budget) (entry b .args .t7) (b .before .before .jump .result)
+      (whole (entry b .args .sizes .now) (b .before .loop .blocks) (b .before .loop .s)) ≡ stuck →
+      (r : Found) → r ≡ refusedAs (Verdict.Stuck (b .before .loop .s .at)) (entry b .args .budget - b .before .loop .left + 1) → keeps-at r
+  sticks e r f =
+      stuck-out _ _ _ _ _ _ _ _ _ _ (entry b .args .start) (entry b .args .place) (b .before .before .jump .ensures .0) _ (b .before .loop .s) _ (b .before .loop .tally) (b .before .loop .inv) (b .loop-test .taken) e r f
+
+  strays : stuck ≡ fetch (codeOf (entry b .args .first) (entry b .args .codes .now) (entry b .args .operands .now) (entry b .args .cycles .now) (entry b .args .words .now)) (b .before .loop .s .at) →
+      (r : Found) → r ≡ refusedAs (Verdict.Stuck (b .before .loop .s .at)) (entry b .args .budget - b .before .loop .left + 1) → keeps-at r
+  strays e =
+      sticks (outside (entry b .args .first) (entry b .args .codes .now) (entry b .args .operands .now) (entry b .args .cycles .now) (entry b .args .words .now) (entry b .args .sizes .now) (entry b .args .openings) (entry b .args .budget) (entry b .args .t7) (b .before .before .jump .result)
+      (b .before .loop .blocks) (b .before .loop .s) e)
+
+jump-requires : (t : ℕ) → explore-lts.Need-jump-requires (claims t) (explore-at t) explore.Post Inv-loop μ-loop
+jump-requires t c κs = c .before .before .before .before .pre .1 .1 .free
+
+loop-holds : (t : ℕ) → explore-lts.Need-loop-holds (claims t) (explore-at t) explore.Post Inv-loop μ-loop
+loop-holds t c =
+    let s = c .jump .result in
+    let n : length (s .stack) ≡ 64 = search (needs, length-images) in
+    starts _ _ _ _ _ _ _ _ _ _ (c .jump .ensures .1) n (omega (arith, jumped-at s (c .before .before .before .before .before .args .start) _ (c .jump .ensures .0), c .before .before .before .before .before .pre .1 .1 .place-fits)) (c .before .before .before .before .before .pre .1 .1 .fits)
+
+sub-used : (t : ℕ) → explore-lts.Need-sub-used (claims t) (explore-at t) explore.Post Inv-loop μ-loop
+sub-used t c = search needs
+
+add-used : (t : ℕ) → explore-lts.Need-add-used (claims t) (explore-at t) explore.Post Inv-loop μ-loop
+add-used t c = search needs
+
+sub-left : (t : ℕ) → explore-lts.Need-sub-left (claims t) (explore-at t) explore.Post Inv-loop μ-loop
+sub-left t c = search needs
+
+fetch-requires : (t : ℕ) → explore-lts.Need-fetch-requires (claims t) (explore-at t) explore.Post Inv-loop μ-loop
+fetch-requires t c κs = c .before .before .before .before .before .before .before .pre .1 .0
+
+enum-known-fetched : (t : ℕ) → explore-lts.Need-enum-known-fetched (claims t) (explore-at t) explore.Post Inv-loop μ-loop
+enum-known-fetched t c = search needs
+
+enum-told : (t : ℕ) → explore-lts.Need-enum-told (claims t) (explore-at t) explore.Post Inv-loop μ-loop
+enum-told t c = search needs
+
+refused-requires : (t : ℕ) → explore-lts.Need-refused-requires (claims t) (explore-at t) explore.Post Inv-loop μ-loop
+refused-requires t c κs = search needs
+
+returns : (t : ℕ) → explore-lts.Need-returns (claims t) (explore-at t) explore.Post Inv-loop μ-loop
+returns t c = let k = strays t (c .before .before .before .before) (ap ofFetched (sym (c .before .enum-told .given .1)) ∙ c .before .before .before .fetch .ensures .0) _ (c .refused .ensures) in (k .explored, k .modest)
+
+sub-more : (t : ℕ) → explore-lts.Need-sub-more (claims t) (explore-at t) explore.Post Inv-loop μ-loop
+sub-more t c = search needs
+
+more-requires : (t : ℕ) → explore-lts.Need-more-requires (claims t) (explore-at t) explore.Post Inv-loop μ-loop
+more-requires t c κs = (let i = c .before .before .before .before .before .loop .inv in let b = (c .before .before .before .before .before .before .before .before .before .before .before .pre .1 .1 .budget-fits) in (omega (arith, i .cycles, i .inv .within), omega (arith, i .words, i .inv .within)))
+
+refused-requires-2 : (t : ℕ) → explore-lts.Need-refused-requires-2 (claims t) (explore-at t) explore.Post Inv-loop μ-loop
+refused-requires-2 t c κs = search needs
+
+returns-2 : (t : ℕ) → explore-lts.Need-returns-2 (claims t) (explore-at t) explore.Post Inv-loop μ-loop
+returns-2 t c = let k = sticks t (c .before .before .before .before .before .before .before .before) (overflows _ _ _ _ _ _ (c .before .before .before .before .before .before .before .before .before .before .before .before .before .before .before .args .openings) (c .before .before .before .before .before .before .before .before .before .before .before .before .before .before .before .args .budget) (c .before .before .before .before .before .before .before .before .before .before .before .before .before .before .before .args .t7) (c .before .before .before .before .before .before .before .before .before .before .jump .result) (c .before .before .before .before .before .before .before .before .before .loop .blocks) (c .before .before .before .before .before .before .before .before .before .loop .s) (line (c .before .before .before .before)) (found t (c .before .before .before .before)) (c .before .before .if1 .taken) (let h : length (c .before .before .before .before .before .before .before .before .before .loop .s .stack) ≡ 64 = c .before .before .before .before .before .before .before .before .before .loop .inv .stack in h) (c .before .if2 .taken)) _ (c .refused2 .ensures) in (k .explored, k .modest)
+
+push-requires : (t : ℕ) → explore-lts.Need-push-requires (claims t) (explore-at t) explore.Post Inv-loop μ-loop
+push-requires t c κs = (omega (arith, c .before .if2 .left), c .before .before .before .before .before .before .before .before .before .loop .inv .free)
+
+index-of-requires : (t : ℕ) → explore-lts.Need-index-of-requires (claims t) (explore-at t) explore.Post Inv-loop μ-loop
+index-of-requires t c κs = search needs
+
+place-of-requires : (t : ℕ) → explore-lts.Need-place-of-requires (claims t) (explore-at t) explore.Post Inv-loop μ-loop
+place-of-requires t c κs = (omega (arith, c .index-of .ensures .1), pushed t (c .before .before) .free)
+
+drops-of-requires : (t : ℕ) → explore-lts.Need-drops-of-requires (claims t) (explore-at t) explore.Post Inv-loop μ-loop
+drops-of-requires t c κs = known t (c .before .before .before .before .before)
+
+unknown-requires : (t : ℕ) → explore-lts.Need-unknown-requires (claims t) (explore-at t) explore.Post Inv-loop μ-loop
+unknown-requires t c κs = search needs
+
+sub-outcome-of : (t : ℕ) → explore-lts.Need-sub-outcome-of (claims t) (explore-at t) explore.Post Inv-loop μ-loop
+sub-outcome-of t c = omega (arith, pushed t (c .before .before .before .before .before) .free)
+
+mul-outcome-of : (t : ℕ) → explore-lts.Need-mul-outcome-of (claims t) (explore-at t) explore.Post Inv-loop μ-loop
+mul-outcome-of t c = search needs
+
+element-copy-out-outcome-of : (t : ℕ) → explore-lts.Need-element-copy-out-outcome-of (claims t) (explore-at t) explore.Post Inv-loop μ-loop
+element-copy-out-outcome-of t c = search needs
+
+outcome-of-requires : (t : ℕ) → explore-lts.Need-outcome-of-requires (claims t) (explore-at t) explore.Post Inv-loop μ-loop
+outcome-of-requires t c κs = known t (c .before .before .before .before .before .before .before .before .before .before)
+
+enum-known-out : (t : ℕ) → explore-lts.Need-enum-known-out (claims t) (explore-at t) explore.Post Inv-loop μ-loop
+enum-known-out t c = search needs
+
+pop-requires : (t : ℕ) → explore-lts.Need-pop-requires (claims t) (explore-at t) explore.Post Inv-loop μ-loop
+pop-requires t c κs = arms.drop-room _ _ _ _ _ _ _ _ _ _ _ _ _ _ _ _ _ _ _ (arm t (c .before .before .before)) _ _ (c .before .out .given .1) (c .before .before .before .before .before .before .before .before .drops-of .ensures)
+
+load-requires : (t : ℕ) → explore-lts.Need-load-requires (claims t) (explore-at t) explore.Post Inv-loop μ-loop
+load-requires t c κs = c .pop .ensures .1
+
+advance-requires : (t : ℕ) → explore-lts.Need-advance-requires (claims t) (explore-at t) explore.Post Inv-loop μ-loop
+advance-requires t c κs = (omega (arith, loaded-at (c .load .result) (c .before .pop .result) _ (c .load .ensures .0), restacked-at (c .before .pop .result) (after (c .before .before .before .before .before)) _ (c .before .pop .ensures .0), arm t (c .before .before .before .before .before) .stays, arm t (c .before .before .before .before .before) .low), c .load .ensures .1)
+
+loop-less : (t : ℕ) → explore-lts.Need-loop-less (claims t) (explore-at t) explore.Post Inv-loop μ-loop
+loop-less t c = omega (arith, c .before .before .before .before .before .before .before .before .before .before .before .before .before .before .before .before .before .before .before .before .before .loop-test .taken)
+
+loop-again : (t : ℕ) → explore-lts.Need-loop-again (claims t) (explore-at t) explore.Post Inv-loop μ-loop
+loop-again t c = arms.gives _ _ _ _ _ _ _ _ _ _ _ _ _ _ _ _ _ _ _ (arm t (c .before .before .before .before .before .before)) _ _ (c .before .before .pop .result) (c .before .load .result) (c .advance .result) (c .before .before .before .before .out .given .1) (c .before .before .before .before .before .before .before .before .before .before .before .drops-of .ensures) (c .before .before .pop .ensures .0) (c .before .load .ensures .0) (c .advance .ensures .0) (c .advance .ensures .1) (let n : length (c .advance .result .stack) ≡ 64 = search (c .advance .ok, needs, length-images) in n)
+
+enum-known-out-2 : (t : ℕ) → explore-lts.Need-enum-known-out-2 (claims t) (explore-at t) explore.Post Inv-loop μ-loop
+enum-known-out-2 t c = search needs
+
+store-requires : (t : ℕ) → explore-lts.Need-store-requires (claims t) (explore-at t) explore.Post Inv-loop μ-loop
+store-requires t c κs = arms.store-room _ _ _ _ _ _ _ _ _ _ _ _ _ _ _ _ _ _ _ (arm t (c .before .before .before)) _ (c .before .out2 .given .1)
+
+number-requires : (t : ℕ) → explore-lts.Need-number-requires (claims t) (explore-at t) explore.Post Inv-loop μ-loop
+number-requires t c κs = search needs
+
+load-requires-2 : (t : ℕ) → explore-lts.Need-load-requires-2 (claims t) (explore-at t) explore.Post Inv-loop μ-loop
+load-requires-2 t c κs = c .before .store .ensures .1
+
+advance-requires-2 : (t : ℕ) → explore-lts.Need-advance-requires-2 (claims t) (explore-at t) explore.Post Inv-loop μ-loop
+advance-requires-2 t c κs = (omega (arith, loaded-at (c .load2 .result) (c .before .before .store .result) _ (c .load2 .ensures .0), restacked-at (c .before .before .store .result) (after (c .before .before .before .before .before .before)) _ (c .before .before .store .ensures .0), arm t (c .before .before .before .before .before .before) .stays, arm t (c .before .before .before .before .before .before) .low), c .load2 .ensures .1)
+
+loop-less-2 : (t : ℕ) → explore-lts.Need-loop-less-2 (claims t) (explore-at t) explore.Post Inv-loop μ-loop
+loop-less-2 t c = omega (arith, c .before .before .before .before .before .before .before .before .before .before .before .before .before .before .before .before .before .before .before .before .before .before .loop-test .taken)
+
+loop-again-2 : (t : ℕ) → explore-lts.Need-loop-again-2 (claims t) (explore-at t) explore.Post Inv-loop μ-loop
+loop-again-2 t c = arms.stores _ _ _ _ _ _ _ _ _ _ _ _ _ _ _ _ _ _ _ (arm t (c .before .before .before .before .before .before .before)) _ _ (c .before .before .before .store .result) (c .before .load2 .result) (c .advance2 .result) (c .before .before .before .before .before .out2 .given .1) (c .before .before .number .ensures) (c .before .before .before .store .ensures .0) (c .before .load2 .ensures .0) (c .advance2 .ensures .0) (c .advance2 .ensures .1) (let n : length (c .advance2 .result .stack) ≡ 64 = search (c .advance2 .ok, needs, length-images) in n)
+
+enum-known-out-3 : (t : ℕ) → explore-lts.Need-enum-known-out-3 (claims t) (explore-at t) explore.Post Inv-loop μ-loop
+enum-known-out-3 t c = search needs
+
+slot-of-requires : (t : ℕ) → explore-lts.Need-slot-of-requires (claims t) (explore-at t) explore.Post Inv-loop μ-loop
+slot-of-requires t c κs = search needs
+
+enum-known-field : (t : ℕ) → explore-lts.Need-enum-known-field (claims t) (explore-at t) explore.Post Inv-loop μ-loop
+enum-known-field t c = search needs
+
+enum-told-2 : (t : ℕ) → explore-lts.Need-enum-told-2 (claims t) (explore-at t) explore.Post Inv-loop μ-loop
+enum-told-2 t c = search needs
+
+refused-requires-3 : (t : ℕ) → explore-lts.Need-refused-requires-3 (claims t) (explore-at t) explore.Post Inv-loop μ-loop
+refused-requires-3 t c κs = search needs
+
+returns-3 : (t : ℕ) → explore-lts.Need-returns-3 (claims t) (explore-at t) explore.Post Inv-loop μ-loop
+returns-3 t c = let k = sticks t (c .before .before .before .before .before .before .before .before .before .before .before .before .before .before .before .before .before .before .before .before .before .before .before) (arms.sets-nothing _ _ _ _ _ _ _ _ _ _ _ _ _ _ _ _ _ _ _ (arm t (c .before .before .before .before .before .before .before .before)) _ (c .before .before .before .before .before .before .out3 .given .1) (ap ofSlot (sym (c .before .enum-told2 .given .1)) ∙ c .before .before .before .slot-of .ensures)) _ (c .refused3 .ensures) in (k .explored, k .modest)
+
+mul-blocks : (t : ℕ) → explore-lts.Need-mul-blocks (claims t) (explore-at t) explore.Post Inv-loop μ-loop
+mul-blocks t c = omega (arith, sized t (c .before .before .before .before .before .before .before .before .before .before .before .before .before .before .before .before .before .before .before .before .before .before .before .before .before .before .before .before .before .before), arms.slot-in _ _ _ _ _ _ _ _ _ _ _ _ _ _ _ _ _ _ _ (arm t (c .before .before .before .before .before .before .before .before)) _ (ap ofSlot (sym (c .before .field .given .1)) ∙ c .before .before .before .slot-of .ensures))
+
+array-set-from-blocks : (t : ℕ) → explore-lts.Need-array-set-from-blocks (claims t) (explore-at t) explore.Post Inv-loop μ-loop
+array-set-from-blocks t c = omega (arith, sized t (c .before .before .before .before .before .before .before .before .before .before .before .before .before .before .before .before .before .before .before .before .before .before .before .before .before .before .before .before .before .before), arms.slot-in _ _ _ _ _ _ _ _ _ _ _ _ _ _ _ _ _ _ _ (arm t (c .before .before .before .before .before .before .before .before)) _ (ap ofSlot (sym (c .before .field .given .1)) ∙ c .before .before .before .slot-of .ensures))
+
+pop-requires-2 : (t : ℕ) → explore-lts.Need-pop-requires-2 (claims t) (explore-at t) explore.Post Inv-loop μ-loop
+pop-requires-2 t c κs = arms.set-room _ _ _ _ _ _ _ _ _ _ _ _ _ _ _ _ _ _ _ (arm t (c .before .before .before .before .before .before .before .before)) _ (c .before .before .before .before .before .before .out3 .given .1)
+
+number-requires-2 : (t : ℕ) → explore-lts.Need-number-requires-2 (claims t) (explore-at t) explore.Post Inv-loop μ-loop
+number-requires-2 t c κs = search needs
+
+load-requires-3 : (t : ℕ) → explore-lts.Need-load-requires-3 (claims t) (explore-at t) explore.Post Inv-loop μ-loop
+load-requires-3 t c κs = c .before .pop2 .ensures .1
+
+advance-requires-3 : (t : ℕ) → explore-lts.Need-advance-requires-3 (claims t) (explore-at t) explore.Post Inv-loop μ-loop
+advance-requires-3 t c κs = (omega (arith, loaded-at (c .load3 .result) (c .before .before .pop2 .result) _ (c .load3 .ensures .0), restacked-at (c .before .before .pop2 .result) (after (c .before .before .before .before .before .before .before .before .before .before .before)) _ (c .before .before .pop2 .ensures .0), arm t (c .before .before .before .before .before .before .before .before .before .before .before) .stays, arm t (c .before .before .before .before .before .before .before .before .before .before .before) .low), c .load3 .ensures .1)
+
+loop-less-3 : (t : ℕ) → explore-lts.Need-loop-less-3 (claims t) (explore-at t) explore.Post Inv-loop μ-loop
+loop-less-3 t c = omega (arith, c .before .before .before .before .before .before .before .before .before .before .before .before .before .before .before .before .before .before .before .before .before .before .before .before .before .before .before .loop-test .taken)
+
+loop-again-3 : (t : ℕ) → explore-lts.Need-loop-again-3 (claims t) (explore-at t) explore.Post Inv-loop μ-loop
+loop-again-3 t c = arms.sets _ _ _ _ _ _ _ _ _ _ _ _ _ _ _ _ _ _ _ (arm t (c .before .before .before .before .before .before .before .before .before .before .before .before)) _ _ _ (c .before .before .before .pop2 .result) (c .before .load3 .result) (c .advance3 .result) (c .before .before .before .before .before .before .before .before .before .before .out3 .given .1) (ap ofSlot (sym (c .before .before .before .before .before .field .given .1)) ∙ c .before .before .before .before .before .before .before .slot-of .ensures) (c .before .before .number2 .ensures) (c .before .before .before .pop2 .ensures .0) (c .before .load3 .ensures .0) (c .advance3 .ensures .0) (c .advance3 .ensures .1) (let n : length (c .advance3 .result .stack) ≡ 64 = search (c .advance3 .ok, needs, length-images) in n)
+
+enum-told-3 : (t : ℕ) → explore-lts.Need-enum-told-3 (claims t) (explore-at t) explore.Post Inv-loop μ-loop
+enum-told-3 t c = search needs
+
+slot-of-requires-2 : (t : ℕ) → explore-lts.Need-slot-of-requires-2 (claims t) (explore-at t) explore.Post Inv-loop μ-loop
+slot-of-requires-2 t c κs = search needs
+
+enum-known-field-2 : (t : ℕ) → explore-lts.Need-enum-known-field-2 (claims t) (explore-at t) explore.Post Inv-loop μ-loop
+enum-known-field-2 t c = search needs
+
+enum-told-4 : (t : ℕ) → explore-lts.Need-enum-told-4 (claims t) (explore-at t) explore.Post Inv-loop μ-loop
+enum-told-4 t c = search needs
+
+refused-requires-4 : (t : ℕ) → explore-lts.Need-refused-requires-4 (claims t) (explore-at t) explore.Post Inv-loop μ-loop
+refused-requires-4 t c κs = search needs
+
+returns-4 : (t : ℕ) → explore-lts.Need-returns-4 (claims t) (explore-at t) explore.Post Inv-loop μ-loop
+returns-4 t c = let k = sticks t (c .before .before .before .before .before .before .before .before .before .before .before .before .before .before .before .before .before .before .before .before .before .before) (arms.gets-nothing _ _ _ _ _ _ _ _ _ _ _ _ _ _ _ _ _ _ _ (arm t (c .before .before .before .before .before .before .before)) (c .before .before .before .before .before .enum-told3 .given .1) (ap ofSlot (sym (c .before .enum-told4 .given .1)) ∙ c .before .before .before .slot-of2 .ensures)) _ (c .refused4 .ensures) in (k .explored, k .modest)
+
+mul-load : (t : ℕ) → explore-lts.Need-mul-load (claims t) (explore-at t) explore.Post Inv-loop μ-loop
+mul-load t c = omega (arith, sized t (c .before .before .before .before .before .before .before .before .before .before .before .before .before .before .before .before .before .before .before .before .before .before .before .before .before .before .before .before .before), arms.slot-in _ _ _ _ _ _ _ _ _ _ _ _ _ _ _ _ _ _ _ (arm t (c .before .before .before .before .before .before .before)) _ (ap ofSlot (sym (c .before .field2 .given .1)) ∙ c .before .before .before .slot-of2 .ensures))
+
+array-copy-out-load : (t : ℕ) → explore-lts.Need-array-copy-out-load (claims t) (explore-at t) explore.Post Inv-loop μ-loop
+array-copy-out-load t c = omega (arith, sized t (c .before .before .before .before .before .before .before .before .before .before .before .before .before .before .before .before .before .before .before .before .before .before .before .before .before .before .before .before .before), arms.slot-in _ _ _ _ _ _ _ _ _ _ _ _ _ _ _ _ _ _ _ (arm t (c .before .before .before .before .before .before .before)) _ (ap ofSlot (sym (c .before .field2 .given .1)) ∙ c .before .before .before .slot-of2 .ensures))
+
+load-requires-4 : (t : ℕ) → explore-lts.Need-load-requires-4 (claims t) (explore-at t) explore.Post Inv-loop μ-loop
+load-requires-4 t c κs = pushed t (c .before .before .before .before .before .before .before .before .before .before .before .before .before .before .before .before .before) .free
+
+advance-requires-4 : (t : ℕ) → explore-lts.Need-advance-requires-4 (claims t) (explore-at t) explore.Post Inv-loop μ-loop
+advance-requires-4 t c κs = (omega (arith, loaded-at (c .load4 .result) (after (c .before .before .before .before .before .before .before .before .before)) _ (c .load4 .ensures .0), arm t (c .before .before .before .before .before .before .before .before .before) .stays, arm t (c .before .before .before .before .before .before .before .before .before) .low), c .load4 .ensures .1)
+
+loop-less-4 : (t : ℕ) → explore-lts.Need-loop-less-4 (claims t) (explore-at t) explore.Post Inv-loop μ-loop
+loop-less-4 t c = omega (arith, c .before .before .before .before .before .before .before .before .before .before .before .before .before .before .before .before .before .before .before .before .before .before .before .before .before .loop-test .taken)
+
+loop-again-4 : (t : ℕ) → explore-lts.Need-loop-again-4 (claims t) (explore-at t) explore.Post Inv-loop μ-loop
+loop-again-4 t c = arms.gets _ _ _ _ _ _ _ _ _ _ _ _ _ _ _ _ _ _ _ (arm t (c .before .before .before .before .before .before .before .before .before .before)) _ _ _ (c .before .load4 .result) (c .advance4 .result) (c .before .before .before .before .before .before .before .before .enum-told3 .given .1) (ap ofSlot (sym (c .before .before .before .before .field2 .given .1)) ∙ c .before .before .before .before .before .before .slot-of2 .ensures) refl (c .before .load4 .ensures .0) (c .advance4 .ensures .0) (c .advance4 .ensures .1) (let n : length (c .advance4 .result .stack) ≡ 64 = search (c .advance4 .ok, needs, length-images) in n)
+
+enum-told-5 : (t : ℕ) → explore-lts.Need-enum-told-5 (claims t) (explore-at t) explore.Post Inv-loop μ-loop
+enum-told-5 t c = search needs
+
+jump-requires-2 : (t : ℕ) → explore-lts.Need-jump-requires-2 (claims t) (explore-at t) explore.Post Inv-loop μ-loop
+jump-requires-2 t c κs = pushed t (c .before .before .before .before .before .before .before .before .before .before .before) .free
+
+loop-less-5 : (t : ℕ) → explore-lts.Need-loop-less-5 (claims t) (explore-at t) explore.Post Inv-loop μ-loop
+loop-less-5 t c = omega (arith, c .before .before .before .before .before .before .before .before .before .before .before .before .before .before .before .before .before .before .loop-test .taken)
+
+loop-again-5 : (t : ℕ) → explore-lts.Need-loop-again-5 (claims t) (explore-at t) explore.Post Inv-loop μ-loop
+loop-again-5 t c = arms.jumps _ _ _ _ _ _ _ _ _ _ _ _ _ _ _ _ _ _ _ (arm t (c .before .before .before)) (c .jump2 .result) (c .before .enum-told5 .given .1) (c .jump2 .ensures .0) (c .jump2 .ensures .1) (let n : length (c .jump2 .result .stack) ≡ 64 = search (c .jump2 .ok, needs, length-images) in n)
+
+enum-told-6 : (t : ℕ) → explore-lts.Need-enum-told-6 (claims t) (explore-at t) explore.Post Inv-loop μ-loop
+enum-told-6 t c = search needs
+
+refused-requires-5 : (t : ℕ) → explore-lts.Need-refused-requires-5 (claims t) (explore-at t) explore.Post Inv-loop μ-loop
+refused-requires-5 t c κs = search needs
+
+returns-5 : (t : ℕ) → explore-lts.Need-returns-5 (claims t) (explore-at t) explore.Post Inv-loop μ-loop
+returns-5 t c = let k = arms.over-out _ _ _ _ _ _ _ _ _ _ (c .before .before .before .before .before .before .before .before .before .before .before .before .before .before .before .before .before .before .before .before .before .before .before .before .before .before .args .start) (c .before .before .before .before .before .before .before .before .before .before .before .before .before .before .before .before .before .before .before .before .before .before .before .before .before .before .args .place) (c .before .before .before .before .before .before .before .before .before .before .before .before .before .before .before .before .before .before .before .before .before .jump .ensures .0) _ _ _ _ _ _ _ _ _ (arm t (c .before .before .before .before)) (c .before .before .enum-told6 .given .1) (c .before .if3 .taken) _ (c .refused5 .ensures) in (k .explored, k .modest)
+
+add-explore : (t : ℕ) → explore-lts.Need-add-explore (claims t) (explore-at t) explore.Post Inv-loop μ-loop
+add-explore t c = omega (arith, arm t (c .before .before .before) .low)
+
+sub-explore : (t : ℕ) → explore-lts.Need-sub-explore (claims t) (explore-at t) explore.Post Inv-loop μ-loop
+sub-explore t c = omega (arith, c .if3 .left)
+
+explore-requires : (t : ℕ) → explore-lts.Need-explore-requires (claims t) (explore-at t) explore.Post Inv-loop μ-loop
+explore-requires t c κs = (omega (arith, c .if3 .left, c .before .before .before .before .before .before .before .before .before .before .before .before .before .before .before .before .before .before .before .before .before .before .before .before .before .pre .0), (c .before .before .before .before .before .before .before .before .before .before .before .before .before .before .before .before .before .before .before .before .before .before .before .before .before .pre .1 .0, (record { addresses = c .before .before .before .before .before .before .before .before .before .before .before .before .before .before .before .before .before .before .before .before .before .before .before .before .before .pre .1 .1 .addresses; place-fits = omega (arith, arm t (c .before .before .before) .low); free = pushed t (c .before .before .before .before .before .before .before .before .before .before .before .before) .free; budget-fits = omega (arith, c .before .before .before .before .before .before .before .before .before .before .before .before .before .before .before .before .before .before .before .before .before .before .before .before .before .pre .1 .1 .budget-fits, c .before .before .before .before .before .before .before .before .before .before .before .before .before .before .before .before .before .before .before .loop .inv .inv .within); openings-fit = omega (arith, c .before .before .before .before .before .before .before .before .before .before .before .before .before .before .before .before .before .before .before .before .before .before .before .before .before .pre .1 .1 .openings-fit); fits = c .before .before .before .before .before .before .before .before .before .before .before .before .before .before .before .before .before .before .before .loop .inv .fits })))
+
+enum-told-7 : (t : ℕ) → explore-lts.Need-enum-told-7 (claims t) (explore-at t) explore.Post Inv-loop μ-loop
+enum-told-7 t c = search needs
+
+add-refused : (t : ℕ) → explore-lts.Need-add-refused (claims t) (explore-at t) explore.Post Inv-loop μ-loop
+add-refused t c = omega (arith, c .before .before .before .before .before .before .before .before .before .before .before .before .before .before .before .before .before .before .before .before .before .before .before .before .before .before .before .before .pre .1 .1 .budget-fits, c .before .before .before .before .before .before .before .before .before .before .before .before .before .before .before .before .before .before .before .before .before .before .loop .inv .inv .within, c .before .before .before .before .before .before .before .before .before .before .before .before .before .before .before .before .before .before .before .before .before .loop-test .taken, c .before .before .explore .ensures .1 .used)
+
+refused-requires-6 : (t : ℕ) → explore-lts.Need-refused-requires-6 (claims t) (explore-at t) explore.Post Inv-loop μ-loop
+refused-requires-6 t c κs = search needs
+
+returns-6 : (t : ℕ) → explore-lts.Need-returns-6 (claims t) (explore-at t) explore.Post Inv-loop μ-loop
+returns-6 t c = let k = arms.first-out _ _ _ _ _ _ _ _ _ _ (c .before .before .before .before .before .before .before .before .before .before .before .before .before .before .before .before .before .before .before .before .before .before .before .before .before .before .before .before .before .args .start) (c .before .before .before .before .before .before .before .before .before .before .before .before .before .before .before .before .before .before .before .before .before .before .before .before .before .before .before .before .before .args .place) (c .before .before .before .before .before .before .before .before .before .before .before .before .before .before .before .before .before .before .before .before .before .before .before .before .jump .ensures .0) _ _ _ _ _ _ _ _ _ (arm t (c .before .before .before .before .before .before .before)) (c .before .before .before .before .before .enum-told6 .given .1) (omega (arith, c .before .before .before .before .if3 .left)) (c .before .before .before .explore .result) (c .before .before .before .explore .ensures .0) (c .before .before .before .explore .ensures .1) (fails _ (c .before .before .match5 .keys2)) _ (c .refused6 .ensures) in (k .explored, k .modest)
+
+sub-explore-2 : (t : ℕ) → explore-lts.Need-sub-explore-2 (claims t) (explore-at t) explore.Post Inv-loop μ-loop
+sub-explore-2 t c = omega (arith, c .before .before .before .if3 .left)
+
+sub-explore-3 : (t : ℕ) → explore-lts.Need-sub-explore-3 (claims t) (explore-at t) explore.Post Inv-loop μ-loop
+sub-explore-3 t c = c .before .before .before .explore .ensures .1 .used
+
+explore-requires-2 : (t : ℕ) → explore-lts.Need-explore-requires-2 (claims t) (explore-at t) explore.Post Inv-loop μ-loop
+explore-requires-2 t c κs = (omega (arith, c .before .before .before .before .if3 .left, c .before .before .before .before .before .before .before .before .before .before .before .before .before .before .before .before .before .before .before .before .before .before .before .before .before .before .before .before .before .pre .0), (c .before .before .before .before .before .before .before .before .before .before .before .before .before .before .before .before .before .before .before .before .before .before .before .before .before .before .before .before .before .pre .1 .0, (record { addresses = c .before .before .before .before .before .before .before .before .before .before .before .before .before .before .before .before .before .before .before .before .before .before .before .before .before .before .before .before .before .pre .1 .1 .addresses; place-fits = arm t (c .before .before .before .before .before .before .before) .index-fits; free = pushed t (c .before .before .before .before .before .before .before .before .before .before .before .before .before .before .before .before) .free; budget-fits = omega (arith, c .before .before .before .before .before .before .before .before .before .before .before .before .before .before .before .before .before .before .before .before .before .before .before .before .before .before .before .before .before .pre .1 .1 .budget-fits, c .before .before .before .before .before .before .before .before .before .before .before .before .before .before .before .before .before .before .before .before .before .before .before .loop .inv .inv .within); openings-fit = omega (arith, c .before .before .before .before .before .before .before .before .before .before .before .before .before .before .before .before .before .before .before .before .before .before .before .before .before .before .before .before .before .pre .1 .1 .openings-fit); fits = c .before .before .before .before .before .before .before .before .before .before .before .before .before .before .before .before .before .before .before .before .before .before .before .loop .inv .fits })))
+
+enum-told-8 : (t : ℕ) → explore-lts.Need-enum-told-8 (claims t) (explore-at t) explore.Post Inv-loop μ-loop
+enum-told-8 t c = search needs
+
+add-refused-2 : (t : ℕ) → explore-lts.Need-add-refused-2 (claims t) (explore-at t) explore.Post Inv-loop μ-loop
+add-refused-2 t c = omega (arith, c .before .before .before .before .before .before .before .before .before .before .before .before .before .before .before .before .before .before .before .before .before .before .before .before .before .before .before .before .before .before .before .before .pre .1 .1 .budget-fits, c .before .before .before .before .before .before .before .before .before .before .before .before .before .before .before .before .before .before .before .before .before .before .before .before .before .before .loop .inv .inv .within, c .before .before .before .before .before .before .before .before .before .before .before .before .before .before .before .before .before .before .before .before .before .before .before .before .before .loop-test .taken, c .before .before .before .before .before .before .explore .ensures .1 .used)
+
+add-refused-3 : (t : ℕ) → explore-lts.Need-add-refused-3 (claims t) (explore-at t) explore.Post Inv-loop μ-loop
+add-refused-3 t c = omega (arith, c .before .before .before .before .before .before .before .before .before .before .before .before .before .before .before .before .before .before .before .before .before .before .before .before .before .before .before .before .before .before .before .before .before .pre .1 .1 .budget-fits, c .before .before .before .before .before .before .before .before .before .before .before .before .before .before .before .before .before .before .before .before .before .before .before .before .before .before .before .loop .inv .inv .within, c .before .before .before .before .before .before .before .before .before .before .before .before .before .before .before .before .before .before .before .before .before .before .before .before .before .before .loop-test .taken, c .before .before .before .before .before .before .before .explore .ensures .1 .used, c .before .before .before .explore2 .ensures .1 .used)
+
+refused-requires-7 : (t : ℕ) → explore-lts.Need-refused-requires-7 (claims t) (explore-at t) explore.Post Inv-loop μ-loop
+refused-requires-7 t c κs = search needs
+
+returns-7 : (t : ℕ) → explore-lts.Need-returns-7 (claims t) (explore-at t) explore.Post Inv-loop μ-loop
+returns-7 t c = let k = arms.second-out _ _ _ _ _ _ _ _ _ _ (c .before .before .before .before .before .before .before .before .before .before .before .before .before .before .before .before .before .before .before .before .before .before .before .before .before .before .before .before .before .before .before .before .before .before .args .start) (c .before .before .before .before .before .before .before .before .before .before .before .before .before .before .before .before .before .before .before .before .before .before .before .before .before .before .before .before .before .before .before .before .before .before .args .place) (c .before .before .before .before .before .before .before .before .before .before .before .before .before .before .before .before .before .before .before .before .before .before .before .before .before .before .before .before .before .jump .ensures .0) _ _ _ _ _ _ _ _ _ (arm t (c .before .before .before .before .before .before .before .before .before .before .before .before)) (c .before .before .before .before .before .before .before .before .before .before .enum-told6 .given .1) (omega (arith, c .before .before .before .before .before .before .before .before .before .if3 .left)) (c .before .before .before .before .before .before .before .before .explore .result) (c .before .before .before .before .before .before .before .before .explore .ensures .0) (c .before .before .before .before .before .before .before .before .explore .ensures .1) (c .before .before .before .before .before .before .enum-told7 .given .1) (c .before .before .before .before .explore2 .result) (c .before .before .before .before .explore2 .ensures .0) (c .before .before .before .before .explore2 .ensures .1) (fails _ (c .before .before .before .match6 .keys2)) _ (c .refused7 .ensures) in (k .explored, k .modest)
+
+joined-requires : (t : ℕ) → explore-lts.Need-joined-requires (claims t) (explore-at t) explore.Post Inv-loop μ-loop
+joined-requires t c κs = arms.sums _ _ _ _ _ _ _ _ _ _ (c .before .before .before .before .before .before .before .before .before .before .before .before .before .before .before .before .before .before .before .before .before .before .before .before .before .before .before .before .before .before .before .before .args .start) (c .before .before .before .before .before .before .before .before .before .before .before .before .before .before .before .before .before .before .before .before .before .before .before .before .before .before .before .before .before .before .before .before .args .place) (c .before .before .before .before .before .before .before .before .before .before .before .before .before .before .before .before .before .before .before .before .before .before .before .before .before .before .before .jump .ensures .0) _ _ _ _ _ _ _ _ _ (arm t (c .before .before .before .before .before .before .before .before .before .before)) (c .before .before .before .before .before .before .before .before .enum-told6 .given .1) (omega (arith, c .before .before .before .before .before .before .before .if3 .left)) (c .before .before .before .before .before .before .explore .result) (c .before .before .before .before .before .before .explore .ensures .0) (c .before .before .before .before .before .before .explore .ensures .1) (c .before .before .before .before .enum-told7 .given .1) (c .before .before .explore2 .result) (c .before .before .explore2 .ensures .0) (c .before .before .explore2 .ensures .1) (c .before .before .before .before .before .before .before .before .before .before .before .before .before .before .before .before .before .before .before .before .before .before .before .before .before .before .before .before .before .before .before .before .pre .1 .1 .openings-fit) (c .before .before .before .before .before .before .before .before .before .before .before .before .before .before .before .before .before .before .before .before .before .before .before .before .before .before .before .before .before .before .before .before .pre .1 .1 .budget-fits)
+
+returns-8 : (t : ℕ) → explore-lts.Need-returns-8 (claims t) (explore-at t) explore.Post Inv-loop μ-loop
+returns-8 t c = let k = arms.both-out _ _ _ _ _ _ _ _ _ _ (c .before .before .before .before .before .before .before .before .before .before .before .before .before .before .before .before .before .before .before .before .before .before .before .before .before .before .before .before .before .before .before .before .before .args .start) (c .before .before .before .before .before .before .before .before .before .before .before .before .before .before .before .before .before .before .before .before .before .before .before .before .before .before .before .before .before .before .before .before .before .args .place) (c .before .before .before .before .before .before .before .before .before .before .before .before .before .before .before .before .before .before .before .before .before .before .before .before .before .before .before .before .jump .ensures .0) _ _ _ _ _ _ _ _ _ (arm t (c .before .before .before .before .before .before .before .before .before .before .before)) (c .before .before .before .before .before .before .before .before .before .enum-told6 .given .1) (omega (arith, c .before .before .before .before .before .before .before .before .if3 .left)) (c .before .before .before .before .before .before .before .explore .result) (c .before .before .before .before .before .before .before .explore .ensures .0) (c .before .before .before .before .before .before .before .explore .ensures .1) (c .before .before .before .before .before .enum-told7 .given .1) (c .before .before .before .explore2 .result) (c .before .before .before .explore2 .ensures .0) (c .before .before .before .explore2 .ensures .1) (c .before .enum-told8 .given .1) _ (c .joined .ensures) in (k .explored, k .modest)
+
+enum-told-9 : (t : ℕ) → explore-lts.Need-enum-told-9 (claims t) (explore-at t) explore.Post Inv-loop μ-loop
+enum-told-9 t c = search needs
+
+finished-requires : (t : ℕ) → explore-lts.Need-finished-requires (claims t) (explore-at t) explore.Post Inv-loop μ-loop
+finished-requires t c κs = search needs
+
+returns-9 : (t : ℕ) → explore-lts.Need-returns-9 (claims t) (explore-at t) explore.Post Inv-loop μ-loop
+returns-9 t c = let k = arms.halts-out _ _ _ _ _ _ _ _ _ _ (c .before .before .before .before .before .before .before .before .before .before .before .before .before .before .before .before .before .before .before .before .before .before .before .before .before .args .start) (c .before .before .before .before .before .before .before .before .before .before .before .before .before .before .before .before .before .before .before .before .before .before .before .before .before .args .place) (c .before .before .before .before .before .before .before .before .before .before .before .before .before .before .before .before .before .before .before .before .jump .ensures .0) _ _ _ _ _ _ _ _ _ (arm t (c .before .before .before)) (c .before .enum-told9 .given .1) _ (c .finished .ensures) in (k .explored, k .modest)
+
+enum-told-10 : (t : ℕ) → explore-lts.Need-enum-told-10 (claims t) (explore-at t) explore.Post Inv-loop μ-loop
+enum-told-10 t c = search needs
+
+refused-requires-8 : (t : ℕ) → explore-lts.Need-refused-requires-8 (claims t) (explore-at t) explore.Post Inv-loop μ-loop
+refused-requires-8 t c κs = search needs
+
+returns-10 : (t : ℕ) → explore-lts.Need-returns-10 (claims t) (explore-at t) explore.Post Inv-loop μ-loop
+returns-10 t c = let k = sticks t (c .before .before .before .before .before .before .before .before .before .before .before .before .before .before .before .before .before .before) (arms.is-stuck _ _ _ _ _ _ _ _ _ _ _ _ _ _ _ _ _ _ _ (arm t (c .before .before .before)) (c .before .enum-told10 .given .1)) _ (c .refused8 .ensures) in (k .explored, k .modest)
+
+refused-requires-9 : (t : ℕ) → explore-lts.Need-refused-requires-9 (claims t) (explore-at t) explore.Post Inv-loop μ-loop
+refused-requires-9 t c κs = search needs
+
+returns-11 : (t : ℕ) → explore-lts.Need-returns-11 (claims t) (explore-at t) explore.Post Inv-loop μ-loop
+returns-11 t c = let k = arms.spent-out _ _ _ _ _ _ _ _ _ _ (c .before .before .before .before .before .before .before .before .args .start) (c .before .before .before .before .before .before .before .before .args .place) (c .before .before .before .jump .ensures .0) _ (c .before .before .loop .s) _ (c .before .before .loop .tally) (c .before .before .loop .inv) (omega (arith, c .before .loop-test .left)) _ (c .refused9 .ensures) in (k .explored, k .modest)
+
+pub +explore-spec : {M : Type 1} → statement M
++explore-spec =
+    close μ-explore
+    λ t. explore-lts.spec (claims t) (explore-at t) explore.Post Inv-loop μ-loop
+    (jump-requires t)
+    (loop-holds t)
+    (sub-used t)
+    (add-used t)
+    (sub-left t)
+    (fetch-requires t)
+    (enum-known-fetched t)
+    (enum-told t)
+    (refused-requires t)
+    (returns t)
+    (sub-more t)
+    (more-requires t)
+    (refused-requires-2 t)
+    (returns-2 t)
+    (push-requires t)
+    (index-of-requires t)
+    (place-of-requires t)
+    (drops-of-requires t)
+    (unknown-requires t)
+    (sub-outcome-of t)
+    (mul-outcome-of t)
+    (element-copy-out-outcome-of t)
+    (outcome-of-requires t)
+    (enum-known-out t)
+    (pop-requires t)
+    (load-requires t)
+    (advance-requires t)
+    (loop-less t)
+    (loop-again t)
+    (enum-known-out-2 t)
+    (store-requires t)
+    (number-requires t)
+    (load-requires-2 t)
+    (advance-requires-2 t)
+    (loop-less-2 t)
+    (loop-again-2 t)
+    (enum-known-out-3 t)
+    (slot-of-requires t)
+    (enum-known-field t)
+    (enum-told-2 t)
+    (refused-requires-3 t)
+    (returns-3 t)
+    (mul-blocks t)
+    (array-set-from-blocks t)
+    (pop-requires-2 t)
+    (number-requires-2 t)
+    (load-requires-3 t)
+    (advance-requires-3 t)
+    (loop-less-3 t)
+    (loop-again-3 t)
+    (enum-told-3 t)
+    (slot-of-requires-2 t)
+    (enum-known-field-2 t)
+    (enum-told-4 t)
+    (refused-requires-4 t)
+    (returns-4 t)
+    (mul-load t)
+    (array-copy-out-load t)
+    (load-requires-4 t)
+    (advance-requires-4 t)
+    (loop-less-4 t)
+    (loop-again-4 t)
+    (enum-told-5 t)
+    (jump-requires-2 t)
+    (loop-less-5 t)
+    (loop-again-5 t)
+    (enum-told-6 t)
+    (refused-requires-5 t)
+    (returns-5 t)
+    (add-explore t)
+    (sub-explore t)
+    (explore-requires t)
+    (enum-told-7 t)
+    (add-refused t)
+    (refused-requires-6 t)
+    (returns-6 t)
+    (sub-explore-2 t)
+    (sub-explore-3 t)
+    (explore-requires-2 t)
+    (enum-told-8 t)
+    (add-refused-2 t)
+    (add-refused-3 t)
+    (refused-requires-7 t)
+    (returns-7 t)
+    (joined-requires t)
+    (returns-8 t)
+    (enum-told-9 t)
+    (finished-requires t)
+    (returns-9 t)
+    (enum-told-10 t)
+    (refused-requires-8 t)
+    (returns-10 t)
+    (refused-requires-9 t)
+    (returns-11 t)
