@@ -1,2 +1,3 @@
 pub mod ProgressLaws
 pub mod OutcomeLaws
+pub mod RunLaws

@@ -191,3 +191,112 @@ fn turn(sizes: &[u8], line: Line, answer: Cell, r: Progress) -> Progress
         perform(sizes, line, answer, state, r)
     }
 }
+
+// One step of the run: nothing once it has stopped, or where its step is not made.
+fn once(
+    codes: &[u8],
+    operands: &[i32],
+    cycles: &[u32],
+    words: &[u32],
+    sizes: &[u8],
+    first: usize,
+    answers: &[i32],
+    r: Progress,
+) -> Progress
+    requires { ⌜ Sized (now codes) (now operands) (now cycles) (now words) × (first + length (now codes) ≤ 65536) × Sound (now sizes) r × (r .steps < 1000000) ⌝ }
+    ensures { λ q. ⌜ ofProgress (now (sizes .entry)) (now (answers .entry)) q ≡ once (codeOf first (now (codes .entry)) (now (operands .entry)) (now (cycles .entry)) (now (words .entry))) (ofProgress (now (sizes .entry)) (now (answers .entry)) r) ⌝ }
+    ensures { λ q. ⌜ Sound (now (sizes .entry)) q × (q .steps ≤ r .steps + 1) ⌝ }
+{
+    if r.stopped {
+        return r;
+    }
+    let state = r.state;
+    let fetched = machine::code::fetch(codes, operands, cycles, words, first, state.at);
+    let Fetched::Is(line) = fetched else {
+        return r;
+    };
+    let a = answer_at(answers, r.taken);
+    turn(sizes, line, a, r)
+}
+
+// The run before its first step.
+fn begin(start: State, blocks: [Cell; 128]) -> Progress
+    requires { ⌜ start .free ≤ 64 ⌝ }
+    ensures { λ r. ⌜ ((ns : List ℕ) (answers : List ℤ) → ofProgress ns answers r ≡ begin (whole ns blocks start) answers) ⌝ }
+    ensures { λ r. ⌜ ((ns : List ℕ) → Fits ns blocks → Sound ns r) × (r .steps ≡ 0) ⌝ }
+{
+    let h = 64 - start.free;
+    Progress {
+        state: start,
+        blocks: blocks,
+        taken: 0,
+        cycles: 0,
+        words: 0,
+        depth: h,
+        steps: 0,
+        stopped: false,
+    }
+}
+
+// The run after `n` steps from `start` with `blocks`.
+pub fn after(
+    codes: &[u8],
+    operands: &[i32],
+    cycles: &[u32],
+    words: &[u32],
+    sizes: &[u8],
+    first: usize,
+    start: State,
+    blocks: [Cell; 128],
+    answers: &[i32],
+    n: usize,
+) -> Progress
+    requires { ⌜ Sized (now codes) (now operands) (now cycles) (now words) × (first + length (now codes) ≤ 65536) × Fits (now sizes) blocks × (start .free ≤ 64) × (n ≤ 1000000) ⌝ }
+    ensures { λ r. ⌜ ofProgress (now (sizes .entry)) (now (answers .entry)) r ≡ after (codeOf first (now (codes .entry)) (now (operands .entry)) (now (cycles .entry)) (now (words .entry))) n (begin (whole (now (sizes .entry)) blocks start) (now (answers .entry))) ⌝ }
+    ensures safe { λ r. ⌜ SafeFrom (codeOf first (now (codes .entry)) (now (operands .entry)) (now (cycles .entry)) (now (words .entry))) (whole (now (sizes .entry)) blocks start) n (ofProgress (now (sizes .entry)) (now (answers .entry)) r) ⌝ }
+{
+    let mut r = begin(start, blocks);
+    let mut i = 0;
+    while i < n {
+        r = once(codes, operands, cycles, words, sizes, first, answers, r);
+        i += 1;
+    }
+    r
+}
+
+// The run's verdict after `budget` steps.
+pub fn run(
+    codes: &[u8],
+    operands: &[i32],
+    cycles: &[u32],
+    words: &[u32],
+    sizes: &[u8],
+    first: usize,
+    start: State,
+    blocks: [Cell; 128],
+    answers: &[i32],
+    budget: usize,
+) -> Ran
+    requires { ⌜ Sized (now codes) (now operands) (now cycles) (now words) × (first + length (now codes) ≤ 65536) × Fits (now sizes) blocks × (start .free ≤ 64) × (budget ≤ 1000000) ⌝ }
+    ensures { λ r. ⌜ verdictOf r ≡ run (codeOf first (now (codes .entry)) (now (operands .entry)) (now (cycles .entry)) (now (words .entry))) budget (whole (now (sizes .entry)) blocks start) (now (answers .entry)) ⌝ }
+    ensures within { λ r. ⌜ WithinBound (codeOf first (now (codes .entry)) (now (operands .entry)) (now (cycles .entry)) (now (words .entry))) budget (whole (now (sizes .entry)) blocks start) (verdictOf r) ⌝ }
+{
+    let r = after(
+        codes, operands, cycles, words, sizes, first, start, blocks, answers, budget,
+    );
+    let state = r.state;
+    let verdict = if r.stopped {
+        Verdict::Stopped
+    } else if r.steps < budget {
+        Verdict::Stuck(state.at)
+    } else {
+        Verdict::Spent(state.at)
+    };
+    Ran {
+        verdict: verdict,
+        cycles: r.cycles,
+        words: r.words,
+        depth: r.depth,
+        steps: r.steps,
+    }
+}
