@@ -2,7 +2,7 @@
 use mathlib.Core.Path.{_≡_, refl, sym, ap, _∙_}
 use mathlib.Core.Bool.{Bool, true, false}
 use mathlib.Core.List.{List, [], _∷_}
-use Prim.Native.Nat.{ℕ, zero, suc, _+_, _-_, _≤_, _<_}
+use Prim.Native.Nat.{ℕ, zero, suc, _+_, _-_, _<_}
 use native.Mathlib.Omega.{arith}
 use lib.Dec.{eqb}
 use lib.IntN.{ℤ, pos, negsuc}
@@ -20,7 +20,7 @@ use Rattle.machine.specs.declared.Outcome.{Outcome}
 use Rattle.machine.specs.declared.Outcome.the-variants.{Gives, Stores, Sets, Gets, Goes, Opens, Halts, Stuck}
 use Rattle.machine.specs.declared.Slot.{Slot}
 use Rattle.machine.specs.declared.Slot.the-variants.{At, Lacks}
-use Rattle.machine.specs.Machine.{Code, Next, stops, goes, opens, stackLimit, index, fetch, jump, load, restack, advance, store, prepare, execute, step}
+use Rattle.machine.specs.Machine.{Code, Next, stops, goes, index, fetch, jump, load, restack, advance, store, prepare, execute, step}
 use Rattle.machine.specs.Outcome.{operationOf, entryOf, drops, outcome, resume}
 use Rattle.machine.specs.Columns.{lineOf}
 use Rattle.machine.specs.View.{view, slot, ofSlot, Fits, whole}
@@ -28,7 +28,7 @@ use Rattle.machine.proofs.BlockLaws.{slot-below}
 use Rattle.machine.proofs.TurnLaws.{pushed, not-pushed, full, turns, gives-drops, stores-in, sets-in, gives-goes, stores-goes, goes-goes, gets-goes, gets-stuck, sets-goes, sets-stuck}
 use Rattle.bounds.specs.Run.{moved}
 use Rattle.runs.specs.declared.Progress.{Progress}
-use Rattle.runs.specs.Progress.{ofProgress, Sound, Possible, Moves}
+use Rattle.runs.specs.Progress.{Sound, Possible, Moves}
 use Rattle.runs.proofs.ProgressLaws.{stays}
 
 pub moves-as : {ns : List ℕ} {r : Progress} {calls : Bool} {m m′ : Try Next} {q : Progress} → m′ ≡ m → Moves ns r calls m q → Moves ns r calls m′ q

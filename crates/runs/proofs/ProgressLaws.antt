@@ -1,19 +1,19 @@
 -- A step of the run, apart from its code. Assumes nothing.
-use mathlib.Core.Path.{_≡_, refl, sym, ap, _∙_}
+use mathlib.Core.Path.{_≡_, refl}
 use mathlib.Core.Bool.{Bool, true, false}
 use mathlib.Core.List.{List, [], _∷_}
-use Prim.Native.Nat.{ℕ, zero, suc, _+_, _-_, _*_, max, _≤_, _<_}
+use Prim.Native.Nat.{ℕ, zero, suc, _+_, _-_, max, _≤_, _<_}
 use native.Mathlib.Omega.{arith}
 use native.Mathlib.Numerals.{add-one}
 use lib.Dec.{eqb}
 use lib.IntN.{ℤ, pos}
 use lib.ListN.{length, getD, drop, length-drop}
-use Rattle.cells.specs.Try.{Try, stuck, done}
+use Rattle.cells.specs.Try.{stuck, done}
 use Rattle.cells.specs.declared.Cell.{Cell}
 use Rattle.cells.specs.Cells.{number}
 use Rattle.machine.specs.declared.State as code
 use Rattle.machine.specs.declared.code.Line.{Line}
-use Rattle.machine.specs.Machine.{State, Next, stops, goes, opens, height, store}
+use Rattle.machine.specs.Machine.{State, stops, goes, height, store}
 use Rattle.machine.specs.Columns.{lineOf}
 use Rattle.machine.specs.View.{Fits, whole}
 use Rattle.bounds.specs.Run.{Run, answer, remaining, moved}
@@ -56,8 +56,7 @@ runs-equal : (x y : Run) → x .state ≡ y .state → x .answers ≡ y .answers
 runs-equal x y a b c d e f g = λ i. record { state = a i; answers = b i; cycles = c i; words = d i; depth = e i; steps = f i; stopped = g i }
 
 module _ (l : Line) (r : Progress) (counted : Counted r) (k : ℕ)
-  (takes : ((answers : List ℤ) → drop k answers ≡ remaining (eqb (l .code) 13) (drop (r .taken) answers)) × (k ≤ r .taken + 1)) (cheap : (l .cycles < 4294967296) × (l .words < 4294967296)) where
-
+    (takes : ((answers : List ℤ) → drop k answers ≡ remaining (eqb (l .code) 13) (drop (r .taken) answers)) × (k ≤ r .taken + 1)) (cheap : (l .cycles < 4294967296) × (l .words < 4294967296)) where
   pub goes-moves : (ns : List ℕ) (t : code.State) (fs : List Cell) (d : ℕ) → length (t .stack) ≡ 64 → t .free ≤ 64 → d ≡ max (r .depth) (64 - t .free) → Fits ns fs →
       Moves ns r (eqb (l .code) 13) (done (goes (lineOf l .price) (whole ns fs t)))
       (record { state = t; blocks = fs; taken = k; cycles = r .cycles + l .cycles; words = r .words + l .words; depth = d; steps = r .steps + 1; stopped = false })

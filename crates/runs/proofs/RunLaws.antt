@@ -1,8 +1,8 @@
 -- The run's loop, apart from its code: one step, its first state, and its verdict. Assumes nothing.
-use mathlib.Core.Path.{_≡_, refl, sym, ap, _∙_}
+use mathlib.Core.Path.{_≡_, refl, ap, _∙_}
 use mathlib.Core.Bool.{true, false}
 use mathlib.Core.List.{List}
-use Prim.Native.Nat.{ℕ, suc, _+_, _-_, _≤_, _<_}
+use Prim.Native.Nat.{ℕ, _+_, _-_, _≤_, _<_}
 use native.Mathlib.Omega.{arith}
 use native.Mathlib.Numerals.{add-one}
 use lib.Dec.{eqb}
@@ -10,23 +10,20 @@ use lib.IntN.{ℤ}
 use lib.ListN.{length, drop, length-drop}
 use borrow.Author.Tests.{lt-ltb, le-ltb}
 use Rattle.cells.specs.Try.{stuck, done, _>>=_}
-use Rattle.cells.specs.Order.{Allowed}
 use Rattle.cells.specs.declared.Cell.{Cell}
 use Rattle.machine.specs.declared.State as code
 use Rattle.machine.specs.declared.code.Line.{Line}
 use Rattle.machine.specs.Machine.{State, Code, height, store, fetch, step, takes, takesAnswer}
 use Rattle.machine.specs.Columns.{lineOf}
-use Rattle.machine.specs.Order.{Cellwise}
-use Rattle.machine.specs.View.{Fits, whole}
-use Rattle.bounds.specs.Tree.{Report, accepted, openingLimit, bound, explore}
+use Rattle.machine.specs.View.{whole}
+use Rattle.bounds.specs.Tree.{openingLimit, bound}
 use Rattle.bounds.specs.Run.{Run, begin, answer, moved, leads, once, after, judgeRun, run}
-use Rattle.bounds.specs.Promises.{Safe}
 use Rattle.bounds.proofs.PromiseLaws.{interruptible, run-within-bound}
 use Rattle.runs.specs.declared.Progress.{Progress}
 use Rattle.runs.specs.declared.Ran.{Ran}
 use Rattle.runs.specs.declared.Verdict.{Verdict}
 use Rattle.runs.specs.declared.Verdict.the-variants.{Stopped, Stuck, Spent}
-use Rattle.runs.specs.Progress.{ofProgress, judged, verdictOf, Sound, Moves, SafeFrom, WithinBound}
+use Rattle.runs.specs.Progress.{ofProgress, judged, verdictOf, Moves, SafeFrom, WithinBound}
 
 -- ---- one step
 

@@ -92,13 +92,14 @@ fn halted(line: Line, r: Progress) -> Progress
     ensures { λ q. ⌜ ((ns : List ℕ) → Sound ns r → Moves ns r (eqb (line .code) 13) (done (stops (lineOf line .price))) q) ⌝ }
 {
     let taken = taken_after(line.code, r.taken);
+    let spent = r.cycles + (line.cycles as u64);
     let state = r.state;
     let blocks = r.blocks;
     Progress {
         state: state,
         blocks: blocks,
         taken: taken,
-        cycles: r.cycles + (line.cycles as u64),
+        cycles: spent,
         words: r.words + (line.words as u64),
         depth: r.depth,
         steps: r.steps + 1,
@@ -127,8 +128,8 @@ fn set_field(sizes: &[u8], line: Line, t: State, c: Cell, r: Progress) -> Progre
     ensures { λ q. ⌜ Moves (now (sizes .entry)) r (eqb (line .code) 13) (resume (lineOf line .price) (operationOf (line .code)) (line .operand) (whole (now (sizes .entry)) (r .blocks) t) (Sets c)) q ⌝ }
 {
     let n = machine::index_of(line.operand);
-    let slot = machine::slot_of(sizes, t.accu, n);
-    let Slot::At(j) = slot else {
+    let place = machine::slot_of(sizes, t.accu, n);
+    let Slot::At(j) = place else {
         return r;
     };
     let mut blocks = r.blocks;
@@ -282,7 +283,16 @@ pub fn run(
     ensures within { λ r. ⌜ WithinBound (codeOf first (now (codes .entry)) (now (operands .entry)) (now (cycles .entry)) (now (words .entry))) budget (whole (now (sizes .entry)) blocks start) (verdictOf r) ⌝ }
 {
     let r = after(
-        codes, operands, cycles, words, sizes, first, start, blocks, answers, budget,
+        codes,
+        operands,
+        cycles,
+        words,
+        sizes,
+        first,
+        start,
+        blocks,
+        answers,
+        budget,
     );
     let state = r.state;
     let verdict = if r.stopped {

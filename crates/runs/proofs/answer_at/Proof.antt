@@ -1,5 +1,5 @@
 -- `runs::answer_at` meets its contract. Assumes nothing.
-use mathlib.Core.Path.{_≡_, ap, _∙_}
+use mathlib.Core.Path.{ap, _∙_}
 use lib.IntN.{pos}
 use lib.ListN.{getD}
 use mir.Syntax.{w32}
@@ -10,9 +10,6 @@ use Rattle.cells.specs.Cells.{number}
 use Rattle.runs.proofs.ProgressLaws.{answer-out, answer-in}
 use Rattle.runs.proofs.answer_at.Statement.{statement}
 use Rattle.runs.proofs.answer_at.Tie as tie
-use Rattle.runs.proofs.answer_at.Reads as reads
-use Rattle.runs.proofs.answer_at.Lts as lts
-use Rattle.cells.proofs.number.Reads as number-reads
 
 number-requires : tie.Need-number-requires
 number-requires c κs = search needs

@@ -7,21 +7,16 @@ use Rattle.machine.proofs.Stack.{length-images}
 use Rattle.runs.proofs.RunLaws.{begins}
 use Rattle.runs.proofs.begin.Statement.{statement}
 use Rattle.runs.proofs.begin.Tie as tie
-use Rattle.runs.proofs.begin.Reads as reads
-use Rattle.runs.proofs.begin.Lts as lts
 
--- src/lib.rt:228:13
 -- the stack has its 64 places
 stack-length : (c : tie.Start) → length (c .args .start .stack) ≡ 64
 stack-length c = search (needs, length-images)
 
-
 sub-h : tie.Need-sub-h
 sub-h c = search needs
 
--- src/lib.rt:223:1
 returns : tie.Need-returns
-returns c = 
+returns c =
     let start = c .before in (
       λ ns answers. begins ns answers (start .args .start) (start .args .blocks) (stack-length start) (start .pre),
       (

@@ -1,6 +1,6 @@
 -- `runs::get_field` meets its contract. Assumes nothing.
 use mathlib.Core.Path.{_≡_, refl, ap, _∙_}
-use Prim.Native.Nat.{ℕ, _<_, _≤_}
+use Prim.Native.Nat.{_<_}
 use native.Mathlib.Omega.{arith}
 use lib.ListN.{length}
 use mir.Syntax.{w32}
@@ -8,17 +8,10 @@ use mir.Val.{SFits}
 use mir.ValLaws.{toZ-ofZ}
 use borrow.Author.Needs.{needs}
 use Rattle.machine.proofs.Stack.{length-images}
-use Rattle.machine.specs.Machine.{State, index, load, restack, jump, advance}
+use Rattle.machine.specs.Machine.{State, index, load, advance}
 use Rattle.runs.proofs.OutcomeLaws.{slot-in, gets-moves, gets-stays}
 use Rattle.runs.proofs.get_field.Statement.{statement}
 use Rattle.runs.proofs.get_field.Tie as tie
-use Rattle.runs.proofs.get_field.Reads as reads
-use Rattle.runs.proofs.get_field.Lts as lts
-use Rattle.machine.proofs.State.advance.Reads as advance-reads
-use Rattle.machine.proofs.State.load.Reads as load-reads
-use Rattle.machine.proofs.index_of.Reads as index-of-reads
-use Rattle.machine.proofs.slot_of.Reads as slot-of-reads
-use Rattle.runs.proofs.gone.Reads as gone-reads
 
 -- the operand as the code reads it
 operand-fits : (c : tie.After-struct-told) → SFits w32 (c .before .before .args .line .operand)
@@ -40,7 +33,7 @@ enum-told : tie.Need-enum-told
 enum-told c = search needs
 
 returns : tie.Need-returns
-returns c =     let start = c .before .before .before .before .before .before in
+returns c = let start = c .before .before .before .before .before .before in
     gets-stays _ (start .args .line) (start .args .t) (start .args .r) (start .pre .sound) _ _ (found (c .before .before .before)) _ (c .before .before .slot-of .ensures) (c .enum-told .given .1) refl
 
 -- the array has its 128 places
@@ -71,7 +64,7 @@ gone-requires : tie.Need-gone-requires
 gone-requires c κs = (c .before .before .before .before .before .before .before .before .before .before .before .pre .sound .counted, c .before .before .before .before .before .before .before .before .before .before .before .pre .steps, c .advance .ensures .1)
 
 returns-2 : tie.Need-returns-2
-returns-2 c =     let start = c .before .before .before .before .before .before .before .before .before .before .before .before in
+returns-2 c = let start = c .before .before .before .before .before .before .before .before .before .before .before .before in
     gets-moves _ (start .args .line) (start .args .t) (start .args .r) (start .pre .sound) _ _ (found (c .before .before .before .before .before .before .before .before .before)) _ (c .before .before .load .result) _ (c .before .advance .ensures .0)
     _ (c .before .before .before .before .before .before .before .before .slot-of .ensures) _ (c .before .before .before .before .before .before .slot .given .1) refl _ (c .before .before .load .ensures .0) (c .gone .ensures)
 

@@ -9,9 +9,6 @@ use Rattle.machine.proofs.Stack.{length-images}
 use Rattle.runs.proofs.ProgressLaws.{goes-moves}
 use Rattle.runs.proofs.gone.Statement.{statement}
 use Rattle.runs.proofs.gone.Tie as tie
-use Rattle.runs.proofs.gone.Reads as reads
-use Rattle.runs.proofs.gone.Lts as lts
-use Rattle.runs.proofs.taken_after.Reads as taken-after-reads
 
 taken-after-requires : tie.Need-taken-after-requires
 taken-after-requires c κs = search needs
@@ -46,7 +43,7 @@ returns c =
     let start = c .before .before .before .before .before .before .before .before .before in
     let a = start .args in
     let d : c .before .before .before .before .before .if1 .depth ≡ max (a .r .depth) (64 - a .t .free) =
-        ⊎-elim (λ w. omega arith) (λ w. omega arith) (c .before .before .before .before .before .if1 .came) in
+    ⊎-elim (λ w. omega arith) (λ w. omega arith) (c .before .before .before .before .before .if1 .came) in
     λ ns fits. goes-moves (a .line) (a .r) (start .pre .0) _ (c .before .before .before .before .before .before .before .before .taken-after .ensures) (cheap (c .before .before .before .before)) ns _ _ _ (stack-length (c .before .before .before .before .before .before .before)) (start .pre .2) d fits
 
 pub gone-spec : {M : Type 1} → statement M

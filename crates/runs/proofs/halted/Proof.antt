@@ -4,27 +4,24 @@ use borrow.Author.Needs.{needs}
 use Rattle.runs.proofs.ProgressLaws.{stops-moves}
 use Rattle.runs.proofs.halted.Statement.{statement}
 use Rattle.runs.proofs.halted.Tie as tie
-use Rattle.runs.proofs.halted.Reads as reads
-use Rattle.runs.proofs.halted.Lts as lts
-use Rattle.runs.proofs.taken_after.Reads as taken-after-reads
 
 taken-after-requires : tie.Need-taken-after-requires
 taken-after-requires c κs = search needs
 
-cast-t6 : tie.Need-cast-t6
-cast-t6 c = search needs
+cast-spent : tie.Need-cast-spent
+cast-spent c = search needs
 
-add-t7 : tie.Need-add-t7
-add-t7 c = search needs
+add-spent : tie.Need-add-spent
+add-spent c = search needs
 
-cast-t8 : tie.Need-cast-t8
-cast-t8 c = search needs
+cast-t7 : tie.Need-cast-t7
+cast-t7 c = search needs
+
+add-t8 : tie.Need-add-t8
+add-t8 c = search needs
 
 add-t9 : tie.Need-add-t9
 add-t9 c = search needs
-
-add-t10 : tie.Need-add-t10
-add-t10 c = search needs
 
 returns : tie.Need-returns
 returns c =
@@ -34,4 +31,4 @@ returns c =
 
 pub halted-spec : {M : Type 1} → statement M
 halted-spec =
-    tie.close (tie.spec taken-after-requires cast-t6 add-t7 cast-t8 add-t9 add-t10 returns)
+    tie.close (tie.spec taken-after-requires cast-spent add-spent cast-t7 add-t8 add-t9 returns)

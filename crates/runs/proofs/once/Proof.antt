@@ -1,6 +1,5 @@
 -- `runs::once` meets its contract. Assumes nothing.
-use mathlib.Core.Path.{_≡_, sym, ap, subst, _∙_}
-use Prim.Native.Nat.{_<_, _≤_}
+use mathlib.Core.Path.{sym, ap, subst, _∙_}
 use native.Mathlib.Omega.{arith}
 use borrow.Author.Needs.{needs}
 use Rattle.machine.specs.Columns.{ofFetched, Known}
@@ -8,53 +7,38 @@ use Rattle.machine.proofs.ColumnLaws.{fetch-within}
 use Rattle.runs.proofs.RunLaws.{once-stopped, once-outside, once-moves}
 use Rattle.runs.proofs.once.Statement.{statement}
 use Rattle.runs.proofs.once.Tie as tie
-use Rattle.runs.proofs.once.Reads as reads
-use Rattle.runs.proofs.once.Lts as lts
-use Rattle.machine.proofs.code.fetch.Reads as fetch-reads
-use Rattle.runs.proofs.answer_at.Reads as answer-at-reads
-use Rattle.runs.proofs.turn.Reads as turn-reads
-
--- src/lib.rt:211:9
--- the line that the code fetched, by what `fetch` ensures and the variant that it is
 
 returns : tie.Need-returns
-returns c = 
+returns c =
     let start = c .before .before .before .before .before in
     (once-stopped _ _ _ (start .args .r) (c .if1 .taken), (start .pre .2, omega arith))
 
--- src/lib.rt:214:9
 fetch-requires : tie.Need-fetch-requires
 fetch-requires c κs = search needs
 
--- src/lib.rt:215:21
 enum-known-fetched : tie.Need-enum-known-fetched
 enum-known-fetched c = search needs
 
--- src/lib.rt:216:9
 enum-told : tie.Need-enum-told
 enum-told c = search needs
 
--- src/lib.rt:216:9
 returns-2 : tie.Need-returns-2
-returns-2 c = 
+returns-2 c =
     let start = c .before .before .before .before .before .before .before .before .before in
     (once-outside _ _ _ (start .args .r) (c .before .before .before .before .if1 .left) (sym (c .before .before .fetch .ensures .0) ∙ ap ofFetched (c .enum-told .given .1)), (start .pre .2, omega arith))
 
--- src/lib.rt:218:9
 answer-at-requires : tie.Need-answer-at-requires
 answer-at-requires c κs = search needs
 
--- src/lib.rt:219:5
 turn-requires : tie.Need-turn-requires
-turn-requires c κs = 
+turn-requires c κs =
     let start = c .before .before .before .before .before .before .before .before .before .before .before in
     let is = c .before .before .fetched .given .1 in
     let e = sym (c .before .before .before .before .fetch .ensures .0) ∙ ap ofFetched is in
     record { sound = start .pre .2; steps = start .pre .3; known = subst Known is (c .before .before .before .before .fetch .ensures .1); free = start .pre .2 .free; within = omega (arith, fetch-within _ _ _ _ _ _ _ e) }
 
--- src/lib.rt:196:1
 returns-3 : tie.Need-returns-3
-returns-3 c = 
+returns-3 c =
     let start = c .before .before .before .before .before .before .before .before .before .before .before .before in
     let is = c .before .before .before .fetched .given .1 in
     let e = sym (c .before .before .before .before .before .fetch .ensures .0) ∙ ap ofFetched is in

@@ -1,6 +1,5 @@
 -- `runs::perform` meets its contract. Assumes nothing.
 use mathlib.Core.Path.{_≡_, refl, ap, _∙_}
-use Prim.Native.Nat.{ℕ, _-_, _<_, _≤_}
 use native.Mathlib.Omega.{arith}
 use lib.ListN.{length}
 use mir.Syntax.{w32}
@@ -8,17 +7,10 @@ use mir.Val.{SFits}
 use mir.ValLaws.{toZ-ofZ}
 use borrow.Author.Needs.{needs}
 use Rattle.machine.specs.Machine.{index}
-use Rattle.machine.specs.Outcome.{operationOf, outcome}
 use Rattle.machine.proofs.Stack.{length-images}
 use Rattle.runs.proofs.OutcomeLaws.{at-operand, index-small, possible, steps-by}
 use Rattle.runs.proofs.perform.Statement.{statement}
 use Rattle.runs.proofs.perform.Tie as tie
-use Rattle.runs.proofs.perform.Reads as reads
-use Rattle.runs.proofs.perform.Lts as lts
-use Rattle.machine.proofs.index_of.Reads as index-of-reads
-use Rattle.machine.proofs.outcome_of.Reads as outcome-of-reads
-use Rattle.machine.proofs.place_of.Reads as place-of-reads
-use Rattle.runs.proofs.apply.Reads as apply-reads
 
 -- the operand as the code reads it
 operand-fits : (c : tie.After-struct-told) → SFits w32 (c .before .before .args .line .operand)
@@ -31,12 +23,11 @@ found c = c .index-of .ensures ∙ ap index (toZ-ofZ w32 _ (operand-fits (c .bef
 stack-length : (c : tie.Start) → length (c .args .t .stack) ≡ 64
 stack-length c = search (needs, length-images)
 
-
 index-of-requires : tie.Need-index-of-requires
 index-of-requires c κs = search needs
 
 place-of-requires : tie.Need-place-of-requires
-place-of-requires c κs =     let e = found c in
+place-of-requires c κs = let e = found c in
     let h = index-small _ (operand-fits (c .before)) in
     (omega arith, c .before .before .before .pre .free)
 
@@ -53,14 +44,14 @@ outcome-of-requires : tie.Need-outcome-of-requires
 outcome-of-requires c κs = search needs
 
 apply-requires : tie.Need-apply-requires
-apply-requires c κs = 
+apply-requires c κs =
     let start = c .before .before .before .before .before .before .before .before .before in
     let s = start .args in
     let e = at-operand _ _ _ _ _ (toZ-ofZ w32 _ (operand-fits (c .before .before .before .before .before .before .before))) (c .outcome-of .ensures) in
     (start .pre, possible _ _ _ _ _ _ _ e)
 
 returns : tie.Need-returns
-returns c = 
+returns c =
     let start = c .before .before .before .before .before .before .before .before .before .before in
     let s = start .args in
     let e = at-operand _ _ _ _ _ (toZ-ofZ w32 _ (operand-fits (c .before .before .before .before .before .before .before .before))) (c .before .outcome-of .ensures) in

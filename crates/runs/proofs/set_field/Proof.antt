@@ -1,6 +1,6 @@
 -- `runs::set_field` meets its contract. Assumes nothing.
 use mathlib.Core.Path.{_≡_, refl, ap, _∙_}
-use Prim.Native.Nat.{ℕ, _<_, _≤_}
+use Prim.Native.Nat.{_<_}
 use native.Mathlib.Omega.{arith}
 use lib.ListN.{length}
 use mir.Syntax.{w32}
@@ -8,19 +8,10 @@ use mir.Val.{SFits}
 use mir.ValLaws.{toZ-ofZ}
 use borrow.Author.Needs.{needs}
 use Rattle.machine.proofs.Stack.{length-images}
-use Rattle.machine.specs.Machine.{State, index, load, restack, jump, advance}
+use Rattle.machine.specs.Machine.{State, index, load, restack, advance}
 use Rattle.runs.proofs.OutcomeLaws.{slot-in, sets-moves, sets-stays}
 use Rattle.runs.proofs.set_field.Statement.{statement}
 use Rattle.runs.proofs.set_field.Tie as tie
-use Rattle.runs.proofs.set_field.Reads as reads
-use Rattle.runs.proofs.set_field.Lts as lts
-use Rattle.cells.proofs.number.Reads as number-reads
-use Rattle.machine.proofs.State.advance.Reads as advance-reads
-use Rattle.machine.proofs.State.load.Reads as load-reads
-use Rattle.machine.proofs.State.pop.Reads as pop-reads
-use Rattle.machine.proofs.index_of.Reads as index-of-reads
-use Rattle.machine.proofs.slot_of.Reads as slot-of-reads
-use Rattle.runs.proofs.gone.Reads as gone-reads
 
 -- the operand as the code reads it
 operand-fits : (c : tie.After-struct-told) → SFits w32 (c .before .before .args .line .operand)
@@ -35,14 +26,14 @@ index-of-requires c κs = search needs
 slot-of-requires : tie.Need-slot-of-requires
 slot-of-requires c κs = search needs
 
-enum-known-slot : tie.Need-enum-known-slot
-enum-known-slot c = search needs
+enum-known-place : tie.Need-enum-known-place
+enum-known-place c = search needs
 
 enum-told : tie.Need-enum-told
 enum-told c = search needs
 
 returns : tie.Need-returns
-returns c =     let start = c .before .before .before .before .before .before in
+returns c = let start = c .before .before .before .before .before .before in
     sets-stays _ (start .args .line) (start .args .t) (start .args .r) (start .pre .0 .sound) _ _ (found (c .before .before .before)) _ (c .before .before .slot-of .ensures) (c .enum-told .given .1) _ refl
 
 -- the array has its 128 places
@@ -50,11 +41,11 @@ blocks-length : (c : tie.Start) → length (c .args .r .blocks) ≡ 128
 blocks-length c = search (needs, length-images)
 
 -- the field's place
-within : (c : tie.After-blocks2) → c .before .before .slot .given .0 .0 < 128
+within : (c : tie.After-blocks2) → c .before .before .place .given .0 .0 < 128
 within c =
     let start = c .before .before .before .before .before .before .before .before in
     let n = blocks-length start in
-    omega (arith, slot-in _ (start .args .r .blocks) (start .pre .0 .sound .fits) _ _ _ _ (c .before .before .before .before .slot-of .ensures) (c .before .before .slot .given .1))
+    omega (arith, slot-in _ (start .args .r .blocks) (start .pre .0 .sound .fits) _ _ _ _ (c .before .before .before .before .slot-of .ensures) (c .before .before .place .given .1))
 
 mul-blocks : tie.Need-mul-blocks
 mul-blocks c = let h = within c in omega arith
@@ -79,9 +70,9 @@ gone-requires : tie.Need-gone-requires
 gone-requires c κs = (c .before .before .before .before .before .before .before .before .before .before .before .before .pre .0 .sound .counted, c .before .before .before .before .before .before .before .before .before .before .before .before .pre .0 .steps, c .advance .ensures .1)
 
 returns-2 : tie.Need-returns-2
-returns-2 c =     let start = c .before .before .before .before .before .before .before .before .before .before .before .before .before in
+returns-2 c = let start = c .before .before .before .before .before .before .before .before .before .before .before .before .before in
     sets-moves _ (start .args .line) (start .args .t) (start .args .r) (start .pre .0 .sound) _ _ (found (c .before .before .before .before .before .before .before .before .before .before)) _ (c .before .before .load .result) _ (c .before .advance .ensures .0)
-    _ (c .before .before .before .before .before .before .before .before .before .slot-of .ensures) _ (c .before .before .before .before .before .before .before .slot .given .1) _ _ refl (c .before .before .before .number .ensures) (c .before .before .before .before .pop .result) (c .before .before .before .before .pop .ensures .0) (c .before .before .load .ensures .0) (c .gone .ensures)
+    _ (c .before .before .before .before .before .before .before .before .before .slot-of .ensures) _ (c .before .before .before .before .before .before .before .place .given .1) _ _ refl (c .before .before .before .number .ensures) (c .before .before .before .before .pop .result) (c .before .before .before .before .pop .ensures .0) (c .before .before .load .ensures .0) (c .gone .ensures)
 
 pub set-field-spec : {M : Type 1} → statement M
 set-field-spec =
@@ -89,7 +80,7 @@ set-field-spec =
     (tie.spec
     index-of-requires
     slot-of-requires
-    enum-known-slot
+    enum-known-place
     enum-told
     returns
     mul-blocks

@@ -4,8 +4,6 @@ use borrow.Author.Needs.{needs}
 use Rattle.runs.proofs.ProgressLaws.{takes-one, takes-none}
 use Rattle.runs.proofs.taken_after.Statement.{statement}
 use Rattle.runs.proofs.taken_after.Tie as tie
-use Rattle.runs.proofs.taken_after.Reads as reads
-use Rattle.runs.proofs.taken_after.Lts as lts
 
 add-result : tie.Need-add-result
 add-result c = search needs
