@@ -1,0 +1,3 @@
+pub mod ProgressLaws
+pub mod OutcomeLaws
+pub mod RunLaws

@@ -1,0 +1,102 @@
+-- The run's loop, apart from its code: one step, its first state, and its verdict. Assumes nothing.
+use mathlib.Core.Path.{_≡_, refl, ap, _∙_}
+use mathlib.Core.Bool.{true, false}
+use mathlib.Core.List.{List}
+use Prim.Native.Nat.{ℕ, _+_, _-_, _≤_, _<_}
+use native.Mathlib.Omega.{arith}
+use native.Mathlib.Numerals.{add-one}
+use lib.Dec.{eqb}
+use lib.IntN.{ℤ}
+use lib.ListN.{length, drop, length-drop}
+use borrow.Author.Tests.{lt-ltb, le-ltb}
+use Rattle.cells.specs.Try.{stuck, done, _>>=_}
+use Rattle.cells.specs.declared.Cell.{Cell}
+use Rattle.machine.specs.declared.State as code
+use Rattle.machine.specs.declared.code.Line.{Line}
+use Rattle.machine.specs.Machine.{State, Code, height, store, fetch, step, takes, takesAnswer}
+use Rattle.machine.specs.Columns.{lineOf}
+use Rattle.machine.specs.View.{whole}
+use Rattle.bounds.specs.Tree.{openingLimit, bound}
+use Rattle.bounds.specs.Run.{Run, begin, answer, moved, leads, once, after, judgeRun, run}
+use Rattle.bounds.proofs.PromiseLaws.{interruptible, run-within-bound}
+use Rattle.runs.specs.declared.Progress.{Progress}
+use Rattle.runs.specs.declared.Ran.{Ran}
+use Rattle.runs.specs.declared.Verdict.{Verdict}
+use Rattle.runs.specs.declared.Verdict.the-variants.{Stopped, Stuck, Spent}
+use Rattle.runs.specs.Progress.{ofProgress, judged, verdictOf, Moves, SafeFrom, WithinBound}
+
+-- ---- one step
+
+pub once-stopped : (c : Code) (ns : List ℕ) (answers : List ℤ) (r : Progress) → r .stopped ≡ true → ofProgress ns answers r ≡ once c (ofProgress ns answers r)
+unfolding once moved ofProgress
+once-stopped c ns answers r h = rw h refl
+
+module _ (c : Code) (ns : List ℕ) (answers : List ℤ) (r : Progress) (going : r .stopped ≡ false) where
+  pub once-outside : fetch c (r .state .at) ≡ stuck → ofProgress ns answers r ≡ once c (ofProgress ns answers r)
+  unfolding once moved ofProgress leads step whole store _>>=_
+  once-outside f = rw (f, going) refl
+
+  pub once-moves : (l : Line) (a : Cell) (q : Progress) → fetch c (r .state .at) ≡ done (lineOf l) → a ≡ answer (drop (r .taken) answers) →
+      Moves ns r (eqb (l .code) 13) (step c a (whole ns (r .blocks) (r .state))) q → ofProgress ns answers q ≡ once c (ofProgress ns answers r)
+  unfolding once ofProgress leads takesAnswer takes whole store
+  once-moves l a q f e m = m .run answers ∙ rw (f, going, e) refl
+
+-- ---- the first state
+
+pub begins : (ns : List ℕ) (answers : List ℤ) (s : code.State) (fs : List Cell) → length (s .stack) ≡ 64 → s .free ≤ 64 →
+    ofProgress ns answers (record { state = s; blocks = fs; taken = 0; cycles = 0; words = 0; depth = 64 - s .free; steps = 0; stopped = false }) ≡ begin (whole ns fs s) answers
+unfolding ofProgress begin height whole store
+begins ns answers s fs n h = let g : 64 - s .free ≡ length (drop (s .free) (s .stack)) = simp length-drop (omega arith) in rw (← g) refl
+
+-- ---- the loop
+
+pub after-none : (c : Code) (r : Run) → r ≡ after c 0 r
+unfolding after
+after-none c r = refl
+
+pub after-more : (c : Code) (r q q′ : Run) (i : ℕ) → q ≡ after c i r → q′ ≡ once c q → q′ ≡ after c (i + 1) r
+unfolding after
+after-more c r q q′ i e f = rw (add-one i) (f ∙ ap (once c) e)
+
+pub after-all : (c : Code) (r q b : Run) (i n : ℕ) → (i ≤ n) × (n ≤ i) → q ≡ after c i r → r ≡ b → q ≡ after c n b
+after-all c r q b i n h e f = let g : i ≡ n = omega arith in e ∙ ap (λ i. after c i r) g ∙ ap (after c n) f
+
+-- ---- the verdict
+
+abbrev pub ran : Progress → Verdict → Ran
+ran r v = record { verdict = v; cycles = r .cycles; words = r .words; depth = r .depth; steps = r .steps }
+
+module _ (ns : List ℕ) (answers : List ℤ) (budget : ℕ) (r : Progress) where
+  stopped-judged : r .stopped ≡ true → verdictOf (ran r Stopped) ≡ judgeRun budget (ofProgress ns answers r)
+  unfolding verdictOf judged judgeRun ofProgress
+  stopped-judged h = rw h refl
+
+  stuck-judged : r .stopped ≡ false → r .steps < budget → verdictOf (ran r (Stuck (r .state .at))) ≡ judgeRun budget (ofProgress ns answers r)
+  unfolding verdictOf judged judgeRun ofProgress whole store
+  stuck-judged h l = rw (h, lt-ltb (r .steps) budget l) refl
+
+  spent-judged : r .stopped ≡ false → budget ≤ r .steps → verdictOf (ran r (Spent (r .state .at))) ≡ judgeRun budget (ofProgress ns answers r)
+  unfolding verdictOf judged judgeRun ofProgress whole store
+  spent-judged h l = rw (h, le-ltb (r .steps) budget l) refl
+
+  module _ (c : Code) (s : State) (e : ofProgress ns answers r ≡ after c budget (begin s answers)) where
+    pub run-stopped : r .stopped ≡ true → verdictOf (ran r Stopped) ≡ run c budget s answers
+    unfolding run
+    run-stopped h = stopped-judged h ∙ ap (judgeRun budget) e
+
+    pub run-stuck : r .stopped ≡ false → r .steps < budget → verdictOf (ran r (Stuck (r .state .at))) ≡ run c budget s answers
+    unfolding run
+    run-stuck h l = stuck-judged h l ∙ ap (judgeRun budget) e
+
+    pub run-spent : r .stopped ≡ false → budget ≤ r .steps → verdictOf (ran r (Spent (r .state .at))) ≡ run c budget s answers
+    unfolding run
+    run-spent h l = spent-judged h l ∙ ap (judgeRun budget) e
+
+-- ---- demand 3
+
+pub safe-from : (c : Code) (s : State) (answers : List ℤ) (n : ℕ) (r : Run) → r ≡ after c n (begin s answers) → SafeFrom c s n r
+unfolding bound
+safe-from c s answers n r e budget t q a w = rw e (interruptible c openingLimit budget t q a s w answers n)
+
+pub within-bound : (c : Code) (budget : ℕ) (s : State) (answers : List ℤ) (r : Ran) → verdictOf r ≡ run c budget s answers → WithinBound c budget s (verdictOf r)
+within-bound c budget s answers r e t q a w = let (p, f, l) = run-within-bound c budget t q a s w answers in (p, e ∙ f, l)
