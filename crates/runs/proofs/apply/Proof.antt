@@ -16,7 +16,7 @@ operand-fits : (c : tie.After-struct-told) → SFits w32 (c .before .before .arg
 operand-fits c = record { sfits = search needs }
 
 found : (c : tie.After-index-of) → c .index-of .result ≡ index (c .before .before .before .args .line .operand)
-found c = c .index-of .ensures ∙ ap index (toZ-ofZ w32 _ (operand-fits (c .before)))
+found c = c .index-of .ensures .0 ∙ ap index (toZ-ofZ w32 _ (operand-fits (c .before)))
 
 index-of-requires : tie.Need-index-of-requires
 index-of-requires c κs = search needs
