@@ -11,7 +11,7 @@ use Rattle.text.specs.Decimal.{numeral, number, decimal}
 use Rattle.cells.specs.Order.{Allowed}
 use Rattle.machine.specs.Machine.{State}
 use Rattle.machine.specs.Order.{Cellwise}
-use Rattle.bounds.specs.Tree.{Report, accepted, bound}
+use Rattle.bounds.specs.Tree.{openingLimit, Report, accepted, bound}
 use Rattle.bounds.specs.Run.{begin, after, run}
 use Rattle.bounds.specs.Promises.{Exact, Safe, NoGreater}
 use Rattle.routine.specs.Layout.{layout, body, codeLines}
@@ -27,7 +27,7 @@ pub record Kept (text bs : List ℕ) : Type 0 where
   pub reads : readBound text ≡ readings.routine routine
   pub accepts : bound (routine .code) (routine .budget) (routine .start) ≡ accepted report
   pub prints : bs ≡ boundText (routine .tick) report
-  pub exact : Exact (routine .code) (routine .start) report
+  pub exact : Exact (routine .code) openingLimit (routine .start) report
   -- "starts from any memory that has the file's cells and no others, agrees with each known one and holds some number in each unknown
   -- one; it is fed any list of input answers and interrupted after any number of steps, 0 included"
   pub safe : (s : State) → Cellwise Allowed s (routine .start) → (answers : List ℤ) (n : ℕ) →

@@ -17,7 +17,7 @@ use Rattle.machine.proofs.PriceLaws.{opening-price}
 use Rattle.bounds.specs.Tree.{Tree, expand, tree, cycles, words, depth, size, Report, report, accepted, openingLimit, explore, bound, verdict}
 use Rattle.bounds.specs.Traces.{CostMax, Finite}
 use Rattle.bounds.specs.Run.{begin, after, run}
-use Rattle.bounds.specs.Promises.{NoGreater, Interruptible, Monotone, ExactReports, StepsListed, OneMaximum, AcceptedWhere, RefusedWhere, FuelIrrelevant, RunWithinBound, Theorem14}
+use Rattle.bounds.specs.Promises.{NoGreater, Exact, Interruptible, Monotone, ExactReports, StepsListed, OneMaximum, AcceptedWhere, RefusedWhere, FuelIrrelevant, RunWithinBound, Theorem14}
 use Rattle.bounds.proofs.TreeLaws.{Complete, tree-law, tree-root, steps-size, accepted-complete, complete-accepted}
 use Rattle.bounds.proofs.FuelLaws.{verdict-fuel}
 use Rattle.bounds.proofs.MaxLaws.{OpensAlike, cost-unique, run-unique, tree-worst}
@@ -107,23 +107,27 @@ module _ (c : Code) (limit budget : ℕ) where
       rw h at (tree-worst (acts c) alike budget limit s w .most)
 
 -- demand 2
-pub exact-reports : ExactReports
-unfolding bound whole report
-exact-reports c budget s q a =
-    let (w, le, eq) = complete-of c openingLimit budget s q a in
-    let k = tree-worst (acts c) (alike c openingLimit budget) budget openingLimit s w in
-    let (f, fits) = accepted-finite (acts c) budget openingLimit s q a in
+pub exact : (c : Code) (openings budget : ℕ) (s : State) (q : Report) → explore (acts c) openings budget s ≡ accepted q → Exact c openings s q
+unfolding whole report
+exact c openings budget s q a =
+    let (w, le, eq) = complete-of c openings budget s q a in
+    let k = tree-worst (acts c) (alike c openings budget) budget openings s w in
+    let (f, fits) = accepted-finite (acts c) budget openings s q a in
     rw (← eq) (record {
       cycles = k .most;
-      costliest = tree-costliest (acts c) budget openingLimit s w;
+      costliest = tree-costliest (acts c) budget openings s w;
       trace = k .trace;
       worst = k .max;
       lemma12 = k .cost;
       path = k .path;
-      words = tree-wordiest (acts c) budget openingLimit s w;
-      depth = tree-height (acts c) budget openingLimit s w;
+      words = tree-wordiest (acts c) budget openings s w;
+      depth = tree-height (acts c) budget openings s w;
       steps = rw (← eq) at f;
     })
+
+pub exact-reports : ExactReports
+unfolding bound
+exact-reports c budget s q a = exact c openingLimit budget s q a
 
 -- a maximum cost is of a finite tree, with enough openings
 cost-finite : (act : State → Try Next) {t : State} {k : ℕ} → CostMax act t k → (o : ℕ) × (n : ℕ) × Finite act o t n

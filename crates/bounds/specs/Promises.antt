@@ -74,8 +74,8 @@ pub record LargestHeight (act : State → Try Next) (s : State) (k : ℕ) : Type
   pub attains : height deepest ≡ k
   pub most : (ms : List Move) (t : State) → Trace act s ms t → height t ≤ k
 
--- Demand 2, of the report q of the bound from s
-pub record Exact (c : Code) (s : State) (q : Report) : Type 0 where
+-- Demand 2, of the report q of the bound from s, with so many openings on a path
+pub record Exact (c : Code) (openings : ℕ) (s : State) (q : Report) : Type 0 where
   -- CYCLES is the maximum cost, and the cost of a path, and no path costs more
   pub cycles : CostMax (step c unknown) s (q .cycles)
   pub costliest : LargestOver (Path (step c unknown) s) cost (q .cycles)
@@ -89,10 +89,10 @@ pub record Exact (c : Code) (s : State) (q : Report) : Type 0 where
   -- DEPTH is the largest height over all states reached
   pub depth : LargestHeight (step c unknown) s (q .depth)
   -- STEPS is the number of steps of the tree
-  pub steps : Finite (step c unknown) openingLimit s (q .steps)
+  pub steps : Finite (step c unknown) openings s (q .steps)
 
 abbrev pub ExactReports : Type 0
-ExactReports = (c : Code) (budget : ℕ) (s : State) (q : Report) → bound c budget s ≡ accepted q → Exact c s q
+ExactReports = (c : Code) (budget : ℕ) (s : State) (q : Report) → bound c budget s ≡ accepted q → Exact c openingLimit s q
 
 -- STEPS is the number of steps listed in depth-first order
 abbrev pub StepsListed : Type 0

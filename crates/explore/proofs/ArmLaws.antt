@@ -25,10 +25,10 @@ use Rattle.explore.specs.declared.Verdict.the-variants as verdicts
 use Rattle.explore.specs.declared.Found.{Found}
 use Rattle.explore.specs.declared.Tally.{Tally}
 use Rattle.explore.specs.Found.{price, moreOf, joinedOf, finishedOf, refusedAs, Summable}
-use Rattle.explore.specs.Contract.{Explores, Modest}
+use Rattle.explore.specs.Contract.{Explores, SafeUnder, ExactFor, Modest}
 use Rattle.explore.proofs.LoopLaws as loop
 use Rattle.explore.proofs.TurnLaws as turns
-use Rattle.explore.proofs.ReturnLaws.{path-fits, refused-modest, finished-modest, joined-modest, explores, both-ways}
+use Rattle.explore.proofs.ReturnLaws.{path-fits, refused-modest, finished-modest, joined-modest, safe-under, exact-for, explores, both-ways}
 
 -- ---- where a state stands after a change
 
@@ -189,10 +189,14 @@ module _ (first : ℕ) (bs : List ℕ) (is : List ℤ) (cs ws ns : List ℕ) (o 
   module _ (start : code.State) (place : ℕ) (from : view s₀ ≡ jump place (view start)) where
     pub record Kept (r : Found) : Type 0 where
       pub explored : Explores (codeOf first bs is cs ws) ns fs₀ start place o budget r
+      pub safe : SafeUnder (codeOf first bs is cs ws) o budget (jump place (whole ns fs₀ start)) r
+      pub exact : ExactFor (codeOf first bs is cs ws) o (jump place (whole ns fs₀ start)) r
       pub modest : Modest o budget r
 
     shown : (r r′ : Found) → r ≡ r′ → loop.Shown act o budget (whole ns fs₀ s₀) r′ → Modest o budget r → Kept r
-    shown r r′ e h m = record { explored = explores first bs is cs ws ns o budget fs₀ s₀ start place from r r′ e h; modest = m }
+    shown r r′ e h m =
+        let x = explores first bs is cs ws ns o budget fs₀ s₀ start place from r r′ e h in
+        record { explored = x; safe = safe-under _ _ _ _ _ _ _ r x; exact = exact-for _ _ _ _ _ _ _ r x; modest = m }
 
     pub spent-out : (fs : List Cell) (s : code.State) (left : ℕ) (t : Tally) → Turn fs s left t → left ≤ 0 → (r : Found) → r ≡ refusedAs (verdicts.Spent (s .at)) budget → Kept r
     unfolding whole store

@@ -3,6 +3,7 @@
 use mathlib.Core.Path.{_≡_, refl, sym, subst, _∙_, ap}
 use mathlib.Core.Bool.{Bool, true, false, cond}
 use mathlib.Core.List.{List, [], _∷_}
+use mathlib.Core.Option.{Option}
 use Prim.Native.Nat.{ℕ, zero, suc, _+_, _-_, _*_, _^_, max, _≤_, _<_}
 use native.Mathlib.Nat.{le-of-lt, lt-of-lt-of-le, pow-succ'}
 use native.Mathlib.Numerals.{add-one}
@@ -16,17 +17,19 @@ use Rattle.cells.specs.Cells.{unknown}
 use Rattle.instructions.specs.declared.Operation.{Operation}
 use Rattle.machine.specs.declared.State as code
 use Rattle.machine.specs.declared.Outcome.the-variants.{Opens, Halts, Stuck}
-use Rattle.machine.specs.Machine.{State, Price, Next, stops, goes, opens, index, jump, store, advance, step}
+use Rattle.machine.specs.Machine.{State, Code, Price, Next, stops, goes, opens, index, jump, store, advance, step}
 use Rattle.machine.specs.Outcome.{resume}
 use Rattle.machine.specs.View.{view, blocksOf, whole}
 use Rattle.machine.specs.Columns.{codeOf}
 use Rattle.machine.proofs.PriceLaws.{opening-price}
-use Rattle.bounds.specs.Tree.{explore}
+use Rattle.bounds.specs.Tree.{Decision, N, T, Report, accepted, refused, explore}
+use Rattle.bounds.specs.Tree as bounds
+use Rattle.bounds.proofs.PromiseLaws.{interruptible, exact}
 use Rattle.explore.specs.declared.Verdict.{Verdict}
 use Rattle.explore.specs.declared.Found.{Found}
 use Rattle.explore.specs.declared.Tally.{Tally}
-use Rattle.explore.specs.Found.{Shows, decidedOf, joinedOf, finishedOf, refusedAs}
-use Rattle.explore.specs.Contract.{Explores, Modest}
+use Rattle.explore.specs.Found.{encode, refusalOf, acceptedAs, Shows, decidedOf, joinedOf, finishedOf, refusedAs}
+use Rattle.explore.specs.Contract.{Explores, SafeUnder, ExactFor, Modest}
 use Rattle.explore.proofs.LoopLaws as loop
 use Rattle.explore.proofs.TurnLaws.{act}
 
@@ -69,7 +72,53 @@ joined-modest o budget n left t f g r e z h c w mf mg =
     small : (o : ℕ) → 0 < o → o - 1 + 1 ≡ o
     small o z = omega arith
 
+-- ---- an accepted answer has one report
+
+encode-some : (ds : List Decision) → 0 < encode ds
+unfolding encode
+encode-some [] = omega arith
+encode-some (N ∷ ds) = omega (arith, encode-some ds)
+encode-some (T ∷ ds) = omega (arith, encode-some ds)
+
+-- the number of a path is of no other path
+pub encode-injective : (ds es : List Decision) → encode ds ≡ encode es → ds ≡ es
+unfolding encode
+encode-injective [] [] e = refl
+encode-injective [] (N ∷ es) e = absurd (omega (arith, encode-some es))
+encode-injective [] (T ∷ es) e = absurd (omega (arith, encode-some es))
+encode-injective (N ∷ ds) [] e = absurd (omega (arith, encode-some ds))
+encode-injective (T ∷ ds) [] e = absurd (omega (arith, encode-some ds))
+encode-injective (N ∷ ds) (N ∷ es) e = ap (λ x. N ∷ x) (encode-injective ds es (omega arith))
+encode-injective (N ∷ ds) (T ∷ es) e = absurd (omega arith)
+encode-injective (T ∷ ds) (N ∷ es) e = absurd (omega arith)
+encode-injective (T ∷ ds) (T ∷ es) e = ap (λ x. T ∷ x) (encode-injective ds es (omega arith))
+
+same-report : (p q : Report) → acceptedAs p ≡ acceptedAs q → p ≡ q
+unfolding acceptedAs
+same-report p q e =
+    let c : p .cycles ≡ q .cycles = ap (λ r. r .cycles) e in
+    let w : p .words ≡ q .words = ap (λ r. r .words) e in
+    let d : p .depth ≡ q .depth = ap (λ r. r .depth) e in
+    let s : p .steps ≡ q .steps = ap (λ r. r .used) e in
+    let d′ : p .path ≡ q .path = encode-injective (p .path) (q .path) (ap (λ r. r .path) e) in
+    λ i. record { cycles = c i; words = w i; depth = d i; steps = s i; path = d′ i }
+
+accepted-verdict : (v : bounds.Verdict) (r : Found) (q : Report) → Shows r v → r ≡ acceptedAs q → v ≡ accepted q
+unfolding acceptedAs refusalOf
+accepted-verdict (accepted p) r q h e = ap accepted (same-report p q (sym h ∙ e))
+accepted-verdict (refused x) r q h e =
+    let f : refusalOf (r .verdict) ≡ Option.none = ap (λ r. refusalOf (r .verdict)) e in
+    let z : _≡_ {A = ℕ} 0 1 = cc in
+    absurd (omega arith)
+
 -- ---- the contract
+
+module _ (c : Code) (ns : List ℕ) (fs : List Cell) (start : code.State) (place o budget : ℕ) (r : Found) (h : Explores c ns fs start place o budget r) where
+  pub safe-under : SafeUnder c o budget (jump place (whole ns fs start)) r
+  safe-under q e s w answers n = interruptible c o budget (jump place (whole ns fs start)) q (accepted-verdict _ r q (h .shows) e) s w answers n
+
+  pub exact-for : ExactFor c o (jump place (whole ns fs start)) r
+  exact-for q e = exact c o budget (jump place (whole ns fs start)) q (accepted-verdict _ r q (h .shows) e)
 
 module _ (first : ℕ) (bs : List ℕ) (is : List ℤ) (cs ws ns : List ℕ) (o budget : ℕ) (fs : List Cell) (s : code.State) where
   -- the loop begins at the place that is asked for

@@ -2,15 +2,20 @@
 use mathlib.Core.Path.{_≡_}
 use mathlib.Core.List.{List}
 use Prim.Native.Nat.{ℕ, _+_, _*_, _^_, _≤_, _<_}
+use lib.IntN.{ℤ}
 use lib.ListN.{length}
 use Rattle.cells.specs.declared.Cell.{Cell}
 use Rattle.cells.specs.Cells.{unknown}
+use Rattle.cells.specs.Order.{Allowed}
 use Rattle.machine.specs.declared.State as code
-use Rattle.machine.specs.Machine.{Code, jump, step}
+use Rattle.machine.specs.Machine.{State, Code, jump, step}
+use Rattle.machine.specs.Order.{Cellwise}
 use Rattle.machine.specs.View.{Fits, whole}
-use Rattle.bounds.specs.Tree.{explore, tree, steps}
+use Rattle.bounds.specs.Tree.{Report, explore, tree, steps}
+use Rattle.bounds.specs.Run.{begin, after}
+use Rattle.bounds.specs.Promises.{Safe, Exact}
 use Rattle.explore.specs.declared.Found.{Found}
-use Rattle.explore.specs.Found.{Shows, walked}
+use Rattle.explore.specs.Found.{acceptedAs, Shows, walked}
 
 -- what is asked: addresses, counts and blocks within their limits
 pub record Ready (bs ns : List ℕ) (first : ℕ) (fs : List Cell) (start : code.State) (place openings budget : ℕ) : Type 0 where
@@ -25,6 +30,16 @@ pub record Ready (bs ns : List ℕ) (first : ℕ) (fs : List Cell) (start : code
 pub record Explores (c : Code) (ns : List ℕ) (fs : List Cell) (start : code.State) (place openings budget : ℕ) (r : Found) : Type 0 where
   pub shows : Shows r (explore (step c unknown) openings budget (jump place (whole ns fs start)))
   pub counts : r .used ≡ walked budget (steps (tree (step c unknown) budget openings (jump place (whole ns fs start))))
+
+-- Demand 3, of an accepted answer for the start t: "any memory that has the file's cells and no others, agrees with each known one and holds
+-- some number in each unknown one; it is fed any list of input answers and interrupted after any number of steps"
+abbrev pub SafeUnder : Code → ℕ → ℕ → State → Found → Type 0
+SafeUnder c openings budget t r =
+    (q : Report) → r ≡ acceptedAs q → (s : State) → Cellwise Allowed s t → (answers : List ℤ) (n : ℕ) → Safe c (explore (step c unknown) openings budget) q n (after c n (begin s answers))
+
+-- Demand 2, of an accepted answer for the start t
+abbrev pub ExactFor : Code → ℕ → State → Found → Type 0
+ExactFor c openings t r = (q : Report) → r ≡ acceptedAs q → Exact c openings t q
 
 -- the answer's numbers are within what the code's numbers hold
 pub record Modest (openings budget : ℕ) (r : Found) : Type 0 where

@@ -6,8 +6,10 @@ use machine::State;
 use machine::code::Fetched;
 ghost use mathlib.Core.Path.{_≡_};
 ghost use Prim.Native.Nat.{_+_, _*_, _≤_, max};
+ghost use Rattle.machine.specs.Machine.{jump};
+ghost use Rattle.machine.specs.View.{whole};
 ghost use Rattle.machine.specs.Columns.{codeOf, Sized};
-ghost use Rattle.explore.specs.Contract.{Ready, Explores, Modest};
+ghost use Rattle.explore.specs.Contract.{Ready, Explores, SafeUnder, ExactFor, Modest};
 ghost use Rattle.explore.specs.Found.{price, moreOf, decidedOf, joinedOf, finishedOf, refusedAs, Summable};
 
 // The bound's verdict: accepted, or refusal 7, 8 or 9 with its address.
@@ -135,6 +137,8 @@ pub fn explore(
     requires { ⌜ Sized (now codes) (now operands) (now cycles) (now words) ⌝ }
     requires { ⌜ Ready (now codes) (now sizes) first blocks start place openings budget ⌝ }
     ensures { λ r. ⌜ Explores (codeOf first (now (codes .entry)) (now (operands .entry)) (now (cycles .entry)) (now (words .entry))) (now (sizes .entry)) blocks start place openings budget r ⌝ }
+    ensures safe { λ r. ⌜ SafeUnder (codeOf first (now (codes .entry)) (now (operands .entry)) (now (cycles .entry)) (now (words .entry))) openings budget (jump place (whole (now (sizes .entry)) blocks start)) r ⌝ }
+    ensures exact { λ r. ⌜ ExactFor (codeOf first (now (codes .entry)) (now (operands .entry)) (now (cycles .entry)) (now (words .entry))) openings (jump place (whole (now (sizes .entry)) blocks start)) r ⌝ }
     ensures { λ r. ⌜ Modest openings budget r ⌝ }
 {
     let mut s = start.jump(place);

@@ -295,7 +295,7 @@ refused-requires : (t : ℕ) → explore-lts.Need-refused-requires (claims t) (e
 refused-requires t c κs = search needs
 
 returns : (t : ℕ) → explore-lts.Need-returns (claims t) (explore-at t) explore.Post Inv-loop μ-loop
-returns t c = let k = strays t (c .before .before .before .before) (ap ofFetched (sym (c .before .enum-told .given .1)) ∙ c .before .before .before .fetch .ensures .0) _ (c .refused .ensures) in (k .explored, k .modest)
+returns t c = let k = strays t (c .before .before .before .before) (ap ofFetched (sym (c .before .enum-told .given .1)) ∙ c .before .before .before .fetch .ensures .0) _ (c .refused .ensures) in (k .explored, (k .safe, (k .exact, k .modest)))
 
 sub-more : (t : ℕ) → explore-lts.Need-sub-more (claims t) (explore-at t) explore.Post Inv-loop μ-loop
 sub-more t c = search needs
@@ -307,7 +307,7 @@ refused-requires-2 : (t : ℕ) → explore-lts.Need-refused-requires-2 (claims t
 refused-requires-2 t c κs = search needs
 
 returns-2 : (t : ℕ) → explore-lts.Need-returns-2 (claims t) (explore-at t) explore.Post Inv-loop μ-loop
-returns-2 t c = let k = sticks t (c .before .before .before .before .before .before .before .before) (overflows _ _ _ _ _ _ (c .before .before .before .before .before .before .before .before .before .before .before .before .before .before .before .args .openings) (c .before .before .before .before .before .before .before .before .before .before .before .before .before .before .before .args .budget) (c .before .before .before .before .before .before .before .before .before .before .before .before .before .before .before .args .t7) (c .before .before .before .before .before .before .before .before .before .before .jump .result) (c .before .before .before .before .before .before .before .before .before .loop .blocks) (c .before .before .before .before .before .before .before .before .before .loop .s) (line (c .before .before .before .before)) (found t (c .before .before .before .before)) (c .before .before .if1 .taken) (let h : length (c .before .before .before .before .before .before .before .before .before .loop .s .stack) ≡ 64 = c .before .before .before .before .before .before .before .before .before .loop .inv .stack in h) (c .before .if2 .taken)) _ (c .refused2 .ensures) in (k .explored, k .modest)
+returns-2 t c = let k = sticks t (c .before .before .before .before .before .before .before .before) (overflows _ _ _ _ _ _ (c .before .before .before .before .before .before .before .before .before .before .before .before .before .before .before .args .openings) (c .before .before .before .before .before .before .before .before .before .before .before .before .before .before .before .args .budget) (c .before .before .before .before .before .before .before .before .before .before .before .before .before .before .before .args .t7) (c .before .before .before .before .before .before .before .before .before .before .jump .result) (c .before .before .before .before .before .before .before .before .before .loop .blocks) (c .before .before .before .before .before .before .before .before .before .loop .s) (line (c .before .before .before .before)) (found t (c .before .before .before .before)) (c .before .before .if1 .taken) (let h : length (c .before .before .before .before .before .before .before .before .before .loop .s .stack) ≡ 64 = c .before .before .before .before .before .before .before .before .before .loop .inv .stack in h) (c .before .if2 .taken)) _ (c .refused2 .ensures) in (k .explored, (k .safe, (k .exact, k .modest)))
 
 push-requires : (t : ℕ) → explore-lts.Need-push-requires (claims t) (explore-at t) explore.Post Inv-loop μ-loop
 push-requires t c κs = (omega (arith, c .before .if2 .left), c .before .before .before .before .before .before .before .before .before .loop .inv .free)
@@ -391,7 +391,7 @@ refused-requires-3 : (t : ℕ) → explore-lts.Need-refused-requires-3 (claims t
 refused-requires-3 t c κs = search needs
 
 returns-3 : (t : ℕ) → explore-lts.Need-returns-3 (claims t) (explore-at t) explore.Post Inv-loop μ-loop
-returns-3 t c = let k = sticks t (c .before .before .before .before .before .before .before .before .before .before .before .before .before .before .before .before .before .before .before .before .before .before .before) (arms.sets-nothing _ _ _ _ _ _ _ _ _ _ _ _ _ _ _ _ _ _ _ (arm t (c .before .before .before .before .before .before .before .before)) _ (c .before .before .before .before .before .before .out3 .given .1) (ap ofSlot (sym (c .before .enum-told2 .given .1)) ∙ c .before .before .before .slot-of .ensures)) _ (c .refused3 .ensures) in (k .explored, k .modest)
+returns-3 t c = let k = sticks t (c .before .before .before .before .before .before .before .before .before .before .before .before .before .before .before .before .before .before .before .before .before .before .before) (arms.sets-nothing _ _ _ _ _ _ _ _ _ _ _ _ _ _ _ _ _ _ _ (arm t (c .before .before .before .before .before .before .before .before)) _ (c .before .before .before .before .before .before .out3 .given .1) (ap ofSlot (sym (c .before .enum-told2 .given .1)) ∙ c .before .before .before .slot-of .ensures)) _ (c .refused3 .ensures) in (k .explored, (k .safe, (k .exact, k .modest)))
 
 mul-blocks : (t : ℕ) → explore-lts.Need-mul-blocks (claims t) (explore-at t) explore.Post Inv-loop μ-loop
 mul-blocks t c = omega (arith, sized t (c .before .before .before .before .before .before .before .before .before .before .before .before .before .before .before .before .before .before .before .before .before .before .before .before .before .before .before .before .before .before), arms.slot-in _ _ _ _ _ _ _ _ _ _ _ _ _ _ _ _ _ _ _ (arm t (c .before .before .before .before .before .before .before .before)) _ (ap ofSlot (sym (c .before .field .given .1)) ∙ c .before .before .before .slot-of .ensures))
@@ -433,7 +433,7 @@ refused-requires-4 : (t : ℕ) → explore-lts.Need-refused-requires-4 (claims t
 refused-requires-4 t c κs = search needs
 
 returns-4 : (t : ℕ) → explore-lts.Need-returns-4 (claims t) (explore-at t) explore.Post Inv-loop μ-loop
-returns-4 t c = let k = sticks t (c .before .before .before .before .before .before .before .before .before .before .before .before .before .before .before .before .before .before .before .before .before .before) (arms.gets-nothing _ _ _ _ _ _ _ _ _ _ _ _ _ _ _ _ _ _ _ (arm t (c .before .before .before .before .before .before .before)) (c .before .before .before .before .before .enum-told3 .given .1) (ap ofSlot (sym (c .before .enum-told4 .given .1)) ∙ c .before .before .before .slot-of2 .ensures)) _ (c .refused4 .ensures) in (k .explored, k .modest)
+returns-4 t c = let k = sticks t (c .before .before .before .before .before .before .before .before .before .before .before .before .before .before .before .before .before .before .before .before .before .before) (arms.gets-nothing _ _ _ _ _ _ _ _ _ _ _ _ _ _ _ _ _ _ _ (arm t (c .before .before .before .before .before .before .before)) (c .before .before .before .before .before .enum-told3 .given .1) (ap ofSlot (sym (c .before .enum-told4 .given .1)) ∙ c .before .before .before .slot-of2 .ensures)) _ (c .refused4 .ensures) in (k .explored, (k .safe, (k .exact, k .modest)))
 
 mul-load : (t : ℕ) → explore-lts.Need-mul-load (claims t) (explore-at t) explore.Post Inv-loop μ-loop
 mul-load t c = omega (arith, sized t (c .before .before .before .before .before .before .before .before .before .before .before .before .before .before .before .before .before .before .before .before .before .before .before .before .before .before .before .before .before), arms.slot-in _ _ _ _ _ _ _ _ _ _ _ _ _ _ _ _ _ _ _ (arm t (c .before .before .before .before .before .before .before)) _ (ap ofSlot (sym (c .before .field2 .given .1)) ∙ c .before .before .before .slot-of2 .ensures))
@@ -472,7 +472,7 @@ refused-requires-5 : (t : ℕ) → explore-lts.Need-refused-requires-5 (claims t
 refused-requires-5 t c κs = search needs
 
 returns-5 : (t : ℕ) → explore-lts.Need-returns-5 (claims t) (explore-at t) explore.Post Inv-loop μ-loop
-returns-5 t c = let k = arms.over-out _ _ _ _ _ _ _ _ _ _ (c .before .before .before .before .before .before .before .before .before .before .before .before .before .before .before .before .before .before .before .before .before .before .before .before .before .before .args .start) (c .before .before .before .before .before .before .before .before .before .before .before .before .before .before .before .before .before .before .before .before .before .before .before .before .before .before .args .place) (c .before .before .before .before .before .before .before .before .before .before .before .before .before .before .before .before .before .before .before .before .before .jump .ensures .0) _ _ _ _ _ _ _ _ _ (arm t (c .before .before .before .before)) (c .before .before .enum-told6 .given .1) (c .before .if3 .taken) _ (c .refused5 .ensures) in (k .explored, k .modest)
+returns-5 t c = let k = arms.over-out _ _ _ _ _ _ _ _ _ _ (c .before .before .before .before .before .before .before .before .before .before .before .before .before .before .before .before .before .before .before .before .before .before .before .before .before .before .args .start) (c .before .before .before .before .before .before .before .before .before .before .before .before .before .before .before .before .before .before .before .before .before .before .before .before .before .before .args .place) (c .before .before .before .before .before .before .before .before .before .before .before .before .before .before .before .before .before .before .before .before .before .jump .ensures .0) _ _ _ _ _ _ _ _ _ (arm t (c .before .before .before .before)) (c .before .before .enum-told6 .given .1) (c .before .if3 .taken) _ (c .refused5 .ensures) in (k .explored, (k .safe, (k .exact, k .modest)))
 
 add-explore : (t : ℕ) → explore-lts.Need-add-explore (claims t) (explore-at t) explore.Post Inv-loop μ-loop
 add-explore t c = omega (arith, arm t (c .before .before .before) .low)
@@ -487,19 +487,19 @@ enum-told-7 : (t : ℕ) → explore-lts.Need-enum-told-7 (claims t) (explore-at 
 enum-told-7 t c = search needs
 
 add-refused : (t : ℕ) → explore-lts.Need-add-refused (claims t) (explore-at t) explore.Post Inv-loop μ-loop
-add-refused t c = omega (arith, c .before .before .before .before .before .before .before .before .before .before .before .before .before .before .before .before .before .before .before .before .before .before .before .before .before .before .before .before .pre .1 .1 .budget-fits, c .before .before .before .before .before .before .before .before .before .before .before .before .before .before .before .before .before .before .before .before .before .before .loop .inv .inv .within, c .before .before .before .before .before .before .before .before .before .before .before .before .before .before .before .before .before .before .before .before .before .loop-test .taken, c .before .before .explore .ensures .1 .used)
+add-refused t c = omega (arith, c .before .before .before .before .before .before .before .before .before .before .before .before .before .before .before .before .before .before .before .before .before .before .before .before .before .before .before .before .pre .1 .1 .budget-fits, c .before .before .before .before .before .before .before .before .before .before .before .before .before .before .before .before .before .before .before .before .before .before .loop .inv .inv .within, c .before .before .before .before .before .before .before .before .before .before .before .before .before .before .before .before .before .before .before .before .before .loop-test .taken, c .before .before .explore .ensures .1 .1 .1 .used)
 
 refused-requires-6 : (t : ℕ) → explore-lts.Need-refused-requires-6 (claims t) (explore-at t) explore.Post Inv-loop μ-loop
 refused-requires-6 t c κs = search needs
 
 returns-6 : (t : ℕ) → explore-lts.Need-returns-6 (claims t) (explore-at t) explore.Post Inv-loop μ-loop
-returns-6 t c = let k = arms.first-out _ _ _ _ _ _ _ _ _ _ (c .before .before .before .before .before .before .before .before .before .before .before .before .before .before .before .before .before .before .before .before .before .before .before .before .before .before .before .before .before .args .start) (c .before .before .before .before .before .before .before .before .before .before .before .before .before .before .before .before .before .before .before .before .before .before .before .before .before .before .before .before .before .args .place) (c .before .before .before .before .before .before .before .before .before .before .before .before .before .before .before .before .before .before .before .before .before .before .before .before .jump .ensures .0) _ _ _ _ _ _ _ _ _ (arm t (c .before .before .before .before .before .before .before)) (c .before .before .before .before .before .enum-told6 .given .1) (omega (arith, c .before .before .before .before .if3 .left)) (c .before .before .before .explore .result) (c .before .before .before .explore .ensures .0) (c .before .before .before .explore .ensures .1) (fails _ (c .before .before .match5 .keys2)) _ (c .refused6 .ensures) in (k .explored, k .modest)
+returns-6 t c = let k = arms.first-out _ _ _ _ _ _ _ _ _ _ (c .before .before .before .before .before .before .before .before .before .before .before .before .before .before .before .before .before .before .before .before .before .before .before .before .before .before .before .before .before .args .start) (c .before .before .before .before .before .before .before .before .before .before .before .before .before .before .before .before .before .before .before .before .before .before .before .before .before .before .before .before .before .args .place) (c .before .before .before .before .before .before .before .before .before .before .before .before .before .before .before .before .before .before .before .before .before .before .before .before .jump .ensures .0) _ _ _ _ _ _ _ _ _ (arm t (c .before .before .before .before .before .before .before)) (c .before .before .before .before .before .enum-told6 .given .1) (omega (arith, c .before .before .before .before .if3 .left)) (c .before .before .before .explore .result) (c .before .before .before .explore .ensures .0) (c .before .before .before .explore .ensures .1 .1 .1) (fails _ (c .before .before .match5 .keys2)) _ (c .refused6 .ensures) in (k .explored, (k .safe, (k .exact, k .modest)))
 
 sub-explore-2 : (t : ℕ) → explore-lts.Need-sub-explore-2 (claims t) (explore-at t) explore.Post Inv-loop μ-loop
 sub-explore-2 t c = omega (arith, c .before .before .before .if3 .left)
 
 sub-explore-3 : (t : ℕ) → explore-lts.Need-sub-explore-3 (claims t) (explore-at t) explore.Post Inv-loop μ-loop
-sub-explore-3 t c = c .before .before .before .explore .ensures .1 .used
+sub-explore-3 t c = c .before .before .before .explore .ensures .1 .1 .1 .used
 
 explore-requires-2 : (t : ℕ) → explore-lts.Need-explore-requires-2 (claims t) (explore-at t) explore.Post Inv-loop μ-loop
 explore-requires-2 t c κs = (omega (arith, c .before .before .before .before .if3 .left, c .before .before .before .before .before .before .before .before .before .before .before .before .before .before .before .before .before .before .before .before .before .before .before .before .before .before .before .before .before .pre .0), (c .before .before .before .before .before .before .before .before .before .before .before .before .before .before .before .before .before .before .before .before .before .before .before .before .before .before .before .before .before .pre .1 .0, (record { addresses = c .before .before .before .before .before .before .before .before .before .before .before .before .before .before .before .before .before .before .before .before .before .before .before .before .before .before .before .before .before .pre .1 .1 .addresses; place-fits = arm t (c .before .before .before .before .before .before .before) .index-fits; free = pushed t (c .before .before .before .before .before .before .before .before .before .before .before .before .before .before .before .before) .free; budget-fits = omega (arith, c .before .before .before .before .before .before .before .before .before .before .before .before .before .before .before .before .before .before .before .before .before .before .before .before .before .before .before .before .before .pre .1 .1 .budget-fits, c .before .before .before .before .before .before .before .before .before .before .before .before .before .before .before .before .before .before .before .before .before .before .before .loop .inv .inv .within); openings-fit = omega (arith, c .before .before .before .before .before .before .before .before .before .before .before .before .before .before .before .before .before .before .before .before .before .before .before .before .before .before .before .before .before .pre .1 .1 .openings-fit); fits = c .before .before .before .before .before .before .before .before .before .before .before .before .before .before .before .before .before .before .before .before .before .before .before .loop .inv .fits })))
@@ -508,22 +508,22 @@ enum-told-8 : (t : ℕ) → explore-lts.Need-enum-told-8 (claims t) (explore-at 
 enum-told-8 t c = search needs
 
 add-refused-2 : (t : ℕ) → explore-lts.Need-add-refused-2 (claims t) (explore-at t) explore.Post Inv-loop μ-loop
-add-refused-2 t c = omega (arith, c .before .before .before .before .before .before .before .before .before .before .before .before .before .before .before .before .before .before .before .before .before .before .before .before .before .before .before .before .before .before .before .before .pre .1 .1 .budget-fits, c .before .before .before .before .before .before .before .before .before .before .before .before .before .before .before .before .before .before .before .before .before .before .before .before .before .before .loop .inv .inv .within, c .before .before .before .before .before .before .before .before .before .before .before .before .before .before .before .before .before .before .before .before .before .before .before .before .before .loop-test .taken, c .before .before .before .before .before .before .explore .ensures .1 .used)
+add-refused-2 t c = omega (arith, c .before .before .before .before .before .before .before .before .before .before .before .before .before .before .before .before .before .before .before .before .before .before .before .before .before .before .before .before .before .before .before .before .pre .1 .1 .budget-fits, c .before .before .before .before .before .before .before .before .before .before .before .before .before .before .before .before .before .before .before .before .before .before .before .before .before .before .loop .inv .inv .within, c .before .before .before .before .before .before .before .before .before .before .before .before .before .before .before .before .before .before .before .before .before .before .before .before .before .loop-test .taken, c .before .before .before .before .before .before .explore .ensures .1 .1 .1 .used)
 
 add-refused-3 : (t : ℕ) → explore-lts.Need-add-refused-3 (claims t) (explore-at t) explore.Post Inv-loop μ-loop
-add-refused-3 t c = omega (arith, c .before .before .before .before .before .before .before .before .before .before .before .before .before .before .before .before .before .before .before .before .before .before .before .before .before .before .before .before .before .before .before .before .before .pre .1 .1 .budget-fits, c .before .before .before .before .before .before .before .before .before .before .before .before .before .before .before .before .before .before .before .before .before .before .before .before .before .before .before .loop .inv .inv .within, c .before .before .before .before .before .before .before .before .before .before .before .before .before .before .before .before .before .before .before .before .before .before .before .before .before .before .loop-test .taken, c .before .before .before .before .before .before .before .explore .ensures .1 .used, c .before .before .before .explore2 .ensures .1 .used)
+add-refused-3 t c = omega (arith, c .before .before .before .before .before .before .before .before .before .before .before .before .before .before .before .before .before .before .before .before .before .before .before .before .before .before .before .before .before .before .before .before .before .pre .1 .1 .budget-fits, c .before .before .before .before .before .before .before .before .before .before .before .before .before .before .before .before .before .before .before .before .before .before .before .before .before .before .before .loop .inv .inv .within, c .before .before .before .before .before .before .before .before .before .before .before .before .before .before .before .before .before .before .before .before .before .before .before .before .before .before .loop-test .taken, c .before .before .before .before .before .before .before .explore .ensures .1 .1 .1 .used, c .before .before .before .explore2 .ensures .1 .1 .1 .used)
 
 refused-requires-7 : (t : ℕ) → explore-lts.Need-refused-requires-7 (claims t) (explore-at t) explore.Post Inv-loop μ-loop
 refused-requires-7 t c κs = search needs
 
 returns-7 : (t : ℕ) → explore-lts.Need-returns-7 (claims t) (explore-at t) explore.Post Inv-loop μ-loop
-returns-7 t c = let k = arms.second-out _ _ _ _ _ _ _ _ _ _ (c .before .before .before .before .before .before .before .before .before .before .before .before .before .before .before .before .before .before .before .before .before .before .before .before .before .before .before .before .before .before .before .before .before .before .args .start) (c .before .before .before .before .before .before .before .before .before .before .before .before .before .before .before .before .before .before .before .before .before .before .before .before .before .before .before .before .before .before .before .before .before .before .args .place) (c .before .before .before .before .before .before .before .before .before .before .before .before .before .before .before .before .before .before .before .before .before .before .before .before .before .before .before .before .before .jump .ensures .0) _ _ _ _ _ _ _ _ _ (arm t (c .before .before .before .before .before .before .before .before .before .before .before .before)) (c .before .before .before .before .before .before .before .before .before .before .enum-told6 .given .1) (omega (arith, c .before .before .before .before .before .before .before .before .before .if3 .left)) (c .before .before .before .before .before .before .before .before .explore .result) (c .before .before .before .before .before .before .before .before .explore .ensures .0) (c .before .before .before .before .before .before .before .before .explore .ensures .1) (c .before .before .before .before .before .before .enum-told7 .given .1) (c .before .before .before .before .explore2 .result) (c .before .before .before .before .explore2 .ensures .0) (c .before .before .before .before .explore2 .ensures .1) (fails _ (c .before .before .before .match6 .keys2)) _ (c .refused7 .ensures) in (k .explored, k .modest)
+returns-7 t c = let k = arms.second-out _ _ _ _ _ _ _ _ _ _ (c .before .before .before .before .before .before .before .before .before .before .before .before .before .before .before .before .before .before .before .before .before .before .before .before .before .before .before .before .before .before .before .before .before .before .args .start) (c .before .before .before .before .before .before .before .before .before .before .before .before .before .before .before .before .before .before .before .before .before .before .before .before .before .before .before .before .before .before .before .before .before .before .args .place) (c .before .before .before .before .before .before .before .before .before .before .before .before .before .before .before .before .before .before .before .before .before .before .before .before .before .before .before .before .before .jump .ensures .0) _ _ _ _ _ _ _ _ _ (arm t (c .before .before .before .before .before .before .before .before .before .before .before .before)) (c .before .before .before .before .before .before .before .before .before .before .enum-told6 .given .1) (omega (arith, c .before .before .before .before .before .before .before .before .before .if3 .left)) (c .before .before .before .before .before .before .before .before .explore .result) (c .before .before .before .before .before .before .before .before .explore .ensures .0) (c .before .before .before .before .before .before .before .before .explore .ensures .1 .1 .1) (c .before .before .before .before .before .before .enum-told7 .given .1) (c .before .before .before .before .explore2 .result) (c .before .before .before .before .explore2 .ensures .0) (c .before .before .before .before .explore2 .ensures .1 .1 .1) (fails _ (c .before .before .before .match6 .keys2)) _ (c .refused7 .ensures) in (k .explored, (k .safe, (k .exact, k .modest)))
 
 joined-requires : (t : ℕ) → explore-lts.Need-joined-requires (claims t) (explore-at t) explore.Post Inv-loop μ-loop
-joined-requires t c κs = arms.sums _ _ _ _ _ _ _ _ _ _ (c .before .before .before .before .before .before .before .before .before .before .before .before .before .before .before .before .before .before .before .before .before .before .before .before .before .before .before .before .before .before .before .before .args .start) (c .before .before .before .before .before .before .before .before .before .before .before .before .before .before .before .before .before .before .before .before .before .before .before .before .before .before .before .before .before .before .before .before .args .place) (c .before .before .before .before .before .before .before .before .before .before .before .before .before .before .before .before .before .before .before .before .before .before .before .before .before .before .before .jump .ensures .0) _ _ _ _ _ _ _ _ _ (arm t (c .before .before .before .before .before .before .before .before .before .before)) (c .before .before .before .before .before .before .before .before .enum-told6 .given .1) (omega (arith, c .before .before .before .before .before .before .before .if3 .left)) (c .before .before .before .before .before .before .explore .result) (c .before .before .before .before .before .before .explore .ensures .0) (c .before .before .before .before .before .before .explore .ensures .1) (c .before .before .before .before .enum-told7 .given .1) (c .before .before .explore2 .result) (c .before .before .explore2 .ensures .0) (c .before .before .explore2 .ensures .1) (c .before .before .before .before .before .before .before .before .before .before .before .before .before .before .before .before .before .before .before .before .before .before .before .before .before .before .before .before .before .before .before .before .pre .1 .1 .openings-fit) (c .before .before .before .before .before .before .before .before .before .before .before .before .before .before .before .before .before .before .before .before .before .before .before .before .before .before .before .before .before .before .before .before .pre .1 .1 .budget-fits)
+joined-requires t c κs = arms.sums _ _ _ _ _ _ _ _ _ _ (c .before .before .before .before .before .before .before .before .before .before .before .before .before .before .before .before .before .before .before .before .before .before .before .before .before .before .before .before .before .before .before .before .args .start) (c .before .before .before .before .before .before .before .before .before .before .before .before .before .before .before .before .before .before .before .before .before .before .before .before .before .before .before .before .before .before .before .before .args .place) (c .before .before .before .before .before .before .before .before .before .before .before .before .before .before .before .before .before .before .before .before .before .before .before .before .before .before .before .jump .ensures .0) _ _ _ _ _ _ _ _ _ (arm t (c .before .before .before .before .before .before .before .before .before .before)) (c .before .before .before .before .before .before .before .before .enum-told6 .given .1) (omega (arith, c .before .before .before .before .before .before .before .if3 .left)) (c .before .before .before .before .before .before .explore .result) (c .before .before .before .before .before .before .explore .ensures .0) (c .before .before .before .before .before .before .explore .ensures .1 .1 .1) (c .before .before .before .before .enum-told7 .given .1) (c .before .before .explore2 .result) (c .before .before .explore2 .ensures .0) (c .before .before .explore2 .ensures .1 .1 .1) (c .before .before .before .before .before .before .before .before .before .before .before .before .before .before .before .before .before .before .before .before .before .before .before .before .before .before .before .before .before .before .before .before .pre .1 .1 .openings-fit) (c .before .before .before .before .before .before .before .before .before .before .before .before .before .before .before .before .before .before .before .before .before .before .before .before .before .before .before .before .before .before .before .before .pre .1 .1 .budget-fits)
 
 returns-8 : (t : ℕ) → explore-lts.Need-returns-8 (claims t) (explore-at t) explore.Post Inv-loop μ-loop
-returns-8 t c = let k = arms.both-out _ _ _ _ _ _ _ _ _ _ (c .before .before .before .before .before .before .before .before .before .before .before .before .before .before .before .before .before .before .before .before .before .before .before .before .before .before .before .before .before .before .before .before .before .args .start) (c .before .before .before .before .before .before .before .before .before .before .before .before .before .before .before .before .before .before .before .before .before .before .before .before .before .before .before .before .before .before .before .before .before .args .place) (c .before .before .before .before .before .before .before .before .before .before .before .before .before .before .before .before .before .before .before .before .before .before .before .before .before .before .before .before .jump .ensures .0) _ _ _ _ _ _ _ _ _ (arm t (c .before .before .before .before .before .before .before .before .before .before .before)) (c .before .before .before .before .before .before .before .before .before .enum-told6 .given .1) (omega (arith, c .before .before .before .before .before .before .before .before .if3 .left)) (c .before .before .before .before .before .before .before .explore .result) (c .before .before .before .before .before .before .before .explore .ensures .0) (c .before .before .before .before .before .before .before .explore .ensures .1) (c .before .before .before .before .before .enum-told7 .given .1) (c .before .before .before .explore2 .result) (c .before .before .before .explore2 .ensures .0) (c .before .before .before .explore2 .ensures .1) (c .before .enum-told8 .given .1) _ (c .joined .ensures) in (k .explored, k .modest)
+returns-8 t c = let k = arms.both-out _ _ _ _ _ _ _ _ _ _ (c .before .before .before .before .before .before .before .before .before .before .before .before .before .before .before .before .before .before .before .before .before .before .before .before .before .before .before .before .before .before .before .before .before .args .start) (c .before .before .before .before .before .before .before .before .before .before .before .before .before .before .before .before .before .before .before .before .before .before .before .before .before .before .before .before .before .before .before .before .before .args .place) (c .before .before .before .before .before .before .before .before .before .before .before .before .before .before .before .before .before .before .before .before .before .before .before .before .before .before .before .before .jump .ensures .0) _ _ _ _ _ _ _ _ _ (arm t (c .before .before .before .before .before .before .before .before .before .before .before)) (c .before .before .before .before .before .before .before .before .before .enum-told6 .given .1) (omega (arith, c .before .before .before .before .before .before .before .before .if3 .left)) (c .before .before .before .before .before .before .before .explore .result) (c .before .before .before .before .before .before .before .explore .ensures .0) (c .before .before .before .before .before .before .before .explore .ensures .1 .1 .1) (c .before .before .before .before .before .enum-told7 .given .1) (c .before .before .before .explore2 .result) (c .before .before .before .explore2 .ensures .0) (c .before .before .before .explore2 .ensures .1 .1 .1) (c .before .enum-told8 .given .1) _ (c .joined .ensures) in (k .explored, (k .safe, (k .exact, k .modest)))
 
 enum-told-9 : (t : ℕ) → explore-lts.Need-enum-told-9 (claims t) (explore-at t) explore.Post Inv-loop μ-loop
 enum-told-9 t c = search needs
@@ -532,7 +532,7 @@ finished-requires : (t : ℕ) → explore-lts.Need-finished-requires (claims t) 
 finished-requires t c κs = search needs
 
 returns-9 : (t : ℕ) → explore-lts.Need-returns-9 (claims t) (explore-at t) explore.Post Inv-loop μ-loop
-returns-9 t c = let k = arms.halts-out _ _ _ _ _ _ _ _ _ _ (c .before .before .before .before .before .before .before .before .before .before .before .before .before .before .before .before .before .before .before .before .before .before .before .before .before .args .start) (c .before .before .before .before .before .before .before .before .before .before .before .before .before .before .before .before .before .before .before .before .before .before .before .before .before .args .place) (c .before .before .before .before .before .before .before .before .before .before .before .before .before .before .before .before .before .before .before .before .jump .ensures .0) _ _ _ _ _ _ _ _ _ (arm t (c .before .before .before)) (c .before .enum-told9 .given .1) _ (c .finished .ensures) in (k .explored, k .modest)
+returns-9 t c = let k = arms.halts-out _ _ _ _ _ _ _ _ _ _ (c .before .before .before .before .before .before .before .before .before .before .before .before .before .before .before .before .before .before .before .before .before .before .before .before .before .args .start) (c .before .before .before .before .before .before .before .before .before .before .before .before .before .before .before .before .before .before .before .before .before .before .before .before .before .args .place) (c .before .before .before .before .before .before .before .before .before .before .before .before .before .before .before .before .before .before .before .before .jump .ensures .0) _ _ _ _ _ _ _ _ _ (arm t (c .before .before .before)) (c .before .enum-told9 .given .1) _ (c .finished .ensures) in (k .explored, (k .safe, (k .exact, k .modest)))
 
 enum-told-10 : (t : ℕ) → explore-lts.Need-enum-told-10 (claims t) (explore-at t) explore.Post Inv-loop μ-loop
 enum-told-10 t c = search needs
@@ -541,13 +541,13 @@ refused-requires-8 : (t : ℕ) → explore-lts.Need-refused-requires-8 (claims t
 refused-requires-8 t c κs = search needs
 
 returns-10 : (t : ℕ) → explore-lts.Need-returns-10 (claims t) (explore-at t) explore.Post Inv-loop μ-loop
-returns-10 t c = let k = sticks t (c .before .before .before .before .before .before .before .before .before .before .before .before .before .before .before .before .before .before) (arms.is-stuck _ _ _ _ _ _ _ _ _ _ _ _ _ _ _ _ _ _ _ (arm t (c .before .before .before)) (c .before .enum-told10 .given .1)) _ (c .refused8 .ensures) in (k .explored, k .modest)
+returns-10 t c = let k = sticks t (c .before .before .before .before .before .before .before .before .before .before .before .before .before .before .before .before .before .before) (arms.is-stuck _ _ _ _ _ _ _ _ _ _ _ _ _ _ _ _ _ _ _ (arm t (c .before .before .before)) (c .before .enum-told10 .given .1)) _ (c .refused8 .ensures) in (k .explored, (k .safe, (k .exact, k .modest)))
 
 refused-requires-9 : (t : ℕ) → explore-lts.Need-refused-requires-9 (claims t) (explore-at t) explore.Post Inv-loop μ-loop
 refused-requires-9 t c κs = search needs
 
 returns-11 : (t : ℕ) → explore-lts.Need-returns-11 (claims t) (explore-at t) explore.Post Inv-loop μ-loop
-returns-11 t c = let k = arms.spent-out _ _ _ _ _ _ _ _ _ _ (c .before .before .before .before .before .before .before .before .args .start) (c .before .before .before .before .before .before .before .before .args .place) (c .before .before .before .jump .ensures .0) _ (c .before .before .loop .s) _ (c .before .before .loop .tally) (c .before .before .loop .inv) (omega (arith, c .before .loop-test .left)) _ (c .refused9 .ensures) in (k .explored, k .modest)
+returns-11 t c = let k = arms.spent-out _ _ _ _ _ _ _ _ _ _ (c .before .before .before .before .before .before .before .before .args .start) (c .before .before .before .before .before .before .before .before .args .place) (c .before .before .before .jump .ensures .0) _ (c .before .before .loop .s) _ (c .before .before .loop .tally) (c .before .before .loop .inv) (omega (arith, c .before .loop-test .left)) _ (c .refused9 .ensures) in (k .explored, (k .safe, (k .exact, k .modest)))
 
 pub +explore-spec : {M : Type 1} → statement M
 +explore-spec =
