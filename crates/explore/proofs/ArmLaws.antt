@@ -3,7 +3,7 @@
 use mathlib.Core.Path.{_≡_, refl, sym, subst, _∙_, ap}
 use mathlib.Core.Bool.{Bool, true, false}
 use mathlib.Core.List.{List, _∷_}
-use Prim.Native.Nat.{ℕ, zero, suc, _+_, _-_, _*_, max, _≤_, _<_}
+use Prim.Native.Nat.{ℕ, suc, _+_, _-_, _*_, _≤_, _<_}
 use native.Mathlib.Omega.{arith}
 use lib.IntN.{ℤ, pos}
 use lib.ListN.{length, getD, drop, set, length-drop, length-set}
@@ -20,7 +20,6 @@ use Rattle.machine.specs.View.{view, slot, Fits, whole}
 use Rattle.machine.specs.Columns.{codeOf}
 use Rattle.machine.proofs.TurnLaws as turn
 use Rattle.machine.proofs.BlockLaws.{slot-below}
-use Rattle.explore.specs.declared.Verdict as verdict
 use Rattle.explore.specs.declared.Verdict.the-variants as verdicts
 use Rattle.explore.specs.declared.Found.{Found}
 use Rattle.explore.specs.declared.Tally.{Tally}

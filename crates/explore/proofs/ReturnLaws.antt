@@ -4,24 +4,23 @@ use mathlib.Core.Path.{_≡_, refl, sym, subst, _∙_, ap}
 use mathlib.Core.Bool.{Bool, true, false, cond}
 use mathlib.Core.List.{List, [], _∷_}
 use mathlib.Core.Option.{Option}
-use Prim.Native.Nat.{ℕ, zero, suc, _+_, _-_, _*_, _^_, max, _≤_, _<_}
+use Prim.Native.Nat.{ℕ, suc, _+_, _-_, _*_, _^_, _≤_, _<_}
 use native.Mathlib.Nat.{le-of-lt, lt-of-lt-of-le, pow-succ'}
 use native.Mathlib.Numerals.{add-one}
 use native.Mathlib.Omega.{arith}
 use lib.Dec.{leb}
 use lib.IntN.{ℤ}
 use lib.Pow.{pow-mono, pow-lt}
-use Rattle.cells.specs.Try.{Try, stuck, done}
+use Rattle.cells.specs.Try.{done}
 use Rattle.cells.specs.declared.Cell.{Cell}
 use Rattle.cells.specs.Cells.{unknown}
 use Rattle.instructions.specs.declared.Operation.{Operation}
 use Rattle.machine.specs.declared.State as code
-use Rattle.machine.specs.declared.Outcome.the-variants.{Opens, Halts, Stuck}
-use Rattle.machine.specs.Machine.{State, Code, Price, Next, stops, goes, opens, index, jump, store, advance, step}
+use Rattle.machine.specs.declared.Outcome.the-variants.{Opens}
+use Rattle.machine.specs.Machine.{State, Code, Price, opens, index, jump, store, advance, step}
 use Rattle.machine.specs.Outcome.{resume}
 use Rattle.machine.specs.View.{view, blocksOf, whole}
 use Rattle.machine.specs.Columns.{codeOf}
-use Rattle.machine.proofs.PriceLaws.{opening-price}
 use Rattle.bounds.specs.Tree.{Decision, N, T, Report, accepted, refused, explore}
 use Rattle.bounds.specs.Tree as bounds
 use Rattle.bounds.proofs.PromiseLaws.{interruptible, exact}

@@ -1,27 +1,25 @@
 -- A turn of the explorer's loop over the code's own values: the loop's invariant, the step that a turn makes, and what each outcome leaves.
 -- Assumes nothing.
 use mathlib.Core.Path.{_≡_, refl, sym, subst, _∙_, ap}
-use mathlib.Core.Bool.{Bool, true, false}
-use mathlib.Core.List.{List, [], _∷_}
-use Prim.Native.Nat.{ℕ, zero, suc, _+_, _-_, _*_, max, _≤_, _<_}
+use mathlib.Core.Bool.{true}
+use mathlib.Core.List.{List}
+use Prim.Native.Nat.{ℕ, _+_, _-_, _*_, _≤_, _<_}
 use native.Mathlib.Omega.{arith}
-use lib.IntN.{ℤ, pos}
-use lib.ListN.{length, getD, drop, set, length-drop, length-set}
+use lib.IntN.{ℤ}
+use lib.ListN.{length, getD, length-drop}
 use lib.Seq.{getD-drop}
 use Rattle.cells.specs.Try.{Try, stuck, done, _>>=_}
 use Rattle.cells.specs.declared.Cell.{Cell}
-use Rattle.cells.specs.Cells.{unknown, number}
+use Rattle.cells.specs.Cells.{unknown}
 use Rattle.machine.specs.declared.State as code
 use Rattle.machine.specs.declared.code.Line.{Line}
 use Rattle.machine.specs.declared.Outcome.{Outcome}
-use Rattle.machine.specs.declared.Outcome.the-variants.{Gives, Stores, Sets, Gets, Goes, Opens, Halts, Stuck}
-use Rattle.machine.specs.Machine.{State, stackLimit, height, Price, Next, stops, goes, opens, index, jump, load, restack, store, advance, fetch, prepare, execute, step}
-use Rattle.machine.specs.Outcome.{operationOf, entryOf, drops, outcome, resume}
-use Rattle.machine.specs.View.{view, blocksOf, slot, Fits, whole}
+use Rattle.machine.specs.Machine.{State, height, Price, Next, goes, index, store, fetch, prepare, execute, step}
+use Rattle.machine.specs.Outcome.{operationOf, entryOf, outcome, resume}
+use Rattle.machine.specs.View.{view, Fits, whole}
 use Rattle.machine.specs.Columns.{codeOf, lineOf}
 use Rattle.machine.proofs.TurnLaws as turn
 use Rattle.machine.proofs.ColumnLaws.{fetch-within}
-use Rattle.machine.proofs.PriceLaws.{opening-price}
 use Rattle.explore.specs.declared.Tally.{Tally}
 use Rattle.explore.specs.Found.{price, moreOf}
 use Rattle.explore.proofs.LoopLaws as loop

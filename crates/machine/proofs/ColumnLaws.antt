@@ -1,6 +1,6 @@
 -- Code in columns: which line stands at an address. Assumes nothing.
-use mathlib.Core.Path.{_≡_, refl, sym, ap, _∙_}
-use mathlib.Core.Bool.{Bool, true, false, cond}
+use mathlib.Core.Path.{_≡_, refl, sym}
+use mathlib.Core.Bool.{Bool, true, false}
 use mathlib.Core.List.{List, [], _∷_}
 use Prim.Native.Nat.{ℕ, zero, suc, _+_, _-_, _≤_, _<_}
 use native.Mathlib.Omega.{arith}
@@ -8,9 +8,9 @@ use lib.Dec.{ltb}
 use lib.IntN.{ℤ, pos}
 use lib.ListN.{length, getD, drop}
 use borrow.Author.Tests.{lt-ltb, le-ltb, ltb-true, ltb-false}
-use Rattle.cells.specs.Try.{Try, stuck, done}
+use Rattle.cells.specs.Try.{stuck, done}
 use Rattle.machine.specs.Lists.{nth}
-use Rattle.machine.specs.Machine.{Instruction, Code, fetch}
+use Rattle.machine.specs.Machine.{Instruction, fetch}
 use Rattle.machine.specs.Columns.{line, lineOf, linesOf, codeOf}
 
 tail-at : {A : Type 0} (xs : List A) (j : ℕ) (d : A) → getD (drop 1 xs) j d ≡ getD xs (suc j) d

@@ -1,15 +1,14 @@
 -- One turn of the run's or the explorer's loop, apart from its code: the line is fetched, a push is made or not, the operation comes to
 -- its outcome, and the state and the blocks are changed by it. Assumes nothing.
-use mathlib.Core.Path.{_≡_, refl, sym, ap, _∙_, subst}
+use mathlib.Core.Path.{_≡_, refl, sym, ap, _∙_}
 use mathlib.Core.Bool.{Bool, true, false, cond}
-use mathlib.Core.List.{List, [], _∷_}
-use Prim.Native.Nat.{ℕ, zero, suc, _+_, _-_, _≤_, _<_}
+use mathlib.Core.List.{List, _∷_}
+use Prim.Native.Nat.{ℕ, _+_, _≤_, _<_}
 use native.Mathlib.Omega.{arith}
 use native.Mathlib.Numerals.{add-one}
 use lib.Dec.{leb, ltb}
 use lib.IntN.{ℤ, pos}
-use lib.ListN.{length, getD, drop, set, length-drop}
-use lib.Seq.{getD-drop}
+use lib.ListN.{length, getD, drop, set}
 use borrow.Author.Tests.{leb-true, ltb-true, ltb-false, lt-ltb, le-ltb}
 use Rattle.cells.specs.Try.{Try, stuck, done, _>>=_}
 use Rattle.cells.specs.declared.Cell.{Cell}
@@ -21,7 +20,7 @@ use Rattle.instructions.specs.declared.Operation.the-variants.{Nothing, Access,
 use Rattle.machine.specs.declared.State as code
 use Rattle.machine.specs.declared.Outcome.{Outcome}
 use Rattle.machine.specs.declared.Outcome.the-variants.{Gives, Stores, Sets, Gets, Goes, Opens, Halts, Stuck}
-use Rattle.machine.specs.Machine.{State, stackLimit, height, Price, Instruction, Code, fetch, Next, stops, goes, opens, index, jump, load, restack, store, push, getField, setField, advance, ahead, prepare, execute, step}
+use Rattle.machine.specs.Machine.{State, stackLimit, height, Price, Instruction, Code, fetch, goes, opens, index, jump, load, restack, store, push, advance, ahead, prepare, execute, step}
 use Rattle.machine.specs.Outcome.{entryOf, drops, given, branching, outcome, resume}
 use Rattle.machine.specs.View.{view, blocksOf, slot, Fits, whole}
 use Rattle.machine.proofs.OutcomeLaws.{perform-resumes}

@@ -18,7 +18,7 @@ use Rattle.instructions.specs.declared.Operation.{Operation}
 use Rattle.instructions.specs.declared.Operation.the-variants.{Nothing, Access, Drop, Assign, Constant, GetField, SetField, Branch, BranchIf, BranchIfNot, Call, Stop, Alter, Combine}
 use Rattle.machine.specs.declared.Outcome.{Outcome}
 use Rattle.machine.specs.declared.Outcome.the-variants.{Gives, Stores, Sets, Gets, Goes, Opens, Halts, Stuck}
-use Rattle.machine.specs.Machine.{State, Price, Next, stops, goes, opens, index, jump, load, restack, getField, setField, advance, ahead, opposite}
+use Rattle.machine.specs.Machine.{State, Price, Next, stops, goes, opens, index, jump, load, restack, getField, setField, advance, ahead}
 
 -- the operations in the order of their codes (`operationCode` of the crate `instructions`), and the operation of a code
 unfoldable pub operations : List Operation

@@ -27,12 +27,11 @@ use Rattle.machine.proofs.slot_of.Reads as slot-of-reads
 use Rattle.explore.proofs.+explore.{statement}
 use Rattle.explore.proofs.+explore.Tie.{close}
 use mathlib.Core.Path.{_≡_, refl, sym, ap, subst, _∙_}
-use mathlib.Core.Bool.{true, false}
 use mathlib.Core.Logic.{⊎-elim}
 use mathlib.Core.List.{_∷_, []}
 use denote.Enum.Declared.{tagOf}
 use types.Run.{OneOf}
-use Prim.Native.Nat.{_+_, _-_, _*_, _≤_}
+use Prim.Native.Nat.{_+_, _-_, _≤_}
 use native.Mathlib.Omega.{arith}
 use lib.ListN.{length, getD}
 use lib.IntN.{pos}
@@ -47,9 +46,9 @@ use Rattle.cells.specs.Cells.{unknown, cell}
 use Rattle.machine.specs.declared.State as code
 use Rattle.machine.specs.declared.code.Line.{Line}
 use Rattle.machine.specs.declared.Outcome.{Outcome}
-use Rattle.machine.specs.Machine.{index, fetch, store, jump, prepare}
+use Rattle.machine.specs.Machine.{index, fetch, store, jump}
 use Rattle.machine.specs.Outcome.{operationOf, entryOf, outcome}
-use Rattle.machine.specs.View.{view, whole, ofSlot}
+use Rattle.machine.specs.View.{whole, ofSlot}
 use Rattle.machine.specs.Columns.{codeOf, lineOf, ofFetched, Known}
 use Rattle.explore.specs.declared.Verdict.{Verdict}
 use Rattle.explore.specs.declared.Verdict.the-variants.{Accepted}
