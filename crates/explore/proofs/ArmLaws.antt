@@ -85,7 +85,8 @@ module _ (first : ℕ) (bs : List ℕ) (is : List ℤ) (cs ws ns : List ℕ) (o 
     pub out-is : out ≡ outcome (operationOf (l .code)) (l .operand) unknown (64 - u .free) (u .accu) entry
     pub makes : act (whole ns fs s) ≡ resume (price (l .cycles) (l .words)) (operationOf (l .code)) (l .operand) (whole ns fs u) out
 
-  module _ (fs : List Cell) (s : code.State) (left : ℕ) (t : Tally) (l : Line) (t′ : Tally) (u : code.State) (n : ℕ) (out : Outcome) (a : Arm fs s left t l t′ u n out) where
+module _ {first : ℕ} {bs : List ℕ} {is : List ℤ} {cs ws ns : List ℕ} {o budget : ℕ} {fs₀ : List Cell} {s₀ : code.State} where
+  module _ {fs : List Cell} {s : code.State} {left : ℕ} {t : Tally} {l : Line} {t′ : Tally} {u : code.State} {n : ℕ} {out : Outcome} (a : Arm first bs is cs ws ns o budget fs₀ s₀ fs s left t l t′ u n out) where
     -- ---- the entries that an arm drops or sets are there
 
     pub drop-room : (c : Cell) (k : ℕ) → out ≡ Gives c → k ≡ drops (operationOf (l .code)) n → u .free + k ≤ 64
@@ -107,13 +108,13 @@ module _ (first : ℕ) (bs : List ℕ) (is : List ℤ) (cs ws ns : List ℕ) (o 
     -- ---- the next turn
 
     again : (fs′ : List Cell) (v : code.State) (d : Outcome) → out ≡ d → resume (price (l .cycles) (l .words)) (operationOf (l .code)) (l .operand) (whole ns fs u) d ≡ done (goes (price (l .cycles) (l .words)) (whole ns fs′ v)) →
-        v .free ≤ 64 → length (v .stack) ≡ 64 → v .at < 4294967296 → Fits ns fs′ → length fs′ ≡ length fs → Turn fs′ v (left - 1) t′
+        v .free ≤ 64 → length (v .stack) ≡ 64 → v .at < 4294967296 → Fits ns fs′ → length fs′ ≡ length fs → Turn first bs is cs ws ns o budget fs₀ s₀ fs′ v (left - 1) t′
     again fs′ v d e g =
         turns.again first bs is cs ws ns o budget fs₀ s₀ fs s left t (a .turn) (a .some) (price (l .cycles) (l .words)) (a .small) t′ (a .grown) fs′ v
         (a .makes ∙ ap (resume (price (l .cycles) (l .words)) (operationOf (l .code)) (l .operand) (whole ns fs u)) e ∙ g)
 
     pub gives : (c : Cell) (k : ℕ) (v w x : code.State) → out ≡ Gives c → k ≡ drops (operationOf (l .code)) n → view v ≡ restack (drop k (view u .stack)) (view u) → view w ≡ load c (view v) → view x ≡ advance (view w) →
-        x .free ≤ 64 → length (x .stack) ≡ 64 → Turn fs x (left - 1) t′
+        x .free ≤ 64 → length (x .stack) ≡ 64 → Turn first bs is cs ws ns o budget fs₀ s₀ fs x (left - 1) t′
     gives c k v w x e d ev ew ex free full =
         let same : k ≡ drops (operationOf (l .code)) (index (l .operand)) = d ∙ ap (drops (operationOf (l .code))) (a .index-is) in
         let from : view x ≡ advance (load c (restack (drop (drops (operationOf (l .code)) (index (l .operand))) (view u .stack)) (view u))) =
@@ -122,7 +123,7 @@ module _ (first : ℕ) (bs : List ℕ) (is : List ℤ) (cs ws ns : List ℕ) (o 
         (omega (arith, advanced-at x w ex, loaded-at w v c ew, restacked-at v u _ ev, a .stays, a .low)) (a .turn .fits) refl
 
     pub stores : (c z : Cell) (v w x : code.State) → out ≡ Stores c → z ≡ number (pos 0) → view v ≡ restack (set (view u .stack) n c) (view u) → view w ≡ load z (view v) → view x ≡ advance (view w) →
-        x .free ≤ 64 → length (x .stack) ≡ 64 → Turn fs x (left - 1) t′
+        x .free ≤ 64 → length (x .stack) ≡ 64 → Turn first bs is cs ws ns o budget fs₀ s₀ fs x (left - 1) t′
     stores c z v w x e ez ev ew ex free full =
         let from : view x ≡ advance (load (number (pos 0)) (restack (set (view u .stack) (index (l .operand)) c) (view u))) =
         ex ∙ ap advance (ew ∙ ap (λ z. load z (view v)) ez ∙ ap (load (number (pos 0))) (ev ∙ ap (λ j. restack (set (view u .stack) j c) (view u)) (a .index-is))) in
@@ -136,7 +137,7 @@ module _ (first : ℕ) (bs : List ℕ) (is : List ℤ) (cs ws ns : List ℕ) (o 
     slot-in j e = omega (arith, slot-below ns fs (a .turn .fits) (u .accu) n j (sym e), a .turn .fits .room, a .turn .size)
 
     pub sets : (c z : Cell) (j : ℕ) (v w x : code.State) → out ≡ Sets c → done j ≡ slot ns (u .accu) n → z ≡ number (pos 0) → view v ≡ restack (drop 1 (view u .stack)) (view u) → view w ≡ load z (view v) →
-        view x ≡ advance (view w) → x .free ≤ 64 → length (x .stack) ≡ 64 → Turn (set fs j c) x (left - 1) t′
+        view x ≡ advance (view w) → x .free ≤ 64 → length (x .stack) ≡ 64 → Turn first bs is cs ws ns o budget fs₀ s₀ (set fs j c) x (left - 1) t′
     sets c z j v w x e at ez ev ew ex free full =
         let from : view x ≡ advance (load (number (pos 0)) (restack (drop 1 (view u .stack)) (view u))) = ex ∙ ap advance (ew ∙ ap (λ z. load z (view v)) ez ∙ ap (load (number (pos 0))) ev) in
         again (set fs j c) x (Sets c) e (turn.sets-goes ns fs _ (operationOf (l .code)) (l .operand) u (a .turn .fits) c j x (slot-at j at) from) free full
@@ -144,37 +145,37 @@ module _ (first : ℕ) (bs : List ℕ) (is : List ℤ) (cs ws ns : List ℕ) (o 
         (record { few = a .turn .fits .few; room = simp length-set (a .turn .fits .room) }) (length-set fs j c)
 
     pub gets : (c d : Cell) (j : ℕ) (w x : code.State) → out ≡ Gets → done j ≡ slot ns (u .accu) n → c ≡ getD fs j d → view w ≡ load c (view u) → view x ≡ advance (view w) →
-        x .free ≤ 64 → length (x .stack) ≡ 64 → Turn fs x (left - 1) t′
+        x .free ≤ 64 → length (x .stack) ≡ 64 → Turn first bs is cs ws ns o budget fs₀ s₀ fs x (left - 1) t′
     gets c d j w x e at ec ew ex free full =
         let from : view x ≡ advance (load (getD fs j d) (view u)) = ex ∙ ap advance (ew ∙ ap (λ z. load z (view u)) ec) in
         again fs x Gets e (turn.gets-goes ns fs _ (operationOf (l .code)) (l .operand) u (a .turn .fits) j d x (slot-at j at) from) free full
         (omega (arith, advanced-at x w ex, loaded-at w u c ew, a .stays, a .low)) (a .turn .fits) refl
 
-    pub jumps : (x : code.State) → out ≡ Goes → view x ≡ jump n (view u) → x .free ≤ 64 → length (x .stack) ≡ 64 → Turn fs x (left - 1) t′
+    pub jumps : (x : code.State) → out ≡ Goes → view x ≡ jump n (view u) → x .free ≤ 64 → length (x .stack) ≡ 64 → Turn first bs is cs ws ns o budget fs₀ s₀ fs x (left - 1) t′
     jumps x e ex free full =
         again fs x Goes e (turn.goes-goes ns fs _ (operationOf (l .code)) (l .operand) u x (ex ∙ ap (λ j. jump j (view u)) (a .index-is))) free full
         (omega (arith, jumped-at x u n ex, a .index-fits)) (a .turn .fits) refl
 
     -- ---- the steps of the arms that return
 
-    made : (d : Outcome) → out ≡ d → act (whole ns fs s) ≡ resume (price (l .cycles) (l .words)) (operationOf (l .code)) (l .operand) (whole ns fs u) d
+    made : (d : Outcome) → out ≡ d → (act first bs is cs ws ns o budget fs₀ s₀) (whole ns fs s) ≡ resume (price (l .cycles) (l .words)) (operationOf (l .code)) (l .operand) (whole ns fs u) d
     made d e = a .makes ∙ ap (resume (price (l .cycles) (l .words)) (operationOf (l .code)) (l .operand) (whole ns fs u)) e
 
-    pub sets-nothing : (c : Cell) → out ≡ Sets c → stuck ≡ slot ns (u .accu) n → act (whole ns fs s) ≡ stuck
+    pub sets-nothing : (c : Cell) → out ≡ Sets c → stuck ≡ slot ns (u .accu) n → (act first bs is cs ws ns o budget fs₀ s₀) (whole ns fs s) ≡ stuck
     sets-nothing c e at = made (Sets c) e ∙ turn.sets-stuck ns fs _ (operationOf (l .code)) (l .operand) u (a .turn .fits) c (ap (slot ns (u .accu)) (sym (a .index-is)) ∙ sym at)
 
-    pub gets-nothing : out ≡ Gets → stuck ≡ slot ns (u .accu) n → act (whole ns fs s) ≡ stuck
+    pub gets-nothing : out ≡ Gets → stuck ≡ slot ns (u .accu) n → (act first bs is cs ws ns o budget fs₀ s₀) (whole ns fs s) ≡ stuck
     gets-nothing e at = made Gets e ∙ turn.gets-stuck ns fs _ (operationOf (l .code)) (l .operand) u (a .turn .fits) (ap (slot ns (u .accu)) (sym (a .index-is)) ∙ sym at)
 
-    pub is-stuck : out ≡ Stuck → act (whole ns fs s) ≡ stuck
+    pub is-stuck : out ≡ Stuck → (act first bs is cs ws ns o budget fs₀ s₀) (whole ns fs s) ≡ stuck
     unfolding resume
     is-stuck e = made Stuck e
 
-    pub halts : out ≡ Halts → act (whole ns fs s) ≡ done (stops (price (l .cycles) (l .words)))
+    pub halts : out ≡ Halts → (act first bs is cs ws ns o budget fs₀ s₀) (whole ns fs s) ≡ done (stops (price (l .cycles) (l .words)))
     unfolding resume
     halts e = made Halts e
 
-    pub opens-both : out ≡ Opens → act (whole ns fs s) ≡ done (opens (price (l .cycles) (l .words)) (jump (s .at + 1) (whole ns fs u)) (price (l .cycles) (l .words)) (jump n (whole ns fs u)))
+    pub opens-both : out ≡ Opens → (act first bs is cs ws ns o budget fs₀ s₀) (whole ns fs s) ≡ done (opens (price (l .cycles) (l .words)) (jump (s .at + 1) (whole ns fs u)) (price (l .cycles) (l .words)) (jump n (whole ns fs u)))
     opens-both e = both-ways first bs is cs ws ns o budget fs u s u (price (l .cycles) (l .words)) (operationOf (l .code)) (l .operand) n (made Opens e) (a .stays) (a .index-is)
 
     pub costs : (t′ .cycles ≤ 4294967296 * (budget - (left - 1))) × (t′ .words ≤ 4294967296 * (budget - (left - 1)))
@@ -183,8 +184,9 @@ module _ (first : ℕ) (bs : List ℕ) (is : List ℤ) (cs ws ns : List ℕ) (o 
     more-is : t′ ≡ moreOf t (price (l .cycles) (l .words)) (height (whole ns fs s))
     more-is = turns.more-is first bs is cs ws ns o budget fs₀ s₀ fs s left t (a .turn) (a .some) (price (l .cycles) (l .words)) (a .small) t′ (a .grown)
 
-  -- ---- the promise of each way out, from the place that is asked for
+-- ---- the promise of each way out, from the place that is asked for
 
+module _ (first : ℕ) (bs : List ℕ) (is : List ℤ) (cs ws ns : List ℕ) (o budget : ℕ) (fs₀ : List Cell) (s₀ : code.State) where
   module _ (start : code.State) (place : ℕ) (from : view s₀ ≡ jump place (view start)) where
     pub record Kept (r : Found) : Type 0 where
       pub explored : Explores (codeOf first bs is cs ws) ns fs₀ start place o budget r
@@ -192,47 +194,47 @@ module _ (first : ℕ) (bs : List ℕ) (is : List ℤ) (cs ws ns : List ℕ) (o 
       pub exact : ExactFor (codeOf first bs is cs ws) o (jump place (whole ns fs₀ start)) r
       pub modest : Modest o budget r
 
-    shown : (r r′ : Found) → r ≡ r′ → loop.Shown act o budget (whole ns fs₀ s₀) r′ → Modest o budget r → Kept r
+    shown : (r r′ : Found) → r ≡ r′ → loop.Shown (act first bs is cs ws ns o budget fs₀ s₀) o budget (whole ns fs₀ s₀) r′ → Modest o budget r → Kept r
     shown r r′ e h m =
         let x = explores first bs is cs ws ns o budget fs₀ s₀ start place from r r′ e h in
         record { explored = x; safe = safe-under _ _ _ _ _ _ _ r x; exact = exact-for _ _ _ _ _ _ _ r x; modest = m }
 
-    pub spent-out : (fs : List Cell) (s : code.State) (left : ℕ) (t : Tally) → Turn fs s left t → left ≤ 0 → (r : Found) → r ≡ refusedAs (verdicts.Spent (s .at)) budget → Kept r
+    pub spent-out : {fs : List Cell} {s : code.State} {left : ℕ} {t : Tally} → Turn first bs is cs ws ns o budget fs₀ s₀ fs s left t → left ≤ 0 → (r : Found) → r ≡ refusedAs (verdicts.Spent (s .at)) budget → Kept r
     unfolding whole store
-    spent-out fs s left t i h r e = shown r _ e (loop.spends act o budget (whole ns fs₀ s₀) (whole ns fs s) left t (i .inv) h) (refused-modest o budget budget _ r e (omega arith))
+    spent-out {fs} {s} {left} {t} i h r e = shown r _ e (loop.spends (act first bs is cs ws ns o budget fs₀ s₀) o budget (whole ns fs₀ s₀) (whole ns fs s) left t (i .inv) h) (refused-modest o budget budget _ r e (omega arith))
 
-    pub stuck-out : (fs : List Cell) (s : code.State) (left : ℕ) (t : Tally) → Turn fs s left t → 0 < left → act (whole ns fs s) ≡ stuck → (r : Found) → r ≡ refusedAs (verdicts.Stuck (s .at)) (budget - left + 1) → Kept r
+    pub stuck-out : {fs : List Cell} {s : code.State} {left : ℕ} {t : Tally} → Turn first bs is cs ws ns o budget fs₀ s₀ fs s left t → 0 < left → (act first bs is cs ws ns o budget fs₀ s₀) (whole ns fs s) ≡ stuck → (r : Found) → r ≡ refusedAs (verdicts.Stuck (s .at)) (budget - left + 1) → Kept r
     unfolding whole store
-    stuck-out fs s left t i h g r e =
-        shown r _ e (loop.sticks act o budget (whole ns fs₀ s₀) (whole ns fs s) left t (i .inv) h g) (refused-modest o budget (budget - left + 1) _ r e (omega (arith, i .inv .within)))
+    stuck-out {fs} {s} {left} {t} i h g r e =
+        shown r _ e (loop.sticks (act first bs is cs ws ns o budget fs₀ s₀) o budget (whole ns fs₀ s₀) (whole ns fs s) left t (i .inv) h g) (refused-modest o budget (budget - left + 1) _ r e (omega (arith, i .inv .within)))
 
-    module _ (fs : List Cell) (s : code.State) (left : ℕ) (t : Tally) (l : Line) (t′ : Tally) (u : code.State) (n : ℕ) (out : Outcome) (a : Arm fs s left t l t′ u n out) where
+    module _ {fs : List Cell} {s : code.State} {left : ℕ} {t : Tally} {l : Line} {t′ : Tally} {u : code.State} {n : ℕ} {out : Outcome} (a : Arm first bs is cs ws ns o budget fs₀ s₀ fs s left t l t′ u n out) where
       used-is : budget - (left - 1) ≡ budget - left + 1
       used-is = omega (arith, a .turn .inv .within, a .some)
 
       cycles-fit : t′ .cycles ≤ 4294967296 * (budget - left + 1)
-      cycles-fit = subst (λ k. t′ .cycles ≤ 4294967296 * k) used-is (costs fs s left t l t′ u n out a .0)
+      cycles-fit = subst (λ k. t′ .cycles ≤ 4294967296 * k) used-is (costs a .0)
 
       words-fit : t′ .words ≤ 4294967296 * (budget - left + 1)
-      words-fit = subst (λ k. t′ .words ≤ 4294967296 * k) used-is (costs fs s left t l t′ u n out a .1)
+      words-fit = subst (λ k. t′ .words ≤ 4294967296 * k) used-is (costs a .1)
 
       pub halts-out : out ≡ Halts → (r : Found) → r ≡ finishedOf t′ (budget - left + 1) → Kept r
       halts-out h r e =
-          shown r (finishedOf (moreOf t (price (l .cycles) (l .words)) (height (whole ns fs s))) (budget - left + 1)) (e ∙ ap (λ x. finishedOf x (budget - left + 1)) (more-is fs s left t l t′ u n out a))
-          (loop.halts act o budget (whole ns fs₀ s₀) (whole ns fs s) left t (a .turn .inv) (a .some) (price (l .cycles) (l .words)) (halts fs s left t l t′ u n out a h))
+          shown r (finishedOf (moreOf t (price (l .cycles) (l .words)) (height (whole ns fs s))) (budget - left + 1)) (e ∙ ap (λ x. finishedOf x (budget - left + 1)) (more-is a))
+          (loop.halts (act first bs is cs ws ns o budget fs₀ s₀) o budget (whole ns fs₀ s₀) (whole ns fs s) left t (a .turn .inv) (a .some) (price (l .cycles) (l .words)) (halts a h))
           (finished-modest o budget (budget - left + 1) t′ r e (omega (arith, a .turn .inv .within, a .some)) cycles-fit words-fit)
 
       module _ (h : out ≡ Opens) where
         abbrev p : Price
         p = price (l .cycles) (l .words)
 
-        opened : act (whole ns fs s) ≡ done (opens p (jump (s .at + 1) (whole ns fs u)) p (jump n (whole ns fs u)))
-        opened = opens-both fs s left t l t′ u n out a h
+        opened : (act first bs is cs ws ns o budget fs₀ s₀) (whole ns fs s) ≡ done (opens p (jump (s .at + 1) (whole ns fs u)) p (jump n (whole ns fs u)))
+        opened = opens-both a h
 
         pub over-out : o ≡ 0 → (r : Found) → r ≡ refusedAs (verdicts.Openings (s .at)) (budget - left + 1) → Kept r
         unfolding whole store
         over-out z r e =
-            shown r _ e (loop.deepens act o budget (whole ns fs₀ s₀) (whole ns fs s) left t (a .turn .inv) (a .some) p p _ _ opened z)
+            shown r _ e (loop.deepens (act first bs is cs ws ns o budget fs₀ s₀) o budget (whole ns fs₀ s₀) (whole ns fs s) left t (a .turn .inv) (a .some) p p _ _ opened z)
             (refused-modest o budget (budget - left + 1) _ r e (omega (arith, a .turn .inv .within, a .some)))
 
         module _ (z : 0 < o) (f : Found) (ef : Explores (codeOf first bs is cs ws) ns fs u (s .at + 1) (o - 1) (left - 1) f) (mf : Modest (o - 1) (left - 1) f) where
@@ -241,19 +243,19 @@ module _ (first : ℕ) (bs : List ℕ) (is : List ℤ) (cs ws ns : List ℕ) (o 
 
           pub first-out : (f .verdict ≡ verdicts.Accepted → ⊥) → (r : Found) → r ≡ refusedAs (f .verdict) (budget - left + 1 + f .used) → Kept r
           first-out no-way r e =
-              shown r _ e (loop.first-fails act o budget (whole ns fs₀ s₀) (whole ns fs s) left t (a .turn .inv) (a .some) p p _ _ opened (o - 1) lower f (ef .shows) (ef .counts) no-way)
+              shown r _ e (loop.first-fails (act first bs is cs ws ns o budget fs₀ s₀) o budget (whole ns fs₀ s₀) (whole ns fs s) left t (a .turn .inv) (a .some) p p _ _ opened (o - 1) lower f (ef .shows) (ef .counts) no-way)
               (refused-modest o budget (budget - left + 1 + f .used) _ r e (omega (arith, a .turn .inv .within, a .some, mf .used)))
 
           module _ (done-first : f .verdict ≡ verdicts.Accepted) (g : Found) (eg : Explores (codeOf first bs is cs ws) ns fs u n (o - 1) (left - 1 - f .used) g) (mg : Modest (o - 1) (left - 1 - f .used) g) where
             pub second-out : (g .verdict ≡ verdicts.Accepted → ⊥) → (r : Found) → r ≡ refusedAs (g .verdict) (budget - left + 1 + f .used + g .used) → Kept r
             second-out no-way r e =
-                shown r _ e (loop.second-fails act o budget (whole ns fs₀ s₀) (whole ns fs s) left t (a .turn .inv) (a .some) p p _ _ opened (o - 1) lower f (ef .shows) (ef .counts) done-first g (eg .shows) (eg .counts) no-way)
+                shown r _ e (loop.second-fails (act first bs is cs ws ns o budget fs₀ s₀) o budget (whole ns fs₀ s₀) (whole ns fs s) left t (a .turn .inv) (a .some) p p _ _ opened (o - 1) lower f (ef .shows) (ef .counts) done-first g (eg .shows) (eg .counts) no-way)
                 (refused-modest o budget (budget - left + 1 + f .used + g .used) _ r e (omega (arith, a .turn .inv .within, a .some, mf .used, mg .used)))
 
             pub both-out : g .verdict ≡ verdicts.Accepted → (r : Found) → r ≡ joinedOf t′ (budget - left + 1) f g → Kept r
             both-out done-second r e =
-                shown r (joinedOf (moreOf t p (height (whole ns fs s))) (budget - left + 1) f g) (e ∙ ap (λ x. joinedOf x (budget - left + 1) f g) (more-is fs s left t l t′ u n out a))
-                (loop.both-done act o budget (whole ns fs₀ s₀) (whole ns fs s) left t (a .turn .inv) (a .some) p p _ _ opened (o - 1) lower f (ef .shows) (ef .counts) done-first g (eg .shows) (eg .counts) refl done-second)
+                shown r (joinedOf (moreOf t p (height (whole ns fs s))) (budget - left + 1) f g) (e ∙ ap (λ x. joinedOf x (budget - left + 1) f g) (more-is a))
+                (loop.both-done (act first bs is cs ws ns o budget fs₀ s₀) o budget (whole ns fs₀ s₀) (whole ns fs s) left t (a .turn .inv) (a .some) p p _ _ opened (o - 1) lower f (ef .shows) (ef .counts) done-first g (eg .shows) (eg .counts) refl done-second)
                 (joined-modest o budget (budget - left + 1) (left - 1) t′ f g r e z (omega (arith, a .turn .inv .within, a .some)) cycles-fit words-fit mf mg)
 
             pub sums : o ≤ 32 → budget ≤ 1000000 → Summable t′ (budget - left + 1) f g

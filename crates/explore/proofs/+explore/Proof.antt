@@ -255,7 +255,7 @@ module _ (t : ℕ) (b : Body t) where
       (whole (entry b .args .sizes .now) (b .before .loop .blocks) (b .before .loop .s)) ≡ stuck →
       (r : Found) → r ≡ refusedAs (Verdict.Stuck (b .before .loop .s .at)) (entry b .args .budget - b .before .loop .left + 1) → keeps-at r
   sticks e r f =
-      stuck-out _ _ _ _ _ _ _ _ _ _ (entry b .args .start) (entry b .args .place) (b .before .before .jump .ensures .0) _ (b .before .loop .s) _ (b .before .loop .tally) (b .before .loop .inv) (b .loop-test .taken) e r f
+      stuck-out _ _ _ _ _ _ _ _ _ _ (entry b .args .start) (entry b .args .place) (b .before .before .jump .ensures .0) (b .before .loop .inv) (b .loop-test .taken) e r f
 
   strays : stuck ≡ fetch (codeOf (entry b .args .first) (entry b .args .codes .now) (entry b .args .operands .now) (entry b .args .cycles .now) (entry b .args .words .now)) (b .before .loop .s .at) →
       (r : Found) → r ≡ refusedAs (Verdict.Stuck (b .before .loop .s .at)) (entry b .args .budget - b .before .loop .left + 1) → keeps-at r
@@ -294,7 +294,9 @@ refused-requires : (t : ℕ) → explore-lts.Need-refused-requires (claims t) (e
 refused-requires t c κs = search needs
 
 returns : (t : ℕ) → explore-lts.Need-returns (claims t) (explore-at t) explore.Post Inv-loop μ-loop
-returns t c = let k = strays t (c .before .before .before .before) (ap ofFetched (sym (c .before .enum-told .given .1)) ∙ c .before .before .before .fetch .ensures .0) _ (c .refused .ensures) in (k .explored, (k .safe, (k .exact, k .modest)))
+returns t c =
+    let k = strays t (c .before .before .before .before) (ap ofFetched (sym (c .before .enum-told .given .1)) ∙ c .before .before .before .fetch .ensures .0) _ (c .refused .ensures) in
+    (k .explored, (k .safe, (k .exact, k .modest)))
 
 sub-more : (t : ℕ) → explore-lts.Need-sub-more (claims t) (explore-at t) explore.Post Inv-loop μ-loop
 sub-more t c = search needs
@@ -306,7 +308,12 @@ refused-requires-2 : (t : ℕ) → explore-lts.Need-refused-requires-2 (claims t
 refused-requires-2 t c κs = search needs
 
 returns-2 : (t : ℕ) → explore-lts.Need-returns-2 (claims t) (explore-at t) explore.Post Inv-loop μ-loop
-returns-2 t c = let k = sticks t (c .before .before .before .before .before .before .before .before) (overflows _ _ _ _ _ _ (c .before .before .before .before .before .before .before .before .before .before .before .before .before .before .before .args .openings) (c .before .before .before .before .before .before .before .before .before .before .before .before .before .before .before .args .budget) (c .before .before .before .before .before .before .before .before .before .before .before .before .before .before .before .args .t7) (c .before .before .before .before .before .before .before .before .before .before .jump .result) (c .before .before .before .before .before .before .before .before .before .loop .blocks) (c .before .before .before .before .before .before .before .before .before .loop .s) (line (c .before .before .before .before)) (found t (c .before .before .before .before)) (c .before .before .if1 .taken) (let h : length (c .before .before .before .before .before .before .before .before .before .loop .s .stack) ≡ 64 = c .before .before .before .before .before .before .before .before .before .loop .inv .stack in h) (c .before .if2 .taken)) _ (c .refused2 .ensures) in (k .explored, (k .safe, (k .exact, k .modest)))
+returns-2 t c =
+    let l : Lined t = c .before .before .before .before in
+    let b : Body t = body l in
+    let h : length (b .before .loop .s .stack) ≡ 64 = b .before .loop .inv .stack in
+    let k = sticks t b (overflows _ _ _ _ _ _ (entry b .args .openings) (entry b .args .budget) (entry b .args .t7) (b .before .before .jump .result) (b .before .loop .blocks) (b .before .loop .s) (line l) (found t l) (c .before .before .if1 .taken) h (c .before .if2 .taken)) _ (c .refused2 .ensures) in
+    (k .explored, (k .safe, (k .exact, k .modest)))
 
 push-requires : (t : ℕ) → explore-lts.Need-push-requires (claims t) (explore-at t) explore.Post Inv-loop μ-loop
 push-requires t c κs = (omega (arith, c .before .if2 .left), c .before .before .before .before .before .before .before .before .before .loop .inv .free)
@@ -339,25 +346,32 @@ enum-known-out : (t : ℕ) → explore-lts.Need-enum-known-out (claims t) (explo
 enum-known-out t c = search needs
 
 pop-requires : (t : ℕ) → explore-lts.Need-pop-requires (claims t) (explore-at t) explore.Post Inv-loop μ-loop
-pop-requires t c κs = arms.drop-room _ _ _ _ _ _ _ _ _ _ _ _ _ _ _ _ _ _ _ (arm t (c .before .before .before)) _ _ (c .before .out .given .1) (c .before .before .before .before .before .before .before .before .drops-of .ensures)
+pop-requires t c κs =
+    let a : Acted t = c .before .before .before in
+    arms.drop-room (arm t a) _ _ (c .before .out .given .1) (c .before .before .before .before .before .before .before .before .drops-of .ensures)
 
 load-requires : (t : ℕ) → explore-lts.Need-load-requires (claims t) (explore-at t) explore.Post Inv-loop μ-loop
 load-requires t c κs = c .pop .ensures .1
 
 advance-requires : (t : ℕ) → explore-lts.Need-advance-requires (claims t) (explore-at t) explore.Post Inv-loop μ-loop
-advance-requires t c κs = (omega (arith, loaded-at (c .load .result) (c .before .pop .result) _ (c .load .ensures .0), restacked-at (c .before .pop .result) (after (c .before .before .before .before .before)) _ (c .before .pop .ensures .0), arm t (c .before .before .before .before .before) .stays, arm t (c .before .before .before .before .before) .low), c .load .ensures .1)
+advance-requires t c κs =
+    let a : Acted t = c .before .before .before .before .before in
+    (omega (arith, loaded-at (c .load .result) (c .before .pop .result) _ (c .load .ensures .0), restacked-at (c .before .pop .result) (after a) _ (c .before .pop .ensures .0), arm t a .stays, arm t a .low), c .load .ensures .1)
 
 loop-less : (t : ℕ) → explore-lts.Need-loop-less (claims t) (explore-at t) explore.Post Inv-loop μ-loop
 loop-less t c = omega (arith, c .before .before .before .before .before .before .before .before .before .before .before .before .before .before .before .before .before .before .before .before .before .loop-test .taken)
 
 loop-again : (t : ℕ) → explore-lts.Need-loop-again (claims t) (explore-at t) explore.Post Inv-loop μ-loop
-loop-again t c = arms.gives _ _ _ _ _ _ _ _ _ _ _ _ _ _ _ _ _ _ _ (arm t (c .before .before .before .before .before .before)) _ _ (c .before .before .pop .result) (c .before .load .result) (c .advance .result) (c .before .before .before .before .out .given .1) (c .before .before .before .before .before .before .before .before .before .before .before .drops-of .ensures) (c .before .before .pop .ensures .0) (c .before .load .ensures .0) (c .advance .ensures .0) (c .advance .ensures .1) (let n : length (c .advance .result .stack) ≡ 64 = search (c .advance .ok, needs, length-images) in n)
+loop-again t c =
+    let n : length (c .advance .result .stack) ≡ 64 = search (c .advance .ok, needs, length-images) in
+    let a : Acted t = c .before .before .before .before .before .before in
+    arms.gives (arm t a) _ _ (c .before .before .pop .result) (c .before .load .result) (c .advance .result) (c .before .before .before .before .out .given .1) (c .before .before .before .before .before .before .before .before .before .before .before .drops-of .ensures) (c .before .before .pop .ensures .0) (c .before .load .ensures .0) (c .advance .ensures .0) (c .advance .ensures .1) n
 
 enum-known-out-2 : (t : ℕ) → explore-lts.Need-enum-known-out-2 (claims t) (explore-at t) explore.Post Inv-loop μ-loop
 enum-known-out-2 t c = search needs
 
 store-requires : (t : ℕ) → explore-lts.Need-store-requires (claims t) (explore-at t) explore.Post Inv-loop μ-loop
-store-requires t c κs = arms.store-room _ _ _ _ _ _ _ _ _ _ _ _ _ _ _ _ _ _ _ (arm t (c .before .before .before)) _ (c .before .out2 .given .1)
+store-requires t c κs = let a : Acted t = c .before .before .before in arms.store-room (arm t a) _ (c .before .out2 .given .1)
 
 number-requires : (t : ℕ) → explore-lts.Need-number-requires (claims t) (explore-at t) explore.Post Inv-loop μ-loop
 number-requires t c κs = search needs
@@ -366,13 +380,18 @@ load-requires-2 : (t : ℕ) → explore-lts.Need-load-requires-2 (claims t) (exp
 load-requires-2 t c κs = c .before .store .ensures .1
 
 advance-requires-2 : (t : ℕ) → explore-lts.Need-advance-requires-2 (claims t) (explore-at t) explore.Post Inv-loop μ-loop
-advance-requires-2 t c κs = (omega (arith, loaded-at (c .load2 .result) (c .before .before .store .result) _ (c .load2 .ensures .0), restacked-at (c .before .before .store .result) (after (c .before .before .before .before .before .before)) _ (c .before .before .store .ensures .0), arm t (c .before .before .before .before .before .before) .stays, arm t (c .before .before .before .before .before .before) .low), c .load2 .ensures .1)
+advance-requires-2 t c κs =
+    let a : Acted t = c .before .before .before .before .before .before in
+    (omega (arith, loaded-at (c .load2 .result) (c .before .before .store .result) _ (c .load2 .ensures .0), restacked-at (c .before .before .store .result) (after a) _ (c .before .before .store .ensures .0), arm t a .stays, arm t a .low), c .load2 .ensures .1)
 
 loop-less-2 : (t : ℕ) → explore-lts.Need-loop-less-2 (claims t) (explore-at t) explore.Post Inv-loop μ-loop
 loop-less-2 t c = omega (arith, c .before .before .before .before .before .before .before .before .before .before .before .before .before .before .before .before .before .before .before .before .before .before .loop-test .taken)
 
 loop-again-2 : (t : ℕ) → explore-lts.Need-loop-again-2 (claims t) (explore-at t) explore.Post Inv-loop μ-loop
-loop-again-2 t c = arms.stores _ _ _ _ _ _ _ _ _ _ _ _ _ _ _ _ _ _ _ (arm t (c .before .before .before .before .before .before .before)) _ _ (c .before .before .before .store .result) (c .before .load2 .result) (c .advance2 .result) (c .before .before .before .before .before .out2 .given .1) (c .before .before .number .ensures) (c .before .before .before .store .ensures .0) (c .before .load2 .ensures .0) (c .advance2 .ensures .0) (c .advance2 .ensures .1) (let n : length (c .advance2 .result .stack) ≡ 64 = search (c .advance2 .ok, needs, length-images) in n)
+loop-again-2 t c =
+    let n : length (c .advance2 .result .stack) ≡ 64 = search (c .advance2 .ok, needs, length-images) in
+    let a : Acted t = c .before .before .before .before .before .before .before in
+    arms.stores (arm t a) _ _ (c .before .before .before .store .result) (c .before .load2 .result) (c .advance2 .result) (c .before .before .before .before .before .out2 .given .1) (c .before .before .number .ensures) (c .before .before .before .store .ensures .0) (c .before .load2 .ensures .0) (c .advance2 .ensures .0) (c .advance2 .ensures .1) n
 
 enum-known-out-3 : (t : ℕ) → explore-lts.Need-enum-known-out-3 (claims t) (explore-at t) explore.Post Inv-loop μ-loop
 enum-known-out-3 t c = search needs
@@ -390,16 +409,27 @@ refused-requires-3 : (t : ℕ) → explore-lts.Need-refused-requires-3 (claims t
 refused-requires-3 t c κs = search needs
 
 returns-3 : (t : ℕ) → explore-lts.Need-returns-3 (claims t) (explore-at t) explore.Post Inv-loop μ-loop
-returns-3 t c = let k = sticks t (c .before .before .before .before .before .before .before .before .before .before .before .before .before .before .before .before .before .before .before .before .before .before .before) (arms.sets-nothing _ _ _ _ _ _ _ _ _ _ _ _ _ _ _ _ _ _ _ (arm t (c .before .before .before .before .before .before .before .before)) _ (c .before .before .before .before .before .before .out3 .given .1) (ap ofSlot (sym (c .before .enum-told2 .given .1)) ∙ c .before .before .before .slot-of .ensures)) _ (c .refused3 .ensures) in (k .explored, (k .safe, (k .exact, k .modest)))
+returns-3 t c =
+    let a : Acted t = c .before .before .before .before .before .before .before .before in
+    let k = sticks t (body (lined a)) (arms.sets-nothing (arm t a) _ (c .before .before .before .before .before .before .out3 .given .1) (ap ofSlot (sym (c .before .enum-told2 .given .1)) ∙ c .before .before .before .slot-of .ensures)) _ (c .refused3 .ensures) in
+    (k .explored, (k .safe, (k .exact, k .modest)))
 
 mul-blocks : (t : ℕ) → explore-lts.Need-mul-blocks (claims t) (explore-at t) explore.Post Inv-loop μ-loop
-mul-blocks t c = omega (arith, sized t (c .before .before .before .before .before .before .before .before .before .before .before .before .before .before .before .before .before .before .before .before .before .before .before .before .before .before .before .before .before .before), arms.slot-in _ _ _ _ _ _ _ _ _ _ _ _ _ _ _ _ _ _ _ (arm t (c .before .before .before .before .before .before .before .before)) _ (ap ofSlot (sym (c .before .field .given .1)) ∙ c .before .before .before .slot-of .ensures))
+mul-blocks t c =
+    let a : Acted t = c .before .before .before .before .before .before .before .before in
+    let b : Body t = body (lined a) in
+    omega (arith, sized t (entry b), arms.slot-in (arm t a) _ (ap ofSlot (sym (c .before .field .given .1)) ∙ c .before .before .before .slot-of .ensures))
 
 array-set-from-blocks : (t : ℕ) → explore-lts.Need-array-set-from-blocks (claims t) (explore-at t) explore.Post Inv-loop μ-loop
-array-set-from-blocks t c = omega (arith, sized t (c .before .before .before .before .before .before .before .before .before .before .before .before .before .before .before .before .before .before .before .before .before .before .before .before .before .before .before .before .before .before), arms.slot-in _ _ _ _ _ _ _ _ _ _ _ _ _ _ _ _ _ _ _ (arm t (c .before .before .before .before .before .before .before .before)) _ (ap ofSlot (sym (c .before .field .given .1)) ∙ c .before .before .before .slot-of .ensures))
+array-set-from-blocks t c =
+    let a : Acted t = c .before .before .before .before .before .before .before .before in
+    let b : Body t = body (lined a) in
+    omega (arith, sized t (entry b), arms.slot-in (arm t a) _ (ap ofSlot (sym (c .before .field .given .1)) ∙ c .before .before .before .slot-of .ensures))
 
 pop-requires-2 : (t : ℕ) → explore-lts.Need-pop-requires-2 (claims t) (explore-at t) explore.Post Inv-loop μ-loop
-pop-requires-2 t c κs = arms.set-room _ _ _ _ _ _ _ _ _ _ _ _ _ _ _ _ _ _ _ (arm t (c .before .before .before .before .before .before .before .before)) _ (c .before .before .before .before .before .before .out3 .given .1)
+pop-requires-2 t c κs =
+    let a : Acted t = c .before .before .before .before .before .before .before .before in
+    arms.set-room (arm t a) _ (c .before .before .before .before .before .before .out3 .given .1)
 
 number-requires-2 : (t : ℕ) → explore-lts.Need-number-requires-2 (claims t) (explore-at t) explore.Post Inv-loop μ-loop
 number-requires-2 t c κs = search needs
@@ -408,13 +438,18 @@ load-requires-3 : (t : ℕ) → explore-lts.Need-load-requires-3 (claims t) (exp
 load-requires-3 t c κs = c .before .pop2 .ensures .1
 
 advance-requires-3 : (t : ℕ) → explore-lts.Need-advance-requires-3 (claims t) (explore-at t) explore.Post Inv-loop μ-loop
-advance-requires-3 t c κs = (omega (arith, loaded-at (c .load3 .result) (c .before .before .pop2 .result) _ (c .load3 .ensures .0), restacked-at (c .before .before .pop2 .result) (after (c .before .before .before .before .before .before .before .before .before .before .before)) _ (c .before .before .pop2 .ensures .0), arm t (c .before .before .before .before .before .before .before .before .before .before .before) .stays, arm t (c .before .before .before .before .before .before .before .before .before .before .before) .low), c .load3 .ensures .1)
+advance-requires-3 t c κs =
+    let a : Acted t = c .before .before .before .before .before .before .before .before .before .before .before in
+    (omega (arith, loaded-at (c .load3 .result) (c .before .before .pop2 .result) _ (c .load3 .ensures .0), restacked-at (c .before .before .pop2 .result) (after a) _ (c .before .before .pop2 .ensures .0), arm t a .stays, arm t a .low), c .load3 .ensures .1)
 
 loop-less-3 : (t : ℕ) → explore-lts.Need-loop-less-3 (claims t) (explore-at t) explore.Post Inv-loop μ-loop
 loop-less-3 t c = omega (arith, c .before .before .before .before .before .before .before .before .before .before .before .before .before .before .before .before .before .before .before .before .before .before .before .before .before .before .before .loop-test .taken)
 
 loop-again-3 : (t : ℕ) → explore-lts.Need-loop-again-3 (claims t) (explore-at t) explore.Post Inv-loop μ-loop
-loop-again-3 t c = arms.sets _ _ _ _ _ _ _ _ _ _ _ _ _ _ _ _ _ _ _ (arm t (c .before .before .before .before .before .before .before .before .before .before .before .before)) _ _ _ (c .before .before .before .pop2 .result) (c .before .load3 .result) (c .advance3 .result) (c .before .before .before .before .before .before .before .before .before .before .out3 .given .1) (ap ofSlot (sym (c .before .before .before .before .before .field .given .1)) ∙ c .before .before .before .before .before .before .before .slot-of .ensures) (c .before .before .number2 .ensures) (c .before .before .before .pop2 .ensures .0) (c .before .load3 .ensures .0) (c .advance3 .ensures .0) (c .advance3 .ensures .1) (let n : length (c .advance3 .result .stack) ≡ 64 = search (c .advance3 .ok, needs, length-images) in n)
+loop-again-3 t c =
+    let n : length (c .advance3 .result .stack) ≡ 64 = search (c .advance3 .ok, needs, length-images) in
+    let a : Acted t = c .before .before .before .before .before .before .before .before .before .before .before .before in
+    arms.sets (arm t a) _ _ _ (c .before .before .before .pop2 .result) (c .before .load3 .result) (c .advance3 .result) (c .before .before .before .before .before .before .before .before .before .before .out3 .given .1) (ap ofSlot (sym (c .before .before .before .before .before .field .given .1)) ∙ c .before .before .before .before .before .before .before .slot-of .ensures) (c .before .before .number2 .ensures) (c .before .before .before .pop2 .ensures .0) (c .before .load3 .ensures .0) (c .advance3 .ensures .0) (c .advance3 .ensures .1) n
 
 enum-told-3 : (t : ℕ) → explore-lts.Need-enum-told-3 (claims t) (explore-at t) explore.Post Inv-loop μ-loop
 enum-told-3 t c = search needs
@@ -432,37 +467,54 @@ refused-requires-4 : (t : ℕ) → explore-lts.Need-refused-requires-4 (claims t
 refused-requires-4 t c κs = search needs
 
 returns-4 : (t : ℕ) → explore-lts.Need-returns-4 (claims t) (explore-at t) explore.Post Inv-loop μ-loop
-returns-4 t c = let k = sticks t (c .before .before .before .before .before .before .before .before .before .before .before .before .before .before .before .before .before .before .before .before .before .before) (arms.gets-nothing _ _ _ _ _ _ _ _ _ _ _ _ _ _ _ _ _ _ _ (arm t (c .before .before .before .before .before .before .before)) (c .before .before .before .before .before .enum-told3 .given .1) (ap ofSlot (sym (c .before .enum-told4 .given .1)) ∙ c .before .before .before .slot-of2 .ensures)) _ (c .refused4 .ensures) in (k .explored, (k .safe, (k .exact, k .modest)))
+returns-4 t c =
+    let a : Acted t = c .before .before .before .before .before .before .before in
+    let k = sticks t (body (lined a)) (arms.gets-nothing (arm t a) (c .before .before .before .before .before .enum-told3 .given .1) (ap ofSlot (sym (c .before .enum-told4 .given .1)) ∙ c .before .before .before .slot-of2 .ensures)) _ (c .refused4 .ensures) in
+    (k .explored, (k .safe, (k .exact, k .modest)))
 
 mul-load : (t : ℕ) → explore-lts.Need-mul-load (claims t) (explore-at t) explore.Post Inv-loop μ-loop
-mul-load t c = omega (arith, sized t (c .before .before .before .before .before .before .before .before .before .before .before .before .before .before .before .before .before .before .before .before .before .before .before .before .before .before .before .before .before), arms.slot-in _ _ _ _ _ _ _ _ _ _ _ _ _ _ _ _ _ _ _ (arm t (c .before .before .before .before .before .before .before)) _ (ap ofSlot (sym (c .before .field2 .given .1)) ∙ c .before .before .before .slot-of2 .ensures))
+mul-load t c =
+    let a : Acted t = c .before .before .before .before .before .before .before in
+    let b : Body t = body (lined a) in
+    omega (arith, sized t (entry b), arms.slot-in (arm t a) _ (ap ofSlot (sym (c .before .field2 .given .1)) ∙ c .before .before .before .slot-of2 .ensures))
 
 array-copy-out-load : (t : ℕ) → explore-lts.Need-array-copy-out-load (claims t) (explore-at t) explore.Post Inv-loop μ-loop
-array-copy-out-load t c = omega (arith, sized t (c .before .before .before .before .before .before .before .before .before .before .before .before .before .before .before .before .before .before .before .before .before .before .before .before .before .before .before .before .before), arms.slot-in _ _ _ _ _ _ _ _ _ _ _ _ _ _ _ _ _ _ _ (arm t (c .before .before .before .before .before .before .before)) _ (ap ofSlot (sym (c .before .field2 .given .1)) ∙ c .before .before .before .slot-of2 .ensures))
+array-copy-out-load t c =
+    let a : Acted t = c .before .before .before .before .before .before .before in
+    let b : Body t = body (lined a) in
+    omega (arith, sized t (entry b), arms.slot-in (arm t a) _ (ap ofSlot (sym (c .before .field2 .given .1)) ∙ c .before .before .before .slot-of2 .ensures))
 
 load-requires-4 : (t : ℕ) → explore-lts.Need-load-requires-4 (claims t) (explore-at t) explore.Post Inv-loop μ-loop
-load-requires-4 t c κs = pushed t (c .before .before .before .before .before .before .before .before .before .before .before .before .before .before .before .before .before) .free
+load-requires-4 t c κs = let a : Acted t = c .before .before .before .before .before .before .before .before in arm t a .free
 
 advance-requires-4 : (t : ℕ) → explore-lts.Need-advance-requires-4 (claims t) (explore-at t) explore.Post Inv-loop μ-loop
-advance-requires-4 t c κs = (omega (arith, loaded-at (c .load4 .result) (after (c .before .before .before .before .before .before .before .before .before)) _ (c .load4 .ensures .0), arm t (c .before .before .before .before .before .before .before .before .before) .stays, arm t (c .before .before .before .before .before .before .before .before .before) .low), c .load4 .ensures .1)
+advance-requires-4 t c κs =
+    let a : Acted t = c .before .before .before .before .before .before .before .before .before in
+    (omega (arith, loaded-at (c .load4 .result) (after a) _ (c .load4 .ensures .0), arm t a .stays, arm t a .low), c .load4 .ensures .1)
 
 loop-less-4 : (t : ℕ) → explore-lts.Need-loop-less-4 (claims t) (explore-at t) explore.Post Inv-loop μ-loop
 loop-less-4 t c = omega (arith, c .before .before .before .before .before .before .before .before .before .before .before .before .before .before .before .before .before .before .before .before .before .before .before .before .before .loop-test .taken)
 
 loop-again-4 : (t : ℕ) → explore-lts.Need-loop-again-4 (claims t) (explore-at t) explore.Post Inv-loop μ-loop
-loop-again-4 t c = arms.gets _ _ _ _ _ _ _ _ _ _ _ _ _ _ _ _ _ _ _ (arm t (c .before .before .before .before .before .before .before .before .before .before)) _ _ _ (c .before .load4 .result) (c .advance4 .result) (c .before .before .before .before .before .before .before .before .enum-told3 .given .1) (ap ofSlot (sym (c .before .before .before .before .field2 .given .1)) ∙ c .before .before .before .before .before .before .slot-of2 .ensures) refl (c .before .load4 .ensures .0) (c .advance4 .ensures .0) (c .advance4 .ensures .1) (let n : length (c .advance4 .result .stack) ≡ 64 = search (c .advance4 .ok, needs, length-images) in n)
+loop-again-4 t c =
+    let n : length (c .advance4 .result .stack) ≡ 64 = search (c .advance4 .ok, needs, length-images) in
+    let a : Acted t = c .before .before .before .before .before .before .before .before .before .before in
+    arms.gets (arm t a) _ _ _ (c .before .load4 .result) (c .advance4 .result) (c .before .before .before .before .before .before .before .before .enum-told3 .given .1) (ap ofSlot (sym (c .before .before .before .before .field2 .given .1)) ∙ c .before .before .before .before .before .before .slot-of2 .ensures) refl (c .before .load4 .ensures .0) (c .advance4 .ensures .0) (c .advance4 .ensures .1) n
 
 enum-told-5 : (t : ℕ) → explore-lts.Need-enum-told-5 (claims t) (explore-at t) explore.Post Inv-loop μ-loop
 enum-told-5 t c = search needs
 
 jump-requires-2 : (t : ℕ) → explore-lts.Need-jump-requires-2 (claims t) (explore-at t) explore.Post Inv-loop μ-loop
-jump-requires-2 t c κs = pushed t (c .before .before .before .before .before .before .before .before .before .before .before) .free
+jump-requires-2 t c κs = let a : Acted t = c .before .before in arm t a .free
 
 loop-less-5 : (t : ℕ) → explore-lts.Need-loop-less-5 (claims t) (explore-at t) explore.Post Inv-loop μ-loop
 loop-less-5 t c = omega (arith, c .before .before .before .before .before .before .before .before .before .before .before .before .before .before .before .before .before .before .loop-test .taken)
 
 loop-again-5 : (t : ℕ) → explore-lts.Need-loop-again-5 (claims t) (explore-at t) explore.Post Inv-loop μ-loop
-loop-again-5 t c = arms.jumps _ _ _ _ _ _ _ _ _ _ _ _ _ _ _ _ _ _ _ (arm t (c .before .before .before)) (c .jump2 .result) (c .before .enum-told5 .given .1) (c .jump2 .ensures .0) (c .jump2 .ensures .1) (let n : length (c .jump2 .result .stack) ≡ 64 = search (c .jump2 .ok, needs, length-images) in n)
+loop-again-5 t c =
+    let n : length (c .jump2 .result .stack) ≡ 64 = search (c .jump2 .ok, needs, length-images) in
+    let a : Acted t = c .before .before .before in
+    arms.jumps (arm t a) (c .jump2 .result) (c .before .enum-told5 .given .1) (c .jump2 .ensures .0) (c .jump2 .ensures .1) n
 
 enum-told-6 : (t : ℕ) → explore-lts.Need-enum-told-6 (claims t) (explore-at t) explore.Post Inv-loop μ-loop
 enum-told-6 t c = search needs
@@ -471,28 +523,43 @@ refused-requires-5 : (t : ℕ) → explore-lts.Need-refused-requires-5 (claims t
 refused-requires-5 t c κs = search needs
 
 returns-5 : (t : ℕ) → explore-lts.Need-returns-5 (claims t) (explore-at t) explore.Post Inv-loop μ-loop
-returns-5 t c = let k = arms.over-out _ _ _ _ _ _ _ _ _ _ (c .before .before .before .before .before .before .before .before .before .before .before .before .before .before .before .before .before .before .before .before .before .before .before .before .before .before .args .start) (c .before .before .before .before .before .before .before .before .before .before .before .before .before .before .before .before .before .before .before .before .before .before .before .before .before .before .args .place) (c .before .before .before .before .before .before .before .before .before .before .before .before .before .before .before .before .before .before .before .before .before .jump .ensures .0) _ _ _ _ _ _ _ _ _ (arm t (c .before .before .before .before)) (c .before .before .enum-told6 .given .1) (c .before .if3 .taken) _ (c .refused5 .ensures) in (k .explored, (k .safe, (k .exact, k .modest)))
+returns-5 t c =
+    let a : Acted t = c .before .before .before .before in
+    let b : Body t = body (lined a) in
+    let k = arms.over-out _ _ _ _ _ _ _ _ _ _ (entry b .args .start) (entry b .args .place) (b .before .before .jump .ensures .0) (arm t a) (c .before .before .enum-told6 .given .1) (c .before .if3 .taken) _ (c .refused5 .ensures) in
+    (k .explored, (k .safe, (k .exact, k .modest)))
 
 add-explore : (t : ℕ) → explore-lts.Need-add-explore (claims t) (explore-at t) explore.Post Inv-loop μ-loop
-add-explore t c = omega (arith, arm t (c .before .before .before) .low)
+add-explore t c = let a : Acted t = c .before .before .before in omega (arith, arm t a .low)
 
 sub-explore : (t : ℕ) → explore-lts.Need-sub-explore (claims t) (explore-at t) explore.Post Inv-loop μ-loop
 sub-explore t c = omega (arith, c .if3 .left)
 
 explore-requires : (t : ℕ) → explore-lts.Need-explore-requires (claims t) (explore-at t) explore.Post Inv-loop μ-loop
-explore-requires t c κs = (omega (arith, c .if3 .left, c .before .before .before .before .before .before .before .before .before .before .before .before .before .before .before .before .before .before .before .before .before .before .before .before .before .pre .0), (c .before .before .before .before .before .before .before .before .before .before .before .before .before .before .before .before .before .before .before .before .before .before .before .before .before .pre .1 .0, (record { addresses = c .before .before .before .before .before .before .before .before .before .before .before .before .before .before .before .before .before .before .before .before .before .before .before .before .before .pre .1 .1 .addresses; place-fits = omega (arith, arm t (c .before .before .before) .low); free = pushed t (c .before .before .before .before .before .before .before .before .before .before .before .before) .free; budget-fits = omega (arith, c .before .before .before .before .before .before .before .before .before .before .before .before .before .before .before .before .before .before .before .before .before .before .before .before .before .pre .1 .1 .budget-fits, c .before .before .before .before .before .before .before .before .before .before .before .before .before .before .before .before .before .before .before .loop .inv .inv .within); openings-fit = omega (arith, c .before .before .before .before .before .before .before .before .before .before .before .before .before .before .before .before .before .before .before .before .before .before .before .before .before .pre .1 .1 .openings-fit); fits = c .before .before .before .before .before .before .before .before .before .before .before .before .before .before .before .before .before .before .before .loop .inv .fits })))
+explore-requires t c κs =
+    let a : Acted t = c .before .before .before in
+    let b : Body t = body (lined a) in
+    (omega (arith, c .if3 .left, entry b .pre .0), (entry b .pre .1 .0, (record { addresses = entry b .pre .1 .1 .addresses; place-fits = omega (arith, arm t a .low); free = arm t a .free; budget-fits = omega (arith, entry b .pre .1 .1 .budget-fits, b .before .loop .inv .inv .within); openings-fit = omega (arith, entry b .pre .1 .1 .openings-fit); fits = b .before .loop .inv .fits })))
 
 enum-told-7 : (t : ℕ) → explore-lts.Need-enum-told-7 (claims t) (explore-at t) explore.Post Inv-loop μ-loop
 enum-told-7 t c = search needs
 
 add-refused : (t : ℕ) → explore-lts.Need-add-refused (claims t) (explore-at t) explore.Post Inv-loop μ-loop
-add-refused t c = omega (arith, c .before .before .before .before .before .before .before .before .before .before .before .before .before .before .before .before .before .before .before .before .before .before .before .before .before .before .before .before .pre .1 .1 .budget-fits, c .before .before .before .before .before .before .before .before .before .before .before .before .before .before .before .before .before .before .before .before .before .before .loop .inv .inv .within, c .before .before .before .before .before .before .before .before .before .before .before .before .before .before .before .before .before .before .before .before .before .loop-test .taken, c .before .before .explore .ensures .1 .1 .1 .used)
+add-refused t c =
+    let a : Acted t = c .before .before .before .before .before .before in
+    let b : Body t = body (lined a) in
+    omega (arith, entry b .pre .1 .1 .budget-fits, b .before .loop .inv .inv .within, b .loop-test .taken, c .before .before .explore .ensures .1 .1 .1 .used)
 
 refused-requires-6 : (t : ℕ) → explore-lts.Need-refused-requires-6 (claims t) (explore-at t) explore.Post Inv-loop μ-loop
 refused-requires-6 t c κs = search needs
 
 returns-6 : (t : ℕ) → explore-lts.Need-returns-6 (claims t) (explore-at t) explore.Post Inv-loop μ-loop
-returns-6 t c = let k = arms.first-out _ _ _ _ _ _ _ _ _ _ (c .before .before .before .before .before .before .before .before .before .before .before .before .before .before .before .before .before .before .before .before .before .before .before .before .before .before .before .before .before .args .start) (c .before .before .before .before .before .before .before .before .before .before .before .before .before .before .before .before .before .before .before .before .before .before .before .before .before .before .before .before .before .args .place) (c .before .before .before .before .before .before .before .before .before .before .before .before .before .before .before .before .before .before .before .before .before .before .before .before .jump .ensures .0) _ _ _ _ _ _ _ _ _ (arm t (c .before .before .before .before .before .before .before)) (c .before .before .before .before .before .enum-told6 .given .1) (omega (arith, c .before .before .before .before .if3 .left)) (c .before .before .before .explore .result) (c .before .before .before .explore .ensures .0) (c .before .before .before .explore .ensures .1 .1 .1) (fails _ (c .before .before .match5 .keys2)) _ (c .refused6 .ensures) in (k .explored, (k .safe, (k .exact, k .modest)))
+returns-6 t c =
+    let a : Acted t = c .before .before .before .before .before .before .before in
+    let b : Body t = body (lined a) in
+    let f = c .before .before .before .explore in
+    let k = arms.first-out _ _ _ _ _ _ _ _ _ _ (entry b .args .start) (entry b .args .place) (b .before .before .jump .ensures .0) (arm t a) (c .before .before .before .before .before .enum-told6 .given .1) (omega (arith, c .before .before .before .before .if3 .left)) (f .result) (f .ensures .0) (f .ensures .1 .1 .1) (fails _ (c .before .before .match5 .keys2)) _ (c .refused6 .ensures) in
+    (k .explored, (k .safe, (k .exact, k .modest)))
 
 sub-explore-2 : (t : ℕ) → explore-lts.Need-sub-explore-2 (claims t) (explore-at t) explore.Post Inv-loop μ-loop
 sub-explore-2 t c = omega (arith, c .before .before .before .if3 .left)
@@ -501,28 +568,54 @@ sub-explore-3 : (t : ℕ) → explore-lts.Need-sub-explore-3 (claims t) (explore
 sub-explore-3 t c = c .before .before .before .explore .ensures .1 .1 .1 .used
 
 explore-requires-2 : (t : ℕ) → explore-lts.Need-explore-requires-2 (claims t) (explore-at t) explore.Post Inv-loop μ-loop
-explore-requires-2 t c κs = (omega (arith, c .before .before .before .before .if3 .left, c .before .before .before .before .before .before .before .before .before .before .before .before .before .before .before .before .before .before .before .before .before .before .before .before .before .before .before .before .before .pre .0), (c .before .before .before .before .before .before .before .before .before .before .before .before .before .before .before .before .before .before .before .before .before .before .before .before .before .before .before .before .before .pre .1 .0, (record { addresses = c .before .before .before .before .before .before .before .before .before .before .before .before .before .before .before .before .before .before .before .before .before .before .before .before .before .before .before .before .before .pre .1 .1 .addresses; place-fits = arm t (c .before .before .before .before .before .before .before) .index-fits; free = pushed t (c .before .before .before .before .before .before .before .before .before .before .before .before .before .before .before .before) .free; budget-fits = omega (arith, c .before .before .before .before .before .before .before .before .before .before .before .before .before .before .before .before .before .before .before .before .before .before .before .before .before .before .before .before .before .pre .1 .1 .budget-fits, c .before .before .before .before .before .before .before .before .before .before .before .before .before .before .before .before .before .before .before .before .before .before .before .loop .inv .inv .within); openings-fit = omega (arith, c .before .before .before .before .before .before .before .before .before .before .before .before .before .before .before .before .before .before .before .before .before .before .before .before .before .before .before .before .before .pre .1 .1 .openings-fit); fits = c .before .before .before .before .before .before .before .before .before .before .before .before .before .before .before .before .before .before .before .before .before .before .before .loop .inv .fits })))
+explore-requires-2 t c κs =
+    let a : Acted t = c .before .before .before .before .before .before .before in
+    let b : Body t = body (lined a) in
+    (omega (arith, c .before .before .before .before .if3 .left, entry b .pre .0), (entry b .pre .1 .0, (record { addresses = entry b .pre .1 .1 .addresses; place-fits = arm t a .index-fits; free = arm t a .free; budget-fits = omega (arith, entry b .pre .1 .1 .budget-fits, b .before .loop .inv .inv .within); openings-fit = omega (arith, entry b .pre .1 .1 .openings-fit); fits = b .before .loop .inv .fits })))
 
 enum-told-8 : (t : ℕ) → explore-lts.Need-enum-told-8 (claims t) (explore-at t) explore.Post Inv-loop μ-loop
 enum-told-8 t c = search needs
 
 add-refused-2 : (t : ℕ) → explore-lts.Need-add-refused-2 (claims t) (explore-at t) explore.Post Inv-loop μ-loop
-add-refused-2 t c = omega (arith, c .before .before .before .before .before .before .before .before .before .before .before .before .before .before .before .before .before .before .before .before .before .before .before .before .before .before .before .before .before .before .before .before .pre .1 .1 .budget-fits, c .before .before .before .before .before .before .before .before .before .before .before .before .before .before .before .before .before .before .before .before .before .before .before .before .before .before .loop .inv .inv .within, c .before .before .before .before .before .before .before .before .before .before .before .before .before .before .before .before .before .before .before .before .before .before .before .before .before .loop-test .taken, c .before .before .before .before .before .before .explore .ensures .1 .1 .1 .used)
+add-refused-2 t c =
+    let a : Acted t = c .before .before .before .before .before .before .before .before .before .before in
+    let b : Body t = body (lined a) in
+    omega (arith, entry b .pre .1 .1 .budget-fits, b .before .loop .inv .inv .within, b .loop-test .taken, c .before .before .before .before .before .before .explore .ensures .1 .1 .1 .used)
 
 add-refused-3 : (t : ℕ) → explore-lts.Need-add-refused-3 (claims t) (explore-at t) explore.Post Inv-loop μ-loop
-add-refused-3 t c = omega (arith, c .before .before .before .before .before .before .before .before .before .before .before .before .before .before .before .before .before .before .before .before .before .before .before .before .before .before .before .before .before .before .before .before .before .pre .1 .1 .budget-fits, c .before .before .before .before .before .before .before .before .before .before .before .before .before .before .before .before .before .before .before .before .before .before .before .before .before .before .before .loop .inv .inv .within, c .before .before .before .before .before .before .before .before .before .before .before .before .before .before .before .before .before .before .before .before .before .before .before .before .before .before .loop-test .taken, c .before .before .before .before .before .before .before .explore .ensures .1 .1 .1 .used, c .before .before .before .explore2 .ensures .1 .1 .1 .used)
+add-refused-3 t c =
+    let a : Acted t = c .before .before .before .before .before .before .before .before .before .before .before in
+    let b : Body t = body (lined a) in
+    omega (arith, entry b .pre .1 .1 .budget-fits, b .before .loop .inv .inv .within, b .loop-test .taken, c .before .before .before .before .before .before .before .explore .ensures .1 .1 .1 .used, c .before .before .before .explore2 .ensures .1 .1 .1 .used)
 
 refused-requires-7 : (t : ℕ) → explore-lts.Need-refused-requires-7 (claims t) (explore-at t) explore.Post Inv-loop μ-loop
 refused-requires-7 t c κs = search needs
 
 returns-7 : (t : ℕ) → explore-lts.Need-returns-7 (claims t) (explore-at t) explore.Post Inv-loop μ-loop
-returns-7 t c = let k = arms.second-out _ _ _ _ _ _ _ _ _ _ (c .before .before .before .before .before .before .before .before .before .before .before .before .before .before .before .before .before .before .before .before .before .before .before .before .before .before .before .before .before .before .before .before .before .before .args .start) (c .before .before .before .before .before .before .before .before .before .before .before .before .before .before .before .before .before .before .before .before .before .before .before .before .before .before .before .before .before .before .before .before .before .before .args .place) (c .before .before .before .before .before .before .before .before .before .before .before .before .before .before .before .before .before .before .before .before .before .before .before .before .before .before .before .before .before .jump .ensures .0) _ _ _ _ _ _ _ _ _ (arm t (c .before .before .before .before .before .before .before .before .before .before .before .before)) (c .before .before .before .before .before .before .before .before .before .before .enum-told6 .given .1) (omega (arith, c .before .before .before .before .before .before .before .before .before .if3 .left)) (c .before .before .before .before .before .before .before .before .explore .result) (c .before .before .before .before .before .before .before .before .explore .ensures .0) (c .before .before .before .before .before .before .before .before .explore .ensures .1 .1 .1) (c .before .before .before .before .before .before .enum-told7 .given .1) (c .before .before .before .before .explore2 .result) (c .before .before .before .before .explore2 .ensures .0) (c .before .before .before .before .explore2 .ensures .1 .1 .1) (fails _ (c .before .before .before .match6 .keys2)) _ (c .refused7 .ensures) in (k .explored, (k .safe, (k .exact, k .modest)))
+returns-7 t c =
+    let a : Acted t = c .before .before .before .before .before .before .before .before .before .before .before .before in
+    let b : Body t = body (lined a) in
+    let f = c .before .before .before .before .before .before .before .before .explore in
+    let g = c .before .before .before .before .explore2 in
+    let k = arms.second-out _ _ _ _ _ _ _ _ _ _ (entry b .args .start) (entry b .args .place) (b .before .before .jump .ensures .0) (arm t a) (c .before .before .before .before .before .before .before .before .before .before .enum-told6 .given .1) (omega (arith, c .before .before .before .before .before .before .before .before .before .if3 .left)) (f .result) (f .ensures .0) (f .ensures .1 .1 .1) (c .before .before .before .before .before .before .enum-told7 .given .1) (g .result) (g .ensures .0) (g .ensures .1 .1 .1) (fails _ (c .before .before .before .match6 .keys2)) _ (c .refused7 .ensures) in
+    (k .explored, (k .safe, (k .exact, k .modest)))
 
 joined-requires : (t : ℕ) → explore-lts.Need-joined-requires (claims t) (explore-at t) explore.Post Inv-loop μ-loop
-joined-requires t c κs = arms.sums _ _ _ _ _ _ _ _ _ _ (c .before .before .before .before .before .before .before .before .before .before .before .before .before .before .before .before .before .before .before .before .before .before .before .before .before .before .before .before .before .before .before .before .args .start) (c .before .before .before .before .before .before .before .before .before .before .before .before .before .before .before .before .before .before .before .before .before .before .before .before .before .before .before .before .before .before .before .before .args .place) (c .before .before .before .before .before .before .before .before .before .before .before .before .before .before .before .before .before .before .before .before .before .before .before .before .before .before .before .jump .ensures .0) _ _ _ _ _ _ _ _ _ (arm t (c .before .before .before .before .before .before .before .before .before .before)) (c .before .before .before .before .before .before .before .before .enum-told6 .given .1) (omega (arith, c .before .before .before .before .before .before .before .if3 .left)) (c .before .before .before .before .before .before .explore .result) (c .before .before .before .before .before .before .explore .ensures .0) (c .before .before .before .before .before .before .explore .ensures .1 .1 .1) (c .before .before .before .before .enum-told7 .given .1) (c .before .before .explore2 .result) (c .before .before .explore2 .ensures .0) (c .before .before .explore2 .ensures .1 .1 .1) (c .before .before .before .before .before .before .before .before .before .before .before .before .before .before .before .before .before .before .before .before .before .before .before .before .before .before .before .before .before .before .before .before .pre .1 .1 .openings-fit) (c .before .before .before .before .before .before .before .before .before .before .before .before .before .before .before .before .before .before .before .before .before .before .before .before .before .before .before .before .before .before .before .before .pre .1 .1 .budget-fits)
+joined-requires t c κs =
+    let a : Acted t = c .before .before .before .before .before .before .before .before .before .before in
+    let b : Body t = body (lined a) in
+    let f = c .before .before .before .before .before .before .explore in
+    let g = c .before .before .explore2 in
+    arms.sums _ _ _ _ _ _ _ _ _ _ (entry b .args .start) (entry b .args .place) (b .before .before .jump .ensures .0) (arm t a) (c .before .before .before .before .before .before .before .before .enum-told6 .given .1) (omega (arith, c .before .before .before .before .before .before .before .if3 .left)) (f .result) (f .ensures .0) (f .ensures .1 .1 .1) (c .before .before .before .before .enum-told7 .given .1) (g .result) (g .ensures .0) (g .ensures .1 .1 .1) (entry b .pre .1 .1 .openings-fit) (entry b .pre .1 .1 .budget-fits)
 
 returns-8 : (t : ℕ) → explore-lts.Need-returns-8 (claims t) (explore-at t) explore.Post Inv-loop μ-loop
-returns-8 t c = let k = arms.both-out _ _ _ _ _ _ _ _ _ _ (c .before .before .before .before .before .before .before .before .before .before .before .before .before .before .before .before .before .before .before .before .before .before .before .before .before .before .before .before .before .before .before .before .before .args .start) (c .before .before .before .before .before .before .before .before .before .before .before .before .before .before .before .before .before .before .before .before .before .before .before .before .before .before .before .before .before .before .before .before .before .args .place) (c .before .before .before .before .before .before .before .before .before .before .before .before .before .before .before .before .before .before .before .before .before .before .before .before .before .before .before .before .jump .ensures .0) _ _ _ _ _ _ _ _ _ (arm t (c .before .before .before .before .before .before .before .before .before .before .before)) (c .before .before .before .before .before .before .before .before .before .enum-told6 .given .1) (omega (arith, c .before .before .before .before .before .before .before .before .if3 .left)) (c .before .before .before .before .before .before .before .explore .result) (c .before .before .before .before .before .before .before .explore .ensures .0) (c .before .before .before .before .before .before .before .explore .ensures .1 .1 .1) (c .before .before .before .before .before .enum-told7 .given .1) (c .before .before .before .explore2 .result) (c .before .before .before .explore2 .ensures .0) (c .before .before .before .explore2 .ensures .1 .1 .1) (c .before .enum-told8 .given .1) _ (c .joined .ensures) in (k .explored, (k .safe, (k .exact, k .modest)))
+returns-8 t c =
+    let a : Acted t = c .before .before .before .before .before .before .before .before .before .before .before in
+    let b : Body t = body (lined a) in
+    let f = c .before .before .before .before .before .before .before .explore in
+    let g = c .before .before .before .explore2 in
+    let k = arms.both-out _ _ _ _ _ _ _ _ _ _ (entry b .args .start) (entry b .args .place) (b .before .before .jump .ensures .0) (arm t a) (c .before .before .before .before .before .before .before .before .before .enum-told6 .given .1) (omega (arith, c .before .before .before .before .before .before .before .before .if3 .left)) (f .result) (f .ensures .0) (f .ensures .1 .1 .1) (c .before .before .before .before .before .enum-told7 .given .1) (g .result) (g .ensures .0) (g .ensures .1 .1 .1) (c .before .enum-told8 .given .1) _ (c .joined .ensures) in
+    (k .explored, (k .safe, (k .exact, k .modest)))
 
 enum-told-9 : (t : ℕ) → explore-lts.Need-enum-told-9 (claims t) (explore-at t) explore.Post Inv-loop μ-loop
 enum-told-9 t c = search needs
@@ -531,7 +624,11 @@ finished-requires : (t : ℕ) → explore-lts.Need-finished-requires (claims t) 
 finished-requires t c κs = search needs
 
 returns-9 : (t : ℕ) → explore-lts.Need-returns-9 (claims t) (explore-at t) explore.Post Inv-loop μ-loop
-returns-9 t c = let k = arms.halts-out _ _ _ _ _ _ _ _ _ _ (c .before .before .before .before .before .before .before .before .before .before .before .before .before .before .before .before .before .before .before .before .before .before .before .before .before .args .start) (c .before .before .before .before .before .before .before .before .before .before .before .before .before .before .before .before .before .before .before .before .before .before .before .before .before .args .place) (c .before .before .before .before .before .before .before .before .before .before .before .before .before .before .before .before .before .before .before .before .jump .ensures .0) _ _ _ _ _ _ _ _ _ (arm t (c .before .before .before)) (c .before .enum-told9 .given .1) _ (c .finished .ensures) in (k .explored, (k .safe, (k .exact, k .modest)))
+returns-9 t c =
+    let a : Acted t = c .before .before .before in
+    let b : Body t = body (lined a) in
+    let k = arms.halts-out _ _ _ _ _ _ _ _ _ _ (entry b .args .start) (entry b .args .place) (b .before .before .jump .ensures .0) (arm t a) (c .before .enum-told9 .given .1) _ (c .finished .ensures) in
+    (k .explored, (k .safe, (k .exact, k .modest)))
 
 enum-told-10 : (t : ℕ) → explore-lts.Need-enum-told-10 (claims t) (explore-at t) explore.Post Inv-loop μ-loop
 enum-told-10 t c = search needs
@@ -540,13 +637,19 @@ refused-requires-8 : (t : ℕ) → explore-lts.Need-refused-requires-8 (claims t
 refused-requires-8 t c κs = search needs
 
 returns-10 : (t : ℕ) → explore-lts.Need-returns-10 (claims t) (explore-at t) explore.Post Inv-loop μ-loop
-returns-10 t c = let k = sticks t (c .before .before .before .before .before .before .before .before .before .before .before .before .before .before .before .before .before .before) (arms.is-stuck _ _ _ _ _ _ _ _ _ _ _ _ _ _ _ _ _ _ _ (arm t (c .before .before .before)) (c .before .enum-told10 .given .1)) _ (c .refused8 .ensures) in (k .explored, (k .safe, (k .exact, k .modest)))
+returns-10 t c =
+    let a : Acted t = c .before .before .before in
+    let k = sticks t (body (lined a)) (arms.is-stuck (arm t a) (c .before .enum-told10 .given .1)) _ (c .refused8 .ensures) in
+    (k .explored, (k .safe, (k .exact, k .modest)))
 
 refused-requires-9 : (t : ℕ) → explore-lts.Need-refused-requires-9 (claims t) (explore-at t) explore.Post Inv-loop μ-loop
 refused-requires-9 t c κs = search needs
 
 returns-11 : (t : ℕ) → explore-lts.Need-returns-11 (claims t) (explore-at t) explore.Post Inv-loop μ-loop
-returns-11 t c = let k = arms.spent-out _ _ _ _ _ _ _ _ _ _ (c .before .before .before .before .before .before .before .before .args .start) (c .before .before .before .before .before .before .before .before .args .place) (c .before .before .before .jump .ensures .0) _ (c .before .before .loop .s) _ (c .before .before .loop .tally) (c .before .before .loop .inv) (omega (arith, c .before .loop-test .left)) _ (c .refused9 .ensures) in (k .explored, (k .safe, (k .exact, k .modest)))
+returns-11 t c =
+    let e : Entry t = c .before .before .before .before .before .before .before .before in
+    let k = arms.spent-out _ _ _ _ _ _ _ _ _ _ (e .args .start) (e .args .place) (c .before .before .before .jump .ensures .0) (c .before .before .loop .inv) (omega (arith, c .before .loop-test .left)) _ (c .refused9 .ensures) in
+    (k .explored, (k .safe, (k .exact, k .modest)))
 
 pub +explore-spec : {M : Type 1} → statement M
 +explore-spec =
