@@ -67,30 +67,21 @@ abbrev pub ran : Progress → Verdict → Ran
 ran r v = record { verdict = v; cycles = r .cycles; words = r .words; depth = r .depth; steps = r .steps }
 
 module _ (ns : List ℕ) (answers : List ℤ) (budget : ℕ) (r : Progress) where
-  stopped-judged : r .stopped ≡ true → verdictOf (ran r Stopped) ≡ judgeRun budget (ofProgress ns answers r)
+  pub stopped-judged : r .stopped ≡ true → verdictOf (ran r Stopped) ≡ judgeRun budget (ofProgress ns answers r)
   unfolding verdictOf judged judgeRun ofProgress
   stopped-judged h = rw h refl
 
-  stuck-judged : r .stopped ≡ false → r .steps < budget → verdictOf (ran r (Stuck (r .state .at))) ≡ judgeRun budget (ofProgress ns answers r)
+  pub stuck-judged : r .stopped ≡ false → r .steps < budget → verdictOf (ran r (Stuck (r .state .at))) ≡ judgeRun budget (ofProgress ns answers r)
   unfolding verdictOf judged judgeRun ofProgress whole store
   stuck-judged h l = rw (h, lt-ltb (r .steps) budget l) refl
 
-  spent-judged : r .stopped ≡ false → budget ≤ r .steps → verdictOf (ran r (Spent (r .state .at))) ≡ judgeRun budget (ofProgress ns answers r)
+  pub spent-judged : r .stopped ≡ false → budget ≤ r .steps → verdictOf (ran r (Spent (r .state .at))) ≡ judgeRun budget (ofProgress ns answers r)
   unfolding verdictOf judged judgeRun ofProgress whole store
   spent-judged h l = rw (h, le-ltb (r .steps) budget l) refl
 
-  module _ (c : Code) (s : State) (e : ofProgress ns answers r ≡ after c budget (begin s answers)) where
-    pub run-stopped : r .stopped ≡ true → verdictOf (ran r Stopped) ≡ run c budget s answers
-    unfolding run
-    run-stopped h = stopped-judged h ∙ ap (judgeRun budget) e
-
-    pub run-stuck : r .stopped ≡ false → r .steps < budget → verdictOf (ran r (Stuck (r .state .at))) ≡ run c budget s answers
-    unfolding run
-    run-stuck h l = stuck-judged h l ∙ ap (judgeRun budget) e
-
-    pub run-spent : r .stopped ≡ false → budget ≤ r .steps → verdictOf (ran r (Spent (r .state .at))) ≡ run c budget s answers
-    unfolding run
-    run-spent h l = spent-judged h l ∙ ap (judgeRun budget) e
+pub run-judged : (c : Code) (budget : ℕ) (s : State) (answers : List ℤ) (r : Run) (v : Ran) → verdictOf v ≡ judgeRun budget r → r ≡ after c budget (begin s answers) → verdictOf v ≡ run c budget s answers
+unfolding run
+run-judged c budget s answers r v h e = h ∙ ap (judgeRun budget) e
 
 -- ---- demand 3
 

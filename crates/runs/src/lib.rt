@@ -17,7 +17,7 @@ ghost use Rattle.machine.specs.Outcome.{operationOf, resume};
 ghost use Rattle.machine.specs.declared.Outcome.the-variants.{Sets, Gets};
 ghost use Rattle.machine.specs.Columns.{codeOf, lineOf, Sized};
 ghost use Rattle.machine.specs.View.{whole, Fits};
-ghost use Rattle.bounds.specs.Run.{begin, answer, remaining, once, after, run};
+ghost use Rattle.bounds.specs.Run.{begin, answer, remaining, once, after, judgeRun, run};
 ghost use Rattle.runs.specs.Progress.{ofProgress, verdictOf, Counted, Sound, Ready, Possible, Moves, SafeFrom, WithinBound};
 
 // A run: its state and blocks, how many answers its calls asked for, its sums, and whether STOP was made.
@@ -265,6 +265,27 @@ pub fn after(
     r
 }
 
+// The verdict on the run that `budget` steps leave.
+fn judge(r: Progress, budget: usize) -> Ran
+    ensures { λ v. ⌜ ((ns : List ℕ) (answers : List ℤ) → verdictOf v ≡ judgeRun budget (ofProgress ns answers r)) ⌝ }
+{
+    let state = r.state;
+    let verdict = if r.stopped {
+        Verdict::Stopped
+    } else if r.steps < budget {
+        Verdict::Stuck(state.at)
+    } else {
+        Verdict::Spent(state.at)
+    };
+    Ran {
+        verdict: verdict,
+        cycles: r.cycles,
+        words: r.words,
+        depth: r.depth,
+        steps: r.steps,
+    }
+}
+
 // The run's verdict after `budget` steps.
 pub fn run(
     codes: &[u8],
@@ -294,19 +315,5 @@ pub fn run(
         answers,
         budget,
     );
-    let state = r.state;
-    let verdict = if r.stopped {
-        Verdict::Stopped
-    } else if r.steps < budget {
-        Verdict::Stuck(state.at)
-    } else {
-        Verdict::Spent(state.at)
-    };
-    Ran {
-        verdict: verdict,
-        cycles: r.cycles,
-        words: r.words,
-        depth: r.depth,
-        steps: r.steps,
-    }
+    judge(r, budget)
 }

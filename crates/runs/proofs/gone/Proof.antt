@@ -35,6 +35,7 @@ add-t14 c = search needs
 stack-length : (c : tie.After-struct-known) → length (c .before .before .args .t .stack) ≡ 64
 stack-length c = search (needs, length-images)
 
+-- a price fits its column
 cheap : (c : tie.After-struct-known3) → (c .before .before .before .before .before .args .line .cycles < 4294967296) × (c .before .before .before .before .before .args .line .words < 4294967296)
 cheap c = (search needs, search needs)
 

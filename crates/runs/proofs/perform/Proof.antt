@@ -46,7 +46,6 @@ outcome-of-requires c κs = search needs
 apply-requires : tie.Need-apply-requires
 apply-requires c κs =
     let start = c .before .before .before .before .before .before .before .before .before in
-    let s = start .args in
     let e = at-operand _ _ _ _ _ (toZ-ofZ w32 _ (operand-fits (c .before .before .before .before .before .before .before))) (c .outcome-of .ensures) in
     (start .pre, possible _ _ _ _ _ _ _ e)
 
