@@ -1,7 +1,7 @@
 //! The speed of the proved explorer, as a ratio against a plain explorer in Rust in the same run.
 //! Both explore the same routines; their answers must be equal.
 use std::hint::black_box;
-use std::time::{Duration, Instant};
+use std::time::Duration;
 
 /// A routine in columns, as the proved explorer is lent it. It starts at address 0, with `height`
 /// entries that are handles of block 0, fields that hold 7, and 0 in the accumulator.
@@ -52,8 +52,8 @@ mod proved {
         );
     }
 
-    /// What the proved explorer's contract asks of its caller.
-    fn assert_required(r: &Routine) {
+    /// What the proved explorer's contract asks of its caller: nothing proves it of a caller in Rust.
+    pub fn assert_required(r: &Routine) {
         let n = r.codes.len();
         assert!(n <= 1024 && r.operands.len() == n && r.cycles.len() == n && r.words.len() == n);
         assert!(r.codes.iter().all(|b| b % 32 <= 22));
@@ -61,8 +61,8 @@ mod proved {
         assert!(r.height <= 64);
     }
 
+    /// After `assert_required`.
     pub fn explore(r: &Routine) -> Answer {
-        assert_required(r);
         let mut out = [0; 7];
         unsafe {
             explore_columns(
@@ -83,7 +83,15 @@ mod proved {
             )
         }
         let [verdict, address, steps, cycles, words, depth, path] = out;
-        Answer { verdict, address, steps, cycles, words, depth, path }
+        Answer {
+            verdict,
+            address,
+            steps,
+            cycles,
+            words,
+            depth,
+            path,
+        }
     }
 }
 
@@ -236,8 +244,19 @@ mod plain {
     }
 
     /// Every path from `s`. `walked` counts the steps of all paths.
-    fn walk(r: &Routine, s: &mut State, openings: usize, walked: &mut usize) -> Result<Costs, Refusal> {
-        let mut t = Costs { steps: 0, cycles: 0, words: 0, depth: 0, path: 1 };
+    fn walk(
+        r: &Routine,
+        s: &mut State,
+        openings: usize,
+        walked: &mut usize,
+    ) -> Result<Costs, Refusal> {
+        let mut t = Costs {
+            steps: 0,
+            cycles: 0,
+            words: 0,
+            depth: 0,
+            path: 1,
+        };
         loop {
             let at = s.at;
             if *walked == BUDGET {
@@ -268,7 +287,11 @@ mod plain {
                         cycles: t.cycles + f.cycles.max(g.cycles),
                         words: t.words + f.words.max(g.words),
                         depth: t.depth.max(f.depth).max(g.depth),
-                        path: if f.cycles <= g.cycles { 2 * g.path + 1 } else { 2 * f.path },
+                        path: if f.cycles <= g.cycles {
+                            2 * g.path + 1
+                        } else {
+                            2 * f.path
+                        },
                     });
                 }
             }
@@ -300,7 +323,15 @@ mod plain {
             Err(Refusal::Openings(a)) => (8, a),
             Err(Refusal::Spent(a)) => (9, a),
         };
-        Answer { verdict, address: address as u64, steps: walked as u64, cycles: 0, words: 0, depth: 0, path: 1 }
+        Answer {
+            verdict,
+            address: address as u64,
+            steps: walked as u64,
+            cycles: 0,
+            words: 0,
+            depth: 0,
+            path: 1,
+        }
     }
 }
 
@@ -395,7 +426,11 @@ fn straight() -> Routine {
     let around = 3;
     let turn = body.len() + around;
     let (turns, rest) = ((BUDGET - 3) / turn, (BUDGET - 3) % turn);
-    let mut r = Routine { sizes: vec![16; 8], height: 2, ..Routine::default() };
+    let mut r = Routine {
+        sizes: vec![16; 8],
+        height: 2,
+        ..Routine::default()
+    };
     r.line(CONST, turns as i32);
     r.line(ASSIGN, 0);
     let top = r.next();
@@ -425,7 +460,10 @@ fn openings(openings: usize, last: u8) -> Routine {
 
 /// A loop that opens in each of its 32 turns: 2^32 paths.
 fn counted_loop() -> Routine {
-    let mut r = Routine { height: 1, ..Routine::default() };
+    let mut r = Routine {
+        height: 1,
+        ..Routine::default()
+    };
     r.line(op::CONST, OPENINGS as i32);
     r.line(op::ASSIGN, 0);
     let top = r.next();
@@ -449,32 +487,52 @@ fn endless_loop() -> Routine {
     r
 }
 
-/// The best time of one call.
-fn time(explore: fn(&Routine) -> Answer, r: &Routine, best: &mut Duration, calls: u32) {
-    let start = Instant::now();
+/// The processor time of this thread: what other programs take is not in it.
+fn now() -> Duration {
+    #[repr(C)]
+    struct Timespec {
+        seconds: i64,
+        nanoseconds: i64,
+    }
+    extern "C" {
+        fn clock_gettime(clock: i32, time: *mut Timespec) -> i32;
+    }
+    const CLOCK_THREAD_CPUTIME_ID: i32 = 3;
+    let mut t = Timespec {
+        seconds: 0,
+        nanoseconds: 0,
+    };
+    assert_eq!(unsafe { clock_gettime(CLOCK_THREAD_CPUTIME_ID, &mut t) }, 0);
+    Duration::new(t.seconds as u64, t.nanoseconds as u32)
+}
+
+/// The time of one call, over `calls` calls.
+fn time(explore: fn(&Routine) -> Answer, r: &Routine, calls: u32) -> Duration {
+    let start = now();
     for _ in 0..calls {
         black_box(explore(black_box(r)));
     }
-    *best = (*best).min(start.elapsed() / calls);
+    (now() - start) / calls
 }
 
-/// Times below `offset` bytes of stack: how fast a state is copied hangs on where it lies.
+/// Calls `f` below `SPACE` bytes of stack: how fast a state is copied hangs on where it lies.
 #[inline(never)]
-fn below<const OFFSET: usize>(f: &mut dyn FnMut()) {
-    let space = [0u8; OFFSET];
+fn below<const SPACE: usize>(f: &mut dyn FnMut()) {
+    let space = [0u8; SPACE];
     black_box(&space);
     f();
     black_box(&space);
 }
 
-const REPEATS: usize = 5;
+const REPEATS: usize = 15;
 
-fn best_times(r: &Routine) -> (Duration, Duration) {
+/// The best times of one call of both explorers, in turn.
+fn best_times(r: &Routine, steps: u64) -> (Duration, Duration) {
     let (mut proved, mut plain) = (Duration::MAX, Duration::MAX);
-    let calls = (BUDGET as u64 / proved::explore(r).steps / 10).max(1) as u32;
+    let calls = (BUDGET as u64 / steps / 10).max(1) as u32;
     let mut both = || {
-        time(proved::explore, r, &mut proved, calls);
-        time(plain::explore, r, &mut plain, calls);
+        proved = proved.min(time(proved::explore, r, calls));
+        plain = plain.min(time(plain::explore, r, calls));
     };
     for _ in 0..REPEATS {
         below::<16>(&mut both);
@@ -487,7 +545,11 @@ fn best_times(r: &Routine) -> (Duration, Duration) {
 
 fn main() {
     let tree = openings(18, op::STOP);
-    let full_tree = Routine { sizes: vec![16; 8], height: 32, ..openings(18, op::STOP) };
+    let full_tree = Routine {
+        sizes: vec![16; 8],
+        height: 32,
+        ..openings(18, op::STOP)
+    };
     let cases = [
         ("straight path, all operations", straight(), 0),
         ("18 openings, empty stack", tree, 0),
@@ -501,10 +563,11 @@ fn main() {
         "case", "verdict", "steps", "ms", "plain ms", "ns/step", "plain", "ratio"
     );
     for (name, r, verdict) in cases {
+        proved::assert_required(&r);
         let answer = proved::explore(&r);
         assert_eq!(answer, plain::explore(&r), "{name}");
         assert_eq!(answer.verdict, verdict, "{name}");
-        let (proved, plain) = best_times(&r);
+        let (proved, plain) = best_times(&r, answer.steps);
         let ms = |d: Duration| d.as_secs_f64() * 1e3;
         let ns = |d: Duration| d.as_secs_f64() * 1e9 / answer.steps as f64;
         println!(
