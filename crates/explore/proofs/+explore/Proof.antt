@@ -539,7 +539,7 @@ explore-requires : (t : ℕ) → explore-lts.Need-explore-requires (claims t) (e
 explore-requires t c κs =
     let a : Acted t = c .before .before .before in
     let b : Body t = body (lined a) in
-    (omega (arith, c .if3 .left, entry b .pre .0), (entry b .pre .1 .0, (record { addresses = entry b .pre .1 .1 .addresses; place-fits = omega (arith, arm t a .low); free = arm t a .free; budget-fits = omega (arith, entry b .pre .1 .1 .budget-fits, b .before .loop .inv .inv .within); openings-fit = omega (arith, entry b .pre .1 .1 .openings-fit); fits = b .before .loop .inv .fits })))
+    (omega (arith, c .if3 .left, entry b .pre .0), (entry b .pre .1 .0, (record { addresses = entry b .pre .1 .1 .addresses; place-fits = omega (arith, arm t a .low, arm t a .index-fits); free = arm t a .free; budget-fits = omega (arith, entry b .pre .1 .1 .budget-fits, b .before .loop .inv .inv .within); openings-fit = omega (arith, entry b .pre .1 .1 .openings-fit); fits = b .before .loop .inv .fits })))
 
 enum-told-7 : (t : ℕ) → explore-lts.Need-enum-told-7 (claims t) (explore-at t) explore.Post Inv-loop μ-loop
 enum-told-7 t c = search needs

@@ -33,8 +33,9 @@ add-t12 c = search needs
 
 returns : tie.Need-returns
 returns c =
+    let start = c .before .before .before .before .before .before .before .before .before in
     let d = c .before .before in
-    joined-is _ _ _ _ _ _ _ _ _ (d .before .before .before .before .before .before .larger-sum .ensures) (d .before .before .before .before .larger-sum2 .ensures)
+    joined-is _ _ (start .args .f) (start .args .g) _ _ _ _ _ (d .before .before .before .before .before .before .larger-sum .ensures) (d .before .before .before .before .larger-sum2 .ensures)
     (d .before .before .larger .ensures) (d .before .larger2 .ensures) (d .decided .ensures)
 
 pub joined-spec : {M : Type 1} → statement M

@@ -9,8 +9,6 @@ use borrow.Author.Needs.{needs}
 use Rattle.machine.proofs.ColumnLaws.{fetch-below, fetch-past, fetch-in}
 use Rattle.machine.proofs.code.fetch.Statement.{statement}
 use Rattle.machine.proofs.code.fetch.Tie as tie
-use Rattle.machine.proofs.code.fetch.Reads as reads
-use Rattle.machine.proofs.code.fetch.Lts as lts
 
 -- src/code.rt:34:9
 returns : tie.Need-returns
