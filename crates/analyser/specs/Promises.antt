@@ -7,7 +7,8 @@ use lib.Dec.{ltb}
 use lib.IntN.{ℤ, pos}
 use lib.ListN.{length, take}
 use Rattle.text.specs.Text.{lines, all}
-use Rattle.text.specs.Decimal.{numeral, number, decimal}
+use Rattle.text.specs.declared.Numeral.the-variants.{Number as number}
+use Rattle.text.specs.Decimal.{numeral, decimal}
 use Rattle.cells.specs.Order.{Allowed}
 use Rattle.machine.specs.Machine.{State}
 use Rattle.machine.specs.Order.{Cellwise}

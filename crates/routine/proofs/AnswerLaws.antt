@@ -9,7 +9,9 @@ use lib.Dec.{eqb}
 use lib.ListN.{length, take, length-drop}
 use lib.Seq.{take-append-le, drop-append-le}
 use Rattle.text.specs.Text.{Line}
-use Rattle.routine.specs.Layout.{Section, Role, layout, isAnswer, body, upToAnswer, codeLines, list, tag, textAt, listed}
+use Rattle.routine.specs.declared.Section.{Section}
+use Rattle.routine.specs.declared.Role.{Role}
+use Rattle.routine.specs.Layout.{layout, isAnswer, body, upToAnswer, codeLines, list, tag, textAt, listed}
 use Rattle.routine.specs.Rows.{firstAt}
 use Rattle.routine.specs.Routine.{Routine, limitAt, priceAt, prices, instructionOf, codeOf, cellsOf, startOf, routineOf}
 

@@ -16,7 +16,9 @@ use Rattle.numbers.specs.Numbers.{same}
 use Rattle.instructions.specs.Kinds.{Kind, kindNames}
 use Rattle.instructions.specs.declared.Argument.{Argument}
 use Rattle.instructions.specs.Kinds as table
-use Rattle.routine.specs.Layout.{primitives, names, code, body, listed}
+use Rattle.routine.specs.declared.Section.the-variants.{Primitives as primitives}
+use Rattle.routine.specs.declared.Role.the-variants.{Names as names, Code as code}
+use Rattle.routine.specs.Layout.{body, listed}
 use Rattle.routine.specs.Rows.{isNumeral, value, kindNamed, argumentOf, at, op, arg, onArgument, argumentLaidOut, argumentNamed, laidOut, firstAt, named}
 
 pub record CodeLaidOut (k : ℕ) (text : List ℕ) : Type 0 where

@@ -15,7 +15,11 @@ use Rattle.numbers.specs.Numbers.{range, within}
 use Rattle.instructions.specs.declared.Argument.{Argument}
 use Rattle.instructions.specs.declared.Argument.the-variants.{Absent, Target, Primitive, Within}
 use Rattle.machine.specs.Machine.{instruction, Price, Prices, cost}
-use Rattle.routine.specs.Layout.{Section, limits, kinds, primitives, cells, limit, cycles, words-column, cell, names, values, layout, body, codeLines, list, textAt, listed}
+use Rattle.routine.specs.declared.Section.{Section}
+use Rattle.routine.specs.declared.Section.the-variants.{Limits as limits, Kinds as kinds, Primitives as primitives, Cells as cells}
+use Rattle.routine.specs.declared.Column.the-variants.{Limit as limit, Cycles as cycles, Words as words-column, Cell as cell}
+use Rattle.routine.specs.declared.Role.the-variants.{Names as names, Values as values}
+use Rattle.routine.specs.Layout.{layout, body, codeLines, list, textAt, listed}
 use Rattle.routine.specs.Rows.{cellWord, value, valueOf, cellNames, stackNames, columnInRange, columnLaidOut, inRange, laidOut, named, wellNamed}
 use Rattle.routine.specs.Routine.{natural, limitAt, priceAt, prices, instructionOf, codeOf, cellOf, cellsOf, startOf, routineOf}
 use Rattle.routine.proofs.RowLaws.{Passes, First, passes-range, passes-laid-out, passes-named, lists-path}

@@ -12,8 +12,15 @@ use Rattle.refusals.specs.declared.Refusal.{Refusal}
 use Rattle.refusals.specs.declared.Refusal.the-variants.{TextLength}
 use Rattle.text.specs.Text.{isEmpty, equals, words, Line, lines, all}
 use Rattle.text.proofs.TextLaws.{Every, none, more, and-left, and-right, equals-path}
-use Rattle.routine.specs.Layout.{answers, Role, names, code, layout, isAnswer, body, answerRoles, codeRoles, bodyRoles, roles, tag, textAt}
-use Rattle.routine.specs.Rows.{equalLists, Row, layout-row, range-row, name-row, price-row, target-row, known-row, Fault, clean, line, earliest, fault, test, laidOut, inRange, named}
+use Rattle.routine.specs.declared.Section.the-variants.{Answers as answers}
+use Rattle.routine.specs.declared.Role.{Role}
+use Rattle.routine.specs.declared.Role.the-variants.{Names as names, Code as code}
+use Rattle.routine.specs.Layout.{layout, isAnswer, body, answerRoles, codeRoles, bodyRoles, roles, tag, textAt}
+use Rattle.routine.specs.declared.Row.{Row}
+use Rattle.routine.specs.declared.Row.the-variants.{Layout as layout-row, Range as range-row, Name as name-row, Price as price-row, Target as target-row, Known as known-row}
+use Rattle.routine.specs.declared.Fault.{Fault}
+use Rattle.routine.specs.declared.Fault.the-variants.{Clean as clean, Line as line}
+use Rattle.routine.specs.Rows.{equalLists, earliest, fault, test, laidOut, inRange, named}
 use Rattle.routine.specs.Routine.{Routine, routineOf, Reading, refused, routine, orElse, Check, boundChecks, runChecks, checked, textLimit, limited, readBound, readRun}
 
 -- ---- the rows in their order

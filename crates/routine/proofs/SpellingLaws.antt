@@ -9,15 +9,25 @@ use lib.Dec.{eqb, leb, ltb, lit<}
 use lib.ListN.{length, getD, take, drop, take-append-drop}
 use borrow.Author.Tests.{eqb-true, leb-true, ltb-true}
 use Rattle.text.specs.Text.{bytes, equals, words, Line, lines, among, all, distinct}
-use Rattle.text.specs.Decimal.{Numeral, misspelt, number, numeral, isDigit, digits, decimal}
+use Rattle.text.specs.declared.Numeral.{Numeral}
+use Rattle.text.specs.declared.Numeral.the-variants.{Misspelt as misspelt, Number as number}
+use Rattle.text.specs.Decimal.{numeral, isDigit, digits, decimal}
 use Rattle.text.proofs.TextLaws.{Every, more, every-append, every-left, every-map, all-every, and-left, and-right, equals-path, among-every, split-every, lines-every}
 use Rattle.text.proofs.DecimalLaws.{digit-ascii, decimal-digits, numeral-ascii}
 use Rattle.instructions.specs.Kinds.{kindNames}
 use Rattle.instructions.specs.declared.Argument.{Argument}
 use Rattle.instructions.specs.declared.Argument.the-variants.{Absent, Target, Primitive, Within}
 use Rattle.instructions.specs.Kinds as table
-use Rattle.routine.specs.Layout.{Section, limits, kinds, primitives, cells, fields, instructions, answers, Column, limit, cycles, words-column, cell, Role, names, values, code, answer, list, listed}
-use Rattle.routine.specs.Rows.{isNumeral, unknown, knownOf, blockOf, hashed, cellWord, isCell, isCapital, inName, isName, stackNames, cellNames, isField, sizesFrom, blockSizes, total, at, op, arg, argumentLaidOut, argumentNamed, columnLaidOut, layout-row, name-row, namesLaidOut, laidOut, wellNamed, named, test}
+use Rattle.routine.specs.declared.Section.{Section}
+use Rattle.routine.specs.declared.Section.the-variants.{Limits as limits, Kinds as kinds, Primitives as primitives, Cells as cells, Fields as fields, Instructions as instructions, Answers as answers}
+use Rattle.routine.specs.declared.Column.{Column}
+use Rattle.routine.specs.declared.Column.the-variants.{Limit as limit, Cycles as cycles, Words as words-column, Cell as cell}
+use Rattle.routine.specs.declared.Role.{Role}
+use Rattle.routine.specs.declared.Role.the-variants.{Names as names, Values as values, Code as code, Answer as answer}
+use Rattle.routine.specs.Layout.{list, listed}
+use Rattle.routine.specs.declared.CellWord.the-variants.{Unknown as unknown}
+use Rattle.routine.specs.declared.Row.the-variants.{Layout as layout-row, Name as name-row}
+use Rattle.routine.specs.Rows.{isNumeral, knownOf, blockOf, hashed, cellWord, isCell, isCapital, inName, isName, stackNames, cellNames, isField, sizesFrom, blockSizes, total, at, op, arg, argumentLaidOut, argumentNamed, columnLaidOut, namesLaidOut, laidOut, wellNamed, named, test}
 use Rattle.routine.proofs.RowLaws.{Passes, held-lines, laid-out, passes-named, lists-path}
 use Rattle.routine.proofs.CodeLaws.{CodeLaidOut, code-laid-out, CodeNamed, code-named, kind-there, on-kind}
 

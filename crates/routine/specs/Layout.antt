@@ -5,22 +5,14 @@ use mathlib.Core.List.{List, [], _∷_, _++_, map}
 use lib.Dec.{eqb}
 use lib.ListN.{length, drop}
 use Rattle.text.specs.Text.{bytes, equals, words, Line}
+use Rattle.routine.specs.declared.Section.{Section}
+use Rattle.routine.specs.declared.Section.the-variants.{Limits as limits, Kinds as kinds, Primitives as primitives, Cells as cells, Fields as fields, Instructions as instructions, Answers as answers}
+use Rattle.routine.specs.declared.Column.{Column}
+use Rattle.routine.specs.declared.Column.the-variants.{Limit as limit, Cycles as cycles, Words as words-column, Cell as cell}
+use Rattle.routine.specs.declared.Role.{Role}
+use Rattle.routine.specs.declared.Role.the-variants.{Names as names, Values as values, Code as code, Answer as answer}
 
 -- "Each section is a line of names, then lines of values in that order"
-pub data Section : Type 0 where
-  limits kinds primitives cells fields instructions answers : Section
-
--- the lines of values
-pub data Column : Type 0 where
-  limit cycles words-column cell : Column
-
--- what a line holds: a section's names, a section's values, code line k or answer k (from 0)
-pub data Role : Type 0 where
-  names : Section → Role
-  values : Section → Column → Role
-  code : ℕ → Role
-  answer : ℕ → Role
-
 abbrev pub section : Section → List Column → List Role
 section s cs = names s ∷ map (values s) cs
 

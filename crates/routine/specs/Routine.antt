@@ -17,8 +17,18 @@ use Rattle.instructions.specs.Columns.{kindAt}
 use Rattle.instructions.specs.declared.Argument.{Argument}
 use Rattle.instructions.specs.declared.Argument.the-variants.{Absent, Target, Primitive, Within}
 use Rattle.machine.specs.Machine.{instruction, State, Price, Instruction, Prices, cost, Code}
-use Rattle.routine.specs.Layout.{Section, limits, kinds, primitives, cells, fields, limit, cycles, words-column, cell, names, values, body, codeLines, answerLines, listed}
-use Rattle.routine.specs.Rows.{value, CellWord, wrong, unknown, known, block, cellWord, blockSizes, at, op, arg, firstAt, Row, layout-row, range-row, name-row, price-row, target-row, known-row, Fault, clean, line, fault}
+use Rattle.routine.specs.declared.Section.{Section}
+use Rattle.routine.specs.declared.Section.the-variants.{Limits as limits, Kinds as kinds, Primitives as primitives, Cells as cells, Fields as fields}
+use Rattle.routine.specs.declared.Column.the-variants.{Limit as limit, Cycles as cycles, Words as words-column, Cell as cell}
+use Rattle.routine.specs.declared.Role.the-variants.{Names as names, Values as values}
+use Rattle.routine.specs.Layout.{body, codeLines, answerLines, listed}
+use Rattle.routine.specs.declared.CellWord.{CellWord}
+use Rattle.routine.specs.declared.CellWord.the-variants.{Wrong as wrong, Unknown as unknown, Known as known, Block as block}
+use Rattle.routine.specs.declared.Row.{Row}
+use Rattle.routine.specs.declared.Row.the-variants.{Layout as layout-row, Range as range-row, Name as name-row, Price as price-row, Target as target-row, Known as known-row}
+use Rattle.routine.specs.declared.Fault.{Fault}
+use Rattle.routine.specs.declared.Fault.the-variants.{Clean as clean, Line as line}
+use Rattle.routine.specs.Rows.{value, cellWord, blockSizes, at, op, arg, firstAt, fault}
 
 pub record Routine : Type 0 where
   pub budget : ℕ

@@ -9,14 +9,28 @@ use lib.IntN.{ℤ, pos, natAbs, _+ℤ_}
 use lib.Signed.{leZ, ltZ}
 use lib.ListN.{length, getD, take, getElem?}
 use Rattle.text.specs.Text.{bytes, isEmpty, equals, words, Line, find, among, all, distinct}
-use Rattle.text.specs.Decimal.{Numeral, misspelt, number, numeral, isDigit, decimal}
+use Rattle.text.specs.declared.Numeral.{Numeral}
+use Rattle.text.specs.declared.Numeral.the-variants.{Misspelt as misspelt, Number as number}
+use Rattle.text.specs.Decimal.{numeral, isDigit, decimal}
 use Rattle.numbers.specs.declared.Range.{Range}
 use Rattle.numbers.specs.Numbers.{range, within, numbers, same}
 use Rattle.instructions.specs.Kinds.{addresses, Kind, kindNames}
 use Rattle.instructions.specs.declared.Argument.{Argument}
 use Rattle.instructions.specs.declared.Argument.the-variants.{Absent, Target, Primitive, Within}
 use Rattle.instructions.specs.Kinds as table
-use Rattle.routine.specs.Layout.{Section, limits, kinds, primitives, cells, fields, instructions, answers, Column, limit, cycles, words-column, cell, Role, names, values, code, answer, body, codeLines, roles, list, listed}
+use Rattle.routine.specs.declared.Section.{Section}
+use Rattle.routine.specs.declared.Section.the-variants.{Limits as limits, Kinds as kinds, Primitives as primitives, Cells as cells, Fields as fields, Instructions as instructions, Answers as answers}
+use Rattle.routine.specs.declared.Column.{Column}
+use Rattle.routine.specs.declared.Column.the-variants.{Limit as limit, Cycles as cycles, Words as words-column, Cell as cell}
+use Rattle.routine.specs.declared.Role.{Role}
+use Rattle.routine.specs.declared.Role.the-variants.{Names as names, Values as values, Code as code, Answer as answer}
+use Rattle.routine.specs.declared.CellWord.{CellWord}
+use Rattle.routine.specs.declared.CellWord.the-variants.{Wrong as wrong, Unknown as unknown, Known as known, Block as block}
+use Rattle.routine.specs.declared.Row.{Row}
+use Rattle.routine.specs.declared.Row.the-variants.{Layout as layout-row, Range as range-row, Name as name-row, Price as price-row, Target as target-row, Known as known-row}
+use Rattle.routine.specs.declared.Fault.{Fault}
+use Rattle.routine.specs.declared.Fault.the-variants.{Clean as clean, Line as line}
+use Rattle.routine.specs.Layout.{body, codeLines, roles, list, listed}
 
 -- ---- words
 
@@ -33,10 +47,6 @@ unfoldable pub value : List ℕ → ℤ
 value w = valueOf (numeral w)
 
 -- "number, `?` for unknown, `#k` for block k (0 to 7)"
-pub data CellWord : Type 0 where
-  wrong unknown : CellWord
-  known block : ℤ → CellWord
-
 unfoldable pub knownOf : Numeral → CellWord
 knownOf misspelt = wrong
 knownOf (number z) = known z
@@ -200,9 +210,6 @@ onCells cell t ws = all (λ w. t (cellWord w)) ws
 
 -- ---- the rows
 
-pub data Row : Type 0 where
-  layout-row range-row name-row price-row target-row known-row : Row
-
 -- row 2 on a line of names: "a wrong fixed word (BUDGET TICK, AT OP ARG, ANSWER), an empty list on line 9, a 33rd primitive"
 unfoldable pub namesLaidOut : Section → List ℕ → Bool
 namesLaidOut limits text = equals text (bytes "BUDGET TICK")
@@ -282,10 +289,6 @@ test target-row ls r l = reaches ls r (l .text)
 test known-row ls r l = allKnown r (l .text)
 
 -- the earliest line that fails a test, counted from n; "A missing line has the number it would have."
-pub data Fault : Type 0 where
-  clean : Fault
-  line : ℕ → Fault
-
 unfoldable pub earliest : (Role → Line → Bool) → ℕ → List Role → List Line → Fault
 earliest t n [] ls = clean
 earliest t n (r ∷ rs) [] = line n

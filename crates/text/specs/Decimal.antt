@@ -1,15 +1,12 @@
 -- "Numbers are decimal, no leading zero, no `-0`." (document 01, The routine file)
-use Prim.Native.Nat.{ℕ, zero, suc, _+_, _-_, _*_, _/_, _%_}
+use Prim.Native.Nat.{ℕ, zero, suc, _+_, _-_, _*_, _/_, _%_, min}
 use mathlib.Core.Bool.{Bool, true, false, cond}
 use mathlib.Core.List.{List, [], _∷_, _++_}
 use lib.Dec.{eqb, leb, ltb}
 use lib.IntN.{ℤ, pos, negsuc}
 use Rattle.text.specs.Text.{isEmpty}
-
--- what a word says where a number is wanted
-pub data Numeral : Type 0 where
-  misspelt : Numeral
-  number : ℤ → Numeral
+use Rattle.text.specs.declared.Numeral.{Numeral}
+use Rattle.text.specs.declared.Numeral.the-variants.{Misspelt as misspelt, Number as number}
 
 abbrev pub isDigit : ℕ → Bool
 isDigit d = cond (leb 48 d) (leb d 57) false
@@ -35,6 +32,18 @@ negative (number (negsuc n)) = misspelt
 unfoldable pub numeral : List ℕ → Numeral
 numeral [] = misspelt
 numeral (d ∷ ds) = cond (eqb d 45) (negative (natural ds)) (natural (d ∷ ds))
+
+-- what the code holds of a number: a number as far from 0 as `most` or farther is held as `most` away
+abbrev pub most : ℕ
+most = 10000000000
+
+unfoldable pub clamp : ℤ → ℤ
+clamp (pos n) = pos (min most n)
+clamp (negsuc n) = negsuc (min most n)
+
+unfoldable pub clamped : Numeral → Numeral
+clamped misspelt = misspelt
+clamped (number z) = number (clamp z)
 
 -- n written in decimal, by its last digit and the digits before that; `small` says whether n is below 10
 unfoldable pub digits : ℕ → Bool → ℕ → List ℕ

@@ -4,6 +4,12 @@ ghost use mathlib.Core.List.{[]};
 ghost use mathlib.Core.Path.{_≡_};
 ghost use Rattle.text.specs.Text.{equals, split, words, find};
 
+// What a word says where a number is wanted.
+pub enum Numeral {
+    Misspelt,
+    Number(i64),
+}
+
 // Whether a and b are the same text.
 pub fn same(a: &[u8], b: &[u8]) -> bool
     ensures { λ r. ⌜ r ≡ equals (now (a .entry)) (now (b .entry)) ⌝ }
