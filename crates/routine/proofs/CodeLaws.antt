@@ -19,7 +19,7 @@ use Rattle.instructions.specs.Kinds as table
 use Rattle.routine.specs.declared.Section.the-variants.{Primitives as primitives}
 use Rattle.routine.specs.declared.Role.the-variants.{Names as names, Code as code}
 use Rattle.routine.specs.Layout.{body, listed}
-use Rattle.routine.specs.Rows.{isNumeral, value, kindNamed, argumentOf, at, op, arg, onArgument, argumentLaidOut, argumentNamed, laidOut, firstAt, named}
+use Rattle.routine.specs.Rows.{codeLaidOut, codeNamed, isNumeral, value, kindNamed, argumentOf, at, op, arg, onArgument, argumentLaidOut, argumentNamed, laidOut, firstAt, named}
 
 pub record CodeLaidOut (k : ℕ) (text : List ℕ) : Type 0 where
   pub few : k < 1024
@@ -28,7 +28,7 @@ pub record CodeLaidOut (k : ℕ) (text : List ℕ) : Type 0 where
   pub argument : onArgument (argumentLaidOut (arg text)) text ≡ true
 
 pub code-laid-out : (ls : List Line) (k : ℕ) (text : List ℕ) → laidOut ls (code k) text ≡ true → CodeLaidOut k text
-unfolding laidOut
+unfolding laidOut codeLaidOut
 code-laid-out ls k text e =
     let few = ltb k 1024 in
     let count = eqb (length (words text)) 3 in
@@ -49,7 +49,7 @@ pub record CodeNamed (ls : List Line) (k : ℕ) (text : List ℕ) : Type 0 where
   pub argument : onArgument (argumentNamed (listed (names primitives) ls) (arg text)) text ≡ true
 
 pub code-named : (ls : List Line) (k : ℕ) (text : List ℕ) → named ls (code k) text ≡ true → CodeNamed ls k text
-unfolding named
+unfolding named codeNamed
 code-named ls k text e =
     let follows = same (value (at text)) (firstAt (body ls) +ℤ pos k) in
     let kind = among (op text) kindNames in

@@ -20,7 +20,7 @@ use Rattle.routine.specs.declared.Section.the-variants.{Limits as limits
 use Rattle.routine.specs.declared.Column.the-variants.{Limit as limit, Cycles as cycles, Words as words-column, Cell as cell}
 use Rattle.routine.specs.declared.Role.the-variants.{Names as names, Values as values}
 use Rattle.routine.specs.Layout.{layout, body, codeLines, list, textAt, listed}
-use Rattle.routine.specs.Rows.{cellWord, value, valueOf, cellNames, stackNames, columnInRange, columnLaidOut, inRange, laidOut, named, wellNamed}
+use Rattle.routine.specs.Rows.{valuesLaidOut, cellWord, value, valueOf, cellNames, stackNames, columnInRange, columnLaidOut, inRange, laidOut, named, wellNamed}
 use Rattle.routine.specs.Routine.{natural, limitAt, priceAt, prices, instructionOf, codeOf, cellOf, cellsOf, startOf, routineOf}
 use Rattle.routine.proofs.RowLaws.{Passes, First, passes-range, passes-laid-out, passes-named, lists-path}
 
@@ -116,7 +116,7 @@ cells-few ls p =
 
 -- as many values as names
 cells-counted : (ls : List Line) → Passes ls → length (cellsOf cells ls) ≡ length (listed (names cells) ls)
-unfolding cellsOf listed laidOut
+unfolding cellsOf listed laidOut valuesLaidOut
 cells-counted ls p =
     let vs = listed (values cells cell) ls in
     let n = length (listed (names cells) ls) in

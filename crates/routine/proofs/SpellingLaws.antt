@@ -27,7 +27,7 @@ use Rattle.routine.specs.declared.Role.the-variants.{Names as names, Val
 use Rattle.routine.specs.Layout.{list, listed}
 use Rattle.routine.specs.declared.CellWord.the-variants.{Unknown as unknown}
 use Rattle.routine.specs.declared.Row.the-variants.{Layout as layout-row, Name as name-row}
-use Rattle.routine.specs.Rows.{isNumeral, knownOf, blockOf, hashed, cellWord, isCell, isCapital, inName, isName, stackNames, cellNames, isField, sizesFrom, blockSizes, total, at, op, arg, argumentLaidOut, argumentNamed, columnLaidOut, namesLaidOut, laidOut, wellNamed, named, test}
+use Rattle.routine.specs.Rows.{valuesLaidOut, codeLaidOut, answerLaidOut, codeNamed, isNumeral, knownOf, blockOf, hashed, cellWord, isCell, isCapital, inName, isName, stackNames, cellNames, isField, sizesFrom, blockSizes, total, at, op, arg, argumentLaidOut, argumentNamed, columnLaidOut, namesLaidOut, laidOut, wellNamed, named, test}
 use Rattle.routine.proofs.RowLaws.{Passes, held-lines, laid-out, passes-named, lists-path}
 use Rattle.routine.proofs.CodeLaws.{CodeLaidOut, code-laid-out, CodeNamed, code-named, kind-there, on-kind}
 
@@ -217,7 +217,7 @@ module _ (ls : List Line) (k : ℕ) (text : List ℕ) (ps : Every Ascii (listed 
       (three (words text) (l .three) (spelt-ascii (at text) (l .spelt)) (among-every (op text) kindNames (n .kind) kind-names-ascii) arg-ascii)
 
 line-ascii : (ls : List Line) → Passes ls → (r : Role) (text : List ℕ) → laidOut ls r text ≡ true → named ls r text ≡ true → Ascii text
-unfolding laidOut named listed
+unfolding laidOut valuesLaidOut codeLaidOut answerLaidOut named codeNamed listed
 line-ascii ls p (names s) text l n = names-ascii s text l n
 line-ascii ls p (values s c) text l n =
     list-ascii text (column-ascii c (list text) (and-right (eqb (length (list text)) (length (listed (names s) ls))) (columnLaidOut c (list text)) l))

@@ -220,21 +220,36 @@ namesLaidOut fields text = true
 namesLaidOut instructions text = equals text (bytes "AT OP ARG")
 namesLaidOut answers text = equals text (bytes "ANSWER")
 
--- row 2: "layout, counts, spelling of a number, an ARG missing or not called for"; "fewer or more values than names (at the line of
--- values)", "a 1,025th code line and a 65th answer"
+-- on a line of values: "fewer or more values than names (at the line of values)"
+unfoldable pub valuesLaidOut : Column → List (List ℕ) → List (List ℕ) → Bool
+valuesLaidOut c ns ws = eqb (length ws) (length ns) && columnLaidOut c ws
+
+-- on code line k and on answer k: "a 1,025th code line and a 65th answer"
+unfoldable pub codeLaidOut : ℕ → List ℕ → Bool
+codeLaidOut k text = ltb k 1024 && eqb (length (words text)) 3 && isNumeral (numeral (at text)) && onArgument (argumentLaidOut (arg text)) text
+
+unfoldable pub answerLaidOut : ℕ → List ℕ → Bool
+answerLaidOut k text = ltb k 64 && isNumeral (numeral text)
+
+-- row 2: "layout, counts, spelling of a number, an ARG missing or not called for"
 unfoldable pub laidOut : List Line → Role → List ℕ → Bool
 laidOut ls (names s) text = namesLaidOut s text
-laidOut ls (values s c) text = eqb (length (list text)) (length (listed (names s) ls)) && columnLaidOut c (list text)
-laidOut ls (code k) text =
-    ltb k 1024 && eqb (length (words text)) 3 && isNumeral (numeral (at text)) && onArgument (argumentLaidOut (arg text)) text
-laidOut ls (answer k) text = ltb k 64 && isNumeral (numeral text)
+laidOut ls (values s c) text = valuesLaidOut c (listed (names s) ls) (list text)
+laidOut ls (code k) text = codeLaidOut k text
+laidOut ls (answer k) text = answerLaidOut k text
 
 -- row 3: "number outside its range"
+unfoldable pub codeInRange : ℕ → List ℕ → Bool
+codeInRange k text = within (atRange k) (value (at text)) && onArgument (argumentInRange (arg text)) text
+
+unfoldable pub answerInRange : List ℕ → Bool
+answerInRange text = within numbers (value text)
+
 unfoldable pub inRange : Role → List ℕ → Bool
 inRange (names s) text = true
 inRange (values s c) text = columnInRange c (list text)
-inRange (code k) text = within (atRange k) (value (at text)) && onArgument (argumentInRange (arg text)) text
-inRange (answer k) text = within numbers (value text)
+inRange (code k) text = codeInRange k text
+inRange (answer k) text = answerInRange text
 
 -- row 4 on a line of names: "name unknown, repeated or out of sequence"
 unfoldable pub wellNamed : Section → List (List ℕ) → Bool
@@ -251,12 +266,16 @@ unfoldable pub firstAt : List Line → ℤ
 firstAt [] = pos 0
 firstAt (l ∷ ls) = value (at (l .text))
 
--- row 4: also "handle to an absent block; AT not following"
+-- on code line k, where the first address is `first` and the primitives are ps: also "AT not following"
+unfoldable pub codeNamed : ℤ → List (List ℕ) → ℕ → List ℕ → Bool
+codeNamed first ps k text =
+    same (value (at text)) (first +ℤ pos k) && among (op text) kindNames && onArgument (argumentNamed ps (arg text)) text
+
+-- row 4: also "handle to an absent block"
 unfoldable pub named : List Line → Role → List ℕ → Bool
 named ls (names s) text = wellNamed s (list text)
 named ls (values s c) text = onCells c (cellPresent (length (blockSizes (listed (names fields) ls)))) (list text)
-named ls (code k) text =
-    same (value (at text)) (firstAt (body ls) +ℤ pos k) && among (op text) kindNames && onArgument (argumentNamed (listed (names primitives) ls) (arg text)) text
+named ls (code k) text = codeNamed (firstAt (body ls)) (listed (names primitives) ls) k text
 named ls (answer k) text = true
 
 -- row 5: "kind in the code without a price"
@@ -266,11 +285,14 @@ priced ls (values s c) text = true
 priced ls (code k) text = among (op text) (listed (names kinds) ls)
 priced ls (answer k) text = true
 
--- row 6: "target not an address of the code"
+-- row 6: "target not an address of the code", which has n addresses from `first` on
+unfoldable pub codeReaches : ℤ → ℕ → List ℕ → Bool
+codeReaches first n text = onArgument (argumentReaches first n (arg text)) text
+
 unfoldable pub reaches : List Line → Role → List ℕ → Bool
 reaches ls (names s) text = true
 reaches ls (values s c) text = true
-reaches ls (code k) text = onArgument (argumentReaches (firstAt (body ls)) (length (codeLines (body ls))) (arg text)) text
+reaches ls (code k) text = codeReaches (firstAt (body ls)) (length (codeLines (body ls))) text
 reaches ls (answer k) text = true
 
 -- row 11: "run only: a `?` on line 10, then 12"
