@@ -125,7 +125,7 @@ module _ (text : List ℕ) (x : Routine) (passes : Passes (lines text)) (is : x 
       go : (b : Bool) → cond b stuck (nth (a - x .code .first) (x .code .instructions)) ≡ done i → Cheap 131070 510 (i .price)
       go true e = let z : _≡_ {A = ℕ} 0 1 = cc in absurd (omega arith)
       go false e =
-          let h = nth-every (rw (← is) at (prices-small passes)) (a - x .code .first) e in
+          let h = nth-every (rw (← is) at (prices-small (lines text))) (a - x .code .first) e in
           record { cycles = h .cycles; words = h .words }
 
   low : Low (x .start)

@@ -48,7 +48,7 @@ pub record Instruction : Type 0 where
 unfoldable pub instruction : Kind → ℤ → Price → Instruction
 instruction k a p = record { pushes = k .pushes; operation = k .operation; operand = operand k a; calls = calls (k .argument); price = p }
 
--- prices by place: of the kinds in the table, of the primitives on their line
+-- prices by place: of the kinds and of the primitives, each on its line of names
 pub record Prices : Type 0 where
   pub kinds : ℕ → Price
   pub primitives : ℕ → Price

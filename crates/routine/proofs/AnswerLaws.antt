@@ -12,7 +12,8 @@ use Rattle.text.specs.Text.{Line}
 use Rattle.routine.specs.declared.Section.{Section}
 use Rattle.routine.specs.declared.Role.{Role}
 use Rattle.routine.specs.Layout.{layout, isAnswer, body, upToAnswer, codeLines, list, tag, textAt, listed}
-use Rattle.routine.specs.Rows.{firstAt}
+use Rattle.numbers.specs.declared.Range.{Range}
+use Rattle.routine.specs.Rows.{budgets, ticks, firstAt}
 use Rattle.routine.specs.Routine.{Routine, limitAt, priceAt, prices, instructionOf, codeOf, cellsOf, startOf, routineOf}
 
 -- the two routines differ in their answers at most
@@ -37,9 +38,9 @@ module _ (ls ms : List Line) (e : take (length layout) ls ≡ take (length layou
   unfolding listed
   same-listed r = ap list (sym (text-among r layout ls) ∙ ap (textAt r layout) e ∙ text-among r layout ms)
 
-  same-limit : (i : ℕ) → limitAt i ls ≡ limitAt i ms
+  same-limit : (r : Range) (i : ℕ) → limitAt r i ls ≡ limitAt r i ms
   unfolding limitAt
-  same-limit i = rw same-listed refl
+  same-limit r i = rw same-listed refl
 
   same-price : (s : Section) (i : ℕ) → priceAt s ls i ≡ priceAt s ms i
   unfolding priceAt
@@ -70,7 +71,7 @@ module _ (ls ms : List Line) (e : take (length layout) ls ≡ take (length layou
 
   pub same-but-answers : SameButAnswers (routineOf ls) (routineOf ms)
   unfolding routineOf
-  same-but-answers = (same-limit 0, same-limit 1, same-code, same-start)
+  same-but-answers = (same-limit budgets 0, same-limit ticks 1, same-code, same-start)
 
 -- ---- a file with an ANSWER section and without it
 

@@ -1,7 +1,7 @@
 -- What the ranges of a passing text say of its routine: prices, limits and the height of the start are small. Assumes nothing.
 use Prim.Native.Nat.{ℕ, _+_, _≤_, min}
 use mathlib.Core.Path.{_≡_, refl, ap, _∙_}
-use mathlib.Core.Bool.{true, false≢true}
+use mathlib.Core.Bool.{Bool, true, false, cond, false≢true}
 use mathlib.Core.List.{List, [], _∷_, map}
 use native.Mathlib.Omega.{arith}
 use lib.Dec.{leb, eqb}
@@ -11,6 +11,7 @@ use borrow.Author.Tests.{leb-true, eqb-true}
 use Rattle.text.specs.Text.{Line, all}
 use Rattle.text.specs.Decimal.{numeral}
 use Rattle.text.proofs.TextLaws.{Every, more, every-map, every-getD, all-every, and-left, and-right, cond-left, cond-right}
+use Rattle.numbers.specs.declared.Range.{Range}
 use Rattle.numbers.specs.Numbers.{range, within}
 use Rattle.instructions.specs.declared.Argument.{Argument}
 use Rattle.instructions.specs.declared.Argument.the-variants.{Absent, Target, Primitive, Within}
@@ -20,8 +21,8 @@ use Rattle.routine.specs.declared.Section.the-variants.{Limits as limits
 use Rattle.routine.specs.declared.Column.the-variants.{Limit as limit, Cycles as cycles, Words as words-column, Cell as cell}
 use Rattle.routine.specs.declared.Role.the-variants.{Names as names, Values as values}
 use Rattle.routine.specs.Layout.{layout, body, codeLines, list, textAt, listed}
-use Rattle.routine.specs.Rows.{valuesLaidOut, cellWord, value, valueOf, cellNames, stackNames, columnInRange, columnLaidOut, inRange, laidOut, named, wellNamed}
-use Rattle.routine.specs.Routine.{natural, limitAt, priceAt, prices, instructionOf, codeOf, cellOf, cellsOf, startOf, routineOf}
+use Rattle.routine.specs.Rows.{budgets, ticks, valuesLaidOut, cellWord, value, valueOf, cellNames, stackNames, columnInRange, columnLaidOut, inRange, laidOut, named, wellNamed}
+use Rattle.routine.specs.Routine.{inside, natural, limitAt, priceAt, prices, instructionOf, codeOf, cellOf, cellsOf, startOf, routineOf}
 use Rattle.routine.proofs.RowLaws.{Passes, First, passes-range, passes-laid-out, passes-named, lists-path}
 
 -- a number within a range from a natural number on is natural, between the two ends
@@ -29,35 +30,50 @@ within-ends : (low high : ℕ) (z : ℤ) → within (range low high) z ≡ true 
 within-ends low high (negsuc n) e = absurd (false≢true e)
 within-ends low high (pos n) e = (leb-true low n (cond-left (leb low n) (leb n high) e), leb-true n high (cond-right (leb low n) (leb n high) e))
 
+-- a number within its range counts as it is
+pub inside-is : (r : Range) (z : ℤ) → within r z ≡ true → inside r z ≡ z
+unfolding inside
+inside-is r z e = rw e refl
+
+-- in any case no number is above its range
+pub inside-small : (low high : ℕ) (z : ℤ) → natAbs (inside (range low high) z) ≤ high
+unfolding inside
+inside-small low high z = go (within (range low high) z) refl
+  where
+    go : (b : Bool) → within (range low high) z ≡ b → natAbs (cond b z (pos 0)) ≤ high
+    go true e = within-ends low high z e .1
+    go false e = omega arith
+
 -- ---- limits
 
-limit-ends : (ls : List Line) → Passes ls → ((1 ≤ limitAt 0 ls) × (limitAt 0 ls ≤ 1000000)) × ((1 ≤ limitAt 1 ls) × (limitAt 1 ls ≤ 4000000000))
-unfolding limitAt listed inRange columnInRange
-limit-ends ls p =
-    let ws = listed (values limits limit) ls in
-    let budget = value (getD ws 0 []) in
-    let tick = value (getD ws 1 []) in
-    let e = passes-range p (values limits limit) refl in (
-      within-ends 1 1000000 budget (and-left (within (range 1 1000000) budget) (within (range 1 4000000000) tick) e),
-      within-ends 1 4000000000 tick (and-right (within (range 1 1000000) budget) (within (range 1 4000000000) tick) e),
-    )
+-- a limit of a passing text is the number that its word spells
+limit-ends : (low high : ℕ) (w : List ℕ) → within (range low high) (value w) ≡ true → low ≤ natural (range low high) w
+limit-ends low high w e = rw (inside-is (range low high) (value w) e) (within-ends low high (value w) e .0)
 
 module _ {ls : List Line} (p : Passes ls) where
+  limits-within : columnInRange limit (listed (values limits limit) ls) ≡ true
+  unfolding listed inRange
+  limits-within = passes-range p (values limits limit) refl
+
   pub budget-positive : 1 ≤ routineOf ls .budget
-  unfolding routineOf
-  budget-positive = limit-ends ls p .0 .0
+  unfolding routineOf limitAt columnInRange
+  budget-positive =
+      let ws = listed (values limits limit) ls in
+      limit-ends 1 1000000 (getD ws 0 []) (and-left (within budgets (value (getD ws 0 []))) (within ticks (value (getD ws 1 []))) limits-within)
 
   pub budget-small : routineOf ls .budget ≤ 1000000
-  unfolding routineOf
-  budget-small = limit-ends ls p .0 .1
+  unfolding routineOf limitAt
+  budget-small = inside-small 1 1000000 (value (getD (listed (values limits limit) ls) 0 []))
 
   pub tick-positive : 1 ≤ routineOf ls .tick
-  unfolding routineOf
-  tick-positive = limit-ends ls p .1 .0
+  unfolding routineOf limitAt columnInRange
+  tick-positive =
+      let ws = listed (values limits limit) ls in
+      limit-ends 1 4000000000 (getD ws 1 []) (and-right (within budgets (value (getD ws 0 []))) (within ticks (value (getD ws 1 []))) limits-within)
 
   pub tick-small : routineOf ls .tick ≤ 4000000000
-  unfolding routineOf
-  tick-small = limit-ends ls p .1 .1
+  unfolding routineOf limitAt
+  tick-small = inside-small 1 4000000000 (value (getD (listed (values limits limit) ls) 1 []))
 
 -- ---- prices
 
@@ -65,13 +81,6 @@ module _ {ls : List Line} (p : Passes ls) where
 pub record AtMost (c w : ℕ) (p : Price) : Type 0 where
   pub cycles : p .cycles ≤ c
   pub words : p .words ≤ w
-
--- a word past the end of a line counts 0
-word-small : (high : ℕ) (ws : List (List ℕ)) → all (λ w. within (range 0 high) (value w)) ws ≡ true → (i : ℕ) → natural (getD ws i []) ≤ high
-unfolding value valueOf numeral
-word-small high ws e i =
-    every-getD {P = λ w. natural w ≤ high}
-    (every-map (λ w h. within-ends 0 high (value w) h .1) (all-every (λ w. within (range 0 high) (value w)) ws e)) (omega arith) i
 
 -- a kind's price and a primitive's, each at most c cycles and w words
 cost-small : (c w : ℕ) (ps : Prices) → ((k : ℕ) → AtMost c w (ps .kinds k)) → ((i : ℕ) → AtMost c w (ps .primitives i))
@@ -82,27 +91,25 @@ cost-small c w ps f g Target k v = let h = f k in omega arith
 cost-small c w ps f g Primitive k v = let h = f k in let i = g (natAbs v) in omega arith
 cost-small c w ps f g (Within r) k v = let h = f k in omega arith
 
-module _ (ls : List Line) (p : Passes ls) where
-  price-small : (s : Section) → First (values s cycles) layout → First (values s words-column) layout → (i : ℕ) → AtMost 65535 255 (priceAt s ls i)
-  unfolding priceAt listed inRange columnInRange
-  price-small s f g i = record {
-    cycles = word-small 65535 (list (textAt (values s cycles) layout ls)) (passes-range p (values s cycles) f) i;
-    words = word-small 255 (list (textAt (values s words-column) layout ls)) (passes-range p (values s words-column) g) i;
-  }
+price-small : (s : Section) (ls : List Line) (i : ℕ) → AtMost 65535 255 (priceAt s ls i)
+unfolding priceAt
+price-small s ls i = record {
+  cycles = inside-small 0 65535 (value (getD (listed (values s cycles) ls) i []));
+  words = inside-small 0 255 (value (getD (listed (values s words-column) ls) i []));
+}
 
-  instruction-small : (text : List ℕ) → AtMost 131070 510 (instructionOf ls text .price)
-  unfolding instructionOf instruction prices
-  instruction-small text =
-      cost-small 65535 255 (prices ls)
-      (λ k. price-small kinds refl refl _) (λ i. price-small primitives refl refl _) _ _ _
+instruction-small : (ls : List Line) (text : List ℕ) → AtMost 131070 510 (instructionOf ls text .price)
+unfolding instructionOf instruction prices
+instruction-small ls text = cost-small 65535 255 (prices ls) (price-small kinds ls) (price-small primitives ls) _ _ _
 
 every-mapped : {A B : Type 0} {P : B → Type 0} (f : A → B) → ((x : A) → P (f x)) → (xs : List A) → Every P (map f xs)
 every-mapped f h [] = Every.none
 every-mapped f h (x ∷ xs) = more (h x) (every-mapped f h xs)
 
-pub prices-small : {ls : List Line} → Passes ls → Every (λ i. AtMost 131070 510 (i .price)) (routineOf ls .code .instructions)
+-- whatever the text says, no price is larger
+pub prices-small : (ls : List Line) → Every (λ i. AtMost 131070 510 (i .price)) (routineOf ls .code .instructions)
 unfolding routineOf codeOf
-prices-small {ls} p = every-mapped (λ l. instructionOf ls (l .text)) (λ l. instruction-small ls p (l .text)) (codeLines (body ls))
+prices-small ls = every-mapped (λ l. instructionOf ls (l .text)) (λ l. instruction-small ls (l .text)) (codeLines (body ls))
 
 -- ---- the start
 

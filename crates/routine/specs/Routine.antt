@@ -12,7 +12,9 @@ use Rattle.text.specs.Text.{Line, lines, find}
 use Rattle.cells.specs.declared.Cell.{Cell}
 use Rattle.cells.specs.Cells.{number, handle}
 use Rattle.cells.specs.Cells as cells-of
-use Rattle.instructions.specs.Kinds.{kindNames}
+use Rattle.numbers.specs.declared.Range.{Range}
+use Rattle.numbers.specs.Numbers.{within, numbers}
+use Rattle.instructions.specs.Kinds.{addresses, kindNames}
 use Rattle.instructions.specs.Columns.{kindAt}
 use Rattle.instructions.specs.declared.Argument.{Argument}
 use Rattle.instructions.specs.declared.Argument.the-variants.{Absent, Target, Primitive, Within}
@@ -28,7 +30,7 @@ use Rattle.routine.specs.declared.Row.{Row}
 use Rattle.routine.specs.declared.Row.the-variants.{Layout as layout-row, Range as range-row, Name as name-row, Price as price-row, Target as target-row, Known as known-row}
 use Rattle.routine.specs.declared.Fault.{Fault}
 use Rattle.routine.specs.declared.Fault.the-variants.{Clean as clean, Line as line}
-use Rattle.routine.specs.Rows.{value, cellWord, blockSizes, at, op, arg, firstAt, fault}
+use Rattle.routine.specs.Rows.{value, cellWord, handles, blockSizes, at, op, arg, firstAddresses, budgets, ticks, cycleCounts, wordCounts, firstAt, fault}
 
 pub record Routine : Type 0 where
   pub budget : ℕ
@@ -37,53 +39,57 @@ pub record Routine : Type 0 where
   pub start : State
   pub answers : List ℤ
 
+-- a number of a range; one outside it, which row 3 refuses, counts 0
+unfoldable pub inside : Range → ℤ → ℤ
+inside r z = cond (within r z) z (pos 0)
+
+abbrev pub natural : Range → List ℕ → ℕ
+natural r w = natAbs (inside r (value w))
+
 -- ---- the limits
 
-abbrev pub natural : List ℕ → ℕ
-natural w = natAbs (value w)
-
-unfoldable pub limitAt : ℕ → List Line → ℕ
-limitAt i ls = natural (getD (listed (values limits limit) ls) i [])
+unfoldable pub limitAt : Range → ℕ → List Line → ℕ
+limitAt r i ls = natural r (getD (listed (values limits limit) ls) i [])
 
 -- ---- prices
 
 -- the price at place i of a section: entry i of its cycles and of its words
 unfoldable pub priceAt : Section → List Line → ℕ → Price
-priceAt s ls i = record { cycles = natural (getD (listed (values s cycles) ls) i []); words = natural (getD (listed (values s words-column) ls) i []) }
-
--- a kind's price stands where its name stands on line 3, a primitive's at its place on line 6
-unfoldable pub prices : List Line → Prices
-prices ls = record {
-  kinds = λ k. priceAt kinds ls (find (getD kindNames k []) (listed (names kinds) ls));
-  primitives = λ i. priceAt primitives ls i;
+priceAt s ls i = record {
+  cycles = natural cycleCounts (getD (listed (values s cycles) ls) i []);
+  words = natural wordCounts (getD (listed (values s words-column) ls) i []);
 }
+
+-- by the places of the names on lines 3 and 6
+unfoldable pub prices : List Line → Prices
+prices ls = record { kinds = λ i. priceAt kinds ls i; primitives = λ i. priceAt primitives ls i }
 
 -- ---- code
 
 -- an argument: a number, an address, or a primitive's place on line 6
 unfoldable pub argumentValue : List (List ℕ) → List ℕ → Argument → ℤ
 argumentValue ps w Absent = pos 0
-argumentValue ps w Target = value w
+argumentValue ps w Target = inside addresses (value w)
 argumentValue ps w Primitive = pos (find w ps)
-argumentValue ps w (Within r) = value w
+argumentValue ps w (Within r) = inside numbers (value w)
 
 unfoldable pub instructionOf : List Line → List ℕ → Instruction
 instructionOf ls text =
     let k = kindAt (find (op text) kindNames) in
     let v = argumentValue (listed (names primitives) ls) (arg text) (k .argument) in
-    instruction k v (cost (prices ls) (k .argument) (find (op text) kindNames) v)
+    instruction k v (cost (prices ls) (k .argument) (find (op text) (listed (names kinds) ls)) v)
 
 -- "AT starts anywhere from 0 to 60,000"
 unfoldable pub codeOf : List Line → Code
-codeOf ls = record { first = natAbs (firstAt (body ls)); instructions = map (λ l. instructionOf ls (l .text)) (codeLines (body ls)) }
+codeOf ls = record { first = natAbs (inside firstAddresses (firstAt (body ls))); instructions = map (λ l. instructionOf ls (l .text)) (codeLines (body ls)) }
 
 -- ---- cells
 
 unfoldable pub cellOf : CellWord → Cell
 cellOf wrong = number (pos 0)
 cellOf unknown = cells-of.unknown
-cellOf (known z) = number z
-cellOf (block k) = handle (natAbs k)
+cellOf (known z) = number (inside numbers z)
+cellOf (block k) = handle (natAbs (inside handles k))
 
 unfoldable pub cellsOf : Section → List Line → List Cell
 cellsOf s ls = map (λ w. cellOf (cellWord w)) (listed (values s cell) ls)
@@ -106,11 +112,11 @@ startOf ls =
 
 unfoldable pub routineOf : List Line → Routine
 routineOf ls = record {
-  budget = limitAt 0 ls;
-  tick = limitAt 1 ls;
+  budget = limitAt budgets 0 ls;
+  tick = limitAt ticks 1 ls;
   code = codeOf ls;
   start = startOf ls;
-  answers = map (λ l. value (l .text)) (answerLines (body ls));
+  answers = map (λ l. inside numbers (value (l .text))) (answerLines (body ls));
 }
 
 -- ---- the reading of a text

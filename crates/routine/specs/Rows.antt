@@ -69,11 +69,14 @@ isCell (known z) = true
 isCell (block k) = true
 
 -- "`#k` with k outside 0 to 7 is 3"
+abbrev pub handles : Range
+handles = range 0 7
+
 unfoldable pub cellInRange : CellWord → Bool
 cellInRange wrong = true
 cellInRange unknown = true
 cellInRange (known z) = within numbers z
-cellInRange (block k) = within (range 0 7) k
+cellInRange (block k) = within handles k
 
 -- "handle to an absent block": n blocks are present
 unfoldable pub cellPresent : ℕ → CellWord → Bool
@@ -185,15 +188,30 @@ argumentReaches first n w (Within r) = true
 -- ---- ranges and counts of the table
 
 -- "AT starts anywhere from 0 to 60,000 and rises by one; a later AT outside 0 to 62,000 is refusal 3"
+abbrev pub firstAddresses : Range
+firstAddresses = range 0 60000
+
 abbrev pub atRange : ℕ → Range
-atRange zero = range 0 60000
+atRange zero = firstAddresses
 atRange (suc k) = addresses
 
 -- "1 to 1,000,000; cycles per tick, 1 to 4,000,000,000 · cycles 0 to 65,535; words 0 to 255"
+abbrev pub budgets : Range
+budgets = range 1 1000000
+
+abbrev pub ticks : Range
+ticks = range 1 4000000000
+
+abbrev pub cycleCounts : Range
+cycleCounts = range 0 65535
+
+abbrev pub wordCounts : Range
+wordCounts = range 0 255
+
 unfoldable pub columnInRange : Column → List (List ℕ) → Bool
-columnInRange limit ws = within (range 1 1000000) (value (getD ws 0 [])) && within (range 1 4000000000) (value (getD ws 1 []))
-columnInRange cycles ws = all (λ w. within (range 0 65535) (value w)) ws
-columnInRange words-column ws = all (λ w. within (range 0 255) (value w)) ws
+columnInRange limit ws = within budgets (value (getD ws 0 [])) && within ticks (value (getD ws 1 []))
+columnInRange cycles ws = all (λ w. within cycleCounts (value w)) ws
+columnInRange words-column ws = all (λ w. within wordCounts (value w)) ws
 columnInRange cell ws = all (λ w. cellInRange (cellWord w)) ws
 
 unfoldable pub columnLaidOut : Column → List (List ℕ) → Bool
