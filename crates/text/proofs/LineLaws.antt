@@ -89,6 +89,12 @@ unfolding lines linesOf split
 lines-empty [] e = refl
 lines-empty (x ∷ xs) e = let z : _≡_ {A = ℕ} 0 1 = cc in absurd (omega arith)
 
+-- the same by the length, as a loop's end has it
+pub lines-none : (s : List ℕ) → length s ≤ 0 → lines s ≡ []
+unfolding lines linesOf split
+lines-none [] h = refl
+lines-none (x ∷ xs) h = absurd (omega arith)
+
 pub lines-some : (s : List ℕ) → 0 < length s → 0 < length (lines s)
 lines-some s h = go (ltb (firstLength 10 s) (length s)) refl
   where
