@@ -1,3 +1,4 @@
 pub mod TextLaws
 pub mod ScanLaws
 pub mod DecimalLaws
+pub mod NumeralLaws
