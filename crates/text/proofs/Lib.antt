@@ -2,3 +2,4 @@ pub mod TextLaws
 pub mod ScanLaws
 pub mod DecimalLaws
 pub mod NumeralLaws
+pub mod ClampLaws
