@@ -3,3 +3,4 @@ pub mod ScanLaws
 pub mod DecimalLaws
 pub mod NumeralLaws
 pub mod ClampLaws
+pub mod MemoryLaws

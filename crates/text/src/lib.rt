@@ -4,8 +4,9 @@ ghost use mathlib.Core.List.{[]};
 ghost use mathlib.Core.Path.{_≡_};
 ghost use Prim.Native.Nat.{suc, _+_, _*_, _≤_, min};
 ghost use Rattle.text.specs.Text.{equals, split, words, find};
-ghost use Rattle.text.specs.Decimal.{digitsFrom, natural, negative, numeral, most, clamped};
+ghost use Rattle.text.specs.Decimal.{digitsFrom, natural, negative, numeral, most, clamped, decimal};
 ghost use Rattle.text.specs.Magnitude.{held, toNumeral};
+ghost use Rattle.text.specs.Memory.{over};
 
 // What a word says where a number is wanted.
 pub enum Numeral {
@@ -163,4 +164,33 @@ pub fn read_numeral(w: &[u8]) -> Numeral
         return positive(natural(w));
     }
     negative(natural(&w[1..]))
+}
+
+// Puts text over out from `at` on, and answers where it ends.
+pub fn put(out: &mut [u8], at: usize, text: &[u8]) -> usize
+    requires { ⌜ at + length (now text) ≤ length (now out) ⌝ }
+    ensures { λ r. ⌜ r ≡ at + length (now (text .entry)) ⌝ }
+    ensures { λ _. ⌜ now (out .exit) ≡ over (now (out .entry)) at (now (text .entry)) ⌝ }
+{
+    let mut i = 0;
+    while i < text.len() {
+        out[at + i] = text[i];
+        i += 1;
+    }
+    at + i
+}
+
+// Puts n in decimal over out from `at` on, and answers where it ends.
+pub fn put_decimal(out: &mut [u8], at: usize, n: u64) -> usize
+    requires { ⌜ at + length (decimal n) ≤ length (now out) ⌝ }
+    ensures { λ r. ⌜ r ≡ at + length (decimal n) ⌝ }
+    ensures { λ _. ⌜ now (out .exit) ≡ over (now (out .entry)) at (decimal n) ⌝ }
+{
+    if n < 10 {
+        out[at] = 48 + n as u8;
+        return at + 1;
+    }
+    let e = put_decimal(out, at, n / 10);
+    out[e] = 48 + (n % 10) as u8;
+    e + 1
 }
