@@ -9,7 +9,7 @@ use native.Mathlib.Omega.{arith}
 use lib.Dec.{eqb, leb, ltb}
 use lib.IntN.{ℤ, pos}
 use lib.ListN.{length, length-append}
-use borrow.Author.Tests.{le-leb, leb-true, ltb-true, ltb-false, eqb-true, ne-eqb}
+use borrow.Author.Tests.{le-leb, leb-true, lt-ltb, le-ltb, ltb-true, ltb-false, eqb-true, ne-eqb}
 use Rattle.text.specs.declared.Numeral.{Numeral}
 use Rattle.text.specs.declared.Numeral.the-variants.{Misspelt as misspelt, Number as number}
 use Rattle.text.specs.Decimal.{isDigit, digitsFrom, natural, negative, numeral, digits, decimal}
@@ -31,6 +31,32 @@ digits-written (suc fuel) n false h e =
 written : (n : ℕ) → Written n (decimal n)
 unfolding decimal
 written n = digits-written (suc n) n (ltb n 10) (omega arith) refl
+
+-- a decimal number by its last digit
+digits-fuel : (f g n : ℕ) (b : Bool) → n < f → n < g → ltb n 10 ≡ b → digits f b n ≡ digits g b n
+unfolding digits
+digits-fuel zero g n b h k e = absurd (omega arith)
+digits-fuel (suc f) zero n b h k e = absurd (omega arith)
+digits-fuel (suc f) (suc g) n true h k e = refl
+digits-fuel (suc f) (suc g) n false h k e =
+    let l = ltb-false n 10 e in
+    ap (λ ds. ds ++ ((48 + n % 10) ∷ [])) (digits-fuel f g (n / 10) (ltb (n / 10) 10) (omega arith) (omega arith) refl)
+
+pub decimal-one : (n : ℕ) → n < 10 → decimal n ≡ (48 + n) ∷ []
+unfolding decimal digits
+decimal-one n h = ap (λ b. digits (suc n) b n) (lt-ltb n 10 h)
+
+pub decimal-more : (n : ℕ) → 10 ≤ n → decimal n ≡ decimal (n / 10) ++ ((48 + n % 10) ∷ [])
+unfolding decimal digits
+decimal-more n h =
+    ap (λ b. digits (suc n) b n) (le-ltb n 10 h)
+    ∙ ap (λ ds. ds ++ ((48 + n % 10) ∷ [])) (digits-fuel n (suc (n / 10)) (n / 10) (ltb (n / 10) 10) (omega arith) (omega arith) refl)
+
+pub decimal-length-one : (n : ℕ) → n < 10 → length (decimal n) ≡ 1
+decimal-length-one n h = ap length (decimal-one n h)
+
+pub decimal-length-more : (n : ℕ) → 10 ≤ n → length (decimal n) ≡ length (decimal (n / 10)) + 1
+decimal-length-more n h = ap length (decimal-more n h) ∙ length-append (decimal (n / 10)) ((48 + n % 10) ∷ [])
 
 digit : (n : ℕ) → n < 10 → isDigit (48 + n) ≡ true
 digit n h = rw (le-leb 48 (48 + n) (omega arith), le-leb (48 + n) 57 (omega arith)) refl

@@ -3,3 +3,6 @@ pub mod ScanLaws
 pub mod PieceLaws
 pub mod LineLaws
 pub mod DecimalLaws
+pub mod NumeralLaws
+pub mod ClampLaws
+pub mod MemoryLaws

@@ -33,7 +33,7 @@ unfoldable pub numeral : List ℕ → Numeral
 numeral [] = misspelt
 numeral (d ∷ ds) = cond (eqb d 45) (negative (natural ds)) (natural (d ∷ ds))
 
--- what the code holds of a number: a number as far from 0 as `most` or farther is held as `most` away
+-- what the code holds of a number: `most` for one above it, -(most + 1) for one below that
 abbrev pub most : ℕ
 most = 10000000000
 

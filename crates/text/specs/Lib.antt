@@ -1,2 +1,4 @@
 pub mod Text
 pub mod Decimal
+pub mod Magnitude
+pub mod Memory
