@@ -4,3 +4,4 @@ pub mod CodeLaws
 pub mod AnswerLaws
 pub mod RangeLaws
 pub mod SpellingLaws
+pub mod LayoutLaws
