@@ -1,3 +1,5 @@
 pub mod TextLaws
 pub mod ScanLaws
+pub mod PieceLaws
+pub mod LineLaws
 pub mod DecimalLaws

@@ -18,7 +18,7 @@ use Rattle.text.specs.Text.{equals, onto, split, words, find}
 abbrev pub firstLength : ℕ → List ℕ → ℕ
 firstLength c s = length (getD (split c s) 0 [])
 
-onto-first : (x : ℕ) (ps : List (List ℕ)) → length (getD (onto x ps) 0 []) ≡ suc (length (getD ps 0 []))
+pub onto-first : (x : ℕ) (ps : List (List ℕ)) → length (getD (onto x ps) 0 []) ≡ suc (length (getD ps 0 []))
 onto-first x [] = refl
 onto-first x (p ∷ ps) = refl
 

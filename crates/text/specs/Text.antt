@@ -43,6 +43,10 @@ pub record Line : Type 0 where
   pub text : List ℕ
   pub ended : Bool
 
+-- what stands past the last line
+abbrev pub noLine : Line
+noLine = record { text = []; ended = false }
+
 -- the last piece is a line only if it holds a byte, and then no line feed ends it
 unfoldable pub linesOf : List (List ℕ) → List Line
 linesOf [] = []

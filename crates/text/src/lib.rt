@@ -1,8 +1,9 @@
 // Texts as bytes: lines, words, decimal numbers. The meaning is in specs/.
-ghost use lib.ListN.{length, getD};
+ghost use Prim.Native.Nat.{_-_, _≤_};
+ghost use lib.ListN.{length, getD, drop};
 ghost use mathlib.Core.List.{[]};
 ghost use mathlib.Core.Path.{_≡_};
-ghost use Rattle.text.specs.Text.{equals, split, words, find};
+ghost use Rattle.text.specs.Text.{equals, split, words, lines, noLine, find, among};
 
 // What a word says where a number is wanted.
 pub enum Numeral {
@@ -57,4 +58,99 @@ pub fn find(w: &[u8], text: &[u8]) -> usize
         k += 1;
     }
     if same(w, rest) { k } else { k + 1 }
+}
+
+// The text of the first line of s, without its line feed; no bytes where s has no line.
+pub fn first_line(s: &[u8]) -> &[u8]
+    ensures { λ r. ⌜ now r ≡ getD (lines (now (s .entry))) 0 noLine .text ⌝ }
+{
+    let e = piece_length(s, b'\n');
+    &s[..e]
+}
+
+// Whether a line feed ends the first line of s.
+pub fn line_ends(s: &[u8]) -> bool
+    ensures { λ r. ⌜ r ≡ getD (lines (now (s .entry))) 0 noLine .ended ⌝ }
+{
+    let e = piece_length(s, b'\n');
+    e < s.len()
+}
+
+// What follows the first line feed of s; no bytes where there is none.
+pub fn next_lines(s: &[u8]) -> &[u8]
+    ensures lines { λ r. ⌜ lines (now r) ≡ drop 1 (lines (now (s .entry))) ⌝ }
+    ensures shorter { λ r. ⌜ length (now r) ≤ length (now (s .entry)) - 1 ⌝ }
+{
+    let e = piece_length(s, b'\n');
+    if e < s.len() {
+        return &s[e + 1..];
+    }
+    &s[..0]
+}
+
+// What is left of s after its first k lines.
+pub fn after_lines(s: &[u8], k: usize) -> &[u8]
+    ensures lines { λ r. ⌜ lines (now r) ≡ drop k (lines (now (s .entry))) ⌝ }
+    ensures shorter { λ r. ⌜ length (now r) ≤ length (now (s .entry)) ⌝ }
+{
+    let mut rest = s;
+    let mut left = k;
+    while 0 < left {
+        if rest.len() == 0 {
+            return rest;
+        }
+        let next = next_lines(rest);
+        rest = next;
+        left -= 1;
+    }
+    rest
+}
+
+// The text of line k of s, counted from 0; no bytes where s has fewer lines.
+pub fn line_at(s: &[u8], k: usize) -> &[u8]
+    ensures { λ r. ⌜ now r ≡ getD (lines (now (s .entry))) k noLine .text ⌝ }
+{
+    let rest = after_lines(s, k);
+    first_line(rest)
+}
+
+// The number of words of a line.
+pub fn count_words(line: &[u8]) -> usize
+    ensures { λ r. ⌜ r ≡ length (words (now (line .entry))) ⌝ }
+{
+    let mut rest = line;
+    let mut n = 1;
+    let mut e = piece_length(rest, b' ');
+    while e < rest.len() {
+        rest = &rest[e + 1..];
+        e = piece_length(rest, b' ');
+        n += 1;
+    }
+    n
+}
+
+// Word k of a line, counted from 0; no bytes where it has fewer words.
+pub fn word_at(line: &[u8], k: usize) -> &[u8]
+    ensures { λ r. ⌜ now r ≡ getD (words (now (line .entry))) k [] ⌝ }
+{
+    let mut rest = line;
+    let mut left = k;
+    let mut e = piece_length(rest, b' ');
+    while 0 < left {
+        if rest.len() <= e {
+            return &rest[..0];
+        }
+        rest = &rest[e + 1..];
+        e = piece_length(rest, b' ');
+        left -= 1;
+    }
+    &rest[..e]
+}
+
+// Whether w is one of the words of text.
+pub fn is_among(w: &[u8], text: &[u8]) -> bool
+    ensures { λ r. ⌜ r ≡ among (now (w .entry)) (words (now (text .entry))) ⌝ }
+{
+    let k = find(w, text);
+    k < count_words(text)
 }

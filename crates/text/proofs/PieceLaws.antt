@@ -1,0 +1,111 @@
+-- Laws of a text's pieces by their number and their places, and of its words. Assumes nothing.
+use Prim.Native.Nat.{ℕ, zero, suc, _+_, _-_, _<_, _≤_}
+use mathlib.Core.Path.{_≡_, refl, sym, ap, _∙_}
+use mathlib.Core.Bool.{Bool, true, false, cond}
+use mathlib.Core.List.{List, [], _∷_}
+use native.Mathlib.Omega.{arith}
+use lib.Dec.{eqb, ltb}
+use lib.ListN.{length, getD, take, drop, List·getD-eq-default}
+use lib.Seq.{take-all}
+use borrow.Author.Tests.{ltb-true, ltb-false, lt-ltb, le-ltb}
+use Rattle.text.specs.Text.{equals, onto, split, words, find, among}
+use Rattle.text.proofs.ScanLaws.{firstLength, onto-first, cut-more, cut-last}
+
+-- the number of pieces
+
+onto-length : (x : ℕ) (ps : List (List ℕ)) → 0 < length ps → length (onto x ps) ≡ length ps
+onto-length x [] h = absurd (omega arith)
+onto-length x (p ∷ ps) h = refl
+
+pub split-some : (c : ℕ) (s : List ℕ) → 0 < length (split c s)
+unfolding split
+split-some c [] = omega arith
+split-some c (x ∷ xs) = go (eqb x c) (split-some c xs)
+  where
+    go : (b : Bool) → 0 < length (split c xs) → 0 < length (cond b ([] ∷ split c xs) (onto x (split c xs)))
+    go true h = omega arith
+    go false h = omega (arith, onto-length x (split c xs) h)
+
+pub split-length : (c : ℕ) (s : List ℕ) → length (split c s) ≤ length s + 1
+unfolding split
+split-length c [] = omega arith
+split-length c (x ∷ xs) = go (eqb x c) (split-length c xs)
+  where
+    go : (b : Bool) → length (split c xs) ≤ length xs + 1 → length (cond b ([] ∷ split c xs) (onto x (split c xs))) ≤ suc (length xs) + 1
+    go true h = omega arith
+    go false h = omega (arith, onto-length x (split c xs) (split-some c xs))
+
+-- the first piece
+
+pub first-le : (c : ℕ) (s : List ℕ) → firstLength c s ≤ length s
+unfolding split
+first-le c [] = omega arith
+first-le c (x ∷ xs) = go (eqb x c) (first-le c xs)
+  where
+    go : (b : Bool) → firstLength c xs ≤ length xs → length (getD (cond b ([] ∷ split c xs) (onto x (split c xs))) 0 []) ≤ suc (length xs)
+    go true h = omega arith
+    go false h = omega (arith, onto-first x (split c xs))
+
+pub first-piece : (c : ℕ) (l : List ℕ) (n : ℕ) → n ≡ firstLength c l → getD (split c l) 0 [] ≡ take n l
+first-piece c l n q = go (ltb n (length l)) refl
+  where
+    go : (b : Bool) → ltb n (length l) ≡ b → getD (split c l) 0 [] ≡ take n l
+    go true e = ap (λ (ps : List (List ℕ)). getD ps 0 []) (cut-more c l n q (ltb-true n (length l) e))
+    go false e =
+        let h = ltb-false n (length l) e in
+        ap (λ (ps : List (List ℕ)). getD ps 0 []) (cut-last c l n q h) ∙ sym (take-all n l h)
+
+-- the words of l, whose first word has the length n
+
+pub words-some : (l : List ℕ) → 0 < length (words l)
+unfolding words
+words-some l = split-some 32 l
+
+pub words-length : (l : List ℕ) → length (words l) ≤ length l + 1
+unfolding words
+words-length l = split-length 32 l
+
+pub words-more : (l : List ℕ) (n : ℕ) → n ≡ firstLength 32 l → n < length l → words l ≡ take n l ∷ words (take (length l - (n + 1)) (drop (n + 1) l))
+unfolding words
+words-more l n q h = cut-more 32 l n q h
+
+pub words-last : (l : List ℕ) (n : ℕ) → n ≡ firstLength 32 l → length l ≤ n → words l ≡ l ∷ []
+unfolding words
+words-last l n q h = cut-last 32 l n q h
+
+-- word k of l: a later one, none, the first
+
+past : (x : List ℕ) (xs : List (List ℕ)) (k : ℕ) → 0 < k → getD (x ∷ xs) k [] ≡ getD xs (k - 1) []
+past x xs zero h = absurd (omega arith)
+past x xs (suc k) h = ap (λ (m : ℕ). getD xs m []) (omega arith)
+
+pub word-next : (l : List ℕ) (n k : ℕ) → n ≡ firstLength 32 l → n < length l → 0 < k
+    → getD (words l) k [] ≡ getD (words (take (length l - (n + 1)) (drop (n + 1) l))) (k - 1) []
+word-next l n k q h p = ap (λ (ws : List (List ℕ)). getD ws k []) (words-more l n q h) ∙ past (take n l) (words (take (length l - (n + 1)) (drop (n + 1) l))) k p
+
+pub word-none : (l : List ℕ) (n k : ℕ) → n ≡ firstLength 32 l → length l ≤ n → 0 < k → getD (words l) k [] ≡ []
+word-none l n k q h p =
+    let m : length (l ∷ []) ≤ k = omega arith in
+    ap (λ (ws : List (List ℕ)). getD ws k []) (words-last l n q h) ∙ List·getD-eq-default (l ∷ []) [] m
+
+pub word-here : (l : List ℕ) (n k : ℕ) → n ≡ firstLength 32 l → k ≤ 0 → getD (words l) k [] ≡ take n l
+unfolding words
+word-here l n zero q h = first-piece 32 l n q
+word-here l n (suc k) q h = absurd (omega arith)
+
+ltb-suc : (a b : ℕ) → ltb a b ≡ ltb (suc a) (suc b)
+ltb-suc a b = go (ltb a b) refl
+  where
+    go : (t : Bool) → ltb a b ≡ t → t ≡ ltb (suc a) (suc b)
+    go true e = let h = ltb-true a b e in sym (lt-ltb (suc a) (suc b) (omega arith))
+    go false e = let h = ltb-false a b e in sym (le-ltb (suc a) (suc b) (omega arith))
+
+-- w is among words exactly if a search finds it before their end
+pub among-find : (w : List ℕ) (ws : List (List ℕ)) → among w ws ≡ ltb (find w ws) (length ws)
+unfolding among find
+among-find w [] = refl
+among-find w (x ∷ xs) = go (equals w x) (among-find w xs)
+  where
+    go : (b : Bool) → among w xs ≡ ltb (find w xs) (length xs) → cond b true (among w xs) ≡ ltb (cond b 0 (suc (find w xs))) (suc (length xs))
+    go true e = sym (lt-ltb 0 (suc (length xs)) (omega arith))
+    go false e = e ∙ ltb-suc (find w xs) (length xs)

@@ -1,0 +1,75 @@
+-- `text::count_words` meets its contract. The loop's invariant: e is the length of the first word of what is left, and the words
+-- passed and those of what is left are those of the line. The measure is the length of what is left. Assumes nothing.
+use Prim.Native.Nat.{_+_, _≤_}
+use mathlib.Core.Path.{_≡_, ap}
+use native.Mathlib.Omega.{arith}
+use lib.ListN.{length}
+use borrow.Author.Needs.{needs}
+use Rattle.text.specs.Text.{words}
+use Rattle.text.proofs.ScanLaws.{firstLength}
+use Rattle.text.proofs.PieceLaws.{words-more, words-last}
+use Rattle.text.proofs.count_words.Statement.{statement}
+use Rattle.text.proofs.count_words.Tie as tie
+
+abbrev Inv-loop : tie.InvT-loop
+Inv-loop line rest₀ n₀ e₀ rest n e = (e ≡ firstLength 32 rest) × (n + length rest ≤ length line + 1) × (length (words line) + 1 ≡ n + length (words rest))
+
+abbrev μ-loop : tie.MeasureT-loop
+μ-loop line rest₀ n₀ e₀ rest n e = length rest
+
+piece-length-requires : tie.Need-piece-length-requires Inv-loop μ-loop
+piece-length-requires c κs = search needs
+
+loop-holds : tie.Need-loop-holds Inv-loop μ-loop
+loop-holds c = (c .piece-length .ensures, omega arith, omega arith)
+
+add-rest : tie.Need-add-rest Inv-loop μ-loop
+add-rest c = search needs
+
+sub-rest : tie.Need-sub-rest Inv-loop μ-loop
+sub-rest c = search needs
+
+part-rest-start : tie.Need-part-rest-start Inv-loop μ-loop
+part-rest-start c = search needs
+
+part-rest-end : tie.Need-part-rest-end Inv-loop μ-loop
+part-rest-end c = search needs
+
+piece-length-requires-2 : tie.Need-piece-length-requires-2 Inv-loop μ-loop
+piece-length-requires-2 c κs = search needs
+
+add-n : tie.Need-add-n Inv-loop μ-loop
+add-n c = search needs
+
+loop-less : tie.Need-loop-less Inv-loop μ-loop
+loop-less c = search needs
+
+loop-again : tie.Need-loop-again Inv-loop μ-loop
+loop-again c =
+    let l = c .before .before .before in
+    let m = ap length (words-more (l .loop .rest .now) (l .loop .e) (l .loop .inv .0) (c .before .before .loop-test .taken)) in
+    (c .piece-length2 .ensures, omega arith, omega arith)
+
+returns : tie.Need-returns Inv-loop μ-loop
+returns c =
+    let l = c .before in
+    let m = ap length (words-last (l .loop .rest .now) (l .loop .e) (l .loop .inv .0) (c .loop-test .left)) in
+    omega arith
+
+pub count-words-spec : {M : Type 1} → statement M
+count-words-spec =
+    tie.close
+    (tie.spec
+    Inv-loop
+    μ-loop
+    piece-length-requires
+    loop-holds
+    add-rest
+    sub-rest
+    part-rest-start
+    part-rest-end
+    piece-length-requires-2
+    add-n
+    loop-less
+    loop-again
+    returns)

@@ -1,0 +1,91 @@
+-- `text::word_at` meets its contract. The loop's invariant: e is the length of the first word of what is left, and the word sought
+-- is word `left` of what is left. The measure is the number of words left to pass. Assumes nothing.
+use Prim.Native.Nat.{_≤_}
+use mathlib.Core.Path.{_≡_, refl, sym, _∙_}
+use mathlib.Core.List.{[]}
+use native.Mathlib.Omega.{arith}
+use lib.ListN.{length, getD}
+use lib.Seq.{length-take-le}
+use borrow.Author.Needs.{needs}
+use Rattle.text.specs.Text.{words}
+use Rattle.text.proofs.ScanLaws.{firstLength}
+use Rattle.text.proofs.PieceLaws.{first-le, word-next, word-none, word-here}
+use Rattle.text.proofs.word_at.Statement.{statement}
+use Rattle.text.proofs.word_at.Tie as tie
+
+abbrev Inv-loop : tie.InvT-loop
+Inv-loop line k rest₀ left₀ e₀ rest left e = (e ≡ firstLength 32 rest) × (length rest ≤ length line) × (getD (words line) k [] ≡ getD (words rest) left [])
+
+abbrev μ-loop : tie.MeasureT-loop
+μ-loop line k rest₀ left₀ e₀ rest left e = left
+
+piece-length-requires : tie.Need-piece-length-requires Inv-loop μ-loop
+piece-length-requires c κs = search needs
+
+loop-holds : tie.Need-loop-holds Inv-loop μ-loop
+loop-holds c = (c .piece-length .ensures, omega arith, refl)
+
+slice-aggregate-result : tie.Need-slice-aggregate-result Inv-loop μ-loop
+slice-aggregate-result c = search needs
+
+returns : tie.Need-returns Inv-loop μ-loop
+returns c =
+    let l = c .before .before .before in
+    sym (l .loop .inv .2 ∙ word-none _ _ _ (l .loop .inv .0) (c .before .if1 .taken) (c .before .before .loop-test .taken))
+
+add-rest : tie.Need-add-rest Inv-loop μ-loop
+add-rest c = search needs
+
+sub-rest : tie.Need-sub-rest Inv-loop μ-loop
+sub-rest c = search needs
+
+part-rest-start : tie.Need-part-rest-start Inv-loop μ-loop
+part-rest-start c = search needs
+
+part-rest-end : tie.Need-part-rest-end Inv-loop μ-loop
+part-rest-end c = search needs
+
+piece-length-requires-2 : tie.Need-piece-length-requires-2 Inv-loop μ-loop
+piece-length-requires-2 c κs = search needs
+
+sub-left : tie.Need-sub-left Inv-loop μ-loop
+sub-left c = search needs
+
+loop-less : tie.Need-loop-less Inv-loop μ-loop
+loop-less c = search needs
+
+loop-again : tie.Need-loop-again Inv-loop μ-loop
+loop-again c =
+    let l = c .before .before .before .before in
+    (c .piece-length2 .ensures, omega arith, l .loop .inv .2 ∙ word-next _ _ _ (l .loop .inv .0) (c .before .before .if1 .left) (c .before .before .before .loop-test .taken))
+
+slice-aggregate-result-2 : tie.Need-slice-aggregate-result-2 Inv-loop μ-loop
+slice-aggregate-result-2 c =
+    let l = c .before .before in
+    sym (length-take-le _ (l .loop .rest .now) (omega (arith, first-le 32 (l .loop .rest .now))))
+
+returns-2 : tie.Need-returns-2 Inv-loop μ-loop
+returns-2 c =
+    let l = c .before .before in
+    sym (l .loop .inv .2 ∙ word-here _ _ _ (l .loop .inv .0) (c .before .loop-test .left))
+
+pub word-at-spec : {M : Type 1} → statement M
+word-at-spec =
+    tie.close
+    (tie.spec
+    Inv-loop
+    μ-loop
+    piece-length-requires
+    loop-holds
+    slice-aggregate-result
+    returns
+    add-rest
+    sub-rest
+    part-rest-start
+    part-rest-end
+    piece-length-requires-2
+    sub-left
+    loop-less
+    loop-again
+    slice-aggregate-result-2
+    returns-2)
