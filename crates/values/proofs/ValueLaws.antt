@@ -87,7 +87,7 @@ pub record Natural (high : ℕ) (z : ℤ) : Type 0 where
   pub is : pos (natAbs z) ≡ z
   pub below : natAbs z ≤ high
 
-natural-within : (low high : ℕ) (z : ℤ) → within (range low high) z ≡ true → Natural high z
+pub natural-within : (low high : ℕ) (z : ℤ) → within (range low high) z ≡ true → Natural high z
 natural-within low high (pos n) e = record { is = refl; below = leb-true n high (within-high (range low high) (pos n) e) }
 natural-within low high (negsuc n) e = no (within-low (range low high) (negsuc n) e)
 
