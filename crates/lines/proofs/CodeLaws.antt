@@ -2,7 +2,7 @@
 use Prim.Native.Nat.{ℕ, zero, suc, _+_, _-_, _<_, _≤_}
 use mathlib.Core.Path.{_≡_, refl, sym, ap, ap₂, subst, _∙_}
 use mathlib.Core.Bool.{Bool, true, false, cond, _&&_}
-use mathlib.Core.List.{List, [], _∷_, map}
+use mathlib.Core.List.{List, [], _∷_}
 use mathlib.Core.Option.{Option, some}
 use native.Mathlib.Omega.{arith}
 use native.Mathlib.Nat.{le-of-suc-le-suc, not-suc-le-zero, eq-or-lt-of-le}
@@ -20,10 +20,10 @@ use Rattle.text.specs.Decimal.{most}
 use Rattle.numbers.specs.declared.Range.{Range}
 use Rattle.numbers.specs.Numbers.{range, within, same}
 use Rattle.instructions.specs.declared.Argument.{Argument}
-use Rattle.instructions.specs.declared.Argument.the-variants.{Absent, Target, Primitive, Within}
+use Rattle.instructions.specs.declared.Argument.the-variants.{Within}
 use Rattle.instructions.specs.Kinds.{Kind, kinds, kindNames}
 use Rattle.instructions.specs.Columns.{kindAt, lowest, highest}
-use Rattle.instructions.proofs.ColumnLaws.{getD-any, column-at}
+use Rattle.instructions.proofs.ColumnLaws.{column-at}
 use Rattle.routine.specs.Rows.{kindNamed, argumentOf, op, onArgument, firstAddresses, atRange, value}
 use Rattle.values.specs.Values.{Near}
 use Rattle.values.proofs.ValueLaws.{Natural, natural-within}

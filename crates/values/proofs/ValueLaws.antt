@@ -4,7 +4,7 @@ use mathlib.Core.Path.{_≡_, refl, sym, ap, ap₂, subst, _∙_}
 use mathlib.Core.Bool.{Bool, true, false, cond}
 use mathlib.Core.List.{List, [], _∷_}
 use native.Mathlib.Omega.{arith}
-use lib.Dec.{T, leb, ltb, lit<}
+use lib.Dec.{T, ltb, lit<}
 use lib.IntN.{ℤ, pos, negsuc, negℤ, natAbs, _-ℤ_, +ℤ-idl}
 use lib.ListN.{length, getD, take, drop, length-drop}
 use lib.Seq.{take-all}
@@ -22,7 +22,7 @@ use Rattle.numbers.specs.Numbers.{within, numbers, range}
 use Rattle.cells.specs.Cells.{number, handle}
 use Rattle.routine.specs.declared.CellWord.{CellWord}
 use Rattle.routine.specs.declared.CellWord.the-variants.{Wrong, Unknown, Known, Block}
-use Rattle.routine.specs.Rows.{isNumeral, valueOf, value, knownOf, blockOf, hashed, cellWord, isCell, handles, cellInRange, cellPresent, isKnown}
+use Rattle.routine.specs.Rows.{isNumeral, valueOf, knownOf, blockOf, hashed, cellWord, isCell, handles, cellInRange, cellPresent, isKnown}
 use Rattle.routine.specs.Routine.{inside, cellOf}
 use Rattle.values.specs.Values.{Near, clampedCell}
 

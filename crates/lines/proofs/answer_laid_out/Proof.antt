@@ -1,5 +1,4 @@
 -- `answer_laid_out` meets its contract. Assumes nothing.
-use mathlib.Core.Path.{_∙_}
 use borrow.Author.Tests.{lt-ltb, le-ltb}
 use Rattle.text.specs.Decimal.{numeral}
 use Rattle.routine.specs.Rows.{isNumeral, answerLaidOut}

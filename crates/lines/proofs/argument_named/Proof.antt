@@ -1,5 +1,5 @@
 -- `argument_named` meets its contract. Assumes nothing.
-use mathlib.Core.Path.{refl, sym, ap, _∙_}
+use mathlib.Core.Path.{refl, ap, _∙_}
 use Rattle.text.specs.Text.{among}
 use Rattle.routine.specs.Layout.{list}
 use Rattle.routine.specs.Rows.{arg, onArgument, argumentNamed}

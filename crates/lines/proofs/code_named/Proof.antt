@@ -1,12 +1,9 @@
 -- `code_named` meets its contract. Assumes nothing.
-use mathlib.Core.Path.{_≡_, sym, ap, _∙_}
-use mathlib.Core.Bool.{_&&_}
+use mathlib.Core.Path.{sym, _∙_}
 use Rattle.text.specs.Text.{among}
-use lib.IntN.{pos, _+ℤ_}
-use Rattle.numbers.specs.Numbers.{within, same}
 use Rattle.instructions.specs.Kinds.{kindNames}
 use Rattle.routine.specs.Layout.{list}
-use Rattle.routine.specs.Rows.{value, at, op, arg, onArgument, argumentNamed, codeNamed}
+use Rattle.routine.specs.Rows.{op, arg, onArgument, argumentNamed, codeNamed}
 use Rattle.lines.proofs.LineLaws.{and-through, and-stop}
 use Rattle.lines.proofs.CodeLaws.{sum-fits, sum-range, sum-within}
 use borrow.Author.Needs.{needs}

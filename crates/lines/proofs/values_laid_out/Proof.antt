@@ -1,6 +1,5 @@
 -- `values_laid_out` meets its contract. Assumes nothing.
 use mathlib.Core.Path.{sym, _∙_}
-use lib.ListN.{length}
 use borrow.Author.Tests.{eq-eqb, ne-eqb}
 use Rattle.routine.specs.Layout.{list}
 use Rattle.routine.specs.Rows.{columnLaidOut, valuesLaidOut}

@@ -1,7 +1,7 @@
 -- `cell_word` meets its contract. Assumes nothing.
-use mathlib.Core.Path.{_≡_, sym, ap, _∙_}
+use mathlib.Core.Path.{sym, ap, _∙_}
 use Rattle.text.specs.Decimal.{numeral}
-use Rattle.routine.specs.Rows.{knownOf, blockOf, cellWord}
+use Rattle.routine.specs.Rows.{knownOf, blockOf}
 use Rattle.values.specs.Values.{clampedCell}
 use Rattle.values.proofs.ValueLaws.{known-clamped, block-clamped, word-unknown, word-none, word-block, word-known}
 use borrow.Author.Needs.{needs}

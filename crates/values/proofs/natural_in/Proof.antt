@@ -1,10 +1,9 @@
 -- `natural_in` meets its contract. Assumes nothing.
 use mathlib.Core.Path.{_≡_, sym, ap, ap₂, subst, _∙_}
 use native.Mathlib.Omega.{arith}
-use Prim.Native.Nat.{ℕ, _<_, _^_}
-use lib.Dec.{T, lit<}
-use native.Mathlib.Nat.{lt-trans}
-use lib.IntN.{ℤ, pos, natAbs}
+use Prim.Native.Nat.{ℕ, _<_}
+use lib.Dec.{T}
+use lib.IntN.{pos, natAbs}
 use lib.Signed.{nonNeg, mag}
 use mir.Syntax.{w32, w64}
 use mir.Val.{Fits, ofZ, toZ}
@@ -13,8 +12,7 @@ use Rattle.text.specs.Decimal.{most}
 use Rattle.numbers.specs.Numbers.{range}
 use Rattle.routine.specs.Rows.{value}
 use Rattle.routine.specs.Routine.{inside}
-use Rattle.values.specs.Values.{Near}
-use Rattle.values.proofs.ValueLaws.{natural-inside, natural-sign, near-range}
+use Rattle.values.proofs.ValueLaws.{natural-inside, natural-sign}
 use borrow.Author.Needs.{needs}
 use Rattle.values.proofs.natural_in.Statement.{statement}
 use Rattle.values.proofs.natural_in.Tie as tie

@@ -1,13 +1,9 @@
 -- `number_cell` meets its contract. Assumes nothing.
 use mathlib.Core.Path.{_≡_, sym, ap, ap₂, subst, _∙_}
-use mathlib.Core.Bool.{true}
-use native.Mathlib.Omega.{arith}
-use lib.IntN.{ℤ, pos, negsuc}
-use lib.Dec.{lit<}
 use mir.Syntax.{w32, w64}
 use mir.Val.{SFits, ofZ, toZ}
 use mir.ValLaws.{toZ-ofZ}
-use Rattle.numbers.specs.Numbers.{numbers, within}
+use Rattle.numbers.specs.Numbers.{numbers}
 use Rattle.cells.specs.Cells.{number}
 use Rattle.routine.specs.Routine.{inside}
 use Rattle.values.proofs.ValueLaws.{number-fits}
