@@ -1,0 +1,220 @@
+-- Laws of a code line: of the argument that OP calls for, and of addresses counted from the first. Assumes nothing.
+use Prim.Native.Nat.{ℕ, zero, suc, _+_, _-_, _<_, _≤_}
+use mathlib.Core.Path.{_≡_, refl, sym, ap, ap₂, subst, _∙_}
+use mathlib.Core.Bool.{Bool, true, false, cond, _&&_}
+use mathlib.Core.List.{List, [], _∷_}
+use mathlib.Core.Option.{Option, some}
+use native.Mathlib.Omega.{arith}
+use native.Mathlib.Nat.{le-of-suc-le-suc, not-suc-le-zero, eq-or-lt-of-le}
+use mathlib.Core.Logic.{⊎-elim}
+use lib.Dec.{eqb, leb, ltb}
+use lib.IntN.{ℤ, pos, negsuc, natAbs, _+ℤ_}
+use lib.ListN.{length, getD, getElem?}
+use lib.Signed.{mag, leZ, ltZ}
+use mir.Syntax.{w64}
+use mir.Val.{SFits, ofZ, toZ}
+use mir.ValLaws.{toZ-ofZ, toZ-pos}
+use borrow.Author.Tests.{eqb-true, eqb-false, leb-true, leb-false, le-leb, lt-leb, ltb-true, ltb-false, lt-ltb, le-ltb}
+use Rattle.text.specs.Text.{among, find}
+use Rattle.text.specs.Decimal.{most}
+use Rattle.numbers.specs.declared.Range.{Range}
+use Rattle.numbers.specs.Numbers.{range, within, same}
+use Rattle.instructions.specs.declared.Argument.{Argument}
+use Rattle.instructions.specs.declared.Argument.the-variants.{Within}
+use Rattle.instructions.specs.Kinds.{Kind, kinds, kindNames}
+use Rattle.instructions.specs.Columns.{kindAt, lowest, highest}
+use Rattle.instructions.proofs.ColumnLaws.{column-at}
+use Rattle.routine.specs.Rows.{kindNamed, argumentOf, op, onArgument, firstAddresses, atRange, value}
+use Rattle.values.specs.Values.{Near}
+use Rattle.values.proofs.ValueLaws.{Natural, natural-within}
+use Rattle.lines.proofs.LineLaws.{kind-among}
+
+-- ---- the argument that OP calls for
+
+some-at : {A : Type 0} (l : List A) (k : ℕ) (d : A) → k < length l → getElem? l k ≡ some (getD l k d)
+some-at [] k d h = absurd (not-suc-le-zero h)
+some-at (x ∷ xs) zero d h = refl
+some-at (x ∷ xs) (suc k) d h = some-at xs k d (le-of-suc-le-suc h)
+
+none-at : {A : Type 0} (l : List A) (k : ℕ) → length l ≤ k → getElem? l k ≡ Option.none
+none-at [] k h = refl
+none-at (x ∷ xs) zero h = absurd (not-suc-le-zero h)
+none-at (x ∷ xs) (suc k) h = none-at xs k (le-of-suc-le-suc h)
+
+kind-count : length kinds ≡ 61
+unfolding kinds
+kind-count = refl
+
+module _ (t : Argument → Bool) (line : List ℕ) {k : ℕ} (q : k ≡ find (op line) kindNames) where
+  -- OP is unknown
+  pub on-unknown : 61 ≤ k → onArgument t line ≡ true
+  unfolding onArgument argumentOf kindNamed
+  on-unknown h =
+      let e : length kinds ≤ find (op line) kindNames = omega (arith, kind-count) in
+      ap (argumentOf t) (none-at kinds (find (op line) kindNames) e)
+
+  -- it takes the argument a
+  pub on-known : {a : Argument} → k < 61 → a ≡ kindAt k .argument → onArgument t line ≡ t a
+  unfolding onArgument argumentOf kindNamed kindAt kinds
+  on-known {a} h p =
+      let e : find (op line) kindNames < length kinds = omega (arith, kind-count) in
+      ap (argumentOf t) (some-at kinds (find (op line) kindNames) (kindAt 61) e)
+      ∙ ap (λ j. t (kindAt j .argument)) (sym q)
+      ∙ ap t (sym p)
+
+  -- and x is the test's answer for d, which a is
+  pub on-argument : {a d : Argument} {x : Bool} → k < 61 → a ≡ kindAt k .argument → a ≡ d → x ≡ t d → x ≡ onArgument t line
+  on-argument h p r e = e ∙ ap t (sym r) ∙ sym (on-known h p)
+
+  pub op-known : k < 61 → among (op line) kindNames ≡ true
+  op-known h = sym (kind-among (op line)) ∙ lt-ltb (find (op line) kindNames) 61 (omega arith)
+
+  pub op-unknown : 61 ≤ k → among (op line) kindNames ≡ false
+  op-unknown h = sym (kind-among (op line)) ∙ le-ltb (find (op line) kindNames) 61 (omega arith)
+
+-- ---- the ranges of the table
+
+-- that both ends of an argument's range are near 0
+nearEnds : Kind → Bool
+nearEnds k = ltb (mag (lowest (k .argument))) most && ltb (mag (highest (k .argument))) most
+
+ends-near : (k : ℕ) → k < 61 → true ≡ nearEnds (kindAt k)
+unfolding kinds lowest highest nearEnds
+ends-near k h = column-at (λ j. j .name) (λ j. true) nearEnds [] refl k h
+
+and-left : (a b : Bool) → true ≡ a && b → a ≡ true
+and-left true b e = refl
+and-left false b e = sym e
+
+and-second : (a b : Bool) → true ≡ a && b → b ≡ true
+and-second true b e = sym e
+and-second false b e = absurd (let z : _≡_ {A = ℕ} 0 1 = cc in omega arith)
+
+pub near-at : (k : ℕ) {a : Argument} {r : Range} → k < 61 → a ≡ kindAt k .argument → a ≡ Within r → Near r
+unfolding lowest highest nearEnds
+near-at k {r = r} h p q =
+    let e : kindAt k .argument ≡ Within r = sym p ∙ q in
+    let n : true ≡ ltb (mag (r .low)) most && ltb (mag (r .high)) most = ends-near k h ∙ ap (λ a. ltb (mag (lowest a)) most && ltb (mag (highest a)) most) e in
+    let a = ltb (mag (r .low)) most in
+    let b = ltb (mag (r .high)) most in
+    record { low = ltb-true (mag (r .low)) most (and-left a b n); high = ltb-true (mag (r .high)) most (and-second a b n) }
+
+pub near-at-range : (k : ℕ) → Near (atRange k)
+near-at-range zero = record { low = omega arith; high = omega arith }
+near-at-range (suc k) = record { low = omega arith; high = omega arith }
+
+pub at-first : (k : ℕ) → k ≡ 0 → range 0 60000 ≡ atRange k
+at-first zero e = refl
+at-first (suc k) e = absurd (omega arith)
+
+pub at-later : (k : ℕ) → (k ≡ 0 → ⊥) → range 0 62000 ≡ atRange k
+at-later zero e = absurd (e refl)
+at-later (suc k) e = refl
+
+-- ---- addresses counted from the first
+
+-- a sum as the machine makes it
+module _ (first : ℤ) (m : ℕ) (h : within firstAddresses first ≡ true) (k : m ≤ 32768) where
+  first-natural : Natural 60000 first
+  first-natural = natural-within 0 60000 first h
+
+  first-fits : SFits w64 first
+  first-fits = subst (SFits w64) (first-natural .is) (record { sfits = omega (arith, first-natural .below) })
+
+  sum-is : toZ w64 (ofZ w64 first) +ℤ toZ w64 m ≡ pos (natAbs first + m)
+  sum-is = ap₂ _+ℤ_ (toZ-ofZ w64 first first-fits ∙ sym (first-natural .is)) (toZ-pos w64 m (omega arith))
+
+  pub sum-fits : SFits w64 (toZ w64 (ofZ w64 first) +ℤ toZ w64 m)
+  sum-fits = subst (SFits w64) (sym sum-is) (record { sfits = omega (arith, first-natural .below) })
+
+  sum-read : toZ w64 (ofZ w64 (toZ w64 (ofZ w64 first) +ℤ toZ w64 m)) ≡ pos (natAbs first + m)
+  sum-read = toZ-ofZ w64 _ sum-fits ∙ sum-is
+
+  sum-near : natAbs first + m < most
+  sum-near = omega (arith, first-natural .below)
+
+  sum-exact : pos (natAbs first + m) ≡ first +ℤ pos m
+  sum-exact = ap (λ z. z +ℤ pos m) (first-natural .is)
+
+  first-read : toZ w64 (ofZ w64 first) ≡ pos (natAbs first)
+  first-read = toZ-ofZ w64 first first-fits ∙ sym (first-natural .is)
+
+-- a range of one number
+pub point : (n : ℕ) (z : ℤ) → within (range n n) z ≡ same z (pos n)
+point n (pos m) = go (eqb m n) refl (leb n m) refl
+  where
+    go : (b : Bool) → eqb m n ≡ b → (d : Bool) → leb n m ≡ d → cond d (leb m n) false ≡ b
+    go true e true f = let q = eqb-true m n e in le-leb m n (omega arith)
+    go true e false f = let q = eqb-true m n e in let l = leb-false n m f in absurd (omega arith)
+    go false e true f = let l = leb-true n m f in lt-leb m n (less (eqb-false m n e) l)
+      where
+        less : (m ≡ n → ⊥) → n ≤ m → n < m
+        less g l = ⊎-elim (λ (q : n ≡ m). absurd (g (sym q))) (λ q. q) (eq-or-lt-of-le l)
+    go false e false f = refl
+point n (negsuc m) = refl
+
+positive : (n : ℕ) → (n ≡ 0 → ⊥) → 0 < n
+positive zero g = absurd (g refl)
+positive (suc n) g = omega arith
+
+-- one of the n addresses from the first on
+module _ (first : ℤ) (n : ℕ) (h : within firstAddresses first ≡ true) where
+  start : Natural 60000 first
+  start = natural-within 0 60000 first h
+
+  reached : (f : ℕ) (z : ℤ) → 0 < n → within (range f (f + (n - 1))) z ≡ leZ (pos f) z && ltZ z (pos f +ℤ pos n)
+  reached f (pos m) k = go (leb f m)
+    where
+      last : (b : Bool) → ltb m (f + n) ≡ b → leb m (f + (n - 1)) ≡ b
+      last true e = let q = ltb-true m (f + n) e in le-leb m (f + (n - 1)) (omega arith)
+      last false e = let q = ltb-false m (f + n) e in lt-leb m (f + (n - 1)) (omega arith)
+
+      go : (b : Bool) → cond b (leb m (f + (n - 1))) false ≡ b && ltb m (f + n)
+      go true = last (ltb m (f + n)) refl
+      go false = refl
+  reached f (negsuc m) k = refl
+
+  pub reached-some : (z : ℤ) → 0 < n → within (range (natAbs first) (natAbs first + (n - 1))) z ≡ leZ first z && ltZ z (first +ℤ pos n)
+  reached-some z k = reached (natAbs first) z k ∙ ap (λ f. leZ f z && ltZ z (f +ℤ pos n)) (start .is)
+
+  none : (f : ℕ) (z : ℤ) → n ≡ 0 → false ≡ leZ (pos f) z && ltZ z (pos f +ℤ pos n)
+  none f (pos m) e = go (leb f m) refl
+    where
+      go : (b : Bool) → leb f m ≡ b → false ≡ b && ltb m (f + n)
+      go true q = let l = leb-true f m q in sym (le-ltb m (f + n) (omega arith))
+      go false q = refl
+  none f (negsuc m) e = refl
+
+  pub reached-none : (z : ℤ) → n ≡ 0 → false ≡ leZ first z && ltZ z (first +ℤ pos n)
+  reached-none z e = none (natAbs first) z e ∙ ap (λ f. leZ f z && ltZ z (f +ℤ pos n)) (start .is)
+
+-- the ranges as the machine has them: of one sum, and from the first address to a sum
+
+abbrev summed : ℤ → ℕ → ℤ
+summed first m = toZ w64 (ofZ w64 (toZ w64 (ofZ w64 first) +ℤ toZ w64 m))
+
+module _ (first : ℤ) (k : ℕ) (h : within firstAddresses first ≡ true) (l : k ≤ 32768) where
+  pub sum-range : Near (record { low = summed first k; high = summed first k })
+  sum-range =
+      subst (λ z. Near (record { low = z; high = z })) (sym (sum-read first k h l)) (record { low = sum-near first k h l; high = sum-near first k h l })
+
+  pub sum-within : {v w : List ℕ} → v ≡ w → within (record { low = summed first k; high = summed first k }) (value v) ≡ same (value w) (first +ℤ pos k)
+  sum-within {w = w} e =
+      ap₂ (λ z x. within (record { low = z; high = z }) (value x)) (sum-read first k h l) e
+      ∙ point (natAbs first + k) (value w)
+      ∙ ap (same (value w)) (sum-exact first k h l)
+
+module _ (first : ℤ) (n : ℕ) (h : within firstAddresses first ≡ true) (l : n ≤ 32768) where
+  less : n - 1 ≤ 32768
+  less = omega arith
+
+  pub reach-range : Near (record { low = toZ w64 (ofZ w64 first); high = summed first (n - 1) })
+  reach-range =
+      subst (λ z. Near (record { low = z; high = summed first (n - 1) })) (sym (first-read first (n - 1) h less))
+      (subst (λ z. Near (record { low = pos (natAbs first); high = z })) (sym (sum-read first (n - 1) h less))
+      (record { low = omega (arith, sum-near first (n - 1) h less); high = sum-near first (n - 1) h less }))
+
+  pub reach-within : (n ≡ 0 → ⊥) → (z : ℤ) → within (record { low = toZ w64 (ofZ w64 first); high = summed first (n - 1) }) z ≡ leZ first z && ltZ z (first +ℤ pos n)
+  reach-within g z =
+      ap₂ (λ a b. within (record { low = a; high = b }) z) (first-read first (n - 1) h less) (sum-read first (n - 1) h less)
+      ∙ reached-some first n h z (positive n g)

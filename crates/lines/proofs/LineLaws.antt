@@ -1,0 +1,86 @@
+-- Laws of tests joined by `&&`, of a match, of a loop over words, and of the words listed on a line. Assumes nothing.
+use Prim.Native.Nat.{ℕ, suc, _+_, _-_, _<_, _≤_}
+use mathlib.Core.Path.{_≡_, refl, sym, ap, ap₂, _∙_}
+use mathlib.Core.Bool.{Bool, true, false, cond, not, _&&_}
+use mathlib.Core.List.{List, [], _∷_}
+use native.Mathlib.Omega.{arith}
+use lib.Dec.{ltb}
+use lib.ListN.{length, take, drop}
+use borrow.Author.Tests.{lt-ltb}
+use Rattle.text.specs.Text.{bytes, isEmpty, equals, words, among, find, all}
+use Rattle.text.proofs.ScanLaws.{firstLength}
+use Rattle.text.proofs.PieceLaws.{words-more, words-last, among-find}
+use Rattle.instructions.specs.Kinds.{kinds, kindNames}
+use Rattle.routine.specs.Layout.{list}
+
+-- ---- tests
+
+pub and-true : {a b x : Bool} → a ≡ true → x ≡ b → x ≡ a && b
+and-true {b = b} p q = q ∙ sym (ap (λ a. a && b) p)
+
+pub and-false : {a : Bool} (b : Bool) → a ≡ false → false ≡ a && b
+and-false b p = sym (ap (λ a. a && b) p)
+
+-- the same for three and four tests
+
+pub and-through : (a b c : Bool) {x : Bool} → a ≡ true → x ≡ b && c → x ≡ a && b && c
+and-through a b c p e = e ∙ sym (ap (λ t. t && b && c) p)
+
+pub and-stop : (a b c : Bool) → a ≡ false → false ≡ a && b && c
+and-stop a b c p = sym (ap (λ t. t && b && c) p)
+
+module _ (a b c d : Bool) where
+  pub stop-first : a ≡ false → false ≡ a && b && c && d
+  stop-first p = sym (ap (λ t. t && b && c && d) p)
+
+  pub stop-second : a ≡ true → b ≡ false → false ≡ a && b && c && d
+  stop-second p q = sym (ap₂ (λ t u. t && u && c && d) p q)
+
+  pub stop-third : a ≡ true → b ≡ true → c ≡ false → false ≡ a && b && c && d
+  stop-third p q r = sym (ap₂ (λ t u. t && u && c && d) p q ∙ ap (λ t. t && d) r)
+
+  pub through : {x : Bool} → a ≡ true → b ≡ true → c ≡ true → x ≡ d → x ≡ a && b && c && d
+  through p q r e = e ∙ sym (ap₂ (λ t u. t && u && c && d) p q ∙ ap (λ t. t && d) r)
+
+and-right : (a : Bool) → a && true ≡ a
+and-right true = refl
+and-right false = refl
+
+-- the arm of a match that found d
+pub arm : {B X : Type 0} (f : B → X) {a d : B} {x : X} → a ≡ d → x ≡ f d → x ≡ f a
+arm f p q = q ∙ sym (ap f p)
+
+pub filled : {A : Type 0} (l : List A) → ltb 0 (length l) ≡ not (isEmpty l)
+filled [] = refl
+filled (x ∷ xs) = lt-ltb 0 (suc (length xs)) (omega arith)
+
+-- ---- a test of every word of l, whose first word has the length n
+
+module _ (t : List ℕ → Bool) (l : List ℕ) (n : ℕ) (q : n ≡ firstLength 32 l) where
+  pub all-stop : n < length l → t (take n l) ≡ false → all t (words l) ≡ false
+  unfolding all
+  all-stop h e = ap (all t) (words-more l n q h) ∙ ap (λ b. b && all t (words (take (length l - (n + 1)) (drop (n + 1) l)))) e
+
+  pub all-next : n < length l → t (take n l) ≡ true → all t (words l) ≡ all t (words (take (length l - (n + 1)) (drop (n + 1) l)))
+  unfolding all
+  all-next h e = ap (all t) (words-more l n q h) ∙ ap (λ b. b && all t (words (take (length l - (n + 1)) (drop (n + 1) l)))) e
+
+  pub all-last : length l ≤ n → all t (words l) ≡ t l
+  unfolding all
+  all-last h = ap (all t) (words-last l n q h) ∙ and-right (t l)
+
+-- ---- the words listed on a line
+
+pub list-none : (l : List ℕ) → equals l (bytes "-") ≡ true → list l ≡ []
+unfolding list
+list-none l e = ap (λ b. cond b [] (words l)) e
+
+pub list-words : (l : List ℕ) → equals l (bytes "-") ≡ false → list l ≡ words l
+unfolding list
+list-words l e = ap (λ b. cond b [] (words l)) e
+
+-- ---- the name of a kind
+
+pub kind-among : (w : List ℕ) → ltb (find w kindNames) 61 ≡ among w kindNames
+unfolding kinds kindNames
+kind-among w = sym (among-find w kindNames)

@@ -1,0 +1,87 @@
+-- `argument_in_range` meets its contract. Assumes nothing.
+use mathlib.Core.Path.{refl, sym, ap, _∙_}
+use Rattle.numbers.specs.Numbers.{within}
+use Rattle.instructions.specs.Kinds.{addresses}
+use Rattle.routine.specs.Rows.{value, arg, argumentInRange}
+use Rattle.lines.proofs.CodeLaws.{on-unknown, on-argument, near-at}
+use borrow.Author.Needs.{needs}
+use Rattle.lines.proofs.argument_in_range.Statement.{statement}
+use Rattle.lines.proofs.argument_in_range.Tie as tie
+
+kind-of-requires : tie.Need-kind-of-requires
+kind-of-requires c κs = search needs
+
+returns : tie.Need-returns
+returns c =
+    let line = c .before .before .before .args .line .now in
+    sym (on-unknown (argumentInRange (arg line)) line (c .before .kind-of .ensures) (c .if1 .taken))
+
+word-at-requires : tie.Need-word-at-requires
+word-at-requires c κs = search needs
+
+argument-at-requires : tie.Need-argument-at-requires
+argument-at-requires c κs = search needs
+
+enum-told : tie.Need-enum-told
+enum-told c = search needs
+
+enum-told-2 : tie.Need-enum-told-2
+enum-told-2 c = search needs
+
+is-within-requires : tie.Need-is-within-requires
+is-within-requires c κs = search needs
+
+enum-told-3 : tie.Need-enum-told-3
+enum-told-3 c = search needs
+
+enum-known-r : tie.Need-enum-known-r
+enum-known-r c = search needs
+
+is-within-requires-2 : tie.Need-is-within-requires-2
+is-within-requires-2 c κs =
+    near-at (c .before .before .before .before .before .before .kind-of .result) (c .before .before .before .before .before .if1 .left) (c .before .before .before .argument-at .ensures) (c .before .r .given .1)
+
+returns-2 : tie.Need-returns-2
+unfolding argumentInRange
+returns-2 c =
+    let line = c .before .before .before .before .before .before .before .args .line .now in
+    on-argument (argumentInRange (arg line)) line (c .before .before .before .before .before .kind-of .ensures) (c .before .before .before .before .if1 .left) (c .before .before .argument-at .ensures) (c .enum-told .given .1) refl
+
+returns-3 : tie.Need-returns-3
+unfolding argumentInRange
+returns-3 c =
+    let line = c .before .before .before .before .before .before .before .before .args .line .now in
+    on-argument (argumentInRange (arg line)) line (c .before .before .before .before .before .before .kind-of .ensures) (c .before .before .before .before .before .if1 .left) (c .before .before .before .argument-at .ensures) (c .before .enum-told2 .given .1)
+    (c .is-within .ensures ∙ ap (λ w. within addresses (value w)) (c .before .before .before .before .word-at .ensures))
+
+returns-4 : tie.Need-returns-4
+unfolding argumentInRange
+returns-4 c =
+    let line = c .before .before .before .before .before .before .before .args .line .now in
+    on-argument (argumentInRange (arg line)) line (c .before .before .before .before .before .kind-of .ensures) (c .before .before .before .before .if1 .left) (c .before .before .argument-at .ensures) (c .enum-told3 .given .1) refl
+
+returns-5 : tie.Need-returns-5
+unfolding argumentInRange
+returns-5 c =
+    let line = c .before .before .before .before .before .before .before .before .before .args .line .now in
+    on-argument (argumentInRange (arg line)) line (c .before .before .before .before .before .before .before .kind-of .ensures) (c .before .before .before .before .before .before .if1 .left) (c .before .before .before .before .argument-at .ensures) (c .before .before .r .given .1)
+    (c .is-within2 .ensures ∙ ap (λ w. within (c .before .before .r .given .0 .0) (value w)) (c .before .before .before .before .before .word-at .ensures))
+
+pub argument-in-range-spec : {M : Type 1} → statement M
+argument-in-range-spec =
+    tie.close
+    (tie.spec
+    kind-of-requires
+    returns
+    word-at-requires
+    argument-at-requires
+    enum-told
+    enum-told-2
+    is-within-requires
+    enum-told-3
+    enum-known-r
+    is-within-requires-2
+    returns-2
+    returns-3
+    returns-4
+    returns-5)

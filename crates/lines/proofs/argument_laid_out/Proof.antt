@@ -1,0 +1,105 @@
+-- `argument_laid_out` meets its contract. Assumes nothing.
+use mathlib.Core.Path.{sym, ap, _∙_}
+use mathlib.Core.Bool.{not}
+use Rattle.text.specs.Text.{bytes, equals}
+use Rattle.text.specs.Decimal.{numeral}
+use Rattle.routine.specs.Rows.{isNumeral, arg, argumentLaidOut}
+use Rattle.lines.proofs.CodeLaws.{on-unknown, on-argument}
+use borrow.Author.Needs.{needs}
+use Rattle.lines.proofs.argument_laid_out.Statement.{statement}
+use Rattle.lines.proofs.argument_laid_out.Tie as tie
+
+kind-of-requires : tie.Need-kind-of-requires
+kind-of-requires c κs = search needs
+
+returns : tie.Need-returns
+returns c =
+    let line = c .before .before .before .args .line .now in
+    sym (on-unknown (argumentLaidOut (arg line)) line (c .before .kind-of .ensures) (c .if1 .taken))
+
+word-at-requires : tie.Need-word-at-requires
+word-at-requires c κs = search needs
+
+argument-at-requires : tie.Need-argument-at-requires
+argument-at-requires c κs = search needs
+
+enum-told : tie.Need-enum-told
+enum-told c = search needs
+
+slice-aggregate-same : tie.Need-slice-aggregate-same
+slice-aggregate-same c = search needs
+
+same-requires : tie.Need-same-requires
+same-requires c κs = search needs
+
+enum-told-2 : tie.Need-enum-told-2
+enum-told-2 c = search needs
+
+is-numeral-requires : tie.Need-is-numeral-requires
+is-numeral-requires c κs = search needs
+
+enum-told-3 : tie.Need-enum-told-3
+enum-told-3 c = search needs
+
+slice-aggregate-same-2 : tie.Need-slice-aggregate-same-2
+slice-aggregate-same-2 c = search needs
+
+same-requires-2 : tie.Need-same-requires-2
+same-requires-2 c κs = search needs
+
+enum-told-4 : tie.Need-enum-told-4
+enum-told-4 c = search needs
+
+is-numeral-requires-2 : tie.Need-is-numeral-requires-2
+is-numeral-requires-2 c κs = search needs
+
+returns-2 : tie.Need-returns-2
+unfolding argumentLaidOut
+returns-2 c =
+    let line = c .before .before .before .before .before .before .before .before .before .args .line .now in
+    on-argument (argumentLaidOut (arg line)) line (c .before .before .before .before .before .before .before .kind-of .ensures) (c .before .before .before .before .before .before .if1 .left) (c .before .before .before .before .argument-at .ensures) (c .before .before .enum-told .given .1)
+    (c .same .ensures ∙ ap (λ w. equals w (bytes "-")) (c .before .before .before .before .before .word-at .ensures))
+
+returns-3 : tie.Need-returns-3
+unfolding argumentLaidOut
+returns-3 c =
+    let line = c .before .before .before .before .before .before .before .before .args .line .now in
+    on-argument (argumentLaidOut (arg line)) line (c .before .before .before .before .before .before .kind-of .ensures) (c .before .before .before .before .before .if1 .left) (c .before .before .before .argument-at .ensures) (c .before .enum-told2 .given .1)
+    (c .is-numeral .ensures ∙ ap (λ w. isNumeral (numeral w)) (c .before .before .before .before .word-at .ensures))
+
+returns-4 : tie.Need-returns-4
+unfolding argumentLaidOut
+returns-4 c =
+    let line = c .before .before .before .before .before .before .before .before .before .args .line .now in
+    on-argument (argumentLaidOut (arg line)) line (c .before .before .before .before .before .before .before .kind-of .ensures) (c .before .before .before .before .before .before .if1 .left) (c .before .before .before .before .argument-at .ensures) (c .before .before .enum-told3 .given .1)
+    (ap not (c .same2 .ensures ∙ ap (λ w. equals w (bytes "-")) (c .before .before .before .before .before .word-at .ensures)))
+
+returns-5 : tie.Need-returns-5
+unfolding argumentLaidOut
+returns-5 c =
+    let line = c .before .before .before .before .before .before .before .before .args .line .now in
+    on-argument (argumentLaidOut (arg line)) line (c .before .before .before .before .before .before .kind-of .ensures) (c .before .before .before .before .before .if1 .left) (c .before .before .before .argument-at .ensures) (c .before .enum-told4 .given .1)
+    (c .is-numeral2 .ensures ∙ ap (λ w. isNumeral (numeral w)) (c .before .before .before .before .word-at .ensures))
+
+pub argument-laid-out-spec : {M : Type 1} → statement M
+argument-laid-out-spec =
+    tie.close
+    (tie.spec
+    kind-of-requires
+    returns
+    word-at-requires
+    argument-at-requires
+    enum-told
+    slice-aggregate-same
+    same-requires
+    enum-told-2
+    is-numeral-requires
+    enum-told-3
+    slice-aggregate-same-2
+    same-requires-2
+    enum-told-4
+    is-numeral-requires-2
+    returns-2
+    returns-3
+    returns-4
+    returns-5)

@@ -1,0 +1,114 @@
+-- `names_laid_out` meets its contract. Assumes nothing.
+use mathlib.Core.Path.{refl, ap, _∙_}
+use lib.Dec.{leb, ltb}
+use Rattle.routine.specs.Layout.{list}
+use Rattle.routine.specs.Rows.{namesLaidOut}
+use Rattle.lines.proofs.LineLaws.{arm, filled}
+use borrow.Author.Needs.{needs}
+use Rattle.lines.proofs.names_laid_out.Statement.{statement}
+use Rattle.lines.proofs.names_laid_out.Tie as tie
+
+enum-told : tie.Need-enum-told
+enum-told c = search needs
+
+slice-aggregate-same : tie.Need-slice-aggregate-same
+slice-aggregate-same c = search needs
+
+same-requires : tie.Need-same-requires
+same-requires c κs = search needs
+
+enum-told-2 : tie.Need-enum-told-2
+enum-told-2 c = search needs
+
+enum-told-3 : tie.Need-enum-told-3
+enum-told-3 c = search needs
+
+count-listed-requires : tie.Need-count-listed-requires
+count-listed-requires c κs = search needs
+
+enum-told-4 : tie.Need-enum-told-4
+enum-told-4 c = search needs
+
+count-listed-requires-2 : tie.Need-count-listed-requires-2
+count-listed-requires-2 c κs = search needs
+
+enum-told-5 : tie.Need-enum-told-5
+enum-told-5 c = search needs
+
+enum-told-6 : tie.Need-enum-told-6
+enum-told-6 c = search needs
+
+slice-aggregate-same-2 : tie.Need-slice-aggregate-same-2
+slice-aggregate-same-2 c = search needs
+
+same-requires-2 : tie.Need-same-requires-2
+same-requires-2 c κs = search needs
+
+enum-told-7 : tie.Need-enum-told-7
+enum-told-7 c = search needs
+
+slice-aggregate-same-3 : tie.Need-slice-aggregate-same-3
+slice-aggregate-same-3 c = search needs
+
+same-requires-3 : tie.Need-same-requires-3
+same-requires-3 c κs = search needs
+
+returns : tie.Need-returns
+unfolding namesLaidOut
+returns c =
+    arm (λ s. namesLaidOut s (c .before .before .before .before .before .args .line .now)) (c .before .before .enum-told .given .1) (c .same .ensures)
+
+returns-2 : tie.Need-returns-2
+unfolding namesLaidOut
+returns-2 c = arm (λ s. namesLaidOut s (c .before .before .before .args .line .now)) (c .enum-told2 .given .1) refl
+
+returns-3 : tie.Need-returns-3
+unfolding namesLaidOut
+returns-3 c =
+    arm (λ s. namesLaidOut s (c .before .before .before .before .args .line .now)) (c .before .enum-told3 .given .1) (ap (λ n. leb n 32) (c .count-listed .ensures))
+
+returns-4 : tie.Need-returns-4
+unfolding namesLaidOut
+returns-4 c =
+    arm (λ s. namesLaidOut s (c .before .before .before .before .args .line .now)) (c .before .enum-told4 .given .1) (ap (ltb 0) (c .count-listed2 .ensures) ∙ filled (list (c .before .before .before .before .args .line .now)))
+
+returns-5 : tie.Need-returns-5
+unfolding namesLaidOut
+returns-5 c = arm (λ s. namesLaidOut s (c .before .before .before .args .line .now)) (c .enum-told5 .given .1) refl
+
+returns-6 : tie.Need-returns-6
+unfolding namesLaidOut
+returns-6 c =
+    arm (λ s. namesLaidOut s (c .before .before .before .before .before .args .line .now)) (c .before .before .enum-told6 .given .1) (c .same2 .ensures)
+
+returns-7 : tie.Need-returns-7
+unfolding namesLaidOut
+returns-7 c =
+    arm (λ s. namesLaidOut s (c .before .before .before .before .before .args .line .now)) (c .before .before .enum-told7 .given .1) (c .same3 .ensures)
+
+pub names-laid-out-spec : {M : Type 1} → statement M
+names-laid-out-spec =
+    tie.close
+    (tie.spec
+    enum-told
+    slice-aggregate-same
+    same-requires
+    enum-told-2
+    enum-told-3
+    count-listed-requires
+    enum-told-4
+    count-listed-requires-2
+    enum-told-5
+    enum-told-6
+    slice-aggregate-same-2
+    same-requires-2
+    enum-told-7
+    slice-aggregate-same-3
+    same-requires-3
+    returns
+    returns-2
+    returns-3
+    returns-4
+    returns-5
+    returns-6
+    returns-7)

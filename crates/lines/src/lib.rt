@@ -1,0 +1,410 @@
+// The tests of one line of a routine file. The meaning is in specs/ here and of crate routine.
+use instructions::Argument;
+use numbers::Range;
+use routine::Column;
+use routine::Section;
+ghost use mathlib.Core.Bool.{true, _&&_};
+ghost use mathlib.Core.List.{[]};
+ghost use mathlib.Core.Path.{_≡_};
+ghost use Prim.Native.Nat.{_≤_};
+ghost use lib.ListN.{length, getD};
+ghost use Rattle.text.specs.Text.{words, find, among, all};
+ghost use Rattle.numbers.specs.Numbers.{within};
+ghost use Rattle.instructions.specs.Kinds.{kindNames};
+ghost use Rattle.instructions.specs.declared.Argument.the-variants.{Target};
+ghost use Rattle.routine.specs.declared.Column.the-variants.{Limit};
+ghost use Rattle.routine.specs.Layout.{list};
+ghost use Rattle.routine.specs.Rows.{cellPresent, isKnown, op, arg, onArgument, argumentLaidOut, argumentInRange, argumentNamed, argumentReaches, firstAddresses, atRange, columnInRange, columnLaidOut, onCells, namesLaidOut, valuesLaidOut, codeLaidOut, answerLaidOut, codeInRange, answerInRange, codeNamed, codeReaches};
+ghost use Rattle.lines.specs.Lines.{wordTest};
+
+// The number of kinds.
+const KINDS: usize = 61;
+
+// What a word is tested for: that it is not empty, spells a number, one of a price's cycles or words, a cell, a cell in range, a
+// handle of one of the blocks that are present, a cell that is known, the name of a kind, a name that a primitive may have.
+pub enum WordTest {
+    Filled,
+    Numeral,
+    Cycles,
+    Words,
+    Cell,
+    CellRange,
+    Present(u8),
+    Known,
+    Kind,
+    Primitive,
+}
+
+// ---- words of a line
+
+fn word_passes(t: WordTest, w: &[u8]) -> bool
+    ensures { λ r. ⌜ r ≡ wordTest t (now (w .entry)) ⌝ }
+{
+    match t {
+        WordTest::Filled => 0 < w.len(),
+        WordTest::Numeral => values::is_numeral(w),
+        WordTest::Cycles => values::is_within(
+            Range {
+                low: 0,
+                high: 65535,
+            },
+            w,
+        ),
+        WordTest::Words => values::is_within(Range { low: 0, high: 255 }, w),
+        WordTest::Cell => values::is_cell(w),
+        WordTest::CellRange => values::cell_in_range(w),
+        WordTest::Present(n) => values::cell_present(n as usize, w),
+        WordTest::Known => values::is_known(w),
+        WordTest::Kind => instructions::kind_named(w) < KINDS,
+        WordTest::Primitive => names::is_name(w),
+    }
+}
+
+// Whether all words of a line pass a test.
+pub fn all_words(t: WordTest, line: &[u8]) -> bool
+    ensures { λ r. ⌜ r ≡ all (wordTest t) (words (now (line .entry))) ⌝ }
+{
+    let mut rest = line;
+    let mut e = text::piece_length(rest, b' ');
+    while e < rest.len() {
+        if !word_passes(t, &rest[..e]) {
+            return false;
+        }
+        rest = &rest[e + 1..];
+        e = text::piece_length(rest, b' ');
+    }
+    word_passes(t, rest)
+}
+
+// Whether all words listed on a line pass a test: `-` lists none.
+pub fn all_listed(t: WordTest, line: &[u8]) -> bool
+    ensures { λ r. ⌜ r ≡ all (wordTest t) (list (now (line .entry))) ⌝ }
+{
+    if text::same(line, b"-") {
+        return true;
+    }
+    all_words(t, line)
+}
+
+// The number of words listed on a line.
+pub fn count_listed(line: &[u8]) -> usize
+    ensures { λ r. ⌜ r ≡ length (list (now (line .entry))) ⌝ }
+{
+    if text::same(line, b"-") {
+        return 0;
+    }
+    text::count_words(line)
+}
+
+// Word k listed on a line, counted from 0; no bytes where it lists fewer.
+pub fn listed_at(line: &[u8], k: usize) -> &[u8]
+    ensures { λ r. ⌜ now r ≡ getD (list (now (line .entry))) k [] ⌝ }
+{
+    if text::same(line, b"-") {
+        return &line[..0];
+    }
+    text::word_at(line, k)
+}
+
+// Whether w is one of the words listed on a line.
+pub fn is_listed(w: &[u8], line: &[u8]) -> bool
+    ensures { λ r. ⌜ r ≡ among (now (w .entry)) (list (now (line .entry))) ⌝ }
+{
+    if text::same(line, b"-") {
+        return false;
+    }
+    text::is_among(w, line)
+}
+
+// ---- lines of names
+
+// Row 2 on a line of names.
+pub fn names_laid_out(s: Section, line: &[u8]) -> bool
+    ensures { λ r. ⌜ r ≡ namesLaidOut s (now (line .entry)) ⌝ }
+{
+    match s {
+        Section::Limits => text::same(line, b"BUDGET TICK"),
+        Section::Kinds => true,
+        Section::Primitives => count_listed(line) <= 32,
+        Section::Cells => 0 < count_listed(line),
+        Section::Fields => true,
+        Section::Instructions => text::same(line, b"AT OP ARG"),
+        Section::Answers => text::same(line, b"ANSWER"),
+    }
+}
+
+// ---- lines of values
+
+fn column_laid_out(c: Column, line: &[u8]) -> bool
+    ensures { λ r. ⌜ r ≡ columnLaidOut c (list (now (line .entry))) ⌝ }
+{
+    match c {
+        Column::Limit => all_listed(WordTest::Numeral, line),
+        Column::Cycles => all_listed(WordTest::Numeral, line),
+        Column::Words => all_listed(WordTest::Numeral, line),
+        Column::Cell => all_listed(WordTest::Cell, line),
+    }
+}
+
+// Row 2 on a line of values, where `names` is the line of their names.
+pub fn values_laid_out(c: Column, names: &[u8], line: &[u8]) -> bool
+    ensures { λ r. ⌜ r ≡ valuesLaidOut c (list (now (names .entry))) (list (now (line .entry))) ⌝ }
+{
+    if count_listed(line) == count_listed(names) {
+        return column_laid_out(c, line);
+    }
+    false
+}
+
+// BUDGET, then TICK.
+fn limits_in_range(line: &[u8]) -> bool
+    ensures { λ r. ⌜ r ≡ columnInRange Limit (list (now (line .entry))) ⌝ }
+{
+    let budget = listed_at(line, 0);
+    let tick = listed_at(line, 1);
+    if values::is_within(
+        Range {
+            low: 1,
+            high: 1000000,
+        },
+        budget,
+    ) {
+        return values::is_within(
+            Range {
+                low: 1,
+                high: 4000000000,
+            },
+            tick,
+        );
+    }
+    false
+}
+
+// Row 3 on a line of values.
+pub fn values_in_range(c: Column, line: &[u8]) -> bool
+    ensures { λ r. ⌜ r ≡ columnInRange c (list (now (line .entry))) ⌝ }
+{
+    match c {
+        Column::Limit => limits_in_range(line),
+        Column::Cycles => all_listed(WordTest::Cycles, line),
+        Column::Words => all_listed(WordTest::Words, line),
+        Column::Cell => all_listed(WordTest::CellRange, line),
+    }
+}
+
+// Row 4 on a line of values, where n blocks are present.
+pub fn values_present(c: Column, n: usize, line: &[u8]) -> bool
+    requires { ⌜ n ≤ 8 ⌝ }
+    ensures { λ r. ⌜ r ≡ onCells c (cellPresent n) (list (now (line .entry))) ⌝ }
+{
+    match c {
+        Column::Limit => true,
+        Column::Cycles => true,
+        Column::Words => true,
+        Column::Cell => all_listed(WordTest::Present(n as u8), line),
+    }
+}
+
+// Row 11 on a line of values.
+pub fn values_known(c: Column, line: &[u8]) -> bool
+    ensures { λ r. ⌜ r ≡ onCells c isKnown (list (now (line .entry))) ⌝ }
+{
+    match c {
+        Column::Limit => true,
+        Column::Cycles => true,
+        Column::Words => true,
+        Column::Cell => all_listed(WordTest::Known, line),
+    }
+}
+
+// ---- code lines
+
+// The kind that OP names, by its place in the table; 61 where it names none.
+fn kind_of(line: &[u8]) -> usize
+    ensures { λ r. ⌜ r ≡ find (op (now (line .entry))) kindNames ⌝ }
+{
+    instructions::kind_named(text::word_at(line, 1))
+}
+
+fn argument_laid_out(line: &[u8]) -> bool
+    ensures { λ r. ⌜ r ≡ onArgument (argumentLaidOut (arg (now (line .entry)))) (now (line .entry)) ⌝ }
+{
+    let k = kind_of(line);
+    if KINDS <= k {
+        return true;
+    }
+    let w = text::word_at(line, 2);
+    match instructions::argument_at(k) {
+        Argument::Absent => text::same(w, b"-"),
+        Argument::Target => values::is_numeral(w),
+        Argument::Primitive => !text::same(w, b"-"),
+        Argument::Within(_) => values::is_numeral(w),
+    }
+}
+
+// Row 2 on code line k.
+pub fn code_laid_out(k: usize, line: &[u8]) -> bool
+    ensures { λ r. ⌜ r ≡ codeLaidOut k (now (line .entry)) ⌝ }
+{
+    if 1024 <= k {
+        return false;
+    }
+    if text::count_words(line) != 3 {
+        return false;
+    }
+    if values::is_numeral(text::word_at(line, 0)) {
+        return argument_laid_out(line);
+    }
+    false
+}
+
+fn argument_in_range(line: &[u8]) -> bool
+    ensures { λ r. ⌜ r ≡ onArgument (argumentInRange (arg (now (line .entry)))) (now (line .entry)) ⌝ }
+{
+    let k = kind_of(line);
+    if KINDS <= k {
+        return true;
+    }
+    let w = text::word_at(line, 2);
+    match instructions::argument_at(k) {
+        Argument::Absent => true,
+        Argument::Target => values::is_within(
+            Range {
+                low: 0,
+                high: 62000,
+            },
+            w,
+        ),
+        Argument::Primitive => true,
+        Argument::Within(r) => values::is_within(r, w),
+    }
+}
+
+// "AT starts anywhere from 0 to 60,000"; "a later AT outside 0 to 62,000 is refusal 3"
+fn at_range(k: usize) -> Range
+    ensures { λ r. ⌜ r ≡ atRange k ⌝ }
+{
+    if k == 0 {
+        return Range {
+            low: 0,
+            high: 60000,
+        };
+    }
+    Range {
+        low: 0,
+        high: 62000,
+    }
+}
+
+// Row 3 on code line k.
+pub fn code_in_range(k: usize, line: &[u8]) -> bool
+    ensures { λ r. ⌜ r ≡ codeInRange k (now (line .entry)) ⌝ }
+{
+    let at = text::word_at(line, 0);
+    if values::is_within(at_range(k), at) {
+        return argument_in_range(line);
+    }
+    false
+}
+
+// Whether OP is known, and the primitive that ARG names is listed.
+fn argument_named(primitives: &[u8], line: &[u8]) -> bool
+    ensures { λ r. ⌜ r ≡ (among (op (now (line .entry))) kindNames && onArgument (argumentNamed (list (now (primitives .entry))) (arg (now (line .entry)))) (now (line .entry))) ⌝ }
+{
+    let k = kind_of(line);
+    if KINDS <= k {
+        return false;
+    }
+    let w = text::word_at(line, 2);
+    match instructions::argument_at(k) {
+        Argument::Absent => true,
+        Argument::Target => true,
+        Argument::Primitive => is_listed(w, primitives),
+        Argument::Within(_) => true,
+    }
+}
+
+// Row 4 on code line k, where the first address is `first` and `primitives` is the line of their names.
+pub fn code_named(first: i64, primitives: &[u8], k: usize, line: &[u8]) -> bool
+    requires { ⌜ within firstAddresses first ≡ true ⌝ }
+    requires { ⌜ k ≤ 32768 ⌝ }
+    ensures { λ r. ⌜ r ≡ codeNamed first (list (now (primitives .entry))) k (now (line .entry)) ⌝ }
+{
+    let next = first + (k as i64);
+    let at = text::word_at(line, 0);
+    if values::is_within(
+        Range {
+            low: next,
+            high: next,
+        },
+        at,
+    ) {
+        return argument_named(primitives, line);
+    }
+    false
+}
+
+// Row 5 on a code line, where `kinds` is the line of the kinds that have a price.
+pub fn code_priced(kinds: &[u8], line: &[u8]) -> bool
+    ensures { λ r. ⌜ r ≡ among (op (now (line .entry))) (list (now (kinds .entry))) ⌝ }
+{
+    let op = text::word_at(line, 1);
+    is_listed(op, kinds)
+}
+
+// Whether w is one of the n addresses from `first` on.
+fn is_reached(first: i64, n: usize, w: &[u8]) -> bool
+    requires { ⌜ within firstAddresses first ≡ true ⌝ }
+    requires { ⌜ n ≤ 32768 ⌝ }
+    ensures { λ r. ⌜ r ≡ argumentReaches first n (now (w .entry)) Target ⌝ }
+{
+    if n == 0 {
+        return false;
+    }
+    let last = first + ((n - 1) as i64);
+    values::is_within(
+        Range {
+            low: first,
+            high: last,
+        },
+        w,
+    )
+}
+
+// Row 6 on a code line, where the code has n addresses from `first` on.
+pub fn code_reaches(first: i64, n: usize, line: &[u8]) -> bool
+    requires { ⌜ within firstAddresses first ≡ true ⌝ }
+    requires { ⌜ n ≤ 32768 ⌝ }
+    ensures { λ r. ⌜ r ≡ codeReaches first n (now (line .entry)) ⌝ }
+{
+    let k = kind_of(line);
+    if KINDS <= k {
+        return true;
+    }
+    let w = text::word_at(line, 2);
+    match instructions::argument_at(k) {
+        Argument::Absent => true,
+        Argument::Target => is_reached(first, n, w),
+        Argument::Primitive => true,
+        Argument::Within(_) => true,
+    }
+}
+
+// ---- answers
+
+// Row 2 on answer k.
+pub fn answer_laid_out(k: usize, line: &[u8]) -> bool
+    ensures { λ r. ⌜ r ≡ answerLaidOut k (now (line .entry)) ⌝ }
+{
+    if 64 <= k {
+        return false;
+    }
+    values::is_numeral(line)
+}
+
+// Row 3 on an answer.
+pub fn answer_in_range(line: &[u8]) -> bool
+    ensures { λ r. ⌜ r ≡ answerInRange (now (line .entry)) ⌝ }
+{
+    values::is_within(values::number_range(), line)
+}
