@@ -6,9 +6,9 @@ use Rattle.text.specs.Text.{isEmpty, among}
 use Rattle.text.specs.Decimal.{numeral}
 use Rattle.numbers.specs.Numbers.{within}
 use Rattle.instructions.specs.Kinds.{kindNames}
-use Rattle.routine.specs.Rows.{isNumeral, value, cellWord, isCell, cellInRange, cellPresent, isKnown, cycleCounts, wordCounts}
+use Rattle.routine.specs.Rows.{isNumeral, value, cellWord, isCell, cellInRange, cellPresent, isKnown, isName, cycleCounts, wordCounts}
 use Rattle.lines.specs.declared.WordTest.{WordTest}
-use Rattle.lines.specs.declared.WordTest.the-variants.{Filled, Numeral, Cycles, Words, Cell, CellRange, Present, Known, Kind}
+use Rattle.lines.specs.declared.WordTest.the-variants.{Filled, Numeral, Cycles, Words, Cell, CellRange, Present, Known, Kind, Primitive}
 
 -- each test as the definition of the routine file has it
 unfoldable pub wordTest : WordTest → List ℕ → Bool
@@ -21,3 +21,4 @@ wordTest CellRange w = cellInRange (cellWord w)
 wordTest (Present n) w = cellPresent n (cellWord w)
 wordTest Known w = isKnown (cellWord w)
 wordTest Kind w = among w kindNames
+wordTest Primitive w = isName w

@@ -17,8 +17,11 @@ ghost use Rattle.routine.specs.Layout.{list};
 ghost use Rattle.routine.specs.Rows.{cellPresent, isKnown, op, arg, onArgument, argumentLaidOut, argumentInRange, argumentNamed, argumentReaches, firstAddresses, atRange, columnInRange, columnLaidOut, onCells, namesLaidOut, valuesLaidOut, codeLaidOut, answerLaidOut, codeInRange, answerInRange, codeNamed, codeReaches};
 ghost use Rattle.lines.specs.Lines.{wordTest};
 
+// The number of kinds.
+const KINDS: usize = 61;
+
 // What a word is tested for: that it is not empty, spells a number, one of a price's cycles or words, a cell, a cell in range, a
-// handle of one of the blocks that are present, a cell that is known, the name of a kind.
+// handle of one of the blocks that are present, a cell that is known, the name of a kind, a name that a primitive may have.
 pub enum WordTest {
     Filled,
     Numeral,
@@ -29,6 +32,7 @@ pub enum WordTest {
     Present(u8),
     Known,
     Kind,
+    Primitive,
 }
 
 // ---- words of a line
@@ -51,7 +55,8 @@ fn word_passes(t: WordTest, w: &[u8]) -> bool
         WordTest::CellRange => values::cell_in_range(w),
         WordTest::Present(n) => values::cell_present(n as usize, w),
         WordTest::Known => values::is_known(w),
-        WordTest::Kind => instructions::kind_named(w) < 61,
+        WordTest::Kind => instructions::kind_named(w) < KINDS,
+        WordTest::Primitive => names::is_name(w),
     }
 }
 
@@ -225,7 +230,7 @@ fn argument_laid_out(line: &[u8]) -> bool
     ensures { λ r. ⌜ r ≡ onArgument (argumentLaidOut (arg (now (line .entry)))) (now (line .entry)) ⌝ }
 {
     let k = kind_of(line);
-    if 61 <= k {
+    if KINDS <= k {
         return true;
     }
     let w = text::word_at(line, 2);
@@ -257,7 +262,7 @@ fn argument_in_range(line: &[u8]) -> bool
     ensures { λ r. ⌜ r ≡ onArgument (argumentInRange (arg (now (line .entry)))) (now (line .entry)) ⌝ }
 {
     let k = kind_of(line);
-    if 61 <= k {
+    if KINDS <= k {
         return true;
     }
     let w = text::word_at(line, 2);
@@ -307,7 +312,7 @@ fn argument_named(primitives: &[u8], line: &[u8]) -> bool
     ensures { λ r. ⌜ r ≡ (among (op (now (line .entry))) kindNames && onArgument (argumentNamed (list (now (primitives .entry))) (arg (now (line .entry)))) (now (line .entry))) ⌝ }
 {
     let k = kind_of(line);
-    if 61 <= k {
+    if KINDS <= k {
         return false;
     }
     let w = text::word_at(line, 2);
@@ -373,7 +378,7 @@ pub fn code_reaches(first: i64, n: usize, line: &[u8]) -> bool
     ensures { λ r. ⌜ r ≡ codeReaches first n (now (line .entry)) ⌝ }
 {
     let k = kind_of(line);
-    if 61 <= k {
+    if KINDS <= k {
         return true;
     }
     let w = text::word_at(line, 2);

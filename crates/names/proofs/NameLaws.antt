@@ -1,0 +1,184 @@
+-- Laws of the names on a line, as the code scans them: word by word for repeated names and for the names of the cells, byte by byte
+-- for a primitive's name, and a field's name spelt out. Assumes nothing.
+use Prim.Native.Nat.{ℕ, zero, suc, _+_, _-_, _<_, _≤_, _/_, _%_}
+use mathlib.Core.Path.{_≡_, refl, sym, ap, _∙_}
+use mathlib.Core.Bool.{Bool, true, false, cond, _&&_, and-false}
+use mathlib.Core.List.{List, [], _∷_}
+use native.Mathlib.Omega.{arith}
+use lib.Dec.{eqb, ltb}
+use lib.ListN.{length, getD, take, drop, drop-of-length-le}
+use lib.Seq.{drop-cons, take-all, take-nil}
+use borrow.Author.Tests.{lt-ltb, le-ltb, ltb-true, ltb-false}
+use Rattle.text.specs.Text.{equals, onto, split, words, among, distinct, all}
+use Rattle.text.specs.Decimal.{digits, decimal}
+use Rattle.text.proofs.ScanLaws.{firstLength, cut-more, cut-last}
+use Rattle.routine.specs.Rows.{isCapital, inName, isName, equalLists, isField}
+
+-- what follows the first n bytes of l and the byte that ends them, as the code takes it: `&l[n + 1..]`
+abbrev pub past : ℕ → List ℕ → List ℕ
+past n l = take (length l - (n + 1)) (drop (n + 1) l)
+
+-- a first word, where there may be no other
+first-cut : (l : List ℕ) (n : ℕ) → n ≡ firstLength 32 l → (ps : List (List ℕ)) × (n ≤ length l) × (words l ≡ take n l ∷ ps)
+unfolding words
+first-cut l n q = go (ltb n (length l)) refl
+  where
+    go : (b : Bool) → ltb n (length l) ≡ b → (ps : List (List ℕ)) × (n ≤ length l) × (split 32 l ≡ take n l ∷ ps)
+    go true e = let h = ltb-true n (length l) e in (split 32 (past n l), omega arith, cut-more 32 l n q h)
+    go false e =
+        let h = ltb-false n (length l) e in
+        let s : split 32 l ≡ l ∷ [] = cut-last 32 l n q h in
+        let k : firstLength 32 l ≡ length l = ap (λ (ps : List (List ℕ)). length (getD ps 0 [])) s in
+        ([], omega arith, s ∙ ap (λ (w : List ℕ). w ∷ []) (sym (take-all n l h)))
+
+pub first-within : (l : List ℕ) (n : ℕ) → n ≡ firstLength 32 l → n ≤ length l
+first-within l n q = first-cut l n q .1
+
+-- ---- a word among those of l
+
+pub among-here : (w l : List ℕ) (n : ℕ) → n ≡ firstLength 32 l → n < length l → equals w (take n l) ≡ true → among w (words l) ≡ true
+unfolding among words
+among-here w l n q h e = rw (cut-more 32 l n q h, e) refl
+
+pub among-next : (w l : List ℕ) (n : ℕ) → n ≡ firstLength 32 l → n < length l → equals w (take n l) ≡ false → among w (words l) ≡ among w (words (past n l))
+unfolding among words
+among-next w l n q h e = rw (cut-more 32 l n q h, e) refl
+
+cond-self : (b : Bool) → cond b true false ≡ b
+cond-self true = refl
+cond-self false = refl
+
+pub among-last : (w l : List ℕ) (n : ℕ) → n ≡ firstLength 32 l → length l ≤ n → among w (words l) ≡ equals w l
+unfolding among words
+among-last w l n q h = rw (cut-last 32 l n q h) (cond-self (equals w l))
+
+-- ---- whether a word stands twice
+
+pub distinct-again : (l : List ℕ) (n : ℕ) → n ≡ firstLength 32 l → n < length l → among (take n l) (words (past n l)) ≡ true → distinct (words l) ≡ false
+unfolding distinct words
+distinct-again l n q h e = rw (cut-more 32 l n q h, e) refl
+
+pub distinct-next : (l : List ℕ) (n : ℕ) → n ≡ firstLength 32 l → n < length l → among (take n l) (words (past n l)) ≡ false
+    → distinct (words l) ≡ distinct (words (past n l))
+unfolding distinct words
+distinct-next l n q h e = rw (cut-more 32 l n q h, e) refl
+
+pub distinct-last : (l : List ℕ) (n : ℕ) → n ≡ firstLength 32 l → length l ≤ n → distinct (words l) ≡ true
+unfolding distinct among words
+distinct-last l n q h = rw (cut-last 32 l n q h) refl
+
+-- ---- a primitive's name
+
+pub name-empty : (w : List ℕ) → length w ≡ 0 → isName w ≡ false
+unfolding isName
+name-empty [] h = refl
+name-empty (c ∷ cs) h = absurd (omega arith)
+
+pub name-long : (w : List ℕ) → 8 < length w → isName w ≡ false
+unfolding isName
+name-long [] h = refl
+name-long (c ∷ cs) h = rw (le-ltb (length cs) 8 (omega arith)) (and-false (isCapital c && all inName cs))
+
+pub name-first : (w : List ℕ) → isCapital (getD w 0 0) ≡ false → isName w ≡ false
+unfolding isName
+name-first [] e = refl
+name-first (c ∷ cs) e = rw e refl
+
+pub name-rest : (w : List ℕ) → 0 < length w → length w ≤ 8 → isCapital (getD w 0 0) ≡ true → isName w ≡ all inName (drop 1 w)
+unfolding isName
+name-rest [] p h e = absurd (omega arith)
+name-rest (c ∷ cs) p h e = rw (e, lt-ltb (length cs) 8 (omega arith)) (go (all inName cs))
+  where
+    go : (b : Bool) → (b && true) ≡ b
+    go true = refl
+    go false = refl
+
+pub all-fails : (t : ℕ → Bool) (w : List ℕ) (i : ℕ) → i < length w → t (getD w i 0) ≡ false → all t (drop i w) ≡ false
+unfolding all
+all-fails t w i h e = rw (drop-cons w i 0 h, e) refl
+
+pub all-passes : (t : ℕ → Bool) (w : List ℕ) (i : ℕ) → i < length w → t (getD w i 0) ≡ true → all t (drop i w) ≡ all t (drop (suc i) w)
+unfolding all
+all-passes t w i h e = rw (drop-cons w i 0 h, e) refl
+
+pub all-end : (t : ℕ → Bool) (w : List ℕ) (i : ℕ) → length w ≤ i → all t (drop i w) ≡ true
+unfolding all
+all-end t w i h = rw (drop-of-length-le w h) refl
+
+-- ---- the words of l as the first of those of o
+
+abbrev pub leads : List ℕ → List ℕ → Bool
+leads l o = equalLists (words l) (take (length (words l)) (words o))
+
+-- a text has a word
+onto-some : (x : ℕ) (ps : List (List ℕ)) → equalLists (onto x ps) [] ≡ false
+unfolding equalLists
+onto-some x [] = refl
+onto-some x (p ∷ ps) = refl
+
+split-some : (c : ℕ) (s : List ℕ) → equalLists (split c s) [] ≡ false
+unfolding split equalLists
+split-some c [] = refl
+split-some c (x ∷ xs) = go (eqb x c)
+  where
+    go : (b : Bool) → equalLists (cond b ([] ∷ split c xs) (onto x (split c xs))) [] ≡ false
+    go true = refl
+    go false = onto-some x (split c xs)
+
+short : (x o : List ℕ) (xs : List (List ℕ)) → equalLists xs [] ≡ false → equalLists (x ∷ xs) (take (suc (length xs)) (o ∷ [])) ≡ false
+unfolding equalLists
+short x o xs e =
+    let t : take (length xs) [] ≡ [] = take-nil (length xs) in
+    ap (λ (ys : List (List ℕ)). equals x o && equalLists xs ys) t ∙ ap (λ (b : Bool). equals x o && b) e ∙ and-false (equals x o)
+
+pub leads-short : (l o : List ℕ) (n m : ℕ) → n ≡ firstLength 32 l → n < length l → m ≡ firstLength 32 o → length o ≤ m → leads l o ≡ false
+unfolding words equalLists
+leads-short l o n m q h p k = rw (cut-more 32 l n q h, cut-last 32 o m p k) (short (take n l) o (split 32 (past n l)) (split-some 32 (past n l)))
+
+pub leads-differ : (l o : List ℕ) (n m : ℕ) → n ≡ firstLength 32 l → n < length l → m ≡ firstLength 32 o → m < length o
+    → equals (take n l) (take m o) ≡ false → leads l o ≡ false
+unfolding words equalLists
+leads-differ l o n m q h p k e = rw (cut-more 32 l n q h, cut-more 32 o m p k, e) refl
+
+pub leads-agree : (l o : List ℕ) (n m : ℕ) → n ≡ firstLength 32 l → n < length l → m ≡ firstLength 32 o → m < length o
+    → equals (take n l) (take m o) ≡ true → leads l o ≡ leads (past n l) (past m o)
+unfolding words equalLists
+leads-agree l o n m q h p k e = rw (cut-more 32 l n q h, cut-more 32 o m p k, e) refl
+
+pub leads-last : (l o : List ℕ) (n m : ℕ) → n ≡ firstLength 32 l → length l ≤ n → m ≡ firstLength 32 o → leads l o ≡ equals l (take m o)
+unfolding words equalLists
+leads-last l o n m q h p = let f = first-cut o m p in rw (cut-last 32 l n q h, f .2) (go (equals l (take m o)))
+  where
+    go : (b : Bool) → (b && true) ≡ b
+    go true = refl
+    go false = refl
+
+-- ---- a field's name
+
+decimal-digit : (n : ℕ) → n < 10 → decimal n ≡ (48 + n) ∷ []
+unfolding decimal digits
+decimal-digit n h = rw (lt-ltb n 10 h) refl
+
+decimal-teen : (n : ℕ) → 10 ≤ n → n < 20 → decimal n ≡ 49 ∷ (38 + n) ∷ []
+unfolding decimal digits
+decimal-teen zero h k = absurd (omega arith)
+decimal-teen (suc m) h k =
+    let d : suc m / 10 ≡ 1 = omega arith in
+    let r : 48 + suc m % 10 ≡ 38 + suc m = omega arith in
+    rw (le-ltb (suc m) 10 h, d, r) refl
+
+pub no-block : (k n : ℕ) (w : List ℕ) → 8 ≤ k → isField k n w ≡ false
+unfolding isField
+no-block k n w h = rw (le-ltb k 8 h) refl
+
+pub no-place : (k n : ℕ) (w : List ℕ) → 16 ≤ n → isField k n w ≡ false
+unfolding isField
+no-place k n w h = rw (le-ltb n 16 h, and-false (ltb k 8)) refl
+
+pub short-field : (k n : ℕ) (w : List ℕ) → k < 8 → n < 10 → isField k n w ≡ equals w (66 ∷ (48 + k) ∷ 46 ∷ (48 + n) ∷ [])
+unfolding isField
+short-field k n w h l = rw (lt-ltb k 8 h, lt-ltb n 16 (omega arith), decimal-digit k (omega arith), decimal-digit n l) refl
+
+pub long-field : (k n : ℕ) (w : List ℕ) → k < 8 → 10 ≤ n → n < 16 → isField k n w ≡ equals w (66 ∷ (48 + k) ∷ 46 ∷ 49 ∷ (38 + n) ∷ [])
+unfolding isField
+long-field k n w h l u = rw (lt-ltb k 8 h, lt-ltb n 16 u, decimal-digit k (omega arith), decimal-teen n l (omega arith)) refl

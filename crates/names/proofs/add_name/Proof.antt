@@ -1,0 +1,102 @@
+-- `add_name` meets its contract. Assumes nothing.
+use mathlib.Core.Path.{_≡_, sym, _∙_}
+use mathlib.Core.Bool.{false}
+use mathlib.Core.Logic.{⊎-elim}
+use native.Mathlib.Omega.{arith}
+use lib.ListN.{length, take}
+use Rattle.names.proofs.BlockLaws.{block-below, place-below, own-total, continues, continues-none, continues-last, field-added, block-added, none-added}
+use borrow.Author.Needs.{needs}
+use Rattle.names.proofs.add_name.Statement.{statement}
+use Rattle.names.proofs.add_name.Tie as tie
+use Rattle.names.proofs.add_name.Reads as reads
+use Rattle.names.proofs.add_name.Lts as lts
+use Rattle.names.proofs.is_field.Reads as is-field-reads
+
+sub-last : tie.Need-sub-last
+sub-last c = search needs
+
+array-read-n : tie.Need-array-read-n
+array-read-n c = search needs
+
+cast-is-field : tie.Need-cast-is-field
+cast-is-field c = search needs
+
+is-field-requires : tie.Need-is-field-requires
+is-field-requires c κs = search needs
+
+add-sizes : tie.Need-add-sizes
+add-sizes c =
+    let x = place-below _ _ _ (sym (c .before .is-field .ensures) ∙ c .if2 .taken) in
+    omega arith
+
+array-write-sizes : tie.Need-array-write-sizes
+array-write-sizes c = search needs
+
+add-t17 : tie.Need-add-t17
+add-t17 c =
+    let s = c .before .before .before .before .before .before in
+    let t = own-total (s .args .b) (s .pre) in
+    omega arith
+
+returns : tie.Need-returns
+returns c =
+    let s = c .before .before .before .before .before .before in
+    let n : length (s .args .b .sizes) ≡ 8 = search needs in
+    field-added (s .args .b) _ (s .pre) n (c .before .before .before .if1 .taken) (sym (c .before .before .is-field .ensures) ∙ c .before .if2 .taken)
+
+is-field-requires-2 : tie.Need-is-field-requires-2
+is-field-requires-2 c κs = search needs
+
+-- w does not name the next field of the last block
+apart : (c : lts.Joined1 (is-field-reads.Asked, is-field-reads.Learnt) reads.Pre reads.Post)
+    → continues 0 (take (c .before .before .before .args .b .count) (c .before .before .before .args .b .sizes)) (c .before .before .before .args .w .now) ≡ false
+apart c =
+    let s = c .before .before .before in
+    let n : length (s .args .b .sizes) ≡ 8 = search needs in
+    ⊎-elim
+    (λ t. continues-last (s .args .b .sizes) (s .args .w .now) (s .args .b .count) (t .0 .taken) (omega (arith, s .pre .few)) ∙ sym (t .1 .ensures) ∙ t .2 .left)
+    (λ t. continues-none (s .args .b .sizes) (s .args .w .now) (s .args .b .count) (t .left))
+    (c .if1 .came)
+
+array-write-sizes-2 : tie.Need-array-write-sizes-2
+array-write-sizes-2 c = block-below _ _ _ (sym (c .before .is-field2 .ensures) ∙ c .if3 .taken)
+
+add-t22 : tie.Need-add-t22
+add-t22 c = search needs
+
+add-t23 : tie.Need-add-t23
+add-t23 c =
+    let s = c .before .before .before .before .before .before in
+    let t = own-total (s .args .b) (s .pre) in
+    omega arith
+
+returns-2 : tie.Need-returns-2
+returns-2 c =
+    let s = c .before .before .before .before .before .before in
+    let n : length (s .args .b .sizes) ≡ 8 = search needs in
+    block-added (s .args .b) _ (s .pre) n (apart (c .before .before .before)) (sym (c .before .before .is-field2 .ensures) ∙ c .before .if3 .taken)
+
+returns-3 : tie.Need-returns-3
+returns-3 c =
+    let s = c .before .before .before .before .before in
+    let n : length (s .args .b .sizes) ≡ 8 = search needs in
+    none-added (s .args .b) _ (s .pre) n (apart (c .before .before)) (sym (c .before .is-field2 .ensures) ∙ c .if3 .left)
+
+pub add-name-spec : {M : Type 1} → statement M
+add-name-spec =
+    tie.close
+    (tie.spec
+    sub-last
+    array-read-n
+    cast-is-field
+    is-field-requires
+    add-sizes
+    array-write-sizes
+    add-t17
+    returns
+    is-field-requires-2
+    array-write-sizes-2
+    add-t22
+    add-t23
+    returns-2
+    returns-3)

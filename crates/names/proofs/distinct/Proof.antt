@@ -1,0 +1,89 @@
+-- `distinct` meets its contract. The loop's invariant: e is the length of the first word of what is left, and no word of the line
+-- stands twice if none of those left does. The measure is the length of what is left. Assumes nothing.
+use Prim.Native.Nat.{_≤_}
+use mathlib.Core.Path.{_≡_, refl, sym, _∙_}
+use native.Mathlib.Omega.{arith}
+use native.Mathlib.Nat.{le-of-lt}
+use lib.ListN.{length}
+use lib.Seq.{length-take-le}
+use borrow.Author.Needs.{needs}
+use Rattle.text.specs.Text.{words, distinct}
+use Rattle.text.proofs.ScanLaws.{firstLength}
+use Rattle.names.proofs.NameLaws.{distinct-again, distinct-next, distinct-last}
+use Rattle.names.proofs.distinct.Statement.{statement}
+use Rattle.names.proofs.distinct.Tie as tie
+
+abbrev Inv-loop : tie.InvT-loop
+Inv-loop line rest₀ e₀ rest e = (e ≡ firstLength 32 rest) × (length rest ≤ length line) × (distinct (words line) ≡ distinct (words rest))
+
+abbrev μ-loop : tie.MeasureT-loop
+μ-loop line rest₀ e₀ rest e = length rest
+
+piece-length-requires : tie.Need-piece-length-requires Inv-loop μ-loop
+piece-length-requires c κs = search needs
+
+loop-holds : tie.Need-loop-holds Inv-loop μ-loop
+loop-holds c = (c .piece-length .ensures, omega arith, refl)
+
+slice-aggregate-w : tie.Need-slice-aggregate-w Inv-loop μ-loop
+slice-aggregate-w c = sym (length-take-le _ _ (le-of-lt (c .before .loop-test .taken)))
+
+add-rest : tie.Need-add-rest Inv-loop μ-loop
+add-rest c = search needs
+
+sub-rest : tie.Need-sub-rest Inv-loop μ-loop
+sub-rest c = search needs
+
+part-rest-start : tie.Need-part-rest-start Inv-loop μ-loop
+part-rest-start c = search needs
+
+part-rest-end : tie.Need-part-rest-end Inv-loop μ-loop
+part-rest-end c = search needs
+
+repeated-requires : tie.Need-repeated-requires Inv-loop μ-loop
+repeated-requires c κs = search needs
+
+returns : tie.Need-returns Inv-loop μ-loop
+returns c =
+    let t = c .before .before .before .before in
+    sym (t .before .loop .inv .2 ∙ distinct-again _ _ (t .before .loop .inv .0) (t .loop-test .taken) (sym (c .before .repeated .ensures) ∙ c .if1 .taken))
+
+piece-length-requires-2 : tie.Need-piece-length-requires-2 Inv-loop μ-loop
+piece-length-requires-2 c κs = search needs
+
+loop-less : tie.Need-loop-less Inv-loop μ-loop
+loop-less c = search needs
+
+loop-again : tie.Need-loop-again Inv-loop μ-loop
+loop-again c =
+    let j = c .before in
+    let t = j .before .before .before .before in (
+      c .piece-length2 .ensures,
+      omega arith,
+      t .before .loop .inv .2 ∙ distinct-next _ _ (t .before .loop .inv .0) (t .loop-test .taken) (sym (j .before .repeated .ensures) ∙ j .if1 .left),
+    )
+
+returns-2 : tie.Need-returns-2 Inv-loop μ-loop
+returns-2 c =
+    let l = c .before in
+    sym (l .loop .inv .2 ∙ distinct-last _ _ (l .loop .inv .0) (c .loop-test .left))
+
+pub distinct-spec : {M : Type 1} → statement M
+distinct-spec =
+    tie.close
+    (tie.spec
+    Inv-loop
+    μ-loop
+    piece-length-requires
+    loop-holds
+    slice-aggregate-w
+    add-rest
+    sub-rest
+    part-rest-start
+    part-rest-end
+    repeated-requires
+    returns
+    piece-length-requires-2
+    loop-less
+    loop-again
+    returns-2)

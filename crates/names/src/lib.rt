@@ -1,0 +1,205 @@
+// The names on the lines of a routine file. The meaning is in the specs of `routine`.
+ghost use mathlib.Core.Path.{_≡_};
+ghost use lib.ListN.{length, take};
+ghost use Rattle.text.specs.Text.{words, among, distinct};
+ghost use Rattle.text.specs.Decimal.{isDigit};
+ghost use Rattle.routine.specs.Rows.{isCapital, inName, isName, equalLists, cellNames, isField, blockSizes};
+ghost use Rattle.routine.specs.Layout.{list};
+ghost use Rattle.names.specs.Names.{BlocksOf, added};
+
+// Whether w is one of the words of text.
+fn repeated(w: &[u8], text: &[u8]) -> bool
+    ensures { λ r. ⌜ r ≡ among (now (w .entry)) (words (now (text .entry))) ⌝ }
+{
+    let mut rest = text;
+    let mut e = text::piece_length(rest, b' ');
+    while e < rest.len() {
+        if text::same(w, &rest[..e]) {
+            return true;
+        }
+        rest = &rest[e + 1..];
+        e = text::piece_length(rest, b' ');
+    }
+    text::same(w, rest)
+}
+
+// Whether no word of line stands twice.
+pub fn distinct(line: &[u8]) -> bool
+    ensures { λ r. ⌜ r ≡ distinct (words (now (line .entry))) ⌝ }
+{
+    let mut rest = line;
+    let mut e = text::piece_length(rest, b' ');
+    while e < rest.len() {
+        let w = &rest[..e];
+        rest = &rest[e + 1..];
+        if repeated(w, rest) {
+            return false;
+        }
+        e = text::piece_length(rest, b' ');
+    }
+    true
+}
+
+fn is_capital(c: u8) -> bool
+    ensures { λ r. ⌜ r ≡ isCapital c ⌝ }
+{
+    if 65 <= c { c <= 90 } else { false }
+}
+
+fn is_digit(c: u8) -> bool
+    ensures { λ r. ⌜ r ≡ isDigit c ⌝ }
+{
+    if 48 <= c { c <= 57 } else { false }
+}
+
+// Whether c may stand in a name.
+fn in_name(c: u8) -> bool
+    ensures { λ r. ⌜ r ≡ inName c ⌝ }
+{
+    if is_capital(c) {
+        return true;
+    }
+    if is_digit(c) {
+        return true;
+    }
+    c == 95
+}
+
+// Whether w is spelt as a primitive's name.
+pub fn is_name(w: &[u8]) -> bool
+    ensures { λ r. ⌜ r ≡ isName (now (w .entry)) ⌝ }
+{
+    if w.len() == 0 {
+        return false;
+    }
+    if 8 < w.len() {
+        return false;
+    }
+    if !is_capital(w[0]) {
+        return false;
+    }
+    let mut i = 1;
+    while i < w.len() {
+        if !in_name(w[i]) {
+            return false;
+        }
+        i += 1;
+    }
+    true
+}
+
+// Whether the words of line are the first of the words of names.
+fn begins(line: &[u8], names: &[u8]) -> bool
+    ensures { λ r. ⌜ r ≡ equalLists (words (now (line .entry))) (take (length (words (now (line .entry)))) (words (now (names .entry)))) ⌝ }
+{
+    let mut rest = line;
+    let mut others = names;
+    let mut e = text::piece_length(rest, b' ');
+    let mut f = text::piece_length(others, b' ');
+    while e < rest.len() {
+        if others.len() <= f {
+            return false;
+        }
+        if !text::same(&rest[..e], &others[..f]) {
+            return false;
+        }
+        rest = &rest[e + 1..];
+        others = &others[f + 1..];
+        e = text::piece_length(rest, b' ');
+        f = text::piece_length(others, b' ');
+    }
+    text::same(rest, &others[..f])
+}
+
+// The names of the cells, parted by single spaces.
+const CELLS: [u8; 122] =
+    *b"ACCU S0 S1 S2 S3 S4 S5 S6 S7 S8 S9 S10 S11 S12 S13 S14 S15 S16 S17 S18 S19 S20 S21 S22 S23 S24 S25 S26 S27 S28 S29 S30 S31";
+
+// Whether the words of line are the names of the first cells.
+pub fn cells_named(line: &[u8]) -> bool
+    ensures { λ r. ⌜ r ≡ equalLists (words (now (line .entry))) (take (length (words (now (line .entry)))) cellNames) ⌝ }
+{
+    begins(line, &CELLS)
+}
+
+// Whether w is the name of field n of block k.
+pub fn is_field(k: usize, n: usize, w: &[u8]) -> bool
+    ensures { λ r. ⌜ r ≡ isField k n (now (w .entry)) ⌝ }
+{
+    if 8 <= k {
+        return false;
+    }
+    if 16 <= n {
+        return false;
+    }
+    if n < 10 {
+        let name = [b'B', 48 + (k as u8), b'.', 48 + (n as u8)];
+        return text::same(w, &name);
+    }
+    let name = [b'B', 48 + (k as u8), b'.', b'1', 38 + (n as u8)];
+    text::same(w, &name)
+}
+
+// The sizes of the blocks that names make: the first `count` of `sizes`, and their sum.
+pub struct Blocks {
+    pub sizes: [u8; 8],
+    pub count: usize,
+    pub total: usize,
+}
+
+// The blocks with one more name; the same blocks where the name is out of sequence.
+fn add_name(b: Blocks, w: &[u8]) -> Blocks
+    requires { ⌜ BlocksOf (take (b .count) (b .sizes)) b ⌝ }
+    ensures { λ r. ⌜ BlocksOf (added 0 (take (b .count) (b .sizes)) (now (w .entry))) r ⌝ }
+{
+    let count = b.count;
+    let mut sizes = b.sizes;
+    if 0 < count {
+        let last = count - 1;
+        let n = sizes[last];
+        if is_field(last, n as usize, w) {
+            sizes[last] = n + 1;
+            return Blocks {
+                sizes: sizes,
+                count: count,
+                total: b.total + 1,
+            };
+        }
+    }
+    if is_field(count, 0, w) {
+        sizes[count] = 1;
+        return Blocks {
+            sizes: sizes,
+            count: count + 1,
+            total: b.total + 1,
+        };
+    }
+    b
+}
+
+// The blocks that the names on line make, up to the first name that is out of sequence.
+pub fn blocks_named(line: &[u8]) -> Blocks
+    ensures { λ r. ⌜ BlocksOf (blockSizes (list (now (line .entry)))) r ⌝ }
+{
+    let none = [0; 8];
+    let mut b = Blocks {
+        sizes: none,
+        count: 0,
+        total: 0,
+    };
+    if text::same(line, b"-") {
+        return b;
+    }
+    let mut rest = line;
+    let mut e = text::piece_length(rest, b' ');
+    while e < rest.len() {
+        let next = add_name(b, &rest[..e]);
+        if next.total == b.total {
+            return b;
+        }
+        b = next;
+        rest = &rest[e + 1..];
+        e = text::piece_length(rest, b' ');
+    }
+    add_name(b, rest)
+}
