@@ -61,6 +61,12 @@ enum-told-8 c = search needs
 kind-named-requires : tie.Need-kind-named-requires
 kind-named-requires c κs = search needs
 
+enum-told-9 : tie.Need-enum-told-9
+enum-told-9 c = search needs
+
+is-name-requires : tie.Need-is-name-requires
+is-name-requires c κs = search needs
+
 returns : tie.Need-returns
 unfolding wordTest
 returns c =
@@ -106,6 +112,11 @@ unfolding wordTest
 returns-9 c =
     arm (λ t. wordTest t (c .before .before .before .before .args .w .now)) (c .before .enum-told8 .given .1) (ap (λ n. ltb n 61) (c .kind-named .ensures) ∙ kind-among (c .before .before .before .before .args .w .now))
 
+returns-10 : tie.Need-returns-10
+unfolding wordTest
+returns-10 c =
+    arm (λ t. wordTest t (c .before .before .before .before .args .w .now)) (c .before .enum-told9 .given .1) (c .is-name .ensures)
+
 pub word-passes-spec : {M : Type 1} → statement M
 word-passes-spec =
     tie.close
@@ -128,6 +139,8 @@ word-passes-spec =
     is-known-requires
     enum-told-8
     kind-named-requires
+    enum-told-9
+    is-name-requires
     returns
     returns-2
     returns-3
@@ -136,4 +149,5 @@ word-passes-spec =
     returns-6
     returns-7
     returns-8
-    returns-9)
+    returns-9
+    returns-10)
