@@ -1,0 +1,4 @@
+pub mod ArmLaws
+pub mod ContextLaws
+pub mod ScanLaws
+pub mod LoopLaws

@@ -1,0 +1,320 @@
+// The rows of the refusal table over the lines of a text. The meaning is in specs/.
+use lines::WordTest;
+use refusals::Refusal;
+use routine::Column;
+use routine::Fault;
+use routine::Role;
+use routine::Row;
+use routine::Section;
+ghost use mathlib.Core.Path.{_≡_};
+ghost use mathlib.Core.Bool.{true};
+ghost use Prim.Native.Nat.{_<_, _≤_};
+ghost use lib.ListN.{length, getD};
+ghost use Rattle.text.specs.Text.{lines, Line};
+ghost use Rattle.routine.specs.declared.Role.the-variants.{Names, Code};
+ghost use Rattle.routine.specs.declared.Section.the-variants.{Kinds};
+ghost use Rattle.routine.specs.declared.Row.the-variants.{Layout};
+ghost use Rattle.routine.specs.Layout.{layout, list, textAt};
+ghost use Rattle.routine.specs.Rows.{wellNamed, laidOut, inRange, named, priced, reaches, allKnown, test, fault};
+ghost use Rattle.rows.specs.Scan.{NameContext, TargetContext, Context, Small, Marked, lineOf, marks, roleOf, markAfter, missing};
+ghost use Rattle.rows.specs.Checks.{readBy, checkOf};
+
+// Which program reads a text: the run has one row more.
+pub enum Reader {
+    Bound,
+    Run,
+}
+
+// What a check says: a text passes, or is refused.
+pub enum Checked {
+    Passes,
+    Refused(Refusal),
+}
+
+// The role of line i of the layout, counted from 0.
+fn role_at(i: usize) -> Role
+    requires { ⌜ i < 13 ⌝ }
+    ensures { λ r. ⌜ r ≡ getD layout i (Code 0) ⌝ }
+{
+    match i {
+        0 => Role::Names(Section::Limits),
+        1 => Role::Values(Section::Limits, Column::Limit),
+        2 => Role::Names(Section::Kinds),
+        3 => Role::Values(Section::Kinds, Column::Cycles),
+        4 => Role::Values(Section::Kinds, Column::Words),
+        5 => Role::Names(Section::Primitives),
+        6 => Role::Values(Section::Primitives, Column::Cycles),
+        7 => Role::Values(Section::Primitives, Column::Words),
+        8 => Role::Names(Section::Cells),
+        9 => Role::Values(Section::Cells, Column::Cell),
+        10 => Role::Names(Section::Fields),
+        11 => Role::Values(Section::Fields, Column::Cell),
+        _ => Role::Names(Section::Instructions),
+    }
+}
+
+// The line of a section's names.
+fn names_line(text: &[u8], s: Section) -> &[u8]
+    ensures { λ r. ⌜ now r ≡ textAt (Names s) layout (lines (now (text .entry))) ⌝ }
+{
+    match s {
+        Section::Limits => text::line_at(text, 0),
+        Section::Kinds => text::line_at(text, 2),
+        Section::Primitives => text::line_at(text, 5),
+        Section::Cells => text::line_at(text, 8),
+        Section::Fields => text::line_at(text, 10),
+        Section::Instructions => text::line_at(text, 12),
+        Section::Answers => &text[..0],
+    }
+}
+
+// Row 2 on a line.
+fn laid_out(text: &[u8], role: Role, line: &[u8]) -> bool
+    ensures { λ r. ⌜ r ≡ laidOut (lines (now (text .entry))) role (now (line .entry)) ⌝ }
+{
+    match role {
+        Role::Names(s) => lines::names_laid_out(s, line),
+        Role::Values(s, c) => lines::values_laid_out(c, names_line(text, s), line),
+        Role::Code(k) => lines::code_laid_out(k, line),
+        Role::Answer(k) => lines::answer_laid_out(k, line),
+    }
+}
+
+// Row 3 on a line.
+fn in_range(role: Role, line: &[u8]) -> bool
+    ensures { λ r. ⌜ r ≡ inRange role (now (line .entry)) ⌝ }
+{
+    match role {
+        Role::Names(_) => true,
+        Role::Values(_, c) => lines::values_in_range(c, line),
+        Role::Code(k) => lines::code_in_range(k, line),
+        Role::Answer(_) => lines::answer_in_range(line),
+    }
+}
+
+// Row 4 on a line of names.
+fn well_named(s: Section, line: &[u8]) -> bool
+    ensures { λ r. ⌜ r ≡ wellNamed s (list (now (line .entry))) ⌝ }
+{
+    if text::same(line, b"-") {
+        return true;
+    }
+    match s {
+        Section::Limits => true,
+        Section::Kinds => {
+            if lines::all_words(WordTest::Kind, line) {
+                names::distinct(line)
+            } else {
+                false
+            }
+        }
+        Section::Primitives => {
+            if lines::all_words(WordTest::Primitive, line) {
+                names::distinct(line)
+            } else {
+                false
+            }
+        }
+        Section::Cells => names::cells_named(line),
+        Section::Fields => {
+            let named = names::blocks_named(line);
+            named.total == text::count_words(line)
+        }
+        Section::Instructions => true,
+        Section::Answers => true,
+    }
+}
+
+// Row 4 on a line.
+fn named(
+    text: &[u8],
+    primitives: &[u8],
+    blocks: usize,
+    first: usize,
+    role: Role,
+    line: &[u8],
+) -> bool
+    requires { ⌜ NameContext (lines (now text)) (now primitives) blocks first ⌝ }
+    requires { ⌜ Small role ⌝ }
+    ensures { λ r. ⌜ r ≡ named (lines (now (text .entry))) role (now (line .entry)) ⌝ }
+{
+    match role {
+        Role::Names(s) => well_named(s, line),
+        Role::Values(_, c) => lines::values_present(c, blocks, line),
+        Role::Code(k) => lines::code_named(first as i64, primitives, k, line),
+        Role::Answer(_) => true,
+    }
+}
+
+// Row 5 on a line.
+fn priced(text: &[u8], kinds: &[u8], role: Role, line: &[u8]) -> bool
+    requires { ⌜ now kinds ≡ textAt (Names Kinds) layout (lines (now text)) ⌝ }
+    ensures { λ r. ⌜ r ≡ priced (lines (now (text .entry))) role (now (line .entry)) ⌝ }
+{
+    match role {
+        Role::Names(_) => true,
+        Role::Values(_, _) => true,
+        Role::Code(_) => lines::code_priced(kinds, line),
+        Role::Answer(_) => true,
+    }
+}
+
+// Row 6 on a line.
+fn reaches(text: &[u8], first: usize, count: usize, role: Role, line: &[u8]) -> bool
+    requires { ⌜ TargetContext (lines (now text)) first count ⌝ }
+    ensures { λ r. ⌜ r ≡ reaches (lines (now (text .entry))) role (now (line .entry)) ⌝ }
+{
+    match role {
+        Role::Names(_) => true,
+        Role::Values(_, _) => true,
+        Role::Code(_) => lines::code_reaches(first as i64, count, line),
+        Role::Answer(_) => true,
+    }
+}
+
+// Row 11 on a line.
+fn all_known(role: Role, line: &[u8]) -> bool
+    ensures { λ r. ⌜ r ≡ allKnown role (now (line .entry)) ⌝ }
+{
+    match role {
+        Role::Names(_) => true,
+        Role::Values(_, c) => lines::values_known(c, line),
+        Role::Code(_) => true,
+        Role::Answer(_) => true,
+    }
+}
+
+// Row 2 on a line that a line feed ends or not.
+fn laid_out_line(text: &[u8], role: Role, line: &[u8], ended: bool) -> bool
+    ensures { λ r. ⌜ r ≡ test Layout (lines (now (text .entry))) role (lineOf (now (line .entry)) ended) ⌝ }
+{
+    if !ended {
+        return false;
+    }
+    if !lines::all_words(WordTest::Filled, line) {
+        return false;
+    }
+    laid_out(text, role, line)
+}
+
+// A row on a line.
+fn passes(
+    row: Row,
+    text: &[u8],
+    kinds: &[u8],
+    primitives: &[u8],
+    blocks: usize,
+    first: usize,
+    count: usize,
+    role: Role,
+    line: &[u8],
+    ended: bool,
+) -> bool
+    requires { ⌜ Context row (lines (now text)) (now kinds) (now primitives) blocks first count ⌝ }
+    requires { ⌜ Small role ⌝ }
+    ensures { λ r. ⌜ r ≡ test row (lines (now (text .entry))) role (lineOf (now (line .entry)) ended) ⌝ }
+{
+    match row {
+        Row::Layout => laid_out_line(text, role, line, ended),
+        Row::Range => in_range(role, line),
+        Row::Name => named(text, primitives, blocks, first, role, line),
+        Row::Price => priced(text, kinds, role, line),
+        Row::Target => reaches(text, first, count, role, line),
+        Row::Known => all_known(role, line),
+    }
+}
+
+// Whether line i is ANSWER.
+fn marks(i: usize, line: &[u8]) -> bool
+    ensures { λ r. ⌜ r ≡ marks i (now (line .entry)) ⌝ }
+{
+    if 13 < i {
+        return text::same(line, b"ANSWER");
+    }
+    false
+}
+
+// The role of line i.
+fn role_of(i: usize, mark: usize, line: &[u8]) -> Role
+    requires { ⌜ Marked i mark ⌝ }
+    ensures { λ r. ⌜ r ≡ roleOf i mark (now (line .entry)) ⌝ }
+{
+    if i < 13 {
+        return role_at(i);
+    }
+    if 0 < mark {
+        return Role::Answer(i - mark - 1);
+    }
+    if marks(i, line) {
+        return Role::Names(Section::Answers);
+    }
+    Role::Code(i - 13)
+}
+
+// Which line is ANSWER, after line i.
+fn mark_after(i: usize, mark: usize, line: &[u8]) -> usize
+    ensures { λ r. ⌜ r ≡ markAfter i mark (now (line .entry)) ⌝ }
+{
+    if 0 < mark {
+        return mark;
+    }
+    if marks(i, line) { i } else { 0 }
+}
+
+// Whether a line is missing after the first i, which are all.
+fn misses(i: usize, mark: usize) -> bool
+    requires { ⌜ Marked i mark ⌝ }
+    ensures { λ r. ⌜ r ≡ missing i mark ⌝ }
+{
+    if i < 14 {
+        return true;
+    }
+    if 0 < mark { i == mark + 1 } else { false }
+}
+
+// The earliest line that a row refuses.
+fn earliest(
+    row: Row,
+    text: &[u8],
+    kinds: &[u8],
+    primitives: &[u8],
+    blocks: usize,
+    first: usize,
+    count: usize,
+) -> Fault
+    requires { ⌜ length (now text) ≤ 32768 ⌝ }
+    requires { ⌜ Context row (lines (now text)) (now kinds) (now primitives) blocks first count ⌝ }
+    ensures { λ r. ⌜ r ≡ fault row (lines (now (text .entry))) ⌝ }
+{
+    let mut rest = text;
+    let mut i: usize = 0;
+    let mut mark: usize = 0;
+    while 0 < rest.len() {
+        let line = text::first_line(rest);
+        let ended = text::line_ends(rest);
+        let role = role_of(i, mark, line);
+        if !passes(
+            row,
+            text,
+            kinds,
+            primitives,
+            blocks,
+            first,
+            count,
+            role,
+            line,
+            ended,
+        ) {
+            return Fault::Line((i + 1) as u32);
+        }
+        mark = mark_after(i, mark, line);
+        let next = text::next_lines(rest);
+        rest = next;
+        i += 1;
+    }
+    if misses(i, mark) {
+        Fault::Line((i + 1) as u32)
+    } else {
+        Fault::Clean
+    }
+}
