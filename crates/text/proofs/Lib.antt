@@ -3,3 +3,5 @@ pub mod ScanLaws
 pub mod PieceLaws
 pub mod LineLaws
 pub mod DecimalLaws
+pub mod NumeralLaws
+pub mod ClampLaws

@@ -7,53 +7,55 @@ use native.Mathlib.Omega.{arith}
 use lib.Dec.{ltb}
 use lib.ListN.{length, getD, take, drop}
 use lib.Seq.{take-all, drop-nil, getD-drop}
-use borrow.Author.Tests.{ltb-true, ltb-false, lt-ltb, le-ltb}
+use borrow.Author.Tests.{ltb-true, ltb-false}
 use Rattle.text.specs.Text.{isEmpty, split, Line, noLine, linesOf, lines}
 use Rattle.text.proofs.ScanLaws.{firstLength, cut-more, cut-last}
 use Rattle.text.proofs.PieceLaws.{split-some}
 
 -- a line that a line feed ends, and one that the end of the text ends
 
-abbrev pub ended : List ℕ → Line
-ended p = record { text = p; ended = true }
+abbrev pub endedLine : List ℕ → Line
+endedLine p = record { text = p; ended = true }
 
-abbrev pub unended : List ℕ → Line
-unended p = record { text = p; ended = false }
+abbrev pub unendedLine : List ℕ → Line
+unendedLine p = record { text = p; ended = false }
 
-linesOf-more : (p : List ℕ) (ps : List (List ℕ)) → 0 < length ps → linesOf (p ∷ ps) ≡ ended p ∷ linesOf ps
+linesOf-more : (p : List ℕ) (ps : List (List ℕ)) → 0 < length ps → linesOf (p ∷ ps) ≡ endedLine p ∷ linesOf ps
 unfolding linesOf
 linesOf-more p [] h = absurd (omega arith)
 linesOf-more p (q ∷ ps) h = refl
 
 -- the lines of s, whose first piece has the length n
 
-pub lines-more : (s : List ℕ) (n : ℕ) → n ≡ firstLength 10 s → n < length s → lines s ≡ ended (take n s) ∷ lines (take (length s - (n + 1)) (drop (n + 1) s))
+pub lines-more : (s : List ℕ) (n : ℕ) → n ≡ firstLength 10 s → n < length s → lines s ≡ endedLine (take n s) ∷ lines (take (length s - (n + 1)) (drop (n + 1) s))
 unfolding lines
 lines-more s n q h =
     let rest = take (length s - (n + 1)) (drop (n + 1) s) in
     ap linesOf (cut-more 10 s n q h) ∙ linesOf-more (take n s) (split 10 rest) (split-some 10 rest)
 
-pub lines-last : (s : List ℕ) (n : ℕ) → n ≡ firstLength 10 s → length s ≤ n → lines s ≡ cond (isEmpty s) [] (unended s ∷ [])
+pub lines-last : (s : List ℕ) (n : ℕ) → n ≡ firstLength 10 s → length s ≤ n → lines s ≡ cond (isEmpty s) [] (unendedLine s ∷ [])
 unfolding lines linesOf
 lines-last s n q h = ap linesOf (cut-last 10 s n q h)
 
--- the first line
+-- a text with no line feed is one line, or none
 
-last-text : (s : List ℕ) → getD (cond (isEmpty s) [] (unended s ∷ [])) 0 noLine .text ≡ s
+last-text : (s : List ℕ) → getD (cond (isEmpty s) [] (unendedLine s ∷ [])) 0 noLine .text ≡ s
 last-text [] = refl
 last-text (x ∷ xs) = refl
 
-last-ended : (s : List ℕ) → getD (cond (isEmpty s) [] (unended s ∷ [])) 0 noLine .ended ≡ false
+last-ended : (s : List ℕ) → getD (cond (isEmpty s) [] (unendedLine s ∷ [])) 0 noLine .ended ≡ false
 last-ended [] = refl
 last-ended (x ∷ xs) = refl
 
-last-next : (s : List ℕ) → drop 1 (cond (isEmpty s) [] (unended s ∷ [])) ≡ []
+last-next : (s : List ℕ) → drop 1 (cond (isEmpty s) [] (unendedLine s ∷ [])) ≡ []
 last-next [] = refl
 last-next (x ∷ xs) = refl
 
-last-some : (s : List ℕ) → 0 < length s → 0 < length (cond (isEmpty s) [] (unended s ∷ []))
+last-some : (s : List ℕ) → 0 < length s → 0 < length (cond (isEmpty s) [] (unendedLine s ∷ []))
 last-some [] h = absurd (omega arith)
 last-some (x ∷ xs) h = omega arith
+
+-- the first line of s, whose first piece has the length n
 
 pub line-text : (s : List ℕ) (n : ℕ) → n ≡ firstLength 10 s → getD (lines s) 0 noLine .text ≡ take n s
 line-text s n q = go (ltb n (length s)) refl
@@ -71,7 +73,7 @@ line-ended s n q = go (ltb n (length s)) refl
     go true e = ap (λ (ls : List Line). getD ls 0 noLine .ended) (lines-more s n q (ltb-true n (length s) e))
     go false e = ap (λ (ls : List Line). getD ls 0 noLine .ended) (lines-last s n q (ltb-false n (length s) e)) ∙ last-ended s
 
--- what follows the first line
+-- what follows it
 
 pub next-more : (s : List ℕ) (n : ℕ) → n ≡ firstLength 10 s → n < length s → lines (take (length s - (n + 1)) (drop (n + 1) s)) ≡ drop 1 (lines s)
 next-more s n q h = sym (ap (drop 1) (lines-more s n q h))
@@ -86,6 +88,12 @@ pub lines-empty : (s : List ℕ) → s ≡ [] → lines s ≡ []
 unfolding lines linesOf split
 lines-empty [] e = refl
 lines-empty (x ∷ xs) e = let z : _≡_ {A = ℕ} 0 1 = cc in absurd (omega arith)
+
+-- the same by the length, as a loop's end has it
+pub lines-none : (s : List ℕ) → length s ≤ 0 → lines s ≡ []
+unfolding lines linesOf split
+lines-none [] h = refl
+lines-none (x ∷ xs) h = absurd (omega arith)
 
 pub lines-some : (s : List ℕ) → 0 < length s → 0 < length (lines s)
 lines-some s h = go (ltb (firstLength 10 s) (length s)) refl

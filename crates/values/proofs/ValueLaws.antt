@@ -1,0 +1,233 @@
+-- What the code holds of a number or of a cell word passes the tests that the number or the cell word passes. Assumes nothing.
+use Prim.Native.Nat.{ℕ, zero, suc, _-_, _<_, _≤_, zero-le}
+use mathlib.Core.Path.{_≡_, refl, sym, ap, ap₂, subst, _∙_}
+use mathlib.Core.Bool.{Bool, true, false, cond}
+use mathlib.Core.List.{List, [], _∷_}
+use native.Mathlib.Omega.{arith}
+use lib.Dec.{T, leb, ltb, lit<}
+use lib.IntN.{ℤ, pos, negsuc, negℤ, natAbs, _-ℤ_, +ℤ-idl}
+use lib.ListN.{length, getD, take, drop, length-drop}
+use lib.Seq.{take-all}
+use lib.Signed.{mag, nonNeg, leZ, ltZ}
+use mir.Syntax.{w32}
+use mir.Val.{SFits}
+use borrow.Author.Tests.{leb-true, ltb-true, ltb-false, lt-ltb, le-ltb, eq-eqb, ne-eqb}
+use Rattle.text.specs.Text.{equals, bytes}
+use Rattle.text.specs.Decimal.{numeral, most, clamp, clamped}
+use Rattle.text.specs.declared.Numeral.{Numeral}
+use Rattle.text.specs.declared.Numeral.the-variants.{Misspelt, Number}
+use Rattle.text.proofs.ClampLaws.{clamp-le, le-clamp, clamp-small, clamp-natAbs-lt}
+use Rattle.numbers.specs.declared.Range.{Range}
+use Rattle.numbers.specs.Numbers.{within, numbers, range}
+use Rattle.cells.specs.Cells.{number, handle}
+use Rattle.routine.specs.declared.CellWord.{CellWord}
+use Rattle.routine.specs.declared.CellWord.the-variants.{Wrong, Unknown, Known, Block}
+use Rattle.routine.specs.Rows.{isNumeral, valueOf, value, knownOf, blockOf, hashed, cellWord, isCell, handles, cellInRange, cellPresent, isKnown}
+use Rattle.routine.specs.Routine.{inside, cellOf}
+use Rattle.values.specs.Values.{Near, clampedCell}
+
+-- ---- numbers
+
+pub numeral-clamped : (n : Numeral) → isNumeral (clamped n) ≡ isNumeral n
+unfolding clamped isNumeral
+numeral-clamped Misspelt = refl
+numeral-clamped (Number z) = refl
+
+pub value-clamped : (n : Numeral) → valueOf (clamped n) ≡ clamp (valueOf n)
+unfolding clamped valueOf clamp
+value-clamped Misspelt = refl
+value-clamped (Number z) = refl
+
+pub within-clamp : (r : Range) (z : ℤ) → Near r → within r (clamp z) ≡ within r z
+within-clamp r z h = ap₂ (λ a b. cond a b false) (le-clamp (r .low) z (h .low)) (clamp-le z (r .high) (h .high))
+
+no : {X : Type 0} → false ≡ true → X
+no e = absurd (let z : _≡_ {A = ℕ} 0 1 = cc in omega arith)
+
+-- a number between two others is as near to 0 as one of them
+between : (low high z : ℤ) → mag low < most → mag high < most → leZ low z ≡ true → leZ z high ≡ true → mag z ≤ most
+between low (pos h) (pos n) k l e f = let q = leb-true n h f in omega arith
+between low (negsuc h) (pos n) k l e f = no f
+between (pos g) high (negsuc n) k l e f = no e
+between (negsuc g) high (negsuc n) k l e f = let q = leb-true n g e in omega arith
+
+pub within-low : (r : Range) (z : ℤ) → within r z ≡ true → leZ (r .low) z ≡ true
+within-low r z e = go (leZ (r .low) z) e
+  where
+    go : (b : Bool) → cond b (leZ z (r .high)) false ≡ true → b ≡ true
+    go true q = refl
+    go false q = q
+
+pub within-high : (r : Range) (z : ℤ) → within r z ≡ true → leZ z (r .high) ≡ true
+within-high r z e = go (leZ (r .low) z) e
+  where
+    go : (b : Bool) → cond b (leZ z (r .high)) false ≡ true → leZ z (r .high) ≡ true
+    go true q = q
+    go false q = no q
+
+pub inside-clamp : (r : Range) (z : ℤ) → Near r → inside r (clamp z) ≡ inside r z
+unfolding inside
+inside-clamp r z h = ap (λ b. cond b (clamp z) (pos 0)) (within-clamp r z h) ∙ go (within r z) refl
+  where
+    go : (b : Bool) → within r z ≡ b → cond b (clamp z) (pos 0) ≡ cond b z (pos 0)
+    go true e = clamp-small z (between (r .low) (r .high) z (h .low) (h .high) (within-low r z e) (within-high r z e))
+    go false e = refl
+
+-- a number of a range, or 0: it keeps what holds of both
+pub inside-keeps : (P : ℤ → Type 0) (r : Range) (z : ℤ) → P (pos 0) → ((y : ℤ) → within r y ≡ true → P y) → P (inside r z)
+unfolding inside
+inside-keeps P r z o f = go (within r z) refl
+  where
+    go : (b : Bool) → within r z ≡ b → P (cond b z (pos 0))
+    go true e = f z e
+    go false e = o
+
+-- a natural number of a range
+pub record Natural (high : ℕ) (z : ℤ) : Type 0 where
+  pub is : pos (natAbs z) ≡ z
+  pub below : natAbs z ≤ high
+
+natural-within : (low high : ℕ) (z : ℤ) → within (range low high) z ≡ true → Natural high z
+natural-within low high (pos n) e = record { is = refl; below = leb-true n high (within-high (range low high) (pos n) e) }
+natural-within low high (negsuc n) e = no (within-low (range low high) (negsuc n) e)
+
+pub natural-inside : (low high : ℕ) (z : ℤ) → Natural high (inside (range low high) z)
+natural-inside low high z = inside-keeps (Natural high) (range low high) z (record { is = refl; below = zero-le }) (natural-within low high)
+
+pub natural-sign : {high : ℕ} {z : ℤ} → Natural high z → T (nonNeg z)
+natural-sign {z = z} n = subst (λ y. T (nonNeg y)) (n .is) tt
+
+-- a number of 32 bits
+fits-within : (z : ℤ) → within numbers z ≡ true → SFits w32 z
+fits-within (pos n) e = let h = leb-true n 2147483647 (within-high numbers (pos n) e) in record { sfits = omega arith }
+fits-within (negsuc n) e = let h = leb-true n 2147483647 (within-low numbers (negsuc n) e) in record { sfits = omega arith }
+
+pub number-fits : (z : ℤ) → SFits w32 (inside numbers z)
+number-fits z = inside-keeps (SFits w32) numbers z (record { sfits = lit< tt }) fits-within
+
+-- ---- cells
+
+pub known-clamped : (n : Numeral) → knownOf (clamped n) ≡ clampedCell (knownOf n)
+unfolding clamped knownOf clampedCell
+known-clamped Misspelt = refl
+known-clamped (Number z) = refl
+
+pub block-clamped : (n : Numeral) → blockOf (clamped n) ≡ clampedCell (blockOf n)
+unfolding clamped blockOf clampedCell
+block-clamped Misspelt = refl
+block-clamped (Number z) = refl
+
+pub cell-clamped : (c : CellWord) → isCell (clampedCell c) ≡ isCell c
+unfolding isCell clampedCell
+cell-clamped Wrong = refl
+cell-clamped Unknown = refl
+cell-clamped (Known z) = refl
+cell-clamped (Block k) = refl
+
+pub is-known-clamped : (c : CellWord) → isKnown (clampedCell c) ≡ isKnown c
+unfolding isKnown clampedCell
+is-known-clamped Wrong = refl
+is-known-clamped Unknown = refl
+is-known-clamped (Known z) = refl
+is-known-clamped (Block k) = refl
+
+pub near-numbers : Near numbers
+near-numbers = record { low = lit< tt; high = lit< tt }
+
+pub near-range : (low high : ℕ) → low < most → high < most → Near (range low high)
+near-range low high h k = record { low = h; high = k }
+
+near-handles : Near handles
+near-handles = record { low = lit< tt; high = lit< tt }
+
+pub in-range-clamped : (c : CellWord) → cellInRange (clampedCell c) ≡ cellInRange c
+unfolding cellInRange clampedCell
+in-range-clamped Wrong = refl
+in-range-clamped Unknown = refl
+in-range-clamped (Known z) = within-clamp numbers z near-numbers
+in-range-clamped (Block k) = within-clamp handles k near-handles
+
+pub present-clamped : (n : ℕ) → n ≤ most → (c : CellWord) → cellPresent n (clampedCell c) ≡ cellPresent n c
+unfolding cellPresent clampedCell
+present-clamped n h Wrong = refl
+present-clamped n h Unknown = refl
+present-clamped n h (Known z) = refl
+present-clamped n h (Block k) = clamp-natAbs-lt k n h
+
+pub cell-of-clamped : (c : CellWord) → cellOf (clampedCell c) ≡ cellOf c
+unfolding cellOf clampedCell
+cell-of-clamped Wrong = refl
+cell-of-clamped Unknown = refl
+cell-of-clamped (Known z) = ap number (inside-clamp numbers z near-numbers)
+cell-of-clamped (Block k) = ap (λ x. handle (natAbs x)) (inside-clamp handles k near-handles)
+
+-- ---- the cell word of a word, by its first byte
+
+module _ (w : List ℕ) where
+  pub word-unknown : equals w (bytes "?") ≡ true → cellWord w ≡ Unknown
+  unfolding cellWord
+  word-unknown e = ap (λ b. cond b Unknown (hashed w)) e
+
+  word-other : equals w (bytes "?") ≡ false → cellWord w ≡ hashed w
+  unfolding cellWord
+  word-other e = ap (λ b. cond b Unknown (hashed w)) e
+
+hashed-none : (w : List ℕ) → length w ≡ 0 → hashed w ≡ Wrong
+unfolding hashed
+hashed-none [] h = refl
+hashed-none (d ∷ ds) h = absurd (omega arith)
+
+hashed-block : (w : List ℕ) → (length w ≡ 0 → ⊥) → getD w 0 0 ≡ 35 → hashed w ≡ blockOf (numeral (drop 1 w))
+unfolding hashed
+hashed-block [] h e = absurd (h refl)
+hashed-block (d ∷ ds) h e = ap (λ b. cond b (blockOf (numeral ds)) (knownOf (numeral (d ∷ ds)))) (eq-eqb d 35 e)
+
+hashed-known : (w : List ℕ) → (length w ≡ 0 → ⊥) → (getD w 0 0 ≡ 35 → ⊥) → hashed w ≡ knownOf (numeral w)
+unfolding hashed
+hashed-known [] h e = absurd (h refl)
+hashed-known (d ∷ ds) h e = ap (λ b. cond b (blockOf (numeral ds)) (knownOf (numeral (d ∷ ds)))) (ne-eqb d 35 e)
+
+module _ (w : List ℕ) (q : equals w (bytes "?") ≡ false) where
+  pub word-none : length w ≡ 0 → cellWord w ≡ Wrong
+  word-none h = word-other w q ∙ hashed-none w h
+
+  -- the rest of the word as the code takes it: `&w[1..]`
+  pub word-block : (length w ≡ 0 → ⊥) → getD w 0 0 ≡ 35 → cellWord w ≡ blockOf (numeral (take (length w - 1) (drop 1 w)))
+  word-block h e =
+      word-other w q ∙ hashed-block w h e ∙ ap (λ l. blockOf (numeral l)) (sym (take-all (length w - 1) (drop 1 w) (rw length-drop (omega arith))))
+
+  pub word-known : (length w ≡ 0 → ⊥) → (getD w 0 0 ≡ 35 → ⊥) → cellWord w ≡ knownOf (numeral w)
+  word-known h e = word-other w q ∙ hashed-known w h e
+
+-- ---- what a match on a held value says of the value
+
+-- f says the same of b as of what is held of it, which is r, and the match found d
+pub tested : {B X : Type 0} (f : B → X) (held : B → B) (keeps : (b : B) → f (held b) ≡ f b) (b : B) {r d : B} {x : X} → r ≡ held b → r ≡ d → x ≡ f d → x ≡ f b
+tested f held keeps b p q e = e ∙ ap f (sym q ∙ p) ∙ keeps b
+
+pub held-value : (n : Numeral) {r d : Numeral} {x : ℤ} → r ≡ clamped n → r ≡ d → x ≡ valueOf d → x ≡ clamp (valueOf n)
+held-value n p q e = e ∙ ap valueOf (sym q ∙ p) ∙ value-clamped n
+
+-- ---- how far a number is from 0, by comparisons with n and with -n
+
+pub nearer-above : (k : ℤ) (n : ℕ) → ltZ k (pos 0) ≡ false → ltZ k (pos n) ≡ ltb (natAbs k) n
+nearer-above (pos a) n e = refl
+nearer-above (negsuc a) n e = absurd (let z : _≡_ {A = ℕ} 0 1 = cc in omega arith)
+
+below-zero : (a : ℕ) {X : Type 0} → ltb a 0 ≡ true → X
+below-zero a e = absurd (let h = ltb-true a 0 e in omega arith)
+
+suc-ltb : (a b : ℕ) → ltb a b ≡ ltb (suc a) (suc b)
+suc-ltb a b = go (ltb a b) refl
+  where
+    go : (t : Bool) → ltb a b ≡ t → t ≡ ltb (suc a) (suc b)
+    go true e = let h = ltb-true a b e in sym (lt-ltb (suc a) (suc b) (omega arith))
+    go false e = let h = ltb-false a b e in sym (le-ltb (suc a) (suc b) (omega arith))
+
+nearer-neg : (a n : ℕ) → ltZ (negℤ (pos n)) (negsuc a) ≡ ltb (suc a) n
+nearer-neg a zero = sym (le-ltb (suc a) 0 zero-le)
+nearer-neg a (suc n) = suc-ltb a n
+
+pub nearer-below : (k : ℤ) (n : ℕ) → ltZ k (pos 0) ≡ true → ltZ (pos 0 -ℤ pos n) k ≡ ltb (natAbs k) n
+nearer-below (pos a) n e = below-zero a e
+nearer-below (negsuc a) n e = ap (λ z. ltZ z (negsuc a)) (+ℤ-idl (negℤ (pos n))) ∙ nearer-neg a n

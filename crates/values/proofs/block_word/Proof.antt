@@ -1,0 +1,26 @@
+-- `block_word` meets its contract. Assumes nothing.
+use mathlib.Core.Path.{refl, sym, ap, _∙_}
+use mir.Syntax.{w64}
+use mir.ValLaws.{toZ-ofZ}
+use Rattle.routine.specs.declared.CellWord.the-variants.{Block}
+use Rattle.routine.specs.Rows.{blockOf}
+use borrow.Author.Needs.{needs}
+use Rattle.values.proofs.block_word.Statement.{statement}
+use Rattle.values.proofs.block_word.Tie as tie
+
+enum-told : tie.Need-enum-told
+enum-told c = search needs
+
+enum-known-n : tie.Need-enum-known-n
+enum-known-n c = search needs
+
+returns : tie.Need-returns
+unfolding blockOf
+returns c = sym (ap blockOf (c .enum-told .given .1))
+
+returns-2 : tie.Need-returns-2
+unfolding blockOf
+returns-2 c = ap Block (toZ-ofZ w64 _ (search needs)) ∙ sym (ap blockOf (c .before .n .given .1))
+
+pub block-word-spec : {M : Type 1} → statement M
+block-word-spec = tie.close (tie.spec enum-told enum-known-n returns returns-2)

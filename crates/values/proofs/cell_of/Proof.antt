@@ -1,0 +1,81 @@
+-- `cell_of` meets its contract. Assumes nothing.
+use mathlib.Core.Path.{refl, ap, _∙_}
+use lib.IntN.{natAbs}
+use mir.Syntax.{w64}
+use mir.ValLaws.{toZ-ofZ}
+use Rattle.numbers.specs.Numbers.{numbers}
+use Rattle.cells.specs.Cells.{number, handle}
+use Rattle.routine.specs.Rows.{handles, cellWord}
+use Rattle.routine.specs.Routine.{inside, cellOf}
+use Rattle.values.specs.Values.{clampedCell}
+use Rattle.values.proofs.ValueLaws.{cell-of-clamped, tested}
+use borrow.Author.Needs.{needs}
+use Rattle.values.proofs.cell_of.Statement.{statement}
+use Rattle.values.proofs.cell_of.Tie as tie
+
+cell-word-requires : tie.Need-cell-word-requires
+cell-word-requires c κs = search needs
+
+enum-told : tie.Need-enum-told
+enum-told c = search needs
+
+number-requires : tie.Need-number-requires
+number-requires c κs = search needs
+
+enum-told-2 : tie.Need-enum-told-2
+enum-told-2 c = search needs
+
+unknown-requires : tie.Need-unknown-requires
+unknown-requires c κs = search needs
+
+enum-known-z : tie.Need-enum-known-z
+enum-known-z c = search needs
+
+number-cell-requires : tie.Need-number-cell-requires
+number-cell-requires c κs = search needs
+
+enum-known-k : tie.Need-enum-known-k
+enum-known-k c = search needs
+
+handle-cell-requires : tie.Need-handle-cell-requires
+handle-cell-requires c κs = search needs
+
+returns : tie.Need-returns
+unfolding cellOf
+returns c =
+    tested cellOf clampedCell cell-of-clamped (cellWord (c .before .before .before .before .before .args .w .now)) (c .before .before .before .cell-word .ensures) (c .before .enum-told .given .1) (c .number .ensures)
+
+returns-2 : tie.Need-returns-2
+unfolding cellOf
+returns-2 c =
+    tested cellOf clampedCell cell-of-clamped (cellWord (c .before .before .before .before .before .args .w .now)) (c .before .before .before .cell-word .ensures) (c .before .enum-told2 .given .1) (c .unknown .ensures)
+
+returns-3 : tie.Need-returns-3
+unfolding cellOf
+returns-3 c =
+    tested cellOf clampedCell cell-of-clamped (cellWord (c .before .before .before .before .before .before .args .w .now)) (c .before .before .before .before .cell-word .ensures) (c .before .before .z .given .1)
+    (c .number-cell .ensures ∙ ap (λ z. number (inside numbers z)) (toZ-ofZ w64 (c .before .before .z .given .0 .0) (search needs)))
+
+returns-4 : tie.Need-returns-4
+unfolding cellOf
+returns-4 c =
+    tested cellOf clampedCell cell-of-clamped (cellWord (c .before .before .before .before .before .before .args .w .now)) (c .before .before .before .before .cell-word .ensures) (c .before .before .k .given .1)
+    (c .handle-cell .ensures ∙ ap (λ z. handle (natAbs (inside handles z))) (toZ-ofZ w64 (c .before .before .k .given .0 .0) (search needs)))
+
+pub cell-of-spec : {M : Type 1} → statement M
+cell-of-spec =
+    tie.close
+    (tie.spec
+    cell-word-requires
+    enum-told
+    number-requires
+    enum-told-2
+    unknown-requires
+    enum-known-z
+    number-cell-requires
+    enum-known-k
+    handle-cell-requires
+    returns
+    returns-2
+    returns-3
+    returns-4)

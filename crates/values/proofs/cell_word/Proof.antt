@@ -1,0 +1,84 @@
+-- `cell_word` meets its contract. Assumes nothing.
+use mathlib.Core.Path.{_≡_, sym, ap, _∙_}
+use Rattle.text.specs.Decimal.{numeral}
+use Rattle.routine.specs.Rows.{knownOf, blockOf, cellWord}
+use Rattle.values.specs.Values.{clampedCell}
+use Rattle.values.proofs.ValueLaws.{known-clamped, block-clamped, word-unknown, word-none, word-block, word-known}
+use borrow.Author.Needs.{needs}
+use Rattle.values.proofs.cell_word.Statement.{statement}
+use Rattle.values.proofs.cell_word.Tie as tie
+
+slice-aggregate-same : tie.Need-slice-aggregate-same
+slice-aggregate-same c = search needs
+
+same-requires : tie.Need-same-requires
+same-requires c κs = search needs
+
+returns : tie.Need-returns
+unfolding clampedCell
+returns c =
+    sym (ap clampedCell (word-unknown (c .before .before .before .before .args .w .now) (sym (c .before .same .ensures) ∙ c .if1 .taken)))
+
+returns-2 : tie.Need-returns-2
+unfolding clampedCell
+returns-2 c =
+    sym (ap clampedCell (word-none (c .before .before .before .before .before .args .w .now) (sym (c .before .before .same .ensures) ∙ c .before .if1 .left) (c .if2 .taken)))
+
+shared-slice-read-if3 : tie.Need-shared-slice-read-if3
+shared-slice-read-if3 c = search needs
+
+sub-read-numeral : tie.Need-sub-read-numeral
+sub-read-numeral c = search needs
+
+part-read-numeral-start : tie.Need-part-read-numeral-start
+part-read-numeral-start c = search needs
+
+part-read-numeral-end : tie.Need-part-read-numeral-end
+part-read-numeral-end c = search needs
+
+read-numeral-requires : tie.Need-read-numeral-requires
+read-numeral-requires c κs = search needs
+
+block-word-requires : tie.Need-block-word-requires
+block-word-requires c κs = search needs
+
+returns-3 : tie.Need-returns-3
+returns-3 c =
+    let start = c .before .before .before .before .before .before .before .before .before .before in
+    c .block-word .ensures
+    ∙ ap blockOf (c .before .read-numeral .ensures)
+    ∙ block-clamped _
+    ∙ sym (ap clampedCell (word-block (start .args .w .now) (sym (c .before .before .before .before .before .before .before .same .ensures) ∙ c .before .before .before .before .before .before .if1 .left) (c .before .before .before .before .before .if2 .left) (c .before .before .before .if3 .taken)))
+
+read-numeral-requires-2 : tie.Need-read-numeral-requires-2
+read-numeral-requires-2 c κs = search needs
+
+known-word-requires : tie.Need-known-word-requires
+known-word-requires c κs = search needs
+
+returns-4 : tie.Need-returns-4
+returns-4 c =
+    let start = c .before .before .before .before .before .before .before .before .before in
+    c .known-word .ensures
+    ∙ ap knownOf (c .before .read-numeral2 .ensures)
+    ∙ known-clamped (numeral (start .args .w .now))
+    ∙ sym (ap clampedCell (word-known (start .args .w .now) (sym (c .before .before .before .before .before .before .same .ensures) ∙ c .before .before .before .before .before .if1 .left) (c .before .before .before .before .if2 .left) (c .before .before .if3 .left)))
+
+pub cell-word-spec : {M : Type 1} → statement M
+cell-word-spec =
+    tie.close
+    (tie.spec
+    slice-aggregate-same
+    same-requires
+    returns
+    returns-2
+    shared-slice-read-if3
+    sub-read-numeral
+    part-read-numeral-start
+    part-read-numeral-end
+    read-numeral-requires
+    block-word-requires
+    returns-3
+    read-numeral-requires-2
+    known-word-requires
+    returns-4)

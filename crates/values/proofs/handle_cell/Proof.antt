@@ -1,0 +1,36 @@
+-- `handle_cell` meets its contract. Assumes nothing.
+use mathlib.Core.Path.{_≡_, sym, ap, ap₂, subst, _∙_}
+use native.Mathlib.Omega.{arith}
+use lib.Dec.{T}
+use lib.IntN.{ℤ, natAbs}
+use lib.Signed.{nonNeg}
+use mir.Syntax.{w8, w64}
+use mir.Val.{Fits, ofZ, toZ}
+use mir.ValLaws.{toZ-ofZ}
+use Rattle.cells.specs.Cells.{handle}
+use Rattle.routine.specs.Rows.{handles}
+use Rattle.routine.specs.Routine.{inside}
+use Rattle.values.proofs.ValueLaws.{natural-inside, natural-sign}
+use borrow.Author.Needs.{needs}
+use Rattle.values.proofs.handle_cell.Statement.{statement}
+use Rattle.values.proofs.handle_cell.Tie as tie
+
+held : (c : tie.After-inside) → toZ w64 (ofZ w64 (c .inside .result)) ≡ inside handles (c .before .before .args .k)
+held c = toZ-ofZ w64 _ (search needs) ∙ c .inside .ensures ∙ ap₂ inside (c .before .handle-range .ensures) (toZ-ofZ w64 (c .before .before .args .k) (c .before .before .fits .k))
+
+handle-range-requires : tie.Need-handle-range-requires
+handle-range-requires c κs = search needs
+
+inside-requires : tie.Need-inside-requires
+inside-requires c κs = search needs
+
+cast-t4 : tie.Need-cast-t4
+cast-t4 c =
+    let n = natural-inside 0 7 (c .before .before .args .k) in
+    (subst (λ z. T (nonNeg z)) (sym (held c)) (natural-sign n), subst (λ z. Fits w8 (natAbs z)) (sym (held c)) (omega (arith, n .below)))
+
+returns : tie.Need-returns
+returns c = ap (λ z. handle (natAbs z)) (held c)
+
+pub handle-cell-spec : {M : Type 1} → statement M
+handle-cell-spec = tie.close (tie.spec handle-range-requires inside-requires cast-t4 returns)

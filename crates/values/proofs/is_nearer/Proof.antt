@@ -1,0 +1,47 @@
+-- `is_nearer` meets its contract. Assumes nothing.
+use mathlib.Core.Path.{_≡_, sym, ap, ap₂, subst, _∙_}
+use native.Mathlib.Omega.{arith}
+use Prim.Native.Nat.{ℕ, zero, suc, _≤_}
+use lib.Dec.{lit<}
+use native.Mathlib.Nat.{lt-of-le-of-lt}
+use lib.IntN.{ℤ, pos, negsuc, negℤ, _-ℤ_, +ℤ-idl}
+use lib.Signed.{mag, ltZ}
+use mir.Syntax.{w64}
+use mir.Val.{SFits, toZ}
+use mir.ValLaws.{toZ-ofZ, toZ-pos}
+use Rattle.text.specs.Decimal.{most}
+use Rattle.values.proofs.ValueLaws.{nearer-above, nearer-below}
+use borrow.Author.Needs.{needs}
+use Rattle.values.proofs.is_nearer.Statement.{statement}
+use Rattle.values.proofs.is_nearer.Tie as tie
+
+small : (n : ℕ) → n ≤ most → toZ w64 n ≡ pos n
+small n h = toZ-pos w64 n (lt-of-le-of-lt h (lit< tt))
+
+minus-mag : (n : ℕ) → n ≤ most → SFits w64 (negℤ (pos n))
+minus-mag zero h = record { sfits = lit< tt }
+minus-mag (suc n) h = record { sfits = omega arith }
+
+minus-fits : (n : ℕ) → n ≤ most → SFits w64 (pos 0 -ℤ toZ w64 n)
+minus-fits n h = subst (SFits w64) (sym (ap (λ z. pos 0 -ℤ z) (small n h) ∙ +ℤ-idl (negℤ (pos n)))) (minus-mag n h)
+
+cast-m : tie.Need-cast-m
+cast-m c = search needs
+
+sub-result : tie.Need-sub-result
+sub-result c = minus-fits (c .before .args .n) (c .before .pre)
+
+returns : tie.Need-returns
+returns c =
+    let start = c .before in
+    ap₂ ltZ (toZ-ofZ w64 _ (minus-fits (start .args .n) (start .pre)) ∙ ap (λ z. pos 0 -ℤ z) (small (start .args .n) (start .pre))) (toZ-ofZ w64 (start .args .k) (start .fits .k))
+    ∙ nearer-below (start .args .k) (start .args .n) (sym (ap (λ z. ltZ z (pos 0)) (toZ-ofZ w64 (start .args .k) (start .fits .k))) ∙ c .if1 .taken)
+
+returns-2 : tie.Need-returns-2
+returns-2 c =
+    let start = c .before in
+    ap₂ ltZ (toZ-ofZ w64 (start .args .k) (start .fits .k)) (small (start .args .n) (start .pre))
+    ∙ nearer-above (start .args .k) (start .args .n) (sym (ap (λ z. ltZ z (pos 0)) (toZ-ofZ w64 (start .args .k) (start .fits .k))) ∙ c .if1 .left)
+
+pub is-nearer-spec : {M : Type 1} → statement M
+is-nearer-spec = tie.close (tie.spec cast-m sub-result returns returns-2)

@@ -1,0 +1,31 @@
+-- `is_numeral` meets its contract. Assumes nothing.
+use mathlib.Core.Path.{refl}
+use Rattle.text.specs.Decimal.{numeral, clamped}
+use Rattle.routine.specs.Rows.{isNumeral}
+use Rattle.values.proofs.ValueLaws.{numeral-clamped, tested}
+use borrow.Author.Needs.{needs}
+use Rattle.values.proofs.is_numeral.Statement.{statement}
+use Rattle.values.proofs.is_numeral.Tie as tie
+
+read-numeral-requires : tie.Need-read-numeral-requires
+read-numeral-requires c κs = search needs
+
+enum-told : tie.Need-enum-told
+enum-told c = search needs
+
+enum-told-2 : tie.Need-enum-told-2
+enum-told-2 c = search needs
+
+returns : tie.Need-returns
+unfolding isNumeral
+returns c =
+    tested isNumeral clamped numeral-clamped (numeral (c .before .before .before .before .args .w .now)) (c .before .before .read-numeral .ensures) (c .enum-told .given .1) refl
+
+returns-2 : tie.Need-returns-2
+unfolding isNumeral
+returns-2 c =
+    tested isNumeral clamped numeral-clamped (numeral (c .before .before .before .before .args .w .now)) (c .before .before .read-numeral .ensures) (c .enum-told2 .given .1) refl
+
+pub is-numeral-spec : {M : Type 1} → statement M
+is-numeral-spec =
+    tie.close (tie.spec read-numeral-requires enum-told enum-told-2 returns returns-2)

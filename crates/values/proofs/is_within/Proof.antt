@@ -1,0 +1,26 @@
+-- `is_within` meets its contract. Assumes nothing.
+use mathlib.Core.Path.{ap, _∙_}
+use mir.Syntax.{w64}
+use mir.ValLaws.{toZ-ofZ}
+use Rattle.numbers.specs.Numbers.{within}
+use Rattle.routine.specs.Rows.{value}
+use Rattle.values.proofs.ValueLaws.{within-clamp}
+use borrow.Author.Needs.{needs}
+use Rattle.values.proofs.is_within.Statement.{statement}
+use Rattle.values.proofs.is_within.Tie as tie
+
+held-value-requires : tie.Need-held-value-requires
+held-value-requires c κs = search needs
+
+within-requires : tie.Need-within-requires
+within-requires c κs = search needs
+
+returns : tie.Need-returns
+returns c =
+    let start = c .before .before .before in
+    c .within .ensures
+    ∙ ap (within (start .args .range)) (toZ-ofZ w64 _ (search needs) ∙ c .before .held-value .ensures)
+    ∙ within-clamp (start .args .range) (value (start .args .w .now)) (start .pre)
+
+pub is-within-spec : {M : Type 1} → statement M
+is-within-spec = tie.close (tie.spec held-value-requires within-requires returns)

@@ -1,0 +1,39 @@
+-- `number_cell` meets its contract. Assumes nothing.
+use mathlib.Core.Path.{_≡_, sym, ap, ap₂, subst, _∙_}
+use mathlib.Core.Bool.{true}
+use native.Mathlib.Omega.{arith}
+use lib.IntN.{ℤ, pos, negsuc}
+use lib.Dec.{lit<}
+use mir.Syntax.{w32, w64}
+use mir.Val.{SFits, ofZ, toZ}
+use mir.ValLaws.{toZ-ofZ}
+use Rattle.numbers.specs.Numbers.{numbers, within}
+use Rattle.cells.specs.Cells.{number}
+use Rattle.routine.specs.Routine.{inside}
+use Rattle.values.proofs.ValueLaws.{number-fits}
+use borrow.Author.Needs.{needs}
+use Rattle.values.proofs.number_cell.Statement.{statement}
+use Rattle.values.proofs.number_cell.Tie as tie
+
+held : (c : tie.After-inside) → toZ w64 (ofZ w64 (c .inside .result)) ≡ inside numbers (c .before .before .args .z)
+held c = toZ-ofZ w64 _ (search needs) ∙ c .inside .ensures ∙ ap₂ inside (c .before .number-range .ensures) (toZ-ofZ w64 (c .before .before .args .z) (c .before .before .fits .z))
+
+number-range-requires : tie.Need-number-range-requires
+number-range-requires c κs = search needs
+
+inside-requires : tie.Need-inside-requires
+inside-requires c κs = search needs
+
+cast-number : tie.Need-cast-number
+cast-number c = subst (SFits w32) (sym (held c)) (number-fits (c .before .before .args .z))
+
+number-requires : tie.Need-number-requires
+number-requires c κs = search needs
+
+returns : tie.Need-returns
+returns c =
+    c .number .ensures ∙ ap number (toZ-ofZ w32 _ (subst (SFits w32) (sym (held (c .before))) (number-fits (c .before .before .before .args .z))) ∙ held (c .before))
+
+pub number-cell-spec : {M : Type 1} → statement M
+number-cell-spec =
+    tie.close (tie.spec number-range-requires inside-requires cast-number number-requires returns)

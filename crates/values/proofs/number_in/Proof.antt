@@ -1,0 +1,27 @@
+-- `number_in` meets its contract. Assumes nothing.
+use mathlib.Core.Path.{ap, _∙_}
+use mir.Syntax.{w64}
+use mir.ValLaws.{toZ-ofZ}
+use Rattle.routine.specs.Rows.{value}
+use Rattle.routine.specs.Routine.{inside}
+use Rattle.values.proofs.ValueLaws.{inside-clamp}
+use borrow.Author.Needs.{needs}
+use Rattle.values.proofs.number_in.Statement.{statement}
+use Rattle.values.proofs.number_in.Tie as tie
+
+held-value-requires : tie.Need-held-value-requires
+held-value-requires c κs = search needs
+
+inside-requires : tie.Need-inside-requires
+inside-requires c κs = search needs
+
+returns : tie.Need-returns
+returns c =
+    let start = c .before .before .before in
+    toZ-ofZ w64 _ (search needs)
+    ∙ c .inside .ensures
+    ∙ ap (inside (start .args .range)) (toZ-ofZ w64 _ (search needs) ∙ c .before .held-value .ensures)
+    ∙ inside-clamp (start .args .range) (value (start .args .w .now)) (start .pre)
+
+pub number-in-spec : {M : Type 1} → statement M
+number-in-spec = tie.close (tie.spec held-value-requires inside-requires returns)

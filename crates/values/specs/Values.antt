@@ -1,0 +1,19 @@
+-- What the code holds of a word.
+use Prim.Native.Nat.{_<_}
+use lib.Signed.{mag}
+use Rattle.text.specs.Decimal.{most, clamp}
+use Rattle.numbers.specs.declared.Range.{Range}
+use Rattle.routine.specs.declared.CellWord.{CellWord}
+use Rattle.routine.specs.declared.CellWord.the-variants.{Wrong, Unknown, Known, Block}
+
+-- a range that a clamped number is within exactly if the number is: both ends are less than `most` away from 0
+pub record Near (r : Range) : Type 0 where
+  pub low : mag (r .low) < most
+  pub high : mag (r .high) < most
+
+-- a cell word with its number clamped
+unfoldable pub clampedCell : CellWord → CellWord
+clampedCell Wrong = Wrong
+clampedCell Unknown = Unknown
+clampedCell (Known z) = Known (clamp z)
+clampedCell (Block k) = Block (clamp k)

@@ -1,0 +1,210 @@
+// What a word of a line of values says. The meaning is in specs/ here and of crate routine.
+use cells::Cell;
+use cells::Value;
+use numbers::Range;
+use routine::CellWord;
+use text::Numeral;
+ghost use mathlib.Core.Path.{_≡_};
+ghost use Prim.Native.Nat.{_≤_};
+ghost use lib.Dec.{ltb};
+ghost use lib.IntN.{natAbs};
+ghost use Rattle.text.specs.Decimal.{numeral, most, clamp, clamped};
+ghost use Rattle.numbers.specs.Numbers.{range, within, numbers};
+ghost use Rattle.cells.specs.Cells.{number, handle};
+ghost use Rattle.routine.specs.Rows.{isNumeral, value, knownOf, blockOf, cellWord, isCell, handles, cellInRange, cellPresent, isKnown};
+ghost use Rattle.routine.specs.Routine.{inside, natural, cellOf};
+ghost use Rattle.values.specs.Values.{Near, clampedCell};
+
+// ---- numbers
+
+// Whether w spells a number.
+pub fn is_numeral(w: &[u8]) -> bool
+    ensures { λ r. ⌜ r ≡ isNumeral (numeral (now (w .entry))) ⌝ }
+{
+    match text::read_numeral(w) {
+        Numeral::Misspelt => false,
+        Numeral::Number(_) => true,
+    }
+}
+
+// What is held of the number that w spells; 0 where it spells none.
+fn held_value(w: &[u8]) -> i64
+    ensures { λ r. ⌜ r ≡ clamp (value (now (w .entry))) ⌝ }
+{
+    match text::read_numeral(w) {
+        Numeral::Misspelt => 0,
+        Numeral::Number(z) => z,
+    }
+}
+
+// Whether the number that w spells is within a range.
+pub fn is_within(range: Range, w: &[u8]) -> bool
+    requires { ⌜ Near range ⌝ }
+    ensures { λ r. ⌜ r ≡ within range (value (now (w .entry))) ⌝ }
+{
+    numbers::within(range, held_value(w))
+}
+
+// A number of a range; one outside it counts 0.
+fn inside(range: Range, z: i64) -> i64
+    ensures { λ r. ⌜ r ≡ inside range z ⌝ }
+{
+    if numbers::within(range, z) { z } else { 0 }
+}
+
+pub fn number_in(range: Range, w: &[u8]) -> i64
+    requires { ⌜ Near range ⌝ }
+    ensures { λ r. ⌜ r ≡ inside range (value (now (w .entry))) ⌝ }
+{
+    inside(range, held_value(w))
+}
+
+// A natural number of a range.
+pub fn natural_in(low: u32, high: u32, w: &[u8]) -> u32
+    ensures { λ r. ⌜ r ≡ natural (range low high) (now (w .entry)) ⌝ }
+{
+    let z = number_in(
+        Range {
+            low: low as i64,
+            high: high as i64,
+        },
+        w,
+    );
+    z as u32
+}
+
+// ---- cells
+
+fn known_word(n: Numeral) -> CellWord
+    ensures { λ r. ⌜ r ≡ knownOf n ⌝ }
+{
+    match n {
+        Numeral::Misspelt => CellWord::Wrong,
+        Numeral::Number(z) => CellWord::Known(z),
+    }
+}
+
+fn block_word(n: Numeral) -> CellWord
+    ensures { λ r. ⌜ r ≡ blockOf n ⌝ }
+{
+    match n {
+        Numeral::Misspelt => CellWord::Wrong,
+        Numeral::Number(z) => CellWord::Block(z),
+    }
+}
+
+// What w says where a cell is wanted: "number, `?` for unknown, `#k` for block k".
+pub fn cell_word(w: &[u8]) -> CellWord
+    ensures { λ r. ⌜ r ≡ clampedCell (cellWord (now (w .entry))) ⌝ }
+{
+    if text::same(w, b"?") {
+        return CellWord::Unknown;
+    }
+    if w.len() == 0 {
+        return CellWord::Wrong;
+    }
+    if w[0] == b'#' {
+        return block_word(text::read_numeral(&w[1..]));
+    }
+    known_word(text::read_numeral(w))
+}
+
+pub fn is_cell(w: &[u8]) -> bool
+    ensures { λ r. ⌜ r ≡ isCell (cellWord (now (w .entry))) ⌝ }
+{
+    match cell_word(w) {
+        CellWord::Wrong => false,
+        CellWord::Unknown => true,
+        CellWord::Known(_) => true,
+        CellWord::Block(_) => true,
+    }
+}
+
+pub fn is_known(w: &[u8]) -> bool
+    ensures { λ r. ⌜ r ≡ isKnown (cellWord (now (w .entry))) ⌝ }
+{
+    match cell_word(w) {
+        CellWord::Wrong => true,
+        CellWord::Unknown => false,
+        CellWord::Known(_) => true,
+        CellWord::Block(_) => true,
+    }
+}
+
+// "An i is any 32-bit number."
+pub fn number_range() -> Range
+    ensures { λ r. ⌜ r ≡ numbers ⌝ }
+{
+    Range {
+        low: -2147483648,
+        high: 2147483647,
+    }
+}
+
+// "`#k` with k outside 0 to 7 is 3"
+fn handle_range() -> Range
+    ensures { λ r. ⌜ r ≡ handles ⌝ }
+{
+    Range { low: 0, high: 7 }
+}
+
+pub fn cell_in_range(w: &[u8]) -> bool
+    ensures { λ r. ⌜ r ≡ cellInRange (cellWord (now (w .entry))) ⌝ }
+{
+    match cell_word(w) {
+        CellWord::Wrong => true,
+        CellWord::Unknown => true,
+        CellWord::Known(z) => numbers::within(number_range(), z),
+        CellWord::Block(k) => numbers::within(handle_range(), k),
+    }
+}
+
+// Whether k is less than n away from 0.
+fn is_nearer(k: i64, n: usize) -> bool
+    requires { ⌜ n ≤ most ⌝ }
+    ensures { λ r. ⌜ r ≡ ltb (natAbs k) n ⌝ }
+{
+    let m = n as i64;
+    if k < 0 { -m < k } else { k < m }
+}
+
+// Whether a handle is one of the n blocks that are present.
+pub fn cell_present(n: usize, w: &[u8]) -> bool
+    requires { ⌜ n ≤ most ⌝ }
+    ensures { λ r. ⌜ r ≡ cellPresent n (cellWord (now (w .entry))) ⌝ }
+{
+    match cell_word(w) {
+        CellWord::Wrong => true,
+        CellWord::Unknown => true,
+        CellWord::Known(_) => true,
+        CellWord::Block(k) => is_nearer(k, n),
+    }
+}
+
+fn number_cell(z: i64) -> Cell
+    ensures { λ r. ⌜ r ≡ number (inside numbers z) ⌝ }
+{
+    let n = inside(number_range(), z);
+    cells::number(n as i32)
+}
+
+fn handle_cell(k: i64) -> Cell
+    ensures { λ r. ⌜ r ≡ handle (natAbs (inside handles k)) ⌝ }
+{
+    let n = inside(handle_range(), k);
+    Cell {
+        value: Value::Handle(n as u8),
+    }
+}
+
+// The cell that w says.
+pub fn cell_of(w: &[u8]) -> Cell
+    ensures { λ r. ⌜ r ≡ cellOf (cellWord (now (w .entry))) ⌝ }
+{
+    match cell_word(w) {
+        CellWord::Wrong => cells::number(0),
+        CellWord::Unknown => cells::unknown(),
+        CellWord::Known(z) => number_cell(z),
+        CellWord::Block(k) => handle_cell(k),
+    }
+}
