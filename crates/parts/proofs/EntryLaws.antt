@@ -5,9 +5,9 @@ use mathlib.Core.Bool.{Bool, true, false, cond}
 use mathlib.Core.List.{List, [], _∷_, _++_, map}
 use native.Mathlib.Omega.{arith}
 use native.Mathlib.Numerals.{add-one}
-use lib.Dec.{eqb, leb}
-use lib.IntN.{ℤ, pos, natAbs}
-use lib.ListN.{length, getD, take, drop, set, length-map, List·getD-eq-default, List·getD-map}
+use lib.Dec.{eqb}
+use lib.IntN.{ℤ}
+use lib.ListN.{length, getD, take, set, length-map, List·getD-eq-default}
 use lib.Seq.{take-suc, take-suc-set, length-take-le}
 use borrow.Author.Tests.{le-leb, lt-leb}
 use Rattle.text.specs.Text.{find, Line, noLine}
@@ -31,7 +31,6 @@ use Rattle.routine.specs.Rows.{op, arg, value, cycleCounts, wordCounts}
 use Rattle.routine.specs.Routine.{inside, argumentValue}
 use Rattle.routine.proofs.RangeLaws.{inside-small}
 use Rattle.parts.specs.Parts.{naturalAt, PriceLines, pricesIn, instructionAs, instructionIn, Coded}
-use Rattle.parts.proofs.FillLaws.{take-map}
 
 -- past the table's end stands its last kind
 pub kind-past : (k : ℕ) → 61 ≤ k → kindAt 60 ≡ kindAt k

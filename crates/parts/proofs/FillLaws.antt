@@ -1,13 +1,13 @@
 -- Laws of an array that is filled in the order of a list. Assumes nothing.
-use Prim.Native.Nat.{ℕ, zero, suc, _+_, _%_, _<_, _≤_}
+use Prim.Native.Nat.{ℕ, zero, suc, _+_, _<_, _≤_}
 use mathlib.Core.Path.{_≡_, refl, sym, ap, ap₂, _∙_}
 use mathlib.Core.List.{List, [], _∷_, _++_, map}
 use native.Mathlib.Omega.{arith}
 use native.Mathlib.Numerals.{add-one}
-use lib.ListN.{length, getD, take, drop, set, length-drop, length-map, List·getD-map}
-use lib.Seq.{take-all, take-suc, take-suc-set, drop-set-add, getD-drop, drop-drop, take-set-le}
+use lib.ListN.{length, getD, take, drop, set, length-drop, List·getD-map}
+use lib.Seq.{take-all, take-suc, take-suc-set, drop-set-add, getD-drop, drop-drop}
 use Rattle.text.specs.Text.{Line, noLine, lines}
-use Rattle.text.proofs.LineLaws.{line-drop, lines-some, lines-empty}
+use Rattle.text.proofs.LineLaws.{line-drop, lines-empty}
 
 module _ {A : Type 0} where
   -- one more entry

@@ -1,11 +1,11 @@
 -- Laws of the words that a line lists, and of the code lines among the lines after the layout. Assumes nothing.
-use Prim.Native.Nat.{ℕ, zero, suc, _+_, _-_, _<_, _≤_}
+use Prim.Native.Nat.{ℕ, suc, _+_, _<_, _≤_}
 use mathlib.Core.Path.{_≡_, refl, sym, ap, _∙_}
 use mathlib.Core.Bool.{Bool, true, false, cond}
 use mathlib.Core.List.{List, [], _∷_}
 use native.Mathlib.Omega.{arith}
 use lib.ListN.{length, getD, take, drop}
-use Rattle.text.specs.Text.{bytes, equals, words, find, Line, lines, noLine}
+use Rattle.text.specs.Text.{bytes, equals, words, Line, lines, noLine}
 use Rattle.text.proofs.PieceLaws.{words-length}
 use Rattle.text.proofs.LineLaws.{lines-first, lines-empty}
 use Rattle.routine.specs.Layout.{list, isAnswer, upToAnswer, pastAnswer, codeLines, answerLines}
@@ -52,6 +52,21 @@ pub code-take : (ls : List Line) → codeLines ls ≡ take (length (codeLines ls
 unfolding codeLines
 code-take [] = refl
 code-take (l ∷ ls) = ap (λ (x : List Line). l ∷ x) (upTo-take ls)
+
+-- no more than the lines
+upTo-few : (ls : List Line) → length (upToAnswer ls) ≤ length ls
+unfolding upToAnswer
+upTo-few [] = omega arith
+upTo-few (l ∷ ls) = go (isAnswer l) (upTo-few ls)
+  where
+    go : (b : Bool) → length (upToAnswer ls) ≤ length ls → length (cond b [] (l ∷ upToAnswer ls)) ≤ suc (length ls)
+    go true h = omega arith
+    go false h = omega arith
+
+pub code-few : (ls : List Line) → length (codeLines ls) ≤ length ls
+unfolding codeLines
+code-few [] = omega arith
+code-few (l ∷ ls) = omega (arith, upTo-few ls)
 
 pub answer-drop : (ls : List Line) → answerLines ls ≡ drop (suc (length (codeLines ls))) ls
 unfolding codeLines answerLines

@@ -1,8 +1,7 @@
 -- The parts of a routine by the texts of the lines that hold them, as the code reads them. `routineOf` has the same parts of a whole
 -- file (proofs/PartLaws).
-use Prim.Native.Nat.{ℕ, _%_, _≤_}
+use Prim.Native.Nat.{ℕ, _%_}
 use mathlib.Core.Path.{_≡_}
-use mathlib.Core.Bool.{Bool, cond}
 use mathlib.Core.List.{List, [], map}
 use lib.Dec.{leb}
 use lib.IntN.{pos}

@@ -18,7 +18,7 @@ ghost use Rattle.machine.specs.Columns.{line, lineOf, linesOf};
 ghost use Rattle.machine.specs.View.{view, blocksOf};
 ghost use Rattle.routine.specs.Layout.{list, codeLines};
 ghost use Rattle.routine.specs.Rows.{value, total};
-ghost use Rattle.routine.specs.Routine.{inside, natural, argumentValue};
+ghost use Rattle.routine.specs.Routine.{inside, argumentValue};
 ghost use Rattle.routine.specs.Routine.{blocksOf as blocksInLine};
 ghost use Rattle.parts.specs.Parts.{naturalAt, priceLines, instructionIn, Coded, cellsIn, startIn};
 
@@ -116,7 +116,8 @@ pub struct Answers {
 // The answers that the lines of `text` hold.
 pub fn answers_of(text: &[u8]) -> Answers
     requires { ⌜ length (lines (now text)) ≤ 64 ⌝ }
-    ensures { λ r. ⌜ (take (r .count) (r .values) ≡ map (λ l. inside numbers (value (l .text))) (lines (now (text .entry)))) × (r .count ≤ 64) ⌝ }
+    ensures answers { λ r. ⌜ take (r .count) (r .values) ≡ map (λ l. inside numbers (value (l .text))) (lines (now (text .entry))) ⌝ }
+    ensures few { λ r. ⌜ r .count ≤ 64 ⌝ }
 {
     let mut values = [0i32; 64];
     let mut rest = text;
@@ -140,7 +141,8 @@ pub fn answers_of(text: &[u8]) -> Answers
 // The start at the address `first`: the first cell of a line is ACCU, the others are the stack, the top first.
 pub fn start_of(values: &[u8], first: usize) -> State
     requires { ⌜ length (list (now values)) ≤ 33 ⌝ }
-    ensures { λ r. ⌜ (view r ≡ startIn first (cellsIn (now (values .entry)))) × (r .free ≤ 64) ⌝ }
+    ensures start { λ r. ⌜ view r ≡ startIn first (cellsIn (now (values .entry))) ⌝ }
+    ensures room { λ r. ⌜ r .free ≤ 64 ⌝ }
 {
     let accu = cell_at(values, 0);
     let zero = cells::number(0);
@@ -167,7 +169,8 @@ pub fn start_of(values: &[u8], first: usize) -> State
 
 // The place in the table of the kind that a word names; that of the last kind where it names none.
 fn kind_of(w: &[u8]) -> usize
-    ensures { λ r. ⌜ (kindAt r ≡ kindAt (find (now (w .entry)) kindNames)) × (r < 61) ⌝ }
+    ensures kind { λ r. ⌜ kindAt r ≡ kindAt (find (now (w .entry)) kindNames) ⌝ }
+    ensures place { λ r. ⌜ r < 61 ⌝ }
 {
     let k = instructions::kind_named(w);
     if k < 61 { k } else { 60 }
@@ -244,7 +247,8 @@ pub fn entry_of(
     primitive_words: &[u8],
     text: &[u8],
 ) -> Entry
-    ensures { λ r. ⌜ (lineOf (line (r .code) (r .operand) (r .cycles) (r .words)) ≡ instructionIn (priceLines (now (kinds .entry)) (now («kind_cycles» .entry)) (now («kind_words» .entry)) (now (primitives .entry)) (now («primitive_cycles» .entry)) (now («primitive_words» .entry))) (now (text .entry))) × (r .code % 32 ≤ 22) ⌝ }
+    ensures instruction { λ r. ⌜ lineOf (line (r .code) (r .operand) (r .cycles) (r .words)) ≡ instructionIn (priceLines (now (kinds .entry)) (now («kind_cycles» .entry)) (now («kind_words» .entry)) (now (primitives .entry)) (now («primitive_cycles» .entry)) (now («primitive_words» .entry))) (now (text .entry)) ⌝ }
+    ensures known { λ r. ⌜ r .code % 32 ≤ 22 ⌝ }
 {
     let op = text::word_at(text, 1);
     let arg = text::word_at(text, 2);
@@ -284,7 +288,8 @@ pub fn columns_of(
     count: usize,
 ) -> Columns
     requires { ⌜ (count ≤ 1024) × (count ≤ length (lines (now body))) ⌝ }
-    ensures { λ r. ⌜ (linesOf (take count (r .codes)) (take count (r .operands)) (take count (r .cycles)) (take count (r .words)) ≡ map (λ l. instructionIn (priceLines (now (kinds .entry)) (now («kind_cycles» .entry)) (now («kind_words» .entry)) (now (primitives .entry)) (now («primitive_cycles» .entry)) (now («primitive_words» .entry))) (l .text)) (take count (lines (now (body .entry))))) × ((j : ℕ) → getD (take count (r .codes)) j 0 % 32 ≤ 22) ⌝ }
+    ensures instructions { λ r. ⌜ linesOf (take count (r .codes)) (take count (r .operands)) (take count (r .cycles)) (take count (r .words)) ≡ map (λ l. instructionIn (priceLines (now (kinds .entry)) (now («kind_cycles» .entry)) (now («kind_words» .entry)) (now (primitives .entry)) (now («primitive_cycles» .entry)) (now («primitive_words» .entry))) (l .text)) (take count (lines (now (body .entry)))) ⌝ }
+    ensures known { λ r. ⌜ ((j : ℕ) → getD (take count (r .codes)) j 0 % 32 ≤ 22) ⌝ }
 {
     let mut codes = [0u8; 1024];
     let mut operands = [0i32; 1024];
@@ -325,7 +330,8 @@ pub fn columns_of(
 // `fields` with `size` cells of a line, from its place `from` on, in the places from `start` on.
 fn fill(values: &[u8], from: usize, fields: [Cell; 128], start: usize, size: usize) -> [Cell; 128]
     requires { ⌜ (start + size ≤ 128) × (from + size ≤ length (list (now values))) ⌝ }
-    ensures { λ r. ⌜ (take start r ≡ take start fields) × (take size (drop start r) ≡ take size (drop from (cellsIn (now (values .entry))))) ⌝ }
+    ensures kept { λ r. ⌜ take start r ≡ take start fields ⌝ }
+    ensures filled { λ r. ⌜ take size (drop start r) ≡ take size (drop from (cellsIn (now (values .entry)))) ⌝ }
 {
     let mut filled = fields;
     let mut i = 0;

@@ -1,7 +1,7 @@
 -- `parts::answers_of` meets its contract. The loop's invariant: the first n places hold the answers of the first n lines, and the other
 -- lines are those of what is left. The measure is the length of what is left. Assumes nothing.
 use Prim.Native.Nat.{ℕ, _<_, _≤_}
-use mathlib.Core.Path.{_≡_, refl, sym, ap, ap₂, _∙_}
+use mathlib.Core.Path.{_≡_, refl, ap₂, _∙_}
 use mathlib.Core.List.{List, map}
 use native.Mathlib.Omega.{arith}
 use mir.Syntax.{w32}

@@ -1,11 +1,11 @@
 -- `parts::columns_of` meets its contract. The loop's invariant: the first n entries of the columns are the first n lines, and the other
 -- lines are those of what is left. The measure is the number of lines left. Assumes nothing.
-use Prim.Native.Nat.{ℕ, _+_, _-_, _%_, _<_, _≤_}
-use mathlib.Core.Path.{_≡_, refl, sym, ap, _∙_}
-use mathlib.Core.List.{List, map}
+use Prim.Native.Nat.{ℕ, _-_, _%_, _<_, _≤_}
+use mathlib.Core.Path.{_≡_, refl, ap, _∙_}
+use mathlib.Core.List.{map}
 use native.Mathlib.Omega.{arith}
 use lib.ListN.{length, getD, take, drop, length-set}
-use Rattle.text.specs.Text.{Line, noLine, lines}
+use Rattle.text.specs.Text.{Line, lines}
 use Rattle.machine.specs.Machine.{Instruction}
 use mir.Syntax.{w32}
 use mir.ValLaws.{toZ-ofZ}

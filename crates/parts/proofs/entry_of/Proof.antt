@@ -1,6 +1,6 @@
 -- `parts::entry_of` meets its contract. Assumes nothing.
 use Prim.Native.Nat.{ℕ}
-use mathlib.Core.Path.{_≡_, sym, ap, _∙_}
+use mathlib.Core.Path.{ap, _∙_}
 use mathlib.Core.List.{List}
 use native.Mathlib.Omega.{arith}
 use mir.Syntax.{w32}
@@ -9,7 +9,7 @@ use Rattle.text.specs.Text.{find}
 use Rattle.instructions.specs.Kinds.{operand, kindNames}
 use Rattle.instructions.specs.Columns.{kindAt}
 use Rattle.routine.specs.Layout.{list}
-use Rattle.routine.specs.Rows.{op, arg, cycleCounts, wordCounts}
+use Rattle.routine.specs.Rows.{cycleCounts, wordCounts}
 use Rattle.routine.specs.Routine.{argumentValue}
 use Rattle.parts.specs.Parts.{priceLines}
 use Rattle.parts.proofs.EntryLaws.{Read, entry-is, code-small, same-price}

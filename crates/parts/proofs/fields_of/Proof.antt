@@ -1,10 +1,9 @@
 -- `parts::fields_of` meets its contract. The loop's invariant: the first k blocks are in their places, and `from` cells are passed. The
 -- measure is the number of blocks left. Assumes nothing.
-use Prim.Native.Nat.{ℕ, _+_, _-_, _*_, _<_, _≤_}
-use mathlib.Core.Path.{_≡_, refl, sym, ap, _∙_}
+use Prim.Native.Nat.{ℕ, _-_, _<_, _≤_}
+use mathlib.Core.Path.{_≡_, refl, ap, _∙_}
 use native.Mathlib.Omega.{arith}
 use lib.ListN.{length, getD, take, drop}
-use Rattle.cells.specs.declared.Cell.{Cell}
 use Rattle.machine.specs.View.{blocksOf}
 use Rattle.routine.specs.Rows.{total}
 use Rattle.routine.specs.Routine.{blocksOf as blocksInLine}

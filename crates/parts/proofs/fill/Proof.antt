@@ -1,10 +1,10 @@
 -- `parts::fill` meets its contract. The loop's invariant: the places before `start` are as they were, and the first i places from there
 -- on hold the first i cells. The measure is the number of cells left. Assumes nothing.
-use Prim.Native.Nat.{ℕ, _+_, _-_, _<_, _≤_}
-use mathlib.Core.Path.{_≡_, refl, sym, ap, _∙_}
+use Prim.Native.Nat.{_-_, _≤_}
+use mathlib.Core.Path.{_≡_, refl, _∙_}
 use native.Mathlib.Omega.{arith}
 use lib.IntN.{pos}
-use lib.ListN.{length, getD, take, drop, length-set}
+use lib.ListN.{length, take, drop, length-set}
 use lib.Seq.{take-set-le}
 use Rattle.cells.specs.Cells.{number}
 use Rattle.machine.proofs.Stack.{length-images}

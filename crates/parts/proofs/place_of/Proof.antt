@@ -1,7 +1,5 @@
 -- `parts::place_of` meets its contract. Assumes nothing.
 use mathlib.Core.Path.{sym, ap, _∙_}
-use mathlib.Core.List.{List}
-use Prim.Native.Nat.{ℕ}
 use Rattle.text.specs.Text.{find}
 use Rattle.parts.proofs.ListLaws.{list-none, list-words}
 use borrow.Author.Needs.{needs}

@@ -1,7 +1,4 @@
 -- `parts::price_of` meets its contract. Assumes nothing.
-use Prim.Native.Nat.{ℕ, _+_}
-use mathlib.Core.Path.{sym, ap, ap₂, _∙_}
-use mathlib.Core.Bool.{Bool, cond}
 use native.Mathlib.Omega.{arith}
 use Rattle.parts.proofs.EntryLaws.{natural-small, with-primitive, without-primitive}
 use borrow.Author.Needs.{needs}
