@@ -1,6 +1,6 @@
 -- `argument_in_range` meets its contract. Assumes nothing.
-use native.Mathlib.Omega.{arith}
 use mathlib.Core.Path.{refl, sym, ap, _∙_}
+use native.Mathlib.Omega.{arith}
 use Rattle.numbers.specs.Numbers.{within}
 use Rattle.instructions.specs.Kinds.{addresses}
 use Rattle.routine.specs.Rows.{value, arg, argumentInRange}

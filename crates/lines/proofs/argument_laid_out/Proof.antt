@@ -1,7 +1,7 @@
 -- `argument_laid_out` meets its contract. Assumes nothing.
-use native.Mathlib.Omega.{arith}
 use mathlib.Core.Path.{sym, ap, _∙_}
 use mathlib.Core.Bool.{not}
+use native.Mathlib.Omega.{arith}
 use Rattle.text.specs.Text.{bytes, equals}
 use Rattle.text.specs.Decimal.{numeral}
 use Rattle.routine.specs.Rows.{isNumeral, arg, argumentLaidOut}

@@ -1,6 +1,6 @@
 -- `argument_named` meets its contract. Assumes nothing.
-use native.Mathlib.Omega.{arith}
 use mathlib.Core.Path.{refl, ap, _∙_}
+use native.Mathlib.Omega.{arith}
 use Rattle.text.specs.Text.{among}
 use Rattle.routine.specs.Layout.{list}
 use Rattle.routine.specs.Rows.{arg, onArgument, argumentNamed}

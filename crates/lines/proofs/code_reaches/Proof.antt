@@ -1,6 +1,6 @@
 -- `code_reaches` meets its contract. Assumes nothing.
-use native.Mathlib.Omega.{arith}
 use mathlib.Core.Path.{refl, sym, ap₂, _∙_}
+use native.Mathlib.Omega.{arith}
 use mir.Syntax.{w64}
 use mir.ValLaws.{toZ-ofZ}
 use Rattle.instructions.specs.declared.Argument.the-variants.{Target}
