@@ -114,7 +114,7 @@ prices-small ls = every-mapped (λ l. instructionOf ls (l .text)) (λ l. instruc
 -- ---- the start
 
 -- "ACCU, then S0 on to S31 at most"
-cells-few : (ls : List Line) → Passes ls → length (listed (names cells) ls) ≤ 33
+pub cells-few : (ls : List Line) → Passes ls → length (listed (names cells) ls) ≤ 33
 unfolding listed named wellNamed cellNames stackNames
 cells-few ls p =
     let ws = listed (names cells) ls in
@@ -122,7 +122,7 @@ cells-few ls p =
     omega arith
 
 -- as many values as names
-cells-counted : (ls : List Line) → Passes ls → length (cellsOf cells ls) ≡ length (listed (names cells) ls)
+pub cells-counted : (ls : List Line) → Passes ls → length (cellsOf cells ls) ≡ length (listed (names cells) ls)
 unfolding cellsOf listed laidOut valuesLaidOut
 cells-counted ls p =
     let vs = listed (values cells cell) ls in
