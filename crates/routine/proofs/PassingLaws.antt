@@ -1,6 +1,6 @@
 -- What a text that passes rows of the refusal table has: its first address, and how many lines, cells and fields. Assumes nothing.
 use Prim.Native.Nat.{ℕ, suc, _+_, _<_, _≤_}
-use mathlib.Core.Path.{_≡_, refl, ap, _∙_}
+use mathlib.Core.Path.{_≡_, refl}
 use mathlib.Core.Bool.{Bool, true, false, cond, not, false≢true}
 use mathlib.Core.List.{List, [], _∷_, _++_}
 use native.Mathlib.Omega.{arith}
@@ -22,7 +22,7 @@ use Rattle.routine.specs.declared.Role.the-variants.{Names as names, Val
 use Rattle.routine.specs.declared.Row.{Row}
 use Rattle.routine.specs.declared.Row.the-variants.{Layout as layout-row, Range as range-row}
 use Rattle.routine.specs.declared.Fault.the-variants.{Clean as clean}
-use Rattle.routine.specs.Layout.{layout, isAnswer, body, upToAnswer, pastAnswer, codeLines, answerLines, answerRoles, codeRoles, bodyRoles, roles, list, textAt, listed}
+use Rattle.routine.specs.Layout.{layout, isAnswer, body, upToAnswer, pastAnswer, codeLines, answerLines, answerRoles, codeRoles, bodyRoles, roles, listed}
 use Rattle.routine.specs.Rows.{value, isNumeral, at, arg, onArgument, argumentInRange, firstAddresses, columnLaidOut, namesLaidOut, valuesLaidOut, answerLaidOut, laidOut, codeInRange, inRange, blockSizes, total, wellNamed, named, firstAt, test, fault}
 use Rattle.routine.specs.Routine.{inside}
 use Rattle.routine.proofs.RowLaws.{Passes, Covered, passed, First, fault-clean, laid-out, passes-laid-out, passes-named}

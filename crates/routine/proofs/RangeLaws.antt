@@ -122,7 +122,7 @@ cells-few ls p =
     omega arith
 
 -- as many values as names
-pub cells-counted : (ls : List Line) → Passes ls → length (cellsOf cells ls) ≡ length (listed (names cells) ls)
+cells-counted : (ls : List Line) → Passes ls → length (cellsOf cells ls) ≡ length (listed (names cells) ls)
 unfolding cellsOf listed laidOut valuesLaidOut
 cells-counted ls p =
     let vs = listed (values cells cell) ls in
