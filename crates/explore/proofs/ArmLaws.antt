@@ -20,10 +20,10 @@ use Rattle.machine.specs.View.{view, slot, Fits, whole}
 use Rattle.machine.specs.Columns.{codeOf}
 use Rattle.machine.proofs.TurnLaws as turn
 use Rattle.machine.proofs.BlockLaws.{slot-below}
-use Rattle.explore.specs.declared.Verdict.the-variants as verdicts
-use Rattle.explore.specs.declared.Found.{Found}
-use Rattle.explore.specs.declared.Tally.{Tally}
-use Rattle.explore.specs.Found.{price, moreOf, joinedOf, finishedOf, refusedAs, Summable}
+use Rattle.findings.specs.declared.Verdict.the-variants as verdicts
+use Rattle.findings.specs.declared.Found.{Found}
+use Rattle.findings.specs.declared.Tally.{Tally}
+use Rattle.findings.specs.Found.{price, moreOf, joinedOf, finishedOf, refusedAs, Summable}
 use Rattle.explore.specs.Contract.{Explores, SafeUnder, ExactFor, Modest}
 use Rattle.explore.proofs.LoopLaws as loop
 use Rattle.explore.proofs.TurnLaws as turns

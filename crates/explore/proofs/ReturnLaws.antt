@@ -24,10 +24,10 @@ use Rattle.machine.specs.Columns.{codeOf}
 use Rattle.bounds.specs.Tree.{Decision, N, T, Report, accepted, refused, explore}
 use Rattle.bounds.specs.Tree as bounds
 use Rattle.bounds.proofs.PromiseLaws.{interruptible, exact}
-use Rattle.explore.specs.declared.Verdict.{Verdict}
-use Rattle.explore.specs.declared.Found.{Found}
-use Rattle.explore.specs.declared.Tally.{Tally}
-use Rattle.explore.specs.Found.{encode, refusalOf, acceptedAs, Shows, decidedOf, joinedOf, finishedOf, refusedAs}
+use Rattle.findings.specs.declared.Verdict.{Verdict}
+use Rattle.findings.specs.declared.Found.{Found}
+use Rattle.findings.specs.declared.Tally.{Tally}
+use Rattle.findings.specs.Found.{encode, refusalOf, acceptedAs, Shows, decidedOf, joinedOf, finishedOf, refusedAs}
 use Rattle.explore.specs.Contract.{Explores, SafeUnder, ExactFor, Modest}
 use Rattle.explore.proofs.LoopLaws as loop
 use Rattle.explore.proofs.TurnLaws.{act}

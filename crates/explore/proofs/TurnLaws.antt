@@ -20,8 +20,8 @@ use Rattle.machine.specs.View.{view, Fits, whole}
 use Rattle.machine.specs.Columns.{codeOf, lineOf}
 use Rattle.machine.proofs.TurnLaws as turn
 use Rattle.machine.proofs.ColumnLaws.{fetch-within}
-use Rattle.explore.specs.declared.Tally.{Tally}
-use Rattle.explore.specs.Found.{price, moreOf}
+use Rattle.findings.specs.declared.Tally.{Tally}
+use Rattle.findings.specs.Found.{price, moreOf}
 use Rattle.explore.proofs.LoopLaws as loop
 
 module _ (first : ℕ) (bs : List ℕ) (is : List ℤ) (cs ws ns : List ℕ) (o budget : ℕ) (fs₀ : List Cell) (s₀ : code.State) where

@@ -8,10 +8,10 @@ use Rattle.explore.proofs.explore.Kinds as explore-kinds
 use Rattle.explore.proofs.+explore.Lts-explore as explore-lts
 use Rattle.cells.proofs.number.Reads as number-reads
 use Rattle.cells.proofs.unknown.Reads as unknown-reads
-use Rattle.explore.proofs.finished.Reads as finished-reads
-use Rattle.explore.proofs.joined.Reads as joined-reads
-use Rattle.explore.proofs.more.Reads as more-reads
-use Rattle.explore.proofs.refused.Reads as refused-reads
+use Rattle.findings.proofs.finished.Reads as finished-reads
+use Rattle.findings.proofs.joined.Reads as joined-reads
+use Rattle.findings.proofs.more.Reads as more-reads
+use Rattle.findings.proofs.refused.Reads as refused-reads
 use Rattle.machine.proofs.State.advance.Reads as advance-reads
 use Rattle.machine.proofs.State.jump.Reads as jump-reads
 use Rattle.machine.proofs.State.load.Reads as load-reads
@@ -50,11 +50,11 @@ use Rattle.machine.specs.Machine.{index, fetch, store, jump}
 use Rattle.machine.specs.Outcome.{operationOf, entryOf, outcome}
 use Rattle.machine.specs.View.{whole, ofSlot}
 use Rattle.machine.specs.Columns.{codeOf, lineOf, ofFetched, Known}
-use Rattle.explore.specs.declared.Verdict.{Verdict}
-use Rattle.explore.specs.declared.Verdict.the-variants.{Accepted}
-use Rattle.explore.proofs.Verdict as verdict
-use Rattle.explore.specs.declared.Found.{Found}
-use Rattle.explore.specs.Found.{refusedAs}
+use Rattle.findings.specs.declared.Verdict.{Verdict}
+use Rattle.findings.specs.declared.Verdict.the-variants.{Accepted}
+use Rattle.findings.proofs.Verdict as verdict
+use Rattle.findings.specs.declared.Found.{Found}
+use Rattle.findings.specs.Found.{refusedAs}
 use Rattle.machine.proofs.Stack.{length-images}
 use Rattle.instructions.proofs.ColumnLaws.{getD-any}
 use Rattle.explore.proofs.TurnLaws.{Turn, act, starts, turns, inside, overflows, outside}
@@ -529,8 +529,8 @@ returns-5 t c =
     let k = arms.over-out _ _ _ _ _ _ _ _ _ _ (entry b .args .start) (entry b .args .place) (b .before .before .jump .ensures .0) (arm t a) (c .before .before .enum-told6 .given .1) (c .before .if3 .taken) _ (c .refused5 .ensures) in
     (k .explored, (k .safe, (k .exact, k .modest)))
 
-add-explore : (t : ℕ) → explore-lts.Need-add-explore (claims t) (explore-at t) explore.Post Inv-loop μ-loop
-add-explore t c = let a : Acted t = c .before .before .before in omega (arith, arm t a .low)
+add-next : (t : ℕ) → explore-lts.Need-add-next (claims t) (explore-at t) explore.Post Inv-loop μ-loop
+add-next t c = let a : Acted t = c .before .before .before in omega (arith, arm t a .low)
 
 sub-explore : (t : ℕ) → explore-lts.Need-sub-explore (claims t) (explore-at t) explore.Post Inv-loop μ-loop
 sub-explore t c = omega (arith, c .if3 .left)
@@ -571,7 +571,7 @@ explore-requires-2 : (t : ℕ) → explore-lts.Need-explore-requires-2 (claims t
 explore-requires-2 t c κs =
     let a : Acted t = c .before .before .before .before .before .before .before in
     let b : Body t = body (lined a) in
-    (omega (arith, c .before .before .before .before .if3 .left, entry b .pre .0), (entry b .pre .1 .0, (record { addresses = entry b .pre .1 .1 .addresses; place-fits = arm t a .index-fits; free = arm t a .free; budget-fits = omega (arith, entry b .pre .1 .1 .budget-fits, b .before .loop .inv .inv .within); openings-fit = omega (arith, entry b .pre .1 .1 .openings-fit); fits = b .before .loop .inv .fits })))
+    (omega (arith, c .before .before .before .before .if3 .left, entry b .pre .0), (entry b .pre .1 .0, (record { addresses = entry b .pre .1 .1 .addresses; place-fits = omega (arith, arm t a .low, arm t a .index-fits); free = arm t a .free; budget-fits = omega (arith, entry b .pre .1 .1 .budget-fits, b .before .loop .inv .inv .within); openings-fit = omega (arith, entry b .pre .1 .1 .openings-fit); fits = b .before .loop .inv .fits })))
 
 enum-told-8 : (t : ℕ) → explore-lts.Need-enum-told-8 (claims t) (explore-at t) explore.Post Inv-loop μ-loop
 enum-told-8 t c = search needs
@@ -724,7 +724,7 @@ pub +explore-spec : {M : Type 1} → statement M
     (enum-told-6 t)
     (refused-requires-5 t)
     (returns-5 t)
-    (add-explore t)
+    (add-next t)
     (sub-explore t)
     (explore-requires t)
     (enum-told-7 t)

@@ -1,8 +1,8 @@
--- `explore::joined` meets its contract. Assumes nothing.
-use Rattle.explore.proofs.PartLaws.{joined-is}
+-- `findings::joined` meets its contract. Assumes nothing.
+use Rattle.findings.proofs.PartLaws.{joined-is}
 use borrow.Author.Needs.{needs}
-use Rattle.explore.proofs.joined.Statement.{statement}
-use Rattle.explore.proofs.joined.Tie as tie
+use Rattle.findings.proofs.joined.Statement.{statement}
+use Rattle.findings.proofs.joined.Tie as tie
 
 larger-sum-requires : tie.Need-larger-sum-requires
 larger-sum-requires c κs = search needs

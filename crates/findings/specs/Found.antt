@@ -10,10 +10,10 @@ use Rattle.refusals.specs.declared.Refusal.the-variants as refusals
 use Rattle.machine.specs.Machine.{Price}
 use Rattle.bounds.specs.Tree.{Decision, N, T, Step, made, not-made, Report, accepted, refused}
 use Rattle.bounds.specs.Tree as bounds
-use Rattle.explore.specs.declared.Verdict.{Verdict}
-use Rattle.explore.specs.declared.Verdict.the-variants.{Accepted, Stuck, Openings, Spent}
-use Rattle.explore.specs.declared.Found.{Found}
-use Rattle.explore.specs.declared.Tally.{Tally}
+use Rattle.findings.specs.declared.Verdict.{Verdict}
+use Rattle.findings.specs.declared.Verdict.the-variants.{Accepted, Stuck, Openings, Spent}
+use Rattle.findings.specs.declared.Found.{Found}
+use Rattle.findings.specs.declared.Tally.{Tally}
 
 -- the decisions of a path as one number: the first lowest, 1 for taken, with a 1 above the last
 unfoldable pub encode : List Decision → ℕ

@@ -1,9 +1,9 @@
--- `explore::decided` meets its contract. Assumes nothing.
+-- `findings::decided` meets its contract. Assumes nothing.
 use borrow.Author.Tests.{le-leb, lt-leb}
-use Rattle.explore.specs.Found.{decidedOf}
+use Rattle.findings.specs.Found.{decidedOf}
 use borrow.Author.Needs.{needs}
-use Rattle.explore.proofs.decided.Statement.{statement}
-use Rattle.explore.proofs.decided.Tie as tie
+use Rattle.findings.proofs.decided.Statement.{statement}
+use Rattle.findings.proofs.decided.Tie as tie
 
 mul-result : tie.Need-mul-result
 mul-result c = search needs

@@ -1,8 +1,8 @@
--- `explore::more` meets its contract. Assumes nothing.
-use Rattle.explore.specs.Found.{moreOf}
+-- `findings::more` meets its contract. Assumes nothing.
+use Rattle.findings.specs.Found.{moreOf}
 use borrow.Author.Needs.{needs}
-use Rattle.explore.proofs.more.Statement.{statement}
-use Rattle.explore.proofs.more.Tie as tie
+use Rattle.findings.proofs.more.Statement.{statement}
+use Rattle.findings.proofs.more.Tie as tie
 
 add-c : tie.Need-add-c
 add-c c = search needs
