@@ -7,10 +7,10 @@ use lib.ListN.{length}
 use Rattle.cells.specs.declared.Cell.{Cell}
 use Rattle.cells.specs.Cells.{unknown}
 use Rattle.cells.specs.Order.{Allowed}
-use Rattle.machine.specs.declared.State as code
+use Rattle.states.specs.declared.State as code
 use Rattle.machine.specs.Machine.{State, Code, jump, step}
 use Rattle.machine.specs.Order.{Cellwise}
-use Rattle.machine.specs.View.{Fits, whole}
+use Rattle.states.specs.View.{Fits, whole}
 use Rattle.bounds.specs.Tree.{Report, explore, tree, steps}
 use Rattle.bounds.specs.Run.{begin, after}
 use Rattle.bounds.specs.Promises.{Safe, Exact}

@@ -3,13 +3,13 @@ use cells::Cell;
 use findings::Found;
 use findings::Tally;
 use findings::Verdict;
-use machine::Outcome;
-use machine::Slot;
-use machine::State;
-use machine::code::Fetched;
+use outcomes::Outcome;
+use states::Slot;
+use states::State;
+use states::code::Fetched;
 ghost use Rattle.machine.specs.Machine.{jump};
-ghost use Rattle.machine.specs.View.{whole};
-ghost use Rattle.machine.specs.Columns.{codeOf, Sized};
+ghost use Rattle.states.specs.View.{whole};
+ghost use Rattle.states.specs.Columns.{codeOf, Sized};
 ghost use Rattle.explore.specs.Contract.{Ready, Explores, SafeUnder, ExactFor, Modest};
 
 // Every way from `start` at the address `place`: a loop of steps, and a call for each way of an unknown branch.
@@ -44,7 +44,7 @@ pub fn explore(
         let used = budget - left + 1;
         left = left - 1;
         let at = s.at;
-        let fetched = machine::code::fetch(codes, operands, cycles, words, first, at);
+        let fetched = states::code::fetch(codes, operands, cycles, words, first, at);
         let Fetched::Is(line) = fetched else {
             return findings::refused(Verdict::Stuck(at), used);
         };
@@ -55,12 +55,12 @@ pub fn explore(
             }
             s = s.push(s.accu);
         }
-        let n = machine::index_of(line.operand);
+        let n = outcomes::index_of(line.operand);
         let free = s.free;
-        let i = machine::place_of(line.code, n, free);
-        let k = machine::drops_of(line.code, n);
+        let i = outcomes::place_of(line.code, n, free);
+        let k = outcomes::drops_of(line.code, n);
         let r = cells::unknown();
-        let out = machine::outcome_of(line.code, line.operand, r, 64 - free, s.accu, s.stack[i]);
+        let out = outcomes::outcome_of(line.code, line.operand, r, 64 - free, s.accu, s.stack[i]);
         match out {
             Outcome::Gives(c) => {
                 s = s.pop(k).load(c).advance();
@@ -69,7 +69,7 @@ pub fn explore(
                 s = s.store(n, c).load(cells::number(0)).advance();
             }
             Outcome::Sets(c) => {
-                let field = machine::slot_of(sizes, s.accu, n);
+                let field = states::slot_of(sizes, s.accu, n);
                 let Slot::At(j) = field else {
                     return findings::refused(Verdict::Stuck(at), used);
                 };
@@ -77,7 +77,7 @@ pub fn explore(
                 s = s.pop(1).load(cells::number(0)).advance();
             }
             Outcome::Gets => {
-                let field = machine::slot_of(sizes, s.accu, n);
+                let field = states::slot_of(sizes, s.accu, n);
                 let Slot::At(j) = field else {
                     return findings::refused(Verdict::Stuck(at), used);
                 };

@@ -11,11 +11,11 @@ use lib.ListN.{length, getD, drop, length-drop}
 use Rattle.cells.specs.Try.{stuck, done}
 use Rattle.cells.specs.declared.Cell.{Cell}
 use Rattle.cells.specs.Cells.{number}
-use Rattle.machine.specs.declared.State as code
-use Rattle.machine.specs.declared.code.Line.{Line}
+use Rattle.states.specs.declared.State as code
+use Rattle.states.specs.declared.code.Line.{Line}
 use Rattle.machine.specs.Machine.{State, stops, goes, height, store}
-use Rattle.machine.specs.Columns.{lineOf}
-use Rattle.machine.specs.View.{Fits, whole}
+use Rattle.states.specs.Columns.{lineOf}
+use Rattle.states.specs.View.{Fits, whole}
 use Rattle.bounds.specs.Run.{Run, answer, remaining, moved}
 use Rattle.runs.specs.declared.Progress.{Progress}
 use Rattle.runs.specs.Progress.{ofProgress, Counted, Sound, Moves}

@@ -11,11 +11,11 @@ use lib.ListN.{length, drop, length-drop}
 use borrow.Author.Tests.{lt-ltb, le-ltb}
 use Rattle.cells.specs.Try.{stuck, done, _>>=_}
 use Rattle.cells.specs.declared.Cell.{Cell}
-use Rattle.machine.specs.declared.State as code
-use Rattle.machine.specs.declared.code.Line.{Line}
+use Rattle.states.specs.declared.State as code
+use Rattle.states.specs.declared.code.Line.{Line}
 use Rattle.machine.specs.Machine.{State, Code, height, store, fetch, step, takes, takesAnswer}
-use Rattle.machine.specs.Columns.{lineOf}
-use Rattle.machine.specs.View.{whole}
+use Rattle.states.specs.Columns.{lineOf}
+use Rattle.states.specs.View.{whole}
 use Rattle.bounds.specs.Tree.{openingLimit, bound}
 use Rattle.bounds.specs.Run.{Run, begin, answer, moved, leads, once, after, judgeRun, run}
 use Rattle.bounds.proofs.PromiseLaws.{interruptible, run-within-bound}

@@ -10,14 +10,14 @@ use Rattle.cells.specs.Try.{Try}
 use Rattle.cells.specs.Order.{Allowed}
 use Rattle.cells.specs.declared.Cell.{Cell}
 use Rattle.instructions.specs.declared.Operation.{Operation}
-use Rattle.machine.specs.declared.State as code
-use Rattle.machine.specs.declared.code.Line.{Line}
-use Rattle.machine.specs.declared.Outcome.{Outcome}
-use Rattle.machine.specs.declared.Outcome.the-variants.{Gives, Stores, Sets}
+use Rattle.states.specs.declared.State as code
+use Rattle.states.specs.declared.code.Line.{Line}
+use Rattle.outcomes.specs.declared.Outcome.{Outcome}
+use Rattle.outcomes.specs.declared.Outcome.the-variants.{Gives, Stores, Sets}
 use Rattle.machine.specs.Machine.{State, Next, Code}
 use Rattle.machine.specs.Order.{Cellwise}
-use Rattle.machine.specs.Outcome.{drops}
-use Rattle.machine.specs.View.{Fits, whole}
+use Rattle.outcomes.specs.Outcome.{drops}
+use Rattle.states.specs.View.{Fits, whole}
 use Rattle.bounds.specs.Tree.{Report, accepted, refused, bound}
 use Rattle.bounds.specs.Tree as bounds
 use Rattle.bounds.specs.Run.{Run, remaining, moved}

@@ -1,10 +1,10 @@
 // The plain machine over a list of answers of any length. The meaning is in specs/.
 use cells::Cell;
-use machine::Outcome;
-use machine::Slot;
-use machine::State;
-use machine::code::Fetched;
-use machine::code::Line;
+use outcomes::Outcome;
+use states::Slot;
+use states::State;
+use states::code::Fetched;
+use states::code::Line;
 ghost use mathlib.Core.Path.{_≡_};
 ghost use mathlib.Core.List.{List};
 ghost use Prim.Native.Nat.{ℕ, _+_, _-_, _<_, _≤_};
@@ -13,10 +13,10 @@ ghost use lib.IntN.{ℤ};
 ghost use lib.ListN.{length, drop};
 ghost use Rattle.cells.specs.Try.{done};
 ghost use Rattle.machine.specs.Machine.{Code, fetch, prepare, step, stops, goes, index};
-ghost use Rattle.machine.specs.Outcome.{operationOf, resume};
-ghost use Rattle.machine.specs.declared.Outcome.the-variants.{Sets, Gets};
-ghost use Rattle.machine.specs.Columns.{codeOf, lineOf, Sized};
-ghost use Rattle.machine.specs.View.{whole, Fits};
+ghost use Rattle.outcomes.specs.Outcome.{operationOf, resume};
+ghost use Rattle.outcomes.specs.declared.Outcome.the-variants.{Sets, Gets};
+ghost use Rattle.states.specs.Columns.{codeOf, lineOf, Sized};
+ghost use Rattle.states.specs.View.{whole, Fits};
 ghost use Rattle.bounds.specs.Run.{begin, answer, remaining, once, after, judgeRun, run};
 ghost use Rattle.runs.specs.Progress.{ofProgress, verdictOf, Counted, Sound, Ready, Possible, Moves, SafeFrom, WithinBound};
 
@@ -112,8 +112,8 @@ fn get_field(sizes: &[u8], line: Line, t: State, r: Progress) -> Progress
     requires { ⌜ Ready (now sizes) line t r ⌝ }
     ensures { λ q. ⌜ Moves (now (sizes .entry)) r (eqb (line .code) 13) (resume (lineOf line .price) (operationOf (line .code)) (line .operand) (whole (now (sizes .entry)) (r .blocks) t) Gets) q ⌝ }
 {
-    let n = machine::index_of(line.operand);
-    let slot = machine::slot_of(sizes, t.accu, n);
+    let n = outcomes::index_of(line.operand);
+    let slot = states::slot_of(sizes, t.accu, n);
     let Slot::At(j) = slot else {
         return r;
     };
@@ -127,8 +127,8 @@ fn set_field(sizes: &[u8], line: Line, t: State, c: Cell, r: Progress) -> Progre
     requires { ⌜ Ready (now sizes) line t r × (t .free < 64) ⌝ }
     ensures { λ q. ⌜ Moves (now (sizes .entry)) r (eqb (line .code) 13) (resume (lineOf line .price) (operationOf (line .code)) (line .operand) (whole (now (sizes .entry)) (r .blocks) t) (Sets c)) q ⌝ }
 {
-    let n = machine::index_of(line.operand);
-    let place = machine::slot_of(sizes, t.accu, n);
+    let n = outcomes::index_of(line.operand);
+    let place = states::slot_of(sizes, t.accu, n);
     let Slot::At(j) = place else {
         return r;
     };
@@ -143,11 +143,11 @@ fn apply(sizes: &[u8], line: Line, t: State, x: Outcome, r: Progress) -> Progres
     requires { ⌜ Ready (now sizes) line t r × Possible (operationOf (line .code)) (index (line .operand)) (64 - t .free) x ⌝ }
     ensures { λ q. ⌜ Moves (now (sizes .entry)) r (eqb (line .code) 13) (resume (lineOf line .price) (operationOf (line .code)) (line .operand) (whole (now (sizes .entry)) (r .blocks) t) x) q ⌝ }
 {
-    let n = machine::index_of(line.operand);
+    let n = outcomes::index_of(line.operand);
     let blocks = r.blocks;
     match x {
         Outcome::Gives(c) => {
-            let k = machine::drops_of(line.code, n);
+            let k = outcomes::drops_of(line.code, n);
             gone(line, t.pop(k).load(c).advance(), blocks, r)
         }
         Outcome::Stores(c) => {
@@ -168,11 +168,11 @@ fn perform(sizes: &[u8], line: Line, answer: Cell, t: State, r: Progress) -> Pro
     requires { ⌜ Ready (now sizes) line t r ⌝ }
     ensures { λ q. ⌜ ((c : Code) → fetch c (r .state .at) ≡ done (lineOf line) → prepare (line .pushes) (whole (now (sizes .entry)) (r .blocks) (r .state)) ≡ done (whole (now (sizes .entry)) (r .blocks) t) → Moves (now (sizes .entry)) r (eqb (line .code) 13) (step c answer (whole (now (sizes .entry)) (r .blocks) (r .state))) q) ⌝ }
 {
-    let n = machine::index_of(line.operand);
-    let i = machine::place_of(line.code, n, t.free);
+    let n = outcomes::index_of(line.operand);
+    let i = outcomes::place_of(line.code, n, t.free);
     let stack = t.stack;
     let h = 64 - t.free;
-    let x = machine::outcome_of(line.code, line.operand, answer, h, t.accu, stack[i]);
+    let x = outcomes::outcome_of(line.code, line.operand, answer, h, t.accu, stack[i]);
     apply(sizes, line, t, x, r)
 }
 
@@ -212,7 +212,7 @@ fn once(
         return r;
     }
     let state = r.state;
-    let fetched = machine::code::fetch(codes, operands, cycles, words, first, state.at);
+    let fetched = states::code::fetch(codes, operands, cycles, words, first, state.at);
     let Fetched::Is(line) = fetched else {
         return r;
     };

@@ -12,18 +12,18 @@ use Rattle.findings.proofs.finished.Reads as finished-reads
 use Rattle.findings.proofs.joined.Reads as joined-reads
 use Rattle.findings.proofs.more.Reads as more-reads
 use Rattle.findings.proofs.refused.Reads as refused-reads
-use Rattle.machine.proofs.State.advance.Reads as advance-reads
-use Rattle.machine.proofs.State.jump.Reads as jump-reads
-use Rattle.machine.proofs.State.load.Reads as load-reads
-use Rattle.machine.proofs.State.pop.Reads as pop-reads
-use Rattle.machine.proofs.State.push.Reads as push-reads
-use Rattle.machine.proofs.State.store.Reads as store-reads
-use Rattle.machine.proofs.code.fetch.Reads as fetch-reads
-use Rattle.machine.proofs.drops_of.Reads as drops-of-reads
-use Rattle.machine.proofs.index_of.Reads as index-of-reads
-use Rattle.machine.proofs.outcome_of.Reads as outcome-of-reads
-use Rattle.machine.proofs.place_of.Reads as place-of-reads
-use Rattle.machine.proofs.slot_of.Reads as slot-of-reads
+use Rattle.states.proofs.State.advance.Reads as advance-reads
+use Rattle.states.proofs.State.jump.Reads as jump-reads
+use Rattle.states.proofs.State.load.Reads as load-reads
+use Rattle.states.proofs.State.pop.Reads as pop-reads
+use Rattle.states.proofs.State.push.Reads as push-reads
+use Rattle.states.proofs.State.store.Reads as store-reads
+use Rattle.states.proofs.code.fetch.Reads as fetch-reads
+use Rattle.outcomes.proofs.drops_of.Reads as drops-of-reads
+use Rattle.outcomes.proofs.index_of.Reads as index-of-reads
+use Rattle.outcomes.proofs.outcome_of.Reads as outcome-of-reads
+use Rattle.outcomes.proofs.place_of.Reads as place-of-reads
+use Rattle.states.proofs.slot_of.Reads as slot-of-reads
 use Rattle.explore.proofs.+explore.{statement}
 use Rattle.explore.proofs.+explore.Tie.{close}
 use mathlib.Core.Path.{_≡_, refl, sym, ap, subst, _∙_}
@@ -43,19 +43,19 @@ use Rattle.cells.specs.Try.{stuck, done}
 use Rattle.cells.specs.declared.Cell.{Cell}
 use Rattle.cells.specs.declared.Value.the-variants.{Number}
 use Rattle.cells.specs.Cells.{unknown, cell}
-use Rattle.machine.specs.declared.State as code
-use Rattle.machine.specs.declared.code.Line.{Line}
-use Rattle.machine.specs.declared.Outcome.{Outcome}
+use Rattle.states.specs.declared.State as code
+use Rattle.states.specs.declared.code.Line.{Line}
+use Rattle.outcomes.specs.declared.Outcome.{Outcome}
 use Rattle.machine.specs.Machine.{index, fetch, store, jump}
-use Rattle.machine.specs.Outcome.{operationOf, entryOf, outcome}
-use Rattle.machine.specs.View.{whole, ofSlot}
-use Rattle.machine.specs.Columns.{codeOf, lineOf, ofFetched, Known}
+use Rattle.outcomes.specs.Outcome.{operationOf, entryOf, outcome}
+use Rattle.states.specs.View.{whole, ofSlot}
+use Rattle.states.specs.Columns.{codeOf, lineOf, ofFetched, Known}
 use Rattle.findings.specs.declared.Verdict.{Verdict}
 use Rattle.findings.specs.declared.Verdict.the-variants.{Accepted}
 use Rattle.findings.proofs.Verdict as verdict
 use Rattle.findings.specs.declared.Found.{Found}
 use Rattle.findings.specs.Found.{refusedAs}
-use Rattle.machine.proofs.Stack.{length-images}
+use Rattle.states.proofs.Stack.{length-images}
 use Rattle.instructions.proofs.ColumnLaws.{getD-any}
 use Rattle.explore.proofs.TurnLaws.{Turn, act, starts, turns, inside, overflows, outside}
 use Rattle.explore.proofs.ArmLaws.{Arm, Pushed, pushes, keeps, Kept, jumped-at, restacked-at, loaded-at, stuck-out}

@@ -5,7 +5,7 @@ use mir.Syntax.{w32}
 use mir.Val.{SFits}
 use mir.ValLaws.{toZ-ofZ}
 use Rattle.machine.specs.Machine.{State, index, load, restack, jump}
-use Rattle.machine.specs.Outcome.{drops}
+use Rattle.outcomes.specs.Outcome.{drops}
 use Rattle.runs.proofs.OutcomeLaws.{gives-moves, stores-moves, jumps-moves, halts-moves, stuck-stays, opens-stays}
 use borrow.Author.Needs.{needs}
 use Rattle.runs.proofs.apply.Statement.{statement}

@@ -7,7 +7,7 @@ use mir.Syntax.{w32}
 use mir.Val.{SFits}
 use mir.ValLaws.{toZ-ofZ}
 use borrow.Author.Needs.{needs}
-use Rattle.machine.proofs.Stack.{length-images}
+use Rattle.states.proofs.Stack.{length-images}
 use Rattle.machine.specs.Machine.{State, index, load, advance}
 use Rattle.runs.proofs.OutcomeLaws.{slot-in, gets-moves, gets-stays}
 use Rattle.runs.proofs.get_field.Statement.{statement}

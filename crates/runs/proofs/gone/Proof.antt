@@ -5,7 +5,7 @@ use mathlib.Core.Logic.{⊎-elim}
 use native.Mathlib.Omega.{arith}
 use lib.ListN.{length}
 use borrow.Author.Needs.{needs}
-use Rattle.machine.proofs.Stack.{length-images}
+use Rattle.states.proofs.Stack.{length-images}
 use Rattle.runs.proofs.ProgressLaws.{goes-moves}
 use Rattle.runs.proofs.gone.Statement.{statement}
 use Rattle.runs.proofs.gone.Tie as tie

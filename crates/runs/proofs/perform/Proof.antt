@@ -7,7 +7,7 @@ use mir.Val.{SFits}
 use mir.ValLaws.{toZ-ofZ}
 use borrow.Author.Needs.{needs}
 use Rattle.machine.specs.Machine.{index}
-use Rattle.machine.proofs.Stack.{length-images}
+use Rattle.states.proofs.Stack.{length-images}
 use Rattle.runs.proofs.OutcomeLaws.{at-operand, index-small, possible, steps-by}
 use Rattle.runs.proofs.perform.Statement.{statement}
 use Rattle.runs.proofs.perform.Tie as tie

@@ -7,7 +7,7 @@ use mir.Syntax.{w32}
 use mir.Val.{SFits}
 use mir.ValLaws.{toZ-ofZ}
 use borrow.Author.Needs.{needs}
-use Rattle.machine.proofs.Stack.{length-images}
+use Rattle.states.proofs.Stack.{length-images}
 use Rattle.machine.specs.Machine.{State, index, load, restack, advance}
 use Rattle.runs.proofs.OutcomeLaws.{slot-in, sets-moves, sets-stays}
 use Rattle.runs.proofs.set_field.Statement.{statement}

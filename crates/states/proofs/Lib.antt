@@ -1,0 +1,4 @@
+pub mod Stack
+pub mod BlockLaws
+pub mod ColumnLaws
+pub mod TurnLaws
