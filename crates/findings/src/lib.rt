@@ -18,7 +18,7 @@ pub struct Found {
     pub used: usize,
     pub cycles: u64,
     pub words: u64,
-    pub depth: usize,
+    pub depth: u64,
     pub path: u64,
 }
 
@@ -26,16 +26,10 @@ pub struct Found {
 pub struct Tally {
     pub cycles: u64,
     pub words: u64,
-    pub depth: usize,
+    pub depth: u64,
 }
 
-fn larger(a: usize, b: usize) -> usize
-    ensures { λ r. ⌜ r ≡ max a b ⌝ }
-{
-    if a < b { b } else { a }
-}
-
-fn larger_sum(a: u64, b: u64) -> u64
+fn larger(a: u64, b: u64) -> u64
     ensures { λ r. ⌜ r ≡ max a b ⌝ }
 {
     if a < b { b } else { a }
@@ -56,7 +50,7 @@ pub fn more(t: Tally, cycles: u32, words: u32, h: usize) -> Tally
 {
     let c = t.cycles + (cycles as u64);
     let w = t.words + (words as u64);
-    let depth = larger(t.depth, h);
+    let depth = larger(t.depth, h as u64);
     Tally {
         cycles: c,
         words: w,
@@ -78,13 +72,13 @@ pub fn finished(t: Tally, n: usize) -> Found
     }
 }
 
-// A refusal, after `n` steps walked.
-pub fn refused(v: Verdict, n: usize) -> Found
-    ensures { λ r. ⌜ r ≡ refusedAs v n ⌝ }
+// A refusal, after the steps walked.
+pub fn refused(v: Verdict, walked: usize) -> Found
+    ensures { λ r. ⌜ r ≡ refusedAs v walked ⌝ }
 {
     Found {
         verdict: v,
-        used: n,
+        used: walked,
         cycles: 0,
         words: 0,
         depth: 0,
@@ -97,8 +91,8 @@ pub fn joined(t: Tally, n: usize, f: Found, g: Found) -> Found
     requires { ⌜ Summable t n f g ⌝ }
     ensures { λ r. ⌜ r ≡ joinedOf t n f g ⌝ }
 {
-    let cycles = t.cycles + larger_sum(f.cycles, g.cycles);
-    let words = t.words + larger_sum(f.words, g.words);
+    let cycles = t.cycles + larger(f.cycles, g.cycles);
+    let words = t.words + larger(f.words, g.words);
     let depth = larger(t.depth, larger(f.depth, g.depth));
     let path = decided(f.cycles, g.cycles, f.path, g.path);
     Found {

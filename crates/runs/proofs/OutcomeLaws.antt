@@ -27,9 +27,10 @@ use Rattle.states.specs.View.{view, slot, ofSlot, Fits, whole}
 use Rattle.states.proofs.BlockLaws.{slot-below}
 use Rattle.states.proofs.TurnLaws.{pushed, not-pushed, full, turns, gives-drops, stores-in, sets-in, gives-goes, stores-goes, goes-goes, gets-goes, gets-stuck, sets-goes, sets-stuck}
 use Rattle.bounds.specs.Run.{moved}
-use Rattle.runs.specs.declared.Progress.{Progress}
-use Rattle.runs.specs.Progress.{Sound, Possible, Moves}
-use Rattle.runs.proofs.ProgressLaws.{stays}
+use Rattle.progress.specs.declared.Progress.{Progress}
+use Rattle.progress.specs.Progress.{Sound, Moves}
+use Rattle.runs.specs.Contract.{Possible}
+use Rattle.progress.proofs.ProgressLaws.{stays}
 
 pub moves-as : {ns : List ℕ} {r : Progress} {calls : Bool} {m m′ : Try Next} {q : Progress} → m′ ≡ m → Moves ns r calls m q → Moves ns r calls m′ q
 moves-as e k = rw e k

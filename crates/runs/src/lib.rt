@@ -1,6 +1,7 @@
 // The plain machine over a list of answers of any length. The meaning is in specs/.
 use cells::Cell;
 use outcomes::Outcome;
+use progress::Progress;
 use states::Slot;
 use states::State;
 use states::code::Fetched;
@@ -10,27 +11,16 @@ ghost use mathlib.Core.List.{List};
 ghost use Prim.Native.Nat.{ℕ, _+_, _-_, _<_, _≤_};
 ghost use lib.Dec.{eqb};
 ghost use lib.IntN.{ℤ};
-ghost use lib.ListN.{length, drop};
+ghost use lib.ListN.{length};
 ghost use Rattle.cells.specs.Try.{done};
-ghost use Rattle.machine.specs.Machine.{Code, fetch, prepare, step, stops, goes, index};
+ghost use Rattle.machine.specs.Machine.{Code, fetch, prepare, step, index};
 ghost use Rattle.outcomes.specs.Outcome.{operationOf, resume};
 ghost use Rattle.outcomes.specs.declared.Outcome.the-variants.{Sets, Gets};
 ghost use Rattle.states.specs.Columns.{codeOf, lineOf, Sized};
 ghost use Rattle.states.specs.View.{whole, Fits};
-ghost use Rattle.bounds.specs.Run.{begin, answer, remaining, once, after, judgeRun, run};
-ghost use Rattle.runs.specs.Progress.{ofProgress, verdictOf, Counted, Sound, Ready, Possible, Moves, SafeFrom, WithinBound};
-
-// A run: its state and blocks, how many answers its calls asked for, its sums, and whether STOP was made.
-pub struct Progress {
-    pub state: State,
-    pub blocks: [Cell; 128],
-    pub taken: usize,
-    pub cycles: u64,
-    pub words: u64,
-    pub depth: usize,
-    pub steps: usize,
-    pub stopped: bool,
-}
+ghost use Rattle.bounds.specs.Run.{begin, once, after, judgeRun, run};
+ghost use Rattle.progress.specs.Progress.{ofProgress, Sound, Moves};
+ghost use Rattle.runs.specs.Contract.{verdictOf, Ready, Possible, SafeFrom, WithinBound};
 
 // STOP was made; or refusal 7 or 9 with its address.
 pub enum Verdict {
@@ -48,65 +38,6 @@ pub struct Ran {
     pub steps: usize,
 }
 
-// The next answer after the first `taken`: 0 once the list is used up.
-fn answer_at(answers: &[i32], taken: usize) -> Cell
-    ensures { λ r. ⌜ r ≡ answer (drop taken (now (answers .entry))) ⌝ }
-{
-    if answers.len() <= taken {
-        return cells::number(0);
-    }
-    cells::number(answers[taken])
-}
-
-// The answers asked for after a line with the operation's code.
-fn taken_after(code: u8, taken: usize) -> usize
-    requires { ⌜ taken < 1000000 ⌝ }
-    ensures { λ r. ⌜ ((answers : List ℤ) → drop r answers ≡ remaining (eqb code 13) (drop taken answers)) × (r ≤ taken + 1) ⌝ }
-{
-    if code == 13 { taken + 1 } else { taken }
-}
-
-// After a step at the line that leads to the state `t` with `blocks`.
-fn gone(line: Line, t: State, blocks: [Cell; 128], r: Progress) -> Progress
-    requires { ⌜ Counted r × (r .steps < 1000000) × (t .free ≤ 64) ⌝ }
-    ensures { λ q. ⌜ ((ns : List ℕ) → Fits ns blocks → Moves ns r (eqb (line .code) 13) (done (goes (lineOf line .price) (whole ns blocks t))) q) ⌝ }
-{
-    let taken = taken_after(line.code, r.taken);
-    let h = 64 - t.free;
-    let depth = if r.depth < h { h } else { r.depth };
-    Progress {
-        state: t,
-        blocks: blocks,
-        taken: taken,
-        cycles: r.cycles + (line.cycles as u64),
-        words: r.words + (line.words as u64),
-        depth: depth,
-        steps: r.steps + 1,
-        stopped: false,
-    }
-}
-
-// After STOP at the line.
-fn halted(line: Line, r: Progress) -> Progress
-    requires { ⌜ Counted r × (r .steps < 1000000) ⌝ }
-    ensures { λ q. ⌜ ((ns : List ℕ) → Sound ns r → Moves ns r (eqb (line .code) 13) (done (stops (lineOf line .price))) q) ⌝ }
-{
-    let taken = taken_after(line.code, r.taken);
-    let spent = r.cycles + (line.cycles as u64);
-    let state = r.state;
-    let blocks = r.blocks;
-    Progress {
-        state: state,
-        blocks: blocks,
-        taken: taken,
-        cycles: spent,
-        words: r.words + (line.words as u64),
-        depth: r.depth,
-        steps: r.steps + 1,
-        stopped: true,
-    }
-}
-
 // The accumulator becomes the field that the operand names.
 fn get_field(sizes: &[u8], line: Line, t: State, r: Progress) -> Progress
     requires { ⌜ Ready (now sizes) line t r ⌝ }
@@ -119,7 +50,7 @@ fn get_field(sizes: &[u8], line: Line, t: State, r: Progress) -> Progress
     };
     let blocks = r.blocks;
     let u = t.load(blocks[j]).advance();
-    gone(line, u, blocks, r)
+    progress::gone(line, u, blocks, r)
 }
 
 // The field that the operand names becomes `c`, which is popped, and the accumulator 0.
@@ -135,7 +66,7 @@ fn set_field(sizes: &[u8], line: Line, t: State, c: Cell, r: Progress) -> Progre
     let mut blocks = r.blocks;
     blocks[j] = c;
     let u = t.pop(1).load(cells::number(0)).advance();
-    gone(line, u, blocks, r)
+    progress::gone(line, u, blocks, r)
 }
 
 // What the outcome makes of the run, from the state `t` after the line's push.
@@ -148,17 +79,17 @@ fn apply(sizes: &[u8], line: Line, t: State, x: Outcome, r: Progress) -> Progres
     match x {
         Outcome::Gives(c) => {
             let k = outcomes::drops_of(line.code, n);
-            gone(line, t.pop(k).load(c).advance(), blocks, r)
+            progress::gone(line, t.pop(k).load(c).advance(), blocks, r)
         }
         Outcome::Stores(c) => {
             let u = t.store(n, c).load(cells::number(0)).advance();
-            gone(line, u, blocks, r)
+            progress::gone(line, u, blocks, r)
         }
         Outcome::Sets(c) => set_field(sizes, line, t, c, r),
         Outcome::Gets => get_field(sizes, line, t, r),
-        Outcome::Goes => gone(line, t.jump(n), blocks, r),
+        Outcome::Goes => progress::gone(line, t.jump(n), blocks, r),
         Outcome::Opens => r,
-        Outcome::Halts => halted(line, r),
+        Outcome::Halts => progress::halted(line, r),
         Outcome::Stuck => r,
     }
 }
@@ -216,27 +147,8 @@ fn once(
     let Fetched::Is(line) = fetched else {
         return r;
     };
-    let a = answer_at(answers, r.taken);
+    let a = progress::answer_at(answers, r.taken);
     turn(sizes, line, a, r)
-}
-
-// The run before its first step.
-fn begin(start: State, blocks: [Cell; 128]) -> Progress
-    requires { ⌜ start .free ≤ 64 ⌝ }
-    ensures { λ r. ⌜ ((ns : List ℕ) (answers : List ℤ) → ofProgress ns answers r ≡ begin (whole ns blocks start) answers) ⌝ }
-    ensures { λ r. ⌜ ((ns : List ℕ) → Fits ns blocks → Sound ns r) × (r .steps ≡ 0) ⌝ }
-{
-    let h = 64 - start.free;
-    Progress {
-        state: start,
-        blocks: blocks,
-        taken: 0,
-        cycles: 0,
-        words: 0,
-        depth: h,
-        steps: 0,
-        stopped: false,
-    }
 }
 
 // The run after `n` steps from `start` with `blocks`.
@@ -256,7 +168,7 @@ pub fn after(
     ensures { λ r. ⌜ ofProgress (now (sizes .entry)) (now (answers .entry)) r ≡ after (codeOf first (now (codes .entry)) (now (operands .entry)) (now (cycles .entry)) (now (words .entry))) n (begin (whole (now (sizes .entry)) blocks start) (now (answers .entry))) ⌝ }
     ensures safe { λ r. ⌜ SafeFrom (codeOf first (now (codes .entry)) (now (operands .entry)) (now (cycles .entry)) (now (words .entry))) (whole (now (sizes .entry)) blocks start) n (ofProgress (now (sizes .entry)) (now (answers .entry)) r) ⌝ }
 {
-    let mut r = begin(start, blocks);
+    let mut r = progress::begin(start, blocks);
     let mut i = 0;
     while i < n {
         r = once(codes, operands, cycles, words, sizes, first, answers, r);

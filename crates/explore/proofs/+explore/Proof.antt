@@ -565,7 +565,7 @@ sub-explore-2 : (t : ℕ) → explore-lts.Need-sub-explore-2 (claims t) (explore
 sub-explore-2 t c = omega (arith, c .before .before .before .if3 .left)
 
 sub-explore-3 : (t : ℕ) → explore-lts.Need-sub-explore-3 (claims t) (explore-at t) explore.Post Inv-loop μ-loop
-sub-explore-3 t c = c .before .before .before .explore .ensures .1 .1 .1 .used
+sub-explore-3 t c = omega (arith, c .before .before .before .explore .ensures .1 .1 .1 .used)
 
 explore-requires-2 : (t : ℕ) → explore-lts.Need-explore-requires-2 (claims t) (explore-at t) explore.Post Inv-loop μ-loop
 explore-requires-2 t c κs =

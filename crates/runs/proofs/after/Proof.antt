@@ -5,7 +5,7 @@ use Prim.Native.Nat.{_-_, _≤_}
 use native.Mathlib.Omega.{arith}
 use Rattle.states.specs.Columns.{codeOf}
 use Rattle.bounds.specs.Run.{after}
-use Rattle.runs.specs.Progress.{ofProgress, Sound}
+use Rattle.progress.specs.Progress.{ofProgress, Sound}
 use Rattle.runs.proofs.RunLaws.{after-none, after-more, after-all, safe-from}
 use Rattle.runs.proofs.after.Statement.{statement}
 use Rattle.runs.proofs.after.Tie as tie

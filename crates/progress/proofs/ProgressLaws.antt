@@ -16,9 +16,9 @@ use Rattle.states.specs.declared.code.Line.{Line}
 use Rattle.machine.specs.Machine.{State, stops, goes, height, store}
 use Rattle.states.specs.Columns.{lineOf}
 use Rattle.states.specs.View.{Fits, whole}
-use Rattle.bounds.specs.Run.{Run, answer, remaining, moved}
-use Rattle.runs.specs.declared.Progress.{Progress}
-use Rattle.runs.specs.Progress.{ofProgress, Counted, Sound, Moves}
+use Rattle.bounds.specs.Run.{Run, begin, answer, remaining, moved}
+use Rattle.progress.specs.declared.Progress.{Progress}
+use Rattle.progress.specs.Progress.{ofProgress, Counted, Sound, Moves}
 
 -- ---- the answers after the first k
 
@@ -80,3 +80,10 @@ module _ (l : Line) (r : Progress) (counted : Counted r) (k : ℕ)
 pub stays : (ns : List ℕ) (r : Progress) (calls : Bool) → Sound ns r → Moves ns r calls stuck r
 unfolding moved
 stays ns r calls sound = record { run = λ answers. refl; sound = sound; steps = omega arith }
+
+-- ---- the first state
+
+pub begins : (ns : List ℕ) (answers : List ℤ) (s : code.State) (fs : List Cell) → length (s .stack) ≡ 64 → s .free ≤ 64 →
+    ofProgress ns answers (record { state = s; blocks = fs; taken = 0; cycles = 0; words = 0; depth = 64 - s .free; steps = 0; stopped = false }) ≡ begin (whole ns fs s) answers
+unfolding ofProgress begin height whole store
+begins ns answers s fs n h = let g : 64 - s .free ≡ length (drop (s .free) (s .stack)) = simp length-drop (omega arith) in rw (← g) refl

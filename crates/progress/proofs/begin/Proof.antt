@@ -1,12 +1,12 @@
--- `runs::begin` meets its contract. Assumes nothing.
+-- `progress::begin` meets its contract. Assumes nothing.
 use mathlib.Core.Path.{_≡_, refl}
 use lib.ListN.{length}
 use native.Mathlib.Omega.{arith}
 use borrow.Author.Needs.{needs}
 use Rattle.states.proofs.Stack.{length-images}
-use Rattle.runs.proofs.RunLaws.{begins}
-use Rattle.runs.proofs.begin.Statement.{statement}
-use Rattle.runs.proofs.begin.Tie as tie
+use Rattle.progress.proofs.ProgressLaws.{begins}
+use Rattle.progress.proofs.begin.Statement.{statement}
+use Rattle.progress.proofs.begin.Tie as tie
 
 -- the stack has its 64 places
 stack-length : (c : tie.Start) → length (c .args .start .stack) ≡ 64

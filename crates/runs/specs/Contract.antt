@@ -1,12 +1,8 @@
--- What the run's values in code stand for, and what its parts are held to.
-use Prim.Native.Nat.{ℕ, suc, _*_, _≤_, _<_}
+-- What the run's parts are held to, and what is promised of it.
+use Prim.Native.Nat.{ℕ, _≤_, _<_}
 use mathlib.Core.Path.{_≡_}
-use mathlib.Core.Bool.{Bool, false}
 use mathlib.Core.List.{List, []}
-use lib.IntN.{ℤ}
-use lib.ListN.{drop}
 use Rattle.refusals.specs.declared.Refusal.the-variants as refusals
-use Rattle.cells.specs.Try.{Try}
 use Rattle.cells.specs.Order.{Allowed}
 use Rattle.cells.specs.declared.Cell.{Cell}
 use Rattle.instructions.specs.declared.Operation.{Operation}
@@ -14,30 +10,18 @@ use Rattle.states.specs.declared.State as code
 use Rattle.states.specs.declared.code.Line.{Line}
 use Rattle.outcomes.specs.declared.Outcome.{Outcome}
 use Rattle.outcomes.specs.declared.Outcome.the-variants.{Gives, Stores, Sets}
-use Rattle.machine.specs.Machine.{State, Next, Code}
+use Rattle.machine.specs.Machine.{State, Code}
 use Rattle.machine.specs.Order.{Cellwise}
 use Rattle.outcomes.specs.Outcome.{drops}
-use Rattle.states.specs.View.{Fits, whole}
 use Rattle.bounds.specs.Tree.{Report, accepted, refused, bound}
 use Rattle.bounds.specs.Tree as bounds
-use Rattle.bounds.specs.Run.{Run, remaining, moved}
+use Rattle.bounds.specs.Run.{Run}
 use Rattle.bounds.specs.Promises.{NoGreater, Safe}
-use Rattle.runs.specs.declared.Progress.{Progress}
+use Rattle.progress.specs.declared.Progress.{Progress}
+use Rattle.progress.specs.Progress.{Sound}
 use Rattle.runs.specs.declared.Verdict.{Verdict}
 use Rattle.runs.specs.declared.Verdict.the-variants.{Stopped, Stuck, Spent}
 use Rattle.runs.specs.declared.Ran.{Ran}
-
--- the run, with blocks of the sizes ns, over the listed answers
-unfoldable pub ofProgress : List ℕ → List ℤ → Progress → Run
-ofProgress ns answers r = record {
-  state = whole ns (r .blocks) (r .state);
-  answers = drop (r .taken) answers;
-  cycles = r .cycles;
-  words = r .words;
-  depth = r .depth;
-  steps = r .steps;
-  stopped = r .stopped;
-}
 
 unfoldable pub judged : Verdict → Ran → bounds.Verdict
 judged Stopped r = accepted (record { cycles = r .cycles; words = r .words; depth = r .depth; steps = r .steps; path = [] })
@@ -47,17 +31,6 @@ judged (Spent a) r = refused (refusals.Spent a)
 -- the verdict on a run, with its four figures where it stopped
 unfoldable pub verdictOf : Ran → bounds.Verdict
 verdictOf r = judged (r .verdict) r
-
--- no count is too large for the code's numbers
-pub record Counted (r : Progress) : Type 0 where
-  pub taken : r .taken ≤ r .steps
-  pub cycles : r .cycles ≤ 4294967296 * r .steps
-  pub words : r .words ≤ 4294967296 * r .steps
-
-pub record Sound (ns : List ℕ) (r : Progress) : Type 0 where
-  pub fits : Fits ns (r .blocks)
-  pub free : r .state .free ≤ 64
-  pub counted : Counted r
 
 -- a run at the line l, with the state t after the line's push
 pub record Ready (ns : List ℕ) (l : Line) (t : code.State) (r : Progress) : Type 0 where
@@ -72,12 +45,6 @@ pub record Possible (o : Operation) (n h : ℕ) (x : Outcome) : Type 0 where
   pub drops : (c : Cell) → x ≡ Gives c → drops o n ≤ h
   pub stores : (c : Cell) → x ≡ Stores c → n < h
   pub sets : (c : Cell) → x ≡ Sets c → 0 < h
-
--- q is the run r after a step that leads to m, whatever answers are listed
-pub record Moves (ns : List ℕ) (r : Progress) (calls : Bool) (m : Try Next) (q : Progress) : Type 0 where
-  pub run : (answers : List ℤ) → ofProgress ns answers q ≡ moved (ofProgress ns answers r) (remaining calls (drop (r .taken) answers)) false m
-  pub sound : Sound ns q
-  pub steps : q .steps ≤ suc (r .steps)
 
 -- Demand 3, of the run r that n steps from s have made: under every bound that accepts a start which allows s
 abbrev pub SafeFrom : Code → State → ℕ → Run → Type 0

@@ -1,4 +1,4 @@
--- `runs::gone` meets its contract. Assumes nothing.
+-- `progress::gone` meets its contract. Assumes nothing.
 use mathlib.Core.Path.{_≡_}
 use Prim.Native.Nat.{_-_, _<_, max}
 use mathlib.Core.Logic.{⊎-elim}
@@ -6,9 +6,9 @@ use native.Mathlib.Omega.{arith}
 use lib.ListN.{length}
 use borrow.Author.Needs.{needs}
 use Rattle.states.proofs.Stack.{length-images}
-use Rattle.runs.proofs.ProgressLaws.{goes-moves}
-use Rattle.runs.proofs.gone.Statement.{statement}
-use Rattle.runs.proofs.gone.Tie as tie
+use Rattle.progress.proofs.ProgressLaws.{goes-moves}
+use Rattle.progress.proofs.gone.Statement.{statement}
+use Rattle.progress.proofs.gone.Tie as tie
 
 taken-after-requires : tie.Need-taken-after-requires
 taken-after-requires c κs = search needs

@@ -1,9 +1,9 @@
--- `runs::halted` meets its contract. Assumes nothing.
+-- `progress::halted` meets its contract. Assumes nothing.
 use Prim.Native.Nat.{_<_}
 use borrow.Author.Needs.{needs}
-use Rattle.runs.proofs.ProgressLaws.{stops-moves}
-use Rattle.runs.proofs.halted.Statement.{statement}
-use Rattle.runs.proofs.halted.Tie as tie
+use Rattle.progress.proofs.ProgressLaws.{stops-moves}
+use Rattle.progress.proofs.halted.Statement.{statement}
+use Rattle.progress.proofs.halted.Tie as tie
 
 taken-after-requires : tie.Need-taken-after-requires
 taken-after-requires c κs = search needs
