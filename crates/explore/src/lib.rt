@@ -108,6 +108,7 @@ pub fn explore(
                 let Verdict::Accepted = v else {
                     return findings::refused(v, used + f.used);
                 };
+                let rest = left - f.used;
                 let g = explore(
                     codes,
                     operands,
@@ -119,7 +120,7 @@ pub fn explore(
                     s,
                     n,
                     openings - 1,
-                    left - f.used,
+                    rest,
                 );
                 let w = g.verdict;
                 let Verdict::Accepted = w else {

@@ -38,12 +38,11 @@ pub struct Ran {
     pub steps: usize,
 }
 
-// The accumulator becomes the field that the operand names.
-fn get_field(sizes: &[u8], line: Line, t: State, r: Progress) -> Progress
-    requires { ⌜ Ready (now sizes) line t r ⌝ }
+// The accumulator becomes field `n`, which the operand names.
+fn get_field(sizes: &[u8], line: Line, n: usize, t: State, r: Progress) -> Progress
+    requires { ⌜ Ready (now sizes) line t r × (n ≡ index (line .operand)) ⌝ }
     ensures { λ q. ⌜ Moves (now (sizes .entry)) r (eqb (line .code) 13) (resume (lineOf line .price) (operationOf (line .code)) (line .operand) (whole (now (sizes .entry)) (r .blocks) t) Gets) q ⌝ }
 {
-    let n = outcomes::index_of(line.operand);
     let slot = states::slot_of(sizes, t.accu, n);
     let Slot::At(j) = slot else {
         return r;
@@ -53,12 +52,11 @@ fn get_field(sizes: &[u8], line: Line, t: State, r: Progress) -> Progress
     progress::gone(line, u, blocks, r)
 }
 
-// The field that the operand names becomes `c`, which is popped, and the accumulator 0.
-fn set_field(sizes: &[u8], line: Line, t: State, c: Cell, r: Progress) -> Progress
-    requires { ⌜ Ready (now sizes) line t r × (t .free < 64) ⌝ }
+// Field `n`, which the operand names, becomes `c`, which is popped, and the accumulator 0.
+fn set_field(sizes: &[u8], line: Line, n: usize, t: State, c: Cell, r: Progress) -> Progress
+    requires { ⌜ Ready (now sizes) line t r × (n ≡ index (line .operand)) × (t .free < 64) ⌝ }
     ensures { λ q. ⌜ Moves (now (sizes .entry)) r (eqb (line .code) 13) (resume (lineOf line .price) (operationOf (line .code)) (line .operand) (whole (now (sizes .entry)) (r .blocks) t) (Sets c)) q ⌝ }
 {
-    let n = outcomes::index_of(line.operand);
     let place = states::slot_of(sizes, t.accu, n);
     let Slot::At(j) = place else {
         return r;
@@ -69,12 +67,11 @@ fn set_field(sizes: &[u8], line: Line, t: State, c: Cell, r: Progress) -> Progre
     progress::gone(line, u, blocks, r)
 }
 
-// What the outcome makes of the run, from the state `t` after the line's push.
-fn apply(sizes: &[u8], line: Line, t: State, x: Outcome, r: Progress) -> Progress
-    requires { ⌜ Ready (now sizes) line t r × Possible (operationOf (line .code)) (index (line .operand)) (64 - t .free) x ⌝ }
+// What the outcome makes of the run, from the state `t` after the line's push; `n` is the operand as an index.
+fn apply(sizes: &[u8], line: Line, n: usize, t: State, x: Outcome, r: Progress) -> Progress
+    requires { ⌜ Ready (now sizes) line t r × (n ≡ index (line .operand)) × Possible (operationOf (line .code)) n (64 - t .free) x ⌝ }
     ensures { λ q. ⌜ Moves (now (sizes .entry)) r (eqb (line .code) 13) (resume (lineOf line .price) (operationOf (line .code)) (line .operand) (whole (now (sizes .entry)) (r .blocks) t) x) q ⌝ }
 {
-    let n = outcomes::index_of(line.operand);
     let blocks = r.blocks;
     match x {
         Outcome::Gives(c) => {
@@ -85,8 +82,8 @@ fn apply(sizes: &[u8], line: Line, t: State, x: Outcome, r: Progress) -> Progres
             let u = t.store(n, c).load(cells::number(0)).advance();
             progress::gone(line, u, blocks, r)
         }
-        Outcome::Sets(c) => set_field(sizes, line, t, c, r),
-        Outcome::Gets => get_field(sizes, line, t, r),
+        Outcome::Sets(c) => set_field(sizes, line, n, t, c, r),
+        Outcome::Gets => get_field(sizes, line, n, t, r),
         Outcome::Goes => progress::gone(line, t.jump(n), blocks, r),
         Outcome::Opens => r,
         Outcome::Halts => progress::halted(line, r),
@@ -104,7 +101,7 @@ fn perform(sizes: &[u8], line: Line, answer: Cell, t: State, r: Progress) -> Pro
     let stack = t.stack;
     let h = 64 - t.free;
     let x = outcomes::outcome_of(line.code, line.operand, answer, h, t.accu, stack[i]);
-    apply(sizes, line, t, x, r)
+    apply(sizes, line, n, t, x, r)
 }
 
 // The step at the line, which a code fetches.

@@ -561,11 +561,11 @@ returns-6 t c =
     let k = arms.first-out _ _ _ _ _ _ _ _ _ _ (entry b .args .start) (entry b .args .place) (b .before .before .jump .ensures .0) (arm t a) (c .before .before .before .before .before .enum-told6 .given .1) (omega (arith, c .before .before .before .before .if3 .left)) (f .result) (f .ensures .0) (f .ensures .1 .1 .1) (fails _ (c .before .before .match5 .keys2)) _ (c .refused6 .ensures) in
     (k .explored, (k .safe, (k .exact, k .modest)))
 
-sub-explore-2 : (t : ℕ) → explore-lts.Need-sub-explore-2 (claims t) (explore-at t) explore.Post Inv-loop μ-loop
-sub-explore-2 t c = omega (arith, c .before .before .before .if3 .left)
+sub-rest : (t : ℕ) → explore-lts.Need-sub-rest (claims t) (explore-at t) explore.Post Inv-loop μ-loop
+sub-rest t c = c .before .before .before .explore .ensures .1 .1 .1 .used
 
-sub-explore-3 : (t : ℕ) → explore-lts.Need-sub-explore-3 (claims t) (explore-at t) explore.Post Inv-loop μ-loop
-sub-explore-3 t c = omega (arith, c .before .before .before .explore .ensures .1 .1 .1 .used)
+sub-explore-2 : (t : ℕ) → explore-lts.Need-sub-explore-2 (claims t) (explore-at t) explore.Post Inv-loop μ-loop
+sub-explore-2 t c = omega (arith, c .before .before .before .before .if3 .left)
 
 explore-requires-2 : (t : ℕ) → explore-lts.Need-explore-requires-2 (claims t) (explore-at t) explore.Post Inv-loop μ-loop
 explore-requires-2 t c κs =
@@ -731,8 +731,8 @@ pub +explore-spec : {M : Type 1} → statement M
     (add-refused t)
     (refused-requires-6 t)
     (returns-6 t)
+    (sub-rest t)
     (sub-explore-2 t)
-    (sub-explore-3 t)
     (explore-requires-2 t)
     (enum-told-8 t)
     (add-refused-2 t)

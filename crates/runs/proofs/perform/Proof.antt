@@ -47,7 +47,8 @@ apply-requires : tie.Need-apply-requires
 apply-requires c κs =
     let start = c .before .before .before .before .before .before .before .before .before in
     let e = at-operand _ _ _ _ _ (toZ-ofZ w32 _ (operand-fits (c .before .before .before .before .before .before .before))) (c .outcome-of .ensures) in
-    (start .pre, possible _ _ _ _ _ _ _ e)
+    let n = found (c .before .before .before .before .before .before) in
+    (start .pre, n, rw n (possible _ _ _ _ _ _ _ e))
 
 returns : tie.Need-returns
 returns c =
