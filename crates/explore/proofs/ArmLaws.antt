@@ -15,10 +15,11 @@ use Rattle.states.specs.declared.code.Line.{Line}
 use Rattle.outcomes.specs.declared.Outcome.{Outcome}
 use Rattle.outcomes.specs.declared.Outcome.the-variants.{Gives, Stores, Sets, Gets, Goes, Opens, Halts, Stuck}
 use Rattle.machine.specs.Machine.{State, height, Price, Next, stops, goes, opens, index, jump, load, restack, store, advance, prepare}
-use Rattle.outcomes.specs.Outcome.{operationOf, drops, outcome, resume}
+use Rattle.instructions.specs.Columns.{operationOf}
+use Rattle.outcomes.specs.Outcome.{drops, outcome, resume}
 use Rattle.states.specs.View.{view, slot, Fits, whole}
 use Rattle.states.specs.Columns.{codeOf}
-use Rattle.states.proofs.TurnLaws as turn
+use Rattle.outcomes.proofs.TurnLaws as turn
 use Rattle.states.proofs.BlockLaws.{slot-below}
 use Rattle.findings.specs.declared.Verdict.the-variants as verdicts
 use Rattle.findings.specs.declared.Found.{Found}

@@ -15,10 +15,11 @@ use Rattle.states.specs.declared.State as code
 use Rattle.states.specs.declared.code.Line.{Line}
 use Rattle.outcomes.specs.declared.Outcome.{Outcome}
 use Rattle.machine.specs.Machine.{State, height, Price, Next, goes, index, store, fetch, prepare, execute, step}
-use Rattle.outcomes.specs.Outcome.{operationOf, entryOf, outcome, resume}
+use Rattle.instructions.specs.Columns.{operationOf}
+use Rattle.outcomes.specs.Outcome.{entryOf, outcome, resume}
 use Rattle.states.specs.View.{view, Fits, whole}
 use Rattle.states.specs.Columns.{codeOf, lineOf}
-use Rattle.states.proofs.TurnLaws as turn
+use Rattle.outcomes.proofs.TurnLaws as turn
 use Rattle.states.proofs.ColumnLaws.{fetch-within}
 use Rattle.findings.specs.declared.Tally.{Tally}
 use Rattle.findings.specs.Found.{price, moreOf}

@@ -1,4 +1,5 @@
 pub mod Examples
+pub mod ListLaws
 pub mod NextCovering
 pub mod StateLaws
 pub mod StepLaws

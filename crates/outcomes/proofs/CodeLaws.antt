@@ -13,7 +13,8 @@ use Rattle.numbers.specs.declared.Comparison.the-variants.{Equal, Unequal, Less
 use Rattle.cells.specs.declared.Binary.{Binary}
 use Rattle.cells.specs.declared.Binary.the-variants.{Add, Subtract, Compare}
 use Rattle.instructions.specs.declared.Operation.the-variants.{Stop, Combine}
-use Rattle.outcomes.specs.Outcome.{operations, operationOf, entryOf, drops}
+use Rattle.instructions.specs.Columns.{operations, operationOf}
+use Rattle.outcomes.specs.Outcome.{entryOf, drops}
 
 -- the values below b, from the last to the first
 row : {A : Type 0} → (ℕ → A) → ℕ → List A

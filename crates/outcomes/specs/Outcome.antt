@@ -2,33 +2,19 @@
 -- own state and blocks.
 use Prim.Native.Nat.{ℕ}
 use mathlib.Core.Bool.{Bool, true, false, cond}
-use mathlib.Core.List.{List, [], _∷_}
 use lib.Dec.{leb, ltb}
 use lib.IntN.{ℤ, pos}
-use lib.ListN.{getD, drop, set}
+use lib.ListN.{drop, set}
 use Rattle.cells.specs.Try.{Try, stuck, done, _>>=_}
 use Rattle.cells.specs.declared.Cell.{Cell}
 use Rattle.cells.specs.declared.Condition.{Condition}
 use Rattle.cells.specs.declared.Condition.the-variants.{IsZero, IsNonzero, IsUnknown}
-use Rattle.numbers.specs.declared.Comparison.the-variants.{Equal, Unequal, Less, AtMost, Greater, AtLeast}
-use Rattle.cells.specs.declared.Unary.the-variants.{Offset, Negate, Complement}
-use Rattle.cells.specs.declared.Binary.the-variants.{Add, Subtract, Compare}
 use Rattle.cells.specs.Cells.{number, operate₁, operate₂, condition}
 use Rattle.instructions.specs.declared.Operation.{Operation}
 use Rattle.instructions.specs.declared.Operation.the-variants.{Nothing, Access, Drop, Assign, Constant, GetField, SetField, Branch, BranchIf, BranchIfNot, Call, Stop, Alter, Combine}
 use Rattle.outcomes.specs.declared.Outcome.{Outcome}
 use Rattle.outcomes.specs.declared.Outcome.the-variants.{Gives, Stores, Sets, Gets, Goes, Opens, Halts, Stuck}
 use Rattle.machine.specs.Machine.{State, Price, Next, stops, goes, opens, index, jump, load, restack, getField, setField, advance, ahead}
-
--- the operations in the order of their codes (`operationCode` of the crate `instructions`), and the operation of a code
-unfoldable pub operations : List Operation
-operations =
-    Nothing ∷ Access ∷ Drop ∷ Assign ∷ Constant ∷ Alter Offset ∷ Alter Negate ∷ Alter Complement
-    ∷ GetField ∷ SetField ∷ Branch ∷ BranchIf ∷ BranchIfNot ∷ Call ∷ Stop ∷ Combine Add ∷ Combine Subtract
-    ∷ Combine (Compare Equal) ∷ Combine (Compare Unequal) ∷ Combine (Compare Less) ∷ Combine (Compare AtMost) ∷ Combine (Compare Greater) ∷ Combine (Compare AtLeast) ∷ []
-
-unfoldable pub operationOf : ℕ → Operation
-operationOf k = getD operations k Stop
 
 -- the entry that an operation looks at: entry n, or the top
 unfoldable pub entryOf : Operation → ℕ → ℕ

@@ -13,7 +13,8 @@ ghost use Rattle.cells.specs.Answers.{ofOperand};
 ghost use Rattle.cells.specs.declared.Binary.the-variants.{Compare};
 ghost use Rattle.instructions.specs.declared.Operation.the-variants.{Combine};
 ghost use Rattle.machine.specs.Machine.{index};
-ghost use Rattle.outcomes.specs.Outcome.{given, branching, outcome, operationOf, entryOf, drops};
+ghost use Rattle.instructions.specs.Columns.{operationOf};
+ghost use Rattle.outcomes.specs.Outcome.{given, branching, outcome, entryOf, drops};
 
 // What an instruction's operands come to, before the state is changed.
 pub enum Outcome {

@@ -21,11 +21,12 @@ use Rattle.outcomes.specs.declared.Outcome.the-variants.{Gives, Stores, Sets, G
 use Rattle.states.specs.declared.Slot.{Slot}
 use Rattle.states.specs.declared.Slot.the-variants.{At, Lacks}
 use Rattle.machine.specs.Machine.{Code, Next, stops, goes, index, fetch, jump, load, restack, advance, store, prepare, execute, step}
-use Rattle.outcomes.specs.Outcome.{operationOf, entryOf, drops, outcome, resume}
+use Rattle.instructions.specs.Columns.{operationOf}
+use Rattle.outcomes.specs.Outcome.{entryOf, drops, outcome, resume}
 use Rattle.states.specs.Columns.{lineOf}
 use Rattle.states.specs.View.{view, slot, ofSlot, Fits, whole}
 use Rattle.states.proofs.BlockLaws.{slot-below}
-use Rattle.states.proofs.TurnLaws.{pushed, not-pushed, full, turns, gives-drops, stores-in, sets-in, gives-goes, stores-goes, goes-goes, gets-goes, gets-stuck, sets-goes, sets-stuck}
+use Rattle.outcomes.proofs.TurnLaws.{pushed, not-pushed, full, turns, gives-drops, stores-in, sets-in, gives-goes, stores-goes, goes-goes, gets-goes, gets-stuck, sets-goes, sets-stuck}
 use Rattle.bounds.specs.Run.{moved}
 use Rattle.progress.specs.declared.Progress.{Progress}
 use Rattle.progress.specs.Progress.{Sound, Moves}

@@ -14,7 +14,7 @@ use Rattle.cells.specs.Cells.{block}
 use Rattle.machine.specs.Lists.{nth, put}
 use Rattle.machine.specs.Machine.{State, getField, setField, store}
 use Rattle.states.specs.View.{blocksOf, slot, Fits}
-use Rattle.outcomes.proofs.OutcomeLaws.{nth-in, nth-out, put-in, put-out}
+use Rattle.machine.proofs.ListLaws.{nth-in, nth-out, put-in, put-out}
 
 -- the sizes after the first, and the array after its first sixteen places
 rest-fits : (n : ℕ) (ns : List ℕ) (fs : List Cell) → Fits (n ∷ ns) fs → Fits ns (drop 16 fs)

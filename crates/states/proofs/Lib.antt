@@ -1,4 +1,3 @@
 pub mod Stack
 pub mod BlockLaws
 pub mod ColumnLaws
-pub mod TurnLaws

@@ -10,7 +10,7 @@ use Rattle.states.specs.declared.code.Line.{Line}
 use Rattle.states.specs.declared.code.Fetched.{Fetched}
 use Rattle.states.specs.declared.code.Fetched.the-variants.{Is, Outside}
 use Rattle.machine.specs.Machine.{Instruction, Code}
-use Rattle.outcomes.specs.Outcome.{operationOf}
+use Rattle.instructions.specs.Columns.{operationOf}
 
 -- a line by the code of its operation
 abbrev pub lineOf : Line → Instruction

@@ -47,7 +47,8 @@ use Rattle.states.specs.declared.State as code
 use Rattle.states.specs.declared.code.Line.{Line}
 use Rattle.outcomes.specs.declared.Outcome.{Outcome}
 use Rattle.machine.specs.Machine.{index, fetch, store, jump}
-use Rattle.outcomes.specs.Outcome.{operationOf, entryOf, outcome}
+use Rattle.instructions.specs.Columns.{operationOf}
+use Rattle.outcomes.specs.Outcome.{entryOf, outcome}
 use Rattle.states.specs.View.{whole, ofSlot}
 use Rattle.states.specs.Columns.{codeOf, lineOf, ofFetched, Known}
 use Rattle.findings.specs.declared.Verdict.{Verdict}

@@ -1,6 +1,6 @@
 -- `outcomes::binary_of` meets its contract: each arm's code computes. Assumes nothing.
 use borrow.Author.Needs.{needs}
-use Rattle.outcomes.specs.Outcome.{operations, operationOf}
+use Rattle.instructions.specs.Columns.{operations, operationOf}
 use Rattle.outcomes.proofs.binary_of.Statement.{statement}
 use Rattle.outcomes.proofs.binary_of.Tie as tie
 

@@ -1,7 +1,7 @@
 -- `outcomes::comparison_of` meets its contract: each arm's code computes. Assumes nothing.
 use mathlib.Core.Path.{_≡_}
 use native.Mathlib.Omega.{arith}
-use Rattle.outcomes.specs.Outcome.{operations, operationOf}
+use Rattle.instructions.specs.Columns.{operations, operationOf}
 use Rattle.outcomes.proofs.comparison_of.Statement.{statement}
 use Rattle.outcomes.proofs.comparison_of.Tie as tie
 

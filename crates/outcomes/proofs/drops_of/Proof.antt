@@ -3,7 +3,8 @@ use mathlib.Core.Path.{sym}
 use mathlib.Core.Logic.{⊎-elim, inl, inr}
 use borrow.Author.Needs.{needs}
 use native.Mathlib.Omega.{arith}
-use Rattle.outcomes.specs.Outcome.{operations, operationOf, drops}
+use Rattle.instructions.specs.Columns.{operations, operationOf}
+use Rattle.outcomes.specs.Outcome.{drops}
 use Rattle.outcomes.proofs.CodeLaws.{combined, drops-none}
 use Rattle.outcomes.proofs.drops_of.Statement.{statement}
 use Rattle.outcomes.proofs.drops_of.Tie as tie

@@ -9,7 +9,8 @@ use Rattle.cells.specs.declared.Unary.the-variants.{Offset, Negate, Complement}
 use Rattle.cells.specs.Cells.{number, operate₁}
 use Rattle.outcomes.specs.declared.Outcome.the-variants.{Gives}
 use Rattle.machine.specs.Machine.{index}
-use Rattle.outcomes.specs.Outcome.{operations, operationOf, outcome, given}
+use Rattle.instructions.specs.Columns.{operations, operationOf}
+use Rattle.outcomes.specs.Outcome.{outcome, given}
 use Rattle.outcomes.proofs.CodeLaws.{past, combined}
 use Rattle.outcomes.proofs.outcome_of.Statement.{statement}
 use Rattle.outcomes.proofs.outcome_of.Tie as tie

@@ -4,7 +4,8 @@ use mathlib.Core.Logic.{⊎-elim}
 use Prim.Native.Nat.{ℕ, _+_}
 use native.Mathlib.Omega.{arith}
 use borrow.Author.Needs.{needs}
-use Rattle.outcomes.specs.Outcome.{operations, operationOf, entryOf}
+use Rattle.instructions.specs.Columns.{operations, operationOf}
+use Rattle.outcomes.specs.Outcome.{entryOf}
 use Rattle.outcomes.proofs.CodeLaws.{entry-top}
 use Rattle.outcomes.proofs.place_of.Statement.{statement}
 use Rattle.outcomes.proofs.place_of.Tie as tie
