@@ -121,8 +121,11 @@ module _ (first : ℤ) (m : ℕ) (h : within firstAddresses first ≡ true) (k :
   first-fits : SFits w64 first
   first-fits = subst (SFits w64) (first-natural .is) (record { sfits = omega (arith, first-natural .below) })
 
+  first-read : toZ w64 (ofZ w64 first) ≡ pos (natAbs first)
+  first-read = toZ-ofZ w64 first first-fits ∙ sym (first-natural .is)
+
   sum-is : toZ w64 (ofZ w64 first) +ℤ toZ w64 m ≡ pos (natAbs first + m)
-  sum-is = ap₂ _+ℤ_ (toZ-ofZ w64 first first-fits ∙ sym (first-natural .is)) (toZ-pos w64 m (omega arith))
+  sum-is = ap₂ _+ℤ_ first-read (toZ-pos w64 m (omega arith))
 
   pub sum-fits : SFits w64 (toZ w64 (ofZ w64 first) +ℤ toZ w64 m)
   sum-fits = subst (SFits w64) (sym sum-is) (record { sfits = omega (arith, first-natural .below) })
@@ -136,11 +139,8 @@ module _ (first : ℤ) (m : ℕ) (h : within firstAddresses first ≡ true) (k :
   sum-exact : pos (natAbs first + m) ≡ first +ℤ pos m
   sum-exact = ap (λ z. z +ℤ pos m) (first-natural .is)
 
-  first-read : toZ w64 (ofZ w64 first) ≡ pos (natAbs first)
-  first-read = toZ-ofZ w64 first first-fits ∙ sym (first-natural .is)
-
 -- a range of one number
-pub point : (n : ℕ) (z : ℤ) → within (range n n) z ≡ same z (pos n)
+point : (n : ℕ) (z : ℤ) → within (range n n) z ≡ same z (pos n)
 point n (pos m) = go (eqb m n) refl (leb n m) refl
   where
     go : (b : Bool) → eqb m n ≡ b → (d : Bool) → leb n m ≡ d → cond d (leb m n) false ≡ b
@@ -174,7 +174,7 @@ module _ (first : ℤ) (n : ℕ) (h : within firstAddresses first ≡ true) wher
       go false = refl
   reached f (negsuc m) k = refl
 
-  pub reached-some : (z : ℤ) → 0 < n → within (range (natAbs first) (natAbs first + (n - 1))) z ≡ leZ first z && ltZ z (first +ℤ pos n)
+  reached-some : (z : ℤ) → 0 < n → within (range (natAbs first) (natAbs first + (n - 1))) z ≡ leZ first z && ltZ z (first +ℤ pos n)
   reached-some z k = reached (natAbs first) z k ∙ ap (λ f. leZ f z && ltZ z (f +ℤ pos n)) (start .is)
 
   none : (f : ℕ) (z : ℤ) → n ≡ 0 → false ≡ leZ (pos f) z && ltZ z (pos f +ℤ pos n)

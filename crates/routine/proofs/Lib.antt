@@ -5,3 +5,4 @@ pub mod AnswerLaws
 pub mod RangeLaws
 pub mod SpellingLaws
 pub mod LayoutLaws
+pub mod PassingLaws

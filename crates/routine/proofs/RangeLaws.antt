@@ -114,7 +114,7 @@ prices-small ls = every-mapped (λ l. instructionOf ls (l .text)) (λ l. instruc
 -- ---- the start
 
 -- "ACCU, then S0 on to S31 at most"
-cells-few : (ls : List Line) → Passes ls → length (listed (names cells) ls) ≤ 33
+pub cells-few : (ls : List Line) → Passes ls → length (listed (names cells) ls) ≤ 33
 unfolding listed named wellNamed cellNames stackNames
 cells-few ls p =
     let ws = listed (names cells) ls in

@@ -1,9 +1,14 @@
 -- What a check of a text says, by the rows of the refusal table.
 use Prim.Native.Nat.{ℕ}
-use mathlib.Core.Bool.{Bool, true, false}
-use mathlib.Core.List.{List}
-use Rattle.refusals.specs.declared.Refusal.{Refusal}
-use Rattle.routine.specs.Routine.{Reading, refused, routine, readBound, readRun}
+use mathlib.Core.Path.{_≡_}
+use mathlib.Core.List.{List, [], _∷_}
+use Rattle.refusals.specs.declared.Refusal.the-variants.{UnknownCell}
+use Rattle.text.specs.Text.{Line}
+use Rattle.routine.specs.declared.Row.{Row}
+use Rattle.routine.specs.declared.Row.the-variants.{Range as range-row, Name as name-row, Target as target-row, Known as known-row}
+use Rattle.routine.specs.declared.Fault.the-variants.{Clean as clean}
+use Rattle.routine.specs.Rows.{fault}
+use Rattle.routine.specs.Routine.{Reading, refused, routine, Check, check, readBound, readRun}
 use Rattle.rows.specs.declared.Checked.{Checked}
 use Rattle.rows.specs.declared.Checked.the-variants.{Passes, Refused}
 use Rattle.rows.specs.declared.Reader.{Reader}
@@ -18,3 +23,12 @@ readBy Run text = readRun text
 unfoldable pub checkOf : Reading → Checked
 checkOf (refused r) = Refused r
 checkOf (routine x) = Passes
+
+-- row 11 alone
+abbrev pub knownChecks : List Check
+knownChecks = check known-row UnknownCell ∷ []
+
+-- rows 4 and 6 are checked after row 3
+pub record Due (row : Row) (ls : List Line) : Type 0 where
+  pub names-row : row ≡ name-row → fault range-row ls ≡ clean
+  pub targets-row : row ≡ target-row → fault range-row ls ≡ clean

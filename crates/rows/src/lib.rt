@@ -17,7 +17,8 @@ ghost use Rattle.routine.specs.declared.Row.the-variants.{Layout};
 ghost use Rattle.routine.specs.Layout.{layout, list, textAt};
 ghost use Rattle.routine.specs.Rows.{wellNamed, laidOut, inRange, named, priced, reaches, allKnown, test, fault};
 ghost use Rattle.rows.specs.Scan.{NameContext, TargetContext, Context, Small, Marked, lineOf, marks, roleOf, markAfter, missing};
-ghost use Rattle.rows.specs.Checks.{readBy, checkOf};
+ghost use Rattle.routine.specs.Routine.{checked};
+ghost use Rattle.rows.specs.Checks.{readBy, checkOf, knownChecks, Due};
 
 // Which program reads a text: the run has one row more.
 pub enum Reader {
@@ -316,5 +317,69 @@ fn earliest(
         Fault::Line((i + 1) as u32)
     } else {
         Fault::Clean
+    }
+}
+
+// The earliest line of a text that a row refuses.
+fn fault_of(row: Row, text: &[u8]) -> Fault
+    requires { ⌜ length (now text) ≤ 32768 ⌝ }
+    requires { ⌜ Due row (lines (now text)) ⌝ }
+    ensures { λ r. ⌜ r ≡ fault row (lines (now (text .entry))) ⌝ }
+{
+    let kinds = names_line(text, Section::Kinds);
+    let primitives = names_line(text, Section::Primitives);
+    let fields = names_line(text, Section::Fields);
+    let named = names::blocks_named(fields);
+    let blocks = named.count;
+    let body = text::after_lines(text, 13);
+    let line = text::first_line(body);
+    let word = text::word_at(line, 0);
+    let first = values::natural_in(0, 60000, word) as usize;
+    let count = parts::count_code(body);
+    earliest(row, text, kinds, primitives, blocks, first, count)
+}
+
+// Row 11.
+fn check_known(text: &[u8]) -> Checked
+    requires { ⌜ length (now text) ≤ 32768 ⌝ }
+    ensures { λ r. ⌜ r ≡ checkOf (checked knownChecks (lines (now (text .entry)))) ⌝ }
+{
+    let known = fault_of(Row::Known, text);
+    if let Fault::Line(n) = known {
+        return Checked::Refused(Refusal::UnknownCell(n));
+    }
+    Checked::Passes
+}
+
+// The refusal of a text by the rows in their order, each over the whole text, as the bound or the run reads it.
+pub fn check(reader: Reader, text: &[u8]) -> Checked
+    ensures { λ r. ⌜ r ≡ checkOf (readBy reader (now (text .entry))) ⌝ }
+{
+    if 32768 < text.len() {
+        return Checked::Refused(Refusal::TextLength);
+    }
+    let layout = fault_of(Row::Layout, text);
+    if let Fault::Line(n) = layout {
+        return Checked::Refused(Refusal::Layout(n));
+    }
+    let range = fault_of(Row::Range, text);
+    if let Fault::Line(n) = range {
+        return Checked::Refused(Refusal::OutOfRange(n));
+    }
+    let name = fault_of(Row::Name, text);
+    if let Fault::Line(n) = name {
+        return Checked::Refused(Refusal::BadName(n));
+    }
+    let price = fault_of(Row::Price, text);
+    if let Fault::Line(n) = price {
+        return Checked::Refused(Refusal::Unpriced(n));
+    }
+    let target = fault_of(Row::Target, text);
+    if let Fault::Line(n) = target {
+        return Checked::Refused(Refusal::NoTarget(n));
+    }
+    match reader {
+        Reader::Bound => Checked::Passes,
+        Reader::Run => check_known(text),
     }
 }

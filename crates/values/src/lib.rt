@@ -8,7 +8,7 @@ ghost use mathlib.Core.Path.{_≡_};
 ghost use Prim.Native.Nat.{_≤_};
 ghost use lib.Dec.{ltb};
 ghost use lib.IntN.{natAbs};
-ghost use Rattle.text.specs.Decimal.{numeral, most, clamp, clamped};
+ghost use Rattle.text.specs.Decimal.{numeral, most, clamp};
 ghost use Rattle.numbers.specs.Numbers.{range, within, numbers};
 ghost use Rattle.cells.specs.Cells.{number, handle};
 ghost use Rattle.routine.specs.Rows.{isNumeral, value, knownOf, blockOf, cellWord, isCell, handles, cellInRange, cellPresent, isKnown};

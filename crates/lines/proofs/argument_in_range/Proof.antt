@@ -1,5 +1,6 @@
 -- `argument_in_range` meets its contract. Assumes nothing.
 use mathlib.Core.Path.{refl, sym, ap, _∙_}
+use native.Mathlib.Omega.{arith}
 use Rattle.numbers.specs.Numbers.{within}
 use Rattle.instructions.specs.Kinds.{addresses}
 use Rattle.routine.specs.Rows.{value, arg, argumentInRange}
@@ -14,7 +15,7 @@ kind-of-requires c κs = search needs
 returns : tie.Need-returns
 returns c =
     let line = c .before .before .before .args .line .now in
-    sym (on-unknown (argumentInRange (arg line)) line (c .before .kind-of .ensures) (c .if1 .taken))
+    sym (on-unknown (argumentInRange (arg line)) line (c .before .kind-of .ensures) (omega (arith, c .if1 .taken)))
 
 word-at-requires : tie.Need-word-at-requires
 word-at-requires c κs = search needs

@@ -1,6 +1,7 @@
 -- `argument_laid_out` meets its contract. Assumes nothing.
 use mathlib.Core.Path.{sym, ap, _∙_}
 use mathlib.Core.Bool.{not}
+use native.Mathlib.Omega.{arith}
 use Rattle.text.specs.Text.{bytes, equals}
 use Rattle.text.specs.Decimal.{numeral}
 use Rattle.routine.specs.Rows.{isNumeral, arg, argumentLaidOut}
@@ -15,7 +16,7 @@ kind-of-requires c κs = search needs
 returns : tie.Need-returns
 returns c =
     let line = c .before .before .before .args .line .now in
-    sym (on-unknown (argumentLaidOut (arg line)) line (c .before .kind-of .ensures) (c .if1 .taken))
+    sym (on-unknown (argumentLaidOut (arg line)) line (c .before .kind-of .ensures) (omega (arith, c .if1 .taken)))
 
 word-at-requires : tie.Need-word-at-requires
 word-at-requires c κs = search needs

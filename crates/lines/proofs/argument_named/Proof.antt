@@ -1,5 +1,6 @@
 -- `argument_named` meets its contract. Assumes nothing.
 use mathlib.Core.Path.{refl, ap, _∙_}
+use native.Mathlib.Omega.{arith}
 use Rattle.text.specs.Text.{among}
 use Rattle.routine.specs.Layout.{list}
 use Rattle.routine.specs.Rows.{arg, onArgument, argumentNamed}
@@ -17,7 +18,7 @@ returns c =
     let start = c .before .before .before .before in
     let line = start .args .line .now in
     let test = argumentNamed (list (start .args .primitives .now)) (arg line) in
-    and-false (onArgument test line) (op-unknown test line (c .before .kind-of .ensures) (c .if1 .taken))
+    and-false (onArgument test line) (op-unknown test line (c .before .kind-of .ensures) (omega (arith, c .if1 .taken)))
 
 word-at-requires : tie.Need-word-at-requires
 word-at-requires c κs = search needs

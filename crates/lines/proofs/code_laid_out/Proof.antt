@@ -1,5 +1,6 @@
 -- `code_laid_out` meets its contract. Assumes nothing.
 use mathlib.Core.Path.{sym, ap, _∙_}
+use native.Mathlib.Omega.{arith}
 use lib.Dec.{eqb}
 use lib.ListN.{length}
 use borrow.Author.Tests.{lt-ltb, le-ltb, eq-eqb, ne-eqb}
@@ -15,7 +16,7 @@ returns : tie.Need-returns
 unfolding codeLaidOut
 returns c =
     let line = c .before .before .args .line .now in
-    stop-first _ (eqb (length (words line)) 3) (isNumeral (numeral (at line))) (onArgument (argumentLaidOut (arg line)) line) (le-ltb (c .before .before .args .k) 1024 (c .if1 .taken))
+    stop-first _ (eqb (length (words line)) 3) (isNumeral (numeral (at line))) (onArgument (argumentLaidOut (arg line)) line) (le-ltb (c .before .before .args .k) 1024 (omega (arith, c .if1 .taken)))
 
 count-words-requires : tie.Need-count-words-requires
 count-words-requires c κs = search needs
@@ -25,7 +26,7 @@ unfolding codeLaidOut
 returns-2 c =
     let line = c .before .before .before .before .args .line .now in
     stop-second _ _ (isNumeral (numeral (at line))) (onArgument (argumentLaidOut (arg line)) line)
-    (lt-ltb (c .before .before .before .before .args .k) 1024 (c .before .before .if1 .left))
+    (lt-ltb (c .before .before .before .before .args .k) 1024 (omega (arith, c .before .before .if1 .left)))
     (ne-eqb (length (words line)) 3 (λ e. c .if2 .taken (c .before .count-words .ensures ∙ e)))
 
 word-at-requires : tie.Need-word-at-requires
@@ -42,7 +43,7 @@ unfolding codeLaidOut
 returns-3 c =
     let line = c .before .before .before .before .before .before .before .before .args .line .now in
     through _ _ _ _
-    (lt-ltb (c .before .before .before .before .before .before .before .before .args .k) 1024 (c .before .before .before .before .before .before .if1 .left))
+    (lt-ltb (c .before .before .before .before .before .before .before .before .args .k) 1024 (omega (arith, c .before .before .before .before .before .before .if1 .left)))
     (eq-eqb (length (words line)) 3 (sym (c .before .before .before .before .before .count-words .ensures) ∙ c .before .before .before .before .if2 .left))
     (sym (c .before .before .is-numeral .ensures ∙ ap (λ w. isNumeral (numeral w)) (c .before .before .before .word-at .ensures)) ∙ c .before .if3 .taken)
     (c .argument-laid-out .ensures)
@@ -52,7 +53,7 @@ unfolding codeLaidOut
 returns-4 c =
     let line = c .before .before .before .before .before .before .before .args .line .now in
     stop-third _ _ _ (onArgument (argumentLaidOut (arg line)) line)
-    (lt-ltb (c .before .before .before .before .before .before .before .args .k) 1024 (c .before .before .before .before .before .if1 .left))
+    (lt-ltb (c .before .before .before .before .before .before .before .args .k) 1024 (omega (arith, c .before .before .before .before .before .if1 .left)))
     (eq-eqb (length (words line)) 3 (sym (c .before .before .before .before .count-words .ensures) ∙ c .before .before .before .if2 .left))
     (sym (c .before .is-numeral .ensures ∙ ap (λ w. isNumeral (numeral w)) (c .before .before .word-at .ensures)) ∙ c .if3 .left)
 

@@ -1,5 +1,6 @@
 -- `code_reaches` meets its contract. Assumes nothing.
 use mathlib.Core.Path.{refl, sym, ap₂, _∙_}
+use native.Mathlib.Omega.{arith}
 use mir.Syntax.{w64}
 use mir.ValLaws.{toZ-ofZ}
 use Rattle.instructions.specs.declared.Argument.the-variants.{Target}
@@ -16,7 +17,7 @@ returns : tie.Need-returns
 unfolding codeReaches
 returns c =
     let line = c .before .before .before .args .line .now in
-    sym (on-unknown (argumentReaches (c .before .before .before .args .first) (c .before .before .before .args .n) (arg line)) line (c .before .kind-of .ensures) (c .if1 .taken))
+    sym (on-unknown (argumentReaches (c .before .before .before .args .first) (c .before .before .before .args .n) (arg line)) line (c .before .kind-of .ensures) (omega (arith, c .if1 .taken)))
 
 word-at-requires : tie.Need-word-at-requires
 word-at-requires c κs = search needs

@@ -1,0 +1,243 @@
+-- Laws of a code line as an entry for each column. Assumes nothing.
+use Prim.Native.Nat.{ℕ, zero, suc, _+_, _%_, _<_, _≤_}
+use mathlib.Core.Path.{_≡_, refl, sym, ap, ap₂, _∙_}
+use mathlib.Core.Bool.{Bool, true, false, cond}
+use mathlib.Core.List.{List, [], _∷_, _++_, map}
+use native.Mathlib.Omega.{arith}
+use native.Mathlib.Numerals.{add-one}
+use lib.Dec.{eqb}
+use lib.IntN.{ℤ}
+use lib.ListN.{length, getD, take, set, length-map, List·getD-eq-default}
+use lib.Seq.{take-suc, take-suc-set, length-take-le}
+use borrow.Author.Tests.{le-leb, lt-leb}
+use Rattle.text.specs.Text.{find, Line, noLine}
+use Rattle.numbers.specs.declared.Comparison.the-variants.{Equal, Unequal, Less, AtMost, Greater, AtLeast}
+use Rattle.numbers.specs.declared.Range.{Range}
+use Rattle.numbers.specs.Numbers.{numbers, range}
+use Rattle.cells.specs.declared.Unary.the-variants.{Offset, Negate, Complement}
+use Rattle.cells.specs.declared.Binary.the-variants.{Add, Subtract, Compare}
+use Rattle.instructions.specs.declared.Argument.{Argument}
+use Rattle.instructions.specs.declared.Argument.the-variants.{Absent, Target, Primitive, Within}
+use Rattle.instructions.specs.declared.Operation.{Operation}
+use Rattle.instructions.specs.declared.Operation.the-variants.{Nothing, Access, Drop, Assign, Constant, GetField, SetField, Branch, BranchIf, BranchIfNot, Call, Stop, Alter, Combine}
+use Rattle.instructions.specs.Kinds.{Kind, kinds, kindNames, operand, calls, addresses}
+use Rattle.instructions.specs.Columns.{kindAt, operationCode, unaryCode, binaryCode, comparisonCode}
+use Rattle.instructions.proofs.ColumnLaws.{column-at, natural-at}
+use Rattle.machine.specs.Machine.{Price, Instruction, instruction, cost}
+use Rattle.machine.specs.Outcome.{operations, operationOf}
+use Rattle.machine.specs.Columns.{line, lineOf, linesOf}
+use Rattle.routine.specs.Layout.{list}
+use Rattle.routine.specs.Rows.{op, arg, value, cycleCounts, wordCounts}
+use Rattle.routine.specs.Routine.{inside, argumentValue}
+use Rattle.routine.proofs.RangeLaws.{inside-small}
+use Rattle.parts.specs.Parts.{naturalAt, PriceLines, pricesIn, instructionAs, instructionIn, Coded}
+
+-- past the table's end stands its last kind
+pub kind-past : (k : ℕ) → 61 ≤ k → kindAt 60 ≡ kindAt k
+unfolding kindAt kinds
+kind-past k h = sym (List·getD-eq-default kinds _ h)
+
+-- an operation by its code
+
+pub operation-is : (o : Operation) → operationOf (operationCode o) ≡ o
+unfolding operationOf operations operationCode unaryCode binaryCode comparisonCode
+operation-is Nothing = refl
+operation-is Access = refl
+operation-is Drop = refl
+operation-is Assign = refl
+operation-is Constant = refl
+operation-is GetField = refl
+operation-is SetField = refl
+operation-is Branch = refl
+operation-is BranchIf = refl
+operation-is BranchIfNot = refl
+operation-is Call = refl
+operation-is Stop = refl
+operation-is (Alter Offset) = refl
+operation-is (Alter Negate) = refl
+operation-is (Alter Complement) = refl
+operation-is (Combine Add) = refl
+operation-is (Combine Subtract) = refl
+operation-is (Combine (Compare Equal)) = refl
+operation-is (Combine (Compare Unequal)) = refl
+operation-is (Combine (Compare Less)) = refl
+operation-is (Combine (Compare AtMost)) = refl
+operation-is (Combine (Compare Greater)) = refl
+operation-is (Combine (Compare AtLeast)) = refl
+
+pub operation-small : (o : Operation) → operationCode o ≤ 22
+unfolding operationCode unaryCode binaryCode comparisonCode
+operation-small Nothing = omega arith
+operation-small Access = omega arith
+operation-small Drop = omega arith
+operation-small Assign = omega arith
+operation-small Constant = omega arith
+operation-small GetField = omega arith
+operation-small SetField = omega arith
+operation-small Branch = omega arith
+operation-small BranchIf = omega arith
+operation-small BranchIfNot = omega arith
+operation-small Call = omega arith
+operation-small Stop = omega arith
+operation-small (Alter Offset) = omega arith
+operation-small (Alter Negate) = omega arith
+operation-small (Alter Complement) = omega arith
+operation-small (Combine Add) = omega arith
+operation-small (Combine Subtract) = omega arith
+operation-small (Combine (Compare Equal)) = omega arith
+operation-small (Combine (Compare Unequal)) = omega arith
+operation-small (Combine (Compare Less)) = omega arith
+operation-small (Combine (Compare AtMost)) = omega arith
+operation-small (Combine (Compare Greater)) = omega arith
+operation-small (Combine (Compare AtLeast)) = omega arith
+
+-- the kinds that call are those with the code 13
+pub calls-code : (k : ℕ) → k < 61 → eqb (operationCode (kindAt k .operation)) 13 ≡ calls (kindAt k .argument)
+unfolding kinds operationCode unaryCode binaryCode comparisonCode
+calls-code k h =
+    ap (λ (n : ℕ). eqb n 13) (sym (natural-at (λ (r : Kind). operationCode (r .operation)) k h))
+    ∙ column-at (λ (r : Kind). operationCode (r .operation)) (λ (n : ℕ). eqb n 13) (λ (r : Kind). calls (r .argument)) 0 refl k h
+
+-- an entry of the column of codes
+
+pub coded-pushes : (k : Kind) (n : ℕ) → n ≡ operationCode (k .operation) → k .pushes ≡ true → Coded k (n + 32)
+coded-pushes k n e p =
+    let s : n ≤ 22 = omega (arith, operation-small (k .operation)) in
+    let m : (n + 32) % 32 ≡ n = omega arith in
+    record { code = m ∙ e; pushes = le-leb 32 (n + 32) (omega arith) ∙ sym p }
+
+pub coded-stays : (k : Kind) (n : ℕ) → n ≡ operationCode (k .operation) → k .pushes ≡ false → Coded k n
+coded-stays k n e p =
+    let s : n ≤ 22 = omega (arith, operation-small (k .operation)) in
+    let m : n % 32 ≡ n = omega arith in
+    record { code = m ∙ e; pushes = lt-leb 32 n (omega arith) ∙ sym p }
+
+-- a price, with the primitive's or without
+
+pub natural-small : (high : ℕ) (line : List ℕ) (i : ℕ) {n : ℕ} → n ≡ naturalAt (range 0 high) line i → n ≤ high
+natural-small high line i e = omega (arith, e, inside-small 0 high (value (getD (list line) i [])))
+
+pub with-primitive : {b : Bool} {x y m n : ℕ} → b ≡ true → m ≡ x → n ≡ y → m + n ≡ x + cond b y 0
+with-primitive {b} {x} {y} e p q = ap₂ _+_ p (q ∙ sym (ap (λ (t : Bool). cond t y 0) e))
+
+pub without-primitive : {b : Bool} {x m : ℕ} (y : ℕ) → b ≡ false → m ≡ x → m ≡ x + cond b y 0
+without-primitive {b} {x} {m} y e p = let q : cond b y 0 ≡ 0 = ap (λ (t : Bool). cond t y 0) e in omega arith
+
+pub same-price : (r : Range) (ks ps : List ℕ) {i i′ j j′ : ℕ} {b b′ : Bool} {n : ℕ} → i ≡ i′ → b ≡ b′ → j ≡ j′
+    → n ≡ naturalAt r ks i + cond b (naturalAt r ps j) 0 → n ≡ naturalAt r ks i′ + cond b′ (naturalAt r ps j′) 0
+same-price r ks ps p t q e = e ∙ (λ x. naturalAt r ks (p x) + cond (t x) (naturalAt r ps (q x)) 0)
+
+-- the operand by the argument that the kind takes
+module _ (k : Kind) (ps : List (List ℕ)) (w : List ℕ) where
+  pub operand-absent : k .argument ≡ Absent → k .fixed ≡ operand k (argumentValue ps w (k .argument))
+  unfolding operand argumentValue
+  operand-absent e = rw e refl
+
+  pub operand-target : k .argument ≡ Target → inside addresses (value w) ≡ operand k (argumentValue ps w (k .argument))
+  unfolding operand argumentValue
+  operand-target e = rw e refl
+
+  pub operand-primitive : k .argument ≡ Primitive → k .fixed ≡ operand k (argumentValue ps w (k .argument))
+  unfolding operand argumentValue
+  operand-primitive e = rw e refl
+
+  pub operand-within : (r : Range) → k .argument ≡ Within r → inside numbers (value w) ≡ operand k (argumentValue ps w (k .argument))
+  unfolding operand argumentValue
+  operand-within r e = rw e refl
+
+alone : (c w : ℕ) → _≡_ {A = Price} (record { cycles = c + 0; words = w + 0 }) (record { cycles = c; words = w })
+alone c w =
+    let e : c + 0 ≡ c = omega arith in
+    let f : w + 0 ≡ w = omega arith in
+    λ j. record { cycles = e j; words = f j }
+
+-- the price of a line whose kind stands at i on its line of names, with the primitive w
+priced : (p : PriceLines) (a : Argument) (i : ℕ) (w : List ℕ) → _≡_ {A = Price}
+    (record {
+      cycles = naturalAt cycleCounts (p .kindCycles) i + cond (calls a) (naturalAt cycleCounts (p .primitiveCycles) (find w (list (p .primitives)))) 0;
+      words = naturalAt wordCounts (p .kindWords) i + cond (calls a) (naturalAt wordCounts (p .primitiveWords) (find w (list (p .primitives)))) 0;
+    })
+    (cost (pricesIn p) a i (argumentValue (list (p .primitives)) w a))
+unfolding cost pricesIn argumentValue
+priced p Absent i w = alone (naturalAt cycleCounts (p .kindCycles) i) (naturalAt wordCounts (p .kindWords) i)
+priced p Target i w = alone (naturalAt cycleCounts (p .kindCycles) i) (naturalAt wordCounts (p .kindWords) i)
+priced p Primitive i w = refl
+priced p (Within r) i w = alone (naturalAt cycleCounts (p .kindCycles) i) (naturalAt wordCounts (p .kindWords) i)
+
+module _ (p : PriceLines) (text : List ℕ) (k : ℕ) (b : ℕ) (i : ℤ) (c w : ℕ) where
+  pub record Read : Type 0 where
+    pub kind : k < 61
+    pub coded : Coded (kindAt k) b
+    pub operand : (ps : List (List ℕ)) → i ≡ operand (kindAt k) (argumentValue ps (arg text) (kindAt k .argument))
+    pub cycles : c ≡ naturalAt cycleCounts (p .kindCycles) (find (op text) (list (p .kinds)))
+        + cond (calls (kindAt k .argument)) (naturalAt cycleCounts (p .primitiveCycles) (find (arg text) (list (p .primitives)))) 0
+    pub words : w ≡ naturalAt wordCounts (p .kindWords) (find (op text) (list (p .kinds)))
+        + cond (calls (kindAt k .argument)) (naturalAt wordCounts (p .primitiveWords) (find (arg text) (list (p .primitives)))) 0
+
+  entry-as : Read → lineOf (line b i c w) ≡ instructionAs (kindAt k) p text
+  unfolding instructionAs instruction
+  entry-as r =
+      let o : operationOf (b % 32) ≡ kindAt k .operation = ap operationOf (r .coded .code) ∙ operation-is (kindAt k .operation) in
+      let t : eqb (b % 32) 13 ≡ calls (kindAt k .argument) = ap (λ (n : ℕ). eqb n 13) (r .coded .code) ∙ calls-code k (r .kind) in
+      let s : _≡_ {A = Price} (record { cycles = c; words = w }) (cost (pricesIn p) (kindAt k .argument) (find (op text) (list (p .kinds))) (argumentValue (list (p .primitives)) (arg text) (kindAt k .argument))) =
+      (λ j. record { cycles = r .cycles j; words = r .words j }) ∙ priced p (kindAt k .argument) (find (op text) (list (p .kinds))) (arg text) in
+      λ j. record { pushes = r .coded .pushes j; operation = o j; operand = r .operand (list (p .primitives)) j; calls = t j; price = s j }
+
+  pub entry-is : Read → kindAt k ≡ kindAt (find (op text) kindNames) → lineOf (line b i c w) ≡ instructionIn p text
+  unfolding instructionIn
+  entry-is r e = entry-as r ∙ ap (λ (x : Kind). instructionAs x p text) e
+
+  pub code-small : Read → b % 32 ≤ 22
+  code-small r = let e = r .coded .code in omega (arith, operation-small (kindAt k .operation))
+
+-- columns of equal lengths with one more line
+
+lines-snoc : (bs : List ℕ) (is : List ℤ) (cs ws : List ℕ) (b : ℕ) (i : ℤ) (c w : ℕ) → length is ≡ length bs → length cs ≡ length bs → length ws ≡ length bs
+    → linesOf (bs ++ (b ∷ [])) (is ++ (i ∷ [])) (cs ++ (c ∷ [])) (ws ++ (w ∷ [])) ≡ linesOf bs is cs ws ++ (lineOf (line b i c w) ∷ [])
+unfolding linesOf
+lines-snoc [] [] [] [] b i c w p q r = refl
+lines-snoc [] [] [] (y ∷ ws) b i c w p q r = absurd (omega arith)
+lines-snoc [] [] (x ∷ cs) ws b i c w p q r = absurd (omega arith)
+lines-snoc [] (z ∷ is) cs ws b i c w p q r = absurd (omega arith)
+lines-snoc (a ∷ bs) [] cs ws b i c w p q r = absurd (omega arith)
+lines-snoc (a ∷ bs) (z ∷ is) [] ws b i c w p q r = absurd (omega arith)
+lines-snoc (a ∷ bs) (z ∷ is) (x ∷ cs) [] b i c w p q r = absurd (omega arith)
+lines-snoc (a ∷ bs) (z ∷ is) (x ∷ cs) (y ∷ ws) b i c w p q r =
+    ap (λ (l : List Instruction). lineOf (line a z x y) ∷ l) (lines-snoc bs is cs ws b i c w (omega arith) (omega arith) (omega arith))
+
+-- four columns of 1,024 places
+pub record Room (bs : List ℕ) (is : List ℤ) (cs ws : List ℕ) : Type 0 where
+  pub codes : length bs ≡ 1024
+  pub operands : length is ≡ 1024
+  pub cycles : length cs ≡ 1024
+  pub words : length ws ≡ 1024
+
+module _ (bs : List ℕ) (is : List ℤ) (cs ws : List ℕ) (n : ℕ) where
+  abbrev pub firstLines : List Instruction
+  firstLines = linesOf (take n bs) (take n is) (take n cs) (take n ws)
+
+pub columns-more : (f : Line → Instruction) (ls : List Line) (bs : List ℕ) (is : List ℤ) (cs ws : List ℕ) (n : ℕ) (b : ℕ) (i : ℤ) (c w : ℕ)
+    → Room bs is cs ws → n < 1024 → n < length ls → lineOf (line b i c w) ≡ getD (map f ls) n (f noLine)
+    → firstLines bs is cs ws n ≡ take n (map f ls)
+    → firstLines (set bs n b) (set is n i) (set cs n c) (set ws n w) (n + 1) ≡ take (n + 1) (map f ls)
+columns-more f ls bs is cs ws n b i c w r h k e q =
+    let rb = r .codes in let ri = r .operands in let rc = r .cycles in let rw′ = r .words in
+    let m : n < length (map f ls) = rw length-map (k) in
+    rw add-one
+    (rw (take-suc-set bs n b (omega arith), take-suc-set is n i (omega arith), take-suc-set cs n c (omega arith), take-suc-set ws n w (omega arith))
+    (lines-snoc (take n bs) (take n is) (take n cs) (take n ws) b i c w
+    (length-take-le n is (omega arith) ∙ sym (length-take-le n bs (omega arith)))
+    (length-take-le n cs (omega arith) ∙ sym (length-take-le n bs (omega arith)))
+    (length-take-le n ws (omega arith) ∙ sym (length-take-le n bs (omega arith)))
+    ∙ ap₂ (λ (l : List Instruction) (x : Instruction). l ++ (x ∷ [])) q e
+    ∙ sym (take-suc (map f ls) n (f noLine) m)))
+
+-- codes of operations, with one more
+pub known-more : (bs : List ℕ) (n b : ℕ) → n < length bs → b % 32 ≤ 22 → ((j : ℕ) → getD (take n bs) j 0 % 32 ≤ 22) → (j : ℕ) → getD (take (n + 1) (set bs n b)) j 0 % 32 ≤ 22
+known-more bs n b h k all j = rw add-one (rw (take-suc-set bs n b h) (snoc (take n bs) j all))
+  where
+    snoc : (l : List ℕ) (j : ℕ) → ((j : ℕ) → getD l j 0 % 32 ≤ 22) → getD (l ++ (b ∷ [])) j 0 % 32 ≤ 22
+    snoc [] zero a = k
+    snoc [] (suc j) a = a j
+    snoc (x ∷ l) zero a = a 0
+    snoc (x ∷ l) (suc j) a = snoc l j (λ m. a (suc m))

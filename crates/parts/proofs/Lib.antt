@@ -1,0 +1,6 @@
+pub mod ListLaws
+pub mod FillLaws
+pub mod WordLaws
+pub mod EntryLaws
+pub mod BlockLaws
+pub mod PartLaws

@@ -1,0 +1,124 @@
+-- `parts::columns_of` meets its contract. The loop's invariant: the first n entries of the columns are the first n lines, and the other
+-- lines are those of what is left. The measure is the number of lines left. Assumes nothing.
+use Prim.Native.Nat.{ℕ, _-_, _%_, _<_, _≤_}
+use mathlib.Core.Path.{_≡_, refl, ap, _∙_}
+use mathlib.Core.List.{map}
+use native.Mathlib.Omega.{arith}
+use lib.ListN.{length, getD, take, drop, length-set}
+use Rattle.text.specs.Text.{Line, lines}
+use Rattle.machine.specs.Machine.{Instruction}
+use mir.Syntax.{w32}
+use mir.ValLaws.{toZ-ofZ}
+use lib.IntN.{ℤ}
+use Rattle.machine.specs.Columns.{line, lineOf, linesOf}
+use Rattle.parts.specs.Parts.{PriceLines, priceLines, instructionIn}
+use Rattle.parts.proofs.FillLaws.{take-map, line-next, line-is}
+use Rattle.parts.proofs.EntryLaws.{Room, firstLines, columns-more, known-more}
+use borrow.Author.Needs.{needs}
+use Rattle.parts.proofs.columns_of.Statement.{statement}
+use Rattle.parts.proofs.columns_of.Tie as tie
+
+abbrev read : PriceLines → Line → Instruction
+read p l = instructionIn p (l .text)
+
+abbrev Inv-loop : tie.InvT-loop
+Inv-loop kinds kind-cycles kind-words primitives primitive-cycles primitive-words body count codes₀ operands₀ cycles₀ words₀ rest₀ n₀ codes operands cycles words rest n =
+    (n ≤ count) × Room codes operands cycles words × (lines rest ≡ drop n (lines body))
+    × (firstLines codes operands cycles words n ≡ take n (map (read (priceLines kinds kind-cycles kind-words primitives primitive-cycles primitive-words)) (lines body)))
+    × ((j : ℕ) → getD (take n codes) j 0 % 32 ≤ 22)
+
+abbrev μ-loop : tie.MeasureT-loop
+μ-loop kinds kind-cycles kind-words primitives primitive-cycles primitive-words body count codes₀ operands₀ cycles₀ words₀ rest₀ n₀ codes operands cycles words rest n = count - n
+
+loop-holds : tie.Need-loop-holds Inv-loop μ-loop
+unfolding linesOf
+loop-holds c = (omega arith, record { codes = refl; operands = refl; cycles = refl; words = refl }, refl, refl, λ j. omega arith)
+
+first-line-requires : tie.Need-first-line-requires Inv-loop μ-loop
+first-line-requires c κs = search needs
+
+entry-of-requires : tie.Need-entry-of-requires Inv-loop μ-loop
+entry-of-requires c κs = search needs
+
+array-write-codes : tie.Need-array-write-codes Inv-loop μ-loop
+array-write-codes c = search needs
+
+mul-operands : tie.Need-mul-operands Inv-loop μ-loop
+mul-operands c = search needs
+
+array-set-from-operands : tie.Need-array-set-from-operands Inv-loop μ-loop
+array-set-from-operands c = search needs
+
+mul-cycles : tie.Need-mul-cycles Inv-loop μ-loop
+mul-cycles c = search needs
+
+array-write-cycles : tie.Need-array-write-cycles Inv-loop μ-loop
+array-write-cycles c = search needs
+
+mul-words : tie.Need-mul-words Inv-loop μ-loop
+mul-words c = search needs
+
+array-write-words : tie.Need-array-write-words Inv-loop μ-loop
+array-write-words c = search needs
+
+next-lines-requires : tie.Need-next-lines-requires Inv-loop μ-loop
+next-lines-requires c κs = search needs
+
+add-n : tie.Need-add-n Inv-loop μ-loop
+add-n c = search needs
+
+loop-less : tie.Need-loop-less Inv-loop μ-loop
+loop-less c = search needs
+
+loop-again : tie.Need-loop-again Inv-loop μ-loop
+loop-again c =
+    let l = c .before .before .before .before .before .loop in
+    let start = c .before .before .before .before .before .before .before .before .before .before .before .before .before in
+    let ls = lines (start .args .body .now) in
+    let p =
+    priceLines (start .args .kinds .now) (start .args .kind-cycles .now) (start .args .kind-words .now) (start .args .primitives .now)
+    (start .args .primitive-cycles .now) (start .args .primitive-words .now) in
+    let r = l .inv .1 in
+    let rb = r .codes in let ro = r .operands in let rc = r .cycles in let rs = r .words in
+    let h : l .n < 1024 = omega (arith, start .pre .0) in
+    let k : l .n < length ls = omega (arith, start .pre .1) in
+    let x = c .before .before .entry-of .result in
+    let o = toZ-ofZ w32 (x .operand) (search needs) in
+    let e =
+    ap (λ (z : ℤ). lineOf (line (x .code) z (x .cycles) (x .words))) o
+    ∙ c .before .before .entry-of .ensures .0 ∙ ap (instructionIn p) (c .before .before .before .first-line .ensures) ∙ line-is (read p) ls (lines (l .rest .now)) (l .n) (l .inv .2) in (
+      omega arith,
+      record { codes = rw length-set rb; operands = rw length-set ro; cycles = rw length-set rc; words = rw length-set rs },
+      line-next ls (lines (l .rest .now)) _ (l .n) (l .inv .2) (c .next-lines .ensures .0),
+      columns-more (read p) ls (l .codes) (l .operands) (l .cycles) (l .words) (l .n) _ _ _ _ r h k e (l .inv .3),
+      known-more (l .codes) (l .n) _ (omega arith) (c .before .before .entry-of .ensures .1) (l .inv .4),
+    )
+
+returns : tie.Need-returns Inv-loop μ-loop
+returns c =
+    let l = c .before .loop in
+    let start = c .before .before .before .before .before .before .before .before .before in
+    let n : l .n ≡ start .args .count = omega arith in
+    (rw n at (l .inv .3 ∙ take-map _ (l .n) (lines (start .args .body .now))), rw n at (l .inv .4))
+
+pub columns-of-spec : {M : Type 1} → statement M
+columns-of-spec =
+    tie.close
+    (tie.spec
+    Inv-loop
+    μ-loop
+    loop-holds
+    first-line-requires
+    entry-of-requires
+    array-write-codes
+    mul-operands
+    array-set-from-operands
+    mul-cycles
+    array-write-cycles
+    mul-words
+    array-write-words
+    next-lines-requires
+    add-n
+    loop-less
+    loop-again
+    returns)

@@ -1,0 +1,90 @@
+-- `parts::count_code` meets its contract. The loop's invariant: the code lines of the body are the n lines passed and those of what is
+-- left up to a line ANSWER. The measure is the length of what is left. Assumes nothing.
+use Prim.Native.Nat.{_+_, _<_, _≤_}
+use mathlib.Core.Path.{_≡_, refl, sym, _∙_}
+use native.Mathlib.Omega.{arith}
+use lib.ListN.{length}
+use borrow.Author.Needs.{needs}
+use Rattle.text.specs.Text.{lines}
+use Rattle.routine.specs.Layout.{upToAnswer, codeLines}
+use Rattle.parts.proofs.ListLaws.{code-none, code-first, code-answer, code-next, code-end}
+use Rattle.parts.proofs.count_code.Statement.{statement}
+use Rattle.parts.proofs.count_code.Tie as tie
+
+abbrev Inv-loop : tie.InvT-loop
+Inv-loop body rest₀ n₀ t6 rest n = (n + length rest ≤ length body) × (length (codeLines (lines body)) ≡ n + length (upToAnswer (lines rest)))
+
+abbrev μ-loop : tie.MeasureT-loop
+μ-loop body rest₀ n₀ t6 rest n = length rest
+
+returns : tie.Need-returns Inv-loop μ-loop
+returns c = sym (code-none _ (c .if1 .taken))
+
+next-lines-requires : tie.Need-next-lines-requires Inv-loop μ-loop
+next-lines-requires c κs = search needs
+
+loop-holds : tie.Need-loop-holds Inv-loop μ-loop
+loop-holds c =
+    let body = c .before .before .before .args .body .now in
+    let h : 0 < length body = omega arith in
+    let e = code-first body (lines (c .next-lines .result .now)) h (c .next-lines .ensures .0) in
+    (omega arith, omega arith)
+
+first-line-requires : tie.Need-first-line-requires Inv-loop μ-loop
+first-line-requires c κs = search needs
+
+slice-aggregate-same : tie.Need-slice-aggregate-same Inv-loop μ-loop
+slice-aggregate-same c = refl
+
+same-requires : tie.Need-same-requires Inv-loop μ-loop
+same-requires c κs = search needs
+
+returns-2 : tie.Need-returns-2 Inv-loop μ-loop
+returns-2 c =
+    let l = c .before .before .before .before .before in
+    let e = code-answer (l .loop .rest .now) (c .before .before .before .first-line .result .now) (c .before .before .before .before .loop-test .taken) (c .before .before .before .first-line .ensures) (sym (c .before .same .ensures) ∙ c .if2 .taken) in
+    omega arith
+
+next-lines-requires-2 : tie.Need-next-lines-requires-2 Inv-loop μ-loop
+next-lines-requires-2 c κs = search needs
+
+add-n : tie.Need-add-n Inv-loop μ-loop
+add-n c = search needs
+
+loop-less : tie.Need-loop-less Inv-loop μ-loop
+loop-less c = search needs
+
+loop-again : tie.Need-loop-again Inv-loop μ-loop
+loop-again c =
+    let l = c .before .before .before .before .before .before in
+    let f = c .before .before .before .before .first-line in
+    let e =
+    code-next (l .loop .rest .now) (f .result .now) (c .before .before .before .before .before .loop-test .taken) (f .ensures)
+    (lines (c .next-lines2 .result .now)) (c .next-lines2 .ensures .0) (sym (c .before .before .same .ensures) ∙ c .before .if2 .left) in
+    (omega arith, omega arith)
+
+returns-3 : tie.Need-returns-3 Inv-loop μ-loop
+returns-3 c =
+    let l = c .before in
+    let z : length (l .loop .rest .now) ≡ 0 = omega arith in
+    let e = code-end (l .loop .rest .now) z in
+    omega arith
+
+pub count-code-spec : {M : Type 1} → statement M
+count-code-spec =
+    tie.close
+    (tie.spec
+    Inv-loop
+    μ-loop
+    returns
+    next-lines-requires
+    loop-holds
+    first-line-requires
+    slice-aggregate-same
+    same-requires
+    returns-2
+    next-lines-requires-2
+    add-n
+    loop-less
+    loop-again
+    returns-3)

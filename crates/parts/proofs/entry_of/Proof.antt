@@ -1,0 +1,88 @@
+-- `parts::entry_of` meets its contract. Assumes nothing.
+use Prim.Native.Nat.{ℕ}
+use mathlib.Core.Path.{ap, _∙_}
+use mathlib.Core.List.{List}
+use native.Mathlib.Omega.{arith}
+use mir.Syntax.{w32}
+use mir.ValLaws.{toZ-ofZ}
+use Rattle.text.specs.Text.{find}
+use Rattle.instructions.specs.Kinds.{operand, kindNames}
+use Rattle.instructions.specs.Columns.{kindAt}
+use Rattle.routine.specs.Layout.{list}
+use Rattle.routine.specs.Rows.{cycleCounts, wordCounts}
+use Rattle.routine.specs.Routine.{argumentValue}
+use Rattle.parts.specs.Parts.{priceLines}
+use Rattle.parts.proofs.EntryLaws.{Read, entry-is, code-small, same-price}
+use borrow.Author.Needs.{needs}
+use Rattle.parts.proofs.entry_of.Statement.{statement}
+use Rattle.parts.proofs.entry_of.Tie as tie
+
+word-at-requires : tie.Need-word-at-requires
+word-at-requires c κs = search needs
+
+word-at-requires-2 : tie.Need-word-at-requires-2
+word-at-requires-2 c κs = search needs
+
+kind-of-requires : tie.Need-kind-of-requires
+kind-of-requires c κs = search needs
+
+calls-at-requires : tie.Need-calls-at-requires
+calls-at-requires c κs = c .kind-of .ensures .1
+
+place-of-requires : tie.Need-place-of-requires
+place-of-requires c κs = search needs
+
+place-of-requires-2 : tie.Need-place-of-requires-2
+place-of-requires-2 c κs = search needs
+
+code-of-requires : tie.Need-code-of-requires
+code-of-requires c κs = c .before .before .before .kind-of .ensures .1
+
+operand-of-requires : tie.Need-operand-of-requires
+operand-of-requires c κs = c .before .before .before .before .kind-of .ensures .1
+
+price-of-requires : tie.Need-price-of-requires
+price-of-requires c κs = omega arith
+
+price-of-requires-2 : tie.Need-price-of-requires-2
+price-of-requires-2 c κs = omega arith
+
+returns : tie.Need-returns
+returns c =
+    let start = c .before .before .before .before .before .before .before .before .before .before .before .before .before .before .before .before .before in
+    let kind = c .before .before .before .before .before .before .before in
+    let k = kind .kind-of .result in
+    let text = start .args .text .now in
+    let p =
+    priceLines (start .args .kinds .now) (start .args .kind-cycles .now) (start .args .kind-words .now) (start .args .primitives .now)
+    (start .args .primitive-cycles .now) (start .args .primitive-words .now) in
+    let o = kind .before .before .word-at .ensures in
+    let a = kind .before .word-at2 .ensures in
+    let i = c .before .before .before .before .before .place-of .ensures ∙ ap (λ (w : List ℕ). find w (list (p .kinds))) o in
+    let j = c .before .before .before .before .place-of2 .ensures ∙ ap (λ (w : List ℕ). find w (list (p .primitives))) a in
+    let t = c .before .before .before .before .before .before .calls-at .ensures in
+    let r : Read p text k _ _ _ _ =
+    record {
+      kind = kind .kind-of .ensures .1;
+      coded = c .before .before .before .code-of .ensures;
+      operand = λ ps. toZ-ofZ w32 (c .before .before .operand-of .result) (search needs) ∙ c .before .before .operand-of .ensures ps ∙ ap (λ (w : List ℕ). operand (kindAt k) (argumentValue ps w (kindAt k .argument))) a;
+      cycles = same-price cycleCounts (p .kindCycles) (p .primitiveCycles) i t j (c .before .price-of .ensures);
+      words = same-price wordCounts (p .kindWords) (p .primitiveWords) i t j (c .price-of2 .ensures);
+    } in
+    (entry-is p text k _ _ _ _ r (kind .kind-of .ensures .0 ∙ ap (λ (w : List ℕ). kindAt (find w kindNames)) o), code-small p text k _ _ _ _ r)
+
+pub entry-of-spec : {M : Type 1} → statement M
+entry-of-spec =
+    tie.close
+    (tie.spec
+    word-at-requires
+    word-at-requires-2
+    kind-of-requires
+    calls-at-requires
+    place-of-requires
+    place-of-requires-2
+    code-of-requires
+    operand-of-requires
+    price-of-requires
+    price-of-requires-2
+    returns)

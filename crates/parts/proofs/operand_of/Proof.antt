@@ -1,0 +1,74 @@
+-- `parts::operand_of` meets its contract. Assumes nothing.
+use mathlib.Core.Path.{sym, ap, _∙_}
+use mir.Syntax.{w32}
+use mir.ValLaws.{toZ-ofZ}
+use Rattle.numbers.specs.declared.Range.{Range}
+use Rattle.routine.specs.Rows.{value}
+use Rattle.routine.specs.Routine.{inside}
+use Rattle.instructions.specs.Columns.{kindAt}
+use Rattle.parts.proofs.WordLaws.{numbers-fit}
+use Rattle.parts.proofs.EntryLaws.{operand-absent, operand-target, operand-primitive, operand-within}
+use borrow.Author.Needs.{needs}
+use Rattle.parts.proofs.operand_of.Statement.{statement}
+use Rattle.parts.proofs.operand_of.Tie as tie
+
+argument-at-requires : tie.Need-argument-at-requires
+argument-at-requires c κs = search needs
+
+enum-told : tie.Need-enum-told
+enum-told c = search needs
+
+fixed-at-requires : tie.Need-fixed-at-requires
+fixed-at-requires c κs = search needs
+
+enum-told-2 : tie.Need-enum-told-2
+enum-told-2 c = search needs
+
+number-of-requires : tie.Need-number-of-requires
+number-of-requires c κs = search needs
+
+enum-told-3 : tie.Need-enum-told-3
+enum-told-3 c = search needs
+
+fixed-at-requires-2 : tie.Need-fixed-at-requires-2
+fixed-at-requires-2 c κs = search needs
+
+enum-told-4 : tie.Need-enum-told-4
+enum-told-4 c = search needs
+
+number-range-requires : tie.Need-number-range-requires
+number-range-requires c κs = search needs
+
+number-of-requires-2 : tie.Need-number-of-requires-2
+number-of-requires-2 c κs = numbers-fit _ (c .number-range .ensures)
+
+returns : tie.Need-returns
+returns c = λ ps. toZ-ofZ w32 _ (search needs) ∙ c .fixed-at .ensures ∙ operand-absent (kindAt (c .before .before .before .before .before .args .k)) ps (c .before .before .before .before .before .args .w .now) (sym (c .before .before .before .argument-at .ensures) ∙ c .before .enum-told .given .1)
+
+returns-2 : tie.Need-returns-2
+returns-2 c = λ ps. toZ-ofZ w32 _ (search needs) ∙ c .number-of .ensures ∙ operand-target (kindAt (c .before .before .before .before .before .args .k)) ps (c .before .before .before .before .before .args .w .now) (sym (c .before .before .before .argument-at .ensures) ∙ c .before .enum-told2 .given .1)
+
+returns-3 : tie.Need-returns-3
+returns-3 c = λ ps. toZ-ofZ w32 _ (search needs) ∙ c .fixed-at2 .ensures ∙ operand-primitive (kindAt (c .before .before .before .before .before .args .k)) ps (c .before .before .before .before .before .args .w .now) (sym (c .before .before .before .argument-at .ensures) ∙ c .before .enum-told3 .given .1)
+
+returns-4 : tie.Need-returns-4
+returns-4 c = λ ps. toZ-ofZ w32 _ (search needs) ∙ c .number-of2 .ensures ∙ ap (λ (r : Range). inside r (value (c .before .before .before .before .before .before .args .w .now))) (c .before .number-range .ensures) ∙ operand-within (kindAt (c .before .before .before .before .before .before .args .k)) ps (c .before .before .before .before .before .before .args .w .now) _ (sym (c .before .before .before .before .argument-at .ensures) ∙ c .before .before .enum-told4 .given .1)
+
+pub operand-of-spec : {M : Type 1} → statement M
+operand-of-spec =
+    tie.close
+    (tie.spec
+    argument-at-requires
+    enum-told
+    fixed-at-requires
+    enum-told-2
+    number-of-requires
+    enum-told-3
+    fixed-at-requires-2
+    enum-told-4
+    number-range-requires
+    number-of-requires-2
+    returns
+    returns-2
+    returns-3
+    returns-4)

@@ -1,0 +1,364 @@
+// The parts of the routine that a text holds, as arrays by value. The meaning is in specs/ here and of crate routine.
+use cells::Cell;
+use instructions::Argument;
+use machine::State;
+use numbers::Range;
+ghost use mathlib.Core.Path.{_≡_};
+ghost use mathlib.Core.Bool.{cond};
+ghost use mathlib.Core.List.{List, [], map};
+ghost use Prim.Native.Nat.{ℕ, _+_, _%_, _≤_, _<_};
+ghost use lib.IntN.{pos};
+ghost use lib.ListN.{length, getD, take, drop};
+ghost use Rattle.text.specs.Text.{bytes, equals, find, lines};
+ghost use Rattle.numbers.specs.Numbers.{IsNumber, range, numbers};
+ghost use Rattle.cells.specs.Cells.{number};
+ghost use Rattle.instructions.specs.Kinds.{kindNames, operand, calls};
+ghost use Rattle.instructions.specs.Columns.{kindAt};
+ghost use Rattle.machine.specs.Columns.{line, lineOf, linesOf};
+ghost use Rattle.machine.specs.View.{view, blocksOf};
+ghost use Rattle.routine.specs.Layout.{list, codeLines};
+ghost use Rattle.routine.specs.Rows.{value, total};
+ghost use Rattle.routine.specs.Routine.{inside, argumentValue};
+ghost use Rattle.routine.specs.Routine.{blocksOf as blocksInLine};
+ghost use Rattle.parts.specs.Parts.{naturalAt, priceLines, instructionIn, Coded, cellsIn, startIn};
+
+// ---- the words of a line
+
+// Whether a line lists nothing.
+fn lists_nothing(line: &[u8]) -> bool
+    ensures { λ r. ⌜ r ≡ equals (now (line .entry)) (bytes "-") ⌝ }
+{
+    text::same(line, b"-")
+}
+
+// Where a word stands among those that a line lists, counted from 0; their number where it is none of them.
+pub fn place_of(names: &[u8], w: &[u8]) -> usize
+    ensures { λ r. ⌜ r ≡ find (now (w .entry)) (list (now (names .entry))) ⌝ }
+{
+    if lists_nothing(names) {
+        return 0;
+    }
+    text::find(w, names)
+}
+
+// The number of words that a line lists.
+fn count_listed(values: &[u8]) -> usize
+    ensures { λ r. ⌜ r ≡ length (list (now (values .entry))) ⌝ }
+{
+    if lists_nothing(values) {
+        return 0;
+    }
+    text::count_words(values)
+}
+
+// Word i of those that a line lists, counted from 0; no bytes where it lists fewer.
+fn listed_at(values: &[u8], i: usize) -> &[u8]
+    ensures { λ r. ⌜ now r ≡ getD (list (now (values .entry))) i [] ⌝ }
+{
+    if lists_nothing(values) {
+        return &values[..0];
+    }
+    text::word_at(values, i)
+}
+
+// The number at place i of a line: a limit or a price.
+pub fn natural_at(low: u32, high: u32, values: &[u8], i: usize) -> u32
+    ensures { λ r. ⌜ r ≡ naturalAt (range low high) (now (values .entry)) i ⌝ }
+{
+    values::natural_in(low, high, listed_at(values, i))
+}
+
+// The cell at place i of a line; 0 where it lists fewer.
+fn cell_at(values: &[u8], i: usize) -> Cell
+    ensures { λ r. ⌜ r ≡ getD (cellsIn (now (values .entry))) i (number (pos 0)) ⌝ }
+{
+    values::cell_of(listed_at(values, i))
+}
+
+// The 32-bit number of a range that a word spells; one outside it counts 0.
+fn number_of(range: Range, w: &[u8]) -> i32
+    requires { ⌜ IsNumber (range .low) × IsNumber (range .high) ⌝ }
+    ensures { λ r. ⌜ r ≡ inside range (value (now (w .entry))) ⌝ }
+{
+    let z = values::number_in(range, w);
+    z as i32
+}
+
+// ---- code and answers
+
+// The number of code lines: the first line, and those up to a line ANSWER.
+pub fn count_code(body: &[u8]) -> usize
+    ensures { λ r. ⌜ r ≡ length (codeLines (lines (now (body .entry)))) ⌝ }
+{
+    if body.len() == 0 {
+        return 0;
+    }
+    let mut rest = text::next_lines(body);
+    let mut n = 1;
+    while 0 < rest.len() {
+        let line = text::first_line(rest);
+        if text::same(line, b"ANSWER") {
+            return n;
+        }
+        let next = text::next_lines(rest);
+        rest = next;
+        n += 1;
+    }
+    n
+}
+
+// The first `count` of `values` are the answers.
+pub struct Answers {
+    pub values: [i32; 64],
+    pub count: usize,
+}
+
+// The answers that the lines of `text` hold.
+pub fn answers_of(text: &[u8]) -> Answers
+    requires { ⌜ length (lines (now text)) ≤ 64 ⌝ }
+    ensures answers { λ r. ⌜ take (r .count) (r .values) ≡ map (λ l. inside numbers (value (l .text))) (lines (now (text .entry))) ⌝ }
+    ensures few { λ r. ⌜ r .count ≤ 64 ⌝ }
+{
+    let mut values = [0i32; 64];
+    let mut rest = text;
+    let mut n = 0;
+    while 0 < rest.len() {
+        let line = text::first_line(rest);
+        let v = number_of(values::number_range(), line);
+        values[n] = v;
+        let next = text::next_lines(rest);
+        rest = next;
+        n += 1;
+    }
+    Answers {
+        values: values,
+        count: n,
+    }
+}
+
+// ---- the start
+
+// The start at the address `first`: the first cell of a line is ACCU, the others are the stack, the top first.
+pub fn start_of(values: &[u8], first: usize) -> State
+    requires { ⌜ length (list (now values)) ≤ 33 ⌝ }
+    ensures start { λ r. ⌜ view r ≡ startIn first (cellsIn (now (values .entry))) ⌝ }
+    ensures room { λ r. ⌜ r .free ≤ 64 ⌝ }
+{
+    let accu = cell_at(values, 0);
+    let zero = cells::number(0);
+    let mut stack = [zero; 64];
+    let count = count_listed(values);
+    let n = if count == 0 { 0 } else { count - 1 };
+    let free = 64 - n;
+    let mut i = 0;
+    while i < n {
+        let cell = cell_at(values, i + 1);
+        let j = free + i;
+        stack[j] = cell;
+        i += 1;
+    }
+    State {
+        at: first,
+        accu: accu,
+        free: free,
+        stack: stack,
+    }
+}
+
+// ---- code lines
+
+// The place in the table of the kind that a word names; that of the last kind where it names none.
+fn kind_of(w: &[u8]) -> usize
+    ensures kind { λ r. ⌜ kindAt r ≡ kindAt (find (now (w .entry)) kindNames) ⌝ }
+    ensures place { λ r. ⌜ r < 61 ⌝ }
+{
+    let k = instructions::kind_named(w);
+    if k < 61 { k } else { 60 }
+}
+
+// The code of a kind's operation, and 32 more where the kind pushes first.
+fn code_of(k: usize) -> u8
+    requires { ⌜ k < 61 ⌝ }
+    ensures { λ r. ⌜ Coded (kindAt k) r ⌝ }
+{
+    let code = instructions::operation_at(k);
+    if instructions::pushes_at(k) {
+        code + 32
+    } else {
+        code
+    }
+}
+
+// The operand of kind k with the argument w.
+fn operand_of(k: usize, w: &[u8]) -> i32
+    requires { ⌜ k < 61 ⌝ }
+    ensures { λ r. ⌜ ((ps : List (List ℕ)) → r ≡ operand (kindAt k) (argumentValue ps (now (w .entry)) (kindAt k .argument))) ⌝ }
+{
+    match instructions::argument_at(k) {
+        Argument::Absent => instructions::fixed_at(k),
+        Argument::Target => number_of(
+            Range {
+                low: 0,
+                high: 62000,
+            },
+            w,
+        ),
+        Argument::Primitive => instructions::fixed_at(k),
+        Argument::Within(_) => number_of(values::number_range(), w),
+    }
+}
+
+// Whether kind k calls a primitive.
+fn calls_at(k: usize) -> bool
+    requires { ⌜ k < 61 ⌝ }
+    ensures { λ r. ⌜ r ≡ calls (kindAt k .argument) ⌝ }
+{
+    instructions::operation_at(k) == 13
+}
+
+// The price at place i of a line of the kinds' prices, and where the kind calls, that at place j of a line of the primitives'.
+fn price_of(high: u32, kinds: &[u8], i: usize, called: bool, primitives: &[u8], j: usize) -> u32
+    requires { ⌜ high ≤ 65535 ⌝ }
+    ensures { λ r. ⌜ r ≡ naturalAt (range 0 high) (now (kinds .entry)) i + cond called (naturalAt (range 0 high) (now (primitives .entry)) j) 0 ⌝ }
+{
+    let price = natural_at(0, high, kinds, i);
+    if called {
+        price + natural_at(0, high, primitives, j)
+    } else {
+        price
+    }
+}
+
+// A code line: an entry for each column.
+pub struct Entry {
+    pub code: u8,
+    pub operand: i32,
+    pub cycles: u32,
+    pub words: u32,
+}
+
+// The entries of a code line, by the six lines of prices.
+pub fn entry_of(
+    kinds: &[u8],
+    kind_cycles: &[u8],
+    kind_words: &[u8],
+    primitives: &[u8],
+    primitive_cycles: &[u8],
+    primitive_words: &[u8],
+    text: &[u8],
+) -> Entry
+    ensures instruction { λ r. ⌜ lineOf (line (r .code) (r .operand) (r .cycles) (r .words)) ≡ instructionIn (priceLines (now (kinds .entry)) (now («kind_cycles» .entry)) (now («kind_words» .entry)) (now (primitives .entry)) (now («primitive_cycles» .entry)) (now («primitive_words» .entry))) (now (text .entry)) ⌝ }
+    ensures known { λ r. ⌜ r .code % 32 ≤ 22 ⌝ }
+{
+    let op = text::word_at(text, 1);
+    let arg = text::word_at(text, 2);
+    let k = kind_of(op);
+    let called = calls_at(k);
+    let i = place_of(kinds, op);
+    let j = place_of(primitives, arg);
+    let code = code_of(k);
+    let operand = operand_of(k, arg);
+    let cycles = price_of(65535, kind_cycles, i, called, primitive_cycles, j);
+    let words = price_of(255, kind_words, i, called, primitive_words, j);
+    Entry {
+        code: code,
+        operand: operand,
+        cycles: cycles,
+        words: words,
+    }
+}
+
+// Code lines in columns.
+pub struct Columns {
+    pub codes: [u8; 1024],
+    pub operands: [i32; 1024],
+    pub cycles: [u32; 1024],
+    pub words: [u32; 1024],
+}
+
+// The first `count` lines of `body` in columns, by the six lines of prices.
+pub fn columns_of(
+    kinds: &[u8],
+    kind_cycles: &[u8],
+    kind_words: &[u8],
+    primitives: &[u8],
+    primitive_cycles: &[u8],
+    primitive_words: &[u8],
+    body: &[u8],
+    count: usize,
+) -> Columns
+    requires { ⌜ (count ≤ 1024) × (count ≤ length (lines (now body))) ⌝ }
+    ensures instructions { λ r. ⌜ linesOf (take count (r .codes)) (take count (r .operands)) (take count (r .cycles)) (take count (r .words)) ≡ map (λ l. instructionIn (priceLines (now (kinds .entry)) (now («kind_cycles» .entry)) (now («kind_words» .entry)) (now (primitives .entry)) (now («primitive_cycles» .entry)) (now («primitive_words» .entry))) (l .text)) (take count (lines (now (body .entry)))) ⌝ }
+    ensures known { λ r. ⌜ ((j : ℕ) → getD (take count (r .codes)) j 0 % 32 ≤ 22) ⌝ }
+{
+    let mut codes = [0u8; 1024];
+    let mut operands = [0i32; 1024];
+    let mut cycles = [0u32; 1024];
+    let mut words = [0u32; 1024];
+    let mut rest = body;
+    let mut n = 0;
+    while n < count {
+        let line = text::first_line(rest);
+        let e = entry_of(
+            kinds,
+            kind_cycles,
+            kind_words,
+            primitives,
+            primitive_cycles,
+            primitive_words,
+            line,
+        );
+        codes[n] = e.code;
+        let operand = e.operand;
+        operands[n] = operand;
+        cycles[n] = e.cycles;
+        words[n] = e.words;
+        let next = text::next_lines(rest);
+        rest = next;
+        n += 1;
+    }
+    Columns {
+        codes: codes,
+        operands: operands,
+        cycles: cycles,
+        words: words,
+    }
+}
+
+// ---- fields
+
+// `fields` with `size` cells of a line, from its place `from` on, in the places from `start` on.
+fn fill(values: &[u8], from: usize, fields: [Cell; 128], start: usize, size: usize) -> [Cell; 128]
+    requires { ⌜ (start + size ≤ 128) × (from + size ≤ length (list (now values))) ⌝ }
+    ensures kept { λ r. ⌜ take start r ≡ take start fields ⌝ }
+    ensures filled { λ r. ⌜ take size (drop start r) ≡ take size (drop from (cellsIn (now (values .entry)))) ⌝ }
+{
+    let mut filled = fields;
+    let mut i = 0;
+    while i < size {
+        let cell = cell_at(values, from + i);
+        let j = start + i;
+        filled[j] = cell;
+        i += 1;
+    }
+    filled
+}
+
+// The cells of a line, block after block, in sixteen places for each block.
+pub fn fields_of(values: &[u8], sizes: [u8; 8], count: usize) -> [Cell; 128]
+    requires { ⌜ (count ≤ 8) × ((k : ℕ) → getD (take count sizes) k 0 ≤ 16) × (total (take count sizes) ≡ length (list (now values))) ⌝ }
+    ensures { λ r. ⌜ blocksOf (take count sizes) r ≡ blocksInLine (take count sizes) (cellsIn (now (values .entry))) ⌝ }
+{
+    let zero = cells::number(0);
+    let mut fields = [zero; 128];
+    let mut from = 0;
+    let mut k = 0;
+    while k < count {
+        let size = sizes[k] as usize;
+        let filled = fill(values, from, fields, k * 16, size);
+        fields = filled;
+        from += size;
+        k += 1;
+    }
+    fields
+}

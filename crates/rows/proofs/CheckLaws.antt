@@ -1,0 +1,96 @@
+-- A text is refused by its length or by the first row that is not clean, and passes where all rows are clean. Assumes nothing.
+use Prim.Native.Nat.{ℕ, _<_, _≤_}
+use mathlib.Core.Path.{_≡_, refl, sym, ap, _∙_}
+use mathlib.Core.List.{List, [], _∷_, _++_}
+use native.Mathlib.Omega.{arith}
+use lib.ListN.{length}
+use borrow.Author.Tests.{lt-ltb, le-ltb}
+use Rattle.refusals.specs.declared.Refusal.the-variants.{TextLength, Layout, OutOfRange, BadName, Unpriced, NoTarget, UnknownCell}
+use Rattle.text.specs.Text.{Line, lines}
+use Rattle.text.proofs.TextLaws.{none, more}
+use Rattle.routine.specs.declared.Row.{Row}
+use Rattle.routine.specs.declared.Row.the-variants.{Layout as layout-row, Range as range-row, Name as name-row, Price as price-row, Target as target-row, Known as known-row}
+use Rattle.routine.specs.declared.Fault.{Fault}
+use Rattle.routine.specs.declared.Fault.the-variants.{Clean as clean, Line as line}
+use Rattle.routine.specs.Rows.{fault}
+use Rattle.routine.specs.Routine.{Check, check, boundChecks, runChecks, checked, orElse, limited, readBound, readRun}
+use Rattle.routine.proofs.RowLaws.{Clean, Passes, passes-read, passes-run, bound-order, run-order, too-long}
+use Rattle.rows.specs.Checks.{readBy, checkOf, knownChecks, Due}
+use Rattle.rows.specs.declared.Checked.{Checked}
+use Rattle.rows.specs.declared.Checked.the-variants.{Refused}
+use Rattle.rows.specs.declared.Checked.the-variants as checks
+use Rattle.rows.specs.declared.Reader.{Reader}
+use Rattle.rows.specs.declared.Reader.the-variants.{Bound, Run}
+
+-- when a row is due
+
+pub due-layout : (ls : List Line) → Due layout-row ls
+due-layout ls = record { names-row = λ e. let z : _≡_ {A = ℕ} 0 1 = cc in absurd (omega arith); targets-row = λ e. let z : _≡_ {A = ℕ} 0 1 = cc in absurd (omega arith) }
+
+pub due-range : (ls : List Line) → Due range-row ls
+due-range ls = record { names-row = λ e. let z : _≡_ {A = ℕ} 0 1 = cc in absurd (omega arith); targets-row = λ e. let z : _≡_ {A = ℕ} 0 1 = cc in absurd (omega arith) }
+
+pub due-known : (ls : List Line) → Due known-row ls
+due-known ls = record { names-row = λ e. let z : _≡_ {A = ℕ} 0 1 = cc in absurd (omega arith); targets-row = λ e. let z : _≡_ {A = ℕ} 0 1 = cc in absurd (omega arith) }
+
+pub due-after : (row : Row) {ls : List Line} → fault range-row ls ≡ clean → Due row ls
+due-after row h = record { names-row = λ e. h; targets-row = λ e. h }
+
+-- a text that is too long
+pub check-long : (text : List ℕ) (r : Reader) → 32768 < length text → Refused TextLength ≡ checkOf (readBy r text)
+unfolding readBy checkOf
+check-long text Bound h = rw (too-long text h .0) refl
+check-long text Run h = rw (too-long text h .1) refl
+
+-- the first row that is not clean
+pub check-row : (text : List ℕ) (r : Reader) → length text ≤ 32768 → (before : List Check) (c : Check) (after after′ : List Check) (n : ℕ)
+    → boundChecks ≡ before ++ c ∷ after → runChecks ≡ before ++ c ∷ after′ → Clean (lines text) before → fault (c .row) (lines text) ≡ line n
+    → Refused (c .refusal n) ≡ checkOf (readBy r text)
+unfolding readBy checkOf
+check-row text Bound h before c after after′ n p q b e = rw (bound-order text h before c after n p b e) refl
+check-row text Run h before c after after′ n p q b e = rw (run-order text h before c after′ n q b e) refl
+
+-- so for each row
+
+module _ (text : List ℕ) (r : Reader) (h : length text ≤ 32768) (n : ℕ) where
+  pub check-layout : fault layout-row (lines text) ≡ line n → Refused (Layout n) ≡ checkOf (readBy r text)
+  check-layout e = check-row text r h [] (check layout-row Layout) _ _ n refl refl none e
+
+  module _ (a : fault layout-row (lines text) ≡ clean) where
+    pub check-range : fault range-row (lines text) ≡ line n → Refused (OutOfRange n) ≡ checkOf (readBy r text)
+    check-range e = check-row text r h (check layout-row Layout ∷ []) (check range-row OutOfRange) _ _ n refl refl (more a none) e
+
+    module _ (b : fault range-row (lines text) ≡ clean) where
+      pub check-name : fault name-row (lines text) ≡ line n → Refused (BadName n) ≡ checkOf (readBy r text)
+      check-name e = check-row text r h (check layout-row Layout ∷ check range-row OutOfRange ∷ []) (check name-row BadName) _ _ n refl refl (more a (more b none)) e
+
+      module _ (c : fault name-row (lines text) ≡ clean) where
+        pub check-price : fault price-row (lines text) ≡ line n → Refused (Unpriced n) ≡ checkOf (readBy r text)
+        check-price e =
+            check-row text r h (check layout-row Layout ∷ check range-row OutOfRange ∷ check name-row BadName ∷ []) (check price-row Unpriced) _ _ n refl refl
+            (more a (more b (more c none))) e
+
+        pub check-target : fault price-row (lines text) ≡ clean → fault target-row (lines text) ≡ line n → Refused (NoTarget n) ≡ checkOf (readBy r text)
+        check-target d e =
+            check-row text r h (check layout-row Layout ∷ check range-row OutOfRange ∷ check name-row BadName ∷ check price-row Unpriced ∷ [])
+            (check target-row NoTarget) _ _ n refl refl (more a (more b (more c (more d none)))) e
+
+-- rows 2 to 6 are clean: all that the bound asks, and row 11 decides for the run
+
+pub check-bound : (text : List ℕ) (r : Reader) → r ≡ Bound → length text ≤ 32768 → Passes (lines text) → checks.Passes ≡ checkOf (readBy r text)
+unfolding readBy checkOf
+check-bound text r e h p = rw (e, passes-read text p h) refl
+
+pub check-run : (text : List ℕ) (r : Reader) → r ≡ Run → length text ≤ 32768 → Passes (lines text) → checkOf (checked knownChecks (lines text)) ≡ checkOf (readBy r text)
+unfolding readBy readRun limited checked orElse
+check-run text r e h p = rw (e, le-ltb 32768 (length text) h, p .layout, p .range, p .names, p .prices, p .targets) refl
+
+-- row 11
+
+pub known-fails : (ls : List Line) (n : ℕ) → fault known-row ls ≡ line n → Refused (UnknownCell n) ≡ checkOf (checked knownChecks ls)
+unfolding checkOf checked orElse
+known-fails ls n e = rw e refl
+
+pub known-passes : (ls : List Line) → fault known-row ls ≡ clean → checks.Passes ≡ checkOf (checked knownChecks ls)
+unfolding checkOf checked orElse
+known-passes ls e = rw e refl
