@@ -1,3 +1,4 @@
 pub mod Cases
 pub mod AnswerLaws
 pub mod Theorems
+pub mod FunctionLaws

@@ -188,10 +188,14 @@ module _ (ls : List Line) (p : Passes ls) (ns-line fs-line cs-line : List ℕ) (
         omega arith;
   }
 
+pub start-at : (first : ℕ) (cs : List Cell) (s : code.State) → view s ≡ startIn first cs → s .at ≡ first
+unfolding startIn
+start-at first cs s e = ap (λ v. v .at) e
+
 -- ---- the columns
 
 -- all that is taken of an array is there
-taken : {A : Type 0} (n : ℕ) (xs : List A) → n ≤ length xs → length (take n xs) ≡ n
+pub taken : {A : Type 0} (n : ℕ) (xs : List A) → n ≤ length xs → length (take n xs) ≡ n
 taken n xs h = let e : length (take n xs) ≡ min n (length xs) = length-take n xs in omega arith
 
 pub columns-sized : (count : ℕ) (r : Columns) → count ≤ 1024 → length (r .codes) ≡ 1024 → length (r .operands) ≡ 1024 → length (r .cycles) ≡ 1024 → length (r .words) ≡ 1024

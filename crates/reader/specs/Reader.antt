@@ -44,12 +44,23 @@ pub record Holds (x : readings.Routine) (r : Routine) : Type 0 where
   pub start : whole (sizes r) (r .fields) (r .start) ≡ x .start
   pub answered : answers r ≡ x .answers
 
+-- columns of 1,024 places
+pub record Full (c : Columns) : Type 0 where
+  pub codes : length (c .codes) ≡ 1024
+  pub operands : length (c .operands) ≡ 1024
+  pub cycles : length (c .cycles) ≡ 1024
+  pub words : length (c .words) ≡ 1024
+
 -- and its parts are within their limits
 pub record Limited (r : Routine) : Type 0 where
   pub budget : r .budget ≤ 1000000
   pub first : r .first ≤ 60000
+  pub few : r .count ≤ 1024
+  pub full : Full (r .columns)
   pub sized : Sized (codes r) (operands r) (cycles r) (words r)
+  pub placed : r .start .at ≡ r .first
   pub free : r .start .free ≤ 64
+  pub present : r .blocks ≤ 8
   pub fits : Fits (sizes r) (r .fields)
   pub answered : r .answers .count ≤ 64
 

@@ -1,4 +1,4 @@
-use Rattle.reader.proofs.ReaderLaws.{counted, first-low, budget-limited, answers-small, answers-held, code-is, first-is, budget-held, tick-held, fields-ready, cells-ready, start-held, blocks-fit, columns-sized}
+use Rattle.reader.proofs.ReaderLaws.{counted, start-at, first-low, budget-limited, answers-small, answers-held, code-is, first-is, budget-held, tick-held, fields-ready, cells-ready, start-held, blocks-fit, columns-sized}
 use native.Mathlib.Omega.{arith}
 use mathlib.Core.Path.{_≡_, refl}
 use lib.ListN.{length}
@@ -111,8 +111,12 @@ returns c =
       record {
         budget = budget-limited _ _ (c .before .before .before .before .before .before .before .before .before .before .before .before .before .before .before .line-at .ensures) (c .before .before .before .before .before .before .before .before .before .before .before .before .before .before .before .before .before .pre) _ (c .before .before .before .before .before .before .before .before .before .before .before .before .before .before .natural-at .ensures);
         first = first-low _ _ (c .before .before .before .before .before .before .first-in .ensures);
+        few = k .few;
+        full = record { codes = a; operands = b; cycles = d; words = e };
         sized = columns-sized _ (c .before .before .before .before .columns-in .result) (k .few) a b d e (c .before .before .before .before .columns-in .ensures .known);
+        placed = start-at _ _ (c .before .before .start-of .result) (c .before .before .start-of .ensures .0);
         free = c .before .before .start-of .ensures .1;
+        present = c .before .before .before .before .before .before .before .before .before .before .before .blocks-named .ensures .few;
         fits = blocks-fit _ (c .before .before .before .before .before .before .before .before .before .before .before .before .before .before .before .before .before .pre) _ _ _ (c .before .before .before .before .before .before .before .before .before .before .before .before .line-at2 .ensures) (c .before .before .before .before .before .before .before .before .before .line-at3 .ensures) (c .before .before .before .line-at4 .ensures) _ (c .before .before .before .before .before .before .before .before .before .before .before .blocks-named .ensures) _ f;
         answered = c .answers-of .ensures .1;
       },

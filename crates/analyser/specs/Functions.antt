@@ -1,0 +1,39 @@
+-- What the public functions answer and write, in terms of the definitions.
+use Prim.Native.Nat.{ℕ, _+_, _*_, _≤_, _<_}
+use mathlib.Core.Path.{_≡_}
+use mathlib.Core.List.{List}
+use lib.ListN.{length}
+use Rattle.states.specs.Columns.{codeOf}
+use Rattle.states.specs.View.{whole}
+use Rattle.routine.specs.Routine as readings
+use Rattle.reader.specs.declared.Routine.{Routine}
+use Rattle.reader.specs.Reader.{codes, operands, cycles, words, sizes, answers}
+use Rattle.findings.specs.declared.Found.{Found}
+use Rattle.analyser.specs.Answers.{Answer, reported, refused}
+use Rattle.analyser.specs.declared.Answer as code
+use Rattle.analyser.specs.declared.Answer.the-variants.{Reported, Refused}
+
+-- a report by the number of its bytes
+unfoldable pub answerOf : Answer → code.Answer
+answerOf (reported bs) = Reported (length bs)
+answerOf (refused r) = Refused r
+
+-- the routine that the code's arrays hold
+abbrev pub routineIn : Routine → readings.Routine
+routineIn x = record {
+  budget = x .budget;
+  tick = x .tick;
+  code = codeOf (x .first) (codes x) (operands x) (cycles x) (words x);
+  start = whole (sizes x) (x .fields) (x .start);
+  answers = answers x;
+}
+
+-- a report, if it is one, fits into n bytes
+abbrev pub Fits : Answer → ℕ → Type 0
+Fits (reported bs) n = length bs ≤ n
+Fits (refused r) n = Unit {0}
+
+-- figures that the report's numbers hold
+pub record Modest (r : Found) : Type 0 where
+  pub cycles : r .cycles ≤ 4294967296000000
+  pub path : r .path < 8589934592

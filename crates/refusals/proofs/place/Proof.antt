@@ -1,0 +1,132 @@
+use borrow.Author.Needs.{needs}
+use Rattle.refusals.specs.Refusals.{place}
+use Rattle.refusals.proofs.place.Statement.{statement}
+use Rattle.refusals.proofs.place.Tie as tie
+
+enum-told : tie.Need-enum-told
+enum-told c = search needs
+
+enum-told-2 : tie.Need-enum-told-2
+enum-told-2 c = search needs
+
+enum-known-refusal : tie.Need-enum-known-refusal
+enum-known-refusal c = search needs
+
+cast-result : tie.Need-cast-result
+cast-result c = search needs
+
+enum-known-refusal-2 : tie.Need-enum-known-refusal-2
+enum-known-refusal-2 c = search needs
+
+cast-result-2 : tie.Need-cast-result-2
+cast-result-2 c = search needs
+
+enum-known-refusal-3 : tie.Need-enum-known-refusal-3
+enum-known-refusal-3 c = search needs
+
+cast-result-3 : tie.Need-cast-result-3
+cast-result-3 c = search needs
+
+enum-known-refusal-4 : tie.Need-enum-known-refusal-4
+enum-known-refusal-4 c = search needs
+
+cast-result-4 : tie.Need-cast-result-4
+cast-result-4 c = search needs
+
+enum-known-refusal-5 : tie.Need-enum-known-refusal-5
+enum-known-refusal-5 c = search needs
+
+cast-result-5 : tie.Need-cast-result-5
+cast-result-5 c = search needs
+
+enum-known-refusal-6 : tie.Need-enum-known-refusal-6
+enum-known-refusal-6 c = search needs
+
+cast-result-6 : tie.Need-cast-result-6
+cast-result-6 c = search needs
+
+enum-known-refusal-7 : tie.Need-enum-known-refusal-7
+enum-known-refusal-7 c = search needs
+
+enum-known-refusal-8 : tie.Need-enum-known-refusal-8
+enum-known-refusal-8 c = search needs
+
+enum-known-refusal-9 : tie.Need-enum-known-refusal-9
+enum-known-refusal-9 c = search needs
+
+returns : tie.Need-returns
+unfolding place
+returns c = search needs
+
+returns-2 : tie.Need-returns-2
+unfolding place
+returns-2 c = search needs
+
+returns-3 : tie.Need-returns-3
+unfolding place
+returns-3 c = search needs
+
+returns-4 : tie.Need-returns-4
+unfolding place
+returns-4 c = search needs
+
+returns-5 : tie.Need-returns-5
+unfolding place
+returns-5 c = search needs
+
+returns-6 : tie.Need-returns-6
+unfolding place
+returns-6 c = search needs
+
+returns-7 : tie.Need-returns-7
+unfolding place
+returns-7 c = search needs
+
+returns-8 : tie.Need-returns-8
+unfolding place
+returns-8 c = search needs
+
+returns-9 : tie.Need-returns-9
+unfolding place
+returns-9 c = search needs
+
+returns-10 : tie.Need-returns-10
+unfolding place
+returns-10 c = search needs
+
+returns-11 : tie.Need-returns-11
+unfolding place
+returns-11 c = search needs
+
+pub place-spec : {M : Type 1} → statement M
+place-spec =
+    tie.close
+    (tie.spec
+    enum-told
+    enum-told-2
+    enum-known-refusal
+    cast-result
+    enum-known-refusal-2
+    cast-result-2
+    enum-known-refusal-3
+    cast-result-3
+    enum-known-refusal-4
+    cast-result-4
+    enum-known-refusal-5
+    cast-result-5
+    enum-known-refusal-6
+    cast-result-6
+    enum-known-refusal-7
+    enum-known-refusal-8
+    enum-known-refusal-9
+    returns
+    returns-2
+    returns-3
+    returns-4
+    returns-5
+    returns-6
+    returns-7
+    returns-8
+    returns-9
+    returns-10
+    returns-11)
