@@ -5,7 +5,7 @@ use Rattle.refusals.specs.Refusals.{number, place}
 use Rattle.refusals.specs.declared.Refusal.the-variants.{Spent}
 use Rattle.text.specs.Text.{bytes}
 use Rattle.text.specs.Decimal.{digits, decimal}
-use Rattle.report.specs.Report.{share, pathText, figures, runText, refusalText}
+use Rattle.report.specs.Report.{share, pathText, figures, runText, refusalLine, refusalText}
 
 pub examples :
     -- "a half going up": 65 cycles of 2000 are 32.5 thousandths
@@ -15,5 +15,5 @@ pub examples :
     × (pathText [] ≡ bytes "-")
     × (refusalText (Spent 4102) ≡ bytes "REFUSED 9 4102\n")
     × (runText (record { cycles = 56; words = 4; depth = 1; steps = 3; path = [] }) ≡ bytes "CYCLES WORDS DEPTH STEPS\n56 4 1 3\n")
-unfolding share pathText figures runText refusalText digits decimal number place
+unfolding share pathText figures runText refusalLine refusalText digits decimal number place
 examples = (refl, refl, refl, refl, refl, refl)

@@ -1,2 +1,5 @@
 pub mod Examples
 pub mod ReportLaws
+pub mod DecodeLaws
+pub mod PathLaws
+pub mod PutLaws

@@ -39,5 +39,8 @@ unfoldable pub runText : Report → List ℕ
 runText q = bytes "CYCLES WORDS DEPTH STEPS\n" ++ figures q ++ feed
 
 -- "A refusal prints one line: `REFUSED`, number and place in decimal, parted by one space."
+unfoldable pub refusalLine : ℕ → ℕ → List ℕ
+refusalLine number place = bytes "REFUSED " ++ decimal number ++ space ++ decimal place ++ feed
+
 unfoldable pub refusalText : Refusal → List ℕ
-refusalText r = bytes "REFUSED " ++ decimal (number r) ++ space ++ decimal (place r) ++ feed
+refusalText r = refusalLine (number r) (place r)

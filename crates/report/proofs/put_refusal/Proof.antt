@@ -1,0 +1,77 @@
+-- `put_refusal` meets its contract: the parts of the line one after the other. Assumes nothing.
+use Prim.Native.Nat.{_+_}
+use mathlib.Core.Path.{_≡_}
+use native.Mathlib.Omega.{arith}
+use lib.ListN.{length}
+use Rattle.text.specs.Text.{bytes}
+use Rattle.text.specs.Decimal.{decimal}
+use Rattle.text.proofs.MemoryLaws.{wrote-none, wrote-more}
+use Rattle.report.specs.Report.{space, feed, refusalLine}
+use Rattle.report.proofs.PutLaws.{refusal-length}
+use borrow.Author.Needs.{needs}
+use Rattle.report.proofs.put_refusal.Statement.{statement}
+use Rattle.report.proofs.put_refusal.Tie as tie
+
+-- the length of the whole, which each part is within
+abbrev whole : (s : tie.Start) → length (refusalLine (s .args .number) (s .args .place)) ≡ 8 + length (decimal (s .args .number)) + 1 + length (decimal (s .args .place)) + 1
+whole s = refusal-length (s .args .number) (s .args .place)
+
+slice-aggregate-put : tie.Need-slice-aggregate-put
+slice-aggregate-put c = search needs
+
+put-requires : tie.Need-put-requires
+put-requires c κs = omega (arith, whole (c .before .before .before))
+
+put-decimal-requires : tie.Need-put-decimal-requires
+put-decimal-requires c κs = omega (arith, whole (c .before .before .before .before .before .before .before))
+
+slice-aggregate-put-2 : tie.Need-slice-aggregate-put-2
+slice-aggregate-put-2 c = search needs
+
+put-requires-2 : tie.Need-put-requires-2
+put-requires-2 c κs = omega (arith, whole (c .before .before .before .before .before .before .before .before .before .before .before .before))
+
+put-decimal-requires-2 : tie.Need-put-decimal-requires-2
+put-decimal-requires-2 c κs = omega (arith, whole (c .before .before .before .before .before .before .before .before .before .before .before .before .before .before .before .before))
+
+slice-aggregate-put-3 : tie.Need-slice-aggregate-put-3
+slice-aggregate-put-3 c = search needs
+
+put-requires-3 : tie.Need-put-requires-3
+put-requires-3 c κs = omega (arith, whole (c .before .before .before .before .before .before .before .before .before .before .before .before .before .before .before .before .before .before .before .before .before))
+
+same-length : tie.Need-same-length
+same-length c = search needs
+
+returns : tie.Need-returns
+unfolding refusalLine
+returns c =
+    let c5 = c .before .before in
+    let c4 = c5 .before .before .before .before .before in
+    let c3 = c4 .before .before .before .before in
+    let c2 = c3 .before .before .before .before .before in
+    let c1 = c2 .before .before .before .before in
+    let s = c1 .before .before .before .before in
+    let a = s .args in
+    let w0 = wrote-none (a .out .now) in
+    let w1 = wrote-more w0 (bytes "REFUSED ") (c1 .put .ensures) in
+    let w2 = wrote-more w1 (decimal (a .number)) (c2 .put-decimal .ensures) in
+    let w3 = wrote-more w2 space (c3 .put2 .ensures) in
+    let w4 = wrote-more w3 (decimal (a .place)) (c4 .put-decimal2 .ensures) in
+    let w5 = wrote-more w4 feed (c5 .put3 .ensures) in
+    (w5 .ends, w5 .holds)
+
+pub put-refusal-spec : {M : Type 1} → statement M
+put-refusal-spec =
+    tie.close
+    (tie.spec
+    slice-aggregate-put
+    put-requires
+    put-decimal-requires
+    slice-aggregate-put-2
+    put-requires-2
+    put-decimal-requires-2
+    slice-aggregate-put-3
+    put-requires-3
+    same-length
+    returns)
