@@ -2,7 +2,7 @@
 -- for a primitive's name, and a field's name spelt out. Assumes nothing.
 use Prim.Native.Nat.{ℕ, zero, suc, _+_, _-_, _<_, _≤_, _/_, _%_}
 use mathlib.Core.Path.{_≡_, refl, sym, ap, _∙_}
-use mathlib.Core.Bool.{Bool, true, false, cond, _&&_, and-false}
+use mathlib.Core.Bool.{Bool, true, false, cond, _&&_, and-true, and-false}
 use mathlib.Core.List.{List, [], _∷_}
 use native.Mathlib.Omega.{arith}
 use lib.Dec.{eqb, ltb}
@@ -11,6 +11,7 @@ use lib.Seq.{drop-cons, take-all, take-nil}
 use borrow.Author.Tests.{lt-ltb, le-ltb, ltb-true, ltb-false}
 use Rattle.text.specs.Text.{equals, onto, split, words, among, distinct, all}
 use Rattle.text.specs.Decimal.{digits, decimal}
+use Rattle.text.proofs.DecimalLaws.{decimal-one}
 use Rattle.text.proofs.ScanLaws.{firstLength, cut-more, cut-last}
 use Rattle.routine.specs.Rows.{isCapital, inName, isName, equalLists, isField}
 
@@ -33,24 +34,6 @@ first-cut l n q = go (ltb n (length l)) refl
 
 pub first-within : (l : List ℕ) (n : ℕ) → n ≡ firstLength 32 l → n ≤ length l
 first-within l n q = first-cut l n q .1
-
--- ---- a word among those of l
-
-pub among-here : (w l : List ℕ) (n : ℕ) → n ≡ firstLength 32 l → n < length l → equals w (take n l) ≡ true → among w (words l) ≡ true
-unfolding among words
-among-here w l n q h e = rw (cut-more 32 l n q h, e) refl
-
-pub among-next : (w l : List ℕ) (n : ℕ) → n ≡ firstLength 32 l → n < length l → equals w (take n l) ≡ false → among w (words l) ≡ among w (words (past n l))
-unfolding among words
-among-next w l n q h e = rw (cut-more 32 l n q h, e) refl
-
-cond-self : (b : Bool) → cond b true false ≡ b
-cond-self true = refl
-cond-self false = refl
-
-pub among-last : (w l : List ℕ) (n : ℕ) → n ≡ firstLength 32 l → length l ≤ n → among w (words l) ≡ equals w l
-unfolding among words
-among-last w l n q h = rw (cut-last 32 l n q h) (cond-self (equals w l))
 
 -- ---- whether a word stands twice
 
@@ -87,11 +70,7 @@ name-first (c ∷ cs) e = rw e refl
 pub name-rest : (w : List ℕ) → 0 < length w → length w ≤ 8 → isCapital (getD w 0 0) ≡ true → isName w ≡ all inName (drop 1 w)
 unfolding isName
 name-rest [] p h e = absurd (omega arith)
-name-rest (c ∷ cs) p h e = rw (e, lt-ltb (length cs) 8 (omega arith)) (go (all inName cs))
-  where
-    go : (b : Bool) → (b && true) ≡ b
-    go true = refl
-    go false = refl
+name-rest (c ∷ cs) p h e = rw (e, lt-ltb (length cs) 8 (omega arith)) (and-true (all inName cs))
 
 pub all-fails : (t : ℕ → Bool) (w : List ℕ) (i : ℕ) → i < length w → t (getD w i 0) ≡ false → all t (drop i w) ≡ false
 unfolding all
@@ -147,17 +126,9 @@ leads-agree l o n m q h p k e = rw (cut-more 32 l n q h, cut-more 32 o m p k, e)
 
 pub leads-last : (l o : List ℕ) (n m : ℕ) → n ≡ firstLength 32 l → length l ≤ n → m ≡ firstLength 32 o → leads l o ≡ equals l (take m o)
 unfolding words equalLists
-leads-last l o n m q h p = let f = first-cut o m p in rw (cut-last 32 l n q h, f .2) (go (equals l (take m o)))
-  where
-    go : (b : Bool) → (b && true) ≡ b
-    go true = refl
-    go false = refl
+leads-last l o n m q h p = let f = first-cut o m p in rw (cut-last 32 l n q h, f .2) (and-true (equals l (take m o)))
 
 -- ---- a field's name
-
-decimal-digit : (n : ℕ) → n < 10 → decimal n ≡ (48 + n) ∷ []
-unfolding decimal digits
-decimal-digit n h = rw (lt-ltb n 10 h) refl
 
 decimal-teen : (n : ℕ) → 10 ≤ n → n < 20 → decimal n ≡ 49 ∷ (38 + n) ∷ []
 unfolding decimal digits
@@ -177,8 +148,8 @@ no-place k n w h = rw (le-ltb n 16 h, and-false (ltb k 8)) refl
 
 pub short-field : (k n : ℕ) (w : List ℕ) → k < 8 → n < 10 → isField k n w ≡ equals w (66 ∷ (48 + k) ∷ 46 ∷ (48 + n) ∷ [])
 unfolding isField
-short-field k n w h l = rw (lt-ltb k 8 h, lt-ltb n 16 (omega arith), decimal-digit k (omega arith), decimal-digit n l) refl
+short-field k n w h l = rw (lt-ltb k 8 h, lt-ltb n 16 (omega arith), decimal-one k (omega arith), decimal-one n l) refl
 
 pub long-field : (k n : ℕ) (w : List ℕ) → k < 8 → 10 ≤ n → n < 16 → isField k n w ≡ equals w (66 ∷ (48 + k) ∷ 46 ∷ 49 ∷ (38 + n) ∷ [])
 unfolding isField
-long-field k n w h l u = rw (lt-ltb k 8 h, lt-ltb n 16 u, decimal-digit k (omega arith), decimal-teen n l (omega arith)) refl
+long-field k n w h l u = rw (lt-ltb k 8 h, lt-ltb n 16 u, decimal-one k (omega arith), decimal-teen n l (omega arith)) refl

@@ -1,6 +1,6 @@
 -- What a row looks at, as the code finds it in a text. Assumes nothing.
-use Prim.Native.Nat.{ℕ, _+_, _-_, _≤_, min}
-use mathlib.Core.Path.{_≡_, refl, sym, ap, _∙_}
+use Prim.Native.Nat.{ℕ, _-_, _≤_, min}
+use mathlib.Core.Path.{_≡_, refl, ap, _∙_}
 use mathlib.Core.List.{List, [], _∷_}
 use native.Mathlib.Omega.{arith}
 use lib.IntN.{pos, natAbs}
@@ -14,11 +14,10 @@ use Rattle.routine.specs.declared.Row.{Row}
 use Rattle.routine.specs.Layout.{layout, body, codeLines, list, textAt, listed}
 use Rattle.routine.specs.Rows.{value, valueOf, blockSizes, firstAddresses, firstAt}
 use Rattle.routine.specs.Routine.{inside, natural}
-use Rattle.routine.proofs.PassingLaws.{first-natural, first-small, lines-count}
+use Rattle.routine.proofs.PassingLaws.{code-among, first-natural, first-small, lines-count}
 use Rattle.names.specs.declared.Blocks.{Blocks}
 use Rattle.names.specs.Names.{BlocksOf}
-use Rattle.parts.proofs.ListLaws.{code-few}
-use Rattle.rows.specs.Scan.{NameContext, TargetContext, Context}
+use Rattle.rows.specs.Scan.{Context}
 use Rattle.rows.specs.Checks.{Due}
 
 -- the first address stands at the start of the first code line
@@ -61,7 +60,7 @@ module _ (row : Row) (text ks ps fs rest l w : List ℕ) (short : length text �
   unfolding body
   code-small =
       let m = lines-count text in
-      let n : length (codeLines (body (lines text))) ≤ length (body (lines text)) = code-few (body (lines text)) in
+      let n : length (codeLines (body (lines text))) ≤ length (body (lines text)) = code-among (body (lines text)) in
       let d : length (body (lines text)) ≡ length (lines text) - 13 = length-drop 13 (lines text) in
       let e = code-count in
       omega arith
