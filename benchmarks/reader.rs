@@ -118,7 +118,7 @@ fn main() {
     let cases: [(&str, fn(usize) -> Vec<u8>, [u64; 2]); 6] = [
         ("16,000 names on line 3", names, [2, 4]),
         ("32,000 spaces on line 3", spaces, [2, 3]),
-        ("60 kinds, then EQ 4,000 times", repeated_kind, [4, 3]),
+        ("60 kinds, then EQ 4,500 times", repeated_kind, [4, 3]),
         ("32 primitives of 1,000 bytes", long_names, [4, 6]),
         ("1,024 lines of code", code, accepted),
         ("1,024 calls of 32 primitives", calls, accepted),
