@@ -1,5 +1,8 @@
 //! The speed of the proved explorer, as a ratio against a plain explorer in Rust in the same run.
 //! Both explore the same routines; their answers must be equal.
+mod clock;
+
+use clock::now;
 use std::hint::black_box;
 use std::time::Duration;
 
@@ -488,25 +491,6 @@ fn endless_loop() -> Routine {
     r.line(op::BRANCHIF, 0);
     r.line(op::BRANCH, 0);
     r
-}
-
-/// The processor time of this thread: what other programs take is not in it.
-fn now() -> Duration {
-    #[repr(C)]
-    struct Timespec {
-        seconds: i64,
-        nanoseconds: i64,
-    }
-    extern "C" {
-        fn clock_gettime(clock: i32, time: *mut Timespec) -> i32;
-    }
-    const CLOCK_THREAD_CPUTIME_ID: i32 = 3;
-    let mut t = Timespec {
-        seconds: 0,
-        nanoseconds: 0,
-    };
-    assert_eq!(unsafe { clock_gettime(CLOCK_THREAD_CPUTIME_ID, &mut t) }, 0);
-    Duration::new(t.seconds as u64, t.nanoseconds as u32)
 }
 
 /// The time of one call, over `calls` calls.

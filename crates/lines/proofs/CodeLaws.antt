@@ -25,6 +25,7 @@ use Rattle.instructions.specs.Kinds.{Kind, kinds, kindNames}
 use Rattle.instructions.specs.Columns.{kindAt, lowest, highest}
 use Rattle.instructions.proofs.ColumnLaws.{column-at}
 use Rattle.routine.specs.Rows.{kindNamed, argumentOf, op, onArgument, firstAddresses, atRange, value}
+use Rattle.text.proofs.TextLaws.{and-left, and-right}
 use Rattle.values.specs.Values.{Near}
 use Rattle.values.proofs.ValueLaws.{Natural, natural-within}
 use Rattle.lines.proofs.LineLaws.{kind-among}
@@ -82,14 +83,6 @@ ends-near : (k : ℕ) → k < 61 → true ≡ nearEnds (kindAt k)
 unfolding kinds lowest highest nearEnds
 ends-near k h = column-at (λ j. j .name) (λ j. true) nearEnds [] refl k h
 
-and-left : (a b : Bool) → true ≡ a && b → a ≡ true
-and-left true b e = refl
-and-left false b e = sym e
-
-and-second : (a b : Bool) → true ≡ a && b → b ≡ true
-and-second true b e = sym e
-and-second false b e = absurd (let z : _≡_ {A = ℕ} 0 1 = cc in omega arith)
-
 pub near-at : (k : ℕ) {a : Argument} {r : Range} → k < 61 → a ≡ kindAt k .argument → a ≡ Within r → Near r
 unfolding lowest highest nearEnds
 near-at k {r = r} h p q =
@@ -97,7 +90,7 @@ near-at k {r = r} h p q =
     let n : true ≡ ltb (mag (r .low)) most && ltb (mag (r .high)) most = ends-near k h ∙ ap (λ a. ltb (mag (lowest a)) most && ltb (mag (highest a)) most) e in
     let a = ltb (mag (r .low)) most in
     let b = ltb (mag (r .high)) most in
-    record { low = ltb-true (mag (r .low)) most (and-left a b n); high = ltb-true (mag (r .high)) most (and-second a b n) }
+    record { low = ltb-true (mag (r .low)) most (and-left a b (sym n)); high = ltb-true (mag (r .high)) most (and-right a b (sym n)) }
 
 pub near-at-range : (k : ℕ) → Near (atRange k)
 near-at-range zero = record { low = omega arith; high = omega arith }

@@ -1,17 +1,17 @@
--- Laws of tests joined by `&&`, of a match, of a loop over words, and of the words listed on a line. Assumes nothing.
+-- Laws of tests joined by `&&`, of a match, and of a loop over words. Assumes nothing.
 use Prim.Native.Nat.{ℕ, suc, _+_, _-_, _<_, _≤_}
 use mathlib.Core.Path.{_≡_, refl, sym, ap, ap₂, _∙_}
-use mathlib.Core.Bool.{Bool, true, false, cond, not, _&&_}
+use mathlib.Core.Bool.{Bool, true, false, not, _&&_}
+use mathlib.Core.Bool.{and-true as and-right}
 use mathlib.Core.List.{List, [], _∷_}
 use native.Mathlib.Omega.{arith}
 use lib.Dec.{ltb}
 use lib.ListN.{length, take, drop}
 use borrow.Author.Tests.{lt-ltb}
-use Rattle.text.specs.Text.{bytes, isEmpty, equals, words, among, find, all}
+use Rattle.text.specs.Text.{isEmpty, words, among, find, all}
 use Rattle.text.proofs.ScanLaws.{firstLength}
 use Rattle.text.proofs.PieceLaws.{words-more, words-last, among-find}
 use Rattle.instructions.specs.Kinds.{kinds, kindNames}
-use Rattle.routine.specs.Layout.{list}
 
 -- ---- tests
 
@@ -42,10 +42,6 @@ module _ (a b c d : Bool) where
   pub through : {x : Bool} → a ≡ true → b ≡ true → c ≡ true → x ≡ d → x ≡ a && b && c && d
   through p q r e = e ∙ sym (ap₂ (λ t u. t && u && c && d) p q ∙ ap (λ t. t && d) r)
 
-and-right : (a : Bool) → a && true ≡ a
-and-right true = refl
-and-right false = refl
-
 -- the arm of a match that found d
 pub arm : {B X : Type 0} (f : B → X) {a d : B} {x : X} → a ≡ d → x ≡ f d → x ≡ f a
 arm f p q = q ∙ sym (ap f p)
@@ -68,16 +64,6 @@ module _ (t : List ℕ → Bool) (l : List ℕ) (n : ℕ) (q : n ≡ firstLength
   pub all-last : length l ≤ n → all t (words l) ≡ t l
   unfolding all
   all-last h = ap (all t) (words-last l n q h) ∙ and-right (t l)
-
--- ---- the words listed on a line
-
-pub list-none : (l : List ℕ) → equals l (bytes "-") ≡ true → list l ≡ []
-unfolding list
-list-none l e = ap (λ b. cond b [] (words l)) e
-
-pub list-words : (l : List ℕ) → equals l (bytes "-") ≡ false → list l ≡ words l
-unfolding list
-list-words l e = ap (λ b. cond b [] (words l)) e
 
 -- ---- the name of a kind
 

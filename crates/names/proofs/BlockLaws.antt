@@ -206,11 +206,6 @@ grow-last ns l n q h = rw (cut-last 32 l n q h) (go (eqb (total (added 0 ns l)) 
     go true e = sym (same-total 0 ns l (eqb-true (total (added 0 ns l)) (total ns) e))
     go false e = refl
 
--- "an empty list is `-`"
-pub no-names : (l : List ℕ) → equals l (bytes "-") ≡ true → list l ≡ []
-unfolding list
-no-names l e = rw e refl
-
 pub some-names : (l : List ℕ) → equals l (bytes "-") ≡ false → blockSizes (list l) ≡ grow 0 [] (words l)
 unfolding list
 some-names l e = rw e (grow-start (words l))

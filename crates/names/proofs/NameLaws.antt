@@ -1,56 +1,27 @@
 -- Laws of the names on a line, as the code scans them: word by word for repeated names and for the names of the cells, byte by byte
 -- for a primitive's name, and a field's name spelt out. Assumes nothing.
 use Prim.Native.Nat.{ℕ, zero, suc, _+_, _-_, _<_, _≤_, _/_, _%_}
-use mathlib.Core.Path.{_≡_, refl, sym, ap, _∙_}
-use mathlib.Core.Bool.{Bool, true, false, cond, _&&_, and-false}
+use mathlib.Core.Path.{_≡_, refl, ap, _∙_}
+use mathlib.Core.Bool.{Bool, true, false, _&&_, and-true, and-false}
 use mathlib.Core.List.{List, [], _∷_}
 use native.Mathlib.Omega.{arith}
-use lib.Dec.{eqb, ltb}
+use lib.Dec.{ltb}
 use lib.ListN.{length, getD, take, drop, drop-of-length-le}
-use lib.Seq.{drop-cons, take-all, take-nil}
-use borrow.Author.Tests.{lt-ltb, le-ltb, ltb-true, ltb-false}
-use Rattle.text.specs.Text.{equals, onto, split, words, among, distinct, all}
+use lib.Seq.{drop-cons, take-nil}
+use borrow.Author.Tests.{lt-ltb, le-ltb}
+use Rattle.text.specs.Text.{equals, split, words, among, distinct, all}
 use Rattle.text.specs.Decimal.{digits, decimal}
+use Rattle.text.proofs.DecimalLaws.{decimal-one}
 use Rattle.text.proofs.ScanLaws.{firstLength, cut-more, cut-last}
+use Rattle.text.proofs.PieceLaws.{split-some, first-le, first-piece}
 use Rattle.routine.specs.Rows.{isCapital, inName, isName, equalLists, isField}
 
 -- what follows the first n bytes of l and the byte that ends them, as the code takes it: `&l[n + 1..]`
 abbrev pub past : ℕ → List ℕ → List ℕ
 past n l = take (length l - (n + 1)) (drop (n + 1) l)
 
--- a first word, where there may be no other
-first-cut : (l : List ℕ) (n : ℕ) → n ≡ firstLength 32 l → (ps : List (List ℕ)) × (n ≤ length l) × (words l ≡ take n l ∷ ps)
-unfolding words
-first-cut l n q = go (ltb n (length l)) refl
-  where
-    go : (b : Bool) → ltb n (length l) ≡ b → (ps : List (List ℕ)) × (n ≤ length l) × (split 32 l ≡ take n l ∷ ps)
-    go true e = let h = ltb-true n (length l) e in (split 32 (past n l), omega arith, cut-more 32 l n q h)
-    go false e =
-        let h = ltb-false n (length l) e in
-        let s : split 32 l ≡ l ∷ [] = cut-last 32 l n q h in
-        let k : firstLength 32 l ≡ length l = ap (λ (ps : List (List ℕ)). length (getD ps 0 [])) s in
-        ([], omega arith, s ∙ ap (λ (w : List ℕ). w ∷ []) (sym (take-all n l h)))
-
 pub first-within : (l : List ℕ) (n : ℕ) → n ≡ firstLength 32 l → n ≤ length l
-first-within l n q = first-cut l n q .1
-
--- ---- a word among those of l
-
-pub among-here : (w l : List ℕ) (n : ℕ) → n ≡ firstLength 32 l → n < length l → equals w (take n l) ≡ true → among w (words l) ≡ true
-unfolding among words
-among-here w l n q h e = rw (cut-more 32 l n q h, e) refl
-
-pub among-next : (w l : List ℕ) (n : ℕ) → n ≡ firstLength 32 l → n < length l → equals w (take n l) ≡ false → among w (words l) ≡ among w (words (past n l))
-unfolding among words
-among-next w l n q h e = rw (cut-more 32 l n q h, e) refl
-
-cond-self : (b : Bool) → cond b true false ≡ b
-cond-self true = refl
-cond-self false = refl
-
-pub among-last : (w l : List ℕ) (n : ℕ) → n ≡ firstLength 32 l → length l ≤ n → among w (words l) ≡ equals w l
-unfolding among words
-among-last w l n q h = rw (cut-last 32 l n q h) (cond-self (equals w l))
+first-within l n q = rw q (first-le 32 l)
 
 -- ---- whether a word stands twice
 
@@ -87,11 +58,7 @@ name-first (c ∷ cs) e = rw e refl
 pub name-rest : (w : List ℕ) → 0 < length w → length w ≤ 8 → isCapital (getD w 0 0) ≡ true → isName w ≡ all inName (drop 1 w)
 unfolding isName
 name-rest [] p h e = absurd (omega arith)
-name-rest (c ∷ cs) p h e = rw (e, lt-ltb (length cs) 8 (omega arith)) (go (all inName cs))
-  where
-    go : (b : Bool) → (b && true) ≡ b
-    go true = refl
-    go false = refl
+name-rest (c ∷ cs) p h e = rw (e, lt-ltb (length cs) 8 (omega arith)) (and-true (all inName cs))
 
 pub all-fails : (t : ℕ → Bool) (w : List ℕ) (i : ℕ) → i < length w → t (getD w i 0) ≡ false → all t (drop i w) ≡ false
 unfolding all
@@ -110,20 +77,10 @@ all-end t w i h = rw (drop-of-length-le w h) refl
 abbrev pub leads : List ℕ → List ℕ → Bool
 leads l o = equalLists (words l) (take (length (words l)) (words o))
 
--- a text has a word
-onto-some : (x : ℕ) (ps : List (List ℕ)) → equalLists (onto x ps) [] ≡ false
+none-differs : (ps : List (List ℕ)) → 0 < length ps → equalLists ps [] ≡ false
 unfolding equalLists
-onto-some x [] = refl
-onto-some x (p ∷ ps) = refl
-
-split-some : (c : ℕ) (s : List ℕ) → equalLists (split c s) [] ≡ false
-unfolding split equalLists
-split-some c [] = refl
-split-some c (x ∷ xs) = go (eqb x c)
-  where
-    go : (b : Bool) → equalLists (cond b ([] ∷ split c xs) (onto x (split c xs))) [] ≡ false
-    go true = refl
-    go false = onto-some x (split c xs)
+none-differs [] h = absurd (omega arith)
+none-differs (p ∷ ps) h = refl
 
 short : (x o : List ℕ) (xs : List (List ℕ)) → equalLists xs [] ≡ false → equalLists (x ∷ xs) (take (suc (length xs)) (o ∷ [])) ≡ false
 unfolding equalLists
@@ -133,7 +90,7 @@ short x o xs e =
 
 pub leads-short : (l o : List ℕ) (n m : ℕ) → n ≡ firstLength 32 l → n < length l → m ≡ firstLength 32 o → length o ≤ m → leads l o ≡ false
 unfolding words equalLists
-leads-short l o n m q h p k = rw (cut-more 32 l n q h, cut-last 32 o m p k) (short (take n l) o (split 32 (past n l)) (split-some 32 (past n l)))
+leads-short l o n m q h p k = rw (cut-more 32 l n q h, cut-last 32 o m p k) (short (take n l) o (split 32 (past n l)) (none-differs (split 32 (past n l)) (split-some 32 (past n l))))
 
 pub leads-differ : (l o : List ℕ) (n m : ℕ) → n ≡ firstLength 32 l → n < length l → m ≡ firstLength 32 o → m < length o
     → equals (take n l) (take m o) ≡ false → leads l o ≡ false
@@ -147,17 +104,13 @@ leads-agree l o n m q h p k e = rw (cut-more 32 l n q h, cut-more 32 o m p k, e)
 
 pub leads-last : (l o : List ℕ) (n m : ℕ) → n ≡ firstLength 32 l → length l ≤ n → m ≡ firstLength 32 o → leads l o ≡ equals l (take m o)
 unfolding words equalLists
-leads-last l o n m q h p = let f = first-cut o m p in rw (cut-last 32 l n q h, f .2) (go (equals l (take m o)))
+leads-last l o n m q h p = rw (cut-last 32 l n q h) (go (split 32 o) (split-some 32 o) (first-piece 32 o m p))
   where
-    go : (b : Bool) → (b && true) ≡ b
-    go true = refl
-    go false = refl
+    go : (ps : List (List ℕ)) → 0 < length ps → getD ps 0 [] ≡ take m o → equalLists (l ∷ []) (take 1 ps) ≡ equals l (take m o)
+    go [] k e = absurd (omega arith)
+    go (w ∷ ps) k e = rw e (and-true (equals l (take m o)))
 
 -- ---- a field's name
-
-decimal-digit : (n : ℕ) → n < 10 → decimal n ≡ (48 + n) ∷ []
-unfolding decimal digits
-decimal-digit n h = rw (lt-ltb n 10 h) refl
 
 decimal-teen : (n : ℕ) → 10 ≤ n → n < 20 → decimal n ≡ 49 ∷ (38 + n) ∷ []
 unfolding decimal digits
@@ -177,8 +130,8 @@ no-place k n w h = rw (le-ltb n 16 h, and-false (ltb k 8)) refl
 
 pub short-field : (k n : ℕ) (w : List ℕ) → k < 8 → n < 10 → isField k n w ≡ equals w (66 ∷ (48 + k) ∷ 46 ∷ (48 + n) ∷ [])
 unfolding isField
-short-field k n w h l = rw (lt-ltb k 8 h, lt-ltb n 16 (omega arith), decimal-digit k (omega arith), decimal-digit n l) refl
+short-field k n w h l = rw (lt-ltb k 8 h, lt-ltb n 16 (omega arith), decimal-one k (omega arith), decimal-one n l) refl
 
 pub long-field : (k n : ℕ) (w : List ℕ) → k < 8 → 10 ≤ n → n < 16 → isField k n w ≡ equals w (66 ∷ (48 + k) ∷ 46 ∷ 49 ∷ (38 + n) ∷ [])
 unfolding isField
-long-field k n w h l u = rw (lt-ltb k 8 h, lt-ltb n 16 u, decimal-digit k (omega arith), decimal-teen n l (omega arith)) refl
+long-field k n w h l u = rw (lt-ltb k 8 h, lt-ltb n 16 u, decimal-one k (omega arith), decimal-teen n l (omega arith)) refl

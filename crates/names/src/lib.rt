@@ -1,27 +1,11 @@
 // The names on the lines of a routine file. The meaning is in the specs of `routine`.
 ghost use mathlib.Core.Path.{_≡_};
 ghost use lib.ListN.{length, take};
-ghost use Rattle.text.specs.Text.{words, among, distinct};
+ghost use Rattle.text.specs.Text.{words, distinct};
 ghost use Rattle.text.specs.Decimal.{isDigit};
 ghost use Rattle.routine.specs.Rows.{isCapital, inName, isName, equalLists, cellNames, isField, blockSizes};
 ghost use Rattle.routine.specs.Layout.{list};
 ghost use Rattle.names.specs.Names.{BlocksOf, added};
-
-// Whether w is one of the words of text.
-fn repeated(w: &[u8], text: &[u8]) -> bool
-    ensures { λ r. ⌜ r ≡ among (now (w .entry)) (words (now (text .entry))) ⌝ }
-{
-    let mut rest = text;
-    let mut e = text::piece_length(rest, b' ');
-    while e < rest.len() {
-        if text::same(w, &rest[..e]) {
-            return true;
-        }
-        rest = &rest[e + 1..];
-        e = text::piece_length(rest, b' ');
-    }
-    text::same(w, rest)
-}
 
 // Whether no word of line stands twice.
 pub fn distinct(line: &[u8]) -> bool
@@ -32,7 +16,7 @@ pub fn distinct(line: &[u8]) -> bool
     while e < rest.len() {
         let w = &rest[..e];
         rest = &rest[e + 1..];
-        if repeated(w, rest) {
+        if text::is_among(w, rest) {
             return false;
         }
         e = text::piece_length(rest, b' ');

@@ -10,16 +10,6 @@ use Rattle.text.proofs.PieceLaws.{words-length}
 use Rattle.text.proofs.LineLaws.{lines-first, lines-empty}
 use Rattle.routine.specs.Layout.{list, isAnswer, upToAnswer, pastAnswer, codeLines, answerLines}
 
--- a line that lists nothing, and one that lists its words
-
-pub list-none : (s : List ℕ) → equals s (bytes "-") ≡ true → list s ≡ []
-unfolding list
-list-none s e = rw e refl
-
-pub list-words : (s : List ℕ) → equals s (bytes "-") ≡ false → list s ≡ words s
-unfolding list
-list-words s e = rw e refl
-
 pub list-length : (s : List ℕ) → length (list s) ≤ length s + 1
 unfolding list
 list-length s = go (equals s (bytes "-"))
@@ -52,21 +42,6 @@ pub code-take : (ls : List Line) → codeLines ls ≡ take (length (codeLines ls
 unfolding codeLines
 code-take [] = refl
 code-take (l ∷ ls) = ap (λ (x : List Line). l ∷ x) (upTo-take ls)
-
--- no more than the lines
-upTo-few : (ls : List Line) → length (upToAnswer ls) ≤ length ls
-unfolding upToAnswer
-upTo-few [] = omega arith
-upTo-few (l ∷ ls) = go (isAnswer l) (upTo-few ls)
-  where
-    go : (b : Bool) → length (upToAnswer ls) ≤ length ls → length (cond b [] (l ∷ upToAnswer ls)) ≤ suc (length ls)
-    go true h = omega arith
-    go false h = omega arith
-
-pub code-few : (ls : List Line) → length (codeLines ls) ≤ length ls
-unfolding codeLines
-code-few [] = omega arith
-code-few (l ∷ ls) = omega (arith, upTo-few ls)
 
 pub answer-drop : (ls : List Line) → answerLines ls ≡ drop (suc (length (codeLines ls))) ls
 unfolding codeLines answerLines

@@ -1,10 +1,10 @@
 -- The parts that the reader puts together are those of the routine. Assumes nothing.
-use Prim.Native.Nat.{ℕ, zero, suc, _+_, _*_, _%_, _≤_, min}
+use Prim.Native.Nat.{ℕ, zero, suc, _+_, _%_, _≤_, min}
 use mathlib.Core.Path.{_≡_, refl, sym, ap, ap₂, _∙_}
 use mathlib.Core.List.{List, [], _∷_, map}
 use native.Mathlib.Omega.{arith}
 use native.Mathlib.Numerals.{add-one}
-use lib.IntN.{ℤ, pos, natAbs}
+use lib.IntN.{ℤ, natAbs}
 use lib.ListN.{length, getD, take, drop, replicate, length-take}
 use Rattle.refusals.specs.declared.Refusal.{Refusal}
 use Rattle.text.specs.Text.{words, Line, lines, noLine}
@@ -14,28 +14,25 @@ use Rattle.states.specs.declared.State as code
 use Rattle.states.specs.Columns.{linesOf, codeOf, Sized}
 use Rattle.states.specs.View.{view, Fits, whole}
 use Rattle.states.specs.View as view-of
-use Rattle.routine.specs.declared.Section.{Section}
 use Rattle.routine.specs.declared.Section.the-variants.{Limits as limits, Kinds as kinds, Primitives as primitives, Cells as cells, Fields as fields}
 use Rattle.routine.specs.declared.Column.the-variants.{Limit as limit, Cycles as cycles, Words as words-column, Cell as cell}
-use Rattle.routine.specs.declared.Role.{Role}
 use Rattle.routine.specs.declared.Role.the-variants.{Names as names, Values as values}
-use Rattle.routine.specs.Layout.{layout, body, codeLines, answerLines, list, textAt, listed}
+use Rattle.routine.specs.Layout.{layout, body, codeLines, list, textAt, listed}
 use Rattle.routine.specs.Rows.{Passes, value, blockSizes, total, firstAddresses, firstAt, budgets, ticks}
-use Rattle.routine.specs.Routine.{inside, natural, limitAt, routineOf, readBound, readRun}
+use Rattle.routine.specs.Routine.{inside, natural, routineOf}
 use Rattle.routine.specs.Routine as readings
 use Rattle.routine.proofs.RowLaws.{read-passes, run-passes}
 use Rattle.routine.proofs.RangeLaws.{budget-small}
-use Rattle.routine.proofs.PassingLaws.{first-small, answers-few, cells-small, fields-total}
+use Rattle.routine.proofs.PassingLaws.{code-among, first-small, answers-few, cells-small, fields-total}
 use Rattle.routine.proofs.PassingLaws as passing
 use Rattle.names.specs.declared.Blocks.{Blocks}
 use Rattle.names.specs.Names.{BlocksOf}
 use Rattle.parts.specs.declared.Columns.{Columns}
-use Rattle.parts.specs.declared.Answers.{Answers}
-use Rattle.parts.specs.Parts.{naturalAt, PriceLines, priceLines, instructionIn, cellsIn, startIn}
-use Rattle.parts.proofs.ListLaws.{answer-drop, code-few}
-use Rattle.parts.proofs.PartLaws.{text-at, placeOf, linesOfPrices, limit-in, instructions-in, answers-in, start-whole}
+use Rattle.parts.specs.Parts.{naturalAt, priceLines, instructionIn, cellsIn, startIn}
+use Rattle.parts.proofs.ListLaws.{answer-drop}
+use Rattle.routine.proofs.LayoutLaws.{text-at}
+use Rattle.parts.proofs.PartLaws.{linesOfPrices, limit-in, instructions-in, answers-in, start-whole}
 use Rattle.rows.specs.Checks.{readBy, checkOf}
-use Rattle.rows.specs.declared.Checked.{Checked}
 use Rattle.rows.specs.declared.Checked.the-variants.{Refused}
 use Rattle.rows.specs.declared.Checked.the-variants as checks
 use Rattle.rows.specs.declared.Reader.{Reader}
@@ -58,7 +55,7 @@ first-low ms n e = rw e (first-small (firstAt ms))
 
 module _ (ls ms : List Line) (count : ℕ) (x : Counted ls ms count) where
   pub counted-few : (count ≤ 1024) × (count ≤ length ms)
-  counted-few = (x .few, rw (x .after, x .counted) (code-few (body ls)))
+  counted-few = (x .few, rw (x .after, x .counted) (code-among (body ls)))
 
   module _ (ks kc kw ps pc pw : List ℕ) (a : ks ≡ getD ls 2 noLine .text) (b : kc ≡ getD ls 3 noLine .text) (c : kw ≡ getD ls 4 noLine .text)
       (d : ps ≡ getD ls 5 noLine .text) (e : pc ≡ getD ls 6 noLine .text) (f : pw ≡ getD ls 7 noLine .text) where

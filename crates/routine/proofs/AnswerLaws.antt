@@ -48,7 +48,7 @@ module _ (ls ms : List Line) (e : take (length layout) ls ≡ take (length layou
 
   same-prices : prices ls ≡ prices ms
   unfolding prices
-  same-prices = simp (same-listed, same-price)
+  same-prices = simp same-price
 
   same-instruction : (text : List ℕ) → instructionOf ls text ≡ instructionOf ms text
   unfolding instructionOf

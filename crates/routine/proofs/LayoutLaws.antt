@@ -1,28 +1,31 @@
--- Where the lines of the layout stand, and which lines are code and answers. Assumes nothing.
-use Prim.Native.Nat.{ℕ, zero, suc}
+-- Where the lines of the layout stand, and what a line lists. Assumes nothing.
+use Prim.Native.Nat.{ℕ, suc, _<_}
 use mathlib.Core.Path.{_≡_, refl}
-use mathlib.Core.Bool.{true, false}
+use mathlib.Core.Bool.{Bool, true, false, cond}
 use mathlib.Core.List.{List, [], _∷_}
+use native.Mathlib.Omega.{arith}
 use lib.Dec.{eqb}
-use lib.ListN.{getD}
-use Rattle.text.specs.Text.{Line, noLine}
+use lib.ListN.{length, getD}
+use Rattle.text.specs.Text.{bytes, equals, words, Line, noLine}
 use Rattle.routine.specs.declared.Role.{Role}
-use Rattle.routine.specs.Layout.{tag, textAt}
+use Rattle.routine.specs.Layout.{list, tag, textAt}
 
--- that r is role n of a list, and no role before it has its tag: tuples of `refl` show it of each role of the layout
-abbrev pub Stands : Role → List Role → ℕ → Type 0
-Stands r [] n = ⊥
-Stands r (x ∷ xs) zero = eqb (tag r) (tag x) ≡ true
-Stands r (x ∷ xs) (suc n) = (eqb (tag r) (tag x) ≡ false) × Stands r xs n
+-- the place of the first role with the tag of r, counted from 0
+abbrev pub placeOf : Role → List Role → ℕ
+placeOf r [] = 0
+placeOf r (x ∷ xs) = cond (eqb (tag r) (tag x)) 0 (suc (placeOf r xs))
 
--- the text of the line that has role n is that of line n
-pub text-stands : (r : Role) (rs : List Role) (n : ℕ) → Stands r rs n → (ls : List Line) → textAt r rs ls ≡ getD ls n noLine .text
+-- the text of a role's line is that of the line at its place
+pub text-at : (r : Role) (rs : List Role) (ls : List Line) → placeOf r rs < length rs → textAt r rs ls ≡ getD ls (placeOf r rs) noLine .text
 unfolding textAt
-text-stands r [] n s ls = absurd s
-text-stands r (x ∷ xs) zero s [] = refl
-text-stands r (x ∷ xs) zero s (l ∷ ls) = rw s refl
-text-stands r (x ∷ xs) (suc n) s [] = refl
-text-stands r (x ∷ xs) (suc n) s (l ∷ ls) = rw (s .0) (text-stands r xs n (s .1) ls)
+text-at r [] ls h = absurd (omega arith)
+text-at r (x ∷ xs) [] h = refl
+text-at r (x ∷ xs) (l ∷ ls) h = go (eqb (tag r) (tag x)) h (text-at r xs ls)
+  where
+    go : (b : Bool) → cond b 0 (suc (placeOf r xs)) < suc (length xs) → (placeOf r xs < length xs → textAt r xs ls ≡ getD ls (placeOf r xs) noLine .text)
+        → cond b (l .text) (textAt r xs ls) ≡ getD (l ∷ ls) (cond b 0 (suc (placeOf r xs))) noLine .text
+    go true k ih = refl
+    go false k ih = ih (omega arith)
 
 -- a role whose tag none of them has, has no line
 abbrev pub Lacks : Role → List Role → Type 0
@@ -34,3 +37,13 @@ unfolding textAt
 text-lacks r [] s ls = refl
 text-lacks r (x ∷ xs) s [] = refl
 text-lacks r (x ∷ xs) s (l ∷ ls) = rw (s .0) (text-lacks r xs (s .1) ls)
+
+-- a line that lists nothing, and one that lists its words
+
+pub list-none : (s : List ℕ) → equals s (bytes "-") ≡ true → list s ≡ []
+unfolding list
+list-none s e = rw e refl
+
+pub list-words : (s : List ℕ) → equals s (bytes "-") ≡ false → list s ≡ words s
+unfolding list
+list-words s e = rw e refl

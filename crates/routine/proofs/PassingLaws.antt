@@ -105,7 +105,7 @@ up-to-count (l ∷ ls) = go (isAnswer l) (up-to-count ls)
     go true h = omega arith
     go false h = omega arith
 
-code-among : (ls : List Line) → length (codeLines ls) ≤ length ls
+pub code-among : (ls : List Line) → length (codeLines ls) ≤ length ls
 unfolding codeLines
 code-among [] = omega arith
 code-among (l ∷ ls) = let h = up-to-count ls in omega arith

@@ -8,9 +8,8 @@ use lib.Dec.{leb, eqb}
 use lib.IntN.{ℤ, pos, negsuc, natAbs}
 use lib.ListN.{length, getD, take, length-map, length-take, length-drop}
 use borrow.Author.Tests.{leb-true, eqb-true}
-use Rattle.text.specs.Text.{Line, all}
-use Rattle.text.specs.Decimal.{numeral}
-use Rattle.text.proofs.TextLaws.{Every, more, every-map, every-getD, all-every, and-left, and-right, cond-left, cond-right}
+use Rattle.text.specs.Text.{Line}
+use Rattle.text.proofs.TextLaws.{Every, more, and-left, and-right, cond-left, cond-right}
 use Rattle.numbers.specs.declared.Range.{Range}
 use Rattle.numbers.specs.Numbers.{range, within}
 use Rattle.instructions.specs.declared.Argument.{Argument}
@@ -20,11 +19,11 @@ use Rattle.routine.specs.declared.Section.{Section}
 use Rattle.routine.specs.declared.Section.the-variants.{Limits as limits, Kinds as kinds, Primitives as primitives, Cells as cells}
 use Rattle.routine.specs.declared.Column.the-variants.{Limit as limit, Cycles as cycles, Words as words-column, Cell as cell}
 use Rattle.routine.specs.declared.Role.the-variants.{Names as names, Values as values}
-use Rattle.routine.specs.Layout.{layout, body, codeLines, list, textAt, listed}
-use Rattle.routine.specs.Rows.{budgets, ticks, valuesLaidOut, cellWord, value, valueOf, cellNames, stackNames, columnInRange, columnLaidOut, inRange, laidOut, named, wellNamed}
+use Rattle.routine.specs.Layout.{body, codeLines, listed}
+use Rattle.routine.specs.Rows.{budgets, ticks, valuesLaidOut, cellWord, value, cellNames, stackNames, columnInRange, columnLaidOut, inRange, laidOut, named, wellNamed}
 use Rattle.routine.specs.Routine.{inside, natural, limitAt, priceAt, prices, instructionOf, codeOf, cellOf, cellsOf, startOf, routineOf}
 use Rattle.routine.specs.Rows.{Passes}
-use Rattle.routine.proofs.RowLaws.{First, passes-range, passes-laid-out, passes-named, lists-path}
+use Rattle.routine.proofs.RowLaws.{passes-range, passes-laid-out, passes-named, lists-path}
 
 -- a number within a range from a natural number on is natural, between the two ends
 within-ends : (low high : ℕ) (z : ℤ) → within (range low high) z ≡ true → (low ≤ natAbs z) × (natAbs z ≤ high)

@@ -17,7 +17,7 @@ use Rattle.routine.specs.declared.Role.{Role}
 use Rattle.routine.specs.declared.Role.the-variants.{Names as names, Code as code}
 use Rattle.routine.specs.Layout.{layout, isAnswer, body, answerRoles, codeRoles, bodyRoles, roles, tag, textAt}
 use Rattle.routine.specs.declared.Row.{Row}
-use Rattle.routine.specs.declared.Row.the-variants.{Layout as layout-row, Range as range-row, Name as name-row, Price as price-row, Target as target-row, Known as known-row}
+use Rattle.routine.specs.declared.Row.the-variants.{Layout as layout-row, Range as range-row, Name as name-row, Known as known-row}
 use Rattle.routine.specs.declared.Fault.{Fault}
 use Rattle.routine.specs.declared.Fault.the-variants.{Clean as clean, Line as line}
 use Rattle.routine.specs.Rows.{Passes, equalLists, earliest, fault, test, laidOut, inRange, named}

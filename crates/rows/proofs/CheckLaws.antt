@@ -1,23 +1,21 @@
 -- A text is refused by its length or by the first row that is not clean, and passes where all rows are clean. Assumes nothing.
 use Prim.Native.Nat.{ℕ, _<_, _≤_}
-use mathlib.Core.Path.{_≡_, refl, sym, ap, _∙_}
+use mathlib.Core.Path.{_≡_, refl}
 use mathlib.Core.List.{List, [], _∷_, _++_}
 use native.Mathlib.Omega.{arith}
 use lib.ListN.{length}
-use borrow.Author.Tests.{lt-ltb, le-ltb}
+use borrow.Author.Tests.{le-ltb}
 use Rattle.refusals.specs.declared.Refusal.the-variants.{TextLength, Layout, OutOfRange, BadName, Unpriced, NoTarget, UnknownCell}
 use Rattle.text.specs.Text.{Line, lines}
 use Rattle.text.proofs.TextLaws.{none, more}
 use Rattle.routine.specs.declared.Row.{Row}
 use Rattle.routine.specs.declared.Row.the-variants.{Layout as layout-row, Range as range-row, Name as name-row, Price as price-row, Target as target-row, Known as known-row}
-use Rattle.routine.specs.declared.Fault.{Fault}
 use Rattle.routine.specs.declared.Fault.the-variants.{Clean as clean, Line as line}
 use Rattle.routine.specs.Rows.{fault}
-use Rattle.routine.specs.Routine.{Check, check, boundChecks, runChecks, checked, orElse, limited, readBound, readRun}
+use Rattle.routine.specs.Routine.{Check, check, boundChecks, runChecks, checked, orElse, limited, readRun}
 use Rattle.routine.specs.Rows.{Passes}
-use Rattle.routine.proofs.RowLaws.{Clean, passes-read, passes-run, bound-order, run-order, too-long}
+use Rattle.routine.proofs.RowLaws.{Clean, passes-read, bound-order, run-order, too-long}
 use Rattle.rows.specs.Checks.{readBy, checkOf, knownChecks, Due}
-use Rattle.rows.specs.declared.Checked.{Checked}
 use Rattle.rows.specs.declared.Checked.the-variants.{Refused}
 use Rattle.rows.specs.declared.Checked.the-variants as checks
 use Rattle.rows.specs.declared.Reader.{Reader}

@@ -22,7 +22,8 @@ use Rattle.names.specs.declared.Blocks.{Blocks}
 use Rattle.names.specs.Names.{BlocksOf}
 use Rattle.lines.specs.Lines.{wordTest}
 use Rattle.lines.specs.declared.WordTest.the-variants.{Filled, Kind, Primitive}
-use Rattle.lines.proofs.LineLaws.{and-true, and-false, and-through, and-stop, list-none, list-words}
+use Rattle.lines.proofs.LineLaws.{and-true, and-false, and-through, and-stop}
+use Rattle.routine.proofs.LayoutLaws.{list-none, list-words}
 use Rattle.rows.specs.Scan.{NameContext, TargetContext, Small, lineOf}
 use Rattle.rows.proofs.ArmLaws.{not-true, not-false}
 

@@ -1,10 +1,10 @@
 -- What a row looks at, as the code finds it in a text. Assumes nothing.
-use Prim.Native.Nat.{ℕ, _+_, _-_, _≤_, min}
-use mathlib.Core.Path.{_≡_, refl, sym, ap, _∙_}
+use Prim.Native.Nat.{ℕ, _≤_, min}
+use mathlib.Core.Path.{_≡_, refl, ap, _∙_}
 use mathlib.Core.List.{List, [], _∷_}
 use native.Mathlib.Omega.{arith}
 use lib.IntN.{pos, natAbs}
-use lib.ListN.{length, getD, take, drop, length-take, length-drop}
+use lib.ListN.{length, getD, take, drop, length-take}
 use Rattle.text.specs.Text.{words, split, Line, lines, noLine}
 use Rattle.text.specs.Decimal.{numeral}
 use Rattle.numbers.specs.Numbers.{range}
@@ -14,11 +14,11 @@ use Rattle.routine.specs.declared.Row.{Row}
 use Rattle.routine.specs.Layout.{layout, body, codeLines, list, textAt, listed}
 use Rattle.routine.specs.Rows.{value, valueOf, blockSizes, firstAddresses, firstAt}
 use Rattle.routine.specs.Routine.{inside, natural}
-use Rattle.routine.proofs.PassingLaws.{first-natural, first-small, lines-count}
+use Rattle.routine.proofs.PassingLaws.{first-natural, first-small}
+use Rattle.routine.proofs.PassingLaws as passing
 use Rattle.names.specs.declared.Blocks.{Blocks}
 use Rattle.names.specs.Names.{BlocksOf}
-use Rattle.parts.proofs.ListLaws.{code-few}
-use Rattle.rows.specs.Scan.{NameContext, TargetContext, Context}
+use Rattle.rows.specs.Scan.{Context}
 use Rattle.rows.specs.Checks.{Due}
 
 -- the first address stands at the start of the first code line
@@ -58,13 +58,7 @@ module _ (row : Row) (text ks ps fs rest l w : List ℕ) (short : length text �
   blocks-count = block-count (blockSizes (list fs)) b held eight ∙ ap (λ t. length (blockSizes (list t))) f
 
   code-small : count ≤ 32768
-  unfolding body
-  code-small =
-      let m = lines-count text in
-      let n : length (codeLines (body (lines text))) ≤ length (body (lines text)) = code-few (body (lines text)) in
-      let d : length (body (lines text)) ≡ length (lines text) - 13 = length-drop 13 (lines text) in
-      let e = code-count in
-      omega arith
+  code-small = let m = passing.code-count text in let e = code-count in omega arith
 
   pub context-found : Context row (lines text) ks ps (b .count) first count
   context-found = record {

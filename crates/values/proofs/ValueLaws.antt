@@ -12,6 +12,7 @@ use lib.Signed.{mag, nonNeg, leZ, ltZ}
 use mir.Syntax.{w32}
 use mir.Val.{SFits}
 use borrow.Author.Tests.{leb-true, ltb-true, ltb-false, lt-ltb, le-ltb, eq-eqb, ne-eqb}
+use Rattle.text.proofs.TextLaws.{cond-left, cond-right}
 use Rattle.text.specs.Text.{equals, bytes}
 use Rattle.text.specs.Decimal.{numeral, most, clamp, clamped}
 use Rattle.text.specs.declared.Numeral.{Numeral}
@@ -52,18 +53,10 @@ between (pos g) high (negsuc n) k l e f = no e
 between (negsuc g) high (negsuc n) k l e f = let q = leb-true n g e in omega arith
 
 pub within-low : (r : Range) (z : ℤ) → within r z ≡ true → leZ (r .low) z ≡ true
-within-low r z e = go (leZ (r .low) z) e
-  where
-    go : (b : Bool) → cond b (leZ z (r .high)) false ≡ true → b ≡ true
-    go true q = refl
-    go false q = q
+within-low r z e = cond-left (leZ (r .low) z) (leZ z (r .high)) e
 
 pub within-high : (r : Range) (z : ℤ) → within r z ≡ true → leZ z (r .high) ≡ true
-within-high r z e = go (leZ (r .low) z) e
-  where
-    go : (b : Bool) → cond b (leZ z (r .high)) false ≡ true → leZ z (r .high) ≡ true
-    go true q = q
-    go false q = no q
+within-high r z e = cond-right (leZ (r .low) z) (leZ z (r .high)) e
 
 pub inside-clamp : (r : Range) (z : ℤ) → Near r → inside r (clamp z) ≡ inside r z
 unfolding inside

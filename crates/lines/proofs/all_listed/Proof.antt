@@ -2,7 +2,7 @@
 use mathlib.Core.Path.{sym, ap, _∙_}
 use Rattle.text.specs.Text.{all}
 use Rattle.lines.specs.Lines.{wordTest}
-use Rattle.lines.proofs.LineLaws.{list-none, list-words}
+use Rattle.routine.proofs.LayoutLaws.{list-none, list-words}
 use borrow.Author.Needs.{needs}
 use Rattle.lines.proofs.all_listed.Statement.{statement}
 use Rattle.lines.proofs.all_listed.Tie as tie

@@ -1,7 +1,7 @@
 -- `count_listed` meets its contract. Assumes nothing.
 use mathlib.Core.Path.{sym, ap, _∙_}
 use lib.ListN.{length}
-use Rattle.lines.proofs.LineLaws.{list-none, list-words}
+use Rattle.routine.proofs.LayoutLaws.{list-none, list-words}
 use borrow.Author.Needs.{needs}
 use Rattle.lines.proofs.count_listed.Statement.{statement}
 use Rattle.lines.proofs.count_listed.Tie as tie

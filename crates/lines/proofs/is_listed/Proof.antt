@@ -1,7 +1,7 @@
 -- `is_listed` meets its contract. Assumes nothing.
 use mathlib.Core.Path.{sym, ap, _∙_}
 use Rattle.text.specs.Text.{among}
-use Rattle.lines.proofs.LineLaws.{list-none, list-words}
+use Rattle.routine.proofs.LayoutLaws.{list-none, list-words}
 use borrow.Author.Needs.{needs}
 use Rattle.lines.proofs.is_listed.Statement.{statement}
 use Rattle.lines.proofs.is_listed.Tie as tie

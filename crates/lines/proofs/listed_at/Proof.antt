@@ -2,7 +2,7 @@
 use mathlib.Core.Path.{sym, ap, _∙_}
 use mathlib.Core.List.{[]}
 use lib.ListN.{getD}
-use Rattle.lines.proofs.LineLaws.{list-none, list-words}
+use Rattle.routine.proofs.LayoutLaws.{list-none, list-words}
 use borrow.Author.Needs.{needs}
 use Rattle.lines.proofs.listed_at.Statement.{statement}
 use Rattle.lines.proofs.listed_at.Tie as tie

@@ -10,8 +10,9 @@ use lib.Seq.{length-take-le}
 use Rattle.text.specs.Text.{words}
 use Rattle.text.proofs.ScanLaws.{firstLength}
 use Rattle.routine.specs.Layout.{list}
+use Rattle.routine.proofs.LayoutLaws.{list-none}
 use Rattle.routine.specs.Rows.{blockSizes}
-use Rattle.names.proofs.BlockLaws.{grow, grow-stop, grow-next, grow-last, no-names, some-names, Own, own, held, no-blocks, none-named}
+use Rattle.names.proofs.BlockLaws.{grow, grow-stop, grow-next, grow-last, some-names, Own, own, held, no-blocks, none-named}
 use borrow.Author.Needs.{needs}
 use Rattle.names.proofs.blocks_named.Statement.{statement}
 use Rattle.names.proofs.blocks_named.Tie as tie
@@ -31,7 +32,7 @@ same-requires c κs = search needs
 
 returns : tie.Need-returns Inv-loop μ-loop
 returns c =
-    let e = no-names _ (sym (c .before .same .ensures) ∙ c .if1 .taken) in
+    let e = list-none _ (sym (c .before .same .ensures) ∙ c .if1 .taken) in
     none-named _ e
 
 piece-length-requires : tie.Need-piece-length-requires Inv-loop μ-loop

@@ -40,13 +40,13 @@ part-rest-start c = search needs
 part-rest-end : tie.Need-part-rest-end Inv-loop μ-loop
 part-rest-end c = search needs
 
-repeated-requires : tie.Need-repeated-requires Inv-loop μ-loop
-repeated-requires c κs = search needs
+is-among-requires : tie.Need-is-among-requires Inv-loop μ-loop
+is-among-requires c κs = search needs
 
 returns : tie.Need-returns Inv-loop μ-loop
 returns c =
     let t = c .before .before .before .before in
-    sym (t .before .loop .inv .2 ∙ distinct-again _ _ (t .before .loop .inv .0) (t .loop-test .taken) (sym (c .before .repeated .ensures) ∙ c .if1 .taken))
+    sym (t .before .loop .inv .2 ∙ distinct-again _ _ (t .before .loop .inv .0) (t .loop-test .taken) (sym (c .before .is-among .ensures) ∙ c .if1 .taken))
 
 piece-length-requires-2 : tie.Need-piece-length-requires-2 Inv-loop μ-loop
 piece-length-requires-2 c κs = search needs
@@ -60,7 +60,7 @@ loop-again c =
     let t = j .before .before .before .before in (
       c .piece-length2 .ensures,
       omega arith,
-      t .before .loop .inv .2 ∙ distinct-next _ _ (t .before .loop .inv .0) (t .loop-test .taken) (sym (j .before .repeated .ensures) ∙ j .if1 .left),
+      t .before .loop .inv .2 ∙ distinct-next _ _ (t .before .loop .inv .0) (t .loop-test .taken) (sym (j .before .is-among .ensures) ∙ j .if1 .left),
     )
 
 returns-2 : tie.Need-returns-2 Inv-loop μ-loop
@@ -81,7 +81,7 @@ distinct-spec =
     sub-rest
     part-rest-start
     part-rest-end
-    repeated-requires
+    is-among-requires
     returns
     piece-length-requires-2
     loop-less

@@ -1,7 +1,7 @@
 -- `parts::place_of` meets its contract. Assumes nothing.
 use mathlib.Core.Path.{sym, ap, _∙_}
 use Rattle.text.specs.Text.{find}
-use Rattle.parts.proofs.ListLaws.{list-none, list-words}
+use Rattle.routine.proofs.LayoutLaws.{list-none, list-words}
 use borrow.Author.Needs.{needs}
 use Rattle.parts.proofs.place_of.Statement.{statement}
 use Rattle.parts.proofs.place_of.Tie as tie

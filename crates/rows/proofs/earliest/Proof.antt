@@ -1,7 +1,7 @@
 use lib.ListN.{length}
 use native.Mathlib.Omega.{arith}
 use borrow.Author.Needs.{needs}
-use Prim.Native.Nat.{_+_, _≤_}
+use Prim.Native.Nat.{_≤_}
 use mathlib.Core.Path.{sym, subst}
 use Rattle.rows.specs.Scan.{Small}
 use Rattle.rows.proofs.LoopLaws.{role-small, Scanned, scanned-start, scanned-fails, scanned-goes, scanned-misses, scanned-clean}

@@ -1,8 +1,6 @@
 use Rattle.rows.proofs.ContextLaws.{laid-values}
-use mathlib.Core.Path.{ap, _∙_}
-use Rattle.routine.specs.Layout.{list, listed}
 use Rattle.text.specs.Text.{lines}
-use Rattle.routine.specs.Rows.{laidOut, valuesLaidOut}
+use Rattle.routine.specs.Rows.{laidOut}
 use denote.Ref.{now}
 use Rattle.lines.proofs.LineLaws.{arm}
 use borrow.Author.Needs.{needs}

@@ -2,7 +2,6 @@ use native.Mathlib.Omega.{arith}
 use Rattle.rows.proofs.ScanLaws.{mark-before}
 use borrow.Author.Tests.{lt-ltb, le-ltb}
 use Rattle.rows.specs.Scan.{missing}
-use borrow.Author.Needs.{needs}
 use Rattle.rows.proofs.misses.Statement.{statement}
 use Rattle.rows.proofs.misses.Tie as tie
 use Rattle.rows.proofs.misses.Reads as reads

@@ -1,6 +1,6 @@
-use Rattle.routine.specs.declared.Section.the-variants.{Answers}
-use Rattle.routine.proofs.LayoutLaws.{text-lacks}
-use Rattle.routine.proofs.LayoutLaws.{text-stands}
+use native.Mathlib.Omega.{arith}
+use Rattle.routine.specs.declared.Section.the-variants.{Limits, Kinds, Primitives, Cells, Fields, Instructions, Answers}
+use Rattle.routine.proofs.LayoutLaws.{text-at, text-lacks}
 use mathlib.Core.Path.{refl, sym, _∙_}
 use Rattle.routine.specs.declared.Role.the-variants.{Names}
 use Rattle.routine.specs.Layout.{layout, textAt}
@@ -72,27 +72,27 @@ slice-aggregate-result c = search needs
 
 -- src/lib.rt:60:1
 returns : tie.Need-returns
-returns c = arm (λ o. textAt (Names o) layout (lines (now (c .before .before .before .before .args .text)))) (c .before .enum-told .given .1) (c .line-at .ensures ∙ sym (text-stands _ layout 0 refl _))
+returns c = arm (λ o. textAt (Names o) layout (lines (now (c .before .before .before .before .args .text)))) (c .before .enum-told .given .1) (c .line-at .ensures ∙ sym (text-at (Names Limits) layout _ (omega arith)))
 
 -- src/lib.rt:60:1
 returns-2 : tie.Need-returns-2
-returns-2 c = arm (λ o. textAt (Names o) layout (lines (now (c .before .before .before .before .args .text)))) (c .before .enum-told2 .given .1) (c .line-at2 .ensures ∙ sym (text-stands _ layout 2 (refl, (refl, refl)) _))
+returns-2 c = arm (λ o. textAt (Names o) layout (lines (now (c .before .before .before .before .args .text)))) (c .before .enum-told2 .given .1) (c .line-at2 .ensures ∙ sym (text-at (Names Kinds) layout _ (omega arith)))
 
 -- src/lib.rt:60:1
 returns-3 : tie.Need-returns-3
-returns-3 c = arm (λ o. textAt (Names o) layout (lines (now (c .before .before .before .before .args .text)))) (c .before .enum-told3 .given .1) (c .line-at3 .ensures ∙ sym (text-stands _ layout 5 (refl, (refl, (refl, (refl, (refl, refl))))) _))
+returns-3 c = arm (λ o. textAt (Names o) layout (lines (now (c .before .before .before .before .args .text)))) (c .before .enum-told3 .given .1) (c .line-at3 .ensures ∙ sym (text-at (Names Primitives) layout _ (omega arith)))
 
 -- src/lib.rt:60:1
 returns-4 : tie.Need-returns-4
-returns-4 c = arm (λ o. textAt (Names o) layout (lines (now (c .before .before .before .before .args .text)))) (c .before .enum-told4 .given .1) (c .line-at4 .ensures ∙ sym (text-stands _ layout 8 (refl, (refl, (refl, (refl, (refl, (refl, (refl, (refl, refl)))))))) _))
+returns-4 c = arm (λ o. textAt (Names o) layout (lines (now (c .before .before .before .before .args .text)))) (c .before .enum-told4 .given .1) (c .line-at4 .ensures ∙ sym (text-at (Names Cells) layout _ (omega arith)))
 
 -- src/lib.rt:60:1
 returns-5 : tie.Need-returns-5
-returns-5 c = arm (λ o. textAt (Names o) layout (lines (now (c .before .before .before .before .args .text)))) (c .before .enum-told5 .given .1) (c .line-at5 .ensures ∙ sym (text-stands _ layout 10 (refl, (refl, (refl, (refl, (refl, (refl, (refl, (refl, (refl, (refl, refl)))))))))) _))
+returns-5 c = arm (λ o. textAt (Names o) layout (lines (now (c .before .before .before .before .args .text)))) (c .before .enum-told5 .given .1) (c .line-at5 .ensures ∙ sym (text-at (Names Fields) layout _ (omega arith)))
 
 -- src/lib.rt:60:1
 returns-6 : tie.Need-returns-6
-returns-6 c = arm (λ o. textAt (Names o) layout (lines (now (c .before .before .before .before .args .text)))) (c .before .enum-told6 .given .1) (c .line-at6 .ensures ∙ sym (text-stands _ layout 12 (refl, (refl, (refl, (refl, (refl, (refl, (refl, (refl, (refl, (refl, (refl, (refl, refl)))))))))))) _))
+returns-6 c = arm (λ o. textAt (Names o) layout (lines (now (c .before .before .before .before .args .text)))) (c .before .enum-told6 .given .1) (c .line-at6 .ensures ∙ sym (text-at (Names Instructions) layout _ (omega arith)))
 
 -- src/lib.rt:60:1
 returns-7 : tie.Need-returns-7

@@ -1,9 +1,6 @@
 use Rattle.rows.proofs.ContextLaws.{priced-code}
-use mathlib.Core.Path.{ap, _∙_}
-use Rattle.text.specs.Text.{among}
-use Rattle.routine.specs.Layout.{list, listed}
 use Rattle.text.specs.Text.{lines}
-use Rattle.routine.specs.Rows.{op, priced}
+use Rattle.routine.specs.Rows.{priced}
 use denote.Ref.{now}
 use Rattle.lines.proofs.LineLaws.{arm}
 use borrow.Author.Needs.{needs}

@@ -2,7 +2,6 @@ use Prim.Native.Nat.{_≤_}
 use Rattle.rows.proofs.ArmLaws.{above}
 use mathlib.Core.Path.{_≡_}
 use native.Mathlib.Omega.{arith}
-use Rattle.routine.specs.Layout.{layout}
 use Rattle.rows.proofs.role_at.Statement.{statement}
 use Rattle.rows.proofs.role_at.Tie as tie
 use Rattle.rows.proofs.role_at.Reads as reads
