@@ -381,7 +381,7 @@ impl Routine {
 /// A loop with every operation and no unknown branch: the whole budget in steps, the last of them STOP.
 fn straight() -> Routine {
     use op::*;
-    let body = [
+    let fields = [
         (ACC, 0),
         (OFFSET, -1),
         (ASSIGN, 0),
@@ -392,39 +392,35 @@ fn straight() -> Routine {
         (ACC, 2),
         (SET, 1),
         (ACC, 0),
-        (PUSH + CONST, 3),
-        (ADD, 0),
-        (PUSH + ACC, 1),
-        (SUB, 0),
-        (PUSH + CONST, 5),
-        (EQ, 0),
-        (PUSH + ACC, 1),
-        (NEQ, 0),
-        (PUSH + CONST, 0),
-        (LT, 0),
+    ];
+    // Each after a push: what is loaded, on the left, and the entry that was pushed.
+    let pairs = [
+        (CONST, 3, ADD),
+        (ACC, 1, SUB),
+        (CONST, 5, EQ),
+        (ACC, 1, NEQ),
+        (CONST, 0, LT),
+        (CONST, 1, LE),
+        (ACC, 1, GT),
+        (CONST, 2, GE),
+        (CONST, 9, ADD),
+    ];
+    let others = [
         (NOT, 0),
-        (PUSH + CONST, 1),
-        (LE, 0),
         (NEG, 0),
-        (PUSH + ACC, 1),
-        (GT, 0),
-        (PUSH + CONST, 2),
-        (GE, 0),
         (PUSH, 0),
         (PUSH + ACC, 3),
         (GET, 2),
         (DROP, 1),
         (CALL, 1),
         (OFFSET, 4),
-        (PUSH + CONST, 9),
-        (ADD, 0),
         (CONST, 0),
         (BRANCHIF, 0),
         (NOT, 0),
         (BRANCHIFNOT, 0),
     ];
     let around = 3;
-    let turn = body.len() + around;
+    let turn = fields.len() + 2 * pairs.len() + others.len() + around;
     let (turns, rest) = ((BUDGET - 3) / turn, (BUDGET - 3) % turn);
     let mut r = Routine {
         sizes: vec![16; 8],
@@ -434,7 +430,14 @@ fn straight() -> Routine {
     r.line(CONST, turns as i32);
     r.line(ASSIGN, 0);
     let top = r.next();
-    for (code, operand) in body {
+    for (code, operand) in fields {
+        r.line(code, operand);
+    }
+    for (load, operand, code) in pairs {
+        r.line(PUSH + load, operand);
+        r.line(code, 0);
+    }
+    for (code, operand) in others {
         r.line(code, operand);
     }
     r.line(BRANCH, r.next() + 1);

@@ -22,7 +22,8 @@ use Rattle.bounds.proofs.PromiseLaws.{interruptible, exact-reports, run-within-
 use Rattle.bounds.proofs.FigureLaws.{Cheap, Bounded, bound-bounded, run-bounded}
 use Rattle.routine.specs.Routine.{Routine, routineOf, Reading, routine, readBound, readRun}
 use Rattle.routine.specs.Routine as readings
-use Rattle.routine.proofs.RowLaws.{Passes, read-passes, run-passes}
+use Rattle.routine.specs.Rows.{Passes}
+use Rattle.routine.proofs.RowLaws.{read-passes, run-passes}
 use Rattle.routine.proofs.RangeLaws.{prices-small, budget-small, tick-positive, start-low}
 use Rattle.routine.proofs.SpellingLaws.{accepted-ascii}
 use Rattle.routine.proofs.AnswerLaws.{SameButAnswers, same-but-answers}

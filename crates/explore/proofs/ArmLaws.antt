@@ -10,20 +10,21 @@ use lib.ListN.{length, getD, drop, set, length-drop, length-set}
 use Rattle.cells.specs.Try.{Try, stuck, done}
 use Rattle.cells.specs.declared.Cell.{Cell}
 use Rattle.cells.specs.Cells.{unknown, number}
-use Rattle.machine.specs.declared.State as code
-use Rattle.machine.specs.declared.code.Line.{Line}
-use Rattle.machine.specs.declared.Outcome.{Outcome}
-use Rattle.machine.specs.declared.Outcome.the-variants.{Gives, Stores, Sets, Gets, Goes, Opens, Halts, Stuck}
+use Rattle.states.specs.declared.State as code
+use Rattle.states.specs.declared.code.Line.{Line}
+use Rattle.outcomes.specs.declared.Outcome.{Outcome}
+use Rattle.outcomes.specs.declared.Outcome.the-variants.{Gives, Stores, Sets, Gets, Goes, Opens, Halts, Stuck}
 use Rattle.machine.specs.Machine.{State, height, Price, Next, stops, goes, opens, index, jump, load, restack, store, advance, prepare}
-use Rattle.machine.specs.Outcome.{operationOf, drops, outcome, resume}
-use Rattle.machine.specs.View.{view, slot, Fits, whole}
-use Rattle.machine.specs.Columns.{codeOf}
-use Rattle.machine.proofs.TurnLaws as turn
-use Rattle.machine.proofs.BlockLaws.{slot-below}
-use Rattle.explore.specs.declared.Verdict.the-variants as verdicts
-use Rattle.explore.specs.declared.Found.{Found}
-use Rattle.explore.specs.declared.Tally.{Tally}
-use Rattle.explore.specs.Found.{price, moreOf, joinedOf, finishedOf, refusedAs, Summable}
+use Rattle.instructions.specs.Columns.{operationOf}
+use Rattle.outcomes.specs.Outcome.{drops, outcome, resume}
+use Rattle.states.specs.View.{view, slot, Fits, whole}
+use Rattle.states.specs.Columns.{codeOf}
+use Rattle.outcomes.proofs.TurnLaws as turn
+use Rattle.states.proofs.BlockLaws.{slot-below}
+use Rattle.findings.specs.declared.Verdict.the-variants as verdicts
+use Rattle.findings.specs.declared.Found.{Found}
+use Rattle.findings.specs.declared.Tally.{Tally}
+use Rattle.findings.specs.Found.{price, moreOf, joinedOf, finishedOf, refusedAs, Summable}
 use Rattle.explore.specs.Contract.{Explores, SafeUnder, ExactFor, Modest}
 use Rattle.explore.proofs.LoopLaws as loop
 use Rattle.explore.proofs.TurnLaws as turns

@@ -14,10 +14,10 @@ use Rattle.machine.specs.Machine.{State, height, Price, Next, stops, goes, open
 use Rattle.bounds.specs.Tree.{Decision, worse, Report, accepted, refused, explore}
 use Rattle.bounds.specs.Tree as bounds
 use Rattle.bounds.proofs.ExploreLaws.{before, join, joined, both-ways, explore-spent, explore-stuck, explore-stops, explore-goes, explore-over, explore-opens}
-use Rattle.explore.specs.declared.Verdict.the-variants.{Accepted, Stuck, Openings, Spent}
-use Rattle.explore.specs.declared.Found.{Found}
-use Rattle.explore.specs.declared.Tally.{Tally}
-use Rattle.explore.specs.Found.{encode, refusalOf, acceptedAs, Shows, moreOf, decidedOf, joinedOf, finishedOf, refusedAs}
+use Rattle.findings.specs.declared.Verdict.the-variants.{Accepted, Stuck, Openings, Spent}
+use Rattle.findings.specs.declared.Found.{Found}
+use Rattle.findings.specs.declared.Tally.{Tally}
+use Rattle.findings.specs.Found.{encode, refusalOf, acceptedAs, Shows, moreOf, decidedOf, joinedOf, finishedOf, refusedAs}
 use Rattle.explore.proofs.UsedLaws.{used, used-spent, used-stuck, used-stops, used-goes, used-over, used-first, used-both}
 
 -- n steps of a tally before what follows

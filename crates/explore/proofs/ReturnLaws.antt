@@ -15,19 +15,19 @@ use Rattle.cells.specs.Try.{done}
 use Rattle.cells.specs.declared.Cell.{Cell}
 use Rattle.cells.specs.Cells.{unknown}
 use Rattle.instructions.specs.declared.Operation.{Operation}
-use Rattle.machine.specs.declared.State as code
-use Rattle.machine.specs.declared.Outcome.the-variants.{Opens}
+use Rattle.states.specs.declared.State as code
+use Rattle.outcomes.specs.declared.Outcome.the-variants.{Opens}
 use Rattle.machine.specs.Machine.{State, Code, Price, opens, index, jump, store, advance, step}
-use Rattle.machine.specs.Outcome.{resume}
-use Rattle.machine.specs.View.{view, blocksOf, whole}
-use Rattle.machine.specs.Columns.{codeOf}
+use Rattle.outcomes.specs.Outcome.{resume}
+use Rattle.states.specs.View.{view, blocksOf, whole}
+use Rattle.states.specs.Columns.{codeOf}
 use Rattle.bounds.specs.Tree.{Decision, N, T, Report, accepted, refused, explore}
 use Rattle.bounds.specs.Tree as bounds
 use Rattle.bounds.proofs.PromiseLaws.{interruptible, exact}
-use Rattle.explore.specs.declared.Verdict.{Verdict}
-use Rattle.explore.specs.declared.Found.{Found}
-use Rattle.explore.specs.declared.Tally.{Tally}
-use Rattle.explore.specs.Found.{encode, refusalOf, acceptedAs, Shows, decidedOf, joinedOf, finishedOf, refusedAs}
+use Rattle.findings.specs.declared.Verdict.{Verdict}
+use Rattle.findings.specs.declared.Found.{Found}
+use Rattle.findings.specs.declared.Tally.{Tally}
+use Rattle.findings.specs.Found.{encode, refusalOf, acceptedAs, Shows, decidedOf, joinedOf, finishedOf, refusedAs}
 use Rattle.explore.specs.Contract.{Explores, SafeUnder, ExactFor, Modest}
 use Rattle.explore.proofs.LoopLaws as loop
 use Rattle.explore.proofs.TurnLaws.{act}

@@ -11,17 +11,18 @@ use lib.Seq.{getD-drop}
 use Rattle.cells.specs.Try.{Try, stuck, done, _>>=_}
 use Rattle.cells.specs.declared.Cell.{Cell}
 use Rattle.cells.specs.Cells.{unknown}
-use Rattle.machine.specs.declared.State as code
-use Rattle.machine.specs.declared.code.Line.{Line}
-use Rattle.machine.specs.declared.Outcome.{Outcome}
+use Rattle.states.specs.declared.State as code
+use Rattle.states.specs.declared.code.Line.{Line}
+use Rattle.outcomes.specs.declared.Outcome.{Outcome}
 use Rattle.machine.specs.Machine.{State, height, Price, Next, goes, index, store, fetch, prepare, execute, step}
-use Rattle.machine.specs.Outcome.{operationOf, entryOf, outcome, resume}
-use Rattle.machine.specs.View.{view, Fits, whole}
-use Rattle.machine.specs.Columns.{codeOf, lineOf}
-use Rattle.machine.proofs.TurnLaws as turn
-use Rattle.machine.proofs.ColumnLaws.{fetch-within}
-use Rattle.explore.specs.declared.Tally.{Tally}
-use Rattle.explore.specs.Found.{price, moreOf}
+use Rattle.instructions.specs.Columns.{operationOf}
+use Rattle.outcomes.specs.Outcome.{entryOf, outcome, resume}
+use Rattle.states.specs.View.{view, Fits, whole}
+use Rattle.states.specs.Columns.{codeOf, lineOf}
+use Rattle.outcomes.proofs.TurnLaws as turn
+use Rattle.states.proofs.ColumnLaws.{fetch-within}
+use Rattle.findings.specs.declared.Tally.{Tally}
+use Rattle.findings.specs.Found.{price, moreOf}
 use Rattle.explore.proofs.LoopLaws as loop
 
 module _ (first : ℕ) (bs : List ℕ) (is : List ℤ) (cs ws ns : List ℕ) (o budget : ℕ) (fs₀ : List Cell) (s₀ : code.State) where

@@ -11,7 +11,7 @@ use Rattle.bounds.specs.Tree.{expand, tree, Step, made, not-made, steps, Report
 use Rattle.bounds.specs.Tree as bounds
 use Rattle.bounds.proofs.TreeLaws.{steps-size, accepted-complete}
 use Rattle.bounds.proofs.PrefixLaws.{tree-prefix}
-use Rattle.explore.specs.Found.{walked}
+use Rattle.findings.specs.Found.{walked}
 
 -- only the first b steps count
 walked-take : (b : ℕ) (xs : List Step) → walked b xs ≡ walked b (take b xs)

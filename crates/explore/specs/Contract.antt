@@ -7,15 +7,15 @@ use lib.ListN.{length}
 use Rattle.cells.specs.declared.Cell.{Cell}
 use Rattle.cells.specs.Cells.{unknown}
 use Rattle.cells.specs.Order.{Allowed}
-use Rattle.machine.specs.declared.State as code
+use Rattle.states.specs.declared.State as code
 use Rattle.machine.specs.Machine.{State, Code, jump, step}
 use Rattle.machine.specs.Order.{Cellwise}
-use Rattle.machine.specs.View.{Fits, whole}
+use Rattle.states.specs.View.{Fits, whole}
 use Rattle.bounds.specs.Tree.{Report, explore, tree, steps}
 use Rattle.bounds.specs.Run.{begin, after}
 use Rattle.bounds.specs.Promises.{Safe, Exact}
-use Rattle.explore.specs.declared.Found.{Found}
-use Rattle.explore.specs.Found.{acceptedAs, Shows, walked}
+use Rattle.findings.specs.declared.Found.{Found}
+use Rattle.findings.specs.Found.{acceptedAs, Shows, walked}
 
 -- what is asked: addresses, counts and blocks within their limits
 pub record Ready (bs ns : List ℕ) (first : ℕ) (fs : List Cell) (start : code.State) (place openings budget : ℕ) : Type 0 where

@@ -1,124 +1,16 @@
 // The explorer: every way of a routine, under a budget of steps. The meaning is in specs/.
 use cells::Cell;
-use machine::Outcome;
-use machine::Slot;
-use machine::State;
-use machine::code::Fetched;
-ghost use mathlib.Core.Path.{_≡_};
-ghost use Prim.Native.Nat.{_+_, _*_, _≤_, max};
+use findings::Found;
+use findings::Tally;
+use findings::Verdict;
+use outcomes::Outcome;
+use states::Slot;
+use states::State;
+use states::code::Fetched;
 ghost use Rattle.machine.specs.Machine.{jump};
-ghost use Rattle.machine.specs.View.{whole};
-ghost use Rattle.machine.specs.Columns.{codeOf, Sized};
+ghost use Rattle.states.specs.View.{whole};
+ghost use Rattle.states.specs.Columns.{codeOf, Sized};
 ghost use Rattle.explore.specs.Contract.{Ready, Explores, SafeUnder, ExactFor, Modest};
-ghost use Rattle.explore.specs.Found.{price, moreOf, decidedOf, joinedOf, finishedOf, refusedAs, Summable};
-
-// The bound's verdict: accepted, or refusal 7, 8 or 9 with its address.
-pub enum Verdict {
-    Accepted,
-    Stuck(usize),
-    Openings(usize),
-    Spent(usize),
-}
-
-// What exploring comes to: the verdict, the steps walked, and where it is accepted the figures of the report.
-// `path` has a bit for each decision, the first one lowest, 1 for taken, with a 1 above the last.
-pub struct Found {
-    pub verdict: Verdict,
-    pub used: usize,
-    pub cycles: u64,
-    pub words: u64,
-    pub depth: usize,
-    pub path: u64,
-}
-
-// What the steps since the last branch come to.
-pub struct Tally {
-    pub cycles: u64,
-    pub words: u64,
-    pub depth: usize,
-}
-
-fn larger(a: usize, b: usize) -> usize
-    ensures { λ r. ⌜ r ≡ max a b ⌝ }
-{
-    if a < b { b } else { a }
-}
-
-fn larger_sum(a: u64, b: u64) -> u64
-    ensures { λ r. ⌜ r ≡ max a b ⌝ }
-{
-    if a < b { b } else { a }
-}
-
-// The path of the way that costs more, with the decision that leads to it.
-fn decided(k: u64, l: u64, p: u64, q: u64) -> u64
-    requires { ⌜ (p ≤ 4294967296) × (q ≤ 4294967296) ⌝ }
-    ensures { λ r. ⌜ r ≡ decidedOf k l p q ⌝ }
-{
-    if k <= l { 2 * q + 1 } else { 2 * p }
-}
-
-// One step more, from a state of height `h`.
-fn more(t: Tally, cycles: u32, words: u32, h: usize) -> Tally
-    requires { ⌜ (t .cycles ≤ 4294967296000000) × (t .words ≤ 4294967296000000) ⌝ }
-    ensures { λ r. ⌜ r ≡ moreOf t (price cycles words) h ⌝ }
-{
-    let c = t.cycles + (cycles as u64);
-    let w = t.words + (words as u64);
-    let depth = larger(t.depth, h);
-    Tally {
-        cycles: c,
-        words: w,
-        depth: depth,
-    }
-}
-
-// `n` steps, the last of them STOP.
-fn finished(t: Tally, n: usize) -> Found
-    ensures { λ r. ⌜ r ≡ finishedOf t n ⌝ }
-{
-    Found {
-        verdict: Verdict::Accepted,
-        used: n,
-        cycles: t.cycles,
-        words: t.words,
-        depth: t.depth,
-        path: 1,
-    }
-}
-
-// A refusal, after `n` steps walked.
-fn refused(v: Verdict, n: usize) -> Found
-    ensures { λ r. ⌜ r ≡ refusedAs v n ⌝ }
-{
-    Found {
-        verdict: v,
-        used: n,
-        cycles: 0,
-        words: 0,
-        depth: 0,
-        path: 1,
-    }
-}
-
-// `n` steps, and then the two ways of a branch.
-fn joined(t: Tally, n: usize, f: Found, g: Found) -> Found
-    requires { ⌜ Summable t n f g ⌝ }
-    ensures { λ r. ⌜ r ≡ joinedOf t n f g ⌝ }
-{
-    let cycles = t.cycles + larger_sum(f.cycles, g.cycles);
-    let words = t.words + larger_sum(f.words, g.words);
-    let depth = larger(t.depth, larger(f.depth, g.depth));
-    let path = decided(f.cycles, g.cycles, f.path, g.path);
-    Found {
-        verdict: Verdict::Accepted,
-        used: n + f.used + g.used,
-        cycles: cycles,
-        words: words,
-        depth: depth,
-        path: path,
-    }
-}
 
 // Every way from `start` at the address `place`: a loop of steps, and a call for each way of an unknown branch.
 pub fn explore(
@@ -152,23 +44,23 @@ pub fn explore(
         let used = budget - left + 1;
         left = left - 1;
         let at = s.at;
-        let fetched = machine::code::fetch(codes, operands, cycles, words, first, at);
+        let fetched = states::code::fetch(codes, operands, cycles, words, first, at);
         let Fetched::Is(line) = fetched else {
-            return refused(Verdict::Stuck(at), used);
+            return findings::refused(Verdict::Stuck(at), used);
         };
-        tally = more(tally, line.cycles, line.words, 64 - s.free);
+        tally = findings::more(tally, line.cycles, line.words, 64 - s.free);
         if line.pushes {
             if s.free == 0 {
-                return refused(Verdict::Stuck(at), used);
+                return findings::refused(Verdict::Stuck(at), used);
             }
             s = s.push(s.accu);
         }
-        let n = machine::index_of(line.operand);
+        let n = outcomes::index_of(line.operand);
         let free = s.free;
-        let i = machine::place_of(line.code, n, free);
-        let k = machine::drops_of(line.code, n);
+        let i = outcomes::place_of(line.code, n, free);
+        let k = outcomes::drops_of(line.code, n);
         let r = cells::unknown();
-        let out = machine::outcome_of(line.code, line.operand, r, 64 - free, s.accu, s.stack[i]);
+        let out = outcomes::outcome_of(line.code, line.operand, r, 64 - free, s.accu, s.stack[i]);
         match out {
             Outcome::Gives(c) => {
                 s = s.pop(k).load(c).advance();
@@ -177,17 +69,17 @@ pub fn explore(
                 s = s.store(n, c).load(cells::number(0)).advance();
             }
             Outcome::Sets(c) => {
-                let field = machine::slot_of(sizes, s.accu, n);
+                let field = states::slot_of(sizes, s.accu, n);
                 let Slot::At(j) = field else {
-                    return refused(Verdict::Stuck(at), used);
+                    return findings::refused(Verdict::Stuck(at), used);
                 };
                 blocks[j] = c;
                 s = s.pop(1).load(cells::number(0)).advance();
             }
             Outcome::Gets => {
-                let field = machine::slot_of(sizes, s.accu, n);
+                let field = states::slot_of(sizes, s.accu, n);
                 let Slot::At(j) = field else {
-                    return refused(Verdict::Stuck(at), used);
+                    return findings::refused(Verdict::Stuck(at), used);
                 };
                 s = s.load(blocks[j]).advance();
             }
@@ -196,8 +88,9 @@ pub fn explore(
             }
             Outcome::Opens => {
                 if openings == 0 {
-                    return refused(Verdict::Openings(at), used);
+                    return findings::refused(Verdict::Openings(at), used);
                 }
+                let next = at + 1;
                 let f = explore(
                     codes,
                     operands,
@@ -207,14 +100,15 @@ pub fn explore(
                     first,
                     blocks,
                     s,
-                    at + 1,
+                    next,
                     openings - 1,
                     left,
                 );
                 let v = f.verdict;
                 let Verdict::Accepted = v else {
-                    return refused(v, used + f.used);
+                    return findings::refused(v, used + f.used);
                 };
+                let rest = left - f.used;
                 let g = explore(
                     codes,
                     operands,
@@ -226,21 +120,21 @@ pub fn explore(
                     s,
                     n,
                     openings - 1,
-                    left - f.used,
+                    rest,
                 );
                 let w = g.verdict;
                 let Verdict::Accepted = w else {
-                    return refused(w, used + f.used + g.used);
+                    return findings::refused(w, used + f.used + g.used);
                 };
-                return joined(tally, used, f, g);
+                return findings::joined(tally, used, f, g);
             }
             Outcome::Halts => {
-                return finished(tally, used);
+                return findings::finished(tally, used);
             }
             Outcome::Stuck => {
-                return refused(Verdict::Stuck(at), used);
+                return findings::refused(Verdict::Stuck(at), used);
             }
         }
     }
-    refused(Verdict::Spent(s.at), budget)
+    findings::refused(Verdict::Spent(s.at), budget)
 }

@@ -1,5 +1,6 @@
 -- The table by columns of numbers, as the code has it: what stands in each column at a kind.
 use Prim.Native.Nat.{ℕ}
+use mathlib.Core.List.{List, [], _∷_}
 use lib.IntN.{ℤ, pos}
 use lib.ListN.{getD}
 use Rattle.numbers.specs.declared.Comparison.{Comparison}
@@ -74,3 +75,13 @@ operationCode BranchIfNot = 12
 operationCode Call = 13
 operationCode Stop = 14
 operationCode (Combine b) = binaryCode b
+
+-- the operations in the order of their codes, and the operation of a code
+unfoldable pub operations : List Operation
+operations =
+    Nothing ∷ Access ∷ Drop ∷ Assign ∷ Constant ∷ Alter Offset ∷ Alter Negate ∷ Alter Complement
+    ∷ GetField ∷ SetField ∷ Branch ∷ BranchIf ∷ BranchIfNot ∷ Call ∷ Stop ∷ Combine Add ∷ Combine Subtract
+    ∷ Combine (Compare Equal) ∷ Combine (Compare Unequal) ∷ Combine (Compare Less) ∷ Combine (Compare AtMost) ∷ Combine (Compare Greater) ∷ Combine (Compare AtLeast) ∷ []
+
+unfoldable pub operationOf : ℕ → Operation
+operationOf k = getD operations k Stop

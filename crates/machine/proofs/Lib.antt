@@ -1,12 +1,7 @@
 pub mod Examples
+pub mod ListLaws
 pub mod NextCovering
 pub mod StateLaws
 pub mod StepLaws
 pub mod PriceLaws
 pub mod HeightLaws
-pub mod Stack
-pub mod OutcomeLaws
-pub mod CodeLaws
-pub mod BlockLaws
-pub mod ColumnLaws
-pub mod TurnLaws

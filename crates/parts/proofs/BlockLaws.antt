@@ -7,7 +7,7 @@ use native.Mathlib.Numerals.{add-one}
 use lib.ListN.{length, getD, take, drop}
 use lib.Seq.{take-suc, take-take, take-nil, drop-drop, length-take-le, getD-take}
 use Rattle.cells.specs.declared.Cell.{Cell}
-use Rattle.machine.specs.View.{blocksOf}
+use Rattle.states.specs.View.{blocksOf}
 use Rattle.routine.specs.Rows.{total}
 use Rattle.routine.specs.Routine.{blocksOf as blocksInLine}
 

@@ -21,11 +21,10 @@ use Rattle.instructions.specs.declared.Argument.the-variants.{Absent, Target, P
 use Rattle.instructions.specs.declared.Operation.{Operation}
 use Rattle.instructions.specs.declared.Operation.the-variants.{Nothing, Access, Drop, Assign, Constant, GetField, SetField, Branch, BranchIf, BranchIfNot, Call, Stop, Alter, Combine}
 use Rattle.instructions.specs.Kinds.{Kind, kinds, kindNames, operand, calls, addresses}
-use Rattle.instructions.specs.Columns.{kindAt, operationCode, unaryCode, binaryCode, comparisonCode}
+use Rattle.instructions.specs.Columns.{kindAt, operationCode, unaryCode, binaryCode, comparisonCode, operations, operationOf}
 use Rattle.instructions.proofs.ColumnLaws.{column-at, natural-at}
 use Rattle.machine.specs.Machine.{Price, Instruction, instruction, cost}
-use Rattle.machine.specs.Outcome.{operations, operationOf}
-use Rattle.machine.specs.Columns.{line, lineOf, linesOf}
+use Rattle.states.specs.Columns.{line, lineOf, linesOf}
 use Rattle.routine.specs.Layout.{list}
 use Rattle.routine.specs.Rows.{op, arg, value, cycleCounts, wordCounts}
 use Rattle.routine.specs.Routine.{inside, argumentValue}

@@ -10,9 +10,9 @@ use Rattle.text.specs.Text.{Line, noLine}
 use Rattle.numbers.specs.declared.Range.{Range}
 use Rattle.numbers.specs.Numbers.{numbers}
 use Rattle.cells.specs.declared.Cell.{Cell}
-use Rattle.machine.specs.declared.State as code
+use Rattle.states.specs.declared.State as code
 use Rattle.machine.specs.Machine.{State, store}
-use Rattle.machine.specs.View.{view, blocksOf, whole}
+use Rattle.states.specs.View.{view, blocksOf, whole}
 use Rattle.routine.specs.declared.Section.{Section}
 use Rattle.routine.specs.declared.Section.the-variants.{Limits as limits, Kinds as kinds, Primitives as primitives, Cells as cells, Fields as fields}
 use Rattle.routine.specs.declared.Column.the-variants.{Limit as limit, Cycles as cycles, Words as words-column, Cell as cell}

@@ -1,8 +1,8 @@
 // The parts of the routine that a text holds, as arrays by value. The meaning is in specs/ here and of crate routine.
 use cells::Cell;
 use instructions::Argument;
-use machine::State;
 use numbers::Range;
+use states::State;
 ghost use mathlib.Core.Path.{_≡_};
 ghost use mathlib.Core.Bool.{cond};
 ghost use mathlib.Core.List.{List, [], map};
@@ -14,8 +14,8 @@ ghost use Rattle.numbers.specs.Numbers.{IsNumber, range, numbers};
 ghost use Rattle.cells.specs.Cells.{number};
 ghost use Rattle.instructions.specs.Kinds.{kindNames, operand, calls};
 ghost use Rattle.instructions.specs.Columns.{kindAt};
-ghost use Rattle.machine.specs.Columns.{line, lineOf, linesOf};
-ghost use Rattle.machine.specs.View.{view, blocksOf};
+ghost use Rattle.states.specs.Columns.{line, lineOf, linesOf};
+ghost use Rattle.states.specs.View.{view, blocksOf};
 ghost use Rattle.routine.specs.Layout.{list, codeLines};
 ghost use Rattle.routine.specs.Rows.{value, total};
 ghost use Rattle.routine.specs.Routine.{inside, argumentValue};
@@ -41,38 +41,18 @@ pub fn place_of(names: &[u8], w: &[u8]) -> usize
     text::find(w, names)
 }
 
-// The number of words that a line lists.
-fn count_listed(values: &[u8]) -> usize
-    ensures { λ r. ⌜ r ≡ length (list (now (values .entry))) ⌝ }
-{
-    if lists_nothing(values) {
-        return 0;
-    }
-    text::count_words(values)
-}
-
-// Word i of those that a line lists, counted from 0; no bytes where it lists fewer.
-fn listed_at(values: &[u8], i: usize) -> &[u8]
-    ensures { λ r. ⌜ now r ≡ getD (list (now (values .entry))) i [] ⌝ }
-{
-    if lists_nothing(values) {
-        return &values[..0];
-    }
-    text::word_at(values, i)
-}
-
 // The number at place i of a line: a limit or a price.
 pub fn natural_at(low: u32, high: u32, values: &[u8], i: usize) -> u32
     ensures { λ r. ⌜ r ≡ naturalAt (range low high) (now (values .entry)) i ⌝ }
 {
-    values::natural_in(low, high, listed_at(values, i))
+    values::natural_in(low, high, lines::listed_at(values, i))
 }
 
 // The cell at place i of a line; 0 where it lists fewer.
 fn cell_at(values: &[u8], i: usize) -> Cell
     ensures { λ r. ⌜ r ≡ getD (cellsIn (now (values .entry))) i (number (pos 0)) ⌝ }
 {
-    values::cell_of(listed_at(values, i))
+    values::cell_of(lines::listed_at(values, i))
 }
 
 // The 32-bit number of a range that a word spells; one outside it counts 0.
@@ -147,7 +127,7 @@ pub fn start_of(values: &[u8], first: usize) -> State
     let accu = cell_at(values, 0);
     let zero = cells::number(0);
     let mut stack = [zero; 64];
-    let count = count_listed(values);
+    let count = lines::count_listed(values);
     let n = if count == 0 { 0 } else { count - 1 };
     let free = 64 - n;
     let mut i = 0;

@@ -83,7 +83,7 @@ ACCU
 AT OP ARG
 ";
 
-// Prints what a check says.
+// Prints whether a text passes.
 fn show(checked: Checked) {
     let Checked::Refused(refusal) = checked else {
         io::write_all(1, b" PASSES");
@@ -103,8 +103,12 @@ fn show_refusal(refusal: Refusal) {
 // Prints what the bound and the run say of a text.
 pub fn tell(name: &[u8], text: &[u8]) {
     io::write_all(1, name);
-    show(rows::check(Reader::Bound, text));
-    show(rows::check(Reader::Run, text));
+    let bound = reader::read(Reader::Bound, text);
+    let said = bound.checked;
+    show(said);
+    let run = reader::read(Reader::Run, text);
+    let said_by_run = run.checked;
+    show(said_by_run);
     io::write_all(1, b"\n");
 }
 

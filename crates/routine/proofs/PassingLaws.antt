@@ -25,7 +25,8 @@ use Rattle.routine.specs.declared.Fault.the-variants.{Clean as clean}
 use Rattle.routine.specs.Layout.{layout, isAnswer, body, upToAnswer, pastAnswer, codeLines, answerLines, answerRoles, codeRoles, bodyRoles, roles, listed}
 use Rattle.routine.specs.Rows.{value, isNumeral, at, arg, onArgument, argumentInRange, firstAddresses, columnLaidOut, namesLaidOut, valuesLaidOut, answerLaidOut, laidOut, codeInRange, inRange, blockSizes, total, wellNamed, named, firstAt, test, fault}
 use Rattle.routine.specs.Routine.{inside}
-use Rattle.routine.proofs.RowLaws.{Passes, Covered, passed, First, fault-clean, laid-out, passes-laid-out, passes-named}
+use Rattle.routine.specs.Rows.{Passes}
+use Rattle.routine.proofs.RowLaws.{Covered, passed, First, fault-clean, laid-out, passes-laid-out, passes-named}
 use Rattle.routine.proofs.RangeLaws.{inside-is, inside-small, cells-few}
 use Rattle.routine.proofs.CodeLaws.{code-laid-out}
 

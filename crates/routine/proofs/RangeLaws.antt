@@ -23,7 +23,8 @@ use Rattle.routine.specs.declared.Role.the-variants.{Names as names, Val
 use Rattle.routine.specs.Layout.{layout, body, codeLines, list, textAt, listed}
 use Rattle.routine.specs.Rows.{budgets, ticks, valuesLaidOut, cellWord, value, valueOf, cellNames, stackNames, columnInRange, columnLaidOut, inRange, laidOut, named, wellNamed}
 use Rattle.routine.specs.Routine.{inside, natural, limitAt, priceAt, prices, instructionOf, codeOf, cellOf, cellsOf, startOf, routineOf}
-use Rattle.routine.proofs.RowLaws.{Passes, First, passes-range, passes-laid-out, passes-named, lists-path}
+use Rattle.routine.specs.Rows.{Passes}
+use Rattle.routine.proofs.RowLaws.{First, passes-range, passes-laid-out, passes-named, lists-path}
 
 -- a number within a range from a natural number on is natural, between the two ends
 within-ends : (low high : ℕ) (z : ℤ) → within (range low high) z ≡ true → (low ≤ natAbs z) × (natAbs z ≤ high)

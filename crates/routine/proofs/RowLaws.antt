@@ -20,7 +20,7 @@ use Rattle.routine.specs.declared.Row.{Row}
 use Rattle.routine.specs.declared.Row.the-variants.{Layout as layout-row, Range as range-row, Name as name-row, Price as price-row, Target as target-row, Known as known-row}
 use Rattle.routine.specs.declared.Fault.{Fault}
 use Rattle.routine.specs.declared.Fault.the-variants.{Clean as clean, Line as line}
-use Rattle.routine.specs.Rows.{equalLists, earliest, fault, test, laidOut, inRange, named}
+use Rattle.routine.specs.Rows.{Passes, equalLists, earliest, fault, test, laidOut, inRange, named}
 use Rattle.routine.specs.Routine.{Routine, routineOf, Reading, refused, routine, orElse, Check, boundChecks, runChecks, checked, textLimit, limited, readBound, readRun}
 
 -- ---- the rows in their order
@@ -94,14 +94,6 @@ module _ (text : List ℕ) where
 
   clean-read : {cs : List Check} → Clean (lines text) cs → length text ≤ textLimit → limited text (checked cs (lines text)) ≡ routine (routineOf (lines text))
   clean-read {cs} c h = limited-short text (checked cs (lines text)) h ∙ clean-checked (lines text) c
-
--- rows 2 to 6 are clean
-pub record Passes (ls : List Line) : Type 0 where
-  pub layout : fault layout-row ls ≡ clean
-  pub range : fault range-row ls ≡ clean
-  pub names : fault name-row ls ≡ clean
-  pub prices : fault price-row ls ≡ clean
-  pub targets : fault target-row ls ≡ clean
 
 module _ (ls : List Line) where
   passing : {cs : List Check} → Clean ls (boundChecks ++ cs) → Passes ls × Clean ls cs

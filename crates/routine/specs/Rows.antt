@@ -1,6 +1,7 @@
 -- Refusals 2 to 6 and 11: each row of the refusal table is a test of one line, and refuses the earliest line that fails it.
 -- (document 01, The routine file and Refusal table)
 use Prim.Native.Nat.{ℕ, zero, suc, _+_}
+use mathlib.Core.Path.{_≡_}
 use mathlib.Core.Bool.{Bool, true, false, cond, not, _&&_}
 use mathlib.Core.List.{List, [], _∷_, _++_}
 use mathlib.Core.Option.{Option, some}
@@ -337,3 +338,11 @@ earliest t n (r ∷ rs) (l ∷ ls) = cond (t r l) (earliest t (suc n) rs ls) (li
 -- "each over the whole file, earliest line first"
 unfoldable pub fault : Row → List Line → Fault
 fault row ls = earliest (test row ls) 1 (roles ls) ls
+
+-- a text that refusals 2 to 6 let through
+pub record Passes (ls : List Line) : Type 0 where
+  pub layout : fault layout-row ls ≡ clean
+  pub range : fault range-row ls ≡ clean
+  pub names : fault name-row ls ≡ clean
+  pub prices : fault price-row ls ≡ clean
+  pub targets : fault target-row ls ≡ clean

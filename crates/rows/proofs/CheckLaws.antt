@@ -14,7 +14,8 @@ use Rattle.routine.specs.declared.Fault.{Fault}
 use Rattle.routine.specs.declared.Fault.the-variants.{Clean as clean, Line as line}
 use Rattle.routine.specs.Rows.{fault}
 use Rattle.routine.specs.Routine.{Check, check, boundChecks, runChecks, checked, orElse, limited, readBound, readRun}
-use Rattle.routine.proofs.RowLaws.{Clean, Passes, passes-read, passes-run, bound-order, run-order, too-long}
+use Rattle.routine.specs.Rows.{Passes}
+use Rattle.routine.proofs.RowLaws.{Clean, passes-read, passes-run, bound-order, run-order, too-long}
 use Rattle.rows.specs.Checks.{readBy, checkOf, knownChecks, Due}
 use Rattle.rows.specs.declared.Checked.{Checked}
 use Rattle.rows.specs.declared.Checked.the-variants.{Refused}

@@ -22,7 +22,7 @@ use Rattle.rows.specs.Scan.{NameContext, TargetContext, Context}
 use Rattle.rows.specs.Checks.{Due}
 
 -- the first address stands at the start of the first code line
-first-value : (ls : List Line) → value (getD (words (getD ls 0 noLine .text)) 0 []) ≡ firstAt ls
+pub first-value : (ls : List Line) → value (getD (words (getD ls 0 noLine .text)) 0 []) ≡ firstAt ls
 unfolding firstAt words split value valueOf numeral
 first-value [] = refl
 first-value (l ∷ ls) = refl

@@ -1,3 +1,2 @@
-pub mod ProgressLaws
 pub mod OutcomeLaws
 pub mod RunLaws

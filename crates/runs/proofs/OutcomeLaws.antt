@@ -14,22 +14,24 @@ use Rattle.cells.specs.Try.{Try, stuck, done, _>>=_}
 use Rattle.cells.specs.declared.Cell.{Cell}
 use Rattle.cells.specs.Cells.{number}
 use Rattle.instructions.specs.declared.Operation.{Operation}
-use Rattle.machine.specs.declared.State as code
-use Rattle.machine.specs.declared.code.Line.{Line}
-use Rattle.machine.specs.declared.Outcome.{Outcome}
-use Rattle.machine.specs.declared.Outcome.the-variants.{Gives, Stores, Sets, Gets, Goes, Opens, Halts, Stuck}
-use Rattle.machine.specs.declared.Slot.{Slot}
-use Rattle.machine.specs.declared.Slot.the-variants.{At, Lacks}
+use Rattle.states.specs.declared.State as code
+use Rattle.states.specs.declared.code.Line.{Line}
+use Rattle.outcomes.specs.declared.Outcome.{Outcome}
+use Rattle.outcomes.specs.declared.Outcome.the-variants.{Gives, Stores, Sets, Gets, Goes, Opens, Halts, Stuck}
+use Rattle.states.specs.declared.Slot.{Slot}
+use Rattle.states.specs.declared.Slot.the-variants.{At, Lacks}
 use Rattle.machine.specs.Machine.{Code, Next, stops, goes, index, fetch, jump, load, restack, advance, store, prepare, execute, step}
-use Rattle.machine.specs.Outcome.{operationOf, entryOf, drops, outcome, resume}
-use Rattle.machine.specs.Columns.{lineOf}
-use Rattle.machine.specs.View.{view, slot, ofSlot, Fits, whole}
-use Rattle.machine.proofs.BlockLaws.{slot-below}
-use Rattle.machine.proofs.TurnLaws.{pushed, not-pushed, full, turns, gives-drops, stores-in, sets-in, gives-goes, stores-goes, goes-goes, gets-goes, gets-stuck, sets-goes, sets-stuck}
+use Rattle.instructions.specs.Columns.{operationOf}
+use Rattle.outcomes.specs.Outcome.{entryOf, drops, outcome, resume}
+use Rattle.states.specs.Columns.{lineOf}
+use Rattle.states.specs.View.{view, slot, ofSlot, Fits, whole}
+use Rattle.states.proofs.BlockLaws.{slot-below}
+use Rattle.outcomes.proofs.TurnLaws.{pushed, not-pushed, full, turns, gives-drops, stores-in, sets-in, gives-goes, stores-goes, goes-goes, gets-goes, gets-stuck, sets-goes, sets-stuck}
 use Rattle.bounds.specs.Run.{moved}
-use Rattle.runs.specs.declared.Progress.{Progress}
-use Rattle.runs.specs.Progress.{Sound, Possible, Moves}
-use Rattle.runs.proofs.ProgressLaws.{stays}
+use Rattle.progress.specs.declared.Progress.{Progress}
+use Rattle.progress.specs.Progress.{Sound, Moves}
+use Rattle.runs.specs.Contract.{Possible}
+use Rattle.progress.proofs.ProgressLaws.{stays}
 
 pub moves-as : {ns : List ℕ} {r : Progress} {calls : Bool} {m m′ : Try Next} {q : Progress} → m′ ≡ m → Moves ns r calls m q → Moves ns r calls m′ q
 moves-as e k = rw e k

@@ -7,23 +7,24 @@ use native.Mathlib.Omega.{arith}
 use native.Mathlib.Numerals.{add-one}
 use lib.Dec.{eqb}
 use lib.IntN.{ℤ}
-use lib.ListN.{length, drop, length-drop}
+use lib.ListN.{drop}
 use borrow.Author.Tests.{lt-ltb, le-ltb}
 use Rattle.cells.specs.Try.{stuck, done, _>>=_}
 use Rattle.cells.specs.declared.Cell.{Cell}
-use Rattle.machine.specs.declared.State as code
-use Rattle.machine.specs.declared.code.Line.{Line}
-use Rattle.machine.specs.Machine.{State, Code, height, store, fetch, step, takes, takesAnswer}
-use Rattle.machine.specs.Columns.{lineOf}
-use Rattle.machine.specs.View.{whole}
+use Rattle.states.specs.declared.State as code
+use Rattle.states.specs.declared.code.Line.{Line}
+use Rattle.machine.specs.Machine.{State, Code, store, fetch, step, takes, takesAnswer}
+use Rattle.states.specs.Columns.{lineOf}
+use Rattle.states.specs.View.{whole}
 use Rattle.bounds.specs.Tree.{openingLimit, bound}
 use Rattle.bounds.specs.Run.{Run, begin, answer, moved, leads, once, after, judgeRun, run}
 use Rattle.bounds.proofs.PromiseLaws.{interruptible, run-within-bound}
-use Rattle.runs.specs.declared.Progress.{Progress}
+use Rattle.progress.specs.declared.Progress.{Progress}
 use Rattle.runs.specs.declared.Ran.{Ran}
 use Rattle.runs.specs.declared.Verdict.{Verdict}
 use Rattle.runs.specs.declared.Verdict.the-variants.{Stopped, Stuck, Spent}
-use Rattle.runs.specs.Progress.{ofProgress, judged, verdictOf, Moves, SafeFrom, WithinBound}
+use Rattle.progress.specs.Progress.{ofProgress, Moves}
+use Rattle.runs.specs.Contract.{judged, verdictOf, SafeFrom, WithinBound}
 
 -- ---- one step
 
@@ -40,13 +41,6 @@ module _ (c : Code) (ns : List ℕ) (answers : List ℤ) (r : Progress) (going :
       Moves ns r (eqb (l .code) 13) (step c a (whole ns (r .blocks) (r .state))) q → ofProgress ns answers q ≡ once c (ofProgress ns answers r)
   unfolding once ofProgress leads takesAnswer takes whole store
   once-moves l a q f e m = m .run answers ∙ rw (f, going, e) refl
-
--- ---- the first state
-
-pub begins : (ns : List ℕ) (answers : List ℤ) (s : code.State) (fs : List Cell) → length (s .stack) ≡ 64 → s .free ≤ 64 →
-    ofProgress ns answers (record { state = s; blocks = fs; taken = 0; cycles = 0; words = 0; depth = 64 - s .free; steps = 0; stopped = false }) ≡ begin (whole ns fs s) answers
-unfolding ofProgress begin height whole store
-begins ns answers s fs n h = let g : 64 - s .free ≡ length (drop (s .free) (s .stack)) = simp length-drop (omega arith) in rw (← g) refl
 
 -- ---- the loop
 

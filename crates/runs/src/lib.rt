@@ -1,36 +1,27 @@
 // The plain machine over a list of answers of any length. The meaning is in specs/.
 use cells::Cell;
-use machine::Outcome;
-use machine::Slot;
-use machine::State;
-use machine::code::Fetched;
-use machine::code::Line;
+use outcomes::Outcome;
+use progress::Progress;
+use states::Slot;
+use states::State;
+use states::code::Fetched;
+use states::code::Line;
 ghost use mathlib.Core.Path.{_≡_};
 ghost use mathlib.Core.List.{List};
 ghost use Prim.Native.Nat.{ℕ, _+_, _-_, _<_, _≤_};
 ghost use lib.Dec.{eqb};
 ghost use lib.IntN.{ℤ};
-ghost use lib.ListN.{length, drop};
+ghost use lib.ListN.{length};
 ghost use Rattle.cells.specs.Try.{done};
-ghost use Rattle.machine.specs.Machine.{Code, fetch, prepare, step, stops, goes, index};
-ghost use Rattle.machine.specs.Outcome.{operationOf, resume};
-ghost use Rattle.machine.specs.declared.Outcome.the-variants.{Sets, Gets};
-ghost use Rattle.machine.specs.Columns.{codeOf, lineOf, Sized};
-ghost use Rattle.machine.specs.View.{whole, Fits};
-ghost use Rattle.bounds.specs.Run.{begin, answer, remaining, once, after, judgeRun, run};
-ghost use Rattle.runs.specs.Progress.{ofProgress, verdictOf, Counted, Sound, Ready, Possible, Moves, SafeFrom, WithinBound};
-
-// A run: its state and blocks, how many answers its calls asked for, its sums, and whether STOP was made.
-pub struct Progress {
-    pub state: State,
-    pub blocks: [Cell; 128],
-    pub taken: usize,
-    pub cycles: u64,
-    pub words: u64,
-    pub depth: usize,
-    pub steps: usize,
-    pub stopped: bool,
-}
+ghost use Rattle.machine.specs.Machine.{Code, fetch, prepare, step, index};
+ghost use Rattle.instructions.specs.Columns.{operationOf};
+ghost use Rattle.outcomes.specs.Outcome.{resume};
+ghost use Rattle.outcomes.specs.declared.Outcome.the-variants.{Sets, Gets};
+ghost use Rattle.states.specs.Columns.{codeOf, lineOf, Sized};
+ghost use Rattle.states.specs.View.{whole, Fits};
+ghost use Rattle.bounds.specs.Run.{begin, once, after, judgeRun, run};
+ghost use Rattle.progress.specs.Progress.{ofProgress, Sound, Moves};
+ghost use Rattle.runs.specs.Contract.{verdictOf, Ready, Possible, SafeFrom, WithinBound};
 
 // STOP was made; or refusal 7 or 9 with its address.
 pub enum Verdict {
@@ -48,117 +39,55 @@ pub struct Ran {
     pub steps: usize,
 }
 
-// The next answer after the first `taken`: 0 once the list is used up.
-fn answer_at(answers: &[i32], taken: usize) -> Cell
-    ensures { λ r. ⌜ r ≡ answer (drop taken (now (answers .entry))) ⌝ }
-{
-    if answers.len() <= taken {
-        return cells::number(0);
-    }
-    cells::number(answers[taken])
-}
-
-// The answers asked for after a line with the operation's code.
-fn taken_after(code: u8, taken: usize) -> usize
-    requires { ⌜ taken < 1000000 ⌝ }
-    ensures { λ r. ⌜ ((answers : List ℤ) → drop r answers ≡ remaining (eqb code 13) (drop taken answers)) × (r ≤ taken + 1) ⌝ }
-{
-    if code == 13 { taken + 1 } else { taken }
-}
-
-// After a step at the line that leads to the state `t` with `blocks`.
-fn gone(line: Line, t: State, blocks: [Cell; 128], r: Progress) -> Progress
-    requires { ⌜ Counted r × (r .steps < 1000000) × (t .free ≤ 64) ⌝ }
-    ensures { λ q. ⌜ ((ns : List ℕ) → Fits ns blocks → Moves ns r (eqb (line .code) 13) (done (goes (lineOf line .price) (whole ns blocks t))) q) ⌝ }
-{
-    let taken = taken_after(line.code, r.taken);
-    let h = 64 - t.free;
-    let depth = if r.depth < h { h } else { r.depth };
-    Progress {
-        state: t,
-        blocks: blocks,
-        taken: taken,
-        cycles: r.cycles + (line.cycles as u64),
-        words: r.words + (line.words as u64),
-        depth: depth,
-        steps: r.steps + 1,
-        stopped: false,
-    }
-}
-
-// After STOP at the line.
-fn halted(line: Line, r: Progress) -> Progress
-    requires { ⌜ Counted r × (r .steps < 1000000) ⌝ }
-    ensures { λ q. ⌜ ((ns : List ℕ) → Sound ns r → Moves ns r (eqb (line .code) 13) (done (stops (lineOf line .price))) q) ⌝ }
-{
-    let taken = taken_after(line.code, r.taken);
-    let spent = r.cycles + (line.cycles as u64);
-    let state = r.state;
-    let blocks = r.blocks;
-    Progress {
-        state: state,
-        blocks: blocks,
-        taken: taken,
-        cycles: spent,
-        words: r.words + (line.words as u64),
-        depth: r.depth,
-        steps: r.steps + 1,
-        stopped: true,
-    }
-}
-
-// The accumulator becomes the field that the operand names.
-fn get_field(sizes: &[u8], line: Line, t: State, r: Progress) -> Progress
-    requires { ⌜ Ready (now sizes) line t r ⌝ }
+// The accumulator becomes field `n`, which the operand names.
+fn get_field(sizes: &[u8], line: Line, n: usize, t: State, r: Progress) -> Progress
+    requires { ⌜ Ready (now sizes) line t r × (n ≡ index (line .operand)) ⌝ }
     ensures { λ q. ⌜ Moves (now (sizes .entry)) r (eqb (line .code) 13) (resume (lineOf line .price) (operationOf (line .code)) (line .operand) (whole (now (sizes .entry)) (r .blocks) t) Gets) q ⌝ }
 {
-    let n = machine::index_of(line.operand);
-    let slot = machine::slot_of(sizes, t.accu, n);
+    let slot = states::slot_of(sizes, t.accu, n);
     let Slot::At(j) = slot else {
         return r;
     };
     let blocks = r.blocks;
     let u = t.load(blocks[j]).advance();
-    gone(line, u, blocks, r)
+    progress::gone(line, u, blocks, r)
 }
 
-// The field that the operand names becomes `c`, which is popped, and the accumulator 0.
-fn set_field(sizes: &[u8], line: Line, t: State, c: Cell, r: Progress) -> Progress
-    requires { ⌜ Ready (now sizes) line t r × (t .free < 64) ⌝ }
+// Field `n`, which the operand names, becomes `c`, which is popped, and the accumulator 0.
+fn set_field(sizes: &[u8], line: Line, n: usize, t: State, c: Cell, r: Progress) -> Progress
+    requires { ⌜ Ready (now sizes) line t r × (n ≡ index (line .operand)) × (t .free < 64) ⌝ }
     ensures { λ q. ⌜ Moves (now (sizes .entry)) r (eqb (line .code) 13) (resume (lineOf line .price) (operationOf (line .code)) (line .operand) (whole (now (sizes .entry)) (r .blocks) t) (Sets c)) q ⌝ }
 {
-    let n = machine::index_of(line.operand);
-    let place = machine::slot_of(sizes, t.accu, n);
+    let place = states::slot_of(sizes, t.accu, n);
     let Slot::At(j) = place else {
         return r;
     };
     let mut blocks = r.blocks;
     blocks[j] = c;
     let u = t.pop(1).load(cells::number(0)).advance();
-    gone(line, u, blocks, r)
+    progress::gone(line, u, blocks, r)
 }
 
-// What the outcome makes of the run, from the state `t` after the line's push.
-fn apply(sizes: &[u8], line: Line, t: State, x: Outcome, r: Progress) -> Progress
-    requires { ⌜ Ready (now sizes) line t r × Possible (operationOf (line .code)) (index (line .operand)) (64 - t .free) x ⌝ }
+// What the outcome makes of the run, from the state `t` after the line's push; `n` is the operand as an index.
+fn apply(sizes: &[u8], line: Line, n: usize, t: State, x: Outcome, r: Progress) -> Progress
+    requires { ⌜ Ready (now sizes) line t r × (n ≡ index (line .operand)) × Possible (operationOf (line .code)) n (64 - t .free) x ⌝ }
     ensures { λ q. ⌜ Moves (now (sizes .entry)) r (eqb (line .code) 13) (resume (lineOf line .price) (operationOf (line .code)) (line .operand) (whole (now (sizes .entry)) (r .blocks) t) x) q ⌝ }
 {
-    let n = machine::index_of(line.operand);
     let blocks = r.blocks;
     match x {
         Outcome::Gives(c) => {
-            let k = machine::drops_of(line.code, n);
-            gone(line, t.pop(k).load(c).advance(), blocks, r)
+            let k = outcomes::drops_of(line.code, n);
+            progress::gone(line, t.pop(k).load(c).advance(), blocks, r)
         }
         Outcome::Stores(c) => {
             let u = t.store(n, c).load(cells::number(0)).advance();
-            gone(line, u, blocks, r)
+            progress::gone(line, u, blocks, r)
         }
-        Outcome::Sets(c) => set_field(sizes, line, t, c, r),
-        Outcome::Gets => get_field(sizes, line, t, r),
-        Outcome::Goes => gone(line, t.jump(n), blocks, r),
+        Outcome::Sets(c) => set_field(sizes, line, n, t, c, r),
+        Outcome::Gets => get_field(sizes, line, n, t, r),
+        Outcome::Goes => progress::gone(line, t.jump(n), blocks, r),
         Outcome::Opens => r,
-        Outcome::Halts => halted(line, r),
+        Outcome::Halts => progress::halted(line, r),
         Outcome::Stuck => r,
     }
 }
@@ -168,12 +97,12 @@ fn perform(sizes: &[u8], line: Line, answer: Cell, t: State, r: Progress) -> Pro
     requires { ⌜ Ready (now sizes) line t r ⌝ }
     ensures { λ q. ⌜ ((c : Code) → fetch c (r .state .at) ≡ done (lineOf line) → prepare (line .pushes) (whole (now (sizes .entry)) (r .blocks) (r .state)) ≡ done (whole (now (sizes .entry)) (r .blocks) t) → Moves (now (sizes .entry)) r (eqb (line .code) 13) (step c answer (whole (now (sizes .entry)) (r .blocks) (r .state))) q) ⌝ }
 {
-    let n = machine::index_of(line.operand);
-    let i = machine::place_of(line.code, n, t.free);
+    let n = outcomes::index_of(line.operand);
+    let i = outcomes::place_of(line.code, n, t.free);
     let stack = t.stack;
     let h = 64 - t.free;
-    let x = machine::outcome_of(line.code, line.operand, answer, h, t.accu, stack[i]);
-    apply(sizes, line, t, x, r)
+    let x = outcomes::outcome_of(line.code, line.operand, answer, h, t.accu, stack[i]);
+    apply(sizes, line, n, t, x, r)
 }
 
 // The step at the line, which a code fetches.
@@ -212,31 +141,12 @@ fn once(
         return r;
     }
     let state = r.state;
-    let fetched = machine::code::fetch(codes, operands, cycles, words, first, state.at);
+    let fetched = states::code::fetch(codes, operands, cycles, words, first, state.at);
     let Fetched::Is(line) = fetched else {
         return r;
     };
-    let a = answer_at(answers, r.taken);
+    let a = progress::answer_at(answers, r.taken);
     turn(sizes, line, a, r)
-}
-
-// The run before its first step.
-fn begin(start: State, blocks: [Cell; 128]) -> Progress
-    requires { ⌜ start .free ≤ 64 ⌝ }
-    ensures { λ r. ⌜ ((ns : List ℕ) (answers : List ℤ) → ofProgress ns answers r ≡ begin (whole ns blocks start) answers) ⌝ }
-    ensures { λ r. ⌜ ((ns : List ℕ) → Fits ns blocks → Sound ns r) × (r .steps ≡ 0) ⌝ }
-{
-    let h = 64 - start.free;
-    Progress {
-        state: start,
-        blocks: blocks,
-        taken: 0,
-        cycles: 0,
-        words: 0,
-        depth: h,
-        steps: 0,
-        stopped: false,
-    }
 }
 
 // The run after `n` steps from `start` with `blocks`.
@@ -256,7 +166,7 @@ pub fn after(
     ensures { λ r. ⌜ ofProgress (now (sizes .entry)) (now (answers .entry)) r ≡ after (codeOf first (now (codes .entry)) (now (operands .entry)) (now (cycles .entry)) (now (words .entry))) n (begin (whole (now (sizes .entry)) blocks start) (now (answers .entry))) ⌝ }
     ensures safe { λ r. ⌜ SafeFrom (codeOf first (now (codes .entry)) (now (operands .entry)) (now (cycles .entry)) (now (words .entry))) (whole (now (sizes .entry)) blocks start) n (ofProgress (now (sizes .entry)) (now (answers .entry)) r) ⌝ }
 {
-    let mut r = begin(start, blocks);
+    let mut r = progress::begin(start, blocks);
     let mut i = 0;
     while i < n {
         r = once(codes, operands, cycles, words, sizes, first, answers, r);

@@ -8,22 +8,22 @@ use Rattle.explore.proofs.explore.Kinds as explore-kinds
 use Rattle.explore.proofs.+explore.Lts-explore as explore-lts
 use Rattle.cells.proofs.number.Reads as number-reads
 use Rattle.cells.proofs.unknown.Reads as unknown-reads
-use Rattle.explore.proofs.finished.Reads as finished-reads
-use Rattle.explore.proofs.joined.Reads as joined-reads
-use Rattle.explore.proofs.more.Reads as more-reads
-use Rattle.explore.proofs.refused.Reads as refused-reads
-use Rattle.machine.proofs.State.advance.Reads as advance-reads
-use Rattle.machine.proofs.State.jump.Reads as jump-reads
-use Rattle.machine.proofs.State.load.Reads as load-reads
-use Rattle.machine.proofs.State.pop.Reads as pop-reads
-use Rattle.machine.proofs.State.push.Reads as push-reads
-use Rattle.machine.proofs.State.store.Reads as store-reads
-use Rattle.machine.proofs.code.fetch.Reads as fetch-reads
-use Rattle.machine.proofs.drops_of.Reads as drops-of-reads
-use Rattle.machine.proofs.index_of.Reads as index-of-reads
-use Rattle.machine.proofs.outcome_of.Reads as outcome-of-reads
-use Rattle.machine.proofs.place_of.Reads as place-of-reads
-use Rattle.machine.proofs.slot_of.Reads as slot-of-reads
+use Rattle.findings.proofs.finished.Reads as finished-reads
+use Rattle.findings.proofs.joined.Reads as joined-reads
+use Rattle.findings.proofs.more.Reads as more-reads
+use Rattle.findings.proofs.refused.Reads as refused-reads
+use Rattle.states.proofs.State.advance.Reads as advance-reads
+use Rattle.states.proofs.State.jump.Reads as jump-reads
+use Rattle.states.proofs.State.load.Reads as load-reads
+use Rattle.states.proofs.State.pop.Reads as pop-reads
+use Rattle.states.proofs.State.push.Reads as push-reads
+use Rattle.states.proofs.State.store.Reads as store-reads
+use Rattle.states.proofs.code.fetch.Reads as fetch-reads
+use Rattle.outcomes.proofs.drops_of.Reads as drops-of-reads
+use Rattle.outcomes.proofs.index_of.Reads as index-of-reads
+use Rattle.outcomes.proofs.outcome_of.Reads as outcome-of-reads
+use Rattle.outcomes.proofs.place_of.Reads as place-of-reads
+use Rattle.states.proofs.slot_of.Reads as slot-of-reads
 use Rattle.explore.proofs.+explore.{statement}
 use Rattle.explore.proofs.+explore.Tie.{close}
 use mathlib.Core.Path.{_≡_, refl, sym, ap, subst, _∙_}
@@ -43,19 +43,20 @@ use Rattle.cells.specs.Try.{stuck, done}
 use Rattle.cells.specs.declared.Cell.{Cell}
 use Rattle.cells.specs.declared.Value.the-variants.{Number}
 use Rattle.cells.specs.Cells.{unknown, cell}
-use Rattle.machine.specs.declared.State as code
-use Rattle.machine.specs.declared.code.Line.{Line}
-use Rattle.machine.specs.declared.Outcome.{Outcome}
+use Rattle.states.specs.declared.State as code
+use Rattle.states.specs.declared.code.Line.{Line}
+use Rattle.outcomes.specs.declared.Outcome.{Outcome}
 use Rattle.machine.specs.Machine.{index, fetch, store, jump}
-use Rattle.machine.specs.Outcome.{operationOf, entryOf, outcome}
-use Rattle.machine.specs.View.{whole, ofSlot}
-use Rattle.machine.specs.Columns.{codeOf, lineOf, ofFetched, Known}
-use Rattle.explore.specs.declared.Verdict.{Verdict}
-use Rattle.explore.specs.declared.Verdict.the-variants.{Accepted}
-use Rattle.explore.proofs.Verdict as verdict
-use Rattle.explore.specs.declared.Found.{Found}
-use Rattle.explore.specs.Found.{refusedAs}
-use Rattle.machine.proofs.Stack.{length-images}
+use Rattle.instructions.specs.Columns.{operationOf}
+use Rattle.outcomes.specs.Outcome.{entryOf, outcome}
+use Rattle.states.specs.View.{whole, ofSlot}
+use Rattle.states.specs.Columns.{codeOf, lineOf, ofFetched, Known}
+use Rattle.findings.specs.declared.Verdict.{Verdict}
+use Rattle.findings.specs.declared.Verdict.the-variants.{Accepted}
+use Rattle.findings.proofs.Verdict as verdict
+use Rattle.findings.specs.declared.Found.{Found}
+use Rattle.findings.specs.Found.{refusedAs}
+use Rattle.states.proofs.Stack.{length-images}
 use Rattle.instructions.proofs.ColumnLaws.{getD-any}
 use Rattle.explore.proofs.TurnLaws.{Turn, act, starts, turns, inside, overflows, outside}
 use Rattle.explore.proofs.ArmLaws.{Arm, Pushed, pushes, keeps, Kept, jumped-at, restacked-at, loaded-at, stuck-out}
@@ -529,8 +530,8 @@ returns-5 t c =
     let k = arms.over-out _ _ _ _ _ _ _ _ _ _ (entry b .args .start) (entry b .args .place) (b .before .before .jump .ensures .0) (arm t a) (c .before .before .enum-told6 .given .1) (c .before .if3 .taken) _ (c .refused5 .ensures) in
     (k .explored, (k .safe, (k .exact, k .modest)))
 
-add-explore : (t : ℕ) → explore-lts.Need-add-explore (claims t) (explore-at t) explore.Post Inv-loop μ-loop
-add-explore t c = let a : Acted t = c .before .before .before in omega (arith, arm t a .low)
+add-next : (t : ℕ) → explore-lts.Need-add-next (claims t) (explore-at t) explore.Post Inv-loop μ-loop
+add-next t c = let a : Acted t = c .before .before .before in omega (arith, arm t a .low)
 
 sub-explore : (t : ℕ) → explore-lts.Need-sub-explore (claims t) (explore-at t) explore.Post Inv-loop μ-loop
 sub-explore t c = omega (arith, c .if3 .left)
@@ -561,17 +562,17 @@ returns-6 t c =
     let k = arms.first-out _ _ _ _ _ _ _ _ _ _ (entry b .args .start) (entry b .args .place) (b .before .before .jump .ensures .0) (arm t a) (c .before .before .before .before .before .enum-told6 .given .1) (omega (arith, c .before .before .before .before .if3 .left)) (f .result) (f .ensures .0) (f .ensures .1 .1 .1) (fails _ (c .before .before .match5 .keys2)) _ (c .refused6 .ensures) in
     (k .explored, (k .safe, (k .exact, k .modest)))
 
-sub-explore-2 : (t : ℕ) → explore-lts.Need-sub-explore-2 (claims t) (explore-at t) explore.Post Inv-loop μ-loop
-sub-explore-2 t c = omega (arith, c .before .before .before .if3 .left)
+sub-rest : (t : ℕ) → explore-lts.Need-sub-rest (claims t) (explore-at t) explore.Post Inv-loop μ-loop
+sub-rest t c = c .before .before .before .explore .ensures .1 .1 .1 .used
 
-sub-explore-3 : (t : ℕ) → explore-lts.Need-sub-explore-3 (claims t) (explore-at t) explore.Post Inv-loop μ-loop
-sub-explore-3 t c = c .before .before .before .explore .ensures .1 .1 .1 .used
+sub-explore-2 : (t : ℕ) → explore-lts.Need-sub-explore-2 (claims t) (explore-at t) explore.Post Inv-loop μ-loop
+sub-explore-2 t c = omega (arith, c .before .before .before .before .if3 .left)
 
 explore-requires-2 : (t : ℕ) → explore-lts.Need-explore-requires-2 (claims t) (explore-at t) explore.Post Inv-loop μ-loop
 explore-requires-2 t c κs =
     let a : Acted t = c .before .before .before .before .before .before .before in
     let b : Body t = body (lined a) in
-    (omega (arith, c .before .before .before .before .if3 .left, entry b .pre .0), (entry b .pre .1 .0, (record { addresses = entry b .pre .1 .1 .addresses; place-fits = arm t a .index-fits; free = arm t a .free; budget-fits = omega (arith, entry b .pre .1 .1 .budget-fits, b .before .loop .inv .inv .within); openings-fit = omega (arith, entry b .pre .1 .1 .openings-fit); fits = b .before .loop .inv .fits })))
+    (omega (arith, c .before .before .before .before .if3 .left, entry b .pre .0), (entry b .pre .1 .0, (record { addresses = entry b .pre .1 .1 .addresses; place-fits = omega (arith, arm t a .low, arm t a .index-fits); free = arm t a .free; budget-fits = omega (arith, entry b .pre .1 .1 .budget-fits, b .before .loop .inv .inv .within); openings-fit = omega (arith, entry b .pre .1 .1 .openings-fit); fits = b .before .loop .inv .fits })))
 
 enum-told-8 : (t : ℕ) → explore-lts.Need-enum-told-8 (claims t) (explore-at t) explore.Post Inv-loop μ-loop
 enum-told-8 t c = search needs
@@ -724,15 +725,15 @@ pub +explore-spec : {M : Type 1} → statement M
     (enum-told-6 t)
     (refused-requires-5 t)
     (returns-5 t)
-    (add-explore t)
+    (add-next t)
     (sub-explore t)
     (explore-requires t)
     (enum-told-7 t)
     (add-refused t)
     (refused-requires-6 t)
     (returns-6 t)
+    (sub-rest t)
     (sub-explore-2 t)
-    (sub-explore-3 t)
     (explore-requires-2 t)
     (enum-told-8 t)
     (add-refused-2 t)

@@ -10,7 +10,7 @@ use Rattle.machine.specs.Machine.{Instruction}
 use mir.Syntax.{w32}
 use mir.ValLaws.{toZ-ofZ}
 use lib.IntN.{ℤ}
-use Rattle.machine.specs.Columns.{line, lineOf, linesOf}
+use Rattle.states.specs.Columns.{line, lineOf, linesOf}
 use Rattle.parts.specs.Parts.{PriceLines, priceLines, instructionIn}
 use Rattle.parts.proofs.FillLaws.{take-map, line-next, line-is}
 use Rattle.parts.proofs.EntryLaws.{Room, firstLines, columns-more, known-more}

@@ -4,7 +4,7 @@ use Prim.Native.Nat.{ℕ, _-_, _<_, _≤_}
 use mathlib.Core.Path.{_≡_, refl, ap, _∙_}
 use native.Mathlib.Omega.{arith}
 use lib.ListN.{length, getD, take, drop}
-use Rattle.machine.specs.View.{blocksOf}
+use Rattle.states.specs.View.{blocksOf}
 use Rattle.routine.specs.Rows.{total}
 use Rattle.routine.specs.Routine.{blocksOf as blocksInLine}
 use Rattle.parts.specs.Parts.{cellsIn}

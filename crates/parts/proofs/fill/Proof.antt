@@ -7,7 +7,7 @@ use lib.IntN.{pos}
 use lib.ListN.{length, take, drop, length-set}
 use lib.Seq.{take-set-le}
 use Rattle.cells.specs.Cells.{number}
-use Rattle.machine.proofs.Stack.{length-images}
+use Rattle.states.proofs.Stack.{length-images}
 use Rattle.parts.specs.Parts.{cellsIn}
 use Rattle.parts.proofs.ListLaws.{list-length}
 use Rattle.parts.proofs.FillLaws.{fill-past}

@@ -1,6 +1,6 @@
 use lib.ListN.{length}
 use mathlib.Core.Path.{_≡_}
-use Rattle.machine.proofs.Stack.{length-images}
+use Rattle.states.proofs.Stack.{length-images}
 use Rattle.rows.proofs.FoundLaws.{context-found}
 use borrow.Author.Needs.{needs}
 use Rattle.rows.proofs.fault_of.Statement.{statement}

@@ -3,9 +3,9 @@
 use mathlib.Core.Path.{_≡_}
 use Prim.Native.Nat.{_-_, _≤_}
 use native.Mathlib.Omega.{arith}
-use Rattle.machine.specs.Columns.{codeOf}
+use Rattle.states.specs.Columns.{codeOf}
 use Rattle.bounds.specs.Run.{after}
-use Rattle.runs.specs.Progress.{ofProgress, Sound}
+use Rattle.progress.specs.Progress.{ofProgress, Sound}
 use Rattle.runs.proofs.RunLaws.{after-none, after-more, after-all, safe-from}
 use Rattle.runs.proofs.after.Statement.{statement}
 use Rattle.runs.proofs.after.Tie as tie

@@ -1,25 +1,11 @@
 -- `runs::apply` meets its contract: a law for each outcome, and the equations that the calls ensure. Assumes nothing.
-use mathlib.Core.Path.{_≡_, ap, _∙_}
+use mathlib.Core.Path.{ap}
 use native.Mathlib.Omega.{arith}
-use mir.Syntax.{w32}
-use mir.Val.{SFits}
-use mir.ValLaws.{toZ-ofZ}
-use Rattle.machine.specs.Machine.{State, index, load, restack, jump}
-use Rattle.machine.specs.Outcome.{drops}
+use Rattle.machine.specs.Machine.{State, load, restack}
 use Rattle.runs.proofs.OutcomeLaws.{gives-moves, stores-moves, jumps-moves, halts-moves, stuck-stays, opens-stays}
 use borrow.Author.Needs.{needs}
 use Rattle.runs.proofs.apply.Statement.{statement}
 use Rattle.runs.proofs.apply.Tie as tie
-
--- the operand as the code reads it
-operand-fits : (c : tie.After-struct-told) → SFits w32 (c .before .before .args .line .operand)
-operand-fits c = record { sfits = search needs }
-
-found : (c : tie.After-index-of) → c .index-of .result ≡ index (c .before .before .before .args .line .operand)
-found c = c .index-of .ensures .0 ∙ ap index (toZ-ofZ w32 _ (operand-fits (c .before)))
-
-index-of-requires : tie.Need-index-of-requires
-index-of-requires c κs = search needs
 
 enum-known-x : tie.Need-enum-known-x
 enum-known-x c = search needs
@@ -28,9 +14,9 @@ drops-of-requires : tie.Need-drops-of-requires
 drops-of-requires c κs = search needs
 
 pop-requires : tie.Need-pop-requires
-pop-requires c κs = let start = c .before .before .before .before .before .before .before .before in
-    let e : c .drops-of .result ≡ drops _ (index (start .args .line .operand)) = c .drops-of .ensures ∙ ap (drops _) (found (c .before .before .before .before .before)) in
-    let h = start .pre .1 .drops _ (c .before .before .x .given .1) in
+pop-requires c κs = let start = c .before .before .before .before .before .before in
+    let e = c .drops-of .ensures in
+    let h = start .pre .2 .drops _ (c .before .before .x .given .1) in
     let f = start .pre .0 .free in
     omega arith
 
@@ -42,15 +28,14 @@ unfolding load restack
 advance-requires c κs = let e = ap (λ (m : State). m .at) (c .load .ensures .0) in let f = ap (λ (m : State). m .at) (c .before .pop .ensures .0) in search needs
 
 gone-requires : tie.Need-gone-requires
-gone-requires c κs = (c .before .before .before .before .before .before .before .before .before .before .before .pre .0 .sound .counted, c .before .before .before .before .before .before .before .before .before .before .before .pre .0 .steps, c .advance .ensures .1)
+gone-requires c κs = (c .before .before .before .before .before .before .before .before .before .pre .0 .sound .counted, c .before .before .before .before .before .before .before .before .before .pre .0 .steps, c .advance .ensures .1)
 
 enum-known-x-2 : tie.Need-enum-known-x-2
 enum-known-x-2 c = search needs
 
 store-requires : tie.Need-store-requires
-store-requires c κs = let start = c .before .before .before .before .before .before .before in
-    let e = found (c .before .before .before .before) in
-    let h = start .pre .1 .stores _ (c .before .x2 .given .1) in
+store-requires c κs = let start = c .before .before .before .before .before in
+    let h = start .pre .2 .stores _ (c .before .x2 .given .1) in
     omega arith
 
 number-requires : tie.Need-number-requires
@@ -64,15 +49,15 @@ unfolding load restack
 advance-requires-2 c κs = let e = ap (λ (m : State). m .at) (c .load2 .ensures .0) in let f = ap (λ (m : State). m .at) (c .before .before .store .ensures .0) in search needs
 
 gone-requires-2 : tie.Need-gone-requires-2
-gone-requires-2 c κs = (c .before .before .before .before .before .before .before .before .before .before .before .pre .0 .sound .counted, c .before .before .before .before .before .before .before .before .before .before .before .pre .0 .steps, c .advance2 .ensures .1)
+gone-requires-2 c κs = (c .before .before .before .before .before .before .before .before .before .pre .0 .sound .counted, c .before .before .before .before .before .before .before .before .before .pre .0 .steps, c .advance2 .ensures .1)
 
 enum-known-x-3 : tie.Need-enum-known-x-3
 enum-known-x-3 c = search needs
 
 set-field-requires : tie.Need-set-field-requires
-set-field-requires c κs = let start = c .before .before .before .before .before .before .before in
-    let h = start .pre .1 .sets _ (c .before .x3 .given .1) in
-    (start .pre .0, omega arith)
+set-field-requires c κs = let start = c .before .before .before .before .before in
+    let h = start .pre .2 .sets _ (c .before .x3 .given .1) in
+    (start .pre .0, start .pre .1, omega arith)
 
 enum-told : tie.Need-enum-told
 enum-told c = search needs
@@ -102,13 +87,13 @@ enum-told-5 : tie.Need-enum-told-5
 enum-told-5 c = search needs
 
 returns : tie.Need-returns
-returns c = let start = c .before .before .before .before .before .before .before .before .before .before .before .before in
-    gives-moves _ (start .args .line) (start .args .t) (start .args .r) (start .pre .0 .sound) _ _ (found (c .before .before .before .before .before .before .before .before .before)) _ (c .before .before .load .result) _ (c .before .advance .ensures .0)
+returns c = let start = c .before .before .before .before .before .before .before .before .before .before in
+    gives-moves _ (start .args .line) (start .args .t) (start .args .r) (start .pre .0 .sound) _ _ (start .pre .1) _ (c .before .before .load .result) _ (c .before .advance .ensures .0)
     _ (c .before .before .before .before .before .before .x .given .1) _ (c .before .before .before .before .drops-of .ensures) (c .before .before .before .pop .result) (c .before .before .before .pop .ensures .0) (c .before .before .load .ensures .0) (c .gone .ensures)
 
 returns-2 : tie.Need-returns-2
-returns-2 c = let start = c .before .before .before .before .before .before .before .before .before .before .before .before in
-    stores-moves _ (start .args .line) (start .args .t) (start .args .r) (start .pre .0 .sound) _ _ (found (c .before .before .before .before .before .before .before .before .before)) _ (c .before .before .load2 .result) _ (c .before .advance2 .ensures .0)
+returns-2 c = let start = c .before .before .before .before .before .before .before .before .before .before in
+    stores-moves _ (start .args .line) (start .args .t) (start .args .r) (start .pre .0 .sound) _ _ (start .pre .1) _ (c .before .before .load2 .result) _ (c .before .advance2 .ensures .0)
     _ _ (c .before .before .before .before .before .before .x2 .given .1) (c .before .before .before .number .ensures) (c .before .before .before .before .store .result) (c .before .before .before .before .store .ensures .0) (c .before .before .load2 .ensures .0) (c .gone2 .ensures)
 
 returns-3 : tie.Need-returns-3
@@ -118,26 +103,25 @@ returns-4 : tie.Need-returns-4
 returns-4 c = rw (c .before .enum-told .given .1) (c .get-field .ensures)
 
 returns-5 : tie.Need-returns-5
-returns-5 c = let start = c .before .before .before .before .before .before .before .before in
-    jumps-moves _ (start .args .line) (start .args .t) (start .args .r) (start .pre .0 .sound) _ _ (found (c .before .before .before .before .before)) _ _ (c .before .before .enum-told2 .given .1) (c .before .jump .ensures .0) (c .gone3 .ensures)
+returns-5 c = let start = c .before .before .before .before .before .before in
+    jumps-moves _ (start .args .line) (start .args .t) (start .args .r) (start .pre .0 .sound) _ _ (start .pre .1) _ _ (c .before .before .enum-told2 .given .1) (c .before .jump .ensures .0) (c .gone3 .ensures)
 
 returns-6 : tie.Need-returns-6
-returns-6 c = let start = c .before .before .before .before .before .before in
+returns-6 c = let start = c .before .before .before .before in
     opens-stays _ (start .args .line) (start .args .t) (start .args .r) (start .pre .0 .sound) _ (c .enum-told3 .given .1)
 
 returns-7 : tie.Need-returns-7
-returns-7 c = let start = c .before .before .before .before .before .before .before in
+returns-7 c = let start = c .before .before .before .before .before in
     halts-moves _ (start .args .line) (start .args .t) (start .args .r) (start .pre .0 .sound) _ _ (c .before .enum-told4 .given .1) (c .halted .ensures _ (start .pre .0 .sound))
 
 returns-8 : tie.Need-returns-8
-returns-8 c = let start = c .before .before .before .before .before .before in
+returns-8 c = let start = c .before .before .before .before in
     stuck-stays _ (start .args .line) (start .args .t) (start .args .r) (start .pre .0 .sound) _ (c .enum-told5 .given .1)
 
 pub apply-spec : {M : Type 1} → statement M
 apply-spec =
     tie.close
     (tie.spec
-    index-of-requires
     enum-known-x
     drops-of-requires
     pop-requires

@@ -1,27 +1,14 @@
 -- `runs::get_field` meets its contract. Assumes nothing.
-use mathlib.Core.Path.{_≡_, refl, ap, _∙_}
+use mathlib.Core.Path.{_≡_, refl, ap}
 use Prim.Native.Nat.{_<_}
 use native.Mathlib.Omega.{arith}
 use lib.ListN.{length}
-use mir.Syntax.{w32}
-use mir.Val.{SFits}
-use mir.ValLaws.{toZ-ofZ}
 use borrow.Author.Needs.{needs}
-use Rattle.machine.proofs.Stack.{length-images}
-use Rattle.machine.specs.Machine.{State, index, load, advance}
+use Rattle.states.proofs.Stack.{length-images}
+use Rattle.machine.specs.Machine.{State, load, advance}
 use Rattle.runs.proofs.OutcomeLaws.{slot-in, gets-moves, gets-stays}
 use Rattle.runs.proofs.get_field.Statement.{statement}
 use Rattle.runs.proofs.get_field.Tie as tie
-
--- the operand as the code reads it
-operand-fits : (c : tie.After-struct-told) → SFits w32 (c .before .before .args .line .operand)
-operand-fits c = record { sfits = search needs }
-
-found : (c : tie.After-index-of) → c .index-of .result ≡ index (c .before .before .before .args .line .operand)
-found c = c .index-of .ensures .0 ∙ ap index (toZ-ofZ w32 _ (operand-fits (c .before)))
-
-index-of-requires : tie.Need-index-of-requires
-index-of-requires c κs = search needs
 
 slot-of-requires : tie.Need-slot-of-requires
 slot-of-requires c κs = search needs
@@ -33,8 +20,8 @@ enum-told : tie.Need-enum-told
 enum-told c = search needs
 
 returns : tie.Need-returns
-returns c = let start = c .before .before .before .before .before .before in
-    gets-stays _ (start .args .line) (start .args .t) (start .args .r) (start .pre .sound) _ _ (found (c .before .before .before)) _ (c .before .before .slot-of .ensures) (c .enum-told .given .1) refl
+returns c = let start = c .before .before .before .before in
+    gets-stays _ (start .args .line) (start .args .t) (start .args .r) (start .pre .0 .sound) _ _ (start .pre .1) _ (c .before .before .slot-of .ensures) (c .enum-told .given .1) refl
 
 -- the array has its 128 places
 blocks-length : (c : tie.Start) → length (c .args .r .blocks) ≡ 128
@@ -43,9 +30,9 @@ blocks-length c = search (needs, length-images)
 -- the field's place
 within : (c : tie.After-blocks2) → c .before .before .slot .given .0 .0 < 128
 within c =
-    let start = c .before .before .before .before .before .before .before .before in
+    let start = c .before .before .before .before .before .before in
     let n = blocks-length start in
-    omega (arith, slot-in _ (start .args .r .blocks) (start .pre .sound .fits) _ _ _ _ (c .before .before .before .before .slot-of .ensures) (c .before .before .slot .given .1))
+    omega (arith, slot-in _ (start .args .r .blocks) (start .pre .0 .sound .fits) _ _ _ _ (c .before .before .before .before .slot-of .ensures) (c .before .before .slot .given .1))
 
 mul-load : tie.Need-mul-load
 mul-load c = let h = within c in omega arith
@@ -61,18 +48,17 @@ unfolding load
 advance-requires c κs = let e = ap (λ (m : State). m .at) (c .load .ensures .0) in search needs
 
 gone-requires : tie.Need-gone-requires
-gone-requires c κs = (c .before .before .before .before .before .before .before .before .before .before .before .pre .sound .counted, c .before .before .before .before .before .before .before .before .before .before .before .pre .steps, c .advance .ensures .1)
+gone-requires c κs = (c .before .before .before .before .before .before .before .before .before .pre .0 .sound .counted, c .before .before .before .before .before .before .before .before .before .pre .0 .steps, c .advance .ensures .1)
 
 returns-2 : tie.Need-returns-2
-returns-2 c = let start = c .before .before .before .before .before .before .before .before .before .before .before .before in
-    gets-moves _ (start .args .line) (start .args .t) (start .args .r) (start .pre .sound) _ _ (found (c .before .before .before .before .before .before .before .before .before)) _ (c .before .before .load .result) _ (c .before .advance .ensures .0)
+returns-2 c = let start = c .before .before .before .before .before .before .before .before .before .before in
+    gets-moves _ (start .args .line) (start .args .t) (start .args .r) (start .pre .0 .sound) _ _ (start .pre .1) _ (c .before .before .load .result) _ (c .before .advance .ensures .0)
     _ (c .before .before .before .before .before .before .before .before .slot-of .ensures) _ (c .before .before .before .before .before .before .slot .given .1) refl _ (c .before .before .load .ensures .0) (c .gone .ensures)
 
 pub get-field-spec : {M : Type 1} → statement M
 get-field-spec =
     tie.close
     (tie.spec
-    index-of-requires
     slot-of-requires
     enum-known-slot
     enum-told

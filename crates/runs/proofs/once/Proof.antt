@@ -2,8 +2,8 @@
 use mathlib.Core.Path.{sym, ap, subst, _∙_}
 use native.Mathlib.Omega.{arith}
 use borrow.Author.Needs.{needs}
-use Rattle.machine.specs.Columns.{ofFetched, Known}
-use Rattle.machine.proofs.ColumnLaws.{fetch-within}
+use Rattle.states.specs.Columns.{ofFetched, Known}
+use Rattle.states.proofs.ColumnLaws.{fetch-within}
 use Rattle.runs.proofs.RunLaws.{once-stopped, once-outside, once-moves}
 use Rattle.runs.proofs.once.Statement.{statement}
 use Rattle.runs.proofs.once.Tie as tie

@@ -7,7 +7,7 @@ use mir.Val.{SFits}
 use mir.ValLaws.{toZ-ofZ}
 use borrow.Author.Needs.{needs}
 use Rattle.machine.specs.Machine.{index}
-use Rattle.machine.proofs.Stack.{length-images}
+use Rattle.states.proofs.Stack.{length-images}
 use Rattle.runs.proofs.OutcomeLaws.{at-operand, index-small, possible, steps-by}
 use Rattle.runs.proofs.perform.Statement.{statement}
 use Rattle.runs.proofs.perform.Tie as tie
@@ -47,7 +47,8 @@ apply-requires : tie.Need-apply-requires
 apply-requires c κs =
     let start = c .before .before .before .before .before .before .before .before .before in
     let e = at-operand _ _ _ _ _ (toZ-ofZ w32 _ (operand-fits (c .before .before .before .before .before .before .before))) (c .outcome-of .ensures) in
-    (start .pre, possible _ _ _ _ _ _ _ e)
+    let n = found (c .before .before .before .before .before .before) in
+    (start .pre, n, rw n (possible _ _ _ _ _ _ _ e))
 
 returns : tie.Need-returns
 returns c =

@@ -3,7 +3,7 @@ use mathlib.Core.Path.{_≡_, ap}
 use lib.ListN.{length}
 use borrow.Author.Needs.{needs}
 use Rattle.machine.specs.Machine.{State, restack}
-use Rattle.machine.proofs.Stack.{length-images}
+use Rattle.states.proofs.Stack.{length-images}
 use Rattle.runs.proofs.OutcomeLaws.{full-stays, pushes-to, pushes-none}
 use Rattle.runs.proofs.turn.Statement.{statement}
 use Rattle.runs.proofs.turn.Tie as tie

@@ -1,0 +1,3 @@
+pub mod OutcomeLaws
+pub mod CodeLaws
+pub mod TurnLaws

@@ -1,0 +1,196 @@
+-- `outcomes::outcome_of` meets its contract: each arm's code computes, and the default arm's is one that combines. Assumes nothing.
+use mathlib.Core.Path.{_≡_, ap, _∙_}
+use borrow.Author.Tests.{lt-ltb, le-ltb, lt-leb, le-leb}
+use borrow.Author.Needs.{needs}
+use mir.Syntax.{w32}
+use mir.ValLaws.{toZ-ofZ}
+use Rattle.numbers.proofs.SignedLaws.{read}
+use Rattle.cells.specs.declared.Unary.the-variants.{Offset, Negate, Complement}
+use Rattle.cells.specs.Cells.{number, operate₁}
+use Rattle.outcomes.specs.declared.Outcome.the-variants.{Gives}
+use Rattle.machine.specs.Machine.{index}
+use Rattle.instructions.specs.Columns.{operations, operationOf}
+use Rattle.outcomes.specs.Outcome.{outcome, given}
+use Rattle.outcomes.proofs.CodeLaws.{past, combined}
+use Rattle.outcomes.proofs.outcome_of.Statement.{statement}
+use Rattle.outcomes.proofs.outcome_of.Tie as tie
+
+-- the operand as the code reads it
+same : (c : tie.Start) → read w32 (c .args .i) ≡ c .args .i
+same c = toZ-ofZ w32 (c .args .i) (c .fits .i)
+
+found : (c : tie.After-index-of) → c .index-of .result ≡ index (c .before .args .i)
+found c = c .index-of .ensures .0 ∙ ap index (same (c .before))
+
+index-of-requires : tie.Need-index-of-requires
+index-of-requires c κs = search needs
+
+number-requires : tie.Need-number-requires
+number-requires c κs = search needs
+
+operate1-requires : tie.Need-operate1-requires
+operate1-requires c κs = search needs
+
+outcome-given-requires : tie.Need-outcome-given-requires
+outcome-given-requires c κs = search needs
+
+operate1-requires-2 : tie.Need-operate1-requires-2
+operate1-requires-2 c κs = search needs
+
+outcome-given-requires-2 : tie.Need-outcome-given-requires-2
+outcome-given-requires-2 c κs = search needs
+
+operate1-requires-3 : tie.Need-operate1-requires-3
+operate1-requires-3 c κs = search needs
+
+outcome-given-requires-3 : tie.Need-outcome-given-requires-3
+outcome-given-requires-3 c κs = search needs
+
+outcome-branching-requires : tie.Need-outcome-branching-requires
+outcome-branching-requires c κs = search needs
+
+outcome-branching-requires-2 : tie.Need-outcome-branching-requires-2
+outcome-branching-requires-2 c κs = search needs
+
+binary-of-requires : tie.Need-binary-of-requires
+binary-of-requires c κs = (past 15 _ (c .before .match .rest), c .before .before .before .pre)
+
+operate2-requires : tie.Need-operate2-requires
+operate2-requires c κs = search needs
+
+outcome-given-requires-4 : tie.Need-outcome-given-requires-4
+outcome-given-requires-4 c κs = search needs
+
+returns : tie.Need-returns
+unfolding operations operationOf outcome
+returns c = rw (c .match .keys1)
+
+returns-2 : tie.Need-returns-2
+unfolding operations operationOf outcome
+returns-2 c = rw (c .before .match .keys2, ← found (c .before .before), lt-ltb _ _ (c .if1 .taken))
+
+returns-3 : tie.Need-returns-3
+unfolding operations operationOf outcome
+returns-3 c = rw (c .before .match .keys2, ← found (c .before .before), le-ltb _ _ (c .if1 .left))
+
+returns-4 : tie.Need-returns-4
+unfolding operations operationOf outcome
+returns-4 c = rw (c .before .match .keys3, ← found (c .before .before), le-leb _ _ (c .if2 .taken))
+
+returns-5 : tie.Need-returns-5
+unfolding operations operationOf outcome
+returns-5 c = rw (c .before .match .keys3, ← found (c .before .before), lt-leb _ _ (c .if2 .left))
+
+returns-6 : tie.Need-returns-6
+unfolding operations operationOf outcome
+returns-6 c = rw (c .before .match .keys4, ← found (c .before .before), lt-ltb _ _ (c .if3 .taken))
+
+returns-7 : tie.Need-returns-7
+unfolding operations operationOf outcome
+returns-7 c = rw (c .before .match .keys4, ← found (c .before .before), le-ltb _ _ (c .if3 .left))
+
+returns-8 : tie.Need-returns-8
+unfolding operations operationOf outcome
+returns-8 c = rw (c .before .match .keys5) (ap Gives (c .number .ensures ∙ ap number (same (c .before .before .before))))
+
+returns-9 : tie.Need-returns-9
+unfolding operations operationOf outcome
+returns-9 c =
+    let start = c .before .before .before .before in
+    rw (c .before .before .match .keys6) (c .outcome-given .ensures ∙ ap given (c .before .operate1 .ensures ∙ ap (λ i. operate₁ Offset i (start .args .a)) (same start)))
+
+returns-10 : tie.Need-returns-10
+unfolding operations operationOf outcome
+returns-10 c =
+    let start = c .before .before .before .before in
+    rw (c .before .before .match .keys7) (c .outcome-given2 .ensures ∙ ap given (c .before .operate12 .ensures ∙ ap (λ i. operate₁ Negate i (start .args .a)) (same start)))
+
+returns-11 : tie.Need-returns-11
+unfolding operations operationOf outcome
+returns-11 c =
+    let start = c .before .before .before .before in
+    rw (c .before .before .match .keys8) (c .outcome-given3 .ensures ∙ ap given (c .before .operate13 .ensures ∙ ap (λ i. operate₁ Complement i (start .args .a)) (same start)))
+
+returns-12 : tie.Need-returns-12
+unfolding operations operationOf outcome
+returns-12 c = rw (c .match .keys9)
+
+returns-13 : tie.Need-returns-13
+unfolding operations operationOf outcome
+returns-13 c = rw (c .before .match .keys10, lt-ltb _ _ (c .if4 .taken))
+
+returns-14 : tie.Need-returns-14
+unfolding operations operationOf outcome
+returns-14 c = rw (c .before .match .keys10, le-ltb _ _ (c .if4 .left))
+
+returns-15 : tie.Need-returns-15
+unfolding operations operationOf outcome
+returns-15 c = rw (c .match .keys11)
+
+returns-16 : tie.Need-returns-16
+unfolding operations operationOf outcome
+returns-16 c = rw (c .before .match .keys12) (c .outcome-branching .ensures)
+
+returns-17 : tie.Need-returns-17
+unfolding operations operationOf outcome
+returns-17 c = rw (c .before .match .keys13) (c .outcome-branching2 .ensures)
+
+returns-18 : tie.Need-returns-18
+unfolding operations operationOf outcome
+returns-18 c = rw (c .before .match .keys14, ← found (c .before .before), le-leb _ _ (c .if5 .taken))
+
+returns-19 : tie.Need-returns-19
+unfolding operations operationOf outcome
+returns-19 c = rw (c .before .match .keys14, ← found (c .before .before), lt-leb _ _ (c .if5 .left))
+
+returns-20 : tie.Need-returns-20
+unfolding operations operationOf outcome
+returns-20 c = rw (c .match .keys15)
+
+returns-21 : tie.Need-returns-21
+unfolding outcome
+returns-21 c = rw (← c .before .before .binary-of .ensures, lt-ltb _ _ (c .before .before .before .if6 .taken)) (c .outcome-given4 .ensures ∙ ap given (c .before .operate2 .ensures))
+
+returns-22 : tie.Need-returns-22
+unfolding outcome
+returns-22 c = rw (combined _ (past 15 _ (c .before .match .rest)) (c .before .before .before .pre) .1, le-ltb _ _ (c .if6 .left))
+
+pub outcome-of-spec : {M : Type 1} → statement M
+outcome-of-spec =
+    tie.close
+    (tie.spec
+    index-of-requires
+    number-requires
+    operate1-requires
+    outcome-given-requires
+    operate1-requires-2
+    outcome-given-requires-2
+    operate1-requires-3
+    outcome-given-requires-3
+    outcome-branching-requires
+    outcome-branching-requires-2
+    binary-of-requires
+    operate2-requires
+    outcome-given-requires-4
+    returns
+    returns-2
+    returns-3
+    returns-4
+    returns-5
+    returns-6
+    returns-7
+    returns-8
+    returns-9
+    returns-10
+    returns-11
+    returns-12
+    returns-13
+    returns-14
+    returns-15
+    returns-16
+    returns-17
+    returns-18
+    returns-19
+    returns-20
+    returns-21
+    returns-22)

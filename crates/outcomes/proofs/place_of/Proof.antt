@@ -1,0 +1,36 @@
+-- `outcomes::place_of` meets its contract: `i` is the place of the entry. Assumes nothing.
+use mathlib.Core.Path.{_≡_}
+use mathlib.Core.Logic.{⊎-elim}
+use Prim.Native.Nat.{ℕ, _+_}
+use native.Mathlib.Omega.{arith}
+use borrow.Author.Needs.{needs}
+use Rattle.instructions.specs.Columns.{operations, operationOf}
+use Rattle.outcomes.specs.Outcome.{entryOf}
+use Rattle.outcomes.proofs.CodeLaws.{entry-top}
+use Rattle.outcomes.proofs.place_of.Statement.{statement}
+use Rattle.outcomes.proofs.place_of.Tie as tie
+
+entry-one : (k n : ℕ) → k ≡ 1 → entryOf (operationOf k) n ≡ n
+unfolding operations operationOf entryOf
+entry-one k n e = rw e
+
+place : (c : tie.Joined1) → c .if1 .i ≡ c .before .args .free + entryOf (operationOf (c .before .args .code)) (c .before .args .n)
+place c =
+    let code = c .before .args .code in
+    let n = c .before .args .n in
+    ⊎-elim
+    (λ w. omega (arith, entry-one code n (w .0 .taken), w .1))
+    (λ w. omega (arith, entry-top code n (w .0 .left), w .1))
+    (c .if1 .came)
+
+add-i : tie.Need-add-i
+add-i c = search needs
+
+returns : tie.Need-returns
+returns c = (c .if2 .taken, λ h. place (c .before))
+
+returns-2 : tie.Need-returns-2
+returns-2 c = (omega arith, λ h. omega (arith, place (c .before)))
+
+pub place-of-spec : {M : Type 1} → statement M
+place-of-spec = tie.close (tie.spec add-i returns returns-2)

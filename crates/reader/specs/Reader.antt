@@ -1,0 +1,91 @@
+-- What the reader's answer holds: the refusal of a text, or its routine.
+use Prim.Native.Nat.{ℕ, _%_, _≤_}
+use mathlib.Core.Path.{_≡_}
+use mathlib.Core.List.{List}
+use lib.IntN.{ℤ, pos, natAbs}
+use lib.ListN.{length, getD, take, replicate}
+use Rattle.text.specs.Text.{Line}
+use Rattle.cells.specs.Cells.{number}
+use Rattle.states.specs.Columns.{linesOf, codeOf, Sized}
+use Rattle.states.specs.View.{Fits, whole}
+use Rattle.routine.specs.Layout.{body, codeLines}
+use Rattle.routine.specs.Rows.{firstAddresses, firstAt}
+use Rattle.routine.specs.Routine as readings
+use Rattle.rows.specs.declared.Checked.the-variants.{Passes, Refused}
+use Rattle.parts.specs.declared.Columns.{Columns}
+use Rattle.reader.specs.declared.Routine.{Routine}
+use Rattle.reader.specs.declared.Reading.{Reading}
+
+-- the columns of the code, a routine's block sizes and its answers, without the places that are not used
+
+abbrev pub codes : Routine → List ℕ
+codes r = take (r .count) (r .columns .codes)
+
+abbrev pub operands : Routine → List ℤ
+operands r = take (r .count) (r .columns .operands)
+
+abbrev pub cycles : Routine → List ℕ
+cycles r = take (r .count) (r .columns .cycles)
+
+abbrev pub words : Routine → List ℕ
+words r = take (r .count) (r .columns .words)
+
+abbrev pub sizes : Routine → List ℕ
+sizes r = take (r .blocks) (r .sizes)
+
+abbrev pub answers : Routine → List ℤ
+answers r = take (r .answers .count) (r .answers .values)
+
+-- r holds the routine x, part by part
+pub record Holds (x : readings.Routine) (r : Routine) : Type 0 where
+  pub budget : r .budget ≡ x .budget
+  pub tick : r .tick ≡ x .tick
+  pub code : codeOf (r .first) (codes r) (operands r) (cycles r) (words r) ≡ x .code
+  pub start : whole (sizes r) (r .fields) (r .start) ≡ x .start
+  pub answered : answers r ≡ x .answers
+
+-- and its parts are within their limits
+pub record Limited (r : Routine) : Type 0 where
+  pub budget : r .budget ≤ 1000000
+  pub first : r .first ≤ 60000
+  pub sized : Sized (codes r) (operands r) (cycles r) (words r)
+  pub free : r .start .free ≤ 64
+  pub fits : Fits (sizes r) (r .fields)
+  pub answered : r .answers .count ≤ 64
+
+-- the routine beside a refusal
+abbrev pub blank : Routine
+blank = record {
+  budget = 0;
+  tick = 0;
+  first = 0;
+  count = 0;
+  columns = record { codes = replicate 1024 0; operands = replicate 1024 (pos 0); cycles = replicate 1024 0; words = replicate 1024 0 };
+  start = record { at = 0; accu = number (pos 0); free = 64; stack = replicate 64 (number (pos 0)) };
+  fields = replicate 128 (number (pos 0));
+  sizes = replicate 8 0;
+  blocks = 0;
+  answers = record { values = replicate 64 (pos 0); count = 0 };
+}
+
+-- the answer r shows a reading: its refusal, or its routine
+abbrev pub Shows : Reading → readings.Reading → Type 0
+Shows r (readings.refused x) = (r .checked ≡ Refused x) × (r .routine ≡ blank)
+Shows r (readings.routine x) = (r .checked ≡ Passes) × Holds x (r .routine) × Limited (r .routine)
+
+-- ---- the parts of the reader
+
+-- the lines ms are those after the layout of ls, and count of them are code
+pub record Counted (ls ms : List Line) (count : ℕ) : Type 0 where
+  pub after : ms ≡ body ls
+  pub counted : count ≡ length (codeLines (body ls))
+  pub few : count ≤ 1024
+
+-- the columns c hold the code of ls
+pub record HoldsCode (ls : List Line) (count : ℕ) (c : Columns) : Type 0 where
+  pub instructions : linesOf (take count (c .codes)) (take count (c .operands)) (take count (c .cycles)) (take count (c .words)) ≡ readings.codeOf ls .instructions
+  pub known : (j : ℕ) → getD (take count (c .codes)) j 0 % 32 ≤ 22
+
+-- the first address, by the lines after the layout
+abbrev pub firstIn : List Line → ℕ
+firstIn ms = natAbs (readings.inside firstAddresses (firstAt ms))

@@ -1,0 +1,13 @@
+-- `State::jump` meets its contract. Assumes nothing.
+use mathlib.Core.Path.{refl}
+use borrow.Author.Needs.{needs}
+use Rattle.machine.specs.Machine.{jump}
+use Rattle.states.proofs.State.jump.Statement.{statement}
+use Rattle.states.proofs.State.jump.Tie as tie
+
+returns : tie.Need-returns
+unfolding jump
+returns c = (refl, search needs)
+
+pub jump-spec : {M : Type 1} → statement M
+jump-spec = tie.close (tie.spec returns)
