@@ -6,7 +6,7 @@ use crate::texts::section;
 use crate::texts::stops;
 
 // The sections.
-pub fn sections() {
+fn sections() {
     published(b"published_file", 18, b"4 STOP -\n");
     larger(b"larger_file", 24, b"-2147483648\n");
     stops(b"stop_alone", 0, 1, 0);
@@ -36,7 +36,7 @@ pub fn sections() {
 }
 
 // Primitives.
-pub fn primitives() {
+fn primitives() {
     section(
         b"primitives_32",
         6,
@@ -60,7 +60,7 @@ pub fn primitives() {
 }
 
 // Code, answers and kinds.
-pub fn code() {
+fn code() {
     published_lines(
         b"first_address_60000",
         14,
@@ -88,4 +88,11 @@ pub fn code() {
             BRANCHIFNOT C_CALL1 C_CALL2 C_CALL3 C_CALL4 C_CALL5\n",
         61,
     );
+}
+
+// All of them.
+pub fn all() {
+    sections();
+    primitives();
+    code();
 }

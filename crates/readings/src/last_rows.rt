@@ -5,7 +5,7 @@ use crate::texts::published;
 use crate::texts::published_lines;
 
 // Refusal 5: a kind in the code without a price.
-pub fn unpriced() {
+fn unpriced() {
     published_lines(b"no_kinds", 3, 5, b"-\n-\n-\n");
     published_lines(
         b"stop_without_a_price",
@@ -19,7 +19,7 @@ pub fn unpriced() {
 }
 
 // Refusal 6: a target that is no address of the code.
-pub fn no_target() {
+fn no_target() {
     published(b"target_5", 15, b"1 BRANCHIF 5\n");
     published(b"target_62000", 15, b"1 BRANCHIF 62000\n");
     larger(b"target_before_the_code", 18, b"60004 BRANCH 59999\n");
@@ -29,11 +29,18 @@ pub fn no_target() {
 }
 
 // Refusal 11: an unknown cell, in the run.
-pub fn unknown_cells() {
+fn unknown_cells() {
     published(b"unknown_accumulator", 10, b"? 0\n");
     published(b"unknown_accumulator_and_entry", 10, b"? ?\n");
     larger(b"unknown_last_entry", 10, b"0 0 ?\n");
     larger(b"unknown_field", 12, b"0 ? 0\n");
     larger(b"unknown_last_field", 12, b"0 0 ?\n");
     larger_twice(b"unknown_cell_and_field", 10, b"#0 ? 0\n", 12, b"? 0 0\n");
+}
+
+// All of them.
+pub fn all() {
+    unpriced();
+    no_target();
+    unknown_cells();
 }

@@ -5,8 +5,8 @@ use crate::texts::published_lines;
 use crate::texts::section;
 use crate::texts::tell;
 
-// Lines and words.
-pub fn lines_and_words() {
+// Lines.
+fn lines() {
     tell(b"no_text", b"");
     tell(b"a_line_feed_alone", b"\n");
     tell(b"budget_line_alone", b"BUDGET TICK\n");
@@ -16,6 +16,10 @@ pub fn lines_and_words() {
     tell(b"empty_list_alone", b"-\n");
     published(b"empty_line_at_the_end", 18, b"4 STOP -\n\n");
     published(b"empty_line_between", 5, b"\n");
+}
+
+// Words.
+fn words() {
     published(b"leading_space", 2, b" 1000 1000\n");
     published(b"trailing_space", 9, b"ACCU S0 \n");
     published(b"double_space_in_names", 3, b"C_CALL1  STOP\n");
@@ -23,20 +27,28 @@ pub fn lines_and_words() {
     published(b"double_space_unknown_op", 16, b"2 CONST9  -\n");
     published(b"carriage_return", 2, b"1000 1000\r\n");
     published(b"tab_for_a_space", 18, b"4\tSTOP -\n");
+}
+
+// Lines that are missing.
+fn missing_lines() {
     published_lines(b"nothing_after_line_13", 14, 18, b"");
     published_lines(b"nothing_after_line_12", 13, 18, b"");
     published(b"nothing_after_answer", 18, b"4 STOP -\nANSWER\n");
     published(b"line_left_out", 11, b"");
 }
 
-// Fixed words, and lines with no value.
-pub fn fixed_words() {
+// The first two lines.
+fn first_lines() {
     published(b"small_letters_in_budget", 1, b"Budget TICK\n");
     published(b"tick_before_budget", 1, b"TICK BUDGET\n");
     published(b"zero_byte_in_budget_tick", 1, b"BUDGET TICK\x00\n");
     published(b"one_limit", 2, b"1000\n");
     published(b"three_limits", 2, b"1000 1000 1000\n");
     published(b"empty_limits", 2, b"-\n");
+}
+
+// AT OP ARG and ANSWER.
+fn header_and_answers() {
     published(b"code_header_wrong", 13, b"AT OP ARGS\n");
     published(b"code_header_byte_128", 13, b"AT OP \x80ARG\n");
     published(b"answer_misspelt", 18, b"4 STOP -\nANSWERS\n7\n");
@@ -54,14 +66,18 @@ pub fn fixed_words() {
     larger(b"empty_line_after_answers", 24, b"7\n\n");
     published(b"two_numbers_in_an_answer", 18, b"4 STOP -\nANSWER\n7 8\n");
     published(b"empty_list_of_answers", 18, b"4 STOP -\nANSWER\n-\n");
+}
+
+// Fewer or more values than names.
+fn counts() {
     published(b"no_cells", 9, b"-\n");
     published(b"no_values_of_cells", 10, b"-\n");
     published(b"four_cycles_for_five_kinds", 4, b"10 5 2 7\n");
     published(b"six_words_for_five_kinds", 5, b"0 0 0 0 0 0\n");
 }
 
-// Counts, and ARG.
-pub fn counts() {
+// Empty lists, and too long a list.
+fn empty_lists() {
     published(b"no_kinds_with_values", 3, b"-\n");
     published(b"kinds_with_no_cycles", 4, b"-\n");
     published(b"no_primitives_with_values", 6, b"-\n");
@@ -76,6 +92,10 @@ pub fn counts() {
             P24 P25 P26 P27 P28 P29 P30 P31 P32\n",
         33,
     );
+}
+
+// Code lines.
+fn code_lines() {
     published(b"code_line_of_two_words", 16, b"2 CONST2\n");
     published(b"code_line_of_four_words", 16, b"2 CONST2 - -\n");
     published(b"unknown_op_with_no_arg", 16, b"2 CONST9\n");
@@ -89,7 +109,7 @@ pub fn counts() {
 }
 
 // The spelling of a number.
-pub fn spelling() {
+fn spelling() {
     published(b"leading_zero_in_budget", 2, b"01000 1000\n");
     published(b"two_zeros", 5, b"0 0 00 0 0\n");
     published(b"minus_zero", 10, b"-0 ?\n");
@@ -99,12 +119,20 @@ pub fn spelling() {
     published(b"minus_and_leading_zero", 10, b"-01 ?\n");
     published(b"hexadecimal", 2, b"1000 0x3E8\n");
     published(b"letter_after_digits", 8, b"4w\n");
+}
+
+// What is no number.
+fn strange_numbers() {
     published(b"comma_in_a_number", 2, b"1,000 1000\n");
     published(b"byte_255_in_a_number", 7, b"4\xff0\n");
     published(b"zero_byte_in_a_number", 7, b"40\x00\n");
     published(b"unknown_price", 4, b"10 5 ? 7 1\n");
     published(b"handle_as_a_price", 4, b"10 5 #0 7 1\n");
     published(b"unknown_answer", 18, b"4 STOP -\nANSWER\n?\n");
+}
+
+// Handles, and an address.
+fn handles() {
     published(b"handle_alone", 10, b"# 0\n");
     published(b"handle_of_a_letter", 10, b"#x 0\n");
     published(b"handle_with_leading_zero", 10, b"#01 0\n");
@@ -112,4 +140,19 @@ pub fn spelling() {
     published(b"handle_of_unknown", 10, b"#? 0\n");
     published(b"two_question_marks", 10, b"?? 0\n");
     published(b"leading_zero_in_an_address", 15, b"01 BRANCHIF 4\n");
+}
+
+// All of them.
+pub fn all() {
+    lines();
+    words();
+    missing_lines();
+    first_lines();
+    header_and_answers();
+    counts();
+    empty_lists();
+    code_lines();
+    spelling();
+    strange_numbers();
+    handles();
 }

@@ -3,7 +3,7 @@ use crate::texts::longest;
 use crate::texts::stops;
 
 // Refusal 1: 32,768 bytes and more.
-pub fn bytes() {
+fn bytes() {
     longest(b"bytes_32768", 2, b"1000 1000\n");
     longest(b"bytes_32769", 2, b"10000 1000\n");
     longest(b"bytes_32769_and_misspelt", 2, b"01000 1000\n");
@@ -15,7 +15,7 @@ pub fn bytes() {
 }
 
 // The most code lines and answers, and one more.
-pub fn most_lines() {
+fn most_lines() {
     stops(b"code_lines_1024", 0, 1024, 0);
     stops(b"code_lines_1025", 0, 1025, 0);
     stops(b"code_lines_1024_and_an_answer", 0, 1024, 1);
@@ -24,4 +24,10 @@ pub fn most_lines() {
     stops(b"last_address_61023", 60000, 61024, 0);
     stops(b"answers_64", 0, 1, 64);
     stops(b"answers_65", 0, 1, 65);
+}
+
+// All of them.
+pub fn all() {
+    bytes();
+    most_lines();
 }

@@ -5,8 +5,8 @@ use crate::texts::published;
 use crate::texts::published_lines;
 use crate::texts::section;
 
-// Kinds and primitives.
-pub fn kinds_and_primitives() {
+// Kinds.
+fn kinds() {
     published(b"unknown_kind", 3, b"C_CALL1 BRANCHIF CONST4 EQ STOP\n");
     published(b"repeated_kind", 3, b"C_CALL1 BRANCHIF CONST2 STOP STOP\n");
     published(
@@ -29,6 +29,10 @@ pub fn kinds_and_primitives() {
             P Q R S T U V W X Y Z A B C D E F G H I\n",
         62,
     );
+}
+
+// Primitives.
+fn primitives() {
     published(b"primitive_of_nine", 6, b"READ56789\n");
     published(b"primitive_digit_first", 6, b"1READ\n");
     published(b"primitive_underscore_first", 6, b"_READ\n");
@@ -37,8 +41,8 @@ pub fn kinds_and_primitives() {
     published_lines(b"repeated_primitive", 6, 8, b"READ READ\n1 1\n1 1\n");
 }
 
-// Cells and fields.
-pub fn cells_and_fields() {
+// Cells.
+fn cells() {
     published(b"line_9_without_accu", 9, b"S0 S1\n");
     published(b"cell_left_out", 9, b"ACCU S1\n");
     published(b"cell_s00", 9, b"ACCU S00\n");
@@ -51,6 +55,10 @@ pub fn cells_and_fields() {
             S23 S24 S25 S26 S27 S28 S29 S30 S31 S32\n",
         34,
     );
+}
+
+// Fields.
+fn fields() {
     larger(b"field_left_out", 11, b"B0.0 B0.2 B1.0\n");
     larger(b"block_left_out", 11, b"B0.0 B0.1 B2.0\n");
     larger(b"block_1_first", 11, b"B1.0 B1.1 B1.2\n");
@@ -75,7 +83,7 @@ pub fn cells_and_fields() {
 }
 
 // Handles to absent blocks.
-pub fn handles() {
+fn handles() {
     published(b"handle_and_no_block", 10, b"#0 0\n");
     larger(b"absent_block_in_a_cell", 10, b"#2 7 0\n");
     larger(b"absent_block_in_a_field", 12, b"0 #0 #2\n");
@@ -93,8 +101,8 @@ pub fn handles() {
     );
 }
 
-// Unknown OPs, absent primitives, addresses that do not follow.
-pub fn code() {
+// Unknown OPs and absent primitives.
+fn code() {
     published(b"unknown_op", 16, b"2 CONST4 -\n");
     published(b"unknown_op_strange_arg", 16, b"2 CONST4 \x00\xff#?-0\n");
     published(b"byte_0_in_an_op", 16, b"2 CONST2\x00 -\n");
@@ -102,9 +110,24 @@ pub fn code() {
     published_lines(b"call_with_no_primitives", 6, 8, b"-\n-\n-\n");
     published(b"call_of_byte_128", 14, b"0 C_CALL1 \x80\n");
     published(b"call_of_a_number", 14, b"0 C_CALL1 7\n");
+}
+
+// Addresses that do not follow.
+fn addresses() {
     published(b"address_left_out", 18, b"5 STOP -\n");
     published(b"address_repeated", 15, b"0 BRANCHIF 4\n");
     larger(b"address_that_falls", 15, b"59999 ACC 63\n");
     larger(b"address_62000", 21, b"62000 STOP -\n");
     published(b"answer_as_an_op", 18, b"4 STOP -\n5 ANSWER -\n");
+}
+
+// All of them.
+pub fn all() {
+    kinds();
+    primitives();
+    cells();
+    fields();
+    handles();
+    code();
+    addresses();
 }

@@ -73,7 +73,7 @@ const LONGEST_HEAD: [u8; 249] = *b"BUDGET TICK
 PUSHCONSTINT
 1
 1
-PRIMIT00 PRIMIT01 PRIMIT02 PRIMIT03 PRIMIT04 PRIMIT05 PRIMIT06 PRIMIT07 PRIMIT08 PRIMIT09 PRIMIT10 PRIMIT11 PRIMIT12 PRIMIT13 AB
+READ_000 READ_001 READ_002 READ_003 READ_004 READ_005 READ_006 READ_007 READ_008 READ_009 READ_010 READ_011 READ_012 READ_013 AB
 0 0 0 0 0 0 0 0 0 0 0 0 0 0 0
 0 0 0 0 0 0 0 0 0 0 0 0 0 0 0
 ACCU
@@ -82,7 +82,8 @@ ACCU
 -
 AT OP ARG
 ";
-// Prints what the reader says.
+
+// Prints whether a text passes.
 fn show(checked: Checked) {
     let Checked::Refused(refusal) = checked else {
         io::write_all(1, b" PASSES");
@@ -106,8 +107,8 @@ pub fn tell(name: &[u8], text: &[u8]) {
     let said = bound.checked;
     show(said);
     let run = reader::read(Reader::Run, text);
-    let said = run.checked;
-    show(said);
+    let said_by_run = run.checked;
+    show(said_by_run);
     io::write_all(1, b"\n");
 }
 

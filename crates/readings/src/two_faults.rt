@@ -5,7 +5,7 @@ use crate::texts::published;
 use crate::texts::published_twice;
 
 // Row 2 decides, wherever its line is.
-pub fn layout_first() {
+fn layout_first() {
     published_twice(b"range_then_spelling", 2, b"0 1000\n", 18, b"04 STOP -\n");
     published_twice(
         b"spelling_then_range",
@@ -20,7 +20,7 @@ pub fn layout_first() {
 }
 
 // Row 3 decides, then row 4.
-pub fn range_and_name_next() {
+fn range_and_name_next() {
     published_twice(b"name_then_range", 6, b"read\n", 8, b"256\n");
     published_twice(b"name_and_its_price", 6, b"read\n", 7, b"65536\n");
     larger_twice(
@@ -54,7 +54,7 @@ pub fn range_and_name_next() {
 }
 
 // Row 5 decides, then row 6, then row 11.
-pub fn last_rows_in_order() {
+fn last_rows_in_order() {
     published_twice(
         b"target_then_price",
         15,
@@ -79,7 +79,7 @@ pub fn last_rows_in_order() {
 }
 
 // Two faults of one row: the earlier line decides.
-pub fn one_row() {
+fn one_row() {
     published_twice(b"two_misspelt", 8, b"04\n", 14, b"00 C_CALL1 READ\n");
     published_twice(b"wrong_word_and_missing_line", 13, b"AT\n", 18, b"ANSWER\n");
     published_twice(b"two_out_of_range", 8, b"256\n", 15, b"1 BRANCHIF 62001\n");
@@ -103,11 +103,20 @@ pub fn one_row() {
 }
 
 // Two faults in one line: the first row of the table decides.
-pub fn one_line() {
+fn one_line() {
     published(b"misspelt_and_out_of_range", 4, b"65536 05 2 7 1\n");
     published(b"out_of_range_and_unknown_op", 18, b"62001 CONST4 -\n");
     published(b"not_following_and_out_of_range", 18, b"5 POP 65\n");
     published(b"not_following_and_unpriced", 18, b"5 PUSH -\n");
     larger(b"unpriced_and_no_target", 18, b"60004 BRANCHIF 0\n");
     larger(b"unknown_and_absent", 10, b"? 7 #2\n");
+}
+
+// All of them.
+pub fn all() {
+    layout_first();
+    range_and_name_next();
+    last_rows_in_order();
+    one_row();
+    one_line();
 }
