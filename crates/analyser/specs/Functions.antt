@@ -28,10 +28,11 @@ routineIn x = record {
   answers = answers x;
 }
 
--- a report, if it is one, fits into n bytes
-abbrev pub Fits : Answer → ℕ → Type 0
-Fits (reported bs) n = length bs ≤ n
-Fits (refused r) n = Unit {0}
+-- a report, if it is one, can be printed into n bytes
+pub record Printable (a : Answer) (tick n : ℕ) : Type 0 where
+  pub positive : 1 ≤ tick
+  pub small : tick ≤ 4000000000
+  pub fits : (bs : List ℕ) → a ≡ reported bs → length bs ≤ n
 
 -- figures that the report's numbers hold
 pub record Modest (r : Found) : Type 0 where

@@ -70,3 +70,30 @@ ReportsFit =
 -- reading a decimal number that was written gives it back
 abbrev pub WrittenReadsBack : Type 0
 WrittenReadsBack = (n : ℕ) → numeral (decimal n) ≡ number (pos n)
+
+-- ---- the same as the public functions promise it, of a text and of n lent bytes
+
+-- the bytes bs are the report q of the routine x that the text holds
+pub record Reports (text bs : List ℕ) (x : Routine) (q : Report) : Type 0 where
+  pub reads : readBound text ≡ readings.routine x
+  pub accepts : bound (x .code) (x .budget) (x .start) ≡ accepted q
+  pub prints : bs ≡ boundText (x .tick) q
+
+-- demand 3: "starts from any memory that has the file's cells and no others, agrees with each known one and holds some number in each
+-- unknown one; it is fed any list of input answers and interrupted after any number of steps, 0 included"
+abbrev pub SafeReports : List ℕ → ℕ → Type 0
+SafeReports text n =
+    (bs : List ℕ) → boundAnswer text n ≡ reported bs →
+    (x : Routine) × (q : Report) × Reports text bs x q
+    × ((s : State) → Cellwise Allowed s (x .start) → (answers : List ℤ) (m : ℕ) → Safe (x .code) (bound (x .code) (x .budget)) q m (after (x .code) m (begin s answers)))
+
+-- demand 2
+abbrev pub ExactReports : List ℕ → ℕ → Type 0
+ExactReports text n =
+    (bs : List ℕ) → boundAnswer text n ≡ reported bs → (x : Routine) × (q : Report) × Reports text bs x q × Exact (x .code) openingLimit (x .start) q
+
+-- where the bound accepts the file with `?` for some cells, its run is within the figures
+abbrev pub RunsWithin : List ℕ → ℕ → Type 0
+RunsWithin text n =
+    (x y : Routine) (q : Report) → bound (x .code) (x .budget) (x .start) ≡ accepted q → FilledIn y x → readRun text ≡ readings.routine y → memoryLimit ≤ n →
+    (r : Report) × (run (y .code) (y .budget) (y .start) (y .answers) ≡ accepted r) × (runAnswer text n ≡ reported (runText r)) × NoGreater r q

@@ -1,5 +1,6 @@
 // The public functions on texts and lent memory. The meaning is in specs/.
 use findings::Found;
+use findings::Verdict;
 use reader::Routine;
 use refusals::Refusal;
 use rows::Checked;
@@ -13,7 +14,9 @@ ghost use Rattle.bounds.specs.Run.{run};
 ghost use Rattle.findings.specs.Found.{Shows};
 ghost use Rattle.runs.specs.Contract.{verdictOf};
 ghost use Rattle.reader.specs.Reader.{Limited};
-ghost use Rattle.analyser.specs.Functions.{answerOf, routineIn, Modest};
+ghost use Rattle.analyser.specs.Answers.{boundRoutine, runRoutine, boundAnswer, runAnswer, memory};
+ghost use Rattle.analyser.specs.Functions.{answerOf, routineIn, Modest, Printable};
+ghost use Rattle.analyser.specs.Promises.{SafeReports, ExactReports, RunsWithin};
 
 // The answer to a text: a report of so many bytes, or a refusal.
 pub enum Answer {
@@ -50,4 +53,128 @@ fn explored(x: Routine) -> Found
         32,
         x.budget,
     )
+}
+
+// The routine's run.
+fn ran(x: Routine) -> Ran
+    requires { ⌜ Limited x ⌝ }
+    ensures { λ r. ⌜ verdictOf r ≡ run (routineIn x .code) (routineIn x .budget) (routineIn x .start) (routineIn x .answers) ⌝ }
+{
+    let columns = x.columns;
+    let codes = columns.codes;
+    let operands = columns.operands;
+    let cycles = columns.cycles;
+    let words = columns.words;
+    let sizes = x.sizes;
+    let fields = x.fields;
+    let start = x.start;
+    let answers = x.answers;
+    let values = answers.values;
+    let given = answers.count;
+    let count = x.count;
+    let blocks = x.blocks;
+    runs::run(
+        &codes[..count],
+        &operands[..count],
+        &cycles[..count],
+        &words[..count],
+        &sizes[..blocks],
+        x.first,
+        start,
+        fields,
+        &values[..given],
+        x.budget,
+    )
+}
+
+// The answer of the bound to a routine.
+fn bound_routine(x: Routine, out: &mut [u8]) -> Answer
+    requires { ⌜ Limited x ⌝ }
+    requires { ⌜ Printable (boundRoutine (routineIn x)) (x .tick) (length (now out)) ⌝ }
+    ensures { λ r. ⌜ r ≡ answerOf (boundRoutine (routineIn x)) ⌝ }
+    ensures { λ _. ⌜ now (out .exit) ≡ memory (boundRoutine (routineIn x)) (now (out .entry)) ⌝ }
+{
+    let tick = x.tick;
+    let found = explored(x);
+    let steps = found.used as u64;
+    let verdict = found.verdict;
+    match verdict {
+        Verdict::Accepted => {
+            let n = report::put_bound(
+                out,
+                tick,
+                found.cycles,
+                found.words,
+                found.depth,
+                steps,
+                found.path,
+            );
+            Answer::Reported(n)
+        }
+        Verdict::Stuck(a) => Answer::Refused(Refusal::Stuck(a)),
+        Verdict::Openings(a) => Answer::Refused(Refusal::Openings(a)),
+        Verdict::Spent(a) => Answer::Refused(Refusal::Spent(a)),
+    }
+}
+
+// The answer of the run to a routine.
+fn run_routine(x: Routine, out: &mut [u8]) -> Answer
+    requires { ⌜ Limited x ⌝ }
+    requires { ⌜ Printable (runRoutine (routineIn x)) (x .tick) (length (now out)) ⌝ }
+    ensures { λ r. ⌜ r ≡ answerOf (runRoutine (routineIn x)) ⌝ }
+    ensures { λ _. ⌜ now (out .exit) ≡ memory (runRoutine (routineIn x)) (now (out .entry)) ⌝ }
+{
+    let ran = ran(x);
+    let steps = ran.steps as u64;
+    let depth = ran.depth as u64;
+    let verdict = ran.verdict;
+    match verdict {
+        runs::Verdict::Stopped => {
+            let n = report::put_run(out, ran.cycles, ran.words, depth, steps);
+            Answer::Reported(n)
+        }
+        runs::Verdict::Stuck(a) => Answer::Refused(Refusal::Stuck(a)),
+        runs::Verdict::Spent(a) => Answer::Refused(Refusal::Spent(a)),
+    }
+}
+
+// The bound of a routine file: the report in the lent memory, or a refusal.
+pub fn bound(text: &[u8], out: &mut [u8]) -> Answer
+    ensures { λ r. ⌜ r ≡ answerOf (boundAnswer (now (text .entry)) (length (now (out .entry)))) ⌝ }
+    ensures { λ _. ⌜ now (out .exit) ≡ memory (boundAnswer (now (text .entry)) (length (now (out .entry)))) (now (out .entry)) ⌝ }
+    ensures safe { λ _. ⌜ SafeReports (now (text .entry)) (length (now (out .entry))) ⌝ }
+    ensures exact { λ _. ⌜ ExactReports (now (text .entry)) (length (now (out .entry))) ⌝ }
+{
+    if out.len() < 128 {
+        return Answer::Refused(Refusal::ReportMemory);
+    }
+    let reading = reader::read(Reader::Bound, text);
+    let checked = reading.checked;
+    match checked {
+        Checked::Passes => {
+            let x = reading.routine;
+            bound_routine(x, out)
+        }
+        Checked::Refused(r) => Answer::Refused(r),
+    }
+}
+
+// The run of a routine file: the report in the lent memory, or a refusal.
+pub fn run(text: &[u8], out: &mut [u8]) -> Answer
+    ensures { λ r. ⌜ r ≡ answerOf (runAnswer (now (text .entry)) (length (now (out .entry)))) ⌝ }
+    ensures { λ _. ⌜ now (out .exit) ≡ memory (runAnswer (now (text .entry)) (length (now (out .entry)))) (now (out .entry)) ⌝ }
+    ensures within { λ _. ⌜ RunsWithin (now (text .entry)) (length (now (out .entry))) ⌝ }
+{
+    if out.len() < 128 {
+        return Answer::Refused(Refusal::ReportMemory);
+    }
+    let reading = reader::read(Reader::Run, text);
+    let checked = reading.checked;
+    match checked {
+        Checked::Passes => {
+            let x = reading.routine;
+            run_routine(x, out)
+        }
+        Checked::Refused(r) => Answer::Refused(r),
+    }
 }

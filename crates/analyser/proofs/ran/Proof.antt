@@ -1,0 +1,81 @@
+use borrow.Author.Needs.{needs}
+use Rattle.analyser.proofs.ran.Statement.{statement}
+use Rattle.analyser.proofs.ran.Tie as tie
+use Rattle.analyser.proofs.ran.Reads as reads
+use Rattle.analyser.proofs.ran.Lts as lts
+use Rattle.runs.proofs.run.Reads as run-reads
+
+-- src/lib.rt:77:9
+array-share-prefix-codes : tie.Need-array-share-prefix-codes
+array-share-prefix-codes c = search needs
+
+-- src/lib.rt:77:9
+slice-aggregate-run : tie.Need-slice-aggregate-run
+slice-aggregate-run c = ?
+
+-- src/lib.rt:78:9
+array-share-prefix-operands : tie.Need-array-share-prefix-operands
+array-share-prefix-operands c = search needs
+
+-- src/lib.rt:78:9
+slice-aggregate-run-2 : tie.Need-slice-aggregate-run-2
+slice-aggregate-run-2 c = ?
+
+-- src/lib.rt:79:9
+array-share-prefix-cycles : tie.Need-array-share-prefix-cycles
+array-share-prefix-cycles c = search needs
+
+-- src/lib.rt:79:9
+slice-aggregate-run-3 : tie.Need-slice-aggregate-run-3
+slice-aggregate-run-3 c = ?
+
+-- src/lib.rt:80:9
+array-share-prefix-words : tie.Need-array-share-prefix-words
+array-share-prefix-words c = search needs
+
+-- src/lib.rt:80:9
+slice-aggregate-run-4 : tie.Need-slice-aggregate-run-4
+slice-aggregate-run-4 c = ?
+
+-- src/lib.rt:81:9
+array-share-prefix-sizes : tie.Need-array-share-prefix-sizes
+array-share-prefix-sizes c = ?
+
+-- src/lib.rt:81:9
+slice-aggregate-run-5 : tie.Need-slice-aggregate-run-5
+slice-aggregate-run-5 c = ?
+
+-- src/lib.rt:85:9
+array-share-prefix-values : tie.Need-array-share-prefix-values
+array-share-prefix-values c = ?
+
+-- src/lib.rt:85:9
+slice-aggregate-run-6 : tie.Need-slice-aggregate-run-6
+slice-aggregate-run-6 c = ?
+
+-- src/lib.rt:76:5
+run-requires : tie.Need-run-requires
+run-requires c κs = search needs
+
+-- src/lib.rt:59:1
+returns : tie.Need-returns
+returns c = search needs
+
+pub ran-spec : {M : Type 1} → statement M
+ran-spec =
+    tie.close
+    (tie.spec
+    array-share-prefix-codes
+    slice-aggregate-run
+    array-share-prefix-operands
+    slice-aggregate-run-2
+    array-share-prefix-cycles
+    slice-aggregate-run-3
+    array-share-prefix-words
+    slice-aggregate-run-4
+    array-share-prefix-sizes
+    slice-aggregate-run-5
+    array-share-prefix-values
+    slice-aggregate-run-6
+    run-requires
+    returns)

@@ -1,0 +1,57 @@
+use borrow.Author.Needs.{needs}
+use Rattle.analyser.proofs.run_routine.Statement.{statement}
+use Rattle.analyser.proofs.run_routine.Tie as tie
+use Rattle.analyser.proofs.run_routine.Reads as reads
+use Rattle.analyser.proofs.run_routine.Lts as lts
+use Rattle.analyser.proofs.ran.Reads as ran-reads
+use Rattle.report.proofs.put_run.Reads as put-run-reads
+
+-- src/lib.rt:127:9
+ran-requires : tie.Need-ran-requires
+ran-requires c κs = search needs
+
+-- src/lib.rt:133:37
+enum-told : tie.Need-enum-told
+enum-told c = search needs
+
+-- src/lib.rt:133:17
+put-run-requires : tie.Need-put-run-requires
+put-run-requires c κs = ?
+
+-- src/lib.rt:136:30
+enum-known-verdict : tie.Need-enum-known-verdict
+enum-known-verdict c = search needs
+
+-- src/lib.rt:137:30
+enum-known-verdict-2 : tie.Need-enum-known-verdict-2
+enum-known-verdict-2 c = search needs
+
+-- src/lib.rt:121:1
+same-length : tie.Need-same-length
+same-length c = search needs
+
+-- src/lib.rt:121:1
+returns : tie.Need-returns
+returns c = ?
+
+-- src/lib.rt:121:1
+returns-2 : tie.Need-returns-2
+returns-2 c = ?
+
+-- src/lib.rt:121:1
+returns-3 : tie.Need-returns-3
+returns-3 c = ?
+
+pub run-routine-spec : {M : Type 1} → statement M
+run-routine-spec =
+    tie.close
+    (tie.spec
+    ran-requires
+    enum-told
+    put-run-requires
+    enum-known-verdict
+    enum-known-verdict-2
+    same-length
+    returns
+    returns-2
+    returns-3)
