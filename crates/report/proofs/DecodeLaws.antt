@@ -6,9 +6,9 @@ use mathlib.Core.List.{List, [], _∷_}
 use native.Mathlib.Omega.{arith}
 use lib.Dec.{ltb}
 use borrow.Author.Tests.{lt-ltb, le-ltb, ltb-false}
-use Rattle.bounds.specs.Tree.{Decision, N, T}
+use Rattle.bounds.specs.Tree.{Report, Decision, N, T}
 use Rattle.findings.specs.Found.{encode}
-use Rattle.report.specs.Decode.{decision, decisions, decode}
+use Rattle.report.specs.Decode.{decision, decisions, decode, reportOf}
 
 -- more fuel changes nothing
 decisions-fuel : (f g n : ℕ) → n ≤ f → n ≤ g → decisions f n ≡ decisions g n
@@ -63,3 +63,15 @@ decode-encode (N ∷ ds) =
     ap decode (omega arith) ∙ decode-bit 0 (encode ds) (encode-positive ds) (omega arith) ∙ ap (λ x. N ∷ x) (decode-encode ds)
 decode-encode (T ∷ ds) =
     decode-bit 1 (encode ds) (encode-positive ds) (omega arith) ∙ ap (λ x. T ∷ x) (decode-encode ds)
+
+-- the figures of a report stand for it
+pub report-of : (q : Report) → reportOf (q .cycles) (q .words) (q .depth) (q .steps) (encode (q .path)) ≡ q
+unfolding reportOf
+report-of q =
+    ap (λ (ds : List Decision). record { cycles = q .cycles; words = q .words; depth = q .depth; steps = q .steps; path = ds }) (decode-encode (q .path))
+
+-- the path of a run's report is empty
+pub report-of-run : (cycles words depth steps : ℕ) → reportOf cycles words depth steps 1 ≡ record { cycles = cycles; words = words; depth = depth; steps = steps; path = [] }
+unfolding reportOf
+report-of-run cycles words depth steps =
+    ap (λ (ds : List Decision). record { cycles = cycles; words = words; depth = depth; steps = steps; path = ds }) (decode-none 1 (omega arith))

@@ -6,6 +6,7 @@ use Rattle.refusals.specs.declared.Refusal.the-variants.{Spent}
 use Rattle.text.specs.Text.{bytes}
 use Rattle.text.specs.Decimal.{digits, decimal}
 use Rattle.report.specs.Report.{share, pathText, figures, runText, refusalLine, refusalText}
+use Rattle.report.specs.Decode.{decisions, decode}
 
 pub examples :
     -- "a half going up": 65 cycles of 2000 are 32.5 thousandths
@@ -13,7 +14,9 @@ pub examples :
     × (share 2000 64 ≡ 32)
     × (share 3 1 ≡ 333)
     × (pathText [] ≡ bytes "-")
+    × (pathText (decode 1) ≡ bytes "-")
+    × (pathText (decode 6) ≡ bytes "NT")
     × (refusalText (Spent 4102) ≡ bytes "REFUSED 9 4102\n")
     × (runText (record { cycles = 56; words = 4; depth = 1; steps = 3; path = [] }) ≡ bytes "CYCLES WORDS DEPTH STEPS\n56 4 1 3\n")
-unfolding share pathText figures runText refusalLine refusalText digits decimal number place
-examples = (refl, refl, refl, refl, refl, refl)
+unfolding share decisions decode pathText figures runText refusalLine refusalText digits decimal number place
+examples = (refl, refl, refl, refl, refl, refl, refl, refl)
