@@ -1,5 +1,5 @@
 -- Where the lines of the layout stand, and what a line lists. Assumes nothing.
-use Prim.Native.Nat.{ℕ, suc, _<_}
+use Prim.Native.Nat.{ℕ, suc, _<_, _≤_}
 use mathlib.Core.Path.{_≡_, refl}
 use mathlib.Core.Bool.{Bool, true, false, cond}
 use mathlib.Core.List.{List, [], _∷_}
@@ -10,7 +10,7 @@ use Rattle.text.specs.Text.{bytes, equals, words, Line, noLine}
 use Rattle.routine.specs.declared.Role.{Role}
 use Rattle.routine.specs.Layout.{list, tag, textAt}
 
--- the place of the first role with the tag of r, counted from 0
+-- the place of the first role with the tag of r, counted from 0; the number of roles where none has it
 abbrev pub placeOf : Role → List Role → ℕ
 placeOf r [] = 0
 placeOf r (x ∷ xs) = cond (eqb (tag r) (tag x)) 0 (suc (placeOf r xs))
@@ -27,16 +27,16 @@ text-at r (x ∷ xs) (l ∷ ls) h = go (eqb (tag r) (tag x)) h (text-at r xs ls)
     go true k ih = refl
     go false k ih = ih (omega arith)
 
--- a role whose tag none of them has, has no line
-abbrev pub Lacks : Role → List Role → Type 0
-Lacks r [] = Unit {0}
-Lacks r (x ∷ xs) = (eqb (tag r) (tag x) ≡ false) × Lacks r xs
-
-pub text-lacks : (r : Role) (rs : List Role) → Lacks r rs → (ls : List Line) → textAt r rs ls ≡ []
+-- a role that has no place has no line
+pub text-none : (r : Role) (rs : List Role) (ls : List Line) → length rs ≤ placeOf r rs → textAt r rs ls ≡ []
 unfolding textAt
-text-lacks r [] s ls = refl
-text-lacks r (x ∷ xs) s [] = refl
-text-lacks r (x ∷ xs) s (l ∷ ls) = rw (s .0) (text-lacks r xs (s .1) ls)
+text-none r [] ls h = refl
+text-none r (x ∷ xs) [] h = refl
+text-none r (x ∷ xs) (l ∷ ls) h = go (eqb (tag r) (tag x)) h (text-none r xs ls)
+  where
+    go : (b : Bool) → suc (length xs) ≤ cond b 0 (suc (placeOf r xs)) → (length xs ≤ placeOf r xs → textAt r xs ls ≡ []) → cond b (l .text) (textAt r xs ls) ≡ []
+    go true k ih = absurd (omega arith)
+    go false k ih = ih (omega arith)
 
 -- a line that lists nothing, and one that lists its words
 

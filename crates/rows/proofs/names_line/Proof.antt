@@ -1,7 +1,7 @@
 use native.Mathlib.Omega.{arith}
 use Rattle.routine.specs.declared.Section.the-variants.{Limits, Kinds, Primitives, Cells, Fields, Instructions, Answers}
-use Rattle.routine.proofs.LayoutLaws.{text-at, text-lacks}
-use mathlib.Core.Path.{refl, sym, _∙_}
+use Rattle.routine.proofs.LayoutLaws.{text-at, text-none}
+use mathlib.Core.Path.{sym, _∙_}
 use Rattle.routine.specs.declared.Role.the-variants.{Names}
 use Rattle.routine.specs.Layout.{layout, textAt}
 use Rattle.text.specs.Text.{lines}
@@ -96,7 +96,7 @@ returns-6 c = arm (λ o. textAt (Names o) layout (lines (now (c .before .before 
 
 -- src/lib.rt:60:1
 returns-7 : tie.Need-returns-7
-returns-7 c = arm (λ o. textAt (Names o) layout (lines (now (c .before .before .before .before .args .text)))) (c .before .enum-told7 .given .1) (sym (text-lacks (Names Answers) layout (refl, (refl, (refl, (refl, (refl, (refl, (refl, (refl, (refl, (refl, (refl, (refl, (refl, tt))))))))))))) _))
+returns-7 c = arm (λ o. textAt (Names o) layout (lines (now (c .before .before .before .before .args .text)))) (c .before .enum-told7 .given .1) (sym (text-none (Names Answers) layout _ (omega arith)))
 
 pub names-line-spec : {M : Type 1} → statement M
 names-line-spec =
