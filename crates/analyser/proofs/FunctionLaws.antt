@@ -1,22 +1,44 @@
--- The routine that the code's arrays hold is bounded and run as the definitions say. Assumes nothing.
+-- The routine that the code's arrays hold is bounded and run as the definitions say, and so is a text. Assumes nothing.
 use Prim.Native.Nat.{ℕ, _+_, _*_, _^_, _≤_, _<_}
 use mathlib.Core.Path.{_≡_, refl, sym, ap, _∙_, subst}
-use mathlib.Core.List.{List}
+use mathlib.Core.List.{List, _++_}
+use mathlib.Core.Option.{Option, some}
 use native.Mathlib.Omega.{arith}
-use lib.ListN.{length, take}
+use lib.ListN.{length, take, drop}
+use borrow.Author.Tests.{lt-ltb, le-ltb}
+use Rattle.refusals.specs.declared.Refusal.{Refusal}
+use Rattle.refusals.specs.declared.Refusal.the-variants.{ReportMemory}
+use Rattle.refusals.specs.declared.Refusal.the-variants as refusals
 use Rattle.cells.specs.Cells.{unknown}
 use Rattle.machine.specs.Machine.{jump, store, step}
-use Rattle.states.specs.Columns.{codeOf, Sized}
 use Rattle.states.specs.View.{whole}
-use Rattle.bounds.specs.Tree.{bound, explore, openingLimit}
+use Rattle.bounds.specs.Tree.{Report, accepted, refused, bound, explore}
+use Rattle.bounds.specs.Tree as bounds
 use Rattle.findings.specs.declared.Found.{Found}
-use Rattle.findings.specs.Found.{Shows}
+use Rattle.findings.specs.declared.Verdict.the-variants.{Accepted}
+use Rattle.findings.specs.Found.{Shows, acceptedAs, refusalOf}
+use Rattle.runs.specs.declared.Ran.{Ran}
+use Rattle.runs.specs.declared.Verdict.the-variants.{Stopped, Stuck, Spent}
+use Rattle.runs.specs.Contract.{judged, verdictOf}
 use Rattle.explore.specs.Contract.{Ready, Explores}
 use Rattle.explore.specs.Contract as contract
+use Rattle.routine.specs.Routine.{readBound, readRun}
+use Rattle.routine.specs.Routine as readings
+use Rattle.routine.proofs.RowLaws.{read-passes, run-passes}
+use Rattle.routine.proofs.RangeLaws.{tick-positive, tick-small}
+use Rattle.rows.specs.declared.Checked.the-variants as checks
 use Rattle.reader.specs.declared.Routine.{Routine}
-use Rattle.reader.specs.Reader.{codes, operands, cycles, words, sizes, Limited}
-use Rattle.reader.proofs.ReaderLaws.{taken}
-use Rattle.analyser.specs.Functions.{routineIn, Modest}
+use Rattle.reader.specs.declared.Reading.{Reading}
+use Rattle.reader.specs.Reader.{codes, sizes, Holds, Limited}
+use Rattle.reader.specs.Reader as reader
+use Rattle.report.specs.Decode.{reportOf}
+use Rattle.report.proofs.DecodeLaws.{report-of, report-of-run}
+use Rattle.analyser.specs.Answers.{Answer, reported, ofVerdict, ofReading, boundRoutine, runRoutine, boundAnswer, runAnswer, memory}
+use Rattle.analyser.specs.Answers as answers
+use Rattle.analyser.specs.declared.Answer.the-variants.{Reported, Refused}
+use Rattle.analyser.specs.Functions.{answerOf, routineIn, Printable, Modest}
+use Rattle.analyser.specs.Promises.{SafeReports, ExactReports, RunsWithin}
+use Rattle.analyser.proofs.AnswerLaws.{reports-kept, reports-fit, filled-in-runs}
 
 module _ (x : Routine) (l : Limited x) where
   -- a routine starts at its first address
@@ -44,3 +66,139 @@ module _ (x : Routine) (l : Limited x) where
     cycles = let a = m .cycles in let b = m .used in let d = l .budget in omega arith;
     path = m .path;
   }
+
+-- ---- what the explorer's answer gives
+
+none-not : {A : Type 0} (x : Refusal) → Option.none ≡ some x → A
+none-not x e = let z : _≡_ {A = ℕ} 0 1 = cc in absurd (omega arith)
+
+same-some : (x y : Refusal) → some x ≡ some y → x ≡ y
+same-some x y e = cc
+
+module _ (text : Report → List ℕ) (r : Found) where
+  found-accepted : (v : bounds.Verdict) → Shows r v → refusalOf (r .verdict) ≡ Option.none → (q : Report) × (v ≡ accepted q) × (r ≡ acceptedAs q)
+  found-accepted (accepted q) s e = (q, refl, s)
+  found-accepted (refused x) s e = none-not x (sym e ∙ s)
+
+  pub found-reported : (v : bounds.Verdict) → Shows r v → r .verdict ≡ Accepted
+      → ofVerdict text v ≡ reported (text (reportOf (r .cycles) (r .words) (r .depth) (r .used) (r .path)))
+  unfolding ofVerdict refusalOf acceptedAs
+  found-reported v s e =
+      let (q, a, b) = found-accepted v s (ap refusalOf e) in
+      let p : reportOf (r .cycles) (r .words) (r .depth) (r .used) (r .path) ≡ q = ap (λ f. reportOf (f .cycles) (f .words) (f .depth) (f .used) (f .path)) b ∙ report-of q in
+      ap (ofVerdict text) a ∙ ap (λ z. reported (text z)) (sym p)
+
+  accepted-refusal : (q : Report) → r ≡ acceptedAs q → refusalOf (r .verdict) ≡ Option.none
+  unfolding acceptedAs refusalOf
+  accepted-refusal q e = ap (λ f. refusalOf (f .verdict)) e
+
+  pub found-refused : (v : bounds.Verdict) → Shows r v → (x : Refusal) → refusalOf (r .verdict) ≡ some x → ofVerdict text v ≡ answers.refused x
+  unfolding ofVerdict
+  found-refused (accepted q) s x e = none-not x (sym (accepted-refusal q s) ∙ e)
+  found-refused (refused y) s x e = ap answers.refused (same-some y x (sym s ∙ e))
+
+-- ---- what the run's answer gives
+
+module _ (text : Report → List ℕ) (r : Ran) (v : bounds.Verdict) (e : verdictOf r ≡ v) where
+  pub ran-reported : r .verdict ≡ Stopped → ofVerdict text v ≡ reported (text (reportOf (r .cycles) (r .words) (r .depth) (r .steps) 1))
+  unfolding verdictOf judged ofVerdict
+  ran-reported s =
+      ap (ofVerdict text) (sym e) ∙ ap (λ d. ofVerdict text (judged d r)) s ∙ ap (λ z. reported (text z)) (sym (report-of-run (r .cycles) (r .words) (r .depth) (r .steps)))
+
+  pub ran-stuck : (a : ℕ) → r .verdict ≡ Stuck a → ofVerdict text v ≡ answers.refused (refusals.Stuck a)
+  unfolding verdictOf judged ofVerdict
+  ran-stuck a s = ap (ofVerdict text) (sym e) ∙ ap (λ d. ofVerdict text (judged d r)) s
+
+  pub ran-spent : (a : ℕ) → r .verdict ≡ Spent a → ofVerdict text v ≡ answers.refused (refusals.Spent a)
+  unfolding verdictOf judged ofVerdict
+  ran-spent a s = ap (ofVerdict text) (sym e) ∙ ap (λ d. ofVerdict text (judged d r)) s
+
+-- ---- the answer and the memory
+
+pub gives-report : (a : Answer) (bs : List ℕ) → a ≡ reported bs → (n : ℕ) → n ≡ length bs → (former out : List ℕ) → out ≡ bs ++ drop (length bs) former
+    → (Reported n ≡ answerOf a) × (out ≡ memory a former)
+unfolding answerOf memory
+gives-report a bs e n h former out m = (rw (e, h) refl, rw e m)
+
+pub gives-refusal : (a : Answer) (x : Refusal) → a ≡ answers.refused x → (former : List ℕ) → (Refused x ≡ answerOf a) × (former ≡ memory a former)
+unfolding answerOf memory
+gives-refusal a x e former = (rw e refl, rw e refl)
+
+-- ---- a text
+
+passes-not : {A : Type 0} (x : Refusal) → checks.Passes ≡ checks.Refused x → A
+passes-not x e = let z : _≡_ {A = ℕ} 0 1 = cc in absurd (omega arith)
+
+same-checked : (x y : Refusal) → checks.Refused x ≡ checks.Refused y → x ≡ y
+same-checked x y e = cc
+
+-- the routine that is held is the routine
+holds-is : (x : readings.Routine) (r : Routine) → Holds x r → routineIn r ≡ x
+holds-is x r h = λ i. record { budget = h .budget i; tick = h .tick i; code = h .code i; start = h .start i; answers = h .answered i }
+
+module _ (r : Reading) where
+  pub reading-refused : (m : readings.Reading) → reader.Shows r m → (x : Refusal) → r .checked ≡ checks.Refused x → m ≡ readings.refused x
+  reading-refused (readings.refused y) s x e = ap readings.refused (same-checked y x (sym (s .0) ∙ e))
+  reading-refused (readings.routine y) s x e = passes-not x (sym (s .0) ∙ e)
+
+  pub reading-limited : (m : readings.Reading) → reader.Shows r m → r .checked ≡ checks.Passes → Limited (r .routine)
+  reading-limited (readings.refused y) s e = passes-not y (sym e ∙ s .0)
+  reading-limited (readings.routine y) s e = s .2
+
+  pub reading-routine : (m : readings.Reading) → reader.Shows r m → r .checked ≡ checks.Passes → m ≡ readings.routine (routineIn (r .routine))
+  reading-routine (readings.refused y) s e = passes-not y (sym e ∙ s .0)
+  reading-routine (readings.routine y) s e = ap readings.routine (sym (holds-is y (r .routine) (s .1)))
+
+module _ (text : List ℕ) (n : ℕ) where
+  -- too little memory
+  pub bound-short : n < 128 → boundAnswer text n ≡ answers.refused ReportMemory
+  unfolding boundAnswer
+  bound-short h = rw (lt-ltb n 128 h) refl
+
+  pub run-short : n < 128 → runAnswer text n ≡ answers.refused ReportMemory
+  unfolding runAnswer
+  run-short h = rw (lt-ltb n 128 h) refl
+
+  -- a text that is refused, and one that is not
+
+  pub bound-refused : 128 ≤ n → (x : Refusal) → readBound text ≡ readings.refused x → boundAnswer text n ≡ answers.refused x
+  unfolding boundAnswer ofReading
+  bound-refused h x e = rw (le-ltb n 128 h, e) refl
+
+  pub run-refused : 128 ≤ n → (x : Refusal) → readRun text ≡ readings.refused x → runAnswer text n ≡ answers.refused x
+  unfolding runAnswer ofReading
+  run-refused h x e = rw (le-ltb n 128 h, e) refl
+
+  pub bound-passed : 128 ≤ n → (x : readings.Routine) → readBound text ≡ readings.routine x → boundAnswer text n ≡ boundRoutine x
+  unfolding boundAnswer ofReading
+  bound-passed h x e = rw (le-ltb n 128 h, e) refl
+
+  pub run-passed : 128 ≤ n → (x : readings.Routine) → readRun text ≡ readings.routine x → runAnswer text n ≡ runRoutine x
+  unfolding runAnswer ofReading
+  run-passed h x e = rw (le-ltb n 128 h, e) refl
+
+  pub bound-printable : 128 ≤ n → (x : readings.Routine) → readBound text ≡ readings.routine x → Printable (boundRoutine x) (x .tick) n
+  bound-printable h x e =
+      let p = read-passes text x e in record {
+        positive = rw (p .1) (tick-positive (p .0));
+        small = rw (p .1) (tick-small (p .0));
+        fits = λ bs q. let k = reports-fit .0 text n bs (bound-passed h x e ∙ q) in omega (arith, k .0, k .1);
+      }
+
+  pub run-printable : 128 ≤ n → (x : readings.Routine) → readRun text ≡ readings.routine x → Printable (runRoutine x) (x .tick) n
+  run-printable h x e =
+      let p = run-passes text x e in record {
+        positive = rw (p .2) (tick-positive (p .0));
+        small = rw (p .2) (tick-small (p .0));
+        fits = λ bs q. let k = reports-fit .1 text n bs (run-passed h x e ∙ q) in omega (arith, k .0, k .1);
+      }
+
+  -- the promises
+  pub safe-reports : SafeReports text n
+  safe-reports bs e = let k = reports-kept text n bs e in (k .routine, k .report, record { reads = k .reads; accepts = k .accepts; prints = k .prints }, k .safe)
+
+  pub exact-reports : ExactReports text n
+  exact-reports bs e = let k = reports-kept text n bs e in (k .routine, k .report, record { reads = k .reads; accepts = k .accepts; prints = k .prints }, k .exact)
+
+  pub runs-within : RunsWithin text n
+  runs-within x y q a h e l = filled-in-runs x y q a h text n e l
