@@ -1,19 +1,9 @@
-// Runs the reader over a table of texts, valid and damaged, and prints what it says of each: for the bound, then for the run.
-mod accepted;
-mod last_rows;
-mod layout;
-mod lengths;
-mod naming;
-mod ranges;
+// Runs the reader over the texts in standard input, valid and damaged, and prints what it says of each: for the bound, then for the run.
+// A case in standard input is a line `NAME LENGTH`, then LENGTH bytes of text and a line feed.
 mod texts;
-mod two_faults;
 
 fn main() {
-    accepted::all();
-    lengths::all();
-    layout::all();
-    ranges::all();
-    naming::all();
-    last_rows::all();
-    two_faults::all();
+    let mut input = [0u8; 524288];
+    let n = io::read_full(0, &mut input);
+    texts::tell_all(&input[..n]);
 }
