@@ -63,6 +63,7 @@ pub record Limited (r : Routine) : Type 0 where
   pub present : r .blocks ≤ 8
   pub fits : Fits (sizes r) (r .fields)
   pub answered : r .answers .count ≤ 64
+  pub places : length (r .answers .values) ≡ 64
 
 -- the routine beside a refusal
 abbrev pub blank : Routine

@@ -1,3 +1,8 @@
+use mathlib.Core.Path.{ap}
+use Rattle.analyser.specs.Answers.{boundRoutine}
+use Rattle.findings.specs.Found.{refusalOf}
+use Rattle.report.specs.Report.{boundText}
+use Rattle.analyser.proofs.FunctionLaws.{found-reported, found-refused, gives-report, gives-refusal}
 use borrow.Author.Needs.{needs}
 use Rattle.analyser.proofs.bound_routine.Statement.{statement}
 use Rattle.analyser.proofs.bound_routine.Tie as tie
@@ -16,7 +21,8 @@ enum-told c = search needs
 
 -- src/lib.rt:103:17
 put-bound-requires : tie.Need-put-bound-requires
-put-bound-requires c κs = ?
+unfolding boundRoutine
+put-bound-requires c κs = let p = c .before .before .before .before .before .pre .1 in ((p .positive, p .small, c .before .before .before .explored .ensures .1 .cycles), p .fits _ (found-reported (boundText (c .before .before .before .before .before .args .x .tick)) _ _ (c .before .before .before .explored .ensures .0) (c .before .enum-told .given .1)))
 
 -- src/lib.rt:114:24
 enum-known-verdict : tie.Need-enum-known-verdict
@@ -36,19 +42,23 @@ same-length c = search needs
 
 -- src/lib.rt:91:1
 returns : tie.Need-returns
-returns c = ?
+unfolding boundRoutine
+returns c = gives-report _ _ (found-reported (boundText (c .before .before .before .before .before .before .before .before .args .x .tick)) _ _ (c .before .before .before .before .before .before .explored .ensures .0) (c .before .before .before .before .enum-told .given .1)) _ (c .before .before .put-bound .ensures .0) _ _ (c .before .before .put-bound .ensures .1)
 
 -- src/lib.rt:91:1
 returns-2 : tie.Need-returns-2
-returns-2 c = ?
+unfolding boundRoutine refusalOf
+returns-2 c = gives-refusal _ _ (found-refused (boundText (c .before .before .before .before .before .args .x .tick)) _ _ (c .before .before .before .explored .ensures .0) _ (ap refusalOf (c .before .verdict .given .1))) _
 
 -- src/lib.rt:91:1
 returns-3 : tie.Need-returns-3
-returns-3 c = ?
+unfolding boundRoutine refusalOf
+returns-3 c = gives-refusal _ _ (found-refused (boundText (c .before .before .before .before .before .args .x .tick)) _ _ (c .before .before .before .explored .ensures .0) _ (ap refusalOf (c .before .verdict2 .given .1))) _
 
 -- src/lib.rt:91:1
 returns-4 : tie.Need-returns-4
-returns-4 c = ?
+unfolding boundRoutine refusalOf
+returns-4 c = gives-refusal _ _ (found-refused (boundText (c .before .before .before .before .before .args .x .tick)) _ _ (c .before .before .before .explored .ensures .0) _ (ap refusalOf (c .before .verdict3 .given .1))) _
 
 pub bound-routine-spec : {M : Type 1} → statement M
 bound-routine-spec =

@@ -1,3 +1,6 @@
+use Rattle.analyser.specs.Answers.{runRoutine}
+use Rattle.report.specs.Report.{runText}
+use Rattle.analyser.proofs.FunctionLaws.{ran-reported, ran-stuck, ran-spent, gives-report, gives-refusal}
 use borrow.Author.Needs.{needs}
 use Rattle.analyser.proofs.run_routine.Statement.{statement}
 use Rattle.analyser.proofs.run_routine.Tie as tie
@@ -16,7 +19,8 @@ enum-told c = search needs
 
 -- src/lib.rt:133:17
 put-run-requires : tie.Need-put-run-requires
-put-run-requires c κs = ?
+unfolding runRoutine
+put-run-requires c κs = c .before .before .before .before .before .pre .1 .fits _ (ran-reported runText _ _ (c .before .before .before .ran .ensures) (c .before .enum-told .given .1))
 
 -- src/lib.rt:136:30
 enum-known-verdict : tie.Need-enum-known-verdict
@@ -32,15 +36,18 @@ same-length c = search needs
 
 -- src/lib.rt:121:1
 returns : tie.Need-returns
-returns c = ?
+unfolding runRoutine
+returns c = gives-report _ _ (ran-reported runText _ _ (c .before .before .before .before .before .before .ran .ensures) (c .before .before .before .before .enum-told .given .1)) _ (c .before .before .put-run .ensures .0) _ _ (c .before .before .put-run .ensures .1)
 
 -- src/lib.rt:121:1
 returns-2 : tie.Need-returns-2
-returns-2 c = ?
+unfolding runRoutine
+returns-2 c = gives-refusal _ _ (ran-stuck runText _ _ (c .before .before .before .ran .ensures) _ (c .before .verdict .given .1)) _
 
 -- src/lib.rt:121:1
 returns-3 : tie.Need-returns-3
-returns-3 c = ?
+unfolding runRoutine
+returns-3 c = gives-refusal _ _ (ran-spent runText _ _ (c .before .before .before .ran .ensures) _ (c .before .verdict2 .given .1)) _
 
 pub run-routine-spec : {M : Type 1} → statement M
 run-routine-spec =

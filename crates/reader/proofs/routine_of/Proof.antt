@@ -99,6 +99,7 @@ returns c =
     let d : length (c .before .before .before .before .columns-in .result .cycles) ≡ 1024 = search (c .before .before .before .before .columns-in .ok, needs, length-images) in
     let e : length (c .before .before .before .before .columns-in .result .words) ≡ 1024 = search (c .before .before .before .before .columns-in .ok, needs, length-images) in
     let f : length (c .before .before .before .before .before .before .before .before .fields-of .result) ≡ 128 = search (c .before .before .before .before .before .before .before .before .fields-of .ok, needs, length-images) in
+    let g : length (c .answers-of .result .values) ≡ 64 = search (c .answers-of .ok, needs, length-images) in
     let k = counted _ (c .before .before .before .before .before .before .before .before .before .before .before .before .before .before .before .before .before .pre) _ (c .before .before .before .before .before .before .before .after-lines .ensures .0) _ (c .before .before .before .before .before .count-code .ensures) in
     let first = first-is _ (c .before .before .before .before .before .before .before .before .before .before .before .before .before .before .before .before .before .pre) _ (c .before .before .before .before .before .before .before .after-lines .ensures .0) _ (c .before .before .before .before .before .count-code .ensures) _ (c .before .before .before .before .before .before .first-in .ensures) in (
       record {
@@ -119,6 +120,7 @@ returns c =
         present = c .before .before .before .before .before .before .before .before .before .before .before .blocks-named .ensures .few;
         fits = blocks-fit _ (c .before .before .before .before .before .before .before .before .before .before .before .before .before .before .before .before .before .pre) _ _ _ (c .before .before .before .before .before .before .before .before .before .before .before .before .line-at2 .ensures) (c .before .before .before .before .before .before .before .before .before .line-at3 .ensures) (c .before .before .before .line-at4 .ensures) _ (c .before .before .before .before .before .before .before .before .before .before .before .blocks-named .ensures) _ f;
         answered = c .answers-of .ensures .1;
+        places = g;
       },
     )
 
