@@ -172,3 +172,24 @@ reports-fit = (λ text n bs e. of-bound text n bs e, λ text n bs e. of-run text
         let b = run-bounded 131070 510 (x .code) (cheap text x (p .0) (p .2)) (x .budget) (x .start) (low text x (p .0) (p .2)) (x .answers) (v .report) (v .accepts) in
         let s = bound-small (x .tick) (x .budget) (v .report) (ticks text x (p .0) (p .2)) (within text x (p .0) (p .2)) b in
         (rw (← v .prints) (run-fits (v .report) (s .cycles) (s .words) (s .depth) (s .steps)), a .lent)
+
+-- no report is empty
+
+bound-some : (tick : ℕ) (q : Report) → 1 ≤ length (boundText tick q)
+unfolding boundText
+bound-some tick q = omega arith
+
+run-some : (q : Report) → 1 ≤ length (runText q)
+unfolding runText
+run-some q = omega arith
+
+pub bound-reports-some : (text : List ℕ) (n : ℕ) (bs : List ℕ) → boundAnswer text n ≡ reported bs → 1 ≤ length bs
+bound-reports-some text n bs e = let k = reports-kept text n bs e in rw (k .prints) (bound-some (k .routine .tick) (k .report))
+
+pub run-reports-some : (text : List ℕ) (n : ℕ) (bs : List ℕ) → runAnswer text n ≡ reported bs → 1 ≤ length bs
+unfolding runAnswer runRoutine
+run-reports-some text n bs e =
+    let a = from-reading runRoutine (readRun text) n bs e in
+    let x = a .routine in
+    let v = from-verdict runText (run (x .code) (x .budget) (x .start) (x .answers)) bs (a .gives) in
+    rw (← v .prints) (run-some (v .report))

@@ -1,5 +1,5 @@
 -- The routine that the code's arrays hold is bounded and run as the definitions say, and so is a text. Assumes nothing.
-use Prim.Native.Nat.{ℕ, _+_, _*_, _^_, _≤_, _<_}
+use Prim.Native.Nat.{ℕ, _+_, _*_, _%_, _^_, _≤_, _<_}
 use mathlib.Core.Path.{_≡_, refl, sym, ap, _∙_, subst}
 use mathlib.Core.List.{List, _++_}
 use mathlib.Core.Option.{Option, some}
@@ -9,6 +9,7 @@ use borrow.Author.Tests.{lt-ltb, le-ltb}
 use Rattle.refusals.specs.declared.Refusal.{Refusal}
 use Rattle.refusals.specs.declared.Refusal.the-variants.{ReportMemory}
 use Rattle.refusals.specs.declared.Refusal.the-variants as refusals
+use Rattle.refusals.specs.Refusals.{number, place}
 use Rattle.cells.specs.Cells.{unknown}
 use Rattle.machine.specs.Machine.{jump, store, step}
 use Rattle.states.specs.View.{whole}
@@ -35,10 +36,11 @@ use Rattle.report.specs.Decode.{reportOf}
 use Rattle.report.proofs.DecodeLaws.{report-of, report-of-run}
 use Rattle.analyser.specs.Answers.{Answer, reported, ofVerdict, ofReading, boundRoutine, runRoutine, boundAnswer, runAnswer, memory}
 use Rattle.analyser.specs.Answers as answers
+use Rattle.analyser.specs.declared.Answer as code
 use Rattle.analyser.specs.declared.Answer.the-variants.{Reported, Refused}
-use Rattle.analyser.specs.Functions.{answerOf, routineIn, Printable, Modest}
+use Rattle.analyser.specs.Functions.{answerOf, routineIn, Printable, Modest, wordOf, Tells}
 use Rattle.analyser.specs.Promises.{SafeReports, ExactReports, RunsWithin}
-use Rattle.analyser.proofs.AnswerLaws.{reports-kept, reports-fit, filled-in-runs}
+use Rattle.analyser.proofs.AnswerLaws.{reports-kept, reports-fit, filled-in-runs, bound-reports-some, run-reports-some}
 
 module _ (x : Routine) (l : Limited x) where
   -- a routine starts at its first address
@@ -202,3 +204,40 @@ module _ (text : List ℕ) (n : ℕ) where
 
   pub runs-within : RunsWithin text n
   runs-within x y q a h e l = filled-in-runs x y q a h text n e l
+
+-- ---- for C
+
+-- no number of a refusal is above 11
+pub number-small : (r : Refusal) → number r ≤ 11
+unfolding number
+number-small refusals.ReportMemory = omega arith
+number-small refusals.TextLength = omega arith
+number-small (refusals.Layout n) = omega arith
+number-small (refusals.OutOfRange n) = omega arith
+number-small (refusals.BadName n) = omega arith
+number-small (refusals.Unpriced n) = omega arith
+number-small (refusals.NoTarget n) = omega arith
+number-small (refusals.UnknownCell n) = omega arith
+number-small (refusals.Stuck a) = omega arith
+number-small (refusals.Openings a) = omega arith
+number-small (refusals.Spent a) = omega arith
+
+pub word-refused : (r : Refusal) (n p : ℕ) → n ≡ number r → p ≡ place r → 9223372036854775808 + n * 4294967296 + p % 4294967296 ≡ wordOf (Refused r)
+unfolding wordOf
+word-refused r n p e f = rw (e, f) refl
+
+pub word-reported : (a : code.Answer) (n : ℕ) → a ≡ Reported n → n ≡ wordOf a
+unfolding wordOf
+word-reported a n e = rw e refl
+
+-- what holds of the number
+tells : (a : Answer) → ((bs : List ℕ) → a ≡ reported bs → (1 ≤ length bs) × (length bs ≤ 128)) → (w : ℕ) → w ≡ wordOf (answerOf a) → Tells a w
+unfolding wordOf answerOf
+tells a h w e = record { report = λ bs q. let k = h bs q in rw (e, q) k; refusal = λ r q. rw (e, q) (omega arith) }
+
+module _ (text : List ℕ) (n : ℕ) where
+  pub bound-tells : (w : ℕ) → w ≡ wordOf (answerOf (boundAnswer text n)) → Tells (boundAnswer text n) w
+  bound-tells = tells (boundAnswer text n) (λ bs e. (bound-reports-some text n bs e, reports-fit .0 text n bs e .0))
+
+  pub run-tells : (w : ℕ) → w ≡ wordOf (answerOf (runAnswer text n)) → Tells (runAnswer text n) w
+  run-tells = tells (runAnswer text n) (λ bs e. (run-reports-some text n bs e, reports-fit .1 text n bs e .0))

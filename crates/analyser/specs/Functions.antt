@@ -1,8 +1,10 @@
 -- What the public functions answer and write, in terms of the definitions.
-use Prim.Native.Nat.{ℕ, _+_, _*_, _≤_, _<_}
+use Prim.Native.Nat.{ℕ, _+_, _*_, _%_, _≤_, _<_}
 use mathlib.Core.Path.{_≡_}
 use mathlib.Core.List.{List}
 use lib.ListN.{length}
+use Rattle.refusals.specs.declared.Refusal.{Refusal}
+use Rattle.refusals.specs.Refusals.{number, place}
 use Rattle.states.specs.Columns.{codeOf}
 use Rattle.states.specs.View.{whole}
 use Rattle.routine.specs.Routine as readings
@@ -38,3 +40,15 @@ pub record Printable (a : Answer) (tick n : ℕ) : Type 0 where
 pub record Modest (r : Found) : Type 0 where
   pub cycles : r .cycles ≤ 4294967296000000
   pub path : r .path < 8589934592
+
+-- ---- for C
+
+-- an answer as one number: a report's length; for a refusal bit 63, its number from bit 32 on, and the lowest 32 bits of its place
+unfoldable pub wordOf : code.Answer → ℕ
+wordOf (Reported n) = n
+wordOf (Refused r) = 9223372036854775808 + number r * 4294967296 + place r % 4294967296
+
+-- what holds of it: a report's is from 1 to 128, a refusal's 2 ^ 63 or more
+pub record Tells (a : Answer) (w : ℕ) : Type 0 where
+  pub report : (bs : List ℕ) → a ≡ reported bs → (1 ≤ w) × (w ≤ 128)
+  pub refusal : (r : Refusal) → a ≡ refused r → 9223372036854775808 ≤ w

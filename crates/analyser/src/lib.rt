@@ -15,7 +15,8 @@ ghost use Rattle.findings.specs.Found.{Shows};
 ghost use Rattle.runs.specs.Contract.{verdictOf};
 ghost use Rattle.reader.specs.Reader.{Limited};
 ghost use Rattle.analyser.specs.Answers.{boundRoutine, runRoutine, boundAnswer, runAnswer, memory};
-ghost use Rattle.analyser.specs.Functions.{answerOf, routineIn, Modest, Printable};
+ghost use Rattle.analyser.specs.Functions.{answerOf, routineIn, Modest, Printable, wordOf, Tells};
+ghost use Rattle.analyser.specs.declared.Answer.the-variants.{Refused};
 ghost use Rattle.analyser.specs.Promises.{SafeReports, ExactReports, RunsWithin};
 
 // The answer to a text: a report of so many bytes, or a refusal.
@@ -177,4 +178,48 @@ pub fn run(text: &[u8], out: &mut [u8]) -> Answer
         }
         Checked::Refused(r) => Answer::Refused(r),
     }
+}
+
+// An answer as one number.
+fn word_of(answer: Answer) -> u64
+    ensures { λ r. ⌜ r ≡ wordOf answer ⌝ }
+{
+    match answer {
+        Answer::Reported(n) => n as u64,
+        Answer::Refused(r) => refusal_word(r),
+    }
+}
+
+// A refusal as one number.
+fn refusal_word(r: Refusal) -> u64
+    ensures { λ w. ⌜ w ≡ wordOf (Refused r) ⌝ }
+{
+    let number = refusals::number(r);
+    let place = refusals::place(r);
+    9223372036854775808 + number * 4294967296 + place % 4294967296
+}
+
+// `bound` for C: see include/tickbound.h.
+#[no_mangle]
+pub extern "C" fn tickbound_bound(text: &[u8], out: &mut [u8]) -> u64
+    ensures { λ r. ⌜ r ≡ wordOf (answerOf (boundAnswer (now (text .entry)) (length (now (out .entry))))) ⌝ }
+    ensures { λ _. ⌜ now (out .exit) ≡ memory (boundAnswer (now (text .entry)) (length (now (out .entry)))) (now (out .entry)) ⌝ }
+    ensures tells { λ r. ⌜ Tells (boundAnswer (now (text .entry)) (length (now (out .entry)))) r ⌝ }
+    ensures safe { λ _. ⌜ SafeReports (now (text .entry)) (length (now (out .entry))) ⌝ }
+    ensures exact { λ _. ⌜ ExactReports (now (text .entry)) (length (now (out .entry))) ⌝ }
+{
+    let answer = bound(text, out);
+    word_of(answer)
+}
+
+// `run` for C.
+#[no_mangle]
+pub extern "C" fn tickbound_run(text: &[u8], out: &mut [u8]) -> u64
+    ensures { λ r. ⌜ r ≡ wordOf (answerOf (runAnswer (now (text .entry)) (length (now (out .entry))))) ⌝ }
+    ensures { λ _. ⌜ now (out .exit) ≡ memory (runAnswer (now (text .entry)) (length (now (out .entry)))) (now (out .entry)) ⌝ }
+    ensures tells { λ r. ⌜ Tells (runAnswer (now (text .entry)) (length (now (out .entry)))) r ⌝ }
+    ensures within { λ _. ⌜ RunsWithin (now (text .entry)) (length (now (out .entry))) ⌝ }
+{
+    let answer = run(text, out);
+    word_of(answer)
 }
