@@ -1,4 +1,5 @@
 -- `console::put_line` meets its contract: a report is there already, and the line of a refusal fits. Assumes nothing.
+use native.Mathlib.Nat.{le-trans}
 use native.Mathlib.Omega.{arith}
 use borrow.Author.Needs.{needs}
 use Rattle.console.proofs.PrintLaws.{refusal-fits, reported-line, refused-held, refused-line}
@@ -21,7 +22,7 @@ put-refusal-requires : tie.Need-put-refusal-requires
 put-refusal-requires c κs =
     let a = c .before .before .before .before in
     let s = a .before .before .before in
-    omega (arith, refusal-fits (c .before .before .number .result) (c .before .place .result) (omega arith) (omega arith), refused-held (s .args .answer) (a .answer2 .given .0 .0) (s .args .bytes .now) (a .answer2 .given .1) (s .pre))
+    le-trans (refusal-fits _ _ (omega arith) (omega arith)) (refused-held (s .args .answer) (a .answer2 .given .0 .0) (s .args .bytes .now) (a .answer2 .given .1) (s .pre))
 
 returns : tie.Need-returns
 returns c =
