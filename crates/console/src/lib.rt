@@ -3,8 +3,10 @@ use analyser::Answer;
 use libc::STDERR_FILENO;
 use libc::STDIN_FILENO;
 use libc::STDOUT_FILENO;
-use refusals::Refusal;
+ghost use mathlib.Core.Path.{_≡_};
+ghost use lib.ListN.{take};
 ghost use Rattle.io.specs.Counts.{Counts};
+ghost use Rattle.console.specs.Line.{line, Held};
 
 // How many bytes came from standard input, and whether no read failed.
 pub struct Input {
@@ -43,33 +45,25 @@ pub fn read_failed() {
 }
 
 // Writes all of bytes to standard output.
-fn write(bytes: &[u8]) {
+pub fn write(bytes: &[u8]) {
     let is_written = io::write_all(STDOUT_FILENO, bytes);
     if !is_written {
         io::write_all(STDERR_FILENO, b"the output could not be written\n");
     }
 }
 
-// Prints the first n bytes. The analyser answers no more bytes than it was lent, so the test never fails.
-fn print_report(n: usize, bytes: &[u8]) {
-    if n <= bytes.len() {
-        write(&bytes[..n]);
-    }
-}
-
-// Prints the line of a refusal.
-fn print_refusal(refusal: Refusal) {
-    let mut line = [0u8; 128];
-    let number = refusals::number(refusal);
-    let place = refusals::place(refusal);
-    let n = report::put_refusal(&mut line, number, place);
-    write(&line[..n]);
-}
-
-// Prints the report, which is at the start of bytes, or the line of the refusal.
-pub fn print(answer: Answer, bytes: &[u8]) {
+// Puts the line of a refusal at the start of bytes, where a report is already, and answers how many bytes are printed.
+pub fn put_line(answer: Answer, bytes: &mut [u8]) -> usize
+    requires { ⌜ Held answer (now bytes) ⌝ }
+    ensures { λ r. ⌜ Counts r (now (bytes .exit)) ⌝ }
+    ensures { λ r. ⌜ take r (now (bytes .exit)) ≡ line answer (now (bytes .entry)) ⌝ }
+{
     match answer {
-        Answer::Reported(n) => print_report(n, bytes),
-        Answer::Refused(refusal) => print_refusal(refusal),
+        Answer::Reported(n) => n,
+        Answer::Refused(refusal) => {
+            let number = refusals::number(refusal);
+            let place = refusals::place(refusal);
+            report::put_refusal(bytes, number, place)
+        }
     }
 }

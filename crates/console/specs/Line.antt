@@ -1,0 +1,17 @@
+-- What a program prints for an answer of the analyser's functions.
+use Prim.Native.Nat.{ℕ, _≤_}
+use mathlib.Core.List.{List}
+use lib.ListN.{length, take}
+use Rattle.report.specs.Report.{refusalText}
+use Rattle.analyser.specs.declared.Answer.{Answer}
+use Rattle.analyser.specs.declared.Answer.the-variants.{Reported, Refused}
+
+-- the report at the start of the memory, or the line of the refusal
+abbrev pub line : Answer → List ℕ → List ℕ
+line (Reported n) bytes = take n bytes
+line (Refused r) bytes = refusalText r
+
+-- the report is within the memory, or a refusal's line fits into it
+abbrev pub Held : Answer → List ℕ → Type 0
+Held (Reported n) bytes = n ≤ length bytes
+Held (Refused r) bytes = 128 ≤ length bytes
