@@ -1,11 +1,37 @@
 // Prints what the bound and the run say of the texts in a list of cases.
+use analyser::Answer;
+use refusals::Refusal;
+
+// Prints the line of a refusal.
+fn print_refusal(refusal: Refusal) {
+    io::write_all(1, b"REFUSED ");
+    io::print_decimal(1, refusals::number(refusal));
+    io::write_all(1, b" ");
+    io::print_decimal(1, refusals::place(refusal));
+    io::write_all(1, b"\n");
+}
+
+// Prints the first n bytes.
+fn print_report(n: usize, bytes: &[u8]) {
+    if n <= bytes.len() {
+        console::write(&bytes[..n]);
+    }
+}
+
+// Prints the report, which is at the start of bytes, or the line of the refusal.
+fn print(answer: Answer, bytes: &[u8]) {
+    match answer {
+        Answer::Reported(n) => print_report(n, bytes),
+        Answer::Refused(refusal) => print_refusal(refusal),
+    }
+}
 
 // Prints the answer of the bound, then that of the run, with out lent for the report.
 fn show(text: &[u8], out: &mut [u8]) {
     let bounded = analyser::bound(text, out);
-    console::print(bounded, out);
+    print(bounded, out);
     let ran = analyser::run(text, out);
-    console::print(ran, out);
+    print(ran, out);
 }
 
 // Prints the name of a case and the answers to its text. The case lent_127 lends a byte too few.
