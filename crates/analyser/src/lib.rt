@@ -146,7 +146,8 @@ pub fn bound(text: &[u8], out: &mut [u8]) -> Answer
     ensures safe { λ _. ⌜ SafeReports (now (text .entry)) (length (now (out .entry))) ⌝ }
     ensures exact { λ _. ⌜ ExactReports (now (text .entry)) (length (now (out .entry))) ⌝ }
 {
-    if out.len() < 128 {
+    let lent = out.len();
+    if lent < 128 {
         return Answer::Refused(Refusal::ReportMemory);
     }
     let reading = reader::read(Reader::Bound, text);
