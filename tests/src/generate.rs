@@ -1,0 +1,185 @@
+//! Routine files from a seed: spelt right, and mostly with code that does not get stuck.
+use crate::bound::explored;
+use crate::draft::{Arg, Draft};
+use crate::random::Random;
+use crate::routine::{read, KINDS};
+use crate::writer::{Shape, Shapes, Writer};
+
+fn price(random: &mut Random, most: usize, style: usize) -> usize {
+    match style {
+        0 => random.below(2),
+        1 => random.below(most + 1),
+        2 => most,
+        _ => random.below(20),
+    }
+}
+
+fn cell(random: &mut Random, blocks: usize, unknown: usize) -> String {
+    if blocks > 0 && random.one_in(3) {
+        format!("#{}", random.below(blocks))
+    } else if random.below(10) < unknown {
+        "?".to_string()
+    } else {
+        random.number().to_string()
+    }
+}
+
+fn shape(cell: &str) -> Shape {
+    cell.strip_prefix('#').map_or(Shape::Number, |k| Shape::Handle(k.parse().unwrap()))
+}
+
+/// A routine file that passes refusals 1 to 6.
+pub fn draft(random: &mut Random) -> Draft {
+    let unknown = *random.pick(&[0, 0, 3, 5, 8]);
+    let block_count = if random.one_in(2) { 0 } else { random.within(1, 8) };
+    let cell_count = match random.below(8) {
+        0 => 33,
+        1 => 1,
+        _ => random.within(1, 8),
+    };
+    let cells: Vec<String> = (0..cell_count).map(|_| cell(random, block_count, unknown)).collect();
+    let mut blocks = Vec::new();
+    for _ in 0..block_count {
+        let size = if random.one_in(4) { 16 } else { random.within(1, 5) };
+        blocks.push((0..size).map(|_| cell(random, block_count, unknown)).collect::<Vec<_>>());
+    }
+    let style = random.below(4);
+    let primitive_count = match random.below(8) {
+        0 => 0,
+        1 => 32,
+        _ => random.within(1, 4),
+    };
+    let primitives = (0..primitive_count)
+        .map(|i| {
+            let name = match random.below(5) {
+                0 => format!("P_{i}"),
+                1 => format!("LONG{i:04}"),
+                2 if i < 3 => ["READ", "STOP", "A"][i].to_string(),
+                _ => format!("Q{i}"),
+            };
+            (name, price(random, 65_535, style), price(random, 255, style))
+        })
+        .collect();
+
+    let mut stack: Vec<Shape> = cells[1..].iter().map(|c| shape(c)).collect();
+    stack.reverse();
+    let shapes = Shapes {
+        accumulator: shape(&cells[0]),
+        stack,
+        blocks: blocks.iter().map(|b| b.iter().map(|c| shape(c)).collect()).collect(),
+    };
+    let longest = if random.one_in(100) { 980 } else { 60 };
+    let mut writer = Writer {
+        random,
+        code: Vec::new(),
+        shapes,
+        base: 0,
+        in_loop: false,
+        counters: Vec::new(),
+        primitives: primitive_count,
+        exits: Vec::new(),
+        trees: 0,
+        longest,
+    };
+    let rounds = if longest > 60 { 150 } else { writer.random.within(1, 4) };
+    let wild = if writer.random.one_in(4) { writer.random.within(1, 2) } else { 0 };
+    for _ in 0..rounds {
+        writer.statements(0);
+        if wild > 0 && writer.random.one_in(2) {
+            writer.wild();
+        }
+    }
+    if writer.random.one_in(15) {
+        // to the full stack, and sometimes one more
+        let to = writer.random.within(62, 65);
+        while writer.shapes.stack.len() < to {
+            let name = *writer.random.pick(&["PUSH", "PUSHACC0", "PUSHCONST1"]);
+            writer.emit(name, Arg::Nothing);
+            writer.shapes.stack.push(Shape::Either);
+        }
+    }
+    if writer.random.one_in(15) {
+        // a chain of branches to STOP, near the most openings
+        let unknowns = writer.random.within(28, 34);
+        writer.condition();
+        for _ in 0..unknowns {
+            let name = *writer.random.pick(&["BRANCHIF", "BRANCHIFNOT"]);
+            writer.emit(name, Arg::Line(0));
+            let exit = writer.code.len() - 1;
+            writer.exits.push(exit);
+        }
+    }
+    if !writer.random.one_in(40) || writer.code.is_empty() || !writer.exits.is_empty() {
+        writer.emit("STOP", Arg::Nothing);
+    }
+    for exit in std::mem::take(&mut writer.exits) {
+        let last = writer.code.len() - 1;
+        writer.code[exit].1 = Arg::Line(last);
+    }
+    let mut code = writer.code;
+    code.truncate(1024);
+    let lines = code.len();
+    for (_, arg) in &mut code {
+        if let Arg::Line(n) = arg {
+            *n = (*n).min(lines - 1);
+        }
+    }
+
+    let first = match random.below(4) {
+        0 => random.below(60_001),
+        1 => *random.pick(&[1, 9, 99, 59_999, 60_000]),
+        _ => 0,
+    };
+    let all = random.one_in(4);
+    let mut kinds: Vec<(String, usize, usize)> = KINDS
+        .iter()
+        .filter(|k| all || code.iter().any(|c| c.0 == k.0) || random.one_in(10))
+        .map(|k| k.0.to_string())
+        .collect::<Vec<_>>()
+        .into_iter()
+        .map(|name| (name, price(random, 65_535, style), price(random, 255, style)))
+        .collect();
+    for i in (1..kinds.len()).rev() {
+        kinds.swap(i, random.below(i + 1));
+    }
+    let answers = match random.below(4) {
+        0 => 0,
+        1 => 64,
+        _ => random.within(1, 6),
+    };
+    let answers = (0..answers).map(|_| random.number()).collect();
+    let tick = match random.below(6) {
+        0 => 1,
+        // a half where the cycles are odd
+        3 | 4 => 2000,
+        1 => 4_000_000_000,
+        2 => random.within(1, 5000) as u64,
+        _ => 1 + random.next() % 4_000_000_000,
+    };
+    let mut draft = Draft { budget: 1, tick, kinds, primitives, cells, blocks, first, code, answers };
+    draft.budget = budget(random, &draft);
+    draft
+}
+
+/// A budget, mostly near the number of steps that are looked at.
+fn budget(random: &mut Random, draft: &Draft) -> u64 {
+    let most = if random.one_in(500) { 100_000 } else { 3000 };
+    let Ok(mut routine) = read(draft.text().as_bytes(), false) else {
+        return most;
+    };
+    routine.budget = most;
+    let (answer, steps) = explored(&routine, routine.start.clone());
+    if answer.is_err_and(|refusal| refusal.number == 9) {
+        return 1 + random.below(most as usize) as u64;
+    }
+    if random.one_in(2000) {
+        return 1_000_000;
+    }
+    match random.below(10) {
+        0 => steps.max(2) - 1,
+        1 => 1 + random.below(steps as usize) as u64,
+        2..=4 => steps,
+        5 => steps + 1,
+        _ => steps + random.below(500) as u64,
+    }
+}

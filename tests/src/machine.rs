@@ -1,0 +1,195 @@
+//! Cells, the machine's state and its step.
+use crate::routine::Line;
+
+pub const STACK: usize = 64;
+pub const BLOCKS: usize = 8;
+pub const FIELDS: usize = 16;
+
+#[derive(Clone, Copy, PartialEq, Debug)]
+pub enum Cell {
+    Number(i32),
+    Unknown,
+    Handle(u8),
+}
+
+#[derive(Clone, Copy)]
+pub enum Operator {
+    Add,
+    Subtract,
+    Equal,
+    Unequal,
+    Less,
+    LessOrEqual,
+    Greater,
+    GreaterOrEqual,
+}
+
+#[derive(Clone, Copy)]
+pub enum Instruction {
+    Acc(usize),
+    Push,
+    PushAcc(usize),
+    Pop(usize),
+    Assign(usize),
+    Const(i32),
+    PushConst(i32),
+    Offset(i32),
+    Negate,
+    Not,
+    Binary(Operator),
+    GetField(usize),
+    SetField(usize),
+    Branch(u32),
+    BranchIf(u32),
+    BranchIfNot(u32),
+    /// with the number of entries popped
+    Call(usize),
+    Stop,
+}
+
+#[derive(Clone)]
+pub struct State {
+    pub at: u32,
+    pub accumulator: Cell,
+    /// entry 0, the top, is the last of the `height` first
+    pub stack: [Cell; STACK],
+    pub height: usize,
+    pub sizes: [u8; BLOCKS],
+    pub fields: [Cell; BLOCKS * FIELDS],
+}
+
+/// What follows a step.
+pub enum Next {
+    /// the state as it now is
+    Goes,
+    /// the state as it now is, or the same at this target
+    Opens(u32),
+    Stops,
+}
+
+impl State {
+    pub fn new(at: u32, accumulator: Cell) -> State {
+        let zero = Cell::Number(0);
+        State { at, accumulator, stack: [zero; STACK], height: 0, sizes: [0; BLOCKS], fields: [zero; BLOCKS * FIELDS] }
+    }
+
+    /// The place of an entry.
+    fn entry(&self, n: usize) -> Option<usize> {
+        self.height.checked_sub(n + 1)
+    }
+
+    fn push(&mut self) -> Option<()> {
+        *self.stack.get_mut(self.height)? = self.accumulator;
+        self.height += 1;
+        Some(())
+    }
+
+    fn drop(&mut self, n: usize) -> Option<()> {
+        self.height = self.height.checked_sub(n)?;
+        Some(())
+    }
+
+    fn pop(&mut self) -> Option<Cell> {
+        self.drop(1)?;
+        Some(self.stack[self.height])
+    }
+
+    /// The place of a field of the block that the accumulator handles.
+    fn field(&self, n: usize) -> Option<usize> {
+        let Cell::Handle(block) = self.accumulator else {
+            return None;
+        };
+        let block = block as usize;
+        (n < self.sizes[block] as usize).then_some(block * FIELDS + n)
+    }
+
+    /// The accumulator with a function done to its number.
+    fn change(&mut self, function: impl FnOnce(i32) -> i32) -> Option<()> {
+        self.accumulator = match self.accumulator {
+            Cell::Number(v) => Cell::Number(function(v)),
+            Cell::Unknown => Cell::Unknown,
+            Cell::Handle(_) => return None,
+        };
+        Some(())
+    }
+
+    /// One step by the instruction at the address; none is stuck, and the state is then of no more use. `answer` is what a
+    /// primitive answers.
+    pub fn step(&mut self, line: &Line, answer: impl FnOnce() -> Cell) -> Option<Next> {
+        let zero = Cell::Number(0);
+        self.at += 1;
+        match line.instruction {
+            Instruction::Acc(n) => self.accumulator = self.stack[self.entry(n)?],
+            Instruction::Push => self.push()?,
+            Instruction::PushAcc(n) => {
+                self.push()?;
+                self.accumulator = self.stack[self.entry(n)?];
+            }
+            Instruction::Pop(n) => self.drop(n)?,
+            Instruction::Assign(n) => {
+                let entry = self.entry(n)?;
+                self.stack[entry] = self.accumulator;
+                self.accumulator = zero;
+            }
+            Instruction::Const(i) => self.accumulator = Cell::Number(i),
+            Instruction::PushConst(i) => {
+                self.push()?;
+                self.accumulator = Cell::Number(i);
+            }
+            Instruction::Offset(i) => self.change(|v| v.wrapping_add(i))?,
+            Instruction::Negate => self.change(i32::wrapping_neg)?,
+            Instruction::Not => self.change(|v| 1i32.wrapping_sub(v))?,
+            Instruction::Binary(operator) => {
+                let right = self.pop()?;
+                self.accumulator = match (self.accumulator, right) {
+                    (Cell::Handle(_), _) | (_, Cell::Handle(_)) => return None,
+                    (Cell::Number(x), Cell::Number(y)) => Cell::Number(operator.of(x, y)),
+                    _ => Cell::Unknown,
+                };
+            }
+            Instruction::GetField(n) => self.accumulator = self.fields[self.field(n)?],
+            Instruction::SetField(n) => {
+                let field = self.field(n)?;
+                self.fields[field] = self.pop()?;
+                self.accumulator = zero;
+            }
+            Instruction::Branch(target) => self.at = target,
+            Instruction::BranchIf(target) => return self.branch(target, true),
+            Instruction::BranchIfNot(target) => return self.branch(target, false),
+            Instruction::Call(popped) => {
+                self.drop(popped)?;
+                self.accumulator = answer();
+            }
+            Instruction::Stop => return Some(Next::Stops),
+        }
+        Some(Next::Goes)
+    }
+
+    fn branch(&mut self, target: u32, on_non_zero: bool) -> Option<Next> {
+        match self.accumulator {
+            Cell::Number(v) => {
+                if (v != 0) == on_non_zero {
+                    self.at = target;
+                }
+                Some(Next::Goes)
+            }
+            Cell::Unknown => Some(Next::Opens(target)),
+            Cell::Handle(_) => None,
+        }
+    }
+}
+
+impl Operator {
+    fn of(self, x: i32, y: i32) -> i32 {
+        match self {
+            Operator::Add => x.wrapping_add(y),
+            Operator::Subtract => x.wrapping_sub(y),
+            Operator::Equal => (x == y) as i32,
+            Operator::Unequal => (x != y) as i32,
+            Operator::Less => (x < y) as i32,
+            Operator::LessOrEqual => (x <= y) as i32,
+            Operator::Greater => (x > y) as i32,
+            Operator::GreaterOrEqual => (x >= y) as i32,
+        }
+    }
+}
