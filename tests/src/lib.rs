@@ -1,4 +1,6 @@
-//! Document 01 implemented a second time, from its text alone, in plain Rust; and a generator of routine files.
+//! Document 01 implemented a second time, from its text alone, in plain Rust; a generator of routine files; and the analyser's C
+//! functions, to be compared.
+pub mod analyser;
 pub mod bound;
 pub mod cases;
 pub mod damage;

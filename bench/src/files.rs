@@ -1,0 +1,152 @@
+//! The files that are measured.
+use independent::draft::{Arg, Draft};
+use independent::routine::KINDS;
+use std::iter::repeat_n;
+
+const BUDGET: usize = 1_000_000;
+
+type Code = Vec<(&'static str, Arg)>;
+
+/// A routine with all kinds, one primitive and prices that differ.
+fn draft(cells: &[&str], blocks: Vec<Vec<String>>, code: Code) -> Draft {
+    let kinds = KINDS.iter().enumerate().map(|(i, k)| (k.0.to_string(), 1 + i % 5, i % 3)).collect();
+    Draft {
+        budget: BUDGET as u64,
+        tick: 4_000_000_000,
+        kinds,
+        primitives: vec![("READ".to_string(), 40, 4)],
+        cells: cells.iter().map(|c| c.to_string()).collect(),
+        blocks,
+        first: 0,
+        code,
+        answers: Vec::new(),
+    }
+}
+
+fn blocks(fields: usize) -> Vec<Vec<String>> {
+    vec![vec!["7".to_string(); fields]; 8]
+}
+
+/// A loop with every operation and no unknown branch: all of BUDGET in steps, the last of them STOP.
+pub fn straight_path() -> Vec<u8> {
+    use Arg::{Line, Nothing, Number, Primitive};
+    let turn: Code = vec![
+        ("ACC0", Nothing),
+        ("OFFSETINT", Number(-1)),
+        ("ASSIGN", Number(0)),
+        ("ACC1", Nothing),
+        ("GETFIELD1", Nothing),
+        ("OFFSETINT", Number(1)),
+        ("PUSH", Nothing),
+        ("ACC2", Nothing),
+        ("SETFIELD1", Nothing),
+        ("ACC0", Nothing),
+        ("PUSHCONST3", Nothing),
+        ("ADDINT", Nothing),
+        ("PUSHACC1", Nothing),
+        ("SUBINT", Nothing),
+        ("PUSHCONSTINT", Number(5)),
+        ("EQ", Nothing),
+        ("PUSHACC1", Nothing),
+        ("NEQ", Nothing),
+        ("PUSHCONST0", Nothing),
+        ("LTINT", Nothing),
+        ("PUSHCONST1", Nothing),
+        ("LEINT", Nothing),
+        ("PUSHACC1", Nothing),
+        ("GTINT", Nothing),
+        ("PUSHCONST2", Nothing),
+        ("GEINT", Nothing),
+        ("PUSHCONSTINT", Number(9)),
+        ("ADDINT", Nothing),
+        ("BOOLNOT", Nothing),
+        ("NEGINT", Nothing),
+        ("PUSH", Nothing),
+        ("PUSHACC3", Nothing),
+        ("GETFIELD2", Nothing),
+        ("POP", Number(1)),
+        ("C_CALL2", Primitive(0)),
+        ("OFFSETINT", Number(4)),
+        ("CONST0", Nothing),
+        ("BRANCHIF", Line(0)),
+        ("BOOLNOT", Nothing),
+        ("BRANCHIFNOT", Line(0)),
+        ("BRANCH", Line(42)),
+        // passed over
+        ("STOP", Nothing),
+        ("ACC0", Nothing),
+        ("BRANCHIF", Line(0)),
+    ];
+    let steps = turn.len() - 1;
+    let (turns, rest) = ((BUDGET - 1) / steps, (BUDGET - 1) % steps);
+    let mut code = turn;
+    code.extend(repeat_n(("CONST0", Nothing), rest));
+    code.push(("STOP", Nothing));
+    draft(&["0", &turns.to_string(), "#0"], blocks(4), code).text().into_bytes()
+}
+
+/// 18 openings on each path, then STOP: all 2^18 paths. The wide one has 32 entries and 128 fields.
+pub fn tree(wide: bool) -> Vec<u8> {
+    let mut code: Code = Vec::new();
+    for _ in 0..18 {
+        code.push(("C_CALL1", Arg::Primitive(0)));
+        code.push(("BRANCHIF", Arg::Line(code.len() + 1)));
+    }
+    code.push(("STOP", Arg::Nothing));
+    let draft = if wide { draft(&["0"; 33], blocks(16), code) } else { draft(&["0"], Vec::new(), code) };
+    draft.text().into_bytes()
+}
+
+/// A text of these bytes, at most 32,768, with a line of code for each 32 of them. The first is STOP: nearly all of the time is the
+/// reader's.
+pub fn long_code(bytes: usize) -> Vec<u8> {
+    let numbers = bytes / 32 - 1;
+    let text = |digits: usize| {
+        let number = |i: usize| Arg::Number(-(10i64.pow((digits.saturating_sub(9 * i)).min(9) as u32)));
+        let mut code: Code = vec![("STOP", Arg::Nothing)];
+        code.extend((0..numbers).map(|i| ("PUSHCONSTINT", number(i))));
+        Draft { first: 10_000, ..draft(&["0"], Vec::new(), code) }.text().into_bytes()
+    };
+    text(bytes - text(0).len())
+}
+
+/// A call of the last of 32 primitives for each 32 bytes, after STOP.
+pub fn long_calls(bytes: usize) -> Vec<u8> {
+    let mut code: Code = vec![("STOP", Arg::Nothing)];
+    code.extend(repeat_n(("C_CALL5", Arg::Primitive(31)), bytes / 32 - 1));
+    let primitives = (1..=32).map(|k| (format!("LONGER{k:02}"), 1, 1)).collect();
+    Draft { primitives, ..draft(&["0"], Vec::new(), code) }.text().into_bytes()
+}
+
+/// All kinds, then one of them as often as there is room for it and its prices.
+pub fn repeated_kind(bytes: usize) -> Vec<u8> {
+    let mut draft = draft(&["0"], Vec::new(), vec![("STOP", Arg::Nothing)]);
+    let room = bytes - draft.text().len();
+    draft.kinds.extend(repeat_n(("EQ".to_string(), 1, 1), room / "EQ 1 1 ".len()));
+    draft.text().into_bytes()
+}
+
+/// 32 names of primitives that fill the text.
+pub fn long_names(bytes: usize) -> Vec<u8> {
+    let mut draft = draft(&["0"], Vec::new(), vec![("STOP", Arg::Nothing)]);
+    draft.primitives = vec![(String::new(), 1, 1); 32];
+    let room = bytes - draft.text().len();
+    draft.primitives = vec![("A".repeat(room / 32), 1, 1); 32];
+    draft.text().into_bytes()
+}
+
+/// Three lines, of which the third is filled with names.
+pub fn names(bytes: usize) -> Vec<u8> {
+    third_line(bytes, "A", " A")
+}
+
+/// Three lines, of which the third is filled with spaces.
+pub fn spaces(bytes: usize) -> Vec<u8> {
+    third_line(bytes, "", " ")
+}
+
+fn third_line(bytes: usize, begin: &str, piece: &str) -> Vec<u8> {
+    let head = format!("BUDGET TICK\n1 1\n{begin}");
+    let filling = piece.repeat((bytes - head.len() - 1) / piece.len());
+    format!("{head}{filling}\n").into_bytes()
+}
