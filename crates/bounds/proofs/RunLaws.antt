@@ -3,10 +3,11 @@
 use mathlib.Core.Path.{_≡_, refl, sym, _∙_, ap}
 use mathlib.Core.Bool.{Bool, true, false, true≢false}
 use mathlib.Core.List.{List, [], _∷_}
-use Prim.Native.Nat.{ℕ, zero, suc, _+_, _≤_}
+use Prim.Native.Nat.{ℕ, zero, suc, _+_, _-_, _≤_}
+use native.Mathlib.Nat.{add-zero, add-suc}
 use native.Mathlib.Omega.{arith}
 use lib.IntN.{ℤ, pos}
-use Rattle.cells.specs.Try.{Try, done}
+use Rattle.cells.specs.Try.{Try, stuck, done}
 use Rattle.cells.specs.Cells.{unknown}
 use Rattle.cells.specs.Order.{Refines, Allowed}
 use Rattle.cells.proofs.Covering.{Covered, both}
@@ -139,16 +140,46 @@ stepwise-interruptible c M by-steps t q a s e answers n =
     safe c M by-steps q n (after c n (begin s answers)) (stays c M by-steps q n (begin s answers)
     (underway f refl (plain-self c M by-steps q e) b (omega (arith, le)) (omega (arith, le)) (omega (arith, le, h)) (omega (arith, le)) (omega (arith, le)) refl))
 
--- after STOP more steps change nothing
+-- where one step changes nothing, more change nothing
+stays-still : (c : Code) (n : ℕ) (r : Run) → once c r ≡ r → after c n r ≡ r
+unfolding after
+stays-still c zero r e = refl
+stays-still c (suc n) r e = ap (once c) (stays-still c n r e) ∙ e
+
+-- after STOP
 moved-stopped : (r : Run) (rest : List ℤ) (m : Try Next) (b : Bool) → b ≡ true → moved r rest b m ≡ r
 unfolding moved
 moved-stopped r rest m true e = refl
 moved-stopped r rest m false e = absurd (true≢false (sym e))
 
 pub nothing-follows : NothingFollows
-unfolding after once
-nothing-follows c zero r e = refl
-nothing-follows c (suc n) r e = ap (once c) (nothing-follows c n r e) ∙ moved-stopped r _ (leads c r) (r .stopped) e
+unfolding once
+nothing-follows c n r e = stays-still c n r (moved-stopped r _ (leads c r) (r .stopped) e)
+
+-- where a step is not counted, for it is not made
+moved-uncounted : (r : Run) (rest : List ℤ) (b : Bool) (m : Try Next) → moved r rest b m .steps ≡ r .steps → moved r rest b m ≡ r
+unfolding moved
+moved-uncounted r rest true m e = refl
+moved-uncounted r rest false stuck e = refl
+moved-uncounted r rest false (done (stops p)) e = absurd (omega arith)
+moved-uncounted r rest false (done (goes p t)) e = absurd (omega arith)
+moved-uncounted r rest false (done (opens p t q u)) e = refl
+
+pub once-uncounted : (c : Code) (r : Run) → once c r .steps ≡ r .steps → once c r ≡ r
+unfolding once
+once-uncounted c r e = moved-uncounted r _ (r .stopped) (leads c r) e
+
+-- m steps after n
+after-after : (c : Code) (n m : ℕ) (r : Run) → after c (n + m) r ≡ after c m (after c n r)
+unfolding after
+after-after c n zero r = rw (add-zero n) refl
+after-after c n (suc m) r = rw (add-suc n m) (ap (once c) (after-after c n m r))
+
+-- a run that does not move after n steps is there after all larger numbers of steps
+pub after-still : (c : Code) (n m : ℕ) (r : Run) → n ≤ m → once c (after c n r) ≡ after c n r → after c m r ≡ after c n r
+after-still c n m r h e =
+    let sum : m ≡ n + (m - n) = omega arith in
+    ap (λ k. after c k r) sum ∙ after-after c n (m - n) r ∙ stays-still c (m - n) (after c n r) e
 
 -- the run's verdict once STOP is made
 pub stopped-verdict : (budget : ℕ) (r : Run) → r .stopped ≡ true →

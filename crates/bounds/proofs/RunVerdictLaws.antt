@@ -13,7 +13,7 @@ use Rattle.machine.specs.Machine.{State, Next, stops, goes, opens, Code}
 use Rattle.bounds.specs.Tree.{Report, Verdict, accepted, refused}
 use Rattle.bounds.specs.Run.{Run, begin, moved, leads, once, after, stuckAt, isStuck, judgeRun, run}
 use Rattle.bounds.specs.Promises.{RunRefusedWhere}
-use Rattle.bounds.proofs.RunLaws.{nothing-follows, stopped-verdict}
+use Rattle.bounds.proofs.RunLaws.{nothing-follows, after-still, stopped-verdict}
 
 -- a stuck run is not moved, and has not stopped
 stuck-moved : (r : Run) (rest : List ℤ) (b : Bool) (m : Try Next) → stuckAt b m ≡ true → (moved r rest b m ≡ r) × (b ≡ false)
@@ -84,13 +84,7 @@ module _ (c : Code) where
 
     -- a stuck run stays
     stays : (k : ℕ) → isStuck c (runs k) ≡ true → (n : ℕ) → k ≤ n → runs n ≡ runs k
-    unfolding after
-    stays k h zero le = let e : k ≡ 0 = omega arith in rw e
-    stays k h (suc n) le = go (λ l. stays k h n l) (leb k n) refl
-      where
-        go : (k ≤ n → runs n ≡ runs k) → (b : Bool) → leb k n ≡ b → runs (suc n) ≡ runs k
-        go ih true e = ap (once c) (ih (leb-true k n e)) ∙ stuck-once (runs k) h .0
-        go ih false e = let l = leb-false k n e in let f : k ≡ suc n = omega arith in rw f
+    stays k h n le = after-still c k n (begin s answers) le (stuck-once (runs k) h .0)
 
 -- ---- the verdict
 

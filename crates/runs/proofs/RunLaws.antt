@@ -1,8 +1,8 @@
 -- The run's loop, apart from its code: one step, its first state, and its verdict. Assumes nothing.
-use mathlib.Core.Path.{_≡_, refl, ap, _∙_}
+use mathlib.Core.Path.{_≡_, refl, sym, ap, _∙_}
 use mathlib.Core.Bool.{true, false}
 use mathlib.Core.List.{List}
-use Prim.Native.Nat.{ℕ, _+_, _-_, _≤_, _<_}
+use Prim.Native.Nat.{ℕ, _+_, _≤_, _<_}
 use native.Mathlib.Omega.{arith}
 use native.Mathlib.Numerals.{add-one}
 use lib.Dec.{eqb}
@@ -18,6 +18,7 @@ use Rattle.states.specs.Columns.{lineOf}
 use Rattle.states.specs.View.{whole}
 use Rattle.bounds.specs.Tree.{openingLimit, bound}
 use Rattle.bounds.specs.Run.{Run, begin, answer, moved, leads, once, after, judgeRun, run}
+use Rattle.bounds.proofs.RunLaws.{once-uncounted, after-still}
 use Rattle.bounds.proofs.PromiseLaws.{interruptible, run-within-bound}
 use Rattle.progress.specs.declared.Progress.{Progress}
 use Rattle.runs.specs.declared.Ran.{Ran}
@@ -54,6 +55,14 @@ after-more c r q q′ i e f = rw (add-one i) (f ∙ ap (once c) e)
 
 pub after-all : (c : Code) (r q b : Run) (i n : ℕ) → (i ≤ n) × (n ≤ i) → q ≡ after c i r → r ≡ b → q ≡ after c n b
 after-all c r q b i n h e f = let g : i ≡ n = omega arith in e ∙ ap (λ i. after c i r) g ∙ ap (after c n) f
+
+-- the step after the first i is not made
+pub after-unmade : (c : Code) (ns : List ℕ) (answers : List ℤ) (p p′ : Progress) (r b : Run) (i n : ℕ) → i ≤ n →
+    ofProgress ns answers p ≡ after c i r → ofProgress ns answers p′ ≡ once c (ofProgress ns answers p) → p′ .steps ≡ p .steps → r ≡ b → ofProgress ns answers p ≡ after c n b
+unfolding ofProgress
+after-unmade c ns answers p p′ r b i n h e f g k =
+    let still = once-uncounted c (ofProgress ns answers p) (ap (λ (r : Run). r .steps) (sym f) ∙ g) in
+    e ∙ sym (after-still c i n r h (ap (once c) (sym e) ∙ still ∙ e)) ∙ ap (after c n) k
 
 -- ---- the verdict
 

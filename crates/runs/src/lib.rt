@@ -169,7 +169,11 @@ pub fn after(
     let mut r = progress::begin(start, blocks);
     let mut i = 0;
     while i < n {
-        r = once(codes, operands, cycles, words, sizes, first, answers, r);
+        let next = once(codes, operands, cycles, words, sizes, first, answers, r);
+        if next.steps == r.steps {
+            return r;
+        }
+        r = next;
         i += 1;
     }
     r
