@@ -1,10 +1,10 @@
 -- The routine that the code's arrays hold is bounded and run as the definitions say, and so is a text. Assumes nothing.
-use Prim.Native.Nat.{ℕ, _+_, _*_, _%_, _^_, _≤_, _<_}
+use Prim.Native.Nat.{ℕ, _+_, _*_, _%_, _≤_, _<_}
 use mathlib.Core.Path.{_≡_, refl, sym, ap, _∙_, subst}
 use mathlib.Core.List.{List, _++_}
 use mathlib.Core.Option.{Option, some}
 use native.Mathlib.Omega.{arith}
-use lib.ListN.{length, take, drop}
+use lib.ListN.{length, drop}
 use borrow.Author.Tests.{lt-ltb, le-ltb}
 use Rattle.refusals.specs.declared.Refusal.{Refusal}
 use Rattle.refusals.specs.declared.Refusal.the-variants.{ReportMemory}
@@ -64,10 +64,7 @@ module _ (x : Routine) (l : Limited x) where
   explored-shows r e = subst (λ s. Shows r (explore (step (routineIn x .code) unknown) 32 (x .budget) s)) at-start (e .shows)
 
   pub explored-modest : (r : Found) → contract.Modest 32 (x .budget) r → Modest r
-  explored-modest r m = record {
-    cycles = let a = m .cycles in let b = m .used in let d = l .budget in omega arith;
-    path = m .path;
-  }
+  explored-modest r m = record { cycles = let a = m .cycles in let b = m .used in let d = l .budget in omega arith }
 
 -- ---- what the explorer's answer gives
 

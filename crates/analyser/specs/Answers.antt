@@ -23,17 +23,21 @@ pub data Answer : Type 0 where
 abbrev pub memoryLimit : ℕ
 memoryLimit = 128
 
+-- of a verdict: the text of its report, or its refusal
 unfoldable pub ofVerdict : (Report → List ℕ) → Verdict → Answer
 ofVerdict text (verdicts.accepted q) = reported (text q)
 ofVerdict text (verdicts.refused r) = refused r
 
+-- of a reading: its refusal, or what f says of its routine
 unfoldable pub ofReading : (Routine → Answer) → Reading → Answer
 ofReading f (readings.refused r) = refused r
 ofReading f (routine x) = f x
 
+-- the bound's answer for a routine: its report, or 7, 8 or 9
 unfoldable pub boundRoutine : Routine → Answer
 boundRoutine x = ofVerdict (boundText (x .tick)) (bound (x .code) (x .budget) (x .start))
 
+-- the run's: its report, or 7 or 9
 unfoldable pub runRoutine : Routine → Answer
 runRoutine x = ofVerdict runText (run (x .code) (x .budget) (x .start) (x .answers))
 
@@ -41,6 +45,7 @@ runRoutine x = ofVerdict runText (run (x .code) (x .budget) (x .start) (x .answe
 unfoldable pub boundAnswer : List ℕ → ℕ → Answer
 boundAnswer text n = cond (ltb n memoryLimit) (refused ReportMemory) (ofReading boundRoutine (readBound text))
 
+-- the same of the run
 unfoldable pub runAnswer : List ℕ → ℕ → Answer
 runAnswer text n = cond (ltb n memoryLimit) (refused ReportMemory) (ofReading runRoutine (readRun text))
 

@@ -36,10 +36,9 @@ pub record Printable (a : Answer) (tick n : ℕ) : Type 0 where
   pub small : tick ≤ 4000000000
   pub fits : (bs : List ℕ) → a ≡ reported bs → length bs ≤ n
 
--- figures that the report's numbers hold
+-- CYCLES is small enough for the numbers that SHARE is computed with
 pub record Modest (r : Found) : Type 0 where
   pub cycles : r .cycles ≤ 4294967296000000
-  pub path : r .path < 8589934592
 
 -- ---- for C
 

@@ -34,6 +34,7 @@ pub record Kept (text bs : List ℕ) : Type 0 where
   pub safe : (s : State) → Cellwise Allowed s (routine .start) → (answers : List ℤ) (n : ℕ) →
       Safe (routine .code) (bound (routine .code) (routine .budget)) report n (after (routine .code) n (begin s answers))
 
+-- every report of the bound is kept
 abbrev pub ReportsKept : Type 0
 ReportsKept = (text : List ℕ) (n : ℕ) (bs : List ℕ) → boundAnswer text n ≡ reported bs → Kept text bs
 

@@ -7,7 +7,6 @@ use rows::Checked;
 use rows::Reader;
 use runs::Ran;
 ghost use mathlib.Core.Path.{_≡_};
-ghost use Prim.Native.Nat.{_≤_};
 ghost use lib.ListN.{length};
 ghost use Rattle.bounds.specs.Tree.{bound};
 ghost use Rattle.bounds.specs.Run.{run};

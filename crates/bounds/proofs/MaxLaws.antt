@@ -9,7 +9,7 @@ use lib.Dec.{leb}
 use borrow.Author.Tests.{leb-true, leb-false}
 use Rattle.cells.specs.Try.{Try, stuck, done}
 use Rattle.machine.specs.Machine.{State, Price, Next, stops, goes, opens}
-use Rattle.bounds.specs.Tree.{Tree, stop, next, fork, expand, tree, cycles, N, T, worse, path}
+use Rattle.bounds.specs.Tree.{Tree, fork, expand, tree, cycles, N, T, worse, path}
 use Rattle.bounds.specs.Traces.{Move, move, cost, decisions, CostMax, RunMax}
 use Rattle.bounds.proofs.TreeLaws.{Complete}
 

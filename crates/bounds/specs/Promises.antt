@@ -91,6 +91,7 @@ pub record Exact (c : Code) (openings : ℕ) (s : State) (q : Report) : Type 0 w
   -- STEPS is the number of steps of the tree
   pub steps : Finite (step c unknown) openings s (q .steps)
 
+-- Demand 2, whole: every accepted report is exact
 abbrev pub ExactReports : Type 0
 ExactReports = (c : Code) (budget : ℕ) (s : State) (q : Report) → bound c budget s ≡ accepted q → Exact c openingLimit s q
 
@@ -111,6 +112,7 @@ AcceptedWhere =
     (c : Code) (budget : ℕ) (s : State) →
     ((q : Report) × (bound c budget s ≡ accepted q)) ↔ ((n : ℕ) × Finite (step c unknown) openingLimit s n × (n ≤ budget))
 
+-- and each refusal is the case listed for it
 abbrev pub RefusedWhere : Type 0
 RefusedWhere = (c : Code) (budget : ℕ) (s : State) (r : Refusal) → (bound c budget s ≡ refused r) ↔ Listed (step c unknown) openingLimit budget s r
 

@@ -52,6 +52,7 @@ moved r left false (done (opens p t q u)) = r
 unfoldable pub leads : Code → Run → Try Next
 leads c r = step c (answer (r .answers)) (r .state)
 
+-- "Each step takes the state and the answers that the last one left"
 unfoldable pub once : Code → Run → Run
 once c r = moved r (remaining (takesAnswer c (r .state)) (r .answers)) (r .stopped) (leads c r)
 
@@ -68,6 +69,7 @@ stuckAt false (done (stops p)) = false
 stuckAt false (done (goes p t)) = false
 stuckAt false (done (opens p t q u)) = true
 
+-- the same of a run, which is not stuck after STOP
 unfoldable pub isStuck : Code → Run → Bool
 isStuck c r = stuckAt (r .stopped) (leads c r)
 
@@ -83,5 +85,6 @@ judgeRun budget r =
     cond (r .stopped) (accepted (record { cycles = r .cycles; words = r .words; depth = r .depth; steps = r .steps; path = [] }))
     (refused (cond (ltb (r .steps) budget) (Stuck (r .state .at)) (Spent (r .state .at))))
 
+-- the verdict on the run of BUDGET steps from s
 unfoldable pub run : Code → ℕ → State → List ℤ → Verdict
 run c budget s answers = judgeRun budget (after c budget (begin s answers))

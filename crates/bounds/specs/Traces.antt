@@ -15,6 +15,7 @@ pub record Move : Type 0 where
   pub price : Price
   pub decision : List Decision
 
+-- a move by its parts
 abbrev pub move : State → Price → List Decision → Move
 move s p d = record { state = s; price = p; decision = d }
 
@@ -23,10 +24,12 @@ unfoldable pub cost : List Move → ℕ
 cost [] = 0
 cost (m ∷ ms) = m .price .cycles + cost ms
 
+-- the sum of the words of all transitions
 unfoldable pub wordSum : List Move → ℕ
 wordSum [] = 0
 wordSum (m ∷ ms) = m .price .words + wordSum ms
 
+-- the decisions at the unknown branches of a trace, in order
 unfoldable pub decisions : List Move → List Decision
 decisions [] = []
 decisions (m ∷ ms) = m .decision ++ decisions ms

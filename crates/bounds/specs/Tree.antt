@@ -39,6 +39,7 @@ pub data Step : Type 0 where
   made : ℕ → Step
   not-made : Reason → ℕ → Step
 
+-- the address of a step, made or not
 unfoldable pub address : Step → ℕ
 address (made a) = a
 address (not-made r a) = a
@@ -82,6 +83,7 @@ depth (fork s p t q u) = max (height s) (max (depth t) (depth u))
 pub data Decision : Type 0 where
   N T : Decision
 
+-- the path below a branch: the taken way if it costs at least as much, else the other
 unfoldable pub worse : Bool → List Decision → List Decision → List Decision
 worse true n t = T ∷ t
 worse false n t = N ∷ n
@@ -93,6 +95,7 @@ path (stop s p) = []
 path (next s p t) = path t
 path (fork s p t q u) = worse (leb (p .cycles + cycles t) (q .cycles + cycles u)) (path t) (path u)
 
+-- the figures that are reported
 pub record Report : Type 0 where
   pub cycles : ℕ
   pub words : ℕ
@@ -100,9 +103,11 @@ pub record Report : Type 0 where
   pub steps : ℕ
   pub path : List Decision
 
+-- the report on a tree
 unfoldable pub report : Tree → Report
 report t = record { cycles = cycles t; words = words t; depth = depth t; steps = size t; path = path t }
 
+-- a report, or one of the refusals 7, 8 and 9
 pub data Verdict : Type 0 where
   accepted : Report → Verdict
   refused : Refusal → Verdict
@@ -114,13 +119,14 @@ refusal opens-too-many a = Openings a
 refusal is-cut a = Spent a
 
 -- "If a stuck step or a thirty-third opening stands among the first BUDGET steps, the first such decides. Otherwise, with more than
--- BUDGET steps in the tree, the answer is SPENT", at "the address of the first step not made"
+-- BUDGET steps in the tree, the answer is SPENT", at the "address of the first step not made"
 unfoldable pub judge : ℕ → List Step → Report → Verdict
 judge b [] r = accepted r
 judge zero (x ∷ xs) r = refused (Spent (address x))
 judge (suc b) (made a ∷ xs) r = judge b xs r
 judge (suc b) (not-made y a ∷ xs) r = refused (refusal y a)
 
+-- the verdict on a tree under BUDGET
 unfoldable pub verdict : ℕ → Tree → Verdict
 verdict budget t = judge budget (steps t) (report t)
 

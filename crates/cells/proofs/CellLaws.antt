@@ -38,10 +38,6 @@ allowed-plain known = known
 allowed-plain (some-number h) = known
 allowed-plain same-handle = same-handle
 
-pub allowed-trans : {a b c : Cell} → Allowed a b → Refines b c → Allowed a c
-allowed-trans p same = p
-allowed-trans known (erased h) = some-number h
-
 pub number-allowed : (n : ℤ) → Allowed (number n) unknown
 number-allowed n = some-number (wrap-number n)
 

@@ -10,14 +10,17 @@ use Rattle.cells.specs.declared.Handled.{Handled}
 use Rattle.cells.specs.declared.Handled.the-variants as handled
 use Rattle.cells.specs.Try.{Try, stuck, done}
 
+-- the cell that an operation gives, or stuck
 abbrev pub ofOperand : Operand → Try Cell
 ofOperand (operand.Is c) = done c
 ofOperand operand.Stuck = stuck
 
+-- the condition of a branch, or stuck
 abbrev pub ofTested : Tested → Try Condition
 ofTested (tested.Is c) = done c
 ofTested tested.Stuck = stuck
 
+-- the number of the handled block, or stuck
 abbrev pub ofHandled : Handled → Try ℕ
 ofHandled (handled.Block k) = done k
 ofHandled handled.Stuck = stuck

@@ -13,6 +13,7 @@ use Rattle.cells.specs.declared.Condition.{Condition}
 use Rattle.cells.specs.declared.Condition.the-variants.{IsZero, IsNonzero, IsUnknown}
 use Rattle.cells.specs.Try.{Try, stuck, done}
 
+-- "A cell holds a number, an unknown number or a block handle."
 abbrev pub cell : Value → Cell
 cell v = record { value = v }
 
@@ -20,9 +21,11 @@ cell v = record { value = v }
 abbrev pub number : ℤ → Cell
 number n = cell (Number (wrap n))
 
+-- "An unknown stands for any number and never for a handle."
 abbrev pub unknown : Cell
 unknown = cell Unknown
 
+-- the handle of block k
 abbrev pub handle : ℕ → Cell
 handle k = cell (Handle k)
 
@@ -44,6 +47,7 @@ map₁ f (Number n) = done (number (f n))
 map₁ f Unknown = done unknown
 map₁ f (Handle k) = stuck
 
+-- the same for two operands; a handle is stuck beside an unknown too
 unfoldable pub map₂ : (ℤ → ℤ → ℤ) → Value → Value → Try Cell
 map₂ f (Number m) (Number n) = done (number (f m n))
 map₂ f (Number m) Unknown = done unknown
@@ -53,9 +57,11 @@ map₂ f Unknown Unknown = done unknown
 map₂ f Unknown (Handle k) = stuck
 map₂ f (Handle j) w = stuck
 
+-- an operation on the accumulator, with the operand i
 unfoldable pub operate₁ : Unary → ℤ → Cell → Try Cell
 operate₁ u i a = map₁ (calculate₁ u i) (a .value)
 
+-- an operation on the accumulator and the popped entry
 unfoldable pub operate₂ : Binary → Cell → Cell → Try Cell
 operate₂ b a c = map₂ (calculate₂ b) (a .value) (c .value)
 
@@ -67,6 +73,7 @@ test (Number (negsuc n)) = done IsNonzero
 test Unknown = done IsUnknown
 test (Handle k) = stuck
 
+-- the same of a cell
 unfoldable pub condition : Cell → Try Condition
 condition a = test (a .value)
 
@@ -76,5 +83,6 @@ handled (Number n) = stuck
 handled Unknown = stuck
 handled (Handle k) = done k
 
+-- the block that a cell handles
 unfoldable pub block : Cell → Try ℕ
 block a = handled (a .value)

@@ -19,7 +19,7 @@ pub data Allowed : Cell → Cell → Type 0 where
   some-number : {n : ℤ} → IsNumber n → Allowed (cell (Number n)) unknown
   same-handle : {k : ℕ} → Allowed (handle k) (handle k)
 
--- a relation of cells, entry by entry: "the same cells and no others"
+-- a relation of cells, entry by entry, on lists of one length: "as many stack entries as the file"
 pub data Pointwise {A : Type 0} (R : A → A → Type 0) : List A → List A → Type 0 where
   end : Pointwise R [] []
   cons : {a b : A} {xs ys : List A} → R a b → Pointwise R xs ys → Pointwise R (a ∷ xs) (b ∷ ys)

@@ -26,22 +26,21 @@ argumentCode (Within r) = 1
 argumentCode Target = 2
 argumentCode Primitive = 3
 
--- the ends of the range of a kind that takes a number, else 0
-
+-- the low end of the range of a kind that takes a number, else 0
 unfoldable pub lowest : Argument → ℤ
 lowest Absent = pos 0
 lowest (Within r) = r .low
 lowest Target = pos 0
 lowest Primitive = pos 0
 
+-- the high end
 unfoldable pub highest : Argument → ℤ
 highest Absent = pos 0
 highest (Within r) = r .high
 highest Target = pos 0
 highest Primitive = pos 0
 
--- the operations, and those of them that alter the accumulator or combine it with an entry
-
+-- the code of each comparison
 unfoldable pub comparisonCode : Comparison → ℕ
 comparisonCode Equal = 17
 comparisonCode Unequal = 18
@@ -50,16 +49,19 @@ comparisonCode AtMost = 20
 comparisonCode Greater = 21
 comparisonCode AtLeast = 22
 
+-- of each operation on two cells
 unfoldable pub binaryCode : Binary → ℕ
 binaryCode Add = 15
 binaryCode Subtract = 16
 binaryCode (Compare c) = comparisonCode c
 
+-- of each operation on the accumulator alone
 unfoldable pub unaryCode : Unary → ℕ
 unaryCode Offset = 5
 unaryCode Negate = 6
 unaryCode Complement = 7
 
+-- of each operation
 unfoldable pub operationCode : Operation → ℕ
 operationCode Nothing = 0
 operationCode Access = 1
@@ -76,12 +78,13 @@ operationCode Call = 13
 operationCode Stop = 14
 operationCode (Combine b) = binaryCode b
 
--- the operations in the order of their codes, and the operation of a code
+-- the operations in the order of their codes
 unfoldable pub operations : List Operation
 operations =
     Nothing ∷ Access ∷ Drop ∷ Assign ∷ Constant ∷ Alter Offset ∷ Alter Negate ∷ Alter Complement
     ∷ GetField ∷ SetField ∷ Branch ∷ BranchIf ∷ BranchIfNot ∷ Call ∷ Stop ∷ Combine Add ∷ Combine Subtract
     ∷ Combine (Compare Equal) ∷ Combine (Compare Unequal) ∷ Combine (Compare Less) ∷ Combine (Compare AtMost) ∷ Combine (Compare Greater) ∷ Combine (Compare AtLeast) ∷ []
 
+-- the operation of a code
 unfoldable pub operationOf : ℕ → Operation
 operationOf k = getD operations k Stop

@@ -50,6 +50,7 @@ pub record Kind : Type 0 where
   pub operation : Operation
   pub fixed : ℤ
 
+-- a kind by its columns
 abbrev pub kind : String → Argument → Bool → Operation → ℕ → Kind
 kind s a p o n = record { name = bytes s; argument = a; pushes = p; operation = o; fixed = pos n }
 

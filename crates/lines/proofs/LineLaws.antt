@@ -1,15 +1,14 @@
 -- Laws of tests joined by `&&`, of a match, and of a loop over words. Assumes nothing.
-use Prim.Native.Nat.{ℕ, suc, _+_, _-_, _<_, _≤_}
+use Prim.Native.Nat.{ℕ, suc, _<_, _≤_}
 use mathlib.Core.Path.{_≡_, refl, sym, ap, ap₂, _∙_}
-use mathlib.Core.Bool.{Bool, true, false, not, _&&_}
-use mathlib.Core.Bool.{and-true as and-right}
+use mathlib.Core.Bool.{Bool, true, false, not, _&&_, and-true as and-right}
 use mathlib.Core.List.{List, [], _∷_}
 use native.Mathlib.Omega.{arith}
 use lib.Dec.{ltb}
-use lib.ListN.{length, take, drop}
+use lib.ListN.{length, take}
 use borrow.Author.Tests.{lt-ltb}
 use Rattle.text.specs.Text.{isEmpty, words, among, find, all}
-use Rattle.text.proofs.ScanLaws.{firstLength}
+use Rattle.text.proofs.ScanLaws.{firstLength, past}
 use Rattle.text.proofs.PieceLaws.{words-more, words-last, among-find}
 use Rattle.instructions.specs.Kinds.{kinds, kindNames}
 
@@ -55,11 +54,11 @@ filled (x ∷ xs) = lt-ltb 0 (suc (length xs)) (omega arith)
 module _ (t : List ℕ → Bool) (l : List ℕ) (n : ℕ) (q : n ≡ firstLength 32 l) where
   pub all-stop : n < length l → t (take n l) ≡ false → all t (words l) ≡ false
   unfolding all
-  all-stop h e = ap (all t) (words-more l n q h) ∙ ap (λ b. b && all t (words (take (length l - (n + 1)) (drop (n + 1) l)))) e
+  all-stop h e = ap (all t) (words-more l n q h) ∙ ap (λ b. b && all t (words (past n l))) e
 
-  pub all-next : n < length l → t (take n l) ≡ true → all t (words l) ≡ all t (words (take (length l - (n + 1)) (drop (n + 1) l)))
+  pub all-next : n < length l → t (take n l) ≡ true → all t (words l) ≡ all t (words (past n l))
   unfolding all
-  all-next h e = ap (all t) (words-more l n q h) ∙ ap (λ b. b && all t (words (take (length l - (n + 1)) (drop (n + 1) l)))) e
+  all-next h e = ap (all t) (words-more l n q h) ∙ ap (λ b. b && all t (words (past n l))) e
 
   pub all-last : length l ≤ n → all t (words l) ≡ t l
   unfolding all

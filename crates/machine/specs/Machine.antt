@@ -25,6 +25,7 @@ pub record State : Type 0 where
   pub stack : List Cell
   pub blocks : List (List Cell)
 
+-- "a stack of at most 64 cells"
 abbrev pub stackLimit : ℕ
 stackLimit = 64
 
@@ -32,6 +33,7 @@ stackLimit = 64
 unfoldable pub height : State → ℕ
 height s = length (s .stack)
 
+-- what a step costs, in cycles and in words
 pub record Price : Type 0 where
   pub cycles : ℕ
   pub words : ℕ
@@ -45,6 +47,7 @@ pub record Instruction : Type 0 where
   pub calls : Bool
   pub price : Price
 
+-- the instruction of kind k with the argument a, at the price p
 unfoldable pub instruction : Kind → ℤ → Price → Instruction
 instruction k a p = record { pushes = k .pushes; operation = k .operation; operand = operand k a; calls = calls (k .argument); price = p }
 
@@ -53,6 +56,7 @@ pub record Prices : Type 0 where
   pub kinds : ℕ → Price
   pub primitives : ℕ → Price
 
+-- two prices together
 abbrev pub sum : Price → Price → Price
 sum p q = record { cycles = p .cycles + q .cycles; words = p .words + q .words }
 
@@ -83,16 +87,19 @@ pub data Next : Type 0 where
   goes : Price → State → Next
   opens : Price → State → Price → State → Next
 
--- a state with one part replaced
+-- a state with another address
 unfoldable pub jump : ℕ → State → State
 jump a s = record { at = a; accu = s .accu; stack = s .stack; blocks = s .blocks }
 
+-- another accumulator
 unfoldable pub load : Cell → State → State
 load c s = record { at = s .at; accu = c; stack = s .stack; blocks = s .blocks }
 
+-- another stack
 unfoldable pub restack : List Cell → State → State
 restack cs s = record { at = s .at; accu = s .accu; stack = cs; blocks = s .blocks }
 
+-- other blocks
 unfoldable pub store : List (List Cell) → State → State
 store bs s = record { at = s .at; accu = s .accu; stack = s .stack; blocks = bs }
 
@@ -100,7 +107,7 @@ store bs s = record { at = s .at; accu = s .accu; stack = s .stack; blocks = bs 
 unfoldable pub push : State → Try State
 push s = cond (ltb (height s) stackLimit) (done (restack (s .accu ∷ s .stack) s)) stuck
 
--- "POP n: drop n"; "Stuck: an entry popped that is not there"
+-- "POP n (0 to 64): drop n."; "Stuck: an entry popped that is not there"
 unfoldable pub pop : ℕ → State → Try State
 pop n s = without n (s .stack) >>= λ cs. done (restack cs s)
 
@@ -111,6 +118,7 @@ getField n s =
     nth k (s .blocks) >>= λ b.
     nth n b
 
+-- "field n becomes the popped entry"; stuck where `getField` is
 unfoldable pub setField : ℕ → Cell → State → Try State
 setField n c s =
     block (s .accu) >>= λ k.
@@ -123,6 +131,7 @@ setField n c s =
 unfoldable pub advance : State → State
 advance s = jump (suc (s .at)) s
 
+-- a step that does not jump, at the price p
 unfoldable pub ahead : Price → Try State → Try Next
 ahead p m = m >>= λ s. done (goes p (advance s))
 
@@ -165,6 +174,7 @@ unfoldable pub prepare : Bool → State → Try State
 prepare true s = push s
 prepare false s = done s
 
+-- an instruction, where a C_CALL gets the answer r
 unfoldable pub execute : Cell → Instruction → State → Try Next
 execute r i s = prepare (i .pushes) s >>= λ t. perform (i .price) r (i .operation) (i .operand) t
 
@@ -177,5 +187,6 @@ unfoldable pub takes : Try Instruction → Bool
 takes stuck = false
 takes (done i) = i .calls
 
+-- the same of a state: "A C_CALL takes the next answer off the list"
 unfoldable pub takesAnswer : Code → State → Bool
 takesAnswer c s = takes (fetch c (s .at))

@@ -11,13 +11,12 @@ use lib.Seq.{length-take-le, take-suc, take-suc-set}
 use borrow.Author.Tests.{eqb-true, eqb-false, eq-eqb, ne-eqb, ltb-true}
 use Rattle.text.specs.Text.{bytes, equals, words}
 use Rattle.text.specs.Decimal.{decimal}
-use Rattle.text.proofs.ScanLaws.{firstLength, cut-more, cut-last}
-use Rattle.text.proofs.TextLaws.{and-left, and-right, Every, none, more}
+use Rattle.text.proofs.ScanLaws.{firstLength, past, cut-more, cut-last}
+use Rattle.text.proofs.TextLaws.{and-left, and-right}
 use Rattle.routine.specs.Layout.{list}
 use Rattle.routine.specs.Rows.{isField, sizesFrom, blockSizes, total}
 use Rattle.names.specs.declared.Blocks.{Blocks}
 use Rattle.names.specs.Names.{BlocksOf, added}
-use Rattle.names.proofs.NameLaws.{past}
 
 -- ---- bounds
 
@@ -32,82 +31,6 @@ unfolding isField
 place-below k n w e =
     let f = equals w (bytes "B" ++ decimal k ++ bytes "." ++ decimal n) in
     ltb-true n 16 (and-right (ltb k 8) (ltb n 16) (and-left (ltb k 8 && ltb n 16) f e))
-
-few-from : (k n : ℕ) (ws : List (List ℕ)) → k < 8 → k + length (sizesFrom k n ws) ≤ 8
-unfolding sizesFrom
-few-from k n [] h = omega arith
-few-from k n (w ∷ ws) h = go (isField k n w) (isField (suc k) 0 w) refl (few-from k (suc n) ws h) (few-from (suc k) 1 ws)
-  where
-    go : (a b : Bool) → isField (suc k) 0 w ≡ b → k + length (sizesFrom k (suc n) ws) ≤ 8 → (suc k < 8 → suc k + length (sizesFrom (suc k) 1 ws) ≤ 8)
-        → k + length (cond a (sizesFrom k (suc n) ws) (cond b (n ∷ sizesFrom (suc k) 1 ws) (n ∷ []))) ≤ 8
-    go true b e i j = i
-    go false true e i j = let q = j (block-below (suc k) 0 w e) in omega arith
-    go false false e i j = omega arith
-
-pub few-blocks : (ws : List (List ℕ)) → length (blockSizes ws) ≤ 8
-unfolding blockSizes
-few-blocks [] = omega arith
-few-blocks (w ∷ ws) = go (isField 0 0 w)
-  where
-    go : (a : Bool) → length (cond a (sizesFrom 0 1 ws) []) ≤ 8
-    go true = let q = few-from 0 1 ws (omega arith) in omega arith
-    go false = omega arith
-
--- "1 to 16 fields in each"
-pub record Size (n : ℕ) : Type 0 where
-  pub some : 1 ≤ n
-  pub most : n ≤ 16
-
-size : (n : ℕ) → 1 ≤ n → n ≤ 16 → Size n
-size n a b = record { some = a; most = b }
-
-sizes-from : (k n : ℕ) (ws : List (List ℕ)) → 1 ≤ n → n ≤ 16 → Every Size (sizesFrom k n ws)
-unfolding sizesFrom
-sizes-from k n [] a b = more (size n a b) none
-sizes-from k n (w ∷ ws) a b = go (isField k n w) (isField (suc k) 0 w) refl (sizes-from k (suc n) ws (omega arith)) (sizes-from (suc k) 1 ws (omega arith) (omega arith))
-  where
-    go : (x y : Bool) → isField k n w ≡ x → (suc n ≤ 16 → Every Size (sizesFrom k (suc n) ws)) → Every Size (sizesFrom (suc k) 1 ws)
-        → Every Size (cond x (sizesFrom k (suc n) ws) (cond y (n ∷ sizesFrom (suc k) 1 ws) (n ∷ [])))
-    go true y e i j = let q = place-below k n w e in i (omega arith)
-    go false true e i j = more (size n a b) j
-    go false false e i j = more (size n a b) none
-
-pub block-size : (ws : List (List ℕ)) → Every Size (blockSizes ws)
-unfolding blockSizes
-block-size [] = none
-block-size (w ∷ ws) = go (isField 0 0 w)
-  where
-    go : (a : Bool) → Every Size (cond a (sizesFrom 0 1 ws) [])
-    go true = sizes-from 0 1 ws (omega arith) (omega arith)
-    go false = none
-
-total-from : (k n : ℕ) (ws : List (List ℕ)) → total (sizesFrom k n ws) ≤ n + length ws
-unfolding sizesFrom total
-total-from k n [] = omega arith
-total-from k n (w ∷ ws) = go (isField k n w) (isField (suc k) 0 w) (total-from k (suc n) ws) (total-from (suc k) 1 ws)
-  where
-    go : (x y : Bool) → total (sizesFrom k (suc n) ws) ≤ suc n + length ws → total (sizesFrom (suc k) 1 ws) ≤ 1 + length ws
-        → total (cond x (sizesFrom k (suc n) ws) (cond y (n ∷ sizesFrom (suc k) 1 ws) (n ∷ []))) ≤ n + suc (length ws)
-    go true y i j = omega arith
-    go false true i j = omega arith
-    go false false i j = omega arith
-
-pub total-names : (ws : List (List ℕ)) → total (blockSizes ws) ≤ length ws
-unfolding blockSizes total
-total-names [] = omega arith
-total-names (w ∷ ws) = go (isField 0 0 w)
-  where
-    go : (a : Bool) → total (cond a (sizesFrom 0 1 ws) []) ≤ suc (length ws)
-    go true = let q = total-from 0 1 ws in omega arith
-    go false = omega arith
-
-total-sizes : (ns : List ℕ) → Every Size ns → total ns ≤ 16 * length ns
-unfolding total
-total-sizes [] none = omega arith
-total-sizes (n ∷ ns) (more s ss) = let a = s .most in let q = total-sizes ns ss in omega arith
-
-pub total-most : (ws : List (List ℕ)) → total (blockSizes ws) ≤ 128
-total-most ws = let a = total-sizes (blockSizes ws) (block-size ws) in let b = few-blocks ws in omega arith
 
 -- ---- name by name
 
@@ -269,7 +192,7 @@ small-set (x ∷ xs) zero v h l (suc k) = h (suc k)
 small-set (x ∷ xs) (suc i) v h l zero = h zero
 small-set (x ∷ xs) (suc i) v h l (suc k) = small-set xs i v (λ j. h (suc j)) l k
 
-small-total : (n : ℕ) (s : List ℕ) → Small s → total (take n s) ≤ 16 * n
+pub small-total : (n : ℕ) (s : List ℕ) → Small s → total (take n s) ≤ 16 * n
 unfolding total
 small-total zero s h = omega arith
 small-total (suc n) [] h = omega arith

@@ -1,6 +1,6 @@
 -- Laws of the names on a line, as the code scans them: word by word for repeated names and for the names of the cells, byte by byte
 -- for a primitive's name, and a field's name spelt out. Assumes nothing.
-use Prim.Native.Nat.{ℕ, zero, suc, _+_, _-_, _<_, _≤_, _/_, _%_}
+use Prim.Native.Nat.{ℕ, zero, suc, _+_, _<_, _≤_, _/_, _%_}
 use mathlib.Core.Path.{_≡_, refl, ap, _∙_}
 use mathlib.Core.Bool.{Bool, true, false, _&&_, and-true, and-false}
 use mathlib.Core.List.{List, [], _∷_}
@@ -12,13 +12,9 @@ use borrow.Author.Tests.{lt-ltb, le-ltb}
 use Rattle.text.specs.Text.{equals, split, words, among, distinct, all}
 use Rattle.text.specs.Decimal.{digits, decimal}
 use Rattle.text.proofs.DecimalLaws.{decimal-one}
-use Rattle.text.proofs.ScanLaws.{firstLength, cut-more, cut-last}
+use Rattle.text.proofs.ScanLaws.{firstLength, past, cut-more, cut-last}
 use Rattle.text.proofs.PieceLaws.{split-some, first-le, first-piece}
 use Rattle.routine.specs.Rows.{isCapital, inName, isName, equalLists, isField}
-
--- what follows the first n bytes of l and the byte that ends them, as the code takes it: `&l[n + 1..]`
-abbrev pub past : ℕ → List ℕ → List ℕ
-past n l = take (length l - (n + 1)) (drop (n + 1) l)
 
 pub first-within : (l : List ℕ) (n : ℕ) → n ≡ firstLength 32 l → n ≤ length l
 first-within l n q = rw q (first-le 32 l)

@@ -1,16 +1,15 @@
--- Laws of numbers: wrapping gives a number, keeps every number and keeps the remainder; the range of numbers is what a number is.
--- Assumes nothing.
+-- Laws of numbers: wrapping gives a number and keeps every number. Assumes nothing.
 use mathlib.Core.Path.{_≡_, refl, ap, _∙_}
 use mathlib.Core.Bool.{Bool, true, false, cond}
 use mathlib.Core.Logic.{_⊎_, inl, inr}
 use Prim.Native.Nat.{ℕ, suc, _-_, _%_, _<_, _≤_}
 use native.Mathlib.Nat.{mod-lt, mod-eq-of-lt}
 use native.Mathlib.Omega.{arith}
-use lib.Dec.{ltb, leb}
+use lib.Dec.{ltb}
 use lib.IntN.{ℤ, pos, negsuc}
 use lib.Signed.{mag}
-use borrow.Author.Tests.{lt-ltb, le-ltb, le-leb, ltb-true, ltb-false, leb-true}
-use Rattle.numbers.specs.Numbers.{modulus, half, IsNumber, residue, signed, wrap, within, numbers}
+use borrow.Author.Tests.{lt-ltb, le-ltb, ltb-true, ltb-false}
+use Rattle.numbers.specs.Numbers.{modulus, half, IsNumber, residue, signed, wrap}
 
 residue-fits : (z : ℤ) → residue z < modulus
 residue-fits (pos n) = mod-lt n (omega arith)
@@ -34,17 +33,9 @@ signed-number : (r : ℕ) → r < modulus → (r < half) ⊎ (half ≤ r) → ma
 signed-number r h (inl l) = rw (signed-low r l) l
 signed-number r h (inr l) = rw (signed-high r l) (omega arith)
 
-signed-residue : (r : ℕ) → r < modulus → (r < half) ⊎ (half ≤ r) → residue (signed r) ≡ r
-signed-residue r h (inl l) = rw (signed-low r l) (mod-eq-of-lt h)
-signed-residue r h (inr l) = rw (signed-high r l) (rw (mod-eq-of-lt {n = modulus - suc r} {m = modulus} (omega arith)) (omega arith))
-
 pub wrap-number : (z : ℤ) → IsNumber (wrap z)
 unfolding wrap
 wrap-number z = record { fits = signed-number (residue z) (residue-fits z) (halves (residue z)) }
-
-pub wrap-residue : (z : ℤ) → residue (wrap z) ≡ residue z
-unfolding wrap
-wrap-residue z = signed-residue (residue z) (residue-fits z) (halves (residue z))
 
 pub wrap-keeps : (z : ℤ) → IsNumber z → wrap z ≡ z
 unfolding wrap
@@ -56,16 +47,3 @@ wrap-keeps (negsuc n) h =
     let k : n < half = h .fits in
     let e : n % modulus ≡ n = mod-eq-of-lt (omega arith) in
     ap signed (ap (λ r. modulus - suc r) e) ∙ signed-high (modulus - suc n) (omega arith) ∙ ap negsuc (omega arith)
-
--- the range of numbers
-pub number-within : (z : ℤ) → IsNumber z → within numbers z ≡ true
-number-within (pos n) h = let k : n < half = h .fits in le-leb n (half - 1) (omega arith)
-number-within (negsuc n) h = let k : n < half = h .fits in ap (λ t. cond t true false) (le-leb n (half - 1) (omega arith))
-
-pub within-number : (z : ℤ) → within numbers z ≡ true → IsNumber z
-within-number (pos n) e = let k = leb-true n (half - 1) e in record { fits = omega arith }
-within-number (negsuc n) e = let k = leb-true n (half - 1) (kept (leb n (half - 1)) e) in record { fits = omega arith }
-  where
-    kept : (t : Bool) → cond t true false ≡ true → t ≡ true
-    kept true e = refl
-    kept false e = e

@@ -12,9 +12,11 @@ use Rattle.numbers.specs.declared.Range.{Range}
 abbrev pub bits : ℕ
 bits = 32
 
+-- how many numbers there are
 abbrev pub modulus : ℕ
 modulus = 2 ^ bits
 
+-- half of them are below 0
 abbrev pub half : ℕ
 half = 2 ^ (bits - 1)
 
@@ -35,6 +37,7 @@ signed r = cond (ltb r half) (pos r) (negsuc (modulus - suc r))
 unfoldable pub wrap : ℤ → ℤ
 wrap z = signed (residue z)
 
+-- whether two numbers are equal
 abbrev pub same : ℤ → ℤ → Bool
 same (pos m) (pos n) = eqb m n
 same (pos m) (negsuc n) = false
@@ -55,6 +58,7 @@ abbrev pub bit : Bool → ℤ
 bit true = pos 1
 bit false = pos 0
 
+-- whether a number is within a range, both ends included
 abbrev pub within : Range → ℤ → Bool
 within r z = cond (leZ (r .low) z) (leZ z (r .high)) false
 

@@ -10,6 +10,7 @@ use Rattle.cells.specs.declared.Cell.{Cell}
 use Rattle.states.specs.View.{blocksOf}
 use Rattle.routine.specs.Rows.{total}
 use Rattle.routine.specs.Routine.{blocksOf as blocksInLine}
+use Rattle.names.proofs.BlockLaws.{small-total}
 
 -- one more block
 
@@ -71,11 +72,6 @@ total-suc [] k h = absurd (omega arith)
 total-suc (x ∷ l) zero h = omega arith
 total-suc (x ∷ l) (suc k) h = let e : suc k + 1 ≡ suc (k + 1) = omega arith in rw e (omega (arith, total-suc l k (omega arith)))
 
-total-few : (l : List ℕ) → ((j : ℕ) → getD l j 0 ≤ 16) → total l ≤ length l * 16
-unfolding total
-total-few [] h = omega arith
-total-few (x ∷ l) h = omega (arith, h 0, total-few l (λ j. h (suc j)))
-
 module _ (sizes : List ℕ) (count : ℕ) (few : (k : ℕ) → getD (take count sizes) k 0 ≤ 16) (k : ℕ) (h : k < count) (r : k < length sizes) where
   -- the cells passed with the next block, and those of all blocks
   pub passed-more : total (take (k + 1) sizes) ≡ total (take k sizes) + getD sizes k 0
@@ -90,7 +86,7 @@ module _ (sizes : List ℕ) (count : ℕ) (few : (k : ℕ) → getD (take count 
   first-few = rw (take-take k count sizes (omega arith)) at (few-take (take count sizes) k few)
 
   pub passed-few : total (take k sizes) ≤ k * 16
-  passed-few = omega (arith, total-few (take k sizes) first-few, length-take-le k sizes (omega arith))
+  passed-few = omega (arith, small-total k (take count sizes) few, ap total (take-take k count sizes (omega arith)))
 
   pub block-few : getD sizes k 0 ≤ 16
   block-few = rw (getD-take count sizes k 0 h) at (few k)

@@ -7,7 +7,7 @@ use native.Mathlib.Numerals.{add-one}
 use lib.ListN.{length, getD, take, drop, set, length-drop, List·getD-map}
 use lib.Seq.{take-all, take-suc, take-suc-set, drop-set-add, getD-drop, drop-drop}
 use Rattle.text.specs.Text.{Line, noLine, lines}
-use Rattle.text.proofs.LineLaws.{line-drop, lines-empty}
+use Rattle.text.proofs.LineLaws.{line-drop, lines-none}
 
 module _ {A : Type 0} where
   -- one more entry
@@ -42,10 +42,9 @@ pub line-next : (ls rest next : List Line) (n : ℕ) → rest ≡ drop n ls → 
 line-next ls rest next n e q = q ∙ ap (drop 1) e ∙ drop-drop 1 n ls
 
 pub line-end : (s : List ℕ) (ls : List Line) (n : ℕ) → lines s ≡ drop n ls → length s ≡ 0 → length ls ≤ n
-line-end [] ls n e h =
-    let m : length (drop n ls) ≡ 0 = sym (ap length e) ∙ ap length (lines-empty [] refl) in
+line-end s ls n e h =
+    let m : length (drop n ls) ≡ 0 = sym (ap length e) ∙ ap length (lines-none s (omega arith)) in
     omega (arith, length-drop n ls)
-line-end (x ∷ xs) ls n e h = absurd (omega arith)
 
 -- what a function says of line n
 pub line-is : {B : Type 0} (f : Line → B) (ls rest : List Line) (n : ℕ) → rest ≡ drop n ls → f (getD rest 0 noLine) ≡ getD (map f ls) n (f noLine)

@@ -7,7 +7,7 @@ use native.Mathlib.Omega.{arith}
 use lib.ListN.{length, getD, take, drop}
 use Rattle.text.specs.Text.{bytes, equals, words, Line, lines, noLine}
 use Rattle.text.proofs.PieceLaws.{words-length}
-use Rattle.text.proofs.LineLaws.{lines-first, lines-empty}
+use Rattle.text.proofs.LineLaws.{lines-first, lines-none}
 use Rattle.routine.specs.Layout.{list, isAnswer, upToAnswer, pastAnswer, codeLines, answerLines}
 
 pub list-length : (s : List ℕ) → length (list s) ≤ length s + 1
@@ -52,8 +52,7 @@ answer-drop (l ∷ ls) = past-drop ls
 
 pub code-none : (s : List ℕ) → length s ≡ 0 → length (codeLines (lines s)) ≡ 0
 unfolding codeLines
-code-none [] h = rw (lines-empty [] refl) refl
-code-none (x ∷ xs) h = absurd (omega arith)
+code-none s h = rw (lines-none s (omega arith)) refl
 
 pub code-first : (s : List ℕ) (rest : List Line) → 0 < length s → rest ≡ drop 1 (lines s) → length (codeLines (lines s)) ≡ suc (length (upToAnswer rest))
 unfolding codeLines
@@ -70,5 +69,4 @@ module _ (s : List ℕ) (text : List ℕ) (h : 0 < length s) (t : text ≡ getD 
 
 pub code-end : (s : List ℕ) → length s ≡ 0 → length (upToAnswer (lines s)) ≡ 0
 unfolding upToAnswer
-code-end [] h = rw (lines-empty [] refl) refl
-code-end (x ∷ xs) h = absurd (omega arith)
+code-end s h = rw (lines-none s (omega arith)) refl

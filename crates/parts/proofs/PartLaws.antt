@@ -8,16 +8,14 @@ use Rattle.numbers.specs.declared.Range.{Range}
 use Rattle.numbers.specs.Numbers.{numbers}
 use Rattle.cells.specs.declared.Cell.{Cell}
 use Rattle.states.specs.declared.State as code
-use Rattle.machine.specs.Machine.{State, store}
+use Rattle.machine.specs.Machine.{store}
 use Rattle.states.specs.View.{view, blocksOf, whole}
-use Rattle.routine.specs.declared.Section.{Section}
 use Rattle.routine.specs.declared.Section.the-variants.{Limits as limits, Kinds as kinds, Primitives as primitives, Cells as cells, Fields as fields}
 use Rattle.routine.specs.declared.Column.the-variants.{Limit as limit, Cycles as cycles, Words as words-column, Cell as cell}
 use Rattle.routine.specs.declared.Role.the-variants.{Names as names, Values as values}
 use Rattle.routine.specs.Layout.{layout, body, codeLines, textAt, listed}
 use Rattle.routine.specs.Rows.{value, blockSizes}
-use Rattle.routine.specs.Routine.{inside, limitAt, priceAt, prices, instructionOf, codeOf, cellsOf, startOf, routineOf}
-use Rattle.routine.specs.Routine.{blocksOf as blocksInLine}
+use Rattle.routine.specs.Routine.{inside, limitAt, priceAt, prices, instructionOf, codeOf, cellsOf, startOf, routineOf, blocksOf as blocksInLine}
 use Rattle.parts.specs.Parts.{naturalAt, PriceLines, priceLines, pricesIn, instructionAs, instructionIn, cellsIn, startIn}
 use Rattle.parts.proofs.ListLaws.{code-take, answer-drop}
 
@@ -31,10 +29,6 @@ pub limit-in : (r : Range) (i : ℕ) (ls : List Line) → limitAt r i ls ≡ nat
 unfolding limitAt listed
 limit-in r i ls = refl
 
-pub instruction-in : (ls : List Line) (text : List ℕ) → instructionOf ls text ≡ instructionIn (linesOfPrices ls) text
-unfolding instructionOf prices priceAt listed instructionIn instructionAs pricesIn
-instruction-in ls text = refl
-
 -- the instructions are those of the first lines after the layout
 pub instructions-in : (ls : List Line) → codeOf ls .instructions ≡ map (λ l. instructionIn (linesOfPrices ls) (l .text)) (take (length (codeLines (body ls))) (body ls))
 unfolding codeOf instructionOf prices priceAt listed instructionIn instructionAs pricesIn
@@ -44,10 +38,6 @@ instructions-in ls = ap (map (λ (l : Line). instructionIn (linesOfPrices ls) (l
 pub answers-in : (ls : List Line) → routineOf ls .answers ≡ map (λ l. inside numbers (value (l .text))) (drop (suc (length (codeLines (body ls)))) (body ls))
 unfolding routineOf
 answers-in ls = ap (map (λ (l : Line). inside numbers (value (l .text)))) (answer-drop (body ls))
-
-pub cells-in : (s : Section) (ls : List Line) → cellsOf s ls ≡ cellsIn (textAt (values s cell) layout ls)
-unfolding cellsOf listed cellsIn
-cells-in s ls = refl
 
 -- the start, with its blocks
 pub start-whole : (ls : List Line) (s : code.State) (ns : List ℕ) (fs : List Cell)

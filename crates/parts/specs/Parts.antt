@@ -34,9 +34,11 @@ pub record PriceLines : Type 0 where
   pub primitiveCycles : List ℕ
   pub primitiveWords : List ℕ
 
+-- the six lines by their texts
 abbrev pub priceLines : List ℕ → List ℕ → List ℕ → List ℕ → List ℕ → List ℕ → PriceLines
 priceLines ks kc kw ps pc pw = record { kinds = ks; kindCycles = kc; kindWords = kw; primitives = ps; primitiveCycles = pc; primitiveWords = pw }
 
+-- the prices on the six lines, by place
 unfoldable pub pricesIn : PriceLines → Prices
 pricesIn p = record { kinds = λ i. priceIn (p .kindCycles) (p .kindWords) i; primitives = λ i. priceIn (p .primitiveCycles) (p .primitiveWords) i }
 

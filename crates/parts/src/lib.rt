@@ -18,8 +18,7 @@ ghost use Rattle.states.specs.Columns.{line, lineOf, linesOf};
 ghost use Rattle.states.specs.View.{view, blocksOf};
 ghost use Rattle.routine.specs.Layout.{list, codeLines};
 ghost use Rattle.routine.specs.Rows.{value, total};
-ghost use Rattle.routine.specs.Routine.{inside, argumentValue};
-ghost use Rattle.routine.specs.Routine.{blocksOf as blocksInLine};
+ghost use Rattle.routine.specs.Routine.{inside, argumentValue, blocksOf as blocksInLine};
 ghost use Rattle.parts.specs.Parts.{naturalAt, priceLines, instructionIn, Coded, cellsIn, startIn};
 
 // ---- the words of a line

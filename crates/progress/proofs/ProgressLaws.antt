@@ -13,7 +13,7 @@ use Rattle.cells.specs.declared.Cell.{Cell}
 use Rattle.cells.specs.Cells.{number}
 use Rattle.states.specs.declared.State as code
 use Rattle.states.specs.declared.code.Line.{Line}
-use Rattle.machine.specs.Machine.{State, stops, goes, height, store}
+use Rattle.machine.specs.Machine.{stops, goes, height, store}
 use Rattle.states.specs.Columns.{lineOf}
 use Rattle.states.specs.View.{Fits, whole}
 use Rattle.bounds.specs.Run.{Run, begin, answer, remaining, moved}

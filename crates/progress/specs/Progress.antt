@@ -29,6 +29,7 @@ pub record Counted (r : Progress) : Type 0 where
   pub cycles : r .cycles ≤ 4294967296 * r .steps
   pub words : r .words ≤ 4294967296 * r .steps
 
+-- what holds of every run so far: its blocks fit, its stack is within its array, and its counts are small
 pub record Sound (ns : List ℕ) (r : Progress) : Type 0 where
   pub fits : Fits ns (r .blocks)
   pub free : r .state .free ≤ 64

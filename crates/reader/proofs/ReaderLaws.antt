@@ -40,7 +40,6 @@ use Rattle.rows.specs.declared.Reader.the-variants.{Bound, Run}
 use Rattle.rows.proofs.FoundLaws.{first-value}
 use Rattle.reader.specs.Reader.{Holds, Limited, blank, Shows, Counted, HoldsCode, firstIn}
 use Rattle.reader.specs.declared.Routine.{Routine}
-use Rattle.reader.specs.declared.Reading.{Reading}
 
 -- ---- the first address
 

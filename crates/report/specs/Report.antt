@@ -11,6 +11,7 @@ use Rattle.bounds.specs.Tree.{Report, Decision, N, T}
 unfoldable pub share : ℕ → ℕ → ℕ
 share tick cycles = (2 * (cycles * 1000) + tick) / (2 * tick)
 
+-- the letter of a decision: N or T
 abbrev pub letter : Decision → ℕ
 letter N = 78
 letter T = 84
@@ -20,9 +21,11 @@ unfoldable pub pathText : List Decision → List ℕ
 pathText [] = bytes "-"
 pathText (d ∷ ds) = letter d ∷ map letter ds
 
+-- "parted by one space"
 abbrev pub space : List ℕ
 space = bytes " "
 
+-- "Each line ends in a line feed"
 abbrev pub feed : List ℕ
 feed = bytes "\n"
 
@@ -30,6 +33,7 @@ feed = bytes "\n"
 unfoldable pub figures : Report → List ℕ
 figures q = decimal (q .cycles) ++ space ++ decimal (q .words) ++ space ++ decimal (q .depth) ++ space ++ decimal (q .steps)
 
+-- the report of the bound: a line of names, a line of values
 unfoldable pub boundText : ℕ → Report → List ℕ
 boundText tick q =
     bytes "CYCLES WORDS DEPTH STEPS SHARE PATH\n" ++ figures q ++ space ++ decimal (share tick (q .cycles)) ++ space ++ pathText (q .path) ++ feed
@@ -42,5 +46,6 @@ runText q = bytes "CYCLES WORDS DEPTH STEPS\n" ++ figures q ++ feed
 unfoldable pub refusalLine : ℕ → ℕ → List ℕ
 refusalLine number place = bytes "REFUSED " ++ decimal number ++ space ++ decimal place ++ feed
 
+-- the line of a refusal, by its number and its place
 unfoldable pub refusalText : Refusal → List ℕ
 refusalText r = refusalLine (number r) (place r)

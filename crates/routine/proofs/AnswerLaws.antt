@@ -1,17 +1,15 @@
 -- "Once a file passes 1 to 6, the bound does not depend on ANSWER.": the routine but for its answers is read off the lines of the
 -- layout and the code lines alone. Assumes nothing.
-use Prim.Native.Nat.{ℕ, _<_, _≤_}
+use Prim.Native.Nat.{ℕ}
 use mathlib.Core.Path.{_≡_, refl, sym, ap, _∙_}
-use mathlib.Core.Bool.{true, cond}
-use mathlib.Core.List.{List, [], _∷_, _++_}
-use native.Mathlib.Omega.{arith}
+use mathlib.Core.Bool.{cond}
+use mathlib.Core.List.{List, [], _∷_}
 use lib.Dec.{eqb}
-use lib.ListN.{length, take, length-drop}
-use lib.Seq.{take-append-le, drop-append-le}
+use lib.ListN.{length, take}
 use Rattle.text.specs.Text.{Line}
 use Rattle.routine.specs.declared.Section.{Section}
 use Rattle.routine.specs.declared.Role.{Role}
-use Rattle.routine.specs.Layout.{layout, isAnswer, body, upToAnswer, codeLines, list, tag, textAt, listed}
+use Rattle.routine.specs.Layout.{layout, body, codeLines, list, tag, textAt, listed}
 use Rattle.numbers.specs.declared.Range.{Range}
 use Rattle.routine.specs.Rows.{budgets, ticks, firstAt}
 use Rattle.routine.specs.Routine.{Routine, limitAt, priceAt, prices, instructionOf, codeOf, cellsOf, startOf, routineOf}
@@ -72,24 +70,3 @@ module _ (ls ms : List Line) (e : take (length layout) ls ≡ take (length layou
   pub same-but-answers : SameButAnswers (routineOf ls) (routineOf ms)
   unfolding routineOf
   same-but-answers = (same-limit budgets 0, same-limit ticks 1, same-code, same-start)
-
--- ---- a file with an ANSWER section and without it
-
-module _ (a : Line) (answers : List Line) (e : isAnswer a ≡ true) where
-  up-to-answer : (ls : List Line) → upToAnswer (ls ++ a ∷ answers) ≡ upToAnswer ls
-  unfolding upToAnswer
-  up-to-answer [] = rw e refl
-  up-to-answer (l ∷ ls) = rw (up-to-answer ls) refl
-
-  code-apart : (ls : List Line) → 0 < length ls → codeLines (ls ++ a ∷ answers) ≡ codeLines ls
-  unfolding codeLines
-  code-apart [] h = absurd (omega arith)
-  code-apart (l ∷ ls) h = rw (up-to-answer ls) refl
-
-  -- with at least one code line in front of it, the section changes the answers alone
-  pub answers-apart : (ls : List Line) → length layout < length ls → SameButAnswers (routineOf (ls ++ a ∷ answers)) (routineOf ls)
-  unfolding body
-  answers-apart ls h =
-      let k : length layout ≤ length ls = omega arith in
-      same-but-answers (ls ++ a ∷ answers) ls (take-append-le (length layout) ls (a ∷ answers) k)
-      (rw (drop-append-le (length layout) ls (a ∷ answers) k) (code-apart (body ls) (rw length-drop (omega arith))))

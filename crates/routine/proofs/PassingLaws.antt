@@ -1,14 +1,14 @@
 -- What a text that passes rows of the refusal table has: its first address, and how many lines, cells and fields. Assumes nothing.
 use Prim.Native.Nat.{ℕ, suc, _+_, _<_, _≤_}
 use mathlib.Core.Path.{_≡_, refl}
-use mathlib.Core.Bool.{Bool, true, false, cond, not, false≢true}
+use mathlib.Core.Bool.{Bool, true, false, cond, false≢true}
 use mathlib.Core.List.{List, [], _∷_, _++_}
 use native.Mathlib.Omega.{arith}
 use lib.Dec.{eqb, ltb}
 use lib.IntN.{ℤ, pos, negsuc, natAbs}
 use lib.ListN.{length, drop, length-drop}
 use borrow.Author.Tests.{eqb-true, ltb-true}
-use Rattle.text.specs.Text.{isEmpty, onto, split, Line, linesOf, lines}
+use Rattle.text.specs.Text.{onto, split, Line, linesOf, lines}
 use Rattle.text.specs.Decimal.{numeral}
 use Rattle.text.proofs.TextLaws.{and-left}
 use Rattle.text.proofs.PieceLaws.{split-some}
@@ -23,9 +23,8 @@ use Rattle.routine.specs.declared.Row.{Row}
 use Rattle.routine.specs.declared.Row.the-variants.{Layout as layout-row, Range as range-row}
 use Rattle.routine.specs.declared.Fault.the-variants.{Clean as clean}
 use Rattle.routine.specs.Layout.{layout, isAnswer, body, upToAnswer, pastAnswer, codeLines, answerLines, answerRoles, codeRoles, bodyRoles, roles, listed}
-use Rattle.routine.specs.Rows.{value, isNumeral, at, arg, onArgument, argumentInRange, firstAddresses, columnLaidOut, namesLaidOut, valuesLaidOut, answerLaidOut, laidOut, codeInRange, inRange, blockSizes, total, wellNamed, named, firstAt, test, fault}
+use Rattle.routine.specs.Rows.{value, isNumeral, at, arg, onArgument, argumentInRange, firstAddresses, columnLaidOut, valuesLaidOut, answerLaidOut, laidOut, codeInRange, inRange, blockSizes, total, wellNamed, named, firstAt, test, fault, Passes}
 use Rattle.routine.specs.Routine.{inside}
-use Rattle.routine.specs.Rows.{Passes}
 use Rattle.routine.proofs.RowLaws.{Covered, passed, First, fault-clean, laid-out, passes-laid-out, passes-named}
 use Rattle.routine.proofs.RangeLaws.{inside-is, inside-small, cells-few}
 use Rattle.routine.proofs.CodeLaws.{code-laid-out}
@@ -170,10 +169,6 @@ module _ (ls : List Line) where
       let m : 1 + length (upToAnswer bs) ≤ 1024 = code-from 1 bs (omega arith) c in
       omega arith
 
-  some-code : (bs : List Line) → Covered (test layout-row ls) (bodyRoles bs) bs → 1 ≤ length (codeLines bs)
-  unfolding bodyRoles codeLines
-  some-code (l ∷ bs) (passed p c) = omega arith
-
   few-answers : (bs : List Line) → Covered (test layout-row ls) (bodyRoles bs) bs → length (answerLines bs) ≤ 64
   unfolding bodyRoles answerLines
   few-answers [] c = omega arith
@@ -183,22 +178,10 @@ module _ (ls : List Line) (e : fault layout-row ls ≡ clean) where
   pub code-few : length (codeLines (body ls)) ≤ 1024
   code-few = few-code ls (body ls) (covered-body layout-row ls e)
 
-  pub code-some : 1 ≤ length (codeLines (body ls))
-  code-some = some-code ls (body ls) (covered-body layout-row ls e)
-
   pub answers-few : length (answerLines (body ls)) ≤ 64
   answers-few = few-answers ls (body ls) (covered-body layout-row ls e)
 
 -- ---- cells and fields
-
-some-listed : (ws : List (List ℕ)) → not (isEmpty ws) ≡ true → 1 ≤ length ws
-some-listed [] e = absurd (false≢true e)
-some-listed (w ∷ ws) e = omega arith
-
--- "an empty list on line 9"
-named-some : (ls : List Line) → Passes ls → 1 ≤ length (listed (names cells) ls)
-unfolding listed laidOut namesLaidOut
-named-some ls p = some-listed (listed (names cells) ls) (passes-laid-out p (names cells) refl)
 
 -- "block after block, no gap"
 fields-counted : (ls : List Line) → Passes ls → total (blockSizes (listed (names fields) ls)) ≡ length (listed (names fields) ls)
@@ -218,9 +201,6 @@ module _ {ls : List Line} (p : Passes ls) where
 
   pub cells-small : length (listed (values cells cell) ls) ≤ 33
   cells-small = rw (values-counted cells cell refl) (cells-few ls p)
-
-  pub cells-some : 1 ≤ length (listed (values cells cell) ls)
-  cells-some = rw (values-counted cells cell refl) (named-some ls p)
 
   pub fields-total : total (blockSizes (listed (names fields) ls)) ≡ length (listed (values fields cell) ls)
   fields-total = rw (values-counted fields cell refl) (fields-counted ls p)

@@ -20,9 +20,8 @@ use Rattle.routine.specs.declared.Section.the-variants.{Limits as limits
 use Rattle.routine.specs.declared.Column.the-variants.{Limit as limit, Cycles as cycles, Words as words-column, Cell as cell}
 use Rattle.routine.specs.declared.Role.the-variants.{Names as names, Values as values}
 use Rattle.routine.specs.Layout.{body, codeLines, listed}
-use Rattle.routine.specs.Rows.{budgets, ticks, valuesLaidOut, cellWord, value, cellNames, stackNames, columnInRange, columnLaidOut, inRange, laidOut, named, wellNamed}
+use Rattle.routine.specs.Rows.{budgets, ticks, valuesLaidOut, cellWord, value, cellNames, stackNames, columnInRange, columnLaidOut, inRange, laidOut, named, wellNamed, Passes}
 use Rattle.routine.specs.Routine.{inside, natural, limitAt, priceAt, prices, instructionOf, codeOf, cellOf, cellsOf, startOf, routineOf}
-use Rattle.routine.specs.Rows.{Passes}
 use Rattle.routine.proofs.RowLaws.{passes-range, passes-laid-out, passes-named, lists-path}
 
 -- a number within a range from a natural number on is natural, between the two ends
@@ -54,12 +53,6 @@ module _ {ls : List Line} (p : Passes ls) where
   limits-within : columnInRange limit (listed (values limits limit) ls) ≡ true
   unfolding listed inRange
   limits-within = passes-range p (values limits limit) refl
-
-  pub budget-positive : 1 ≤ routineOf ls .budget
-  unfolding routineOf limitAt columnInRange
-  budget-positive =
-      let ws = listed (values limits limit) ls in
-      limit-ends 1 1000000 (getD ws 0 []) (and-left (within budgets (value (getD ws 0 []))) (within ticks (value (getD ws 1 []))) limits-within)
 
   pub budget-small : routineOf ls .budget ≤ 1000000
   unfolding routineOf limitAt

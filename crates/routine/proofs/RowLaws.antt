@@ -121,9 +121,6 @@ run-passes text x e =
     let p = passing (lines text) (r .0) in
     (p .0, only (lines text) (p .1), r .1, r .2)
 
-pub passes-run : (text : List ℕ) → Passes (lines text) → fault known-row (lines text) ≡ clean → length text ≤ textLimit → readRun text ≡ routine (routineOf (lines text))
-passes-run text p k h = run-checked text ∙ clean-read text (cleared (lines text) p (more k none)) h
-
 -- ---- the order of the rows
 
 -- "text over 32,768 bytes" comes first

@@ -27,8 +27,7 @@ use Rattle.routine.specs.declared.Role.the-variants.{Names as names, Val
 use Rattle.routine.specs.Layout.{list, listed}
 use Rattle.routine.specs.declared.CellWord.the-variants.{Unknown as unknown}
 use Rattle.routine.specs.declared.Row.the-variants.{Layout as layout-row, Name as name-row}
-use Rattle.routine.specs.Rows.{valuesLaidOut, codeLaidOut, answerLaidOut, codeNamed, isNumeral, knownOf, blockOf, hashed, cellWord, isCell, isCapital, inName, isName, stackNames, cellNames, isField, sizesFrom, blockSizes, total, at, op, arg, argumentLaidOut, argumentNamed, columnLaidOut, namesLaidOut, laidOut, wellNamed, named, test}
-use Rattle.routine.specs.Rows.{Passes}
+use Rattle.routine.specs.Rows.{valuesLaidOut, codeLaidOut, answerLaidOut, codeNamed, isNumeral, knownOf, blockOf, hashed, cellWord, isCell, isCapital, inName, isName, stackNames, cellNames, isField, sizesFrom, blockSizes, total, at, op, arg, argumentLaidOut, argumentNamed, columnLaidOut, namesLaidOut, laidOut, wellNamed, named, test, Passes}
 use Rattle.routine.proofs.RowLaws.{held-lines, laid-out, passes-named, lists-path}
 use Rattle.routine.proofs.CodeLaws.{CodeLaidOut, code-laid-out, CodeNamed, code-named, kind-there, on-kind}
 

@@ -30,36 +30,42 @@ layout =
 unfoldable pub isAnswer : Line → Bool
 isAnswer l = equals (l .text) (bytes "ANSWER")
 
--- the lines after the layout, and of them the code lines and the answers
+-- the lines after the layout
 unfoldable pub body : List Line → List Line
 body ls = drop (length layout) ls
 
+-- the lines before the first that is ANSWER
 unfoldable pub upToAnswer : List Line → List Line
 upToAnswer [] = []
 upToAnswer (l ∷ ls) = cond (isAnswer l) [] (l ∷ upToAnswer ls)
 
+-- those after it
 unfoldable pub pastAnswer : List Line → List Line
 pastAnswer [] = []
 pastAnswer (l ∷ ls) = cond (isAnswer l) ls (pastAnswer ls)
 
+-- "1 to 1,024 lines": the first line after the layout is a code line, whatever it holds
 unfoldable pub codeLines : List Line → List Line
 codeLines [] = []
 codeLines (l ∷ ls) = l ∷ upToAnswer ls
 
+-- "1 to 64 lines of one number"
 unfoldable pub answerLines : List Line → List Line
 answerLines [] = []
 answerLines (l ∷ ls) = pastAnswer ls
 
--- the roles of the lines after the layout. At least one code line is wanted, and one answer below ANSWER
+-- the roles of the lines from answer k on; below ANSWER one answer at least is wanted
 unfoldable pub answerRoles : ℕ → List Line → List Role
 answerRoles zero [] = answer 0 ∷ []
 answerRoles (suc k) [] = []
 answerRoles k (l ∷ ls) = answer k ∷ answerRoles (suc k) ls
 
+-- from code line k on
 unfoldable pub codeRoles : ℕ → List Line → List Role
 codeRoles k [] = []
 codeRoles k (l ∷ ls) = cond (isAnswer l) (names answers ∷ answerRoles 0 ls) (code k ∷ codeRoles (suc k) ls)
 
+-- of all lines after the layout; one code line at least is wanted
 unfoldable pub bodyRoles : List Line → List Role
 bodyRoles [] = code 0 ∷ []
 bodyRoles (l ∷ ls) = code 0 ∷ codeRoles 1 ls
@@ -72,7 +78,7 @@ roles ls = layout ++ bodyRoles (body ls)
 unfoldable pub list : List ℕ → List (List ℕ)
 list text = cond (equals text (bytes "-")) [] (words text)
 
--- a number for each section, each column, each role of the layout
+-- a number for each section
 abbrev pub sectionTag : Section → ℕ
 sectionTag limits = 0
 sectionTag kinds = 1
@@ -82,23 +88,26 @@ sectionTag fields = 4
 sectionTag instructions = 5
 sectionTag answers = 6
 
+-- of a column
 abbrev pub columnTag : Column → ℕ
 columnTag limit = 1
 columnTag cycles = 2
 columnTag words-column = 3
 columnTag cell = 4
 
+-- of a role; two roles of the layout have one number only if they are one role
 abbrev pub tag : Role → ℕ
 tag (names s) = 8 * sectionTag s
 tag (values s c) = 8 * sectionTag s + columnTag c
 tag (code k) = 100
 tag (answer k) = 101
 
--- the text of the line that holds r, empty where there is no such line, and the words listed on it
+-- the text of the line that holds r; empty where there is no such line
 unfoldable pub textAt : Role → List Role → List Line → List ℕ
 textAt r [] ls = []
 textAt r (x ∷ xs) [] = []
 textAt r (x ∷ xs) (l ∷ ls) = cond (eqb (tag r) (tag x)) (l .text) (textAt r xs ls)
 
+-- the words listed on the line that holds r
 unfoldable pub listed : Role → List Line → List (List ℕ)
 listed r ls = list (textAt r layout ls)

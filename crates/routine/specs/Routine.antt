@@ -30,8 +30,9 @@ use Rattle.routine.specs.declared.Row.{Row}
 use Rattle.routine.specs.declared.Row.the-variants.{Layout as layout-row, Range as range-row, Name as name-row, Price as price-row, Target as target-row, Known as known-row}
 use Rattle.routine.specs.declared.Fault.{Fault}
 use Rattle.routine.specs.declared.Fault.the-variants.{Clean as clean, Line as line}
-use Rattle.routine.specs.Rows.{value, cellWord, handles, blockSizes, at, op, arg, firstAddresses, budgets, ticks, cycleCounts, wordCounts, firstAt, fault}
+use Rattle.routine.specs.Rows.{value, cellWord, handles, blockSizes, op, arg, firstAddresses, budgets, ticks, cycleCounts, wordCounts, firstAt, fault}
 
+-- a routine: BUDGET and TICK, its code, the state it starts in, its answers
 pub record Routine : Type 0 where
   pub budget : ℕ
   pub tick : ℕ
@@ -43,11 +44,13 @@ pub record Routine : Type 0 where
 unfoldable pub inside : Range → ℤ → ℤ
 inside r z = cond (within r z) z (pos 0)
 
+-- the same for a word and a range that begins at 0 or above
 abbrev pub natural : Range → List ℕ → ℕ
 natural r w = natAbs (inside r (value w))
 
 -- ---- the limits
 
+-- BUDGET is at place 0 of line 2, TICK at place 1
 unfoldable pub limitAt : Range → ℕ → List Line → ℕ
 limitAt r i ls = natural r (getD (listed (values limits limit) ls) i [])
 
@@ -73,6 +76,7 @@ argumentValue ps w Target = inside addresses (value w)
 argumentValue ps w Primitive = pos (find w ps)
 argumentValue ps w (Within r) = inside numbers (value w)
 
+-- the instruction of a code line, at the price of its kind and of its primitive
 unfoldable pub instructionOf : List Line → List ℕ → Instruction
 instructionOf ls text =
     let k = kindAt (find (op text) kindNames) in
@@ -85,12 +89,14 @@ codeOf ls = record { first = natAbs (inside firstAddresses (firstAt (body ls)));
 
 -- ---- cells
 
+-- "number, `?` for unknown, `#k` for block k (0 to 7)"
 unfoldable pub cellOf : CellWord → Cell
 cellOf wrong = number (pos 0)
 cellOf unknown = cells-of.unknown
 cellOf (known z) = number (inside numbers z)
 cellOf (block k) = handle (natAbs (inside handles k))
 
+-- the cells on line 10 or 12
 unfoldable pub cellsOf : Section → List Line → List Cell
 cellsOf s ls = map (λ w. cellOf (cellWord w)) (listed (values s cell) ls)
 
@@ -110,6 +116,7 @@ startOf ls =
       blocks = blocksOf (blockSizes (listed (names fields) ls)) (cellsOf fields ls);
     }
 
+-- the routine that the lines of a file hold
 unfoldable pub routineOf : List Line → Routine
 routineOf ls = record {
   budget = limitAt budgets 0 ls;
@@ -121,10 +128,12 @@ routineOf ls = record {
 
 -- ---- the reading of a text
 
+-- what reading a text comes to
 pub data Reading : Type 0 where
   refused : Refusal → Reading
   routine : Routine → Reading
 
+-- the refusal of a fault at its line, or what comes next
 unfoldable pub orElse : Fault → (ℕ → Refusal) → Reading → Reading
 orElse clean r next = next
 orElse (line n) r next = refused (r n)
@@ -134,6 +143,7 @@ pub record Check : Type 0 where
   pub row : Row
   pub refusal : ℕ → Refusal
 
+-- a check by its parts
 abbrev pub check : Row → (ℕ → Refusal) → Check
 check r f = record { row = r; refusal = f }
 
@@ -145,6 +155,7 @@ boundChecks = check layout-row Layout ∷ check range-row OutOfRange ∷ check n
 abbrev pub runChecks : List Check
 runChecks = boundChecks ++ (check known-row UnknownCell ∷ [])
 
+-- the reading of lines by the given checks: the first fault decides
 unfoldable pub checked : List Check → List Line → Reading
 checked [] ls = routine (routineOf ls)
 checked (c ∷ cs) ls = orElse (fault (c .row) ls) (c .refusal) (checked cs ls)
@@ -153,12 +164,14 @@ checked (c ∷ cs) ls = orElse (fault (c .row) ls) (c .refusal) (checked cs ls)
 abbrev pub textLimit : ℕ
 textLimit = 32768
 
+-- "text over 32,768 bytes" comes first
 unfoldable pub limited : List ℕ → Reading → Reading
 limited text next = cond (ltb textLimit (length text)) (refused TextLength) next
 
--- as the bound reads a text, and as the run does
+-- as the bound reads a text
 unfoldable pub readBound : List ℕ → Reading
 readBound text = let ls = lines text in limited text (checked boundChecks ls)
 
+-- as the run reads it
 unfoldable pub readRun : List ℕ → Reading
 readRun text = let ls = lines text in limited text (checked runChecks ls)

@@ -35,6 +35,7 @@ use Rattle.routine.specs.Layout.{body, codeLines, roles, list, listed}
 
 -- ---- words
 
+-- "spelling of a number"
 unfoldable pub isNumeral : Numeral → Bool
 isNumeral misspelt = false
 isNumeral (number z) = true
@@ -44,6 +45,7 @@ unfoldable pub valueOf : Numeral → ℤ
 valueOf misspelt = pos 0
 valueOf (number z) = z
 
+-- the same of a word
 unfoldable pub value : List ℕ → ℤ
 value w = valueOf (numeral w)
 
@@ -52,17 +54,21 @@ unfoldable pub knownOf : Numeral → CellWord
 knownOf misspelt = wrong
 knownOf (number z) = known z
 
+-- what stands after `#`
 unfoldable pub blockOf : Numeral → CellWord
 blockOf misspelt = wrong
 blockOf (number z) = block z
 
+-- a word that is not `?`: `#` is byte 35
 unfoldable pub hashed : List ℕ → CellWord
 hashed [] = wrong
 hashed (d ∷ ds) = cond (eqb d 35) (blockOf (numeral ds)) (knownOf (numeral (d ∷ ds)))
 
+-- what a word on line 10 or 12 says
 unfoldable pub cellWord : List ℕ → CellWord
 cellWord w = cond (equals w (bytes "?")) unknown (hashed w)
 
+-- whether it is spelt as one of the three
 unfoldable pub isCell : CellWord → Bool
 isCell wrong = false
 isCell unknown = true
@@ -73,6 +79,7 @@ isCell (block k) = true
 abbrev pub handles : Range
 handles = range 0 7
 
+-- whether its number is in range; a word that row 2 refuses passes
 unfoldable pub cellInRange : CellWord → Bool
 cellInRange wrong = true
 cellInRange unknown = true
@@ -86,6 +93,7 @@ cellPresent n unknown = true
 cellPresent n (known z) = true
 cellPresent n (block k) = ltb (natAbs k) n
 
+-- whether it is not `?`
 unfoldable pub isKnown : CellWord → Bool
 isKnown wrong = true
 isKnown unknown = false
@@ -98,9 +106,11 @@ isKnown (block k) = true
 abbrev pub isCapital : ℕ → Bool
 isCapital c = leb 65 c && leb c 90
 
+-- "capitals, digits, underscore"; underscore is byte 95
 abbrev pub inName : ℕ → Bool
 inName c = cond (isCapital c) true (cond (isDigit c) true (eqb c 95))
 
+-- "1 to 8 characters", "a capital first"
 unfoldable pub isName : List ℕ → Bool
 isName [] = false
 isName (c ∷ cs) = isCapital c && all inName cs && ltb (length cs) 8
@@ -110,6 +120,7 @@ unfoldable pub stackNames : ℕ → ℕ → List (List ℕ)
 stackNames k zero = []
 stackNames k (suc n) = (bytes "S" ++ decimal k) ∷ stackNames (suc k) n
 
+-- the names that line 9 begins with
 unfoldable pub cellNames : List (List ℕ)
 cellNames = bytes "ACCU" ∷ stackNames 0 32
 
@@ -134,12 +145,14 @@ unfoldable pub blockSizes : List (List ℕ) → List ℕ
 blockSizes [] = []
 blockSizes (w ∷ ws) = cond (isField 0 0 w) (sizesFrom 0 1 ws) []
 
+-- how many fields blocks of the given sizes have
 unfoldable pub total : List ℕ → ℕ
 total [] = 0
 total (n ∷ ns) = n + total ns
 
 -- ---- a code line: "AT OP ARG"
 
+-- the kind of a name, if it is one
 unfoldable pub kindNamed : List ℕ → Option Kind
 kindNamed w = getElem? table.kinds (find w kindNames)
 
@@ -148,15 +161,19 @@ unfoldable pub argumentOf : (Argument → Bool) → Option Kind → Bool
 argumentOf t Option.none = true
 argumentOf t (some k) = t (k .argument)
 
+-- AT
 abbrev pub at : List ℕ → List ℕ
 at text = getD (words text) 0 []
 
+-- OP
 abbrev pub op : List ℕ → List ℕ
 op text = getD (words text) 1 []
 
+-- ARG
 abbrev pub arg : List ℕ → List ℕ
 arg text = getD (words text) 2 []
 
+-- the same of a code line
 unfoldable pub onArgument : (Argument → Bool) → List ℕ → Bool
 onArgument t text = argumentOf t (kindNamed (op text))
 
@@ -167,12 +184,14 @@ argumentLaidOut w Target = isNumeral (numeral w)
 argumentLaidOut w Primitive = not (equals w (bytes "-"))
 argumentLaidOut w (Within r) = isNumeral (numeral w)
 
+-- "Targets are addresses, 0 to 62,000."; another number is in the range of its kind
 unfoldable pub argumentInRange : List ℕ → Argument → Bool
 argumentInRange w Absent = true
 argumentInRange w Target = within addresses (value w)
 argumentInRange w Primitive = true
 argumentInRange w (Within r) = within r (value w)
 
+-- a primitive is one of those named on line 6
 unfoldable pub argumentNamed : List (List ℕ) → List ℕ → Argument → Bool
 argumentNamed ps w Absent = true
 argumentNamed ps w Target = true
@@ -188,39 +207,46 @@ argumentReaches first n w (Within r) = true
 
 -- ---- ranges and counts of the table
 
--- "AT starts anywhere from 0 to 60,000 and rises by one; a later AT outside 0 to 62,000 is refusal 3"
+-- "AT starts anywhere from 0 to 60,000 and rises by one"
 abbrev pub firstAddresses : Range
 firstAddresses = range 0 60000
 
+-- "a later AT outside 0 to 62,000 is refusal 3"
 abbrev pub atRange : ℕ → Range
 atRange zero = firstAddresses
 atRange (suc k) = addresses
 
--- "1 to 1,000,000; cycles per tick, 1 to 4,000,000,000 · cycles 0 to 65,535; words 0 to 255"
+-- "1 to 1,000,000"
 abbrev pub budgets : Range
 budgets = range 1 1000000
 
+-- "cycles per tick, 1 to 4,000,000,000"
 abbrev pub ticks : Range
 ticks = range 1 4000000000
 
+-- "cycles 0 to 65,535"
 abbrev pub cycleCounts : Range
 cycleCounts = range 0 65535
 
+-- "words 0 to 255"
 abbrev pub wordCounts : Range
 wordCounts = range 0 255
 
+-- the values of a line, each in its range
 unfoldable pub columnInRange : Column → List (List ℕ) → Bool
 columnInRange limit ws = within budgets (value (getD ws 0 [])) && within ticks (value (getD ws 1 []))
 columnInRange cycles ws = all (λ w. within cycleCounts (value w)) ws
 columnInRange words-column ws = all (λ w. within wordCounts (value w)) ws
 columnInRange cell ws = all (λ w. cellInRange (cellWord w)) ws
 
+-- the values of a line, each rightly spelt
 unfoldable pub columnLaidOut : Column → List (List ℕ) → Bool
 columnLaidOut limit ws = all (λ w. isNumeral (numeral w)) ws
 columnLaidOut cycles ws = all (λ w. isNumeral (numeral w)) ws
 columnLaidOut words-column ws = all (λ w. isNumeral (numeral w)) ws
 columnLaidOut cell ws = all (λ w. isCell (cellWord w)) ws
 
+-- a test of each word on a line of cells
 unfoldable pub onCells : Column → (CellWord → Bool) → List (List ℕ) → Bool
 onCells limit t ws = true
 onCells cycles t ws = true
@@ -243,10 +269,11 @@ namesLaidOut answers text = equals text (bytes "ANSWER")
 unfoldable pub valuesLaidOut : Column → List (List ℕ) → List (List ℕ) → Bool
 valuesLaidOut c ns ws = eqb (length ws) (length ns) && columnLaidOut c ws
 
--- on code line k and on answer k: "a 1,025th code line and a 65th answer"
+-- on code line k: "a 1,025th code line", "spelling of a number, an ARG missing or not called for"
 unfoldable pub codeLaidOut : ℕ → List ℕ → Bool
 codeLaidOut k text = ltb k 1024 && eqb (length (words text)) 3 && isNumeral (numeral (at text)) && onArgument (argumentLaidOut (arg text)) text
 
+-- on answer k: "a 65th answer"
 unfoldable pub answerLaidOut : ℕ → List ℕ → Bool
 answerLaidOut k text = ltb k 64 && isNumeral (numeral text)
 
@@ -257,13 +284,15 @@ laidOut ls (values s c) text = valuesLaidOut c (listed (names s) ls) (list text)
 laidOut ls (code k) text = codeLaidOut k text
 laidOut ls (answer k) text = answerLaidOut k text
 
--- row 3: "number outside its range"
+-- row 3 on code line k
 unfoldable pub codeInRange : ℕ → List ℕ → Bool
 codeInRange k text = within (atRange k) (value (at text)) && onArgument (argumentInRange (arg text)) text
 
+-- on an answer, which is any 32-bit number
 unfoldable pub answerInRange : List ℕ → Bool
 answerInRange text = within numbers (value text)
 
+-- row 3: "number outside its range"
 unfoldable pub inRange : Role → List ℕ → Bool
 inRange (names s) text = true
 inRange (values s c) text = columnInRange c (list text)
@@ -280,7 +309,7 @@ wellNamed fields ws = eqb (total (blockSizes ws)) (length ws)
 wellNamed instructions ws = true
 wellNamed answers ws = true
 
--- the first address
+-- the first address, that "of the first AT line"
 unfoldable pub firstAt : List Line → ℤ
 firstAt [] = pos 0
 firstAt (l ∷ ls) = value (at (l .text))
@@ -304,10 +333,11 @@ priced ls (values s c) text = true
 priced ls (code k) text = among (op text) (listed (names kinds) ls)
 priced ls (answer k) text = true
 
--- row 6: "target not an address of the code", which has n addresses from `first` on
+-- row 6 on a code line, where the code has n addresses from `first` on
 unfoldable pub codeReaches : ℤ → ℕ → List ℕ → Bool
 codeReaches first n text = onArgument (argumentReaches first n (arg text)) text
 
+-- row 6: "target not an address of the code"
 unfoldable pub reaches : List Line → Role → List ℕ → Bool
 reaches ls (names s) text = true
 reaches ls (values s c) text = true
@@ -321,6 +351,7 @@ allKnown (values s c) text = onCells c isKnown (list text)
 allKnown (code k) text = true
 allKnown (answer k) text = true
 
+-- the test of a row on one line; in row 2 also "Each line ends in a line feed" and "words are parted by one space"
 unfoldable pub test : Row → List Line → Role → Line → Bool
 test layout-row ls r l = l .ended && all (λ w. not (isEmpty w)) (words (l .text)) && laidOut ls r (l .text)
 test range-row ls r l = inRange r (l .text)

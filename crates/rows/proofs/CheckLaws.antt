@@ -11,9 +11,8 @@ use Rattle.text.proofs.TextLaws.{none, more}
 use Rattle.routine.specs.declared.Row.{Row}
 use Rattle.routine.specs.declared.Row.the-variants.{Layout as layout-row, Range as range-row, Name as name-row, Price as price-row, Target as target-row, Known as known-row}
 use Rattle.routine.specs.declared.Fault.the-variants.{Clean as clean, Line as line}
-use Rattle.routine.specs.Rows.{fault}
+use Rattle.routine.specs.Rows.{fault, Passes}
 use Rattle.routine.specs.Routine.{Check, check, boundChecks, runChecks, checked, orElse, limited, readRun}
-use Rattle.routine.specs.Rows.{Passes}
 use Rattle.routine.proofs.RowLaws.{Clean, passes-read, bound-order, run-order, too-long}
 use Rattle.rows.specs.Checks.{readBy, checkOf, knownChecks, Due}
 use Rattle.rows.specs.declared.Checked.the-variants.{Refused}

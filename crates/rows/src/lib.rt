@@ -10,7 +10,7 @@ ghost use mathlib.Core.Path.{_≡_};
 ghost use mathlib.Core.Bool.{true};
 ghost use Prim.Native.Nat.{_<_, _≤_};
 ghost use lib.ListN.{length, getD};
-ghost use Rattle.text.specs.Text.{lines, Line};
+ghost use Rattle.text.specs.Text.{lines};
 ghost use Rattle.routine.specs.declared.Role.the-variants.{Names, Code};
 ghost use Rattle.routine.specs.declared.Section.the-variants.{Kinds};
 ghost use Rattle.routine.specs.declared.Row.the-variants.{Layout};

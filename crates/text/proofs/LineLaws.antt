@@ -9,7 +9,7 @@ use lib.ListN.{length, getD, take, drop}
 use lib.Seq.{take-all, drop-nil, getD-drop}
 use borrow.Author.Tests.{ltb-true, ltb-false}
 use Rattle.text.specs.Text.{isEmpty, split, Line, noLine, linesOf, lines}
-use Rattle.text.proofs.ScanLaws.{firstLength, cut-more, cut-last}
+use Rattle.text.proofs.ScanLaws.{firstLength, past, cut-more, cut-last}
 use Rattle.text.proofs.PieceLaws.{split-some}
 
 -- a line that a line feed ends, and one that the end of the text ends
@@ -27,11 +27,9 @@ linesOf-more p (q ∷ ps) h = refl
 
 -- the lines of s, whose first piece has the length n
 
-pub lines-more : (s : List ℕ) (n : ℕ) → n ≡ firstLength 10 s → n < length s → lines s ≡ endedLine (take n s) ∷ lines (take (length s - (n + 1)) (drop (n + 1) s))
+pub lines-more : (s : List ℕ) (n : ℕ) → n ≡ firstLength 10 s → n < length s → lines s ≡ endedLine (take n s) ∷ lines (past n s)
 unfolding lines
-lines-more s n q h =
-    let rest = take (length s - (n + 1)) (drop (n + 1) s) in
-    ap linesOf (cut-more 10 s n q h) ∙ linesOf-more (take n s) (split 10 rest) (split-some 10 rest)
+lines-more s n q h = ap linesOf (cut-more 10 s n q h) ∙ linesOf-more (take n s) (split 10 (past n s)) (split-some 10 (past n s))
 
 pub lines-last : (s : List ℕ) (n : ℕ) → n ≡ firstLength 10 s → length s ≤ n → lines s ≡ cond (isEmpty s) [] (unendedLine s ∷ [])
 unfolding lines linesOf
@@ -75,7 +73,7 @@ line-ended s n q = go (ltb n (length s)) refl
 
 -- what follows it
 
-pub next-more : (s : List ℕ) (n : ℕ) → n ≡ firstLength 10 s → n < length s → lines (take (length s - (n + 1)) (drop (n + 1) s)) ≡ drop 1 (lines s)
+pub next-more : (s : List ℕ) (n : ℕ) → n ≡ firstLength 10 s → n < length s → lines (past n s) ≡ drop 1 (lines s)
 next-more s n q h = sym (ap (drop 1) (lines-more s n q h))
 
 pub next-none : (s : List ℕ) (n : ℕ) → n ≡ firstLength 10 s → length s ≤ n → lines [] ≡ drop 1 (lines s)
@@ -84,12 +82,6 @@ next-none s n q h = sym (ap (drop 1) (lines-last s n q h) ∙ last-next s)
 
 -- a text has no line exactly if it is empty
 
-pub lines-empty : (s : List ℕ) → s ≡ [] → lines s ≡ []
-unfolding lines linesOf split
-lines-empty [] e = refl
-lines-empty (x ∷ xs) e = let z : _≡_ {A = ℕ} 0 1 = cc in absurd (omega arith)
-
--- the same by the length, as a loop's end has it
 pub lines-none : (s : List ℕ) → length s ≤ 0 → lines s ≡ []
 unfolding lines linesOf split
 lines-none [] h = refl
@@ -101,10 +93,6 @@ lines-some s h = go (ltb (firstLength 10 s) (length s)) refl
     go : (b : Bool) → ltb (firstLength 10 s) (length s) ≡ b → 0 < length (lines s)
     go true e = omega (arith, ap length (lines-more s (firstLength 10 s) refl (ltb-true (firstLength 10 s) (length s) e)))
     go false e = omega (arith, ap length (lines-last s (firstLength 10 s) refl (ltb-false (firstLength 10 s) (length s) e)), last-some s h)
-
-pub empty-lines : (s : List ℕ) → lines s ≡ [] → s ≡ []
-empty-lines [] e = refl
-empty-lines (x ∷ xs) e = absurd (omega (arith, lines-some (x ∷ xs) (omega arith), ap length e))
 
 -- the lines of any other text are its first and those that follow
 
@@ -130,9 +118,7 @@ drop-none ls zero h = refl
 drop-none ls (suc k) h = absurd (omega arith)
 
 pub drop-lines-empty : (s : List ℕ) (k : ℕ) → length s ≡ 0 → drop k (lines s) ≡ lines s
-unfolding lines linesOf split
-drop-lines-empty [] k h = drop-nil k
-drop-lines-empty (x ∷ xs) k h = absurd (omega arith)
+drop-lines-empty s k h = rw (lines-none s (omega arith)) (drop-nil k)
 
 -- line k is the first of what is left after k lines
 pub line-drop : (ls rest : List Line) (k : ℕ) → rest ≡ drop k ls → getD rest 0 noLine ≡ getD ls k noLine

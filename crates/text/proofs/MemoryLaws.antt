@@ -4,7 +4,7 @@ use mathlib.Core.Path.{_≡_, refl, sym, ap, _∙_}
 use mathlib.Core.List.{List, [], _∷_, _++_, append-assoc}
 use native.Mathlib.Omega.{arith}
 use native.Mathlib.Numerals.{add-one}
-use lib.ListN.{length, getD, take, drop, set, length-append, length-drop}
+use lib.ListN.{length, getD, take, drop, set, length-append}
 use lib.Seq.{take-suc, drop-cons, set-at, append-snoc, length-take-le, take-append-seam, drop-append-add, drop-drop}
 use Rattle.text.specs.Decimal.{decimal}
 use Rattle.text.specs.Memory.{over}
@@ -30,11 +30,6 @@ over-next d at t i k h =
     ap (λ (m : ℕ). set (over d at (take i t)) (at + m) (getD t i 0)) (sym n)
     ∙ over-more d at (take i t) (getD t i 0) (omega arith)
     ∙ ap (over d at) (sym (take-suc t i 0 h) ∙ ap (λ (m : ℕ). take m t) (sym (add-one i)))
-
-pub over-length : (d : List ℕ) (at : ℕ) (t : List ℕ) → at + length t ≤ length d → length (over d at t) ≡ length d
-over-length d at t h =
-    let k : at ≤ length d = omega arith in
-    rw (length-append, length-append, length-drop, length-take-le at d k) (omega arith)
 
 -- two texts, one after the other
 over-seam : (p r b : List ℕ) → over (p ++ r) (length p) b ≡ p ++ b ++ drop (length b) r

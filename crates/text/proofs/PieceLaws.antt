@@ -5,11 +5,12 @@ use mathlib.Core.Bool.{Bool, true, false, cond}
 use mathlib.Core.List.{List, [], _∷_}
 use native.Mathlib.Omega.{arith}
 use lib.Dec.{eqb, ltb}
-use lib.ListN.{length, getD, take, drop, List·getD-eq-default}
+use lib.ListN.{length, getD, take, List·getD-eq-default}
 use lib.Seq.{take-all}
-use borrow.Author.Tests.{ltb-true, ltb-false, lt-ltb, le-ltb}
+use borrow.Author.Tests.{ltb-true, ltb-false, lt-ltb}
 use Rattle.text.specs.Text.{equals, onto, split, words, find, among}
-use Rattle.text.proofs.ScanLaws.{firstLength, onto-first, cut-more, cut-last}
+use Rattle.text.proofs.TextLaws.{ltb-suc}
+use Rattle.text.proofs.ScanLaws.{firstLength, past, onto-first, cut-more, cut-last}
 
 -- the number of pieces
 
@@ -57,15 +58,11 @@ first-piece c l n q = go (ltb n (length l)) refl
 
 -- the words of l, whose first word has the length n
 
-pub words-some : (l : List ℕ) → 0 < length (words l)
-unfolding words
-words-some l = split-some 32 l
-
 pub words-length : (l : List ℕ) → length (words l) ≤ length l + 1
 unfolding words
 words-length l = split-length 32 l
 
-pub words-more : (l : List ℕ) (n : ℕ) → n ≡ firstLength 32 l → n < length l → words l ≡ take n l ∷ words (take (length l - (n + 1)) (drop (n + 1) l))
+pub words-more : (l : List ℕ) (n : ℕ) → n ≡ firstLength 32 l → n < length l → words l ≡ take n l ∷ words (past n l)
 unfolding words
 words-more l n q h = cut-more 32 l n q h
 
@@ -75,13 +72,13 @@ words-last l n q h = cut-last 32 l n q h
 
 -- word k of l: a later one, none, the first
 
-past : (x : List ℕ) (xs : List (List ℕ)) (k : ℕ) → 0 < k → getD (x ∷ xs) k [] ≡ getD xs (k - 1) []
-past x xs zero h = absurd (omega arith)
-past x xs (suc k) h = ap (λ (m : ℕ). getD xs m []) (omega arith)
+getD-later : (x : List ℕ) (xs : List (List ℕ)) (k : ℕ) → 0 < k → getD (x ∷ xs) k [] ≡ getD xs (k - 1) []
+getD-later x xs zero h = absurd (omega arith)
+getD-later x xs (suc k) h = ap (λ (m : ℕ). getD xs m []) (omega arith)
 
 pub word-next : (l : List ℕ) (n k : ℕ) → n ≡ firstLength 32 l → n < length l → 0 < k
-    → getD (words l) k [] ≡ getD (words (take (length l - (n + 1)) (drop (n + 1) l))) (k - 1) []
-word-next l n k q h p = ap (λ (ws : List (List ℕ)). getD ws k []) (words-more l n q h) ∙ past (take n l) (words (take (length l - (n + 1)) (drop (n + 1) l))) k p
+    → getD (words l) k [] ≡ getD (words (past n l)) (k - 1) []
+word-next l n k q h p = ap (λ (ws : List (List ℕ)). getD ws k []) (words-more l n q h) ∙ getD-later (take n l) (words (past n l)) k p
 
 pub word-none : (l : List ℕ) (n k : ℕ) → n ≡ firstLength 32 l → length l ≤ n → 0 < k → getD (words l) k [] ≡ []
 word-none l n k q h p =
@@ -92,13 +89,6 @@ pub word-here : (l : List ℕ) (n k : ℕ) → n ≡ firstLength 32 l → k ≤ 
 unfolding words
 word-here l n zero q h = first-piece 32 l n q
 word-here l n (suc k) q h = absurd (omega arith)
-
-ltb-suc : (a b : ℕ) → ltb a b ≡ ltb (suc a) (suc b)
-ltb-suc a b = go (ltb a b) refl
-  where
-    go : (t : Bool) → ltb a b ≡ t → t ≡ ltb (suc a) (suc b)
-    go true e = let h = ltb-true a b e in sym (lt-ltb (suc a) (suc b) (omega arith))
-    go false e = let h = ltb-false a b e in sym (le-ltb (suc a) (suc b) (omega arith))
 
 -- w is among words exactly if a search finds it before their end
 pub among-find : (w : List ℕ) (ws : List (List ℕ)) → among w ws ≡ ltb (find w ws) (length ws)

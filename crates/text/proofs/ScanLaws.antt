@@ -18,6 +18,10 @@ use Rattle.text.specs.Text.{equals, onto, split, words, find}
 abbrev pub firstLength : ℕ → List ℕ → ℕ
 firstLength c s = length (getD (split c s) 0 [])
 
+-- what follows the first n bytes of l and the byte that ends them, as the code takes it: `&l[n + 1..]`
+abbrev pub past : ℕ → List ℕ → List ℕ
+past n l = take (length l - (n + 1)) (drop (n + 1) l)
+
 pub onto-first : (x : ℕ) (ps : List (List ℕ)) → length (getD (onto x ps) 0 []) ≡ suc (length (getD ps 0 []))
 onto-first x [] = refl
 onto-first x (p ∷ ps) = refl
@@ -70,7 +74,7 @@ rest-is a l = take-all (length l - a) (drop a l) (rw length-drop (omega arith))
 
 -- the same as a loop has it, where n is the length of the first piece
 
-pub cut-more : (c : ℕ) (l : List ℕ) (n : ℕ) → n ≡ firstLength c l → n < length l → split c l ≡ take n l ∷ split c (take (length l - (n + 1)) (drop (n + 1) l))
+pub cut-more : (c : ℕ) (l : List ℕ) (n : ℕ) → n ≡ firstLength c l → n < length l → split c l ≡ take n l ∷ split c (past n l)
 cut-more c l n q h = rw (rest-is, add-one, q) (split-more c l (rw q at h))
 
 pub cut-last : (c : ℕ) (l : List ℕ) (n : ℕ) → n ≡ firstLength c l → length l ≤ n → split c l ≡ l ∷ []
@@ -105,7 +109,7 @@ unfolding find words
 find-here w l n q h e = rw (cut-more 32 l n q h, e) refl
 
 pub find-next : (w l : List ℕ) (n : ℕ) → n ≡ firstLength 32 l → n < length l → equals w (take n l) ≡ false
-    → find w (words l) ≡ suc (find w (words (take (length l - (n + 1)) (drop (n + 1) l))))
+    → find w (words l) ≡ suc (find w (words (past n l)))
 unfolding find words
 find-next w l n q h e = rw (cut-more 32 l n q h, e) refl
 

@@ -1,13 +1,13 @@
--- Laws of texts: what holds of each byte of the pieces holds of each byte of the text, and the other way; a word among the given
--- ones is one of them, at its place. Assumes nothing.
-use mathlib.Core.Path.{_≡_, refl, sym, ap₂, subst}
+-- Laws of texts: what holds of each byte of the pieces holds of each byte of the text; a word among the given ones is one of them. And
+-- of tests that hold together or agree. Assumes nothing.
+use mathlib.Core.Path.{_≡_, refl, sym, ap₂, subst, _∙_}
 use mathlib.Core.Bool.{Bool, true, false, cond, false≢true, and-eq-true-iff, _&&_}
 use mathlib.Core.List.{List, [], _∷_, _++_}
-use Prim.Native.Nat.{ℕ, zero, suc, _<_}
+use Prim.Native.Nat.{ℕ, zero, suc, _<_, _≤_}
 use native.Mathlib.Omega.{arith}
-use lib.Dec.{eqb}
+use lib.Dec.{eqb, leb, ltb}
 use lib.ListN.{length, getD}
-use borrow.Author.Tests.{eqb-true, eq-eqb}
+use borrow.Author.Tests.{eqb-true, ltb-true, ltb-false, lt-ltb, le-ltb, leb-true, leb-false, le-leb, lt-leb}
 use Rattle.text.specs.Text.{equals, onto, split, linesOf, lines, find, among, all}
 
 -- tests that hold together
@@ -27,6 +27,25 @@ pub cond-right : (a b : Bool) → cond a b false ≡ true → b ≡ true
 cond-right true b e = e
 cond-right false b e = absurd (false≢true e)
 
+-- two comparisons agree where each holds if the other does
+
+pub ltb-agree : (a b c d : ℕ) → (c < d → a < b) → (d ≤ c → b ≤ a) → ltb a b ≡ ltb c d
+ltb-agree a b c d f g = go (ltb c d) refl
+  where
+    go : (t : Bool) → ltb c d ≡ t → ltb a b ≡ ltb c d
+    go true e = lt-ltb a b (f (ltb-true c d e)) ∙ sym e
+    go false e = le-ltb a b (g (ltb-false c d e)) ∙ sym e
+
+pub leb-agree : (a b c d : ℕ) → (c ≤ d → a ≤ b) → (d < c → b < a) → leb a b ≡ leb c d
+leb-agree a b c d f g = go (leb c d) refl
+  where
+    go : (t : Bool) → leb c d ≡ t → leb a b ≡ leb c d
+    go true e = le-leb a b (f (leb-true c d e)) ∙ sym e
+    go false e = lt-leb a b (g (leb-false c d e)) ∙ sym e
+
+pub ltb-suc : (a b : ℕ) → ltb a b ≡ ltb (suc a) (suc b)
+ltb-suc a b = ltb-agree a b (suc a) (suc b) (λ k. omega arith) (λ k. omega arith)
+
 -- P holds of each element
 pub data Every {A : Type 0} (P : A → Type 0) : List A → Type 0 where
   none : Every P []
@@ -40,10 +59,6 @@ module _ {A : Type 0} {P : A → Type 0} where
   pub every-left : (xs ys : List A) → Every P (xs ++ ys) → Every P xs
   every-left [] ys h = none
   every-left (x ∷ xs) ys (more p ps) = more p (every-left xs ys ps)
-
-  pub every-right : (xs ys : List A) → Every P (xs ++ ys) → Every P ys
-  every-right [] ys h = h
-  every-right (x ∷ xs) ys (more p ps) = every-right xs ys ps
 
   pub every-map : {Q : A → Type 0} → ((x : A) → P x → Q x) → {xs : List A} → Every P xs → Every Q xs
   every-map f none = none
@@ -69,11 +84,6 @@ equals-path (x ∷ xs) [] e = absurd (false≢true e)
 equals-path (x ∷ xs) (y ∷ ys) e =
     ap₂ _∷_ (eqb-true x y (cond-left (eqb x y) (equals xs ys) e)) (equals-path xs ys (cond-right (eqb x y) (equals xs ys) e))
 
-pub equals-refl : (x : List ℕ) → equals x x ≡ true
-unfolding equals
-equals-refl [] = refl
-equals-refl (x ∷ xs) = rw (eq-eqb x x refl) (equals-refl xs)
-
 -- a word among the given ones
 
 pub among-every : {P : List ℕ → Type 0} (w : List ℕ) (ws : List (List ℕ)) → among w ws ≡ true → Every P ws → P w
@@ -94,34 +104,11 @@ find-below w (x ∷ xs) e = go (equals w x) e (find-below w xs)
     go true q ih = omega arith
     go false q ih = omega (arith, ih q)
 
-pub find-at : (w : List ℕ) (ws : List (List ℕ)) → among w ws ≡ true → getD ws (find w ws) [] ≡ w
-unfolding among find
-find-at w [] e = absurd (false≢true e)
-find-at w (x ∷ xs) e = go (equals w x) refl e (find-at w xs)
-  where
-    go : (b : Bool) → equals w x ≡ b → cond b true (among w xs) ≡ true → (among w xs ≡ true → getD xs (find w xs) [] ≡ w)
-        → getD (x ∷ xs) (cond b 0 (suc (find w xs))) [] ≡ w
-    go true s q ih = sym (equals-path w x s)
-    go false s q ih = ih q
-
 -- the bytes of a text's pieces
-
-onto-every : {P : ℕ → Type 0} (x : ℕ) (ps : List (List ℕ)) → P x → Every (Every P) ps → Every (Every P) (onto x ps)
-onto-every x [] p h = more (more p none) none
-onto-every x (w ∷ ws) p (more q qs) = more (more p q) qs
 
 onto-parts : {P : ℕ → Type 0} (x : ℕ) (ps : List (List ℕ)) → Every (Every P) (onto x ps) → P x × Every (Every P) ps
 onto-parts x [] (more (more p none) none) = (p, none)
 onto-parts x (w ∷ ws) (more (more p q) qs) = (p, more q qs)
-
-pub every-split : {P : ℕ → Type 0} (c : ℕ) (text : List ℕ) → Every P text → Every (Every P) (split c text)
-unfolding split
-every-split c [] none = more none none
-every-split {P} c (x ∷ xs) (more p ps) = go (eqb x c) (every-split c xs ps)
-  where
-    go : (b : Bool) → Every (Every P) (split c xs) → Every (Every P) (cond b ([] ∷ split c xs) (onto x (split c xs)))
-    go true ih = more none ih
-    go false ih = onto-every x (split c xs) p ih
 
 pub split-every : {P : ℕ → Type 0} (c : ℕ) → P c → (text : List ℕ) → Every (Every P) (split c text) → Every P text
 unfolding split

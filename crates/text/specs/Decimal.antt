@@ -8,6 +8,7 @@ use Rattle.text.specs.Text.{isEmpty}
 use Rattle.text.specs.declared.Numeral.{Numeral}
 use Rattle.text.specs.declared.Numeral.the-variants.{Misspelt as misspelt, Number as number}
 
+-- a digit: bytes 48 to 57
 abbrev pub isDigit : ℕ → Bool
 isDigit d = cond (leb 48 d) (leb d 57) false
 
@@ -33,14 +34,16 @@ unfoldable pub numeral : List ℕ → Numeral
 numeral [] = misspelt
 numeral (d ∷ ds) = cond (eqb d 45) (negative (natural ds)) (natural (d ∷ ds))
 
--- what the code holds of a number: `most` for one above it, -(most + 1) for one below that
+-- the farthest number that the code holds: it stands for every number above it, and -(most + 1) for every one below that
 abbrev pub most : ℕ
 most = 10000000000
 
+-- a number as the code holds it
 unfoldable pub clamp : ℤ → ℤ
 clamp (pos n) = pos (min most n)
 clamp (negsuc n) = negsuc (min most n)
 
+-- a spelt number as the code holds it
 unfoldable pub clamped : Numeral → Numeral
 clamped misspelt = misspelt
 clamped (number z) = number (clamp z)
@@ -51,5 +54,6 @@ digits zero small n = []
 digits (suc fuel) true n = (48 + n) ∷ []
 digits (suc fuel) false n = digits fuel (ltb (n / 10) 10) (n / 10) ++ ((48 + n % 10) ∷ [])
 
+-- n in decimal; the fuel is enough, since n has at most n + 1 digits
 unfoldable pub decimal : ℕ → List ℕ
 decimal n = let m = n in digits (suc m) (ltb m 10) m

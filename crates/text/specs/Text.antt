@@ -2,8 +2,7 @@
 -- Nothing here knows how long a text may be.
 use Prim.Native.Nat.{ℕ, suc}
 use Prim.Native.Char.{code}
-use Prim.Native.String.{String}
-use Prim.Native.String.{[] as ends, _∷_ as _then_}
+use Prim.Native.String.{String, [] as ends, _∷_ as _then_}
 use mathlib.Core.Bool.{Bool, true, false, cond, not, _&&_}
 use mathlib.Core.List.{List, [], _∷_}
 use lib.Dec.{eqb}
@@ -13,6 +12,7 @@ abbrev pub bytes : String → List ℕ
 bytes ends = []
 bytes (_then_ c s) = code c ∷ bytes s
 
+-- whether a list is empty
 abbrev pub isEmpty {ℓ} : {A : Type ℓ} → List A → Bool
 isEmpty [] = true
 isEmpty (x ∷ xs) = false

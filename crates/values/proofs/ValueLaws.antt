@@ -11,15 +11,15 @@ use lib.Seq.{take-all}
 use lib.Signed.{mag, nonNeg, leZ, ltZ}
 use mir.Syntax.{w32}
 use mir.Val.{SFits}
-use borrow.Author.Tests.{leb-true, ltb-true, ltb-false, lt-ltb, le-ltb, eq-eqb, ne-eqb}
-use Rattle.text.proofs.TextLaws.{cond-left, cond-right}
+use borrow.Author.Tests.{leb-true, ltb-true, le-ltb, eq-eqb, ne-eqb}
+use Rattle.text.proofs.TextLaws.{cond-left, cond-right, ltb-suc}
 use Rattle.text.specs.Text.{equals, bytes}
 use Rattle.text.specs.Decimal.{numeral, most, clamp, clamped}
 use Rattle.text.specs.declared.Numeral.{Numeral}
 use Rattle.text.specs.declared.Numeral.the-variants.{Misspelt, Number}
 use Rattle.text.proofs.ClampLaws.{clamp-le, le-clamp, clamp-small, clamp-natAbs-lt}
 use Rattle.numbers.specs.declared.Range.{Range}
-use Rattle.numbers.specs.Numbers.{within, numbers, range}
+use Rattle.numbers.specs.Numbers.{half, IsNumber, within, numbers, range}
 use Rattle.cells.specs.Cells.{number, handle}
 use Rattle.routine.specs.declared.CellWord.{CellWord}
 use Rattle.routine.specs.declared.CellWord.the-variants.{Wrong, Unknown, Known, Block}
@@ -46,24 +46,27 @@ no : {X : Type 0} → false ≡ true → X
 no e = absurd (let z : _≡_ {A = ℕ} 0 1 = cc in omega arith)
 
 -- a number between two others is as near to 0 as one of them
-between : (low high z : ℤ) → mag low < most → mag high < most → leZ low z ≡ true → leZ z high ≡ true → mag z ≤ most
-between low (pos h) (pos n) k l e f = let q = leb-true n h f in omega arith
-between low (negsuc h) (pos n) k l e f = no f
-between (pos g) high (negsuc n) k l e f = no e
-between (negsuc g) high (negsuc n) k l e f = let q = leb-true n g e in omega arith
+between : (low high z : ℤ) (k : ℕ) → mag low < k → mag high < k → leZ low z ≡ true → leZ z high ≡ true → mag z < k
+between low (pos b) (pos n) k l h e f = let q = leb-true n b f in omega arith
+between low (negsuc b) (pos n) k l h e f = no f
+between (pos a) high (negsuc n) k l h e f = no e
+between (negsuc a) high (negsuc n) k l h e f = let q = leb-true n a e in omega arith
 
-pub within-low : (r : Range) (z : ℤ) → within r z ≡ true → leZ (r .low) z ≡ true
+within-low : (r : Range) (z : ℤ) → within r z ≡ true → leZ (r .low) z ≡ true
 within-low r z e = cond-left (leZ (r .low) z) (leZ z (r .high)) e
 
-pub within-high : (r : Range) (z : ℤ) → within r z ≡ true → leZ z (r .high) ≡ true
+within-high : (r : Range) (z : ℤ) → within r z ≡ true → leZ z (r .high) ≡ true
 within-high r z e = cond-right (leZ (r .low) z) (leZ z (r .high)) e
+
+within-mag : (r : Range) (z : ℤ) (k : ℕ) → mag (r .low) < k → mag (r .high) < k → within r z ≡ true → mag z < k
+within-mag r z k l h e = between (r .low) (r .high) z k l h (within-low r z e) (within-high r z e)
 
 pub inside-clamp : (r : Range) (z : ℤ) → Near r → inside r (clamp z) ≡ inside r z
 unfolding inside
 inside-clamp r z h = ap (λ b. cond b (clamp z) (pos 0)) (within-clamp r z h) ∙ go (within r z) refl
   where
     go : (b : Bool) → within r z ≡ b → cond b (clamp z) (pos 0) ≡ cond b z (pos 0)
-    go true e = clamp-small z (between (r .low) (r .high) z (h .low) (h .high) (within-low r z e) (within-high r z e))
+    go true e = clamp-small z (let m = within-mag r z most (h .low) (h .high) e in omega arith)
     go false e = refl
 
 -- a number of a range, or 0: it keeps what holds of both
@@ -91,12 +94,11 @@ pub natural-sign : {high : ℕ} {z : ℤ} → Natural high z → T (nonNeg z)
 natural-sign {z = z} n = subst (λ y. T (nonNeg y)) (n .is) tt
 
 -- a number of 32 bits
-fits-within : (z : ℤ) → within numbers z ≡ true → SFits w32 z
-fits-within (pos n) e = let h = leb-true n 2147483647 (within-high numbers (pos n) e) in record { sfits = omega arith }
-fits-within (negsuc n) e = let h = leb-true n 2147483647 (within-low numbers (negsuc n) e) in record { sfits = omega arith }
+pub inside-fits : (r : Range) (z : ℤ) → IsNumber (r .low) → IsNumber (r .high) → SFits w32 (inside r z)
+inside-fits r z l h = inside-keeps (SFits w32) r z (record { sfits = lit< tt }) (λ y e. record { sfits = within-mag r y half (l .fits) (h .fits) e })
 
 pub number-fits : (z : ℤ) → SFits w32 (inside numbers z)
-number-fits z = inside-keeps (SFits w32) numbers z (record { sfits = lit< tt }) fits-within
+number-fits z = inside-fits numbers z (record { fits = lit< tt }) (record { fits = lit< tt })
 
 -- ---- cells
 
@@ -126,9 +128,6 @@ is-known-clamped (Block k) = refl
 
 pub near-numbers : Near numbers
 near-numbers = record { low = lit< tt; high = lit< tt }
-
-pub near-range : (low high : ℕ) → low < most → high < most → Near (range low high)
-near-range low high h k = record { low = h; high = k }
 
 near-handles : Near handles
 near-handles = record { low = lit< tt; high = lit< tt }
@@ -210,16 +209,9 @@ nearer-above (negsuc a) n e = absurd (let z : _≡_ {A = ℕ} 0 1 = cc in omega 
 below-zero : (a : ℕ) {X : Type 0} → ltb a 0 ≡ true → X
 below-zero a e = absurd (let h = ltb-true a 0 e in omega arith)
 
-suc-ltb : (a b : ℕ) → ltb a b ≡ ltb (suc a) (suc b)
-suc-ltb a b = go (ltb a b) refl
-  where
-    go : (t : Bool) → ltb a b ≡ t → t ≡ ltb (suc a) (suc b)
-    go true e = let h = ltb-true a b e in sym (lt-ltb (suc a) (suc b) (omega arith))
-    go false e = let h = ltb-false a b e in sym (le-ltb (suc a) (suc b) (omega arith))
-
 nearer-neg : (a n : ℕ) → ltZ (negℤ (pos n)) (negsuc a) ≡ ltb (suc a) n
 nearer-neg a zero = sym (le-ltb (suc a) 0 zero-le)
-nearer-neg a (suc n) = suc-ltb a n
+nearer-neg a (suc n) = ltb-suc a n
 
 pub nearer-below : (k : ℤ) (n : ℕ) → ltZ k (pos 0) ≡ true → ltZ (pos 0 -ℤ pos n) k ≡ ltb (natAbs k) n
 nearer-below (pos a) n e = below-zero a e

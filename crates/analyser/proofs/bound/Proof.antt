@@ -1,3 +1,4 @@
+-- `analyser::bound` meets its contract. Assumes nothing.
 use Rattle.routine.specs.Routine.{readBound}
 use Rattle.analyser.specs.Functions.{answerOf}
 use Rattle.analyser.specs.Answers.{memory}
@@ -9,26 +10,18 @@ use Rattle.analyser.proofs.FunctionLaws.{gives-refusal, reading-refused
 use borrow.Author.Needs.{needs}
 use Rattle.analyser.proofs.bound.Statement.{statement}
 use Rattle.analyser.proofs.bound.Tie as tie
-use Rattle.analyser.proofs.bound.Reads as reads
-use Rattle.analyser.proofs.bound.Lts as lts
-use Rattle.analyser.proofs.bound_routine.Reads as bound-routine-reads
-use Rattle.reader.proofs.read.Reads as read-reads
 
--- src/lib.rt:149:9
 returns : tie.Need-returns
 returns c =
     let g = gives-refusal _ _ (bound-short (now (c .before .before .before .args .text)) (length (now (c .before .before .before .args .out))) (c .if1 .taken)) _ in
     (g .0, (g .1, (safe-reports _ _, exact-reports _ _)))
 
--- src/lib.rt:151:9
 read-requires : tie.Need-read-requires
 read-requires c κs = search needs
 
--- src/lib.rt:155:17
 enum-told : tie.Need-enum-told
 enum-told c = search needs
 
--- src/lib.rt:156:13
 bound-routine-requires : tie.Need-bound-routine-requires
 unfolding readBy
 bound-routine-requires c κs =
@@ -37,15 +30,12 @@ bound-routine-requires c κs =
     let e = reading-routine r _ (c .before .before .before .before .read .ensures) p in
     (reading-limited r (readBound (now (c .before .before .before .before .before .before .before .before .args .text))) (c .before .before .before .before .read .ensures) p, bound-printable (now (c .before .before .before .before .before .before .before .before .args .text)) (length (now (c .before .before .before .before .before .before .before .before .args .out))) (c .before .before .before .before .before .if1 .left) _ e)
 
--- src/lib.rt:158:26
 enum-known-checked : tie.Need-enum-known-checked
 enum-known-checked c = search needs
 
--- src/lib.rt:142:1
 same-length : tie.Need-same-length
 same-length c = search needs
 
--- src/lib.rt:142:1
 returns-2 : tie.Need-returns-2
 unfolding readBy
 returns-2 c =
@@ -54,7 +44,6 @@ returns-2 c =
     let q = sym (bound-passed (now (c .before .before .before .before .before .before .before .before .before .before .before .args .text)) (length (now (c .before .before .before .before .before .before .before .before .before .before .before .args .out))) (c .before .before .before .before .before .before .before .before .if1 .left) _ e) in
     (c .before .before .bound-routine .ensures .0 ∙ ap answerOf q, (c .before .before .bound-routine .ensures .1 ∙ ap (λ a. memory a (now (c .before .before .before .before .before .before .before .before .before .before .before .args .out))) q, (safe-reports _ _, exact-reports _ _)))
 
--- src/lib.rt:142:1
 returns-3 : tie.Need-returns-3
 unfolding readBy
 returns-3 c =

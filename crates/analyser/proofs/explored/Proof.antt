@@ -1,3 +1,4 @@
+-- `analyser::explored` meets its contract. Assumes nothing.
 use borrow.Author.Needs.{needs}
 use native.Mathlib.Omega.{arith}
 use mathlib.Core.Path.{_≡_, sym}
@@ -7,55 +8,40 @@ use Rattle.reader.proofs.ReaderLaws.{taken}
 use Rattle.analyser.proofs.FunctionLaws.{ready, explored-shows, explored-modest}
 use Rattle.analyser.proofs.explored.Statement.{statement}
 use Rattle.analyser.proofs.explored.Tie as tie
-use Rattle.analyser.proofs.explored.Reads as reads
-use Rattle.analyser.proofs.explored.Lts as lts
-use Rattle.explore.proofs.explore.Reads as explore-reads
 
--- src/lib.rt:41:9
 array-share-prefix-codes : tie.Need-array-share-prefix-codes
 array-share-prefix-codes c = let s = c .before .before .before .before .before .before .before .before in let n = s .pre .full .codes in let h = s .pre .few in omega arith
 
--- src/lib.rt:41:9
 slice-aggregate-explore : tie.Need-slice-aggregate-explore
 slice-aggregate-explore c = let s = c .before .before .before .before .before .before .before .before .before in let n = s .pre .full .codes in let h = s .pre .few in sym (taken _ (s .args .x .columns .codes) (omega arith))
 
--- src/lib.rt:42:9
 array-share-prefix-operands : tie.Need-array-share-prefix-operands
 array-share-prefix-operands c = let s = c .before .before .before .before .before .before .before .before .before in let n = s .pre .full .operands in let h = s .pre .few in omega arith
 
--- src/lib.rt:42:9
 slice-aggregate-explore-2 : tie.Need-slice-aggregate-explore-2
 slice-aggregate-explore-2 c = let s = c .before .before .before .before .before .before .before .before .before .before in let n = s .pre .full .operands in let h = s .pre .few in sym (taken _ (s .args .x .columns .operands) (omega arith))
 
--- src/lib.rt:43:9
 array-share-prefix-cycles : tie.Need-array-share-prefix-cycles
 array-share-prefix-cycles c = let s = c .before .before .before .before .before .before .before .before .before .before in let n = s .pre .full .cycles in let h = s .pre .few in omega arith
 
--- src/lib.rt:43:9
 slice-aggregate-explore-3 : tie.Need-slice-aggregate-explore-3
 slice-aggregate-explore-3 c = let s = c .before .before .before .before .before .before .before .before .before .before .before in let n = s .pre .full .cycles in let h = s .pre .few in sym (taken _ (s .args .x .columns .cycles) (omega arith))
 
--- src/lib.rt:44:9
 array-share-prefix-words : tie.Need-array-share-prefix-words
 array-share-prefix-words c = let s = c .before .before .before .before .before .before .before .before .before .before .before in let n = s .pre .full .words in let h = s .pre .few in omega arith
 
--- src/lib.rt:44:9
 slice-aggregate-explore-4 : tie.Need-slice-aggregate-explore-4
 slice-aggregate-explore-4 c = let s = c .before .before .before .before .before .before .before .before .before .before .before .before in let n = s .pre .full .words in let h = s .pre .few in sym (taken _ (s .args .x .columns .words) (omega arith))
 
--- src/lib.rt:45:9
 array-share-prefix-sizes : tie.Need-array-share-prefix-sizes
 array-share-prefix-sizes c = let s = c .before .before .before .before .before .before .before .before .before .before .before .before in let n : length (s .args .x .sizes) ≡ 8 = search (needs, length-images) in let h = s .pre .present in omega arith
 
--- src/lib.rt:45:9
 slice-aggregate-explore-5 : tie.Need-slice-aggregate-explore-5
 slice-aggregate-explore-5 c = let s = c .before .before .before .before .before .before .before .before .before .before .before .before .before in let n : length (s .args .x .sizes) ≡ 8 = search (needs, length-images) in let h = s .pre .present in sym (taken _ (s .args .x .sizes) (omega arith))
 
--- src/lib.rt:40:5
 explore-requires : tie.Need-explore-requires
 explore-requires c κs = let s = c .before .before .before .before .before .before .before .before .before .before .before .before .before in (s .pre .sized, ready (s .args .x) (s .pre))
 
--- src/lib.rt:25:1
 returns : tie.Need-returns
 returns c = let s = c .before .before .before .before .before .before .before .before .before .before .before .before .before .before in (explored-shows (s .args .x) (s .pre) _ (c .explore .ensures .0), explored-modest (s .args .x) (s .pre) _ (c .explore .ensures .1 .1 .1))
 

@@ -1,3 +1,4 @@
+-- `analyser::ran` meets its contract. Assumes nothing.
 use native.Mathlib.Omega.{arith}
 use mathlib.Core.Path.{_≡_, sym}
 use lib.ListN.{length}
@@ -6,66 +7,49 @@ use Rattle.reader.proofs.ReaderLaws.{taken}
 use borrow.Author.Needs.{needs}
 use Rattle.analyser.proofs.ran.Statement.{statement}
 use Rattle.analyser.proofs.ran.Tie as tie
-use Rattle.analyser.proofs.ran.Reads as reads
-use Rattle.analyser.proofs.ran.Lts as lts
-use Rattle.runs.proofs.run.Reads as run-reads
 
 all-sizes : (s : tie.Start) → length (s .args .x .sizes) ≡ 8
 all-sizes s = search (s .good, needs, length-images)
 
--- src/lib.rt:77:9
 array-share-prefix-codes : tie.Need-array-share-prefix-codes
 array-share-prefix-codes c = search needs
 
--- src/lib.rt:77:9
 slice-aggregate-run : tie.Need-slice-aggregate-run
 slice-aggregate-run c = let s = c .before .before .before .before .before .before .before .before .before .before .before in let n = s .pre .full .codes in let h = s .pre .few in sym (taken _ (s .args .x .columns .codes) (omega arith))
 
--- src/lib.rt:78:9
 array-share-prefix-operands : tie.Need-array-share-prefix-operands
 array-share-prefix-operands c = search needs
 
--- src/lib.rt:78:9
 slice-aggregate-run-2 : tie.Need-slice-aggregate-run-2
 slice-aggregate-run-2 c = let s = c .before .before .before .before .before .before .before .before .before .before .before .before in let n = s .pre .full .operands in let h = s .pre .few in sym (taken _ (s .args .x .columns .operands) (omega arith))
 
--- src/lib.rt:79:9
 array-share-prefix-cycles : tie.Need-array-share-prefix-cycles
 array-share-prefix-cycles c = search needs
 
--- src/lib.rt:79:9
 slice-aggregate-run-3 : tie.Need-slice-aggregate-run-3
 slice-aggregate-run-3 c = let s = c .before .before .before .before .before .before .before .before .before .before .before .before .before in let n = s .pre .full .cycles in let h = s .pre .few in sym (taken _ (s .args .x .columns .cycles) (omega arith))
 
--- src/lib.rt:80:9
 array-share-prefix-words : tie.Need-array-share-prefix-words
 array-share-prefix-words c = search needs
 
--- src/lib.rt:80:9
 slice-aggregate-run-4 : tie.Need-slice-aggregate-run-4
 slice-aggregate-run-4 c = let s = c .before .before .before .before .before .before .before .before .before .before .before .before .before .before in let n = s .pre .full .words in let h = s .pre .few in sym (taken _ (s .args .x .columns .words) (omega arith))
 
--- src/lib.rt:81:9
 array-share-prefix-sizes : tie.Need-array-share-prefix-sizes
 array-share-prefix-sizes c = let s = c .before .before .before .before .before .before .before .before .before .before .before .before .before .before in let n = all-sizes s in let h = s .pre .present in omega arith
 
--- src/lib.rt:81:9
 slice-aggregate-run-5 : tie.Need-slice-aggregate-run-5
 slice-aggregate-run-5 c = let s = c .before .before .before .before .before .before .before .before .before .before .before .before .before .before .before in let n = all-sizes s in let h = s .pre .present in sym (taken _ (s .args .x .sizes) (omega arith))
 
--- src/lib.rt:85:9
 array-share-prefix-values : tie.Need-array-share-prefix-values
 array-share-prefix-values c = let s = c .before .before .before .before .before .before .before .before .before .before .before .before .before .before .before in let n = s .pre .places in let h = s .pre .answered in omega arith
 
--- src/lib.rt:85:9
 slice-aggregate-run-6 : tie.Need-slice-aggregate-run-6
 slice-aggregate-run-6 c = let s = c .before .before .before .before .before .before .before .before .before .before .before .before .before .before .before .before in let n = s .pre .places in let h = s .pre .answered in sym (taken _ (s .args .x .answers .values) (omega arith))
 
--- src/lib.rt:76:5
 run-requires : tie.Need-run-requires
 run-requires c κs = search needs
 
--- src/lib.rt:59:1
 returns : tie.Need-returns
 returns c = search needs
 

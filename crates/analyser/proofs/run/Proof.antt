@@ -1,3 +1,4 @@
+-- `analyser::run` meets its contract. Assumes nothing.
 use Rattle.routine.specs.Routine.{readRun}
 use Rattle.analyser.specs.Functions.{answerOf}
 use Rattle.analyser.specs.Answers.{memory}
@@ -9,26 +10,18 @@ use Rattle.analyser.proofs.FunctionLaws.{gives-refusal, reading-refused
 use borrow.Author.Needs.{needs}
 use Rattle.analyser.proofs.run.Statement.{statement}
 use Rattle.analyser.proofs.run.Tie as tie
-use Rattle.analyser.proofs.run.Reads as reads
-use Rattle.analyser.proofs.run.Lts as lts
-use Rattle.analyser.proofs.run_routine.Reads as run-routine-reads
-use Rattle.reader.proofs.read.Reads as read-reads
 
--- src/lib.rt:169:9
 returns : tie.Need-returns
 returns c =
     let g = gives-refusal _ _ (run-short (now (c .before .before .before .args .text)) (length (now (c .before .before .before .args .out))) (c .if1 .taken)) _ in
     (g .0, (g .1, runs-within _ _))
 
--- src/lib.rt:171:9
 read-requires : tie.Need-read-requires
 read-requires c κs = search needs
 
--- src/lib.rt:175:17
 enum-told : tie.Need-enum-told
 enum-told c = search needs
 
--- src/lib.rt:176:13
 run-routine-requires : tie.Need-run-routine-requires
 unfolding readBy
 run-routine-requires c κs =
@@ -37,15 +30,12 @@ run-routine-requires c κs =
     let e = reading-routine r _ (c .before .before .before .before .read .ensures) p in
     (reading-limited r (readRun (now (c .before .before .before .before .before .before .before .before .args .text))) (c .before .before .before .before .read .ensures) p, run-printable (now (c .before .before .before .before .before .before .before .before .args .text)) (length (now (c .before .before .before .before .before .before .before .before .args .out))) (c .before .before .before .before .before .if1 .left) _ e)
 
--- src/lib.rt:178:26
 enum-known-checked : tie.Need-enum-known-checked
 enum-known-checked c = search needs
 
--- src/lib.rt:163:1
 same-length : tie.Need-same-length
 same-length c = search needs
 
--- src/lib.rt:163:1
 returns-2 : tie.Need-returns-2
 unfolding readBy
 returns-2 c =
@@ -54,7 +44,6 @@ returns-2 c =
     let q = sym (run-passed (now (c .before .before .before .before .before .before .before .before .before .before .before .args .text)) (length (now (c .before .before .before .before .before .before .before .before .before .before .before .args .out))) (c .before .before .before .before .before .before .before .before .if1 .left) _ e) in
     (c .before .before .run-routine .ensures .0 ∙ ap answerOf q, (c .before .before .run-routine .ensures .1 ∙ ap (λ a. memory a (now (c .before .before .before .before .before .before .before .before .before .before .before .args .out))) q, runs-within _ _))
 
--- src/lib.rt:163:1
 returns-3 : tie.Need-returns-3
 unfolding readBy
 returns-3 c =

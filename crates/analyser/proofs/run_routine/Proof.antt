@@ -1,50 +1,38 @@
+-- `analyser::run_routine` meets its contract. Assumes nothing.
 use Rattle.analyser.specs.Answers.{runRoutine}
 use Rattle.report.specs.Report.{runText}
 use Rattle.analyser.proofs.FunctionLaws.{ran-reported, ran-stuck, ran-spent, gives-report, gives-refusal}
 use borrow.Author.Needs.{needs}
 use Rattle.analyser.proofs.run_routine.Statement.{statement}
 use Rattle.analyser.proofs.run_routine.Tie as tie
-use Rattle.analyser.proofs.run_routine.Reads as reads
-use Rattle.analyser.proofs.run_routine.Lts as lts
-use Rattle.analyser.proofs.ran.Reads as ran-reads
-use Rattle.report.proofs.put_run.Reads as put-run-reads
 
--- src/lib.rt:127:9
 ran-requires : tie.Need-ran-requires
 ran-requires c κs = search needs
 
--- src/lib.rt:133:37
 enum-told : tie.Need-enum-told
 enum-told c = search needs
 
--- src/lib.rt:133:17
 put-run-requires : tie.Need-put-run-requires
 unfolding runRoutine
 put-run-requires c κs = c .before .before .before .before .before .pre .1 .fits _ (ran-reported runText _ _ (c .before .before .before .ran .ensures) (c .before .enum-told .given .1))
 
--- src/lib.rt:136:30
 enum-known-verdict : tie.Need-enum-known-verdict
 enum-known-verdict c = search needs
 
--- src/lib.rt:137:30
 enum-known-verdict-2 : tie.Need-enum-known-verdict-2
 enum-known-verdict-2 c = search needs
 
--- src/lib.rt:121:1
 same-length : tie.Need-same-length
 same-length c = search needs
 
--- src/lib.rt:121:1
 returns : tie.Need-returns
 unfolding runRoutine
 returns c = gives-report _ _ (ran-reported runText _ _ (c .before .before .before .before .before .before .ran .ensures) (c .before .before .before .before .enum-told .given .1)) _ (c .before .before .put-run .ensures .0) _ _ (c .before .before .put-run .ensures .1)
 
--- src/lib.rt:121:1
 returns-2 : tie.Need-returns-2
 unfolding runRoutine
 returns-2 c = gives-refusal _ _ (ran-stuck runText _ _ (c .before .before .before .ran .ensures) _ (c .before .verdict .given .1)) _
 
--- src/lib.rt:121:1
 returns-3 : tie.Need-returns-3
 unfolding runRoutine
 returns-3 c = gives-refusal _ _ (ran-spent runText _ _ (c .before .before .before .ran .ensures) _ (c .before .verdict2 .given .1)) _

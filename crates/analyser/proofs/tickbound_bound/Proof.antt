@@ -1,27 +1,20 @@
+-- `analyser::tickbound_bound` meets its contract. Assumes nothing.
 use Rattle.analyser.specs.Functions.{wordOf}
 use mathlib.Core.Path.{ap, _∙_}
 use Rattle.analyser.proofs.FunctionLaws.{bound-tells, safe-reports, exact-reports}
 use borrow.Author.Needs.{needs}
 use Rattle.analyser.proofs.tickbound_bound.Statement.{statement}
 use Rattle.analyser.proofs.tickbound_bound.Tie as tie
-use Rattle.analyser.proofs.tickbound_bound.Reads as reads
-use Rattle.analyser.proofs.tickbound_bound.Lts as lts
-use Rattle.analyser.proofs.bound.Reads as bound-reads
-use Rattle.analyser.proofs.word_of.Reads as word-of-reads
 
--- src/lib.rt:211:9
 bound-requires : tie.Need-bound-requires
 bound-requires c κs = search needs
 
--- src/lib.rt:212:5
 word-of-requires : tie.Need-word-of-requires
 word-of-requires c κs = search needs
 
--- src/lib.rt:203:1
 same-length : tie.Need-same-length
 same-length c = search needs
 
--- src/lib.rt:203:1
 returns : tie.Need-returns
 returns c = let w = c .word-of .ensures ∙ ap wordOf (c .before .before .before .bound .ensures .0) in (w, (c .before .before .before .bound .ensures .1 .0, (bound-tells _ _ _ w, (safe-reports _ _, exact-reports _ _))))
 

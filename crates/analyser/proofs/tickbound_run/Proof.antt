@@ -1,27 +1,20 @@
+-- `analyser::tickbound_run` meets its contract. Assumes nothing.
 use Rattle.analyser.specs.Functions.{wordOf}
 use mathlib.Core.Path.{ap, _∙_}
 use Rattle.analyser.proofs.FunctionLaws.{run-tells, runs-within}
 use borrow.Author.Needs.{needs}
 use Rattle.analyser.proofs.tickbound_run.Statement.{statement}
 use Rattle.analyser.proofs.tickbound_run.Tie as tie
-use Rattle.analyser.proofs.tickbound_run.Reads as reads
-use Rattle.analyser.proofs.tickbound_run.Lts as lts
-use Rattle.analyser.proofs.run.Reads as run-reads
-use Rattle.analyser.proofs.word_of.Reads as word-of-reads
 
--- src/lib.rt:223:9
 run-requires : tie.Need-run-requires
 run-requires c κs = search needs
 
--- src/lib.rt:224:5
 word-of-requires : tie.Need-word-of-requires
 word-of-requires c κs = search needs
 
--- src/lib.rt:216:1
 same-length : tie.Need-same-length
 same-length c = search needs
 
--- src/lib.rt:216:1
 returns : tie.Need-returns
 returns c = let w = c .word-of .ensures ∙ ap wordOf (c .before .before .before .run .ensures .0) in (w, (c .before .before .before .run .ensures .1 .0, (run-tells _ _ _ w, runs-within _ _)))
 

@@ -1,30 +1,23 @@
+-- `analyser::word_of` meets its contract. Assumes nothing.
 use Rattle.analyser.specs.Functions.{wordOf}
 use Rattle.lines.proofs.LineLaws.{arm}
 use Rattle.analyser.proofs.FunctionLaws.{word-reported}
 use borrow.Author.Needs.{needs}
 use Rattle.analyser.proofs.word_of.Statement.{statement}
 use Rattle.analyser.proofs.word_of.Tie as tie
-use Rattle.analyser.proofs.word_of.Reads as reads
-use Rattle.analyser.proofs.word_of.Lts as lts
-use Rattle.analyser.proofs.refusal_word.Reads as refusal-word-reads
 
--- src/lib.rt:188:26
 enum-known-answer : tie.Need-enum-known-answer
 enum-known-answer c = search needs
 
--- src/lib.rt:189:25
 enum-known-answer-2 : tie.Need-enum-known-answer-2
 enum-known-answer-2 c = search needs
 
--- src/lib.rt:189:31
 refusal-word-requires : tie.Need-refusal-word-requires
 refusal-word-requires c κs = search needs
 
--- src/lib.rt:184:1
 returns : tie.Need-returns
 returns c = word-reported _ _ (c .before .answer .given .1)
 
--- src/lib.rt:184:1
 returns-2 : tie.Need-returns-2
 returns-2 c = arm wordOf (c .before .before .answer2 .given .1) (c .refusal-word .ensures)
 

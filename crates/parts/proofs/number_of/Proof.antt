@@ -5,7 +5,8 @@ use mir.Val.{SFits, ofZ, toZ}
 use mir.ValLaws.{toZ-ofZ}
 use Rattle.routine.specs.Rows.{value}
 use Rattle.routine.specs.Routine.{inside}
-use Rattle.parts.proofs.WordLaws.{near, inside-fits}
+use Rattle.values.proofs.ValueLaws.{inside-fits}
+use Rattle.parts.proofs.WordLaws.{near}
 use borrow.Author.Needs.{needs}
 use Rattle.parts.proofs.number_of.Statement.{statement}
 use Rattle.parts.proofs.number_of.Tie as tie

@@ -1,39 +1,28 @@
+-- `reader::read` meets its contract. Assumes nothing.
 use mathlib.Core.Path.{sym, _∙_}
 use Rattle.reader.proofs.ReaderLaws.{reading-passes, shows-routine, shows-refusal}
 use borrow.Author.Needs.{needs}
 use Rattle.reader.proofs.read.Statement.{statement}
 use Rattle.reader.proofs.read.Tie as tie
-use Rattle.reader.proofs.read.Reads as reads
-use Rattle.reader.proofs.read.Lts as lts
-use Rattle.reader.proofs.blank.Reads as blank-reads
-use Rattle.reader.proofs.routine_of.Reads as routine-of-reads
-use Rattle.rows.proofs.check.Reads as check-reads
 
--- src/lib.rt:139:9
 check-requires : tie.Need-check-requires
 check-requires c κs = search needs
 
--- src/lib.rt:142:17
 enum-told : tie.Need-enum-told
 enum-told c = search needs
 
--- src/lib.rt:142:17
 routine-of-requires : tie.Need-routine-of-requires
 routine-of-requires c κs = reading-passes (c .before .before .before .before .args .reader) _ (sym (c .before .before .check .ensures) ∙ c .enum-told .given .1)
 
--- src/lib.rt:148:26
 enum-known-checked : tie.Need-enum-known-checked
 enum-known-checked c = search needs
 
--- src/lib.rt:149:17
 blank-requires : tie.Need-blank-requires
 blank-requires c κs = search needs
 
--- src/lib.rt:136:1
 returns : tie.Need-returns
 returns c = shows-routine (c .before .before .before .before .before .args .reader) _ _ (c .routine-of .ensures .0) (c .routine-of .ensures .1) (sym (c .before .before .before .check .ensures) ∙ c .before .enum-told .given .1)
 
--- src/lib.rt:136:1
 returns-2 : tie.Need-returns-2
 returns-2 c = shows-refusal (c .before .before .before .before .before .before .args .reader) _ _ (c .blank .ensures) _ (sym (c .before .before .before .before .check .ensures) ∙ c .before .before .checked .given .1)
 

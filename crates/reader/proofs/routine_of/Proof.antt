@@ -1,3 +1,4 @@
+-- `reader::routine_of` meets its contract. Assumes nothing.
 use Rattle.reader.proofs.ReaderLaws.{counted, start-at, first-low, budget-limited, answers-small, answers-held, code-is, first-is, budget-held, tick-held, fields-ready, cells-ready, start-held, blocks-fit, columns-sized}
 use native.Mathlib.Omega.{arith}
 use mathlib.Core.Path.{_≡_, refl}
@@ -6,92 +7,61 @@ use Rattle.states.proofs.Stack.{length-images}
 use borrow.Author.Needs.{needs}
 use Rattle.reader.proofs.routine_of.Statement.{statement}
 use Rattle.reader.proofs.routine_of.Tie as tie
-use Rattle.reader.proofs.routine_of.Reads as reads
-use Rattle.reader.proofs.routine_of.Lts as lts
-use Rattle.names.proofs.blocks_named.Reads as blocks-named-reads
-use Rattle.parts.proofs.answers_of.Reads as answers-of-reads
-use Rattle.parts.proofs.count_code.Reads as count-code-reads
-use Rattle.parts.proofs.fields_of.Reads as fields-of-reads
-use Rattle.parts.proofs.natural_at.Reads as natural-at-reads
-use Rattle.parts.proofs.start_of.Reads as start-of-reads
-use Rattle.reader.proofs.columns_in.Reads as columns-in-reads
-use Rattle.reader.proofs.first_in.Reads as first-in-reads
-use Rattle.text.proofs.after_lines.Reads as after-lines-reads
-use Rattle.text.proofs.line_at.Reads as line-at-reads
 
--- src/lib.rt:108:9
 line-at-requires : tie.Need-line-at-requires
 line-at-requires c κs = search needs
 
--- src/lib.rt:109:18
 natural-at-requires : tie.Need-natural-at-requires
 natural-at-requires c κs = search needs
 
--- src/lib.rt:109:18
 cast-budget : tie.Need-cast-budget
 cast-budget c = search needs
 
--- src/lib.rt:110:16
 natural-at-requires-2 : tie.Need-natural-at-requires-2
 natural-at-requires-2 c κs = search needs
 
--- src/lib.rt:110:16
 cast-tick : tie.Need-cast-tick
 cast-tick c = search needs
 
--- src/lib.rt:111:37
 line-at-requires-2 : tie.Need-line-at-requires-2
 line-at-requires-2 c κs = search needs
 
--- src/lib.rt:111:9
 blocks-named-requires : tie.Need-blocks-named-requires
 blocks-named-requires c κs = search needs
 
--- src/lib.rt:114:35
 line-at-requires-3 : tie.Need-line-at-requires-3
 line-at-requires-3 c κs = search needs
 
--- src/lib.rt:114:9
 fields-of-requires : tie.Need-fields-of-requires
 fields-of-requires c κs = fields-ready _ (c .before .before .before .before .before .before .before .before .pre) _ _ _ (c .before .before .before .line-at2 .ensures) (c .line-at3 .ensures) refl _ (c .before .before .blocks-named .ensures)
 
--- src/lib.rt:115:9
 after-lines-requires : tie.Need-after-lines-requires
 after-lines-requires c κs = search needs
 
--- src/lib.rt:116:9
 first-in-requires : tie.Need-first-in-requires
 first-in-requires c κs = search needs
 
--- src/lib.rt:117:9
 count-code-requires : tie.Need-count-code-requires
 count-code-requires c κs = search needs
 
--- src/lib.rt:118:9
 columns-in-requires : tie.Need-columns-in-requires
 columns-in-requires c κs = counted _ (c .before .before .before .before .before .before .before .before .before .before .before .before .pre) _ (c .before .before .after-lines .ensures .0) _ (c .count-code .ensures)
 
--- src/lib.rt:119:33
 line-at-requires-4 : tie.Need-line-at-requires-4
 line-at-requires-4 c κs = search needs
 
--- src/lib.rt:119:9
 start-of-requires : tie.Need-start-of-requires
 start-of-requires c κs = cells-ready _ (c .before .before .before .before .before .before .before .before .before .before .before .before .before .before .pre) _ _ _ (c .before .before .before .before .before .before .before .before .before .line-at2 .ensures) (c .before .before .before .before .before .before .line-at3 .ensures) (c .line-at4 .ensures) _ (c .before .before .before .before .before .before .before .before .blocks-named .ensures)
 
--- src/lib.rt:120:61
 add-after-lines : tie.Need-add-after-lines
 add-after-lines c = let k = counted _ (c .before .before .before .before .before .before .before .before .before .before .before .before .before .before .before .pre) _ (c .before .before .before .before .before .after-lines .ensures .0) _ (c .before .before .before .count-code .ensures) in let h = k .few in omega arith
 
--- src/lib.rt:120:37
 after-lines-requires-2 : tie.Need-after-lines-requires-2
 after-lines-requires-2 c κs = search needs
 
--- src/lib.rt:120:9
 answers-of-requires : tie.Need-answers-of-requires
 answers-of-requires c κs = answers-small _ (c .before .before .before .before .before .before .before .before .before .before .before .before .before .before .before .before .pre) _ (c .before .before .before .before .before .before .after-lines .ensures .0) _ (c .before .before .before .before .count-code .ensures) _ (c .after-lines2 .ensures .0)
 
--- src/lib.rt:103:1
 returns : tie.Need-returns
 returns c =
     let a : length (c .before .before .before .before .columns-in .result .codes) ≡ 1024 = search (c .before .before .before .before .columns-in .ok, needs, length-images) in

@@ -1,3 +1,4 @@
+-- `refusals::number` meets its contract. Assumes nothing.
 use borrow.Author.Needs.{needs}
 use Rattle.refusals.specs.Refusals.{number}
 use Rattle.refusals.proofs.number.Statement.{statement}

@@ -1,3 +1,4 @@
+-- `refusals::place` meets its contract. Assumes nothing.
 use borrow.Author.Needs.{needs}
 use Rattle.refusals.specs.Refusals.{place}
 use Rattle.refusals.proofs.place.Statement.{statement}

@@ -1,49 +1,38 @@
+-- `rows::all_known` meets its contract. Assumes nothing.
 use Rattle.routine.specs.Rows.{allKnown}
 use denote.Ref.{now}
 use Rattle.lines.proofs.LineLaws.{arm}
 use borrow.Author.Needs.{needs}
 use Rattle.rows.proofs.all_known.Statement.{statement}
 use Rattle.rows.proofs.all_known.Tie as tie
-use Rattle.rows.proofs.all_known.Reads as reads
-use Rattle.rows.proofs.all_known.Lts as lts
-use Rattle.lines.proofs.values_known.Reads as values-known-reads
 
--- src/lib.rt:170:27
 enum-told : tie.Need-enum-told
 enum-told c = search needs
 
--- src/lib.rt:171:25
 enum-known-role : tie.Need-enum-known-role
 enum-known-role c = search needs
 
--- src/lib.rt:171:31
 values-known-requires : tie.Need-values-known-requires
 values-known-requires c κs = search needs
 
--- src/lib.rt:172:26
 enum-told-2 : tie.Need-enum-told-2
 enum-told-2 c = search needs
 
--- src/lib.rt:173:28
 enum-told-3 : tie.Need-enum-told-3
 enum-told-3 c = search needs
 
--- src/lib.rt:166:1
 returns : tie.Need-returns
 unfolding allKnown
 returns c = search needs
 
--- src/lib.rt:166:1
 returns-2 : tie.Need-returns-2
 unfolding allKnown
 returns-2 c = arm (λ o. allKnown o (now (c .before .before .before .before .before .args .line))) (c .before .before .role .given .1) (c .values-known .ensures)
 
--- src/lib.rt:166:1
 returns-3 : tie.Need-returns-3
 unfolding allKnown
 returns-3 c = search needs
 
--- src/lib.rt:166:1
 returns-4 : tie.Need-returns-4
 unfolding allKnown
 returns-4 c = search needs

@@ -1,109 +1,85 @@
+-- `rows::check` meets its contract. Assumes nothing.
 use mathlib.Core.Path.{sym, _∙_}
 use Rattle.rows.proofs.CheckLaws.{due-layout, due-range, due-after, check-long, check-layout, check-range, check-name, check-price, check-target, check-bound, check-run}
 use borrow.Author.Needs.{needs}
 use Rattle.rows.proofs.check.Statement.{statement}
 use Rattle.rows.proofs.check.Tie as tie
-use Rattle.rows.proofs.check.Reads as reads
-use Rattle.rows.proofs.check.Lts as lts
-use Rattle.rows.proofs.check_known.Reads as check-known-reads
-use Rattle.rows.proofs.fault_of.Reads as fault-of-reads
 
--- src/lib.rt:359:9
 returns : tie.Need-returns
 returns c = check-long _ _ (c .if1 .taken)
 
--- src/lib.rt:361:9
 fault-of-requires : tie.Need-fault-of-requires
 fault-of-requires c κs = (c .if1 .left, due-layout _)
 
--- src/lib.rt:362:24
 enum-known-layout : tie.Need-enum-known-layout
 enum-known-layout c = search needs
 
--- src/lib.rt:363:9
 returns-2 : tie.Need-returns-2
 returns-2 c = check-layout _ _ (c .before .before .before .before .if1 .left) _ (sym (c .before .before .before .fault-of .ensures) ∙ c .before .layout .given .1)
 
 enum-told : tie.Need-enum-told
 enum-told c = search needs
 
--- src/lib.rt:365:9
 fault-of-requires-2 : tie.Need-fault-of-requires-2
 fault-of-requires-2 c κs = ((c .before .before .before .if1 .left), due-range _)
 
--- src/lib.rt:366:24
 enum-known-range : tie.Need-enum-known-range
 enum-known-range c = search needs
 
--- src/lib.rt:367:9
 returns-3 : tie.Need-returns-3
 returns-3 c = check-range _ _ (c .before .before .before .before .before .before .before .if1 .left) _ (sym (c .before .before .before .before .before .before .fault-of .ensures) ∙ c .before .before .before .before .enum-told .given .1) (sym (c .before .before .before .fault-of2 .ensures) ∙ c .before .range .given .1)
 
 enum-told-2 : tie.Need-enum-told-2
 enum-told-2 c = search needs
 
--- src/lib.rt:369:9
 fault-of-requires-3 : tie.Need-fault-of-requires-3
 fault-of-requires-3 c κs = ((c .before .before .before .before .before .before .if1 .left), due-after _ (sym (c .before .before .fault-of2 .ensures) ∙ c .enum-told2 .given .1))
 
--- src/lib.rt:370:24
 enum-known-name : tie.Need-enum-known-name
 enum-known-name c = search needs
 
--- src/lib.rt:371:9
 returns-4 : tie.Need-returns-4
 returns-4 c = check-name _ _ (c .before .before .before .before .before .before .before .before .before .before .if1 .left) _ (sym (c .before .before .before .before .before .before .before .before .before .fault-of .ensures) ∙ c .before .before .before .before .before .before .before .enum-told .given .1) (sym (c .before .before .before .before .before .before .fault-of2 .ensures) ∙ c .before .before .before .before .enum-told2 .given .1) (sym (c .before .before .before .fault-of3 .ensures) ∙ c .before .name .given .1)
 
 enum-told-3 : tie.Need-enum-told-3
 enum-told-3 c = search needs
 
--- src/lib.rt:373:9
 fault-of-requires-4 : tie.Need-fault-of-requires-4
 fault-of-requires-4 c κs = ((c .before .before .before .before .before .before .before .before .before .if1 .left), due-after _ (sym (c .before .before .before .before .before .fault-of2 .ensures) ∙ c .before .before .before .enum-told2 .given .1))
 
--- src/lib.rt:374:24
 enum-known-price : tie.Need-enum-known-price
 enum-known-price c = search needs
 
--- src/lib.rt:375:9
 returns-5 : tie.Need-returns-5
 returns-5 c = check-price _ _ (c .before .before .before .before .before .before .before .before .before .before .before .before .before .if1 .left) _ (sym (c .before .before .before .before .before .before .before .before .before .before .before .before .fault-of .ensures) ∙ c .before .before .before .before .before .before .before .before .before .before .enum-told .given .1) (sym (c .before .before .before .before .before .before .before .before .before .fault-of2 .ensures) ∙ c .before .before .before .before .before .before .before .enum-told2 .given .1) (sym (c .before .before .before .before .before .before .fault-of3 .ensures) ∙ c .before .before .before .before .enum-told3 .given .1) (sym (c .before .before .before .fault-of4 .ensures) ∙ c .before .price .given .1)
 
 enum-told-4 : tie.Need-enum-told-4
 enum-told-4 c = search needs
 
--- src/lib.rt:377:9
 fault-of-requires-5 : tie.Need-fault-of-requires-5
 fault-of-requires-5 c κs = ((c .before .before .before .before .before .before .before .before .before .before .before .before .if1 .left), due-after _ (sym (c .before .before .before .before .before .before .before .before .fault-of2 .ensures) ∙ c .before .before .before .before .before .before .enum-told2 .given .1))
 
--- src/lib.rt:378:24
 enum-known-target : tie.Need-enum-known-target
 enum-known-target c = search needs
 
--- src/lib.rt:379:9
 returns-6 : tie.Need-returns-6
 returns-6 c = check-target _ _ (c .before .before .before .before .before .before .before .before .before .before .before .before .before .before .before .before .if1 .left) _ (sym (c .before .before .before .before .before .before .before .before .before .before .before .before .before .before .before .fault-of .ensures) ∙ c .before .before .before .before .before .before .before .before .before .before .before .before .before .enum-told .given .1) (sym (c .before .before .before .before .before .before .before .before .before .before .before .before .fault-of2 .ensures) ∙ c .before .before .before .before .before .before .before .before .before .before .enum-told2 .given .1) (sym (c .before .before .before .before .before .before .before .before .before .fault-of3 .ensures) ∙ c .before .before .before .before .before .before .before .enum-told3 .given .1) (sym (c .before .before .before .before .before .before .fault-of4 .ensures) ∙ c .before .before .before .before .enum-told4 .given .1) (sym (c .before .before .before .fault-of5 .ensures) ∙ c .before .target .given .1)
 
 enum-told-5 : tie.Need-enum-told-5
 enum-told-5 c = search needs
 
--- src/lib.rt:382:26
 enum-told-6 : tie.Need-enum-told-6
 enum-told-6 c = search needs
 
--- src/lib.rt:383:24
 enum-told-7 : tie.Need-enum-told-7
 enum-told-7 c = search needs
 
--- src/lib.rt:383:24
 check-known-requires : tie.Need-check-known-requires
 check-known-requires c κs = c .before .before .before .before .before .before .before .before .before .before .before .before .before .before .before .before .before .if1 .left
 
--- src/lib.rt:355:1
 returns-7 : tie.Need-returns-7
 returns-7 c = check-bound _ _ (c .enum-told6 .given .1) (c .before .before .before .before .before .before .before .before .before .before .before .before .before .before .before .before .before .if1 .left) (record { layout = (sym (c .before .before .before .before .before .before .before .before .before .before .before .before .before .before .before .before .fault-of .ensures) ∙ c .before .before .before .before .before .before .before .before .before .before .before .before .before .before .enum-told .given .1); range = (sym (c .before .before .before .before .before .before .before .before .before .before .before .before .before .fault-of2 .ensures) ∙ c .before .before .before .before .before .before .before .before .before .before .before .enum-told2 .given .1); names = (sym (c .before .before .before .before .before .before .before .before .before .before .fault-of3 .ensures) ∙ c .before .before .before .before .before .before .before .before .enum-told3 .given .1); prices = (sym (c .before .before .before .before .before .before .before .fault-of4 .ensures) ∙ c .before .before .before .before .before .enum-told4 .given .1); targets = (sym (c .before .before .before .before .fault-of5 .ensures) ∙ c .before .before .enum-told5 .given .1) })
 
--- src/lib.rt:355:1
 returns-8 : tie.Need-returns-8
 returns-8 c = c .check-known .ensures ∙ check-run _ _ (c .before .enum-told7 .given .1) (c .before .before .before .before .before .before .before .before .before .before .before .before .before .before .before .before .before .before .if1 .left) (record { layout = (sym (c .before .before .before .before .before .before .before .before .before .before .before .before .before .before .before .before .before .fault-of .ensures) ∙ c .before .before .before .before .before .before .before .before .before .before .before .before .before .before .before .enum-told .given .1); range = (sym (c .before .before .before .before .before .before .before .before .before .before .before .before .before .before .fault-of2 .ensures) ∙ c .before .before .before .before .before .before .before .before .before .before .before .before .enum-told2 .given .1); names = (sym (c .before .before .before .before .before .before .before .before .before .before .before .fault-of3 .ensures) ∙ c .before .before .before .before .before .before .before .before .before .enum-told3 .given .1); prices = (sym (c .before .before .before .before .before .before .before .before .fault-of4 .ensures) ∙ c .before .before .before .before .before .before .enum-told4 .given .1); targets = (sym (c .before .before .before .before .before .fault-of5 .ensures) ∙ c .before .before .before .enum-told5 .given .1) })
 

@@ -1,28 +1,22 @@
+-- `rows::check_known` meets its contract. Assumes nothing.
 use mathlib.Core.Path.{sym, _∙_}
 use Rattle.rows.proofs.CheckLaws.{due-known, known-fails, known-passes}
 use borrow.Author.Needs.{needs}
 use Rattle.rows.proofs.check_known.Statement.{statement}
 use Rattle.rows.proofs.check_known.Tie as tie
-use Rattle.rows.proofs.check_known.Reads as reads
-use Rattle.rows.proofs.check_known.Lts as lts
-use Rattle.rows.proofs.fault_of.Reads as fault-of-reads
 
--- src/lib.rt:347:9
 fault-of-requires : tie.Need-fault-of-requires
 fault-of-requires c κs = (c .before .pre, due-known _)
 
--- src/lib.rt:348:24
 enum-known-known : tie.Need-enum-known-known
 enum-known-known c = search needs
 
--- src/lib.rt:349:9
 returns : tie.Need-returns
 returns c = known-fails _ _ (sym (c .before .before .before .fault-of .ensures) ∙ c .before .known .given .1)
 
 enum-told : tie.Need-enum-told
 enum-told c = search needs
 
--- src/lib.rt:343:1
 returns-2 : tie.Need-returns-2
 returns-2 c = known-passes _ (sym (c .before .before .fault-of .ensures) ∙ c .enum-told .given .1)
 

@@ -1,3 +1,4 @@
+-- `rows::fault_of` meets its contract. Assumes nothing.
 use lib.ListN.{length}
 use mathlib.Core.Path.{_≡_}
 use Rattle.states.proofs.Stack.{length-images}
@@ -5,65 +6,43 @@ use Rattle.rows.proofs.FoundLaws.{context-found}
 use borrow.Author.Needs.{needs}
 use Rattle.rows.proofs.fault_of.Statement.{statement}
 use Rattle.rows.proofs.fault_of.Tie as tie
-use Rattle.rows.proofs.fault_of.Reads as reads
-use Rattle.rows.proofs.fault_of.Lts as lts
-use Rattle.names.proofs.blocks_named.Reads as blocks-named-reads
-use Rattle.parts.proofs.count_code.Reads as count-code-reads
-use Rattle.rows.proofs.earliest.Reads as earliest-reads
-use Rattle.rows.proofs.names_line.Reads as names-line-reads
-use Rattle.text.proofs.after_lines.Reads as after-lines-reads
-use Rattle.text.proofs.first_line.Reads as first-line-reads
-use Rattle.text.proofs.word_at.Reads as word-at-reads
-use Rattle.values.proofs.natural_in.Reads as natural-in-reads
 
--- src/lib.rt:329:9
 names-line-requires : tie.Need-names-line-requires
 names-line-requires c κs = search needs
 
--- src/lib.rt:330:9
 names-line-requires-2 : tie.Need-names-line-requires-2
 names-line-requires-2 c κs = search needs
 
--- src/lib.rt:331:9
 names-line-requires-3 : tie.Need-names-line-requires-3
 names-line-requires-3 c κs = search needs
 
--- src/lib.rt:332:9
 blocks-named-requires : tie.Need-blocks-named-requires
 blocks-named-requires c κs = search needs
 
--- src/lib.rt:334:9
 after-lines-requires : tie.Need-after-lines-requires
 after-lines-requires c κs = search needs
 
--- src/lib.rt:335:9
 first-line-requires : tie.Need-first-line-requires
 first-line-requires c κs = search needs
 
--- src/lib.rt:336:9
 word-at-requires : tie.Need-word-at-requires
 word-at-requires c κs = search needs
 
--- src/lib.rt:337:17
 natural-in-requires : tie.Need-natural-in-requires
 natural-in-requires c κs = search needs
 
--- src/lib.rt:337:17
 cast-first : tie.Need-cast-first
 cast-first c = search needs
 
--- src/lib.rt:338:9
 count-code-requires : tie.Need-count-code-requires
 count-code-requires c κs = search needs
 
--- src/lib.rt:339:5
 earliest-requires : tie.Need-earliest-requires
 earliest-requires c κs =
     let s = c .before .before .before .before .before .before .before .before .before .before in
     let eight : length (c .before .before .before .before .before .blocks-named .result .sizes) ≡ 8 = search (c .before .before .before .before .before .blocks-named .ok, needs, length-images) in
     (s .pre .0, context-found (s .args .row) _ _ _ _ _ _ _ (s .pre .0) (s .pre .1) (c .before .before .before .before .before .before .before .before .names-line .ensures) (c .before .before .before .before .before .before .before .names-line2 .ensures) (c .before .before .before .before .before .before .names-line3 .ensures) _ (c .before .before .before .before .before .blocks-named .ensures) eight (c .before .before .before .before .after-lines .ensures .0) (c .before .before .before .first-line .ensures) (c .before .before .word-at .ensures) _ _ (c .before .natural-in .ensures) (c .count-code .ensures))
 
--- src/lib.rt:324:1
 returns : tie.Need-returns
 returns c = search needs
 

@@ -1,59 +1,44 @@
+-- `rows::in_range` meets its contract. Assumes nothing.
 use denote.Ref.{now}
 use Rattle.lines.proofs.LineLaws.{arm}
 use Rattle.routine.specs.Rows.{inRange}
 use borrow.Author.Needs.{needs}
 use Rattle.rows.proofs.in_range.Statement.{statement}
 use Rattle.rows.proofs.in_range.Tie as tie
-use Rattle.rows.proofs.in_range.Reads as reads
-use Rattle.rows.proofs.in_range.Lts as lts
-use Rattle.lines.proofs.answer_in_range.Reads as answer-in-range-reads
-use Rattle.lines.proofs.code_in_range.Reads as code-in-range-reads
-use Rattle.lines.proofs.values_in_range.Reads as values-in-range-reads
 
--- src/lib.rt:91:27
 enum-told : tie.Need-enum-told
 enum-told c = search needs
 
--- src/lib.rt:92:25
 enum-known-role : tie.Need-enum-known-role
 enum-known-role c = search needs
 
--- src/lib.rt:92:31
 values-in-range-requires : tie.Need-values-in-range-requires
 values-in-range-requires c κs = search needs
 
--- src/lib.rt:93:20
 enum-known-role-2 : tie.Need-enum-known-role-2
 enum-known-role-2 c = search needs
 
--- src/lib.rt:93:26
 code-in-range-requires : tie.Need-code-in-range-requires
 code-in-range-requires c κs = search needs
 
--- src/lib.rt:94:28
 enum-told-2 : tie.Need-enum-told-2
 enum-told-2 c = search needs
 
--- src/lib.rt:94:28
 answer-in-range-requires : tie.Need-answer-in-range-requires
 answer-in-range-requires c κs = search needs
 
--- src/lib.rt:87:1
 returns : tie.Need-returns
 unfolding inRange
 returns c = search needs
 
--- src/lib.rt:87:1
 returns-2 : tie.Need-returns-2
 unfolding inRange
 returns-2 c = arm (λ o. inRange o (now (c .before .before .before .before .before .args .line))) (c .before .before .role .given .1) (c .values-in-range .ensures)
 
--- src/lib.rt:87:1
 returns-3 : tie.Need-returns-3
 unfolding inRange
 returns-3 c = arm (λ o. inRange o (now (c .before .before .before .before .before .args .line))) (c .before .before .role2 .given .1) (c .code-in-range .ensures)
 
--- src/lib.rt:87:1
 returns-4 : tie.Need-returns-4
 unfolding inRange
 returns-4 c = arm (λ o. inRange o (now (c .before .before .before .before .args .line))) (c .before .enum-told2 .given .1) (c .answer-in-range .ensures)

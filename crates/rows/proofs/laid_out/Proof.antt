@@ -1,3 +1,4 @@
+-- `rows::laid_out` meets its contract. Assumes nothing.
 use Rattle.rows.proofs.ContextLaws.{laid-values}
 use Rattle.text.specs.Text.{lines}
 use Rattle.routine.specs.Rows.{laidOut}
@@ -6,65 +7,45 @@ use Rattle.lines.proofs.LineLaws.{arm}
 use borrow.Author.Needs.{needs}
 use Rattle.rows.proofs.laid_out.Statement.{statement}
 use Rattle.rows.proofs.laid_out.Tie as tie
-use Rattle.rows.proofs.laid_out.Reads as reads
-use Rattle.rows.proofs.laid_out.Lts as lts
-use Rattle.lines.proofs.answer_laid_out.Reads as answer-laid-out-reads
-use Rattle.lines.proofs.code_laid_out.Reads as code-laid-out-reads
-use Rattle.lines.proofs.names_laid_out.Reads as names-laid-out-reads
-use Rattle.lines.proofs.values_laid_out.Reads as values-laid-out-reads
-use Rattle.rows.proofs.names_line.Reads as names-line-reads
 
--- src/lib.rt:79:21
 enum-known-role : tie.Need-enum-known-role
 enum-known-role c = search needs
 
--- src/lib.rt:79:27
 names-laid-out-requires : tie.Need-names-laid-out-requires
 names-laid-out-requires c κs = search needs
 
--- src/lib.rt:80:22
 enum-known-role-2 : tie.Need-enum-known-role-2
 enum-known-role-2 c = search needs
 
--- src/lib.rt:80:57
 names-line-requires : tie.Need-names-line-requires
 names-line-requires c κs = search needs
 
--- src/lib.rt:80:31
 values-laid-out-requires : tie.Need-values-laid-out-requires
 values-laid-out-requires c κs = search needs
 
--- src/lib.rt:81:20
 enum-known-role-3 : tie.Need-enum-known-role-3
 enum-known-role-3 c = search needs
 
--- src/lib.rt:81:26
 code-laid-out-requires : tie.Need-code-laid-out-requires
 code-laid-out-requires c κs = search needs
 
--- src/lib.rt:82:22
 enum-known-role-4 : tie.Need-enum-known-role-4
 enum-known-role-4 c = search needs
 
--- src/lib.rt:82:28
 answer-laid-out-requires : tie.Need-answer-laid-out-requires
 answer-laid-out-requires c κs = search needs
 
--- src/lib.rt:75:1
 returns : tie.Need-returns
 unfolding laidOut
 returns c = arm (λ o. laidOut (lines (now (c .before .before .before .before .before .before .args .text))) o (now (c .before .before .before .before .before .before .args .line))) (c .before .before .role .given .1) (c .names-laid-out .ensures)
 
--- src/lib.rt:75:1
 returns-2 : tie.Need-returns-2
 returns-2 c = arm (λ o. laidOut (lines (now (c .before .before .before .before .before .before .before .args .text))) o (now (c .before .before .before .before .before .before .before .args .line))) (c .before .before .before .role2 .given .1) (laid-values (lines (now (c .before .before .before .before .before .before .before .args .text))) (now (c .before .before .before .before .before .before .before .args .line)) _ _ _ _ (c .before .names-line .ensures) (c .values-laid-out .ensures))
 
--- src/lib.rt:75:1
 returns-3 : tie.Need-returns-3
 unfolding laidOut
 returns-3 c = arm (λ o. laidOut (lines (now (c .before .before .before .before .before .before .args .text))) o (now (c .before .before .before .before .before .before .args .line))) (c .before .before .role3 .given .1) (c .code-laid-out .ensures)
 
--- src/lib.rt:75:1
 returns-4 : tie.Need-returns-4
 unfolding laidOut
 returns-4 c = arm (λ o. laidOut (lines (now (c .before .before .before .before .before .before .args .text))) o (now (c .before .before .before .before .before .before .args .line))) (c .before .before .role4 .given .1) (c .answer-laid-out .ensures)

@@ -1,30 +1,22 @@
+-- `rows::laid_out_line` meets its contract. Assumes nothing.
 use mathlib.Core.Path.{refl}
 use Rattle.rows.proofs.ContextLaws.{unended, unfilled, well-laid}
 use borrow.Author.Needs.{needs}
 use Rattle.rows.proofs.laid_out_line.Statement.{statement}
 use Rattle.rows.proofs.laid_out_line.Tie as tie
-use Rattle.rows.proofs.laid_out_line.Reads as reads
-use Rattle.rows.proofs.laid_out_line.Lts as lts
-use Rattle.lines.proofs.all_words.Reads as all-words-reads
-use Rattle.rows.proofs.laid_out.Reads as laid-out-reads
 
--- src/lib.rt:186:9
 returns : tie.Need-returns
 returns c = unended _ _ _ _ _ refl (c .if1 .taken)
 
--- src/lib.rt:188:9
 all-words-requires : tie.Need-all-words-requires
 all-words-requires c κs = search needs
 
--- src/lib.rt:189:9
 returns-2 : tie.Need-returns-2
 returns-2 c = unfilled _ _ _ _ _ (c .before .all-words .ensures) (c .before .before .if1 .left) (c .if2 .taken)
 
--- src/lib.rt:191:5
 laid-out-requires : tie.Need-laid-out-requires
 laid-out-requires c κs = search needs
 
--- src/lib.rt:182:1
 returns-3 : tie.Need-returns-3
 returns-3 c = well-laid _ _ _ _ _ (c .before .before .all-words .ensures) (c .before .before .before .if1 .left) (c .before .if2 .left) (c .laid-out .ensures)
 

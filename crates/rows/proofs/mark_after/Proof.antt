@@ -1,28 +1,22 @@
+-- `rows::mark_after` meets its contract. Assumes nothing.
 use mathlib.Core.Path.{sym, _∙_}
 use borrow.Author.Tests.{lt-ltb, le-ltb}
 use Rattle.rows.specs.Scan.{markAfter}
 use borrow.Author.Needs.{needs}
 use Rattle.rows.proofs.mark_after.Statement.{statement}
 use Rattle.rows.proofs.mark_after.Tie as tie
-use Rattle.rows.proofs.mark_after.Reads as reads
-use Rattle.rows.proofs.mark_after.Lts as lts
-use Rattle.rows.proofs.marks.Reads as marks-reads
 
--- src/lib.rt:249:9
 returns : tie.Need-returns
 unfolding markAfter
 returns c = rw (lt-ltb 0 (c .before .before .args .mark) (c .if1 .taken))
 
--- src/lib.rt:251:8
 marks-requires : tie.Need-marks-requires
 marks-requires c κs = search needs
 
--- src/lib.rt:245:1
 returns-2 : tie.Need-returns-2
 unfolding markAfter
 returns-2 c = rw (le-ltb 0 (c .before .before .before .before .args .mark) (c .before .before .if1 .left), sym (c .before .marks .ensures) ∙ c .if2 .taken)
 
--- src/lib.rt:245:1
 returns-3 : tie.Need-returns-3
 unfolding markAfter
 returns-3 c = rw (le-ltb 0 (c .before .before .before .before .args .mark) (c .before .before .if1 .left), sym (c .before .marks .ensures) ∙ c .if2 .left)

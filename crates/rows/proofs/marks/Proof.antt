@@ -1,26 +1,20 @@
+-- `rows::marks` meets its contract. Assumes nothing.
 use borrow.Author.Tests.{lt-ltb, le-ltb}
 use Rattle.rows.specs.Scan.{marks}
 use borrow.Author.Needs.{needs}
 use Rattle.rows.proofs.marks.Statement.{statement}
 use Rattle.rows.proofs.marks.Tie as tie
-use Rattle.rows.proofs.marks.Reads as reads
-use Rattle.rows.proofs.marks.Lts as lts
-use Rattle.text.proofs.same.Reads as same-reads
 
--- src/lib.rt:222:33
 slice-aggregate-same : tie.Need-slice-aggregate-same
 slice-aggregate-same c = search needs
 
--- src/lib.rt:222:9
 same-requires : tie.Need-same-requires
 same-requires c κs = search needs
 
--- src/lib.rt:222:9
 returns : tie.Need-returns
 unfolding marks
 returns c = rw (lt-ltb 13 (c .before .before .before .before .args .i) (c .before .before .if1 .taken)) (c .same .ensures)
 
--- src/lib.rt:218:1
 returns-2 : tie.Need-returns-2
 unfolding marks
 returns-2 c = rw (le-ltb 13 (c .before .before .args .i) (c .if1 .left))

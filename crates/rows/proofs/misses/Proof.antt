@@ -1,27 +1,22 @@
+-- `rows::misses` meets its contract. Assumes nothing.
 use native.Mathlib.Omega.{arith}
 use Rattle.rows.proofs.ScanLaws.{mark-before}
 use borrow.Author.Tests.{lt-ltb, le-ltb}
 use Rattle.rows.specs.Scan.{missing}
 use Rattle.rows.proofs.misses.Statement.{statement}
 use Rattle.rows.proofs.misses.Tie as tie
-use Rattle.rows.proofs.misses.Reads as reads
-use Rattle.rows.proofs.misses.Lts as lts
 
--- src/lib.rt:260:9
 returns : tie.Need-returns
 unfolding missing
 returns c = rw (lt-ltb (c .before .args .i) 14 (c .if1 .taken))
 
--- src/lib.rt:262:24
 add-result : tie.Need-add-result
 add-result c = let h = mark-before _ _ (c .before .before .pre) (c .if2 .taken) in let k = c .before .before .fits .i in omega arith
 
--- src/lib.rt:255:1
 returns-2 : tie.Need-returns-2
 unfolding missing
 returns-2 c = rw (le-ltb (c .before .before .args .i) 14 (c .before .if1 .left), lt-ltb 0 (c .before .before .args .mark) (c .if2 .taken))
 
--- src/lib.rt:255:1
 returns-3 : tie.Need-returns-3
 unfolding missing
 returns-3 c = rw (le-ltb (c .before .before .args .i) 14 (c .before .if1 .left), le-ltb 0 (c .before .before .args .mark) (c .if2 .left))

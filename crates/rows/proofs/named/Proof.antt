@@ -1,66 +1,49 @@
-use Rattle.rows.proofs.ContextLaws.{small-code}
+-- `rows::named` meets its contract. Assumes nothing.
+use Rattle.rows.proofs.ContextLaws.{small-code, named-values, named-code, first-within}
 use mir.ValLaws.{toZ-ofZ}
 use mir.Syntax.{w64}
 use Rattle.text.specs.Text.{lines}
-use Rattle.rows.proofs.ContextLaws.{named-values, named-code, first-within}
 use Rattle.routine.specs.Rows.{named}
 use denote.Ref.{now}
 use Rattle.lines.proofs.LineLaws.{arm}
 use borrow.Author.Needs.{needs}
 use Rattle.rows.proofs.named.Statement.{statement}
 use Rattle.rows.proofs.named.Tie as tie
-use Rattle.rows.proofs.named.Reads as reads
-use Rattle.rows.proofs.named.Lts as lts
-use Rattle.lines.proofs.code_named.Reads as code-named-reads
-use Rattle.lines.proofs.values_present.Reads as values-present-reads
-use Rattle.rows.proofs.well_named.Reads as well-named-reads
 
--- src/lib.rt:137:21
 enum-known-role : tie.Need-enum-known-role
 enum-known-role c = search needs
 
--- src/lib.rt:137:27
 well-named-requires : tie.Need-well-named-requires
 well-named-requires c κs = search needs
 
--- src/lib.rt:138:25
 enum-known-role-2 : tie.Need-enum-known-role-2
 enum-known-role-2 c = search needs
 
--- src/lib.rt:138:31
 values-present-requires : tie.Need-values-present-requires
 values-present-requires c κs = search needs
 
--- src/lib.rt:139:20
 enum-known-role-3 : tie.Need-enum-known-role-3
 enum-known-role-3 c = search needs
 
--- src/lib.rt:139:44
 cast-code-named : tie.Need-cast-code-named
 cast-code-named c = search needs
 
--- src/lib.rt:139:26
 code-named-requires : tie.Need-code-named-requires
 code-named-requires c κs = let s = c .before .before .before .before .before .before in (rw (toZ-ofZ w64 _ (cast-code-named c)) (first-within (s .args .first) (s .pre .0 .low)), small-code (s .args .role) _ (c .before .role3 .given .1) (s .pre .1))
 
--- src/lib.rt:140:28
 enum-told : tie.Need-enum-told
 enum-told c = search needs
 
--- src/lib.rt:131:1
 returns : tie.Need-returns
 unfolding named
 returns c = arm (λ o. named (lines (now (c .before .before .before .before .before .before .before .args .text))) o (now (c .before .before .before .before .before .before .before .args .line))) (c .before .before .role .given .1) (c .well-named .ensures)
 
--- src/lib.rt:131:1
 returns-2 : tie.Need-returns-2
 returns-2 c = arm (λ o. named (lines (now (c .before .before .before .before .before .before .before .args .text))) o (now (c .before .before .before .before .before .before .before .args .line))) (c .before .before .role2 .given .1) (named-values (lines (now (c .before .before .before .before .before .before .before .args .text))) (now (c .before .before .before .before .before .before .before .args .line)) _ (c .before .before .before .before .before .before .before .pre .0) _ _ (c .values-present .ensures))
 
--- src/lib.rt:131:1
 returns-3 : tie.Need-returns-3
 returns-3 c = arm (λ o. named (lines (now (c .before .before .before .before .before .before .before .args .text))) o (now (c .before .before .before .before .before .before .before .args .line))) (c .before .before .role3 .given .1) (named-code (lines (now (c .before .before .before .before .before .before .before .args .text))) (now (c .before .before .before .before .before .before .before .args .line)) _ (c .before .before .before .before .before .before .before .pre .0) _ (toZ-ofZ w64 _ (cast-code-named (c .before))) _ (c .code-named .ensures))
 
--- src/lib.rt:131:1
 returns-4 : tie.Need-returns-4
 unfolding named
 returns-4 c = search needs

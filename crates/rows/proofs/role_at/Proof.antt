@@ -1,61 +1,47 @@
+-- `rows::role_at` meets its contract. Assumes nothing.
 use Prim.Native.Nat.{_≤_}
 use Rattle.rows.proofs.ArmLaws.{above}
 use mathlib.Core.Path.{_≡_}
 use native.Mathlib.Omega.{arith}
 use Rattle.rows.proofs.role_at.Statement.{statement}
 use Rattle.rows.proofs.role_at.Tie as tie
-use Rattle.rows.proofs.role_at.Reads as reads
-use Rattle.rows.proofs.role_at.Lts as lts
 
--- src/lib.rt:38:1
 returns : tie.Need-returns
 returns c = rw (c .match .keys1)
 
--- src/lib.rt:38:1
 returns-2 : tie.Need-returns-2
 returns-2 c = rw (c .match .keys2)
 
--- src/lib.rt:38:1
 returns-3 : tie.Need-returns-3
 returns-3 c = rw (c .match .keys3)
 
--- src/lib.rt:38:1
 returns-4 : tie.Need-returns-4
 returns-4 c = rw (c .match .keys4)
 
--- src/lib.rt:38:1
 returns-5 : tie.Need-returns-5
 returns-5 c = rw (c .match .keys5)
 
--- src/lib.rt:38:1
 returns-6 : tie.Need-returns-6
 returns-6 c = rw (c .match .keys6)
 
--- src/lib.rt:38:1
 returns-7 : tie.Need-returns-7
 returns-7 c = rw (c .match .keys7)
 
--- src/lib.rt:38:1
 returns-8 : tie.Need-returns-8
 returns-8 c = rw (c .match .keys8)
 
--- src/lib.rt:38:1
 returns-9 : tie.Need-returns-9
 returns-9 c = rw (c .match .keys9)
 
--- src/lib.rt:38:1
 returns-10 : tie.Need-returns-10
 returns-10 c = rw (c .match .keys10)
 
--- src/lib.rt:38:1
 returns-11 : tie.Need-returns-11
 returns-11 c = rw (c .match .keys11)
 
--- src/lib.rt:38:1
 returns-12 : tie.Need-returns-12
 returns-12 c = rw (c .match .keys12)
 
--- src/lib.rt:38:1
 returns-13 : tie.Need-returns-13
 returns-13 c =
     let i = c .before .args .i in

@@ -1,3 +1,4 @@
+-- `rows::role_of` meets its contract. Assumes nothing.
 use native.Mathlib.Omega.{arith}
 use Rattle.rows.proofs.ScanLaws.{mark-before}
 use mathlib.Core.Path.{sym, _∙_}
@@ -6,43 +7,31 @@ use Rattle.rows.specs.Scan.{roleOf}
 use borrow.Author.Needs.{needs}
 use Rattle.rows.proofs.role_of.Statement.{statement}
 use Rattle.rows.proofs.role_of.Tie as tie
-use Rattle.rows.proofs.role_of.Reads as reads
-use Rattle.rows.proofs.role_of.Lts as lts
-use Rattle.rows.proofs.marks.Reads as marks-reads
-use Rattle.rows.proofs.role_at.Reads as role-at-reads
 
--- src/lib.rt:233:9
 role-at-requires : tie.Need-role-at-requires
 role-at-requires c κs = search needs
 
--- src/lib.rt:233:9
 returns : tie.Need-returns
 unfolding roleOf
 returns c = rw (lt-ltb (c .before .before .before .args .i) 13 (c .before .if1 .taken)) (c .role-at .ensures)
 
--- src/lib.rt:236:29
 sub-t5 : tie.Need-sub-t5
 sub-t5 c = let h = mark-before _ _ (c .before .before .before .pre) (c .if2 .taken) in omega arith
 
--- src/lib.rt:236:29
 sub-t6 : tie.Need-sub-t6
 sub-t6 c = let h = mark-before _ _ (c .before .before .before .pre) (c .if2 .taken) in omega arith
 
--- src/lib.rt:236:9
 returns-2 : tie.Need-returns-2
 unfolding roleOf
 returns-2 c = rw (le-ltb (c .before .before .before .args .i) 13 (c .before .if1 .left), lt-ltb 0 (c .before .before .before .args .mark) (c .if2 .taken))
 
--- src/lib.rt:238:8
 marks-requires : tie.Need-marks-requires
 marks-requires c κs = search needs
 
--- src/lib.rt:239:9
 returns-3 : tie.Need-returns-3
 unfolding roleOf
 returns-3 c = rw (le-ltb (c .before .before .before .before .before .args .i) 13 (c .before .before .before .if1 .left), le-ltb 0 (c .before .before .before .before .before .args .mark) (c .before .before .if2 .left), sym (c .before .marks .ensures) ∙ c .if3 .taken)
 
--- src/lib.rt:228:1
 returns-4 : tie.Need-returns-4
 unfolding roleOf
 returns-4 c = rw (le-ltb (c .before .before .before .before .before .args .i) 13 (c .before .before .before .if1 .left), le-ltb 0 (c .before .before .before .before .before .args .mark) (c .before .before .if2 .left), sym (c .before .marks .ensures) ∙ c .if3 .left)

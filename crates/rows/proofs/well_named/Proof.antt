@@ -1,3 +1,4 @@
+-- `rows::well_named` meets its contract. Assumes nothing.
 use mathlib.Core.Path.{refl, sym, _∙_}
 use Rattle.routine.specs.Rows.{wellNamed}
 use Rattle.routine.specs.Layout.{list}
@@ -8,119 +9,85 @@ use Rattle.lines.proofs.LineLaws.{arm}
 use borrow.Author.Needs.{needs}
 use Rattle.rows.proofs.well_named.Statement.{statement}
 use Rattle.rows.proofs.well_named.Tie as tie
-use Rattle.rows.proofs.well_named.Reads as reads
-use Rattle.rows.proofs.well_named.Lts as lts
-use Rattle.lines.proofs.all_words.Reads as all-words-reads
-use Rattle.names.proofs.blocks_named.Reads as blocks-named-reads
-use Rattle.names.proofs.cells_named.Reads as cells-named-reads
-use Rattle.names.proofs.distinct.Reads as distinct-reads
-use Rattle.text.proofs.count_words.Reads as count-words-reads
-use Rattle.text.proofs.same.Reads as same-reads
 
--- src/lib.rt:100:25
 slice-aggregate-same : tie.Need-slice-aggregate-same
 slice-aggregate-same c = search needs
 
--- src/lib.rt:100:8
 same-requires : tie.Need-same-requires
 same-requires c κs = search needs
 
--- src/lib.rt:101:9
 returns : tie.Need-returns
 returns c = named-none (now (c .before .before .before .before .args .line)) _ (sym (c .before .same .ensures) ∙ c .if1 .taken)
 
--- src/lib.rt:104:28
 enum-told : tie.Need-enum-told
 enum-told c = search needs
 
--- src/lib.rt:106:33
 enum-told-2 : tie.Need-enum-told-2
 enum-told-2 c = search needs
 
--- src/lib.rt:106:16
 all-words-requires : tie.Need-all-words-requires
 all-words-requires c κs = search needs
 
--- src/lib.rt:107:17
 distinct-requires : tie.Need-distinct-requires
 distinct-requires c κs = search needs
 
--- src/lib.rt:113:33
 enum-told-3 : tie.Need-enum-told-3
 enum-told-3 c = search needs
 
--- src/lib.rt:113:16
 all-words-requires-2 : tie.Need-all-words-requires-2
 all-words-requires-2 c κs = search needs
 
--- src/lib.rt:114:17
 distinct-requires-2 : tie.Need-distinct-requires-2
 distinct-requires-2 c κs = search needs
 
--- src/lib.rt:119:27
 enum-told-4 : tie.Need-enum-told-4
 enum-told-4 c = search needs
 
--- src/lib.rt:119:27
 cells-named-requires : tie.Need-cells-named-requires
 cells-named-requires c κs = search needs
 
--- src/lib.rt:121:17
 enum-told-5 : tie.Need-enum-told-5
 enum-told-5 c = search needs
 
--- src/lib.rt:121:17
 blocks-named-requires : tie.Need-blocks-named-requires
 blocks-named-requires c κs = search needs
 
--- src/lib.rt:122:28
 count-words-requires : tie.Need-count-words-requires
 count-words-requires c κs = search needs
 
--- src/lib.rt:124:34
 enum-told-6 : tie.Need-enum-told-6
 enum-told-6 c = search needs
 
--- src/lib.rt:125:29
 enum-told-7 : tie.Need-enum-told-7
 enum-told-7 c = search needs
 
--- src/lib.rt:97:1
 returns-2 : tie.Need-returns-2
 unfolding wellNamed
 returns-2 c = arm (λ s. wellNamed s (list (now (c .before .before .before .before .before .before .args .line)))) (c .enum-told .given .1) (named-words (now (c .before .before .before .before .before .before .args .line)) Limits _ (sym (c .before .before .before .same .ensures) ∙ c .before .before .if1 .left) (refl))
 
--- src/lib.rt:97:1
 returns-3 : tie.Need-returns-3
 returns-3 c = arm (λ s. wellNamed s (list (now (c .before .before .before .before .before .before .before .before .before .args .line)))) (c .before .before .before .enum-told2 .given .1) (named-words (now (c .before .before .before .before .before .before .before .before .before .args .line)) Kinds _ (sym (c .before .before .before .before .before .before .same .ensures) ∙ c .before .before .before .before .before .if1 .left) (named-kinds (now (c .before .before .before .before .before .before .before .before .before .args .line)) (c .before .before .all-words .ensures) (c .before .if2 .taken) (c .distinct .ensures)))
 
--- src/lib.rt:97:1
 returns-4 : tie.Need-returns-4
 returns-4 c = arm (λ s. wellNamed s (list (now (c .before .before .before .before .before .before .before .before .args .line)))) (c .before .before .enum-told2 .given .1) (named-words (now (c .before .before .before .before .before .before .before .before .args .line)) Kinds _ (sym (c .before .before .before .before .before .same .ensures) ∙ c .before .before .before .before .if1 .left) (unnamed-kinds (now (c .before .before .before .before .before .before .before .before .args .line)) (c .before .all-words .ensures) (c .if2 .left)))
 
--- src/lib.rt:97:1
 returns-5 : tie.Need-returns-5
 returns-5 c = arm (λ s. wellNamed s (list (now (c .before .before .before .before .before .before .before .before .before .args .line)))) (c .before .before .before .enum-told3 .given .1) (named-words (now (c .before .before .before .before .before .before .before .before .before .args .line)) Primitives _ (sym (c .before .before .before .before .before .before .same .ensures) ∙ c .before .before .before .before .before .if1 .left) (named-primitives (now (c .before .before .before .before .before .before .before .before .before .args .line)) (c .before .before .all-words2 .ensures) (c .before .if3 .taken) (c .distinct2 .ensures)))
 
--- src/lib.rt:97:1
 returns-6 : tie.Need-returns-6
 returns-6 c = arm (λ s. wellNamed s (list (now (c .before .before .before .before .before .before .before .before .args .line)))) (c .before .before .enum-told3 .given .1) (named-words (now (c .before .before .before .before .before .before .before .before .args .line)) Primitives _ (sym (c .before .before .before .before .before .same .ensures) ∙ c .before .before .before .before .if1 .left) (unnamed-primitives (now (c .before .before .before .before .before .before .before .before .args .line)) (c .before .all-words2 .ensures) (c .if3 .left)))
 
--- src/lib.rt:97:1
 returns-7 : tie.Need-returns-7
 unfolding wellNamed
 returns-7 c = arm (λ s. wellNamed s (list (now (c .before .before .before .before .before .before .before .args .line)))) (c .before .enum-told4 .given .1) (named-words (now (c .before .before .before .before .before .before .before .args .line)) Cells _ (sym (c .before .before .before .before .same .ensures) ∙ c .before .before .before .if1 .left) (c .cells-named .ensures))
 
--- src/lib.rt:97:1
 returns-8 : tie.Need-returns-8
 returns-8 c = arm (λ s. wellNamed s (list (now (c .before .before .before .before .before .before .before .before .before .args .line)))) (c .before .before .before .enum-told5 .given .1) (named-words (now (c .before .before .before .before .before .before .before .before .before .args .line)) Fields _ (sym (c .before .before .before .before .before .before .same .ensures) ∙ c .before .before .before .before .before .if1 .left) (named-fields (now (c .before .before .before .before .before .before .before .before .before .args .line)) (sym (c .before .before .before .before .before .before .same .ensures) ∙ c .before .before .before .before .before .if1 .left) _ (c .before .before .blocks-named .ensures) _ (c .before .count-words .ensures)))
 
--- src/lib.rt:97:1
 returns-9 : tie.Need-returns-9
 unfolding wellNamed
 returns-9 c = arm (λ s. wellNamed s (list (now (c .before .before .before .before .before .before .args .line)))) (c .enum-told6 .given .1) (named-words (now (c .before .before .before .before .before .before .args .line)) Instructions _ (sym (c .before .before .before .same .ensures) ∙ c .before .before .if1 .left) (refl))
 
--- src/lib.rt:97:1
 returns-10 : tie.Need-returns-10
 unfolding wellNamed
 returns-10 c = arm (λ s. wellNamed s (list (now (c .before .before .before .before .before .before .args .line)))) (c .enum-told7 .given .1) (named-words (now (c .before .before .before .before .before .before .args .line)) Answers _ (sym (c .before .before .before .same .ensures) ∙ c .before .before .if1 .left) (refl))
