@@ -10,14 +10,13 @@ use lib.ListN.{length, getD, drop, set, length-drop, length-set}
 use Rattle.cells.specs.Try.{Try, stuck, done}
 use Rattle.cells.specs.declared.Cell.{Cell}
 use Rattle.cells.specs.Cells.{unknown, number}
-use Rattle.states.specs.declared.State as code
 use Rattle.states.specs.declared.code.Line.{Line}
 use Rattle.outcomes.specs.declared.Outcome.{Outcome}
 use Rattle.outcomes.specs.declared.Outcome.the-variants.{Gives, Stores, Sets, Gets, Goes, Opens, Halts, Stuck}
 use Rattle.machine.specs.Machine.{State, height, Price, Next, stops, goes, opens, index, jump, load, restack, store, advance, prepare}
 use Rattle.instructions.specs.Columns.{operationOf}
 use Rattle.outcomes.specs.Outcome.{drops, outcome, resume}
-use Rattle.states.specs.View.{view, slot, Fits, whole}
+use Rattle.states.specs.View.{Stacked, view, slot, Fits, whole}
 use Rattle.states.specs.Columns.{codeOf}
 use Rattle.outcomes.proofs.TurnLaws as turn
 use Rattle.states.proofs.BlockLaws.{slot-below}
@@ -32,46 +31,46 @@ use Rattle.explore.proofs.ReturnLaws.{path-fits, refused-modest, finish
 
 -- ---- where a state stands after a change
 
-pub restacked-at : (v u : code.State) (xs : List Cell) → view v ≡ restack xs (view u) → v .at ≡ u .at
+pub restacked-at : (v u : Stacked) (xs : List Cell) → view v ≡ restack xs (view u) → v .at ≡ u .at
 unfolding restack
 restacked-at v u xs e = ap (λ s. s .at) e
 
-pub loaded-at : (v u : code.State) (c : Cell) → view v ≡ load c (view u) → v .at ≡ u .at
+pub loaded-at : (v u : Stacked) (c : Cell) → view v ≡ load c (view u) → v .at ≡ u .at
 unfolding load
 loaded-at v u c e = ap (λ s. s .at) e
 
-pub advanced-at : (v u : code.State) → view v ≡ advance (view u) → v .at ≡ suc (u .at)
+pub advanced-at : (v u : Stacked) → view v ≡ advance (view u) → v .at ≡ suc (u .at)
 unfolding advance jump
 advanced-at v u e = ap (λ s. s .at) e
 
-pub jumped-at : (v u : code.State) (n : ℕ) → view v ≡ jump n (view u) → v .at ≡ n
+pub jumped-at : (v u : Stacked) (n : ℕ) → view v ≡ jump n (view u) → v .at ≡ n
 unfolding jump
 jumped-at v u n e = ap (λ s. s .at) e
 
 -- ---- the push before an operation
 
-pub record Pushed (p : Bool) (ns : List ℕ) (fs : List Cell) (s u : code.State) : Type 0 where
+pub record Pushed (p : Bool) (ns : List ℕ) (fs : List Cell) (s u : Stacked) : Type 0 where
   pub ready : prepare p (whole ns fs s) ≡ done (whole ns fs u)
   pub free : u .free ≤ 64
   pub stays : u .at ≡ s .at
 
-pub pushes : (p : Bool) (ns : List ℕ) (fs : List Cell) (s u v : code.State) → p ≡ true → 0 < s .free → s .free ≤ 64 → length (s .stack) ≡ 64 → u ≡ v → view v ≡ restack (s .accu ∷ view s .stack) (view s) → v .free ≤ 64 →
+pub pushes : (p : Bool) (ns : List ℕ) (fs : List Cell) (s u v : Stacked) → p ≡ true → 0 < s .free → s .free ≤ 64 → length (s .stack) ≡ 64 → u ≡ v → view v ≡ restack (s .accu ∷ view s .stack) (view s) → v .free ≤ 64 →
     Pushed p ns fs s u
 pushes p ns fs s u v e some within full same is free =
     rw (same, e) (record { ready = turn.pushed ns fs s v is (omega (arith, length-drop (s .free) (s .stack), full)); free = free; stays = restacked-at v s _ is })
 
-pub keeps : (p : Bool) (ns : List ℕ) (fs : List Cell) (s u : code.State) → p ≡ false → s .free ≤ 64 → u ≡ s → Pushed p ns fs s u
+pub keeps : (p : Bool) (ns : List ℕ) (fs : List Cell) (s u : Stacked) → p ≡ false → s .free ≤ 64 → u ≡ s → Pushed p ns fs s u
 keeps p ns fs s u e within same = rw (same, e) (record { ready = turn.not-pushed ns fs s; free = within; stays = refl })
 
-module _ (first : ℕ) (bs : List ℕ) (is : List ℤ) (cs ws ns : List ℕ) (o budget : ℕ) (fs₀ : List Cell) (s₀ : code.State) where
+module _ (first : ℕ) (bs : List ℕ) (is : List ℤ) (cs ws ns : List ℕ) (o budget : ℕ) (fs₀ : List Cell) (s₀ : Stacked) where
   abbrev act : State → Try Next
   act = turns.act first bs is cs ws ns o budget fs₀ s₀
 
-  abbrev Turn : List Cell → code.State → ℕ → Tally → Type 0
+  abbrev Turn : List Cell → Stacked → ℕ → Tally → Type 0
   Turn = turns.Turn first bs is cs ws ns o budget fs₀ s₀
 
   -- what is known once the outcome is: u is the state after the push, t′ the tally with this step, n the operand as an index
-  pub record Arm (fs : List Cell) (s : code.State) (left : ℕ) (t : Tally) (l : Line) (t′ : Tally) (u : code.State) (n : ℕ) (out : Outcome) : Type 0 where
+  pub record Arm (fs : List Cell) (s : Stacked) (left : ℕ) (t : Tally) (l : Line) (t′ : Tally) (u : Stacked) (n : ℕ) (out : Outcome) : Type 0 where
     pub turn : Turn fs s left t
     pub some : 0 < left
     pub small : (l .cycles < 4294967296) × (l .words < 4294967296)
@@ -86,8 +85,8 @@ module _ (first : ℕ) (bs : List ℕ) (is : List ℤ) (cs ws ns : List ℕ) (o 
     pub out-is : out ≡ outcome (operationOf (l .code)) (l .operand) unknown (64 - u .free) (u .accu) entry
     pub makes : act (whole ns fs s) ≡ resume (price (l .cycles) (l .words)) (operationOf (l .code)) (l .operand) (whole ns fs u) out
 
-module _ {first : ℕ} {bs : List ℕ} {is : List ℤ} {cs ws ns : List ℕ} {o budget : ℕ} {fs₀ : List Cell} {s₀ : code.State} where
-  module _ {fs : List Cell} {s : code.State} {left : ℕ} {t : Tally} {l : Line} {t′ : Tally} {u : code.State} {n : ℕ} {out : Outcome} (a : Arm first bs is cs ws ns o budget fs₀ s₀ fs s left t l t′ u n out) where
+module _ {first : ℕ} {bs : List ℕ} {is : List ℤ} {cs ws ns : List ℕ} {o budget : ℕ} {fs₀ : List Cell} {s₀ : Stacked} where
+  module _ {fs : List Cell} {s : Stacked} {left : ℕ} {t : Tally} {l : Line} {t′ : Tally} {u : Stacked} {n : ℕ} {out : Outcome} (a : Arm first bs is cs ws ns o budget fs₀ s₀ fs s left t l t′ u n out) where
     -- ---- the entries that an arm drops or sets are there
 
     pub drop-room : (c : Cell) (k : ℕ) → out ≡ Gives c → k ≡ drops (operationOf (l .code)) n → u .free + k ≤ 64
@@ -108,13 +107,13 @@ module _ {first : ℕ} {bs : List ℕ} {is : List ℤ} {cs ws ns : List ℕ} {o 
 
     -- ---- the next turn
 
-    again : (fs′ : List Cell) (v : code.State) (d : Outcome) → out ≡ d → resume (price (l .cycles) (l .words)) (operationOf (l .code)) (l .operand) (whole ns fs u) d ≡ done (goes (price (l .cycles) (l .words)) (whole ns fs′ v)) →
+    again : (fs′ : List Cell) (v : Stacked) (d : Outcome) → out ≡ d → resume (price (l .cycles) (l .words)) (operationOf (l .code)) (l .operand) (whole ns fs u) d ≡ done (goes (price (l .cycles) (l .words)) (whole ns fs′ v)) →
         v .free ≤ 64 → length (v .stack) ≡ 64 → v .at < 4294967296 → Fits ns fs′ → length fs′ ≡ length fs → Turn first bs is cs ws ns o budget fs₀ s₀ fs′ v (left - 1) t′
     again fs′ v d e g =
         turns.again first bs is cs ws ns o budget fs₀ s₀ fs s left t (a .turn) (a .some) (price (l .cycles) (l .words)) (a .small) t′ (a .grown) fs′ v
         (a .makes ∙ ap (resume (price (l .cycles) (l .words)) (operationOf (l .code)) (l .operand) (whole ns fs u)) e ∙ g)
 
-    pub gives : (c : Cell) (k : ℕ) (v w x : code.State) → out ≡ Gives c → k ≡ drops (operationOf (l .code)) n → view v ≡ restack (drop k (view u .stack)) (view u) → view w ≡ load c (view v) → view x ≡ advance (view w) →
+    pub gives : (c : Cell) (k : ℕ) (v w x : Stacked) → out ≡ Gives c → k ≡ drops (operationOf (l .code)) n → view v ≡ restack (drop k (view u .stack)) (view u) → view w ≡ load c (view v) → view x ≡ advance (view w) →
         x .free ≤ 64 → length (x .stack) ≡ 64 → Turn first bs is cs ws ns o budget fs₀ s₀ fs x (left - 1) t′
     gives c k v w x e d ev ew ex free full =
         let same : k ≡ drops (operationOf (l .code)) (index (l .operand)) = d ∙ ap (drops (operationOf (l .code))) (a .index-is) in
@@ -123,7 +122,7 @@ module _ {first : ℕ} {bs : List ℕ} {is : List ℤ} {cs ws ns : List ℕ} {o 
         again fs x (Gives c) e (turn.gives-goes ns fs _ (operationOf (l .code)) (l .operand) u c x from) free full
         (omega (arith, advanced-at x w ex, loaded-at w v c ew, restacked-at v u _ ev, a .stays, a .low)) (a .turn .fits) refl
 
-    pub stores : (c z : Cell) (v w x : code.State) → out ≡ Stores c → z ≡ number (pos 0) → view v ≡ restack (set (view u .stack) n c) (view u) → view w ≡ load z (view v) → view x ≡ advance (view w) →
+    pub stores : (c z : Cell) (v w x : Stacked) → out ≡ Stores c → z ≡ number (pos 0) → view v ≡ restack (set (view u .stack) n c) (view u) → view w ≡ load z (view v) → view x ≡ advance (view w) →
         x .free ≤ 64 → length (x .stack) ≡ 64 → Turn first bs is cs ws ns o budget fs₀ s₀ fs x (left - 1) t′
     stores c z v w x e ez ev ew ex free full =
         let from : view x ≡ advance (load (number (pos 0)) (restack (set (view u .stack) (index (l .operand)) c) (view u))) =
@@ -137,7 +136,7 @@ module _ {first : ℕ} {bs : List ℕ} {is : List ℤ} {cs ws ns : List ℕ} {o 
     pub slot-in : (j : ℕ) → done j ≡ slot ns (u .accu) n → j < length fs₀
     slot-in j e = omega (arith, slot-below ns fs (a .turn .fits) (u .accu) n j (sym e), a .turn .fits .room, a .turn .size)
 
-    pub sets : (c z : Cell) (j : ℕ) (v w x : code.State) → out ≡ Sets c → done j ≡ slot ns (u .accu) n → z ≡ number (pos 0) → view v ≡ restack (drop 1 (view u .stack)) (view u) → view w ≡ load z (view v) →
+    pub sets : (c z : Cell) (j : ℕ) (v w x : Stacked) → out ≡ Sets c → done j ≡ slot ns (u .accu) n → z ≡ number (pos 0) → view v ≡ restack (drop 1 (view u .stack)) (view u) → view w ≡ load z (view v) →
         view x ≡ advance (view w) → x .free ≤ 64 → length (x .stack) ≡ 64 → Turn first bs is cs ws ns o budget fs₀ s₀ (set fs j c) x (left - 1) t′
     sets c z j v w x e at ez ev ew ex free full =
         let from : view x ≡ advance (load (number (pos 0)) (restack (drop 1 (view u .stack)) (view u))) = ex ∙ ap advance (ew ∙ ap (λ z. load z (view v)) ez ∙ ap (load (number (pos 0))) ev) in
@@ -145,14 +144,14 @@ module _ {first : ℕ} {bs : List ℕ} {is : List ℤ} {cs ws ns : List ℕ} {o 
         (omega (arith, advanced-at x w ex, loaded-at w v z ew, restacked-at v u _ ev, a .stays, a .low))
         (record { few = a .turn .fits .few; room = simp length-set (a .turn .fits .room) }) (length-set fs j c)
 
-    pub gets : (c d : Cell) (j : ℕ) (w x : code.State) → out ≡ Gets → done j ≡ slot ns (u .accu) n → c ≡ getD fs j d → view w ≡ load c (view u) → view x ≡ advance (view w) →
+    pub gets : (c d : Cell) (j : ℕ) (w x : Stacked) → out ≡ Gets → done j ≡ slot ns (u .accu) n → c ≡ getD fs j d → view w ≡ load c (view u) → view x ≡ advance (view w) →
         x .free ≤ 64 → length (x .stack) ≡ 64 → Turn first bs is cs ws ns o budget fs₀ s₀ fs x (left - 1) t′
     gets c d j w x e at ec ew ex free full =
         let from : view x ≡ advance (load (getD fs j d) (view u)) = ex ∙ ap advance (ew ∙ ap (λ z. load z (view u)) ec) in
         again fs x Gets e (turn.gets-goes ns fs _ (operationOf (l .code)) (l .operand) u (a .turn .fits) j d x (slot-at j at) from) free full
         (omega (arith, advanced-at x w ex, loaded-at w u c ew, a .stays, a .low)) (a .turn .fits) refl
 
-    pub jumps : (x : code.State) → out ≡ Goes → view x ≡ jump n (view u) → x .free ≤ 64 → length (x .stack) ≡ 64 → Turn first bs is cs ws ns o budget fs₀ s₀ fs x (left - 1) t′
+    pub jumps : (x : Stacked) → out ≡ Goes → view x ≡ jump n (view u) → x .free ≤ 64 → length (x .stack) ≡ 64 → Turn first bs is cs ws ns o budget fs₀ s₀ fs x (left - 1) t′
     jumps x e ex free full =
         again fs x Goes e (turn.goes-goes ns fs _ (operationOf (l .code)) (l .operand) u x (ex ∙ ap (λ j. jump j (view u)) (a .index-is))) free full
         (omega (arith, jumped-at x u n ex, a .index-fits)) (a .turn .fits) refl
@@ -187,8 +186,8 @@ module _ {first : ℕ} {bs : List ℕ} {is : List ℤ} {cs ws ns : List ℕ} {o 
 
 -- ---- the promise of each way out, from the place that is asked for
 
-module _ (first : ℕ) (bs : List ℕ) (is : List ℤ) (cs ws ns : List ℕ) (o budget : ℕ) (fs₀ : List Cell) (s₀ : code.State) where
-  module _ (start : code.State) (place : ℕ) (from : view s₀ ≡ jump place (view start)) where
+module _ (first : ℕ) (bs : List ℕ) (is : List ℤ) (cs ws ns : List ℕ) (o budget : ℕ) (fs₀ : List Cell) (s₀ : Stacked) where
+  module _ (start : Stacked) (place : ℕ) (from : view s₀ ≡ jump place (view start)) where
     pub record Kept (r : Found) : Type 0 where
       pub explored : Explores (codeOf first bs is cs ws) ns fs₀ start place o budget r
       pub safe : SafeUnder (codeOf first bs is cs ws) o budget (jump place (whole ns fs₀ start)) r
@@ -200,16 +199,16 @@ module _ (first : ℕ) (bs : List ℕ) (is : List ℤ) (cs ws ns : List ℕ) (o 
         let x = explores first bs is cs ws ns o budget fs₀ s₀ start place from r r′ e h in
         record { explored = x; safe = safe-under _ _ _ _ _ _ _ r x; exact = exact-for _ _ _ _ _ _ _ r x; modest = m }
 
-    pub spent-out : {fs : List Cell} {s : code.State} {left : ℕ} {t : Tally} → Turn first bs is cs ws ns o budget fs₀ s₀ fs s left t → left ≤ 0 → (r : Found) → r ≡ refusedAs (verdicts.Spent (s .at)) budget → Kept r
+    pub spent-out : {fs : List Cell} {s : Stacked} {left : ℕ} {t : Tally} → Turn first bs is cs ws ns o budget fs₀ s₀ fs s left t → left ≤ 0 → (r : Found) → r ≡ refusedAs (verdicts.Spent (s .at)) budget → Kept r
     unfolding whole store
     spent-out {fs} {s} {left} {t} i h r e = shown r _ e (loop.spends (act first bs is cs ws ns o budget fs₀ s₀) o budget (whole ns fs₀ s₀) (whole ns fs s) left t (i .inv) h) (refused-modest o budget budget _ r e (omega arith))
 
-    pub stuck-out : {fs : List Cell} {s : code.State} {left : ℕ} {t : Tally} → Turn first bs is cs ws ns o budget fs₀ s₀ fs s left t → 0 < left → (act first bs is cs ws ns o budget fs₀ s₀) (whole ns fs s) ≡ stuck → (r : Found) → r ≡ refusedAs (verdicts.Stuck (s .at)) (budget - left + 1) → Kept r
+    pub stuck-out : {fs : List Cell} {s : Stacked} {left : ℕ} {t : Tally} → Turn first bs is cs ws ns o budget fs₀ s₀ fs s left t → 0 < left → (act first bs is cs ws ns o budget fs₀ s₀) (whole ns fs s) ≡ stuck → (r : Found) → r ≡ refusedAs (verdicts.Stuck (s .at)) (budget - left + 1) → Kept r
     unfolding whole store
     stuck-out {fs} {s} {left} {t} i h g r e =
         shown r _ e (loop.sticks (act first bs is cs ws ns o budget fs₀ s₀) o budget (whole ns fs₀ s₀) (whole ns fs s) left t (i .inv) h g) (refused-modest o budget (budget - left + 1) _ r e (omega (arith, i .inv .within)))
 
-    module _ {fs : List Cell} {s : code.State} {left : ℕ} {t : Tally} {l : Line} {t′ : Tally} {u : code.State} {n : ℕ} {out : Outcome} (a : Arm first bs is cs ws ns o budget fs₀ s₀ fs s left t l t′ u n out) where
+    module _ {fs : List Cell} {s : Stacked} {left : ℕ} {t : Tally} {l : Line} {t′ : Tally} {u : Stacked} {n : ℕ} {out : Outcome} (a : Arm first bs is cs ws ns o budget fs₀ s₀ fs s left t l t′ u n out) where
       used-is : budget - (left - 1) ≡ budget - left + 1
       used-is = omega (arith, a .turn .inv .within, a .some)
 

@@ -15,11 +15,10 @@ use Rattle.cells.specs.Try.{done}
 use Rattle.cells.specs.declared.Cell.{Cell}
 use Rattle.cells.specs.Cells.{unknown}
 use Rattle.instructions.specs.declared.Operation.{Operation}
-use Rattle.states.specs.declared.State as code
 use Rattle.outcomes.specs.declared.Outcome.the-variants.{Opens}
 use Rattle.machine.specs.Machine.{State, Code, Price, opens, index, jump, store, advance, step}
 use Rattle.outcomes.specs.Outcome.{resume}
-use Rattle.states.specs.View.{view, blocksOf, whole}
+use Rattle.states.specs.View.{Stacked, view, blocksOf, whole}
 use Rattle.states.specs.Columns.{codeOf}
 use Rattle.bounds.specs.Tree.{Decision, N, T, Report, accepted, refused, explore}
 use Rattle.bounds.specs.Tree as bounds
@@ -112,20 +111,20 @@ accepted-verdict (refused x) r q h e =
 
 -- ---- the contract
 
-module _ (c : Code) (ns : List ℕ) (fs : List Cell) (start : code.State) (place o budget : ℕ) (r : Found) (h : Explores c ns fs start place o budget r) where
+module _ (c : Code) (ns : List ℕ) (fs : List Cell) (start : Stacked) (place o budget : ℕ) (r : Found) (h : Explores c ns fs start place o budget r) where
   pub safe-under : SafeUnder c o budget (jump place (whole ns fs start)) r
   safe-under q e s w answers n = interruptible c o budget (jump place (whole ns fs start)) q (accepted-verdict _ r q (h .shows) e) s w answers n
 
   pub exact-for : ExactFor c o (jump place (whole ns fs start)) r
   exact-for q e = exact c o budget (jump place (whole ns fs start)) q (accepted-verdict _ r q (h .shows) e)
 
-module _ (first : ℕ) (bs : List ℕ) (is : List ℤ) (cs ws ns : List ℕ) (o budget : ℕ) (fs : List Cell) (s : code.State) where
+module _ (first : ℕ) (bs : List ℕ) (is : List ℤ) (cs ws ns : List ℕ) (o budget : ℕ) (fs : List Cell) (s : Stacked) where
   -- the loop begins at the place that is asked for
-  pub placed : (start : code.State) (place : ℕ) → view s ≡ jump place (view start) → whole ns fs s ≡ jump place (whole ns fs start)
+  pub placed : (start : Stacked) (place : ℕ) → view s ≡ jump place (view start) → whole ns fs s ≡ jump place (whole ns fs start)
   unfolding whole store jump
   placed start place e = ap (λ v. store (blocksOf ns fs) v) e
 
-  pub explores : (start : code.State) (place : ℕ) → view s ≡ jump place (view start) → (r r′ : Found) → r ≡ r′ →
+  pub explores : (start : Stacked) (place : ℕ) → view s ≡ jump place (view start) → (r r′ : Found) → r ≡ r′ →
       loop.Shown (act first bs is cs ws ns o budget fs s) o budget (whole ns fs s) r′ → Explores (codeOf first bs is cs ws) ns fs start place o budget r
   explores start place e r r′ f h =
       let g = placed start place e in
@@ -135,7 +134,7 @@ module _ (first : ℕ) (bs : List ℕ) (is : List ℤ) (cs ws ns : List ℕ) (o 
       })
 
   -- the two ways of an unknown branch, from the state u after the push
-  pub both-ways : (t u : code.State) (p : Price) (x : Operation) (i : ℤ) (n : ℕ) → step (codeOf first bs is cs ws) unknown (whole ns fs t) ≡ resume p x i (whole ns fs u) Opens → u .at ≡ t .at → n ≡ index i →
+  pub both-ways : (t u : Stacked) (p : Price) (x : Operation) (i : ℤ) (n : ℕ) → step (codeOf first bs is cs ws) unknown (whole ns fs t) ≡ resume p x i (whole ns fs u) Opens → u .at ≡ t .at → n ≡ index i →
       step (codeOf first bs is cs ws) unknown (whole ns fs t) ≡ done (opens p (jump (t .at + 1) (whole ns fs u)) p (jump n (whole ns fs u)))
   unfolding resume advance whole store
   both-ways t u p x i n e f g =

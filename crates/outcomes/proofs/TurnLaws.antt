@@ -17,12 +17,11 @@ use Rattle.cells.specs.declared.Condition.the-variants.{IsZero, IsNonzero, IsUn
 use Rattle.cells.specs.Cells.{number, operate₁, operate₂, condition}
 use Rattle.instructions.specs.declared.Operation.{Operation}
 use Rattle.instructions.specs.declared.Operation.the-variants.{Nothing, Access, Drop, Assign, Constant, GetField, SetField, Branch, BranchIf, BranchIfNot, Call, Stop, Alter, Combine}
-use Rattle.states.specs.declared.State as code
 use Rattle.outcomes.specs.declared.Outcome.{Outcome}
 use Rattle.outcomes.specs.declared.Outcome.the-variants.{Gives, Stores, Sets, Gets, Goes, Opens, Halts, Stuck}
 use Rattle.machine.specs.Machine.{State, stackLimit, height, Price, Instruction, Code, fetch, goes, opens, index, jump, load, restack, store, push, advance, ahead, prepare, execute, step}
 use Rattle.outcomes.specs.Outcome.{entryOf, drops, given, branching, outcome, resume}
-use Rattle.states.specs.View.{view, blocksOf, slot, Fits, whole}
+use Rattle.states.specs.View.{Stacked, view, blocksOf, slot, Fits, whole}
 use Rattle.outcomes.proofs.OutcomeLaws.{perform-resumes}
 use Rattle.states.proofs.BlockLaws.{getField-slot, setField-slot}
 
@@ -169,20 +168,20 @@ sets-in (Combine b) i r h a e c g = absurd (neither _ _ (ltb 0 h) (given-kept (o
 
 module _ (ns : List ℕ) (fs : List Cell) where
   -- a push, where the instruction pushes first
-  pub pushed : (s t : code.State) → view t ≡ restack (s .accu ∷ view s .stack) (view s) → length (view s .stack) < stackLimit → prepare true (whole ns fs s) ≡ done (whole ns fs t)
+  pub pushed : (s t : Stacked) → view t ≡ restack (s .accu ∷ view s .stack) (view s) → length (view s .stack) < stackLimit → prepare true (whole ns fs s) ≡ done (whole ns fs t)
   unfolding prepare push height whole store restack
   pushed s t e h = rw (lt-ltb (length (view s .stack)) stackLimit h) (ap (λ v. done (store (blocksOf ns fs) v)) (sym e))
 
-  pub not-pushed : (s : code.State) → prepare false (whole ns fs s) ≡ done (whole ns fs s)
+  pub not-pushed : (s : Stacked) → prepare false (whole ns fs s) ≡ done (whole ns fs s)
   unfolding prepare
   not-pushed s = refl
 
-  pub full : (s : code.State) → stackLimit ≤ length (view s .stack) → prepare true (whole ns fs s) ≡ stuck
+  pub full : (s : Stacked) → stackLimit ≤ length (view s .stack) → prepare true (whole ns fs s) ≡ stuck
   unfolding prepare push height whole store
   full s h = rw (le-ltb (length (view s .stack)) stackLimit h) refl
 
   -- the step, resumed from the state after the push
-  module _ (c : Code) (r : Cell) (s t : code.State) (i : Instruction) (f : fetch c (s .at) ≡ done i) (p : prepare (i .pushes) (whole ns fs s) ≡ done (whole ns fs t)) where
+  module _ (c : Code) (r : Cell) (s t : Stacked) (i : Instruction) (f : fetch c (s .at) ≡ done i) (p : prepare (i .pushes) (whole ns fs s) ≡ done (whole ns fs t)) where
     pub turns : (h : ℕ) (e : Cell) → h ≡ length (view t .stack) → (entryOf (i .operation) (index (i .operand)) < h → e ≡ getD (view t .stack) (entryOf (i .operation) (index (i .operand))) e) →
         step c r (whole ns fs s) ≡ resume (i .price) (i .operation) (i .operand) (whole ns fs t) (outcome (i .operation) (i .operand) r h (t .accu) e)
     unfolding step execute whole store height _>>=_
@@ -196,22 +195,22 @@ module _ (ns : List ℕ) (fs : List Cell) where
         seen false l = rw (← g) (no-entry (i .operation) (i .operand) r h (t .accu) _ e (ltb-false _ h l))
 
   -- the state after each outcome of an operation o with operand i, at the price p
-  module _ (p : Price) (o : Operation) (i : ℤ) (t : code.State) where
-    pub gives-goes : (c : Cell) (u : code.State) → view u ≡ advance (load c (restack (drop (drops o (index i)) (view t .stack)) (view t))) →
+  module _ (p : Price) (o : Operation) (i : ℤ) (t : Stacked) where
+    pub gives-goes : (c : Cell) (u : Stacked) → view u ≡ advance (load c (restack (drop (drops o (index i)) (view t .stack)) (view t))) →
         resume p o i (whole ns fs t) (Gives c) ≡ done (goes p (whole ns fs u))
     unfolding resume whole store advance jump load restack
     gives-goes c u e = ap (λ v. done (goes p (store (blocksOf ns fs) v))) (sym e)
 
-    pub stores-goes : (c : Cell) (u : code.State) → view u ≡ advance (load (number (pos 0)) (restack (set (view t .stack) (index i) c) (view t))) →
+    pub stores-goes : (c : Cell) (u : Stacked) → view u ≡ advance (load (number (pos 0)) (restack (set (view t .stack) (index i) c) (view t))) →
         resume p o i (whole ns fs t) (Stores c) ≡ done (goes p (whole ns fs u))
     unfolding resume whole store advance jump load restack
     stores-goes c u e = ap (λ v. done (goes p (store (blocksOf ns fs) v))) (sym e)
 
-    pub goes-goes : (u : code.State) → view u ≡ jump (index i) (view t) → resume p o i (whole ns fs t) Goes ≡ done (goes p (whole ns fs u))
+    pub goes-goes : (u : Stacked) → view u ≡ jump (index i) (view t) → resume p o i (whole ns fs t) Goes ≡ done (goes p (whole ns fs u))
     unfolding resume whole store jump
     goes-goes u e = ap (λ v. done (goes p (store (blocksOf ns fs) v))) (sym e)
 
-    pub opens-both : (u v : code.State) → view u ≡ jump (t .at + 1) (view t) → view v ≡ jump (index i) (view t) →
+    pub opens-both : (u v : Stacked) → view u ≡ jump (t .at + 1) (view t) → view v ≡ jump (index i) (view t) →
         resume p o i (whole ns fs t) Opens ≡ done (opens p (whole ns fs u) p (whole ns fs v))
     unfolding resume whole store advance jump
     opens-both u v e f =
@@ -220,7 +219,7 @@ module _ (ns : List ℕ) (fs : List Cell) where
         ∙ ap (λ x. done (opens p (store (blocksOf ns fs) (view u)) p (store (blocksOf ns fs) x))) (sym f))
 
     module _ (fits : Fits ns fs) where
-      pub gets-goes : (j : ℕ) (d : Cell) (u : code.State) → slot ns (t .accu) (index i) ≡ done j → view u ≡ advance (load (getD fs j d) (view t)) →
+      pub gets-goes : (j : ℕ) (d : Cell) (u : Stacked) → slot ns (t .accu) (index i) ≡ done j → view u ≡ advance (load (getD fs j d) (view t)) →
           resume p o i (whole ns fs t) Gets ≡ done (goes p (whole ns fs u))
       unfolding resume ahead _>>=_ whole store advance jump load
       gets-goes j d u e f =
@@ -230,7 +229,7 @@ module _ (ns : List ℕ) (fs : List Cell) where
       unfolding resume ahead _>>=_ whole store
       gets-stuck e = rw (getField-slot ns fs fits (whole ns fs t) refl (index i) (t .accu), e) refl
 
-      pub sets-goes : (c : Cell) (j : ℕ) (u : code.State) → slot ns (t .accu) (index i) ≡ done j →
+      pub sets-goes : (c : Cell) (j : ℕ) (u : Stacked) → slot ns (t .accu) (index i) ≡ done j →
           view u ≡ advance (load (number (pos 0)) (restack (drop 1 (view t .stack)) (view t))) → resume p o i (whole ns fs t) (Sets c) ≡ done (goes p (whole ns (set fs j c) u))
       unfolding resume ahead _>>=_ whole store advance jump load restack
       sets-goes c j u e f =

@@ -12,8 +12,19 @@ use Rattle.states.specs.declared.Slot.{Slot}
 use Rattle.states.specs.declared.Slot.the-variants.{At, Lacks}
 use Rattle.machine.specs.Machine.{State, store}
 
--- the state without its blocks
-abbrev pub view : code.State → State
+-- a state with the cells of its stack
+pub record Stacked : Type 0 where
+  pub at : ℕ
+  pub accu : Cell
+  pub free : ℕ
+  pub stack : List Cell
+
+-- the code's state, with the cells that lie beside it
+abbrev pub beside : List Cell → code.State → Stacked
+beside cells s = record { at = s .at; accu = s .accu; free = s .free; stack = cells }
+
+-- the state without its blocks: the first cells of the stack are unused, then comes the top, "entry 0 on top"
+abbrev pub view : Stacked → State
 view s = record { at = s .at; accu = s .accu; stack = drop (s .free) (s .stack); blocks = [] }
 
 -- blocks of the given sizes, each in sixteen places of one flat array
@@ -36,5 +47,5 @@ ofSlot (At j) = done j
 ofSlot Lacks = stuck
 
 -- the state with its blocks
-unfoldable pub whole : List ℕ → List Cell → code.State → State
+unfoldable pub whole : List ℕ → List Cell → Stacked → State
 whole ns fs s = store (blocksOf ns fs) (view s)

@@ -2,70 +2,57 @@
 use cells::Cell;
 use cells::Handled;
 ghost use mathlib.Core.Path.{_≡_};
-ghost use mathlib.Core.List.{_∷_};
+ghost use mathlib.Core.List.{List, _∷_};
 ghost use Prim.Native.Nat.{_+_, _<_, _≤_};
-ghost use lib.ListN.{drop, set};
+ghost use lib.IntN.{pos};
+ghost use lib.ListN.{length, drop, set};
+ghost use Rattle.cells.specs.declared.Cell.{Cell};
+ghost use Rattle.cells.specs.Cells.{number};
 ghost use Rattle.machine.specs.Machine.{restack, load, advance, jump};
-ghost use Rattle.states.specs.View.{view, slot, ofSlot};
+ghost use Rattle.states.specs.View.{beside, view, slot, ofSlot};
 
 pub mod code;
 
-// The stack's entries are the last 64 - `free` elements of `stack`, the top entry first. The blocks lie beside the state.
+// The cells of the stack and of the blocks lie beside the state, in arrays. Of the 64 cells of the stack the first `free` are unused; the
+// others are its entries, the top entry first.
 pub struct State {
     pub at: usize,
     pub accu: Cell,
     pub free: usize,
-    pub stack: [Cell; 64],
 }
 
 impl State {
-    // With `c` on top of the stack.
-    pub fn push(self, c: Cell) -> Self
+    // With one entry more; its cell is the last that was free.
+    pub fn push(mut self) -> Self
         requires { ⌜ (0 < self .free) × (self .free ≤ 64) ⌝ }
-        ensures { λ r. ⌜ (view r ≡ restack (c ∷ view self .stack) (view self)) × (r .free ≤ 64) ⌝ }
+        ensures { λ r. ⌜ ((cells : List Cell) (c : Cell) → length cells ≡ 64 → view (beside (set cells (r .free) c) r) ≡ restack (c ∷ view (beside cells self) .stack) (view (beside cells self))) × (r .free < 64) ⌝ }
     {
-        let free = self.free - 1;
-        let mut stack = self.stack;
-        stack[free] = c;
-        let accu = self.accu;
-        State {
-            at: self.at,
-            accu: accu,
-            free: free,
-            stack: stack,
-        }
+        self.free = self.free - 1;
+        self
     }
 
     // Without its first `n` entries.
     pub fn pop(mut self, n: usize) -> Self
         requires { ⌜ self .free + n ≤ 64 ⌝ }
-        ensures { λ r. ⌜ (view r ≡ restack (drop n (view self .stack)) (view self)) × (r .free ≤ 64) ⌝ }
+        ensures { λ r. ⌜ ((cells : List Cell) → view (beside cells r) ≡ restack (drop n (view (beside cells self) .stack)) (view (beside cells self))) × (r .free ≤ 64) ⌝ }
     {
         self.free = self.free + n;
         self
     }
 
-    // With `c` as entry `n`.
-    pub fn store(self, n: usize, c: Cell) -> Self
-        requires { ⌜ self .free + n < 64 ⌝ }
-        ensures { λ r. ⌜ (view r ≡ restack (set (view self .stack) n c) (view self)) × (r .free ≤ 64) ⌝ }
+    // With 0 in the accumulator, which has been stored.
+    pub fn store(mut self) -> Self
+        requires { ⌜ self .free ≤ 64 ⌝ }
+        ensures { λ r. ⌜ ((cells : List Cell) → view (beside cells r) ≡ load (number (pos 0)) (view (beside cells self))) × (r .free ≤ 64) ⌝ }
     {
-        let i = self.free + n;
-        let mut stack = self.stack;
-        stack[i] = c;
-        let accu = self.accu;
-        State {
-            at: self.at,
-            accu: accu,
-            free: self.free,
-            stack: stack,
-        }
+        self.accu = cells::number(0);
+        self
     }
 
     // With `c` in the accumulator.
     pub fn load(mut self, c: Cell) -> Self
         requires { ⌜ self .free ≤ 64 ⌝ }
-        ensures { λ r. ⌜ (view r ≡ load c (view self)) × (r .free ≤ 64) ⌝ }
+        ensures { λ r. ⌜ ((cells : List Cell) → view (beside cells r) ≡ load c (view (beside cells self))) × (r .free ≤ 64) ⌝ }
     {
         self.accu = c;
         self
@@ -74,7 +61,7 @@ impl State {
     // At the next address.
     pub fn advance(mut self) -> Self
         requires { ⌜ (self .at < 65536) × (self .free ≤ 64) ⌝ }
-        ensures { λ r. ⌜ (view r ≡ advance (view self)) × (r .free ≤ 64) ⌝ }
+        ensures { λ r. ⌜ ((cells : List Cell) → view (beside cells r) ≡ advance (view (beside cells self))) × (r .free ≤ 64) ⌝ }
     {
         self.at = self.at + 1;
         self
@@ -83,7 +70,7 @@ impl State {
     // At the address `place`.
     pub fn jump(mut self, place: usize) -> Self
         requires { ⌜ self .free ≤ 64 ⌝ }
-        ensures { λ r. ⌜ (view r ≡ jump place (view self)) × (r .free ≤ 64) ⌝ }
+        ensures { λ r. ⌜ ((cells : List Cell) → view (beside cells r) ≡ jump place (view (beside cells self))) × (r .free ≤ 64) ⌝ }
     {
         self.at = place;
         self

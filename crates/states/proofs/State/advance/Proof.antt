@@ -10,7 +10,7 @@ add-self c = search needs
 
 returns : tie.Need-returns
 unfolding advance jump
-returns c = (simp add-one, search needs)
+returns c = (λ cells. simp add-one, search needs)
 
 pub advance-spec : {M : Type 1} → statement M
 advance-spec = tie.close (tie.spec add-self returns)

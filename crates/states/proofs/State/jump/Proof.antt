@@ -7,7 +7,7 @@ use Rattle.states.proofs.State.jump.Tie as tie
 
 returns : tie.Need-returns
 unfolding jump
-returns c = (refl, search needs)
+returns c = (λ cells. refl, search needs)
 
 pub jump-spec : {M : Type 1} → statement M
 jump-spec = tie.close (tie.spec returns)

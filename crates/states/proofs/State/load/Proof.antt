@@ -7,7 +7,7 @@ use Rattle.states.proofs.State.load.Tie as tie
 
 returns : tie.Need-returns
 unfolding load
-returns c = (refl, search needs)
+returns c = (λ cells. refl, search needs)
 
 pub load-spec : {M : Type 1} → statement M
 load-spec = tie.close (tie.spec returns)

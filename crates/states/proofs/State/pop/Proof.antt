@@ -10,7 +10,7 @@ add-self c = search needs
 
 returns : tie.Need-returns
 unfolding restack
-returns c = (simp drop-drop, search needs)
+returns c = (λ cells. simp drop-drop, search needs)
 
 pub pop-spec : {M : Type 1} → statement M
 pop-spec = tie.close (tie.spec add-self returns)

@@ -1,22 +1,17 @@
 -- `State::store` meets its contract. Assumes nothing.
-use lib.Seq.{drop-set-add}
+use mathlib.Core.Path.{ap}
 use borrow.Author.Needs.{needs}
-use Rattle.machine.specs.Machine.{restack}
+use Rattle.machine.specs.Machine.{load}
+use Rattle.states.specs.View.{beside, view}
 use Rattle.states.proofs.State.store.Statement.{statement}
 use Rattle.states.proofs.State.store.Tie as tie
 
-add-i : tie.Need-add-i
-add-i c = search needs
-
-mul-stack : tie.Need-mul-stack
-mul-stack c = search needs
-
-array-set-from-stack : tie.Need-array-set-from-stack
-array-set-from-stack c = search needs
+number-requires : tie.Need-number-requires
+number-requires c κs = search needs
 
 returns : tie.Need-returns
-unfolding restack
-returns c = (simp drop-set-add, search needs)
+unfolding load
+returns c = (λ cells. ap (λ a. load a (view (beside cells (c .before .args .self)))) (c .number .ensures), search needs)
 
 pub store-spec : {M : Type 1} → statement M
-store-spec = tie.close (tie.spec add-i mul-stack array-set-from-stack returns)
+store-spec = tie.close (tie.spec number-requires returns)
