@@ -35,6 +35,10 @@ pub restacked-at : (v u : Stacked) (xs : List Cell) → view v ≡ restack xs (v
 unfolding restack
 restacked-at v u xs e = ap (λ s. s .at) e
 
+pub restacked-accu : (v u : Stacked) (xs : List Cell) → view v ≡ restack xs (view u) → v .accu ≡ u .accu
+unfolding restack
+restacked-accu v u xs e = ap (λ s. s .accu) e
+
 pub loaded-at : (v u : Stacked) (c : Cell) → view v ≡ load c (view u) → v .at ≡ u .at
 unfolding load
 loaded-at v u c e = ap (λ s. s .at) e
@@ -122,13 +126,13 @@ module _ {first : ℕ} {bs : List ℕ} {is : List ℤ} {cs ws ns : List ℕ} {o 
         again fs x (Gives c) e (turn.gives-goes ns fs _ (operationOf (l .code)) (l .operand) u c x from) free full
         (omega (arith, advanced-at x w ex, loaded-at w v c ew, restacked-at v u _ ev, a .stays, a .low)) (a .turn .fits) refl
 
-    pub stores : (c z : Cell) (v w x : Stacked) → out ≡ Stores c → z ≡ number (pos 0) → view v ≡ restack (set (view u .stack) n c) (view u) → view w ≡ load z (view v) → view x ≡ advance (view w) →
+    pub stores : (c : Cell) (v w x : Stacked) → out ≡ Stores c → view v ≡ restack (set (view u .stack) n c) (view u) → view w ≡ load (number (pos 0)) (view v) → view x ≡ advance (view w) →
         x .free ≤ 64 → length (x .stack) ≡ 64 → Turn first bs is cs ws ns o budget fs₀ s₀ fs x (left - 1) t′
-    stores c z v w x e ez ev ew ex free full =
+    stores c v w x e ev ew ex free full =
         let from : view x ≡ advance (load (number (pos 0)) (restack (set (view u .stack) (index (l .operand)) c) (view u))) =
-        ex ∙ ap advance (ew ∙ ap (λ z. load z (view v)) ez ∙ ap (load (number (pos 0))) (ev ∙ ap (λ j. restack (set (view u .stack) j c) (view u)) (a .index-is))) in
+        ex ∙ ap advance (ew ∙ ap (load (number (pos 0))) (ev ∙ ap (λ j. restack (set (view u .stack) j c) (view u)) (a .index-is))) in
         again fs x (Stores c) e (turn.stores-goes ns fs _ (operationOf (l .code)) (l .operand) u c x from) free full
-        (omega (arith, advanced-at x w ex, loaded-at w v z ew, restacked-at v u _ ev, a .stays, a .low)) (a .turn .fits) refl
+        (omega (arith, advanced-at x w ex, loaded-at w v _ ew, restacked-at v u _ ev, a .stays, a .low)) (a .turn .fits) refl
 
     slot-at : (j : ℕ) → done j ≡ slot ns (u .accu) n → slot ns (u .accu) (index (l .operand)) ≡ done j
     slot-at j e = ap (slot ns (u .accu)) (sym (a .index-is)) ∙ sym e
@@ -136,12 +140,12 @@ module _ {first : ℕ} {bs : List ℕ} {is : List ℤ} {cs ws ns : List ℕ} {o 
     pub slot-in : (j : ℕ) → done j ≡ slot ns (u .accu) n → j < length fs₀
     slot-in j e = omega (arith, slot-below ns fs (a .turn .fits) (u .accu) n j (sym e), a .turn .fits .room, a .turn .size)
 
-    pub sets : (c z : Cell) (j : ℕ) (v w x : Stacked) → out ≡ Sets c → done j ≡ slot ns (u .accu) n → z ≡ number (pos 0) → view v ≡ restack (drop 1 (view u .stack)) (view u) → view w ≡ load z (view v) →
+    pub sets : (c : Cell) (j : ℕ) (v w x : Stacked) → out ≡ Sets c → done j ≡ slot ns (u .accu) n → view v ≡ restack (drop 1 (view u .stack)) (view u) → view w ≡ load (number (pos 0)) (view v) →
         view x ≡ advance (view w) → x .free ≤ 64 → length (x .stack) ≡ 64 → Turn first bs is cs ws ns o budget fs₀ s₀ (set fs j c) x (left - 1) t′
-    sets c z j v w x e at ez ev ew ex free full =
-        let from : view x ≡ advance (load (number (pos 0)) (restack (drop 1 (view u .stack)) (view u))) = ex ∙ ap advance (ew ∙ ap (λ z. load z (view v)) ez ∙ ap (load (number (pos 0))) ev) in
+    sets c j v w x e at ev ew ex free full =
+        let from : view x ≡ advance (load (number (pos 0)) (restack (drop 1 (view u .stack)) (view u))) = ex ∙ ap advance (ew ∙ ap (load (number (pos 0))) ev) in
         again (set fs j c) x (Sets c) e (turn.sets-goes ns fs _ (operationOf (l .code)) (l .operand) u (a .turn .fits) c j x (slot-at j at) from) free full
-        (omega (arith, advanced-at x w ex, loaded-at w v z ew, restacked-at v u _ ev, a .stays, a .low))
+        (omega (arith, advanced-at x w ex, loaded-at w v _ ew, restacked-at v u _ ev, a .stays, a .low))
         (record { few = a .turn .fits .few; room = simp length-set (a .turn .fits .room) }) (length-set fs j c)
 
     pub gets : (c d : Cell) (j : ℕ) (w x : Stacked) → out ≡ Gets → done j ≡ slot ns (u .accu) n → c ≡ getD fs j d → view w ≡ load c (view u) → view x ≡ advance (view w) →

@@ -7,10 +7,9 @@ use lib.ListN.{length}
 use Rattle.cells.specs.declared.Cell.{Cell}
 use Rattle.cells.specs.Cells.{unknown}
 use Rattle.cells.specs.Order.{Allowed}
-use Rattle.states.specs.declared.State as code
 use Rattle.machine.specs.Machine.{State, Code, jump, step}
 use Rattle.machine.specs.Order.{Cellwise}
-use Rattle.states.specs.View.{Fits, whole}
+use Rattle.states.specs.View.{Stacked, Fits, whole}
 use Rattle.bounds.specs.Tree.{Report, explore, tree, steps}
 use Rattle.bounds.specs.Run.{begin, after}
 use Rattle.bounds.specs.Promises.{Safe, Exact}
@@ -18,7 +17,7 @@ use Rattle.findings.specs.declared.Found.{Found}
 use Rattle.findings.specs.Found.{acceptedAs, Shows, walked}
 
 -- what is asked: addresses, counts and blocks within their limits
-pub record Ready (bs ns : List ℕ) (first : ℕ) (fs : List Cell) (start : code.State) (place openings budget : ℕ) : Type 0 where
+pub record Ready (bs ns : List ℕ) (first : ℕ) (fs : List Cell) (start : Stacked) (place openings budget : ℕ) : Type 0 where
   pub addresses : first + length bs ≤ 65536
   pub place-fits : place < 4294967296
   pub free : start .free ≤ 64
@@ -27,7 +26,7 @@ pub record Ready (bs ns : List ℕ) (first : ℕ) (fs : List Cell) (start : code
   pub fits : Fits ns fs
 
 -- what is promised: the answer shows the verdict of the tree, and the steps walked
-pub record Explores (c : Code) (ns : List ℕ) (fs : List Cell) (start : code.State) (place openings budget : ℕ) (r : Found) : Type 0 where
+pub record Explores (c : Code) (ns : List ℕ) (fs : List Cell) (start : Stacked) (place openings budget : ℕ) (r : Found) : Type 0 where
   pub shows : Shows r (explore (step c unknown) openings budget (jump place (whole ns fs start)))
   pub counts : r .used ≡ walked budget (steps (tree (step c unknown) budget openings (jump place (whole ns fs start))))
 

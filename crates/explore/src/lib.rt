@@ -8,7 +8,7 @@ use states::Slot;
 use states::State;
 use states::code::Fetched;
 ghost use Rattle.machine.specs.Machine.{jump};
-ghost use Rattle.states.specs.View.{whole};
+ghost use Rattle.states.specs.View.{beside, whole};
 ghost use Rattle.states.specs.Columns.{codeOf, Sized};
 ghost use Rattle.explore.specs.Contract.{Ready, Explores, SafeUnder, ExactFor, Modest};
 
@@ -20,17 +20,18 @@ pub fn explore(
     words: &[u32],
     sizes: &[u8],
     first: usize,
-    mut blocks: [Cell; 128],
     start: State,
+    mut stack: [Cell; 64],
+    mut blocks: [Cell; 128],
     place: usize,
     openings: usize,
     budget: usize,
 ) -> Found
     requires { ⌜ Sized (now codes) (now operands) (now cycles) (now words) ⌝ }
-    requires { ⌜ Ready (now codes) (now sizes) first blocks start place openings budget ⌝ }
-    ensures { λ r. ⌜ Explores (codeOf first (now (codes .entry)) (now (operands .entry)) (now (cycles .entry)) (now (words .entry))) (now (sizes .entry)) blocks start place openings budget r ⌝ }
-    ensures safe { λ r. ⌜ SafeUnder (codeOf first (now (codes .entry)) (now (operands .entry)) (now (cycles .entry)) (now (words .entry))) openings budget (jump place (whole (now (sizes .entry)) blocks start)) r ⌝ }
-    ensures exact { λ r. ⌜ ExactFor (codeOf first (now (codes .entry)) (now (operands .entry)) (now (cycles .entry)) (now (words .entry))) openings (jump place (whole (now (sizes .entry)) blocks start)) r ⌝ }
+    requires { ⌜ Ready (now codes) (now sizes) first blocks (beside stack start) place openings budget ⌝ }
+    ensures { λ r. ⌜ Explores (codeOf first (now (codes .entry)) (now (operands .entry)) (now (cycles .entry)) (now (words .entry))) (now (sizes .entry)) blocks (beside stack start) place openings budget r ⌝ }
+    ensures safe { λ r. ⌜ SafeUnder (codeOf first (now (codes .entry)) (now (operands .entry)) (now (cycles .entry)) (now (words .entry))) openings budget (jump place (whole (now (sizes .entry)) blocks (beside stack start))) r ⌝ }
+    ensures exact { λ r. ⌜ ExactFor (codeOf first (now (codes .entry)) (now (operands .entry)) (now (cycles .entry)) (now (words .entry))) openings (jump place (whole (now (sizes .entry)) blocks (beside stack start))) r ⌝ }
     ensures { λ r. ⌜ Modest openings budget r ⌝ }
 {
     let mut s = start.jump(place);
@@ -53,20 +54,25 @@ pub fn explore(
             if s.free == 0 {
                 return findings::refused(Verdict::Stuck(at), used);
             }
-            s = s.push(s.accu);
+            s = s.push();
+            let top = s.free;
+            let pushed = s.accu;
+            stack[top] = pushed;
         }
         let n = outcomes::index_of(line.operand);
         let free = s.free;
         let i = outcomes::place_of(line.code, n, free);
         let k = outcomes::drops_of(line.code, n);
         let r = cells::unknown();
-        let out = outcomes::outcome_of(line.code, line.operand, r, 64 - free, s.accu, s.stack[i]);
+        let out = outcomes::outcome_of(line.code, line.operand, r, 64 - free, s.accu, stack[i]);
         match out {
             Outcome::Gives(c) => {
                 s = s.pop(k).load(c).advance();
             }
             Outcome::Stores(c) => {
-                s = s.store(n, c).load(cells::number(0)).advance();
+                let entry = s.free + n;
+                stack[entry] = c;
+                s = s.store().advance();
             }
             Outcome::Sets(c) => {
                 let field = states::slot_of(sizes, s.accu, n);
@@ -74,7 +80,7 @@ pub fn explore(
                     return findings::refused(Verdict::Stuck(at), used);
                 };
                 blocks[j] = c;
-                s = s.pop(1).load(cells::number(0)).advance();
+                s = s.pop(1).store().advance();
             }
             Outcome::Gets => {
                 let field = states::slot_of(sizes, s.accu, n);
@@ -98,8 +104,9 @@ pub fn explore(
                     words,
                     sizes,
                     first,
-                    blocks,
                     s,
+                    stack,
+                    blocks,
                     next,
                     openings - 1,
                     left,
@@ -116,8 +123,9 @@ pub fn explore(
                     words,
                     sizes,
                     first,
-                    blocks,
                     s,
+                    stack,
+                    blocks,
                     n,
                     openings - 1,
                     rest,

@@ -1,3 +1,4 @@
 pub mod Stack
 pub mod BlockLaws
 pub mod ColumnLaws
+pub mod StateLaws

@@ -6,7 +6,6 @@ use borrow.Fn.PlainCycle.{Measures, is, falls, and}
 use Rattle.explore.proofs.explore.Reads as explore
 use Rattle.explore.proofs.explore.Kinds as explore-kinds
 use Rattle.explore.proofs.+explore.Lts-explore as explore-lts
-use Rattle.cells.proofs.number.Reads as number-reads
 use Rattle.cells.proofs.unknown.Reads as unknown-reads
 use Rattle.findings.proofs.finished.Reads as finished-reads
 use Rattle.findings.proofs.joined.Reads as joined-reads
@@ -28,12 +27,12 @@ use Rattle.explore.proofs.+explore.{statement}
 use Rattle.explore.proofs.+explore.Tie.{close}
 use mathlib.Core.Path.{_≡_, refl, sym, ap, subst, _∙_}
 use mathlib.Core.Logic.{⊎-elim}
-use mathlib.Core.List.{_∷_, []}
+use mathlib.Core.List.{List, _∷_, []}
 use denote.Enum.Declared.{tagOf}
 use types.Run.{OneOf}
 use Prim.Native.Nat.{_+_, _-_, _≤_}
 use native.Mathlib.Omega.{arith}
-use lib.ListN.{length, getD}
+use lib.ListN.{length, getD, set, length-set}
 use lib.IntN.{pos}
 use mir.Syntax.{w32}
 use mir.Val.{SFits}
@@ -43,13 +42,12 @@ use Rattle.cells.specs.Try.{stuck, done}
 use Rattle.cells.specs.declared.Cell.{Cell}
 use Rattle.cells.specs.declared.Value.the-variants.{Number}
 use Rattle.cells.specs.Cells.{unknown, cell}
-use Rattle.states.specs.declared.State as code
 use Rattle.states.specs.declared.code.Line.{Line}
 use Rattle.outcomes.specs.declared.Outcome.{Outcome}
-use Rattle.machine.specs.Machine.{index, fetch, store, jump}
+use Rattle.machine.specs.Machine.{index, fetch, store, jump, restack}
 use Rattle.instructions.specs.Columns.{operationOf}
 use Rattle.outcomes.specs.Outcome.{entryOf, outcome}
-use Rattle.states.specs.View.{whole, ofSlot}
+use Rattle.states.specs.View.{Stacked, beside, view, whole, ofSlot}
 use Rattle.states.specs.Columns.{codeOf, lineOf, ofFetched, Known}
 use Rattle.findings.specs.declared.Verdict.{Verdict}
 use Rattle.findings.specs.declared.Verdict.the-variants.{Accepted}
@@ -57,14 +55,15 @@ use Rattle.findings.proofs.Verdict as verdict
 use Rattle.findings.specs.declared.Found.{Found}
 use Rattle.findings.specs.Found.{refusedAs}
 use Rattle.states.proofs.Stack.{length-images}
+use Rattle.states.proofs.StateLaws.{stored}
 use Rattle.instructions.proofs.ColumnLaws.{getD-any}
 use Rattle.explore.proofs.TurnLaws.{Turn, act, starts, turns, inside, overflows, outside}
-use Rattle.explore.proofs.ArmLaws.{Arm, Pushed, pushes, keeps, Kept, jumped-at, restacked-at, loaded-at, stuck-out}
+use Rattle.explore.proofs.ArmLaws.{Arm, Pushed, pushes, keeps, Kept, jumped-at, restacked-at, restacked-accu, loaded-at, stuck-out}
 use Rattle.explore.proofs.ArmLaws as arms
 
 -- the number of openings
 abbrev μ-explore : Measures 5 explore-kinds.ps ℕ
-μ-explore κs a = a .1 .1 .1 .1 .1 .1 .1 .1 .1 .0
+μ-explore κs a = a .1 .1 .1 .1 .1 .1 .1 .1 .1 .1 .0
 
 abbrev explore-at : ℕ → In 5 explore-kinds.ps
 explore-at t = and 5 explore-kinds.ps (is 5 explore-kinds.ps μ-explore t) explore.Pre
@@ -73,11 +72,11 @@ abbrev explore-below : ℕ → In 5 explore-kinds.ps
 explore-below t = and 5 explore-kinds.ps (falls 5 explore-kinds.ps _<_ μ-explore t) explore.Pre
 
 abbrev Inv-loop : explore-lts.InvT-loop
-Inv-loop codes operands cycles words sizes first place openings budget blocks₀ s₀ left₀ tally₀ blocks s left tally =
-    Turn first codes operands cycles words sizes openings budget blocks₀ s₀ blocks s left tally
+Inv-loop codes operands cycles words sizes first place openings budget stack₀ blocks₀ s₀ left₀ tally₀ stack blocks s left tally =
+    Turn first codes operands cycles words sizes openings budget blocks₀ (beside stack₀ s₀) blocks (beside stack s) left tally
 
 abbrev μ-loop : explore-lts.MeasureT-loop
-μ-loop codes operands cycles words sizes first place openings budget blocks₀ s₀ left₀ tally₀ blocks s left tally = left
+μ-loop codes operands cycles words sizes first place openings budget stack₀ blocks₀ s₀ left₀ tally₀ stack blocks s left tally = left
 
 abbrev claims : ℕ → explore-lts.Claims
 claims t = (
@@ -109,8 +108,6 @@ claims t = (
   advance-reads.Learnt,
   store-reads.Asked,
   store-reads.Learnt,
-  number-reads.Asked,
-  number-reads.Learnt,
   slot-of-reads.Asked,
   slot-of-reads.Learnt,
   explore-below t,
@@ -155,15 +152,25 @@ abbrev line : {t : ℕ} → Lined t → Line
 line k = k .before .fetched .given .0 .0
 
 abbrev joined : {t : ℕ} → Acted t → Joined t
-joined a = a .before .before .before .before .before .before .before .before .before
+joined a = a .before .before .before .before .before .before .before .before
 
 abbrev lined : {t : ℕ} → Acted t → Lined t
-lined a = joined a .before .before
+lined a = joined a .before .before .before
 
-abbrev after : {t : ℕ} → Acted t → code.State
-after a = joined a .if1 .s
+abbrev cells : {t : ℕ} → Acted t → List Cell
+cells a = joined a .if1 .stack
 
-sized : (t : ℕ) (e : Entry t) → length (e .args .t7) ≡ 128
+abbrev after : {t : ℕ} → Acted t → Stacked
+after a = beside (cells a) (joined a .if1 .s)
+
+-- the states at the first test of the loop and at the test before a turn
+abbrev start-at : {t : ℕ} → Body t → Stacked
+start-at b = beside (entry b .args .t8) (b .before .before .jump .result)
+
+abbrev state-at : {t : ℕ} → Body t → Stacked
+state-at b = beside (b .before .loop .stack) (b .before .loop .s)
+
+sized : (t : ℕ) (e : Entry t) → length (e .args .t9) ≡ 128
 sized t e = search (needs, length-images)
 
 module _ (t : ℕ) (k : Lined t) where
@@ -178,21 +185,26 @@ module _ (t : ℕ) (k : Lined t) where
   small = search needs
 
 module _ (t : ℕ) (j : Joined t) where
-  abbrev s : code.State
-  s = body (j .before .before) .before .loop .s
+  abbrev s : Stacked
+  s = state-at (body (j .before .before .before))
 
-  pushed : Pushed (line (j .before .before) .pushes) (entry (body (j .before .before)) .args .sizes .now) (body (j .before .before) .before .loop .blocks) s (j .if1 .s)
+  abbrev u : Stacked
+  u = beside (j .if1 .stack) (j .if1 .s)
+
+  pushed : Pushed (line (j .before .before .before) .pushes) (entry (body (j .before .before .before)) .args .sizes .now) (body (j .before .before .before) .before .loop .blocks) s u
   pushed = ⊎-elim
       (λ x.
-      let h : length (s .stack) ≡ 64 = body (j .before .before) .before .loop .inv .stack in
-      pushes _ _ _ s (j .if1 .s) (x .3 .result) (x .0 .taken) (omega (arith, x .1 .left)) (body (j .before .before) .before .loop .inv .free) h (x .4) (x .3 .ensures .0) (x .3 .ensures .1))
-      (λ x. keeps _ _ _ s (j .if1 .s) (x .0 .left) (body (j .before .before) .before .loop .inv .free) (x .1))
+      let v : Stacked = beside (set (s .stack) (x .3 .result .free) (x .3 .result .accu)) (x .3 .result) in
+      let h : length (s .stack) ≡ 64 = body (j .before .before .before) .before .loop .inv .stack in
+      let is : view v ≡ restack (x .3 .result .accu ∷ view s .stack) (view s) = x .3 .ensures .0 (s .stack) (x .3 .result .accu) h in
+      pushes _ _ _ s u v (x .0 .taken) (omega (arith, x .2 .left)) (body (j .before .before .before) .before .loop .inv .free) h (λ i. beside (x .5 i) (x .6 i)) (is ∙ ap (λ a. restack (a ∷ view s .stack) (view s)) (restacked-accu v s _ is)) (omega (arith, x .3 .ensures .1)))
+      (λ x. keeps _ _ _ s u (x .0 .left) (body (j .before .before .before) .before .loop .inv .free) (λ i. beside (x .1 i) (x .2 i)))
       (j .if1 .came)
 
-  full : length (j .if1 .s .stack) ≡ 64
+  full : length (j .if1 .stack) ≡ 64
   full = ⊎-elim
-      (λ x. let n : length (x .3 .result .stack) ≡ 64 = search (x .3 .ok, needs, length-images) in ap (λ s. length (s .stack)) (x .4) ∙ n)
-      (λ x. let h : length (s .stack) ≡ 64 = body (j .before .before) .before .loop .inv .stack in ap (λ s. length (s .stack)) (x .1) ∙ h)
+      (λ x. let h : length (s .stack) ≡ 64 = body (j .before .before .before) .before .loop .inv .stack in ap length (x .5) ∙ length-set (s .stack) (x .3 .result .free) (x .3 .result .accu) ∙ h)
+      (λ x. let h : length (s .stack) ≡ 64 = body (j .before .before .before) .before .loop .inv .stack in ap length (x .1) ∙ h)
       (j .if1 .came)
 
 module _ (t : ℕ) (a : Acted t) where
@@ -200,49 +212,49 @@ module _ (t : ℕ) (a : Acted t) where
   fitting = search needs
 
   abbrev r₀ : Cell
-  r₀ = a .before .before .before .before .unknown .result
+  r₀ = a .before .before .before .unknown .result
 
-  seen : a .outcome-of .result ≡ outcome (operationOf (line (lined a) .code)) (line (lined a) .operand) r₀ (64 - after a .free) (after a .accu) (getD (after a .stack) (a .before .before .before .before .before .before .place-of .result) (cell (Number (pos 0))))
-  seen = a .outcome-of .ensures ∙ ap (λ z. outcome (operationOf (line (lined a) .code)) z r₀ (64 - after a .free) (after a .accu) (getD (after a .stack) (a .before .before .before .before .before .before .place-of .result) (cell (Number (pos 0))))) (toZ-ofZ w32 _ fitting)
+  seen : a .outcome-of .result ≡ outcome (operationOf (line (lined a) .code)) (line (lined a) .operand) r₀ (64 - after a .free) (after a .accu) (getD (cells a) (a .before .before .before .before .before .place-of .result) (cell (Number (pos 0))))
+  seen = a .outcome-of .ensures ∙ ap (λ z. outcome (operationOf (line (lined a) .code)) z r₀ (64 - after a .free) (after a .accu) (getD (cells a) (a .before .before .before .before .before .place-of .result) (cell (Number (pos 0))))) (toZ-ofZ w32 _ fitting)
 
-  indexed : a .before .before .before .before .before .before .before .index-of .result ≡ index (line (lined a) .operand)
-  indexed = let e = a .before .before .before .before .before .before .before .index-of .ensures .0 in e ∙ ap index (toZ-ofZ w32 _ fitting)
+  indexed : a .before .before .before .before .before .before .index-of .result ≡ index (line (lined a) .operand)
+  indexed = let e = a .before .before .before .before .before .before .index-of .ensures .0 in e ∙ ap index (toZ-ofZ w32 _ fitting)
 
-  placed : (a .before .before .before .before .before .before .place-of .result < 64)
-      × (after a .free + entryOf (operationOf (line (lined a) .code)) (a .before .before .before .before .before .before .before .index-of .result) < 64
-      → a .before .before .before .before .before .before .place-of .result ≡ after a .free + entryOf (operationOf (line (lined a) .code)) (a .before .before .before .before .before .before .before .index-of .result))
-  placed = a .before .before .before .before .before .before .place-of .ensures
+  placed : (a .before .before .before .before .before .place-of .result < 64)
+      × (after a .free + entryOf (operationOf (line (lined a) .code)) (a .before .before .before .before .before .before .index-of .result) < 64
+      → a .before .before .before .before .before .place-of .result ≡ after a .free + entryOf (operationOf (line (lined a) .code)) (a .before .before .before .before .before .before .index-of .result))
+  placed = a .before .before .before .before .before .place-of .ensures
 
   abbrev element : Cell
-  element = getD (after a .stack) (a .before .before .before .before .before .before .place-of .result) (cell (Number (pos 0)))
+  element = getD (cells a) (a .before .before .before .before .before .place-of .result) (cell (Number (pos 0)))
 
   seen-unknown : a .outcome-of .result ≡ outcome (operationOf (line (lined a) .code)) (line (lined a) .operand) unknown (64 - after a .free) (after a .accu) element
-  seen-unknown = seen ∙ ap (λ z. outcome (operationOf (line (lined a) .code)) (line (lined a) .operand) z (64 - after a .free) (after a .accu) element) (a .before .before .before .before .unknown .ensures)
+  seen-unknown = seen ∙ ap (λ z. outcome (operationOf (line (lined a) .code)) (line (lined a) .operand) z (64 - after a .free) (after a .accu) element) (a .before .before .before .unknown .ensures)
 
   abbrev arm-at : Outcome → Type 0
   arm-at = Arm (entry (body (lined a)) .args .first) (entry (body (lined a)) .args .codes .now) (entry (body (lined a)) .args .operands .now) (entry (body (lined a)) .args .cycles .now) (entry (body (lined a)) .args .words .now) (entry (body (lined a)) .args .sizes .now)
-      (entry (body (lined a)) .args .openings) (entry (body (lined a)) .args .budget) (entry (body (lined a)) .args .t7) (body (lined a) .before .before .jump .result)
+      (entry (body (lined a)) .args .openings) (entry (body (lined a)) .args .budget) (entry (body (lined a)) .args .t9) (start-at (body (lined a)))
       (body (lined a) .before .loop .blocks) (s t (joined a)) (body (lined a) .before .loop .left) (body (lined a) .before .loop .tally) (line (lined a))
-      (a .before .before .before .before .before .before .before .before .before .before .more .result) (after a) (a .before .before .before .before .before .before .before .index-of .result)
+      (a .before .before .before .before .before .before .before .before .before .more .result) (after a) (a .before .before .before .before .before .before .index-of .result)
 
   arm : arm-at (a .outcome-of .result)
   arm = record {
     turn = body (lined a) .before .loop .inv;
     some = body (lined a) .loop-test .taken;
     small = small t (lined a);
-    grown = a .before .before .before .before .before .before .before .before .before .before .more .ensures;
+    grown = a .before .before .before .before .before .before .before .before .before .more .ensures;
     free = pushed t (joined a) .free;
     full = full t (joined a);
     stays = pushed t (joined a) .stays;
-    low = omega (arith, inside _ _ _ _ _ (entry (body (lined a)) .args .sizes .now) (entry (body (lined a)) .args .openings) (entry (body (lined a)) .args .budget) (entry (body (lined a)) .args .t7) (body (lined a) .before .before .jump .result) (body (lined a) .before .loop .blocks) (s t (joined a)) (after a) (line (lined a)) (found t (lined a)) (full t (joined a)) (pushed t (joined a) .ready), entry (body (lined a)) .pre .1 .1 .addresses);
+    low = omega (arith, inside _ _ _ _ _ (entry (body (lined a)) .args .sizes .now) (entry (body (lined a)) .args .openings) (entry (body (lined a)) .args .budget) (entry (body (lined a)) .args .t9) (start-at (body (lined a))) (body (lined a) .before .loop .blocks) (s t (joined a)) (after a) (line (lined a)) (found t (lined a)) (full t (joined a)) (pushed t (joined a) .ready), entry (body (lined a)) .pre .1 .1 .addresses);
     index-is = indexed;
-    index-fits = omega (arith, a .before .before .before .before .before .before .before .index-of .ensures .1);
+    index-fits = omega (arith, a .before .before .before .before .before .before .index-of .ensures .1);
     entry = element;
     out-is = seen-unknown;
     makes =
-        turns _ _ _ _ _ (entry (body (lined a)) .args .sizes .now) (entry (body (lined a)) .args .openings) (entry (body (lined a)) .args .budget) (entry (body (lined a)) .args .t7) (body (lined a) .before .before .jump .result) (body (lined a) .before .loop .blocks) (s t (joined a)) (after a) (line (lined a)) (found t (lined a)) (full t (joined a)) (pushed t (joined a) .ready)
-        (a .before .before .before .before .before .before .before .index-of .result) (64 - after a .free) (a .before .before .before .before .before .before .place-of .result) element (a .outcome-of .result)
-        indexed refl (pushed t (joined a) .free) (placed .1) (getD-any (after a .stack) _ (cell (Number (pos 0))) element (omega (arith, full t (joined a), placed .0))) seen-unknown;
+        turns _ _ _ _ _ (entry (body (lined a)) .args .sizes .now) (entry (body (lined a)) .args .openings) (entry (body (lined a)) .args .budget) (entry (body (lined a)) .args .t9) (start-at (body (lined a))) (body (lined a) .before .loop .blocks) (s t (joined a)) (after a) (line (lined a)) (found t (lined a)) (full t (joined a)) (pushed t (joined a) .ready)
+        (a .before .before .before .before .before .before .index-of .result) (64 - after a .free) (a .before .before .before .before .before .place-of .result) element (a .outcome-of .result)
+        indexed refl (pushed t (joined a) .free) (placed .1) (getD-any (cells a) _ (cell (Number (pos 0))) element (omega (arith, full t (joined a), placed .0))) seen-unknown;
   }
 
 -- ---- the ways out before the outcome
@@ -250,28 +262,28 @@ module _ (t : ℕ) (a : Acted t) where
 module _ (t : ℕ) (b : Body t) where
   abbrev keeps-at : Found → Type 0
   keeps-at = Kept (entry b .args .first) (entry b .args .codes .now) (entry b .args .operands .now) (entry b .args .cycles .now) (entry b .args .words .now) (entry b .args .sizes .now) (entry b .args .openings) (entry b .args .budget)
-      (entry b .args .t7) (b .before .before .jump .result) (entry b .args .start) (entry b .args .place) (b .before .before .jump .ensures .0)
+      (entry b .args .t9) (start-at b) (beside (entry b .args .t8) (entry b .args .start)) (entry b .args .place) (b .before .before .jump .ensures .0 _)
 
-  sticks : act (entry b .args .first) (entry b .args .codes .now) (entry b .args .operands .now) (entry b .args .cycles .now) (entry b .args .words .now) (entry b .args .sizes .now) (entry b .args .openings) (entry b .args .budget) (entry b .args .t7) (b .before .before .jump .result)
-      (whole (entry b .args .sizes .now) (b .before .loop .blocks) (b .before .loop .s)) ≡ stuck →
+  sticks : act (entry b .args .first) (entry b .args .codes .now) (entry b .args .operands .now) (entry b .args .cycles .now) (entry b .args .words .now) (entry b .args .sizes .now) (entry b .args .openings) (entry b .args .budget) (entry b .args .t9) (start-at b)
+      (whole (entry b .args .sizes .now) (b .before .loop .blocks) (state-at b)) ≡ stuck →
       (r : Found) → r ≡ refusedAs (Verdict.Stuck (b .before .loop .s .at)) (entry b .args .budget - b .before .loop .left + 1) → keeps-at r
   sticks e r f =
-      stuck-out _ _ _ _ _ _ _ _ _ _ (entry b .args .start) (entry b .args .place) (b .before .before .jump .ensures .0) (b .before .loop .inv) (b .loop-test .taken) e r f
+      stuck-out _ _ _ _ _ _ _ _ _ _ (beside (entry b .args .t8) (entry b .args .start)) (entry b .args .place) (b .before .before .jump .ensures .0 _) (b .before .loop .inv) (b .loop-test .taken) e r f
 
   strays : stuck ≡ fetch (codeOf (entry b .args .first) (entry b .args .codes .now) (entry b .args .operands .now) (entry b .args .cycles .now) (entry b .args .words .now)) (b .before .loop .s .at) →
       (r : Found) → r ≡ refusedAs (Verdict.Stuck (b .before .loop .s .at)) (entry b .args .budget - b .before .loop .left + 1) → keeps-at r
   strays e =
-      sticks (outside (entry b .args .first) (entry b .args .codes .now) (entry b .args .operands .now) (entry b .args .cycles .now) (entry b .args .words .now) (entry b .args .sizes .now) (entry b .args .openings) (entry b .args .budget) (entry b .args .t7) (b .before .before .jump .result)
-      (b .before .loop .blocks) (b .before .loop .s) e)
+      sticks (outside (entry b .args .first) (entry b .args .codes .now) (entry b .args .operands .now) (entry b .args .cycles .now) (entry b .args .words .now) (entry b .args .sizes .now) (entry b .args .openings) (entry b .args .budget) (entry b .args .t9) (start-at b)
+      (b .before .loop .blocks) (state-at b) e)
 
 jump-requires : (t : ℕ) → explore-lts.Need-jump-requires (claims t) (explore-at t) explore.Post Inv-loop μ-loop
 jump-requires t c κs = c .before .before .before .before .pre .1 .1 .free
 
 loop-holds : (t : ℕ) → explore-lts.Need-loop-holds (claims t) (explore-at t) explore.Post Inv-loop μ-loop
 loop-holds t c =
-    let s = c .jump .result in
-    let n : length (s .stack) ≡ 64 = search (needs, length-images) in
-    starts _ _ _ _ _ _ _ _ _ _ (c .jump .ensures .1) n (omega (arith, jumped-at s (c .before .before .before .before .before .args .start) _ (c .jump .ensures .0), c .before .before .before .before .before .pre .1 .1 .place-fits)) (c .before .before .before .before .before .pre .1 .1 .fits)
+    let e : Entry t = c .before .before .before .before .before in
+    let n : length (e .args .t8) ≡ 64 = search (needs, length-images) in
+    starts _ _ _ _ _ _ _ _ _ _ (c .jump .ensures .1) n (omega (arith, jumped-at (beside (e .args .t8) (c .jump .result)) (beside (e .args .t8) (e .args .start)) _ (c .jump .ensures .0 (e .args .t8)), e .pre .1 .1 .place-fits)) (e .pre .1 .1 .fits)
 
 sub-used : (t : ℕ) → explore-lts.Need-sub-used (claims t) (explore-at t) explore.Post Inv-loop μ-loop
 sub-used t c = search needs
@@ -303,21 +315,30 @@ sub-more : (t : ℕ) → explore-lts.Need-sub-more (claims t) (explore-at t) exp
 sub-more t c = search needs
 
 more-requires : (t : ℕ) → explore-lts.Need-more-requires (claims t) (explore-at t) explore.Post Inv-loop μ-loop
-more-requires t c κs = (let i = c .before .before .before .before .before .loop .inv in let b = (c .before .before .before .before .before .before .before .before .before .before .before .pre .1 .1 .budget-fits) in (omega (arith, i .cycles, i .inv .within), omega (arith, i .words, i .inv .within)))
+more-requires t c κs =
+    let b : Body t = body (c .before) in
+    let i = b .before .loop .inv in
+    let h = entry b .pre .1 .1 .budget-fits in
+    (omega (arith, i .cycles, i .inv .within), omega (arith, i .words, i .inv .within))
 
 refused-requires-2 : (t : ℕ) → explore-lts.Need-refused-requires-2 (claims t) (explore-at t) explore.Post Inv-loop μ-loop
 refused-requires-2 t c κs = search needs
 
 returns-2 : (t : ℕ) → explore-lts.Need-returns-2 (claims t) (explore-at t) explore.Post Inv-loop μ-loop
 returns-2 t c =
-    let l : Lined t = c .before .before .before .before in
+    let l : Lined t = c .before .before .before .before .before .before in
     let b : Body t = body l in
-    let h : length (b .before .loop .s .stack) ≡ 64 = b .before .loop .inv .stack in
-    let k = sticks t b (overflows _ _ _ _ _ _ (entry b .args .openings) (entry b .args .budget) (entry b .args .t7) (b .before .before .jump .result) (b .before .loop .blocks) (b .before .loop .s) (line l) (found t l) (c .before .before .if1 .taken) h (c .before .if2 .taken)) _ (c .refused2 .ensures) in
+    let k = sticks t b (overflows _ _ _ _ _ _ (entry b .args .openings) (entry b .args .budget) (entry b .args .t9) (start-at b) (b .before .loop .blocks) (state-at b) (line l) (found t l) (c .before .before .before .if1 .taken) (b .before .loop .inv .stack) (c .before .if2 .taken)) _ (c .refused2 .ensures) in
     (k .explored, (k .safe, (k .exact, k .modest)))
 
 push-requires : (t : ℕ) → explore-lts.Need-push-requires (claims t) (explore-at t) explore.Post Inv-loop μ-loop
-push-requires t c κs = (omega (arith, c .before .if2 .left), c .before .before .before .before .before .before .before .before .before .loop .inv .free)
+push-requires t c κs = (omega (arith, c .if2 .left), body (c .before .before .before .before .before) .before .loop .inv .free)
+
+mul-stack : (t : ℕ) → explore-lts.Need-mul-stack (claims t) (explore-at t) explore.Post Inv-loop μ-loop
+mul-stack t c = omega (arith, c .before .push .ensures .1)
+
+array-set-from-stack : (t : ℕ) → explore-lts.Need-array-set-from-stack (claims t) (explore-at t) explore.Post Inv-loop μ-loop
+array-set-from-stack t c = omega (arith, c .before .push .ensures .1)
 
 index-of-requires : (t : ℕ) → explore-lts.Need-index-of-requires (claims t) (explore-at t) explore.Post Inv-loop μ-loop
 index-of-requires t c κs = search needs
@@ -326,7 +347,7 @@ place-of-requires : (t : ℕ) → explore-lts.Need-place-of-requires (claims t) 
 place-of-requires t c κs = (omega (arith, c .index-of .ensures .1), pushed t (c .before .before) .free)
 
 drops-of-requires : (t : ℕ) → explore-lts.Need-drops-of-requires (claims t) (explore-at t) explore.Post Inv-loop μ-loop
-drops-of-requires t c κs = known t (c .before .before .before .before .before)
+drops-of-requires t c κs = known t (c .before .before .before .before .before .before)
 
 unknown-requires : (t : ℕ) → explore-lts.Need-unknown-requires (claims t) (explore-at t) explore.Post Inv-loop μ-loop
 unknown-requires t c κs = search needs
@@ -337,8 +358,8 @@ sub-outcome-of t c = omega (arith, pushed t (c .before .before .before .before .
 mul-outcome-of : (t : ℕ) → explore-lts.Need-mul-outcome-of (claims t) (explore-at t) explore.Post Inv-loop μ-loop
 mul-outcome-of t c = search needs
 
-element-copy-out-outcome-of : (t : ℕ) → explore-lts.Need-element-copy-out-outcome-of (claims t) (explore-at t) explore.Post Inv-loop μ-loop
-element-copy-out-outcome-of t c = search needs
+array-copy-out-outcome-of : (t : ℕ) → explore-lts.Need-array-copy-out-outcome-of (claims t) (explore-at t) explore.Post Inv-loop μ-loop
+array-copy-out-outcome-of t c = search needs
 
 outcome-of-requires : (t : ℕ) → explore-lts.Need-outcome-of-requires (claims t) (explore-at t) explore.Post Inv-loop μ-loop
 outcome-of-requires t c κs = known t (c .before .before .before .before .before .before .before .before .before .before)
@@ -349,7 +370,7 @@ enum-known-out t c = search needs
 pop-requires : (t : ℕ) → explore-lts.Need-pop-requires (claims t) (explore-at t) explore.Post Inv-loop μ-loop
 pop-requires t c κs =
     let a : Acted t = c .before .before .before in
-    arms.drop-room (arm t a) _ _ (c .before .out .given .1) (c .before .before .before .before .before .before .before .before .drops-of .ensures)
+    arms.drop-room (arm t a) _ _ (c .before .out .given .1) (c .before .before .before .before .before .before .before .drops-of .ensures)
 
 load-requires : (t : ℕ) → explore-lts.Need-load-requires (claims t) (explore-at t) explore.Post Inv-loop μ-loop
 load-requires t c κs = c .pop .ensures .1
@@ -357,42 +378,50 @@ load-requires t c κs = c .pop .ensures .1
 advance-requires : (t : ℕ) → explore-lts.Need-advance-requires (claims t) (explore-at t) explore.Post Inv-loop μ-loop
 advance-requires t c κs =
     let a : Acted t = c .before .before .before .before .before in
-    (omega (arith, loaded-at (c .load .result) (c .before .pop .result) _ (c .load .ensures .0), restacked-at (c .before .pop .result) (after a) _ (c .before .pop .ensures .0), arm t a .stays, arm t a .low), c .load .ensures .1)
+    (omega (arith, loaded-at (beside (cells a) (c .load .result)) (beside (cells a) (c .before .pop .result)) _ (c .load .ensures .0 (cells a)), restacked-at (beside (cells a) (c .before .pop .result)) (after a) _ (c .before .pop .ensures .0 (cells a)), arm t a .stays, arm t a .low), c .load .ensures .1)
 
 loop-less : (t : ℕ) → explore-lts.Need-loop-less (claims t) (explore-at t) explore.Post Inv-loop μ-loop
-loop-less t c = omega (arith, c .before .before .before .before .before .before .before .before .before .before .before .before .before .before .before .before .before .before .before .before .before .loop-test .taken)
+loop-less t c = let a : Acted t = c .before .before .before .before .before .before in omega (arith, body (lined a) .loop-test .taken)
 
 loop-again : (t : ℕ) → explore-lts.Need-loop-again (claims t) (explore-at t) explore.Post Inv-loop μ-loop
 loop-again t c =
-    let n : length (c .advance .result .stack) ≡ 64 = search (c .advance .ok, needs, length-images) in
     let a : Acted t = c .before .before .before .before .before .before in
-    arms.gives (arm t a) _ _ (c .before .before .pop .result) (c .before .load .result) (c .advance .result) (c .before .before .before .before .out .given .1) (c .before .before .before .before .before .before .before .before .before .before .before .drops-of .ensures) (c .before .before .pop .ensures .0) (c .before .load .ensures .0) (c .advance .ensures .0) (c .advance .ensures .1) n
+    arms.gives (arm t a) _ _ (beside (cells a) (c .before .before .pop .result)) (beside (cells a) (c .before .load .result)) (beside (cells a) (c .advance .result)) (c .before .before .before .before .out .given .1) (c .before .before .before .before .before .before .before .before .before .before .drops-of .ensures) (c .before .before .pop .ensures .0 (cells a)) (c .before .load .ensures .0 (cells a)) (c .advance .ensures .0 (cells a)) (c .advance .ensures .1) (full t (joined a))
 
 enum-known-out-2 : (t : ℕ) → explore-lts.Need-enum-known-out-2 (claims t) (explore-at t) explore.Post Inv-loop μ-loop
 enum-known-out-2 t c = search needs
 
+add-entry : (t : ℕ) → explore-lts.Need-add-entry (claims t) (explore-at t) explore.Post Inv-loop μ-loop
+add-entry t c =
+    let a : Acted t = c .before .before .before .before in
+    omega (arith, arms.store-room (arm t a) _ (c .before .before .out2 .given .1))
+
+mul-stack-2 : (t : ℕ) → explore-lts.Need-mul-stack-2 (claims t) (explore-at t) explore.Post Inv-loop μ-loop
+mul-stack-2 t c =
+    let a : Acted t = c .before .before .before .before in
+    omega (arith, arms.store-room (arm t a) _ (c .before .before .out2 .given .1))
+
+array-set-from-stack-2 : (t : ℕ) → explore-lts.Need-array-set-from-stack-2 (claims t) (explore-at t) explore.Post Inv-loop μ-loop
+array-set-from-stack-2 t c =
+    let a : Acted t = c .before .before .before .before in
+    arms.store-room (arm t a) _ (c .before .before .out2 .given .1)
+
 store-requires : (t : ℕ) → explore-lts.Need-store-requires (claims t) (explore-at t) explore.Post Inv-loop μ-loop
-store-requires t c κs = let a : Acted t = c .before .before .before in arms.store-room (arm t a) _ (c .before .out2 .given .1)
-
-number-requires : (t : ℕ) → explore-lts.Need-number-requires (claims t) (explore-at t) explore.Post Inv-loop μ-loop
-number-requires t c κs = search needs
-
-load-requires-2 : (t : ℕ) → explore-lts.Need-load-requires-2 (claims t) (explore-at t) explore.Post Inv-loop μ-loop
-load-requires-2 t c κs = c .before .store .ensures .1
+store-requires t c κs = let a : Acted t = c .before .before .before .before in arm t a .free
 
 advance-requires-2 : (t : ℕ) → explore-lts.Need-advance-requires-2 (claims t) (explore-at t) explore.Post Inv-loop μ-loop
 advance-requires-2 t c κs =
-    let a : Acted t = c .before .before .before .before .before .before in
-    (omega (arith, loaded-at (c .load2 .result) (c .before .before .store .result) _ (c .load2 .ensures .0), restacked-at (c .before .before .store .result) (after a) _ (c .before .before .store .ensures .0), arm t a .stays, arm t a .low), c .load2 .ensures .1)
+    let a : Acted t = c .before .before .before .before .before in
+    (omega (arith, loaded-at (beside (cells a) (c .store .result)) (after a) _ (c .store .ensures .0 (cells a)), arm t a .stays, arm t a .low), c .store .ensures .1)
 
 loop-less-2 : (t : ℕ) → explore-lts.Need-loop-less-2 (claims t) (explore-at t) explore.Post Inv-loop μ-loop
-loop-less-2 t c = omega (arith, c .before .before .before .before .before .before .before .before .before .before .before .before .before .before .before .before .before .before .before .before .before .before .loop-test .taken)
+loop-less-2 t c = let a : Acted t = c .before .before .before .before .before .before in omega (arith, body (lined a) .loop-test .taken)
 
 loop-again-2 : (t : ℕ) → explore-lts.Need-loop-again-2 (claims t) (explore-at t) explore.Post Inv-loop μ-loop
 loop-again-2 t c =
-    let n : length (c .advance2 .result .stack) ≡ 64 = search (c .advance2 .ok, needs, length-images) in
-    let a : Acted t = c .before .before .before .before .before .before .before in
-    arms.stores (arm t a) _ _ (c .before .before .before .store .result) (c .before .load2 .result) (c .advance2 .result) (c .before .before .before .before .before .out2 .given .1) (c .before .before .number .ensures) (c .before .before .before .store .ensures .0) (c .before .load2 .ensures .0) (c .advance2 .ensures .0) (c .advance2 .ensures .1) n
+    let a : Acted t = c .before .before .before .before .before .before in
+    let written : List Cell = set (cells a) (joined a .if1 .s .free + a .before .before .before .before .before .before .index-of .result) (c .before .before .before .before .out2 .given .0 .0) in
+    arms.stores (arm t a) _ (beside written (joined a .if1 .s)) (beside written (c .before .store .result)) (beside written (c .advance2 .result)) (c .before .before .before .before .out2 .given .1) (stored (joined a .if1 .s) (cells a) _ _) (c .before .store .ensures .0 written) (c .advance2 .ensures .0 written) (c .advance2 .ensures .1) (length-set (cells a) _ _ ∙ full t (joined a))
 
 enum-known-out-3 : (t : ℕ) → explore-lts.Need-enum-known-out-3 (claims t) (explore-at t) explore.Post Inv-loop μ-loop
 enum-known-out-3 t c = search needs
@@ -411,46 +440,42 @@ refused-requires-3 t c κs = search needs
 
 returns-3 : (t : ℕ) → explore-lts.Need-returns-3 (claims t) (explore-at t) explore.Post Inv-loop μ-loop
 returns-3 t c =
-    let a : Acted t = c .before .before .before .before .before .before .before .before in
-    let k = sticks t (body (lined a)) (arms.sets-nothing (arm t a) _ (c .before .before .before .before .before .before .out3 .given .1) (ap ofSlot (sym (c .before .enum-told2 .given .1)) ∙ c .before .before .before .slot-of .ensures)) _ (c .refused3 .ensures) in
+    let a : Acted t = c .before .before .before .before .before .before .before in
+    let k = sticks t (body (lined a)) (arms.sets-nothing (arm t a) _ (c .before .before .before .before .before .out3 .given .1) (ap ofSlot (sym (c .before .enum-told2 .given .1)) ∙ c .before .before .before .slot-of .ensures)) _ (c .refused3 .ensures) in
     (k .explored, (k .safe, (k .exact, k .modest)))
 
 mul-blocks : (t : ℕ) → explore-lts.Need-mul-blocks (claims t) (explore-at t) explore.Post Inv-loop μ-loop
 mul-blocks t c =
-    let a : Acted t = c .before .before .before .before .before .before .before .before in
+    let a : Acted t = c .before .before .before .before .before .before .before in
     let b : Body t = body (lined a) in
     omega (arith, sized t (entry b), arms.slot-in (arm t a) _ (ap ofSlot (sym (c .before .field .given .1)) ∙ c .before .before .before .slot-of .ensures))
 
 array-set-from-blocks : (t : ℕ) → explore-lts.Need-array-set-from-blocks (claims t) (explore-at t) explore.Post Inv-loop μ-loop
 array-set-from-blocks t c =
-    let a : Acted t = c .before .before .before .before .before .before .before .before in
+    let a : Acted t = c .before .before .before .before .before .before .before in
     let b : Body t = body (lined a) in
     omega (arith, sized t (entry b), arms.slot-in (arm t a) _ (ap ofSlot (sym (c .before .field .given .1)) ∙ c .before .before .before .slot-of .ensures))
 
 pop-requires-2 : (t : ℕ) → explore-lts.Need-pop-requires-2 (claims t) (explore-at t) explore.Post Inv-loop μ-loop
 pop-requires-2 t c κs =
-    let a : Acted t = c .before .before .before .before .before .before .before .before in
-    arms.set-room (arm t a) _ (c .before .before .before .before .before .before .out3 .given .1)
+    let a : Acted t = c .before .before .before .before .before .before .before in
+    arms.set-room (arm t a) _ (c .before .before .before .before .before .out3 .given .1)
 
-number-requires-2 : (t : ℕ) → explore-lts.Need-number-requires-2 (claims t) (explore-at t) explore.Post Inv-loop μ-loop
-number-requires-2 t c κs = search needs
-
-load-requires-3 : (t : ℕ) → explore-lts.Need-load-requires-3 (claims t) (explore-at t) explore.Post Inv-loop μ-loop
-load-requires-3 t c κs = c .before .pop2 .ensures .1
+store-requires-2 : (t : ℕ) → explore-lts.Need-store-requires-2 (claims t) (explore-at t) explore.Post Inv-loop μ-loop
+store-requires-2 t c κs = c .pop2 .ensures .1
 
 advance-requires-3 : (t : ℕ) → explore-lts.Need-advance-requires-3 (claims t) (explore-at t) explore.Post Inv-loop μ-loop
 advance-requires-3 t c κs =
-    let a : Acted t = c .before .before .before .before .before .before .before .before .before .before .before in
-    (omega (arith, loaded-at (c .load3 .result) (c .before .before .pop2 .result) _ (c .load3 .ensures .0), restacked-at (c .before .before .pop2 .result) (after a) _ (c .before .before .pop2 .ensures .0), arm t a .stays, arm t a .low), c .load3 .ensures .1)
+    let a : Acted t = c .before .before .before .before .before .before .before .before .before in
+    (omega (arith, loaded-at (beside (cells a) (c .store2 .result)) (beside (cells a) (c .before .pop2 .result)) _ (c .store2 .ensures .0 (cells a)), restacked-at (beside (cells a) (c .before .pop2 .result)) (after a) _ (c .before .pop2 .ensures .0 (cells a)), arm t a .stays, arm t a .low), c .store2 .ensures .1)
 
 loop-less-3 : (t : ℕ) → explore-lts.Need-loop-less-3 (claims t) (explore-at t) explore.Post Inv-loop μ-loop
-loop-less-3 t c = omega (arith, c .before .before .before .before .before .before .before .before .before .before .before .before .before .before .before .before .before .before .before .before .before .before .before .before .before .before .before .loop-test .taken)
+loop-less-3 t c = let a : Acted t = c .before .before .before .before .before .before .before .before .before .before in omega (arith, body (lined a) .loop-test .taken)
 
 loop-again-3 : (t : ℕ) → explore-lts.Need-loop-again-3 (claims t) (explore-at t) explore.Post Inv-loop μ-loop
 loop-again-3 t c =
-    let n : length (c .advance3 .result .stack) ≡ 64 = search (c .advance3 .ok, needs, length-images) in
-    let a : Acted t = c .before .before .before .before .before .before .before .before .before .before .before .before in
-    arms.sets (arm t a) _ _ _ (c .before .before .before .pop2 .result) (c .before .load3 .result) (c .advance3 .result) (c .before .before .before .before .before .before .before .before .before .before .out3 .given .1) (ap ofSlot (sym (c .before .before .before .before .before .field .given .1)) ∙ c .before .before .before .before .before .before .before .slot-of .ensures) (c .before .before .number2 .ensures) (c .before .before .before .pop2 .ensures .0) (c .before .load3 .ensures .0) (c .advance3 .ensures .0) (c .advance3 .ensures .1) n
+    let a : Acted t = c .before .before .before .before .before .before .before .before .before .before in
+    arms.sets (arm t a) _ _ (beside (cells a) (c .before .before .pop2 .result)) (beside (cells a) (c .before .store2 .result)) (beside (cells a) (c .advance3 .result)) (c .before .before .before .before .before .before .before .before .out3 .given .1) (ap ofSlot (sym (c .before .before .before .before .field .given .1)) ∙ c .before .before .before .before .before .before .slot-of .ensures) (c .before .before .pop2 .ensures .0 (cells a)) (c .before .store2 .ensures .0 (cells a)) (c .advance3 .ensures .0 (cells a)) (c .advance3 .ensures .1) (full t (joined a))
 
 enum-told-3 : (t : ℕ) → explore-lts.Need-enum-told-3 (claims t) (explore-at t) explore.Post Inv-loop μ-loop
 enum-told-3 t c = search needs
@@ -469,38 +494,37 @@ refused-requires-4 t c κs = search needs
 
 returns-4 : (t : ℕ) → explore-lts.Need-returns-4 (claims t) (explore-at t) explore.Post Inv-loop μ-loop
 returns-4 t c =
-    let a : Acted t = c .before .before .before .before .before .before .before in
-    let k = sticks t (body (lined a)) (arms.gets-nothing (arm t a) (c .before .before .before .before .before .enum-told3 .given .1) (ap ofSlot (sym (c .before .enum-told4 .given .1)) ∙ c .before .before .before .slot-of2 .ensures)) _ (c .refused4 .ensures) in
+    let a : Acted t = c .before .before .before .before .before .before in
+    let k = sticks t (body (lined a)) (arms.gets-nothing (arm t a) (c .before .before .before .before .enum-told3 .given .1) (ap ofSlot (sym (c .before .enum-told4 .given .1)) ∙ c .before .before .before .slot-of2 .ensures)) _ (c .refused4 .ensures) in
     (k .explored, (k .safe, (k .exact, k .modest)))
 
 mul-load : (t : ℕ) → explore-lts.Need-mul-load (claims t) (explore-at t) explore.Post Inv-loop μ-loop
 mul-load t c =
-    let a : Acted t = c .before .before .before .before .before .before .before in
+    let a : Acted t = c .before .before .before .before .before .before in
     let b : Body t = body (lined a) in
     omega (arith, sized t (entry b), arms.slot-in (arm t a) _ (ap ofSlot (sym (c .before .field2 .given .1)) ∙ c .before .before .before .slot-of2 .ensures))
 
 array-copy-out-load : (t : ℕ) → explore-lts.Need-array-copy-out-load (claims t) (explore-at t) explore.Post Inv-loop μ-loop
 array-copy-out-load t c =
-    let a : Acted t = c .before .before .before .before .before .before .before in
+    let a : Acted t = c .before .before .before .before .before .before in
     let b : Body t = body (lined a) in
     omega (arith, sized t (entry b), arms.slot-in (arm t a) _ (ap ofSlot (sym (c .before .field2 .given .1)) ∙ c .before .before .before .slot-of2 .ensures))
 
-load-requires-4 : (t : ℕ) → explore-lts.Need-load-requires-4 (claims t) (explore-at t) explore.Post Inv-loop μ-loop
-load-requires-4 t c κs = let a : Acted t = c .before .before .before .before .before .before .before .before in arm t a .free
+load-requires-2 : (t : ℕ) → explore-lts.Need-load-requires-2 (claims t) (explore-at t) explore.Post Inv-loop μ-loop
+load-requires-2 t c κs = let a : Acted t = c .before .before .before .before .before .before .before in arm t a .free
 
 advance-requires-4 : (t : ℕ) → explore-lts.Need-advance-requires-4 (claims t) (explore-at t) explore.Post Inv-loop μ-loop
 advance-requires-4 t c κs =
-    let a : Acted t = c .before .before .before .before .before .before .before .before .before in
-    (omega (arith, loaded-at (c .load4 .result) (after a) _ (c .load4 .ensures .0), arm t a .stays, arm t a .low), c .load4 .ensures .1)
+    let a : Acted t = c .before .before .before .before .before .before .before .before in
+    (omega (arith, loaded-at (beside (cells a) (c .load2 .result)) (after a) _ (c .load2 .ensures .0 (cells a)), arm t a .stays, arm t a .low), c .load2 .ensures .1)
 
 loop-less-4 : (t : ℕ) → explore-lts.Need-loop-less-4 (claims t) (explore-at t) explore.Post Inv-loop μ-loop
-loop-less-4 t c = omega (arith, c .before .before .before .before .before .before .before .before .before .before .before .before .before .before .before .before .before .before .before .before .before .before .before .before .before .loop-test .taken)
+loop-less-4 t c = let a : Acted t = c .before .before .before .before .before .before .before .before .before in omega (arith, body (lined a) .loop-test .taken)
 
 loop-again-4 : (t : ℕ) → explore-lts.Need-loop-again-4 (claims t) (explore-at t) explore.Post Inv-loop μ-loop
 loop-again-4 t c =
-    let n : length (c .advance4 .result .stack) ≡ 64 = search (c .advance4 .ok, needs, length-images) in
-    let a : Acted t = c .before .before .before .before .before .before .before .before .before .before in
-    arms.gets (arm t a) _ _ _ (c .before .load4 .result) (c .advance4 .result) (c .before .before .before .before .before .before .before .before .enum-told3 .given .1) (ap ofSlot (sym (c .before .before .before .before .field2 .given .1)) ∙ c .before .before .before .before .before .before .slot-of2 .ensures) refl (c .before .load4 .ensures .0) (c .advance4 .ensures .0) (c .advance4 .ensures .1) n
+    let a : Acted t = c .before .before .before .before .before .before .before .before .before in
+    arms.gets (arm t a) _ _ _ (beside (cells a) (c .before .load2 .result)) (beside (cells a) (c .advance4 .result)) (c .before .before .before .before .before .before .before .enum-told3 .given .1) (ap ofSlot (sym (c .before .before .before .before .field2 .given .1)) ∙ c .before .before .before .before .before .before .slot-of2 .ensures) refl (c .before .load2 .ensures .0 (cells a)) (c .advance4 .ensures .0 (cells a)) (c .advance4 .ensures .1) (full t (joined a))
 
 enum-told-5 : (t : ℕ) → explore-lts.Need-enum-told-5 (claims t) (explore-at t) explore.Post Inv-loop μ-loop
 enum-told-5 t c = search needs
@@ -509,13 +533,12 @@ jump-requires-2 : (t : ℕ) → explore-lts.Need-jump-requires-2 (claims t) (exp
 jump-requires-2 t c κs = let a : Acted t = c .before .before in arm t a .free
 
 loop-less-5 : (t : ℕ) → explore-lts.Need-loop-less-5 (claims t) (explore-at t) explore.Post Inv-loop μ-loop
-loop-less-5 t c = omega (arith, c .before .before .before .before .before .before .before .before .before .before .before .before .before .before .before .before .before .before .loop-test .taken)
+loop-less-5 t c = let a : Acted t = c .before .before .before in omega (arith, body (lined a) .loop-test .taken)
 
 loop-again-5 : (t : ℕ) → explore-lts.Need-loop-again-5 (claims t) (explore-at t) explore.Post Inv-loop μ-loop
 loop-again-5 t c =
-    let n : length (c .jump2 .result .stack) ≡ 64 = search (c .jump2 .ok, needs, length-images) in
     let a : Acted t = c .before .before .before in
-    arms.jumps (arm t a) (c .jump2 .result) (c .before .enum-told5 .given .1) (c .jump2 .ensures .0) (c .jump2 .ensures .1) n
+    arms.jumps (arm t a) (beside (cells a) (c .jump2 .result)) (c .before .enum-told5 .given .1) (c .jump2 .ensures .0 (cells a)) (c .jump2 .ensures .1) (full t (joined a))
 
 enum-told-6 : (t : ℕ) → explore-lts.Need-enum-told-6 (claims t) (explore-at t) explore.Post Inv-loop μ-loop
 enum-told-6 t c = search needs
@@ -527,7 +550,7 @@ returns-5 : (t : ℕ) → explore-lts.Need-returns-5 (claims t) (explore-at t) e
 returns-5 t c =
     let a : Acted t = c .before .before .before .before in
     let b : Body t = body (lined a) in
-    let k = arms.over-out _ _ _ _ _ _ _ _ _ _ (entry b .args .start) (entry b .args .place) (b .before .before .jump .ensures .0) (arm t a) (c .before .before .enum-told6 .given .1) (c .before .if3 .taken) _ (c .refused5 .ensures) in
+    let k = arms.over-out _ _ _ _ _ _ _ _ _ _ (beside (entry b .args .t8) (entry b .args .start)) (entry b .args .place) (b .before .before .jump .ensures .0 _) (arm t a) (c .before .before .enum-told6 .given .1) (c .before .if3 .taken) _ (c .refused5 .ensures) in
     (k .explored, (k .safe, (k .exact, k .modest)))
 
 add-next : (t : ℕ) → explore-lts.Need-add-next (claims t) (explore-at t) explore.Post Inv-loop μ-loop
@@ -559,7 +582,7 @@ returns-6 t c =
     let a : Acted t = c .before .before .before .before .before .before .before in
     let b : Body t = body (lined a) in
     let f = c .before .before .before .explore in
-    let k = arms.first-out _ _ _ _ _ _ _ _ _ _ (entry b .args .start) (entry b .args .place) (b .before .before .jump .ensures .0) (arm t a) (c .before .before .before .before .before .enum-told6 .given .1) (omega (arith, c .before .before .before .before .if3 .left)) (f .result) (f .ensures .0) (f .ensures .1 .1 .1) (fails _ (c .before .before .match5 .keys2)) _ (c .refused6 .ensures) in
+    let k = arms.first-out _ _ _ _ _ _ _ _ _ _ (beside (entry b .args .t8) (entry b .args .start)) (entry b .args .place) (b .before .before .jump .ensures .0 _) (arm t a) (c .before .before .before .before .before .enum-told6 .given .1) (omega (arith, c .before .before .before .before .if3 .left)) (f .result) (f .ensures .0) (f .ensures .1 .1 .1) (fails _ (c .before .before .match5 .keys2)) _ (c .refused6 .ensures) in
     (k .explored, (k .safe, (k .exact, k .modest)))
 
 sub-rest : (t : ℕ) → explore-lts.Need-sub-rest (claims t) (explore-at t) explore.Post Inv-loop μ-loop
@@ -598,7 +621,7 @@ returns-7 t c =
     let b : Body t = body (lined a) in
     let f = c .before .before .before .before .before .before .before .before .explore in
     let g = c .before .before .before .before .explore2 in
-    let k = arms.second-out _ _ _ _ _ _ _ _ _ _ (entry b .args .start) (entry b .args .place) (b .before .before .jump .ensures .0) (arm t a) (c .before .before .before .before .before .before .before .before .before .before .enum-told6 .given .1) (omega (arith, c .before .before .before .before .before .before .before .before .before .if3 .left)) (f .result) (f .ensures .0) (f .ensures .1 .1 .1) (c .before .before .before .before .before .before .enum-told7 .given .1) (g .result) (g .ensures .0) (g .ensures .1 .1 .1) (fails _ (c .before .before .before .match6 .keys2)) _ (c .refused7 .ensures) in
+    let k = arms.second-out _ _ _ _ _ _ _ _ _ _ (beside (entry b .args .t8) (entry b .args .start)) (entry b .args .place) (b .before .before .jump .ensures .0 _) (arm t a) (c .before .before .before .before .before .before .before .before .before .before .enum-told6 .given .1) (omega (arith, c .before .before .before .before .before .before .before .before .before .if3 .left)) (f .result) (f .ensures .0) (f .ensures .1 .1 .1) (c .before .before .before .before .before .before .enum-told7 .given .1) (g .result) (g .ensures .0) (g .ensures .1 .1 .1) (fails _ (c .before .before .before .match6 .keys2)) _ (c .refused7 .ensures) in
     (k .explored, (k .safe, (k .exact, k .modest)))
 
 joined-requires : (t : ℕ) → explore-lts.Need-joined-requires (claims t) (explore-at t) explore.Post Inv-loop μ-loop
@@ -607,7 +630,7 @@ joined-requires t c κs =
     let b : Body t = body (lined a) in
     let f = c .before .before .before .before .before .before .explore in
     let g = c .before .before .explore2 in
-    arms.sums _ _ _ _ _ _ _ _ _ _ (entry b .args .start) (entry b .args .place) (b .before .before .jump .ensures .0) (arm t a) (c .before .before .before .before .before .before .before .before .enum-told6 .given .1) (omega (arith, c .before .before .before .before .before .before .before .if3 .left)) (f .result) (f .ensures .0) (f .ensures .1 .1 .1) (c .before .before .before .before .enum-told7 .given .1) (g .result) (g .ensures .0) (g .ensures .1 .1 .1) (entry b .pre .1 .1 .openings-fit) (entry b .pre .1 .1 .budget-fits)
+    arms.sums _ _ _ _ _ _ _ _ _ _ (beside (entry b .args .t8) (entry b .args .start)) (entry b .args .place) (b .before .before .jump .ensures .0 _) (arm t a) (c .before .before .before .before .before .before .before .before .enum-told6 .given .1) (omega (arith, c .before .before .before .before .before .before .before .if3 .left)) (f .result) (f .ensures .0) (f .ensures .1 .1 .1) (c .before .before .before .before .enum-told7 .given .1) (g .result) (g .ensures .0) (g .ensures .1 .1 .1) (entry b .pre .1 .1 .openings-fit) (entry b .pre .1 .1 .budget-fits)
 
 returns-8 : (t : ℕ) → explore-lts.Need-returns-8 (claims t) (explore-at t) explore.Post Inv-loop μ-loop
 returns-8 t c =
@@ -615,7 +638,7 @@ returns-8 t c =
     let b : Body t = body (lined a) in
     let f = c .before .before .before .before .before .before .before .explore in
     let g = c .before .before .before .explore2 in
-    let k = arms.both-out _ _ _ _ _ _ _ _ _ _ (entry b .args .start) (entry b .args .place) (b .before .before .jump .ensures .0) (arm t a) (c .before .before .before .before .before .before .before .before .before .enum-told6 .given .1) (omega (arith, c .before .before .before .before .before .before .before .before .if3 .left)) (f .result) (f .ensures .0) (f .ensures .1 .1 .1) (c .before .before .before .before .before .enum-told7 .given .1) (g .result) (g .ensures .0) (g .ensures .1 .1 .1) (c .before .enum-told8 .given .1) _ (c .joined .ensures) in
+    let k = arms.both-out _ _ _ _ _ _ _ _ _ _ (beside (entry b .args .t8) (entry b .args .start)) (entry b .args .place) (b .before .before .jump .ensures .0 _) (arm t a) (c .before .before .before .before .before .before .before .before .before .enum-told6 .given .1) (omega (arith, c .before .before .before .before .before .before .before .before .if3 .left)) (f .result) (f .ensures .0) (f .ensures .1 .1 .1) (c .before .before .before .before .before .enum-told7 .given .1) (g .result) (g .ensures .0) (g .ensures .1 .1 .1) (c .before .enum-told8 .given .1) _ (c .joined .ensures) in
     (k .explored, (k .safe, (k .exact, k .modest)))
 
 enum-told-9 : (t : ℕ) → explore-lts.Need-enum-told-9 (claims t) (explore-at t) explore.Post Inv-loop μ-loop
@@ -628,7 +651,7 @@ returns-9 : (t : ℕ) → explore-lts.Need-returns-9 (claims t) (explore-at t) e
 returns-9 t c =
     let a : Acted t = c .before .before .before in
     let b : Body t = body (lined a) in
-    let k = arms.halts-out _ _ _ _ _ _ _ _ _ _ (entry b .args .start) (entry b .args .place) (b .before .before .jump .ensures .0) (arm t a) (c .before .enum-told9 .given .1) _ (c .finished .ensures) in
+    let k = arms.halts-out _ _ _ _ _ _ _ _ _ _ (beside (entry b .args .t8) (entry b .args .start)) (entry b .args .place) (b .before .before .jump .ensures .0 _) (arm t a) (c .before .enum-told9 .given .1) _ (c .finished .ensures) in
     (k .explored, (k .safe, (k .exact, k .modest)))
 
 enum-told-10 : (t : ℕ) → explore-lts.Need-enum-told-10 (claims t) (explore-at t) explore.Post Inv-loop μ-loop
@@ -649,7 +672,7 @@ refused-requires-9 t c κs = search needs
 returns-11 : (t : ℕ) → explore-lts.Need-returns-11 (claims t) (explore-at t) explore.Post Inv-loop μ-loop
 returns-11 t c =
     let e : Entry t = c .before .before .before .before .before .before .before .before in
-    let k = arms.spent-out _ _ _ _ _ _ _ _ _ _ (e .args .start) (e .args .place) (c .before .before .before .jump .ensures .0) (c .before .before .loop .inv) (omega (arith, c .before .loop-test .left)) _ (c .refused9 .ensures) in
+    let k = arms.spent-out _ _ _ _ _ _ _ _ _ (beside (e .args .t8) (c .before .before .before .jump .result)) (beside (e .args .t8) (e .args .start)) (e .args .place) (c .before .before .before .jump .ensures .0 (e .args .t8)) (c .before .before .loop .inv) (omega (arith, c .before .loop-test .left)) _ (c .refused9 .ensures) in
     (k .explored, (k .safe, (k .exact, k .modest)))
 
 pub +explore-spec : {M : Type 1} → statement M
@@ -671,13 +694,15 @@ pub +explore-spec : {M : Type 1} → statement M
     (refused-requires-2 t)
     (returns-2 t)
     (push-requires t)
+    (mul-stack t)
+    (array-set-from-stack t)
     (index-of-requires t)
     (place-of-requires t)
     (drops-of-requires t)
     (unknown-requires t)
     (sub-outcome-of t)
     (mul-outcome-of t)
-    (element-copy-out-outcome-of t)
+    (array-copy-out-outcome-of t)
     (outcome-of-requires t)
     (enum-known-out t)
     (pop-requires t)
@@ -686,9 +711,10 @@ pub +explore-spec : {M : Type 1} → statement M
     (loop-less t)
     (loop-again t)
     (enum-known-out-2 t)
+    (add-entry t)
+    (mul-stack-2 t)
+    (array-set-from-stack-2 t)
     (store-requires t)
-    (number-requires t)
-    (load-requires-2 t)
     (advance-requires-2 t)
     (loop-less-2 t)
     (loop-again-2 t)
@@ -701,8 +727,7 @@ pub +explore-spec : {M : Type 1} → statement M
     (mul-blocks t)
     (array-set-from-blocks t)
     (pop-requires-2 t)
-    (number-requires-2 t)
-    (load-requires-3 t)
+    (store-requires-2 t)
     (advance-requires-3 t)
     (loop-less-3 t)
     (loop-again-3 t)
@@ -714,7 +739,7 @@ pub +explore-spec : {M : Type 1} → statement M
     (returns-4 t)
     (mul-load t)
     (array-copy-out-load t)
-    (load-requires-4 t)
+    (load-requires-2 t)
     (advance-requires-4 t)
     (loop-less-4 t)
     (loop-again-4 t)
