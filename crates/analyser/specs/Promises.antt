@@ -6,6 +6,8 @@ use Prim.Native.Nat.{ℕ, _≤_}
 use lib.Dec.{ltb}
 use lib.IntN.{ℤ, pos}
 use lib.ListN.{length, take}
+use Rattle.refusals.specs.declared.Refusal.{Refusal}
+use Rattle.refusals.specs.Refusals.{place}
 use Rattle.text.specs.Text.{lines, all}
 use Rattle.text.specs.declared.Numeral.the-variants.{Number as number}
 use Rattle.text.specs.Decimal.{numeral, decimal}
@@ -19,7 +21,7 @@ use Rattle.routine.specs.Layout.{layout, body, codeLines}
 use Rattle.routine.specs.Routine.{Routine, readBound, readRun}
 use Rattle.routine.specs.Routine as readings
 use Rattle.report.specs.Report.{boundText, runText}
-use Rattle.analyser.specs.Answers.{reported, memoryLimit, boundAnswer, runAnswer}
+use Rattle.analyser.specs.Answers.{reported, refused, memoryLimit, boundAnswer, runAnswer}
 
 -- the report bs of the bound on a text: demands 2 and 3 in terms of the file
 pub record Kept (text bs : List ℕ) : Type 0 where
@@ -67,6 +69,12 @@ abbrev pub ReportsFit : Type 0
 ReportsFit =
     ((text : List ℕ) (n : ℕ) (bs : List ℕ) → boundAnswer text n ≡ reported bs → (length bs ≤ memoryLimit) × (memoryLimit ≤ n))
     × ((text : List ℕ) (n : ℕ) (bs : List ℕ) → runAnswer text n ≡ reported bs → (length bs ≤ memoryLimit) × (memoryLimit ≤ n))
+
+-- no place of a refusal is above 62,000: a line is 32,769 at most, and the code and its targets are within 0 to 62,000
+abbrev pub PlacesSmall : Type 0
+PlacesSmall =
+    ((text : List ℕ) (n : ℕ) (r : Refusal) → boundAnswer text n ≡ refused r → place r ≤ 62000)
+    × ((text : List ℕ) (n : ℕ) (r : Refusal) → runAnswer text n ≡ refused r → place r ≤ 62000)
 
 -- reading a decimal number that was written gives it back
 abbrev pub WrittenReadsBack : Type 0

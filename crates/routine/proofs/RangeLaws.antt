@@ -95,7 +95,7 @@ instruction-small : (ls : List Line) (text : List ℕ) → AtMost 131070 510 (in
 unfolding instructionOf instruction prices
 instruction-small ls text = cost-small 65535 255 (prices ls) (price-small kinds ls) (price-small primitives ls) _ _ _
 
-every-mapped : {A B : Type 0} {P : B → Type 0} (f : A → B) → ((x : A) → P (f x)) → (xs : List A) → Every P (map f xs)
+pub every-mapped : {A B : Type 0} {P : B → Type 0} (f : A → B) → ((x : A) → P (f x)) → (xs : List A) → Every P (map f xs)
 every-mapped f h [] = Every.none
 every-mapped f h (x ∷ xs) = more (h x) (every-mapped f h xs)
 
