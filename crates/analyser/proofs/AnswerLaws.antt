@@ -15,11 +15,12 @@ use Rattle.cells.specs.Try.{stuck, done}
 use Rattle.machine.specs.Lists.{nth}
 use Rattle.machine.specs.Machine.{height, Instruction, fetch}
 use Rattle.machine.proofs.HeightLaws.{Low}
+use Rattle.machine.proofs.PriceLaws.{AtMost}
 use Rattle.bounds.specs.Tree.{Report, Verdict, openingLimit, bound}
 use Rattle.bounds.specs.Tree as verdicts
 use Rattle.bounds.specs.Run.{run}
 use Rattle.bounds.proofs.PromiseLaws.{interruptible, exact-reports, run-within-bound}
-use Rattle.bounds.proofs.FigureLaws.{Cheap, Bounded, bound-bounded, run-bounded}
+use Rattle.bounds.proofs.FigureLaws.{Bounded, bound-bounded, run-bounded}
 use Rattle.routine.specs.Routine.{Routine, routineOf, Reading, routine, readBound, readRun}
 use Rattle.routine.specs.Routine as readings
 use Rattle.routine.specs.Rows.{Passes}
@@ -119,15 +120,13 @@ nth-every {A} {P} (more {x = y} p ps) zero {x} e = let h : y ≡ x = cc in rw h 
 nth-every (more p ps) (suc n) e = nth-every ps n e
 
 module _ (text : List ℕ) (x : Routine) (passes : Passes (lines text)) (is : x ≡ routineOf (lines text)) where
-  cheap : (a : ℕ) (i : Instruction) → fetch (x .code) a ≡ done i → Cheap 131070 510 (i .price)
+  priced : (a : ℕ) (i : Instruction) → fetch (x .code) a ≡ done i → AtMost 131070 510 (i .price)
   unfolding fetch
-  cheap a i e = go (ltb a (x .code .first)) e
+  priced a i e = go (ltb a (x .code .first)) e
     where
-      go : (b : Bool) → cond b stuck (nth (a - x .code .first) (x .code .instructions)) ≡ done i → Cheap 131070 510 (i .price)
+      go : (b : Bool) → cond b stuck (nth (a - x .code .first) (x .code .instructions)) ≡ done i → AtMost 131070 510 (i .price)
       go true e = let z : _≡_ {A = ℕ} 0 1 = cc in absurd (omega arith)
-      go false e =
-          let h = nth-every (rw (← is) at (prices-small (lines text))) (a - x .code .first) e in
-          record { cycles = h .cycles; words = h .words }
+      go false e = nth-every (rw (← is) at (prices-small (lines text))) (a - x .code .first) e
 
   low : Low (x .start)
   unfolding height
@@ -159,7 +158,7 @@ reports-fit = (λ text n bs e. of-bound text n bs e, λ text n bs e. of-run text
         let x = a .routine in
         let v = from-verdict (boundText (x .tick)) (bound (x .code) (x .budget) (x .start)) bs (a .gives) in
         let p = read-passes text x (a .reads) in
-        let b = bound-bounded 131070 510 (x .code) (cheap text x (p .0) (p .1)) (x .budget) (x .start) (low text x (p .0) (p .1)) (v .report) (v .accepts) in
+        let b = bound-bounded 131070 510 (x .code) (priced text x (p .0) (p .1)) (x .budget) (x .start) (low text x (p .0) (p .1)) (v .report) (v .accepts) in
         let s = bound-small (x .tick) (x .budget) (v .report) (ticks text x (p .0) (p .1)) (within text x (p .0) (p .1)) b in
         (rw (← v .prints) (bound-fits (x .tick) (v .report) s), a .lent)
 
@@ -169,7 +168,7 @@ reports-fit = (λ text n bs e. of-bound text n bs e, λ text n bs e. of-run text
         let x = a .routine in
         let v = from-verdict runText (run (x .code) (x .budget) (x .start) (x .answers)) bs (a .gives) in
         let p = run-passes text x (a .reads) in
-        let b = run-bounded 131070 510 (x .code) (cheap text x (p .0) (p .2)) (x .budget) (x .start) (low text x (p .0) (p .2)) (x .answers) (v .report) (v .accepts) in
+        let b = run-bounded 131070 510 (x .code) (priced text x (p .0) (p .2)) (x .budget) (x .start) (low text x (p .0) (p .2)) (x .answers) (v .report) (v .accepts) in
         let s = bound-small (x .tick) (x .budget) (v .report) (ticks text x (p .0) (p .2)) (within text x (p .0) (p .2)) b in
         (rw (← v .prints) (run-fits (v .report) (s .cycles) (s .words) (s .depth) (s .steps)), a .lent)
 
