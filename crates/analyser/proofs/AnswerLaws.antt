@@ -77,9 +77,7 @@ reports-kept text n bs e =
     record {
       routine = x;
       report = v .report;
-      reads = a .reads;
-      accepts = v .accepts;
-      prints = sym (v .prints);
+      is = record { reads = a .reads; accepts = v .accepts; prints = sym (v .prints) };
       exact = exact-reports (x .code) (x .budget) (x .start) (v .report) (v .accepts);
       safe = λ s h answers m. interruptible (x .code) openingLimit (x .budget) (x .start) (v .report) (v .accepts) s h answers m;
     }
@@ -88,7 +86,7 @@ reports-kept text n bs e =
 
 pub filled-in-runs : FilledInRuns
 unfolding runAnswer runRoutine ofReading ofVerdict
-filled-in-runs x y q a h text n e lent =
+filled-in-runs text n x y q a h e lent =
     let a′ : bound (y .code) (y .budget) (x .start) ≡ verdicts.accepted q = rw (h .code, h .budget) a in
     let (r, b, le) = run-within-bound (y .code) (y .budget) (x .start) q a′ (y .start) (h .start) (y .answers) in
     (r, b, rw (le-ltb n memoryLimit lent, e, b) refl, le)
@@ -183,7 +181,7 @@ unfolding runText
 run-some q = omega arith
 
 pub bound-reports-some : (text : List ℕ) (n : ℕ) (bs : List ℕ) → boundAnswer text n ≡ reported bs → 1 ≤ length bs
-bound-reports-some text n bs e = let k = reports-kept text n bs e in rw (k .prints) (bound-some (k .routine .tick) (k .report))
+bound-reports-some text n bs e = let k = reports-kept text n bs e in rw (k .is .prints) (bound-some (k .routine .tick) (k .report))
 
 pub run-reports-some : (text : List ℕ) (n : ℕ) (bs : List ℕ) → runAnswer text n ≡ reported bs → 1 ≤ length bs
 unfolding runAnswer runRoutine
