@@ -1,4 +1,4 @@
--- `put_bound` meets its contract: the parts of the report one after the other. Assumes nothing.
+-- `report::put_bound` meets its contract: the parts of the report one after the other. Assumes nothing.
 use Prim.Native.Nat.{ℕ, _+_, zero-le}
 use mathlib.Core.Path.{_≡_, ap}
 use native.Mathlib.Omega.{arith}

@@ -1,4 +1,4 @@
--- `put_figures` meets its contract: the figures and the spaces one after the other. Assumes nothing.
+-- `report::put_figures` meets its contract: the figures and the spaces one after the other. Assumes nothing.
 use Prim.Native.Nat.{_+_}
 use mathlib.Core.Path.{_≡_}
 use native.Mathlib.Omega.{arith}

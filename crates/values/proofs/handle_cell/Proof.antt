@@ -1,4 +1,4 @@
--- `handle_cell` meets its contract. Assumes nothing.
+-- `values::handle_cell` meets its contract. Assumes nothing.
 use mathlib.Core.Path.{_≡_, sym, ap, ap₂, subst, _∙_}
 use native.Mathlib.Omega.{arith}
 use lib.Dec.{T}

@@ -1,4 +1,4 @@
--- `natural_in` meets its contract. Assumes nothing.
+-- `values::natural_in` meets its contract. Assumes nothing.
 use mathlib.Core.Path.{_≡_, sym, ap, ap₂, subst, _∙_}
 use native.Mathlib.Omega.{arith}
 use Prim.Native.Nat.{ℕ, _<_}
