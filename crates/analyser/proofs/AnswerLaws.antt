@@ -16,11 +16,12 @@ use Rattle.cells.specs.Try.{done}
 use Rattle.machine.specs.Machine.{height, Instruction, fetch}
 use Rattle.machine.proofs.FetchLaws.{fetch-every}
 use Rattle.machine.proofs.HeightLaws.{Low}
+use Rattle.machine.proofs.PriceLaws.{AtMost}
 use Rattle.bounds.specs.Tree.{Report, Verdict, openingLimit, bound}
 use Rattle.bounds.specs.Tree as verdicts
 use Rattle.bounds.specs.Run.{run}
 use Rattle.bounds.proofs.PromiseLaws.{interruptible, exact-reports, run-within-bound}
-use Rattle.bounds.proofs.FigureLaws.{Cheap, Bounded, bound-bounded, run-bounded}
+use Rattle.bounds.proofs.FigureLaws.{Bounded, bound-bounded, run-bounded}
 use Rattle.bounds.proofs.PlaceLaws.{bound-place, run-place}
 use Rattle.routine.specs.Routine.{Routine, routineOf, Reading, routine, readBound, readRun}
 use Rattle.routine.specs.Routine as readings
@@ -79,9 +80,7 @@ reports-kept text n bs e =
     record {
       routine = x;
       report = v .report;
-      reads = a .reads;
-      accepts = v .accepts;
-      prints = sym (v .prints);
+      is = record { reads = a .reads; accepts = v .accepts; prints = sym (v .prints) };
       exact = exact-reports (x .code) (x .budget) (x .start) (v .report) (v .accepts);
       safe = λ s h answers m. interruptible (x .code) openingLimit (x .budget) (x .start) (v .report) (v .accepts) s h answers m;
     }
@@ -90,7 +89,7 @@ reports-kept text n bs e =
 
 pub filled-in-runs : FilledInRuns
 unfolding runAnswer runRoutine ofReading ofVerdict
-filled-in-runs x y q a h text n e lent =
+filled-in-runs text n x y q a h e lent =
     let a′ : bound (y .code) (y .budget) (x .start) ≡ verdicts.accepted q = rw (h .code, h .budget) a in
     let (r, b, le) = run-within-bound (y .code) (y .budget) (x .start) q a′ (y .start) (h .start) (y .answers) in
     (r, b, rw (le-ltb n memoryLimit lent, e, b) refl, le)
@@ -116,8 +115,8 @@ passing-is-ascii text x e = every-all text (accepted-ascii text (read-passes tex
 -- ---- 128 bytes
 
 module _ (text : List ℕ) (x : Routine) (passes : Passes (lines text)) (is : x ≡ routineOf (lines text)) where
-  cheap : (a : ℕ) (i : Instruction) → fetch (x .code) a ≡ done i → Cheap 131070 510 (i .price)
-  cheap a i e = let h = fetch-every (x .code) a i e (rw (← is) at (prices-small (lines text))) in record { cycles = h .cycles; words = h .words }
+  priced : (a : ℕ) (i : Instruction) → fetch (x .code) a ≡ done i → AtMost 131070 510 (i .price)
+  priced a i e = fetch-every (x .code) a i e (rw (← is) at (prices-small (lines text)))
 
   low : Low (x .start)
   unfolding height
@@ -149,7 +148,7 @@ reports-fit = (λ text n bs e. of-bound text n bs e, λ text n bs e. of-run text
         let x = a .routine in
         let v = from-verdict (boundText (x .tick)) (bound (x .code) (x .budget) (x .start)) bs (a .gives) in
         let p = read-passes text x (a .reads) in
-        let b = bound-bounded 131070 510 (x .code) (cheap text x (p .0) (p .1)) (x .budget) (x .start) (low text x (p .0) (p .1)) (v .report) (v .accepts) in
+        let b = bound-bounded 131070 510 (x .code) (priced text x (p .0) (p .1)) (x .budget) (x .start) (low text x (p .0) (p .1)) (v .report) (v .accepts) in
         let s = bound-small (x .tick) (x .budget) (v .report) (ticks text x (p .0) (p .1)) (within text x (p .0) (p .1)) b in
         (rw (← v .prints) (bound-fits (x .tick) (v .report) s), a .lent)
 
@@ -159,7 +158,7 @@ reports-fit = (λ text n bs e. of-bound text n bs e, λ text n bs e. of-run text
         let x = a .routine in
         let v = from-verdict runText (run (x .code) (x .budget) (x .start) (x .answers)) bs (a .gives) in
         let p = run-passes text x (a .reads) in
-        let b = run-bounded 131070 510 (x .code) (cheap text x (p .0) (p .2)) (x .budget) (x .start) (low text x (p .0) (p .2)) (x .answers) (v .report) (v .accepts) in
+        let b = run-bounded 131070 510 (x .code) (priced text x (p .0) (p .2)) (x .budget) (x .start) (low text x (p .0) (p .2)) (x .answers) (v .report) (v .accepts) in
         let s = bound-small (x .tick) (x .budget) (v .report) (ticks text x (p .0) (p .2)) (within text x (p .0) (p .2)) b in
         (rw (← v .prints) (run-fits (v .report) (s .cycles) (s .words) (s .depth) (s .steps)), a .lent)
 
@@ -174,7 +173,7 @@ unfolding runText
 run-some q = omega arith
 
 pub bound-reports-some : (text : List ℕ) (n : ℕ) (bs : List ℕ) → boundAnswer text n ≡ reported bs → 1 ≤ length bs
-bound-reports-some text n bs e = let k = reports-kept text n bs e in rw (k .prints) (bound-some (k .routine .tick) (k .report))
+bound-reports-some text n bs e = let k = reports-kept text n bs e in rw (k .is .prints) (bound-some (k .routine .tick) (k .report))
 
 pub run-reports-some : (text : List ℕ) (n : ℕ) (bs : List ℕ) → runAnswer text n ≡ reported bs → 1 ≤ length bs
 unfolding runAnswer runRoutine

@@ -195,13 +195,13 @@ module _ (text : List ℕ) (n : ℕ) where
 
   -- the promises
   pub safe-reports : SafeReports text n
-  safe-reports bs e = let k = reports-kept text n bs e in (k .routine, k .report, record { reads = k .reads; accepts = k .accepts; prints = k .prints }, k .safe)
+  safe-reports bs e = let k = reports-kept text n bs e in (k .routine, k .report, k .is, k .safe)
 
   pub exact-reports : ExactReports text n
-  exact-reports bs e = let k = reports-kept text n bs e in (k .routine, k .report, record { reads = k .reads; accepts = k .accepts; prints = k .prints }, k .exact)
+  exact-reports bs e = let k = reports-kept text n bs e in (k .routine, k .report, k .is, k .exact)
 
   pub runs-within : RunsWithin text n
-  runs-within x y q a h e l = filled-in-runs x y q a h text n e l
+  runs-within = filled-in-runs text n
 
 -- ---- for C
 

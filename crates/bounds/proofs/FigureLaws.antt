@@ -10,27 +10,22 @@ use lib.ListN.{length}
 use Rattle.cells.specs.Try.{Try, stuck, done}
 use Rattle.cells.specs.declared.Cell.{Cell}
 use Rattle.cells.specs.Cells.{unknown}
-use Rattle.machine.specs.Machine.{State, Price, Instruction, Code, fetch, Next, stops, goes, opens, stackLimit, height, step}
-use Rattle.machine.proofs.PriceLaws.{OnePrice, is-stuck, stops-at, goes-at, opens-at, step-price}
+use Rattle.machine.specs.Machine.{State, Instruction, Code, fetch, Next, stops, goes, opens, stackLimit, height, step}
+use Rattle.machine.proofs.PriceLaws.{AtMost, OnePrice, is-stuck, stops-at, goes-at, opens-at, step-price}
 use Rattle.machine.proofs.LeadLaws.{Leads, goes-to, opens-to}
 use Rattle.machine.proofs.HeightLaws.{Low, step-low}
 use Rattle.bounds.specs.Tree.{Tree, expand, tree, cycles, words, depth, size, path, worse, Decision, Report, report, accepted, openingLimit, explore, bound, verdict}
 use Rattle.bounds.specs.Run.{Run, begin, answer, moved, leads, once, after, judgeRun, run}
 use Rattle.bounds.proofs.TreeLaws.{accepted-complete}
 
--- a price of at most C cycles and W words
-pub record Cheap (C W : ℕ) (p : Price) : Type 0 where
-  pub cycles : p .cycles ≤ C
-  pub words : p .words ≤ W
-
 module _ (C W : ℕ) where
   pub record Figures (t : Tree) : Type 0 where
     pub cycles : cycles t ≤ C * size t
     pub words : words t ≤ W * size t
 
-  module _ (act : State → Try Next) (cheap : (s : State) → OnePrice (Cheap C W) (act s)) where
+  module _ (act : State → Try Next) (cheap : (s : State) → OnePrice (AtMost C W) (act s)) where
     expand-figures : (below : ℕ → State → Tree) (ih : (o : ℕ) (s : State) → Figures (below o s))
-        (o : ℕ) (s : State) {m : Try Next} → OnePrice (Cheap C W) m → Figures (expand below o s m)
+        (o : ℕ) (s : State) {m : Try Next} → OnePrice (AtMost C W) m → Figures (expand below o s m)
     unfolding expand cycles words size
     expand-figures below ih o s is-stuck = omega arith
     expand-figures below ih o s (stops-at h) = omega (arith, h)
@@ -95,13 +90,13 @@ pub record Bounded (C W budget : ℕ) (q : Report) : Type 0 where
   pub steps : q .steps ≤ budget
   pub path : length (q .path) ≤ openingLimit
 
-module _ (C W : ℕ) (c : Code) (cheap : (a : ℕ) (i : Instruction) → fetch c a ≡ done i → Cheap C W (i .price)) where
+module _ (C W : ℕ) (c : Code) (cheap : (a : ℕ) (i : Instruction) → fetch c a ≡ done i → AtMost C W (i .price)) where
   pub bound-bounded : (budget : ℕ) (s : State) → Low s → (q : Report) → bound c budget s ≡ accepted q → Bounded C W budget q
   unfolding bound explore verdict report
   bound-bounded budget s h q a =
       let t = tree (step c unknown) budget openingLimit s in
       let (w, le, e) = accepted-complete t budget (report t) q a in
-      let k = tree-figures C W (step c unknown) (λ s. step-price (Cheap C W) c cheap unknown s) budget openingLimit s in
+      let k = tree-figures C W (step c unknown) (λ s. step-price (AtMost C W) c cheap unknown s) budget openingLimit s in
       rw (← e) (record {
         cycles = k .cycles;
         words = k .words;
@@ -121,7 +116,7 @@ module _ (C W : ℕ) (c : Code) (cheap : (a : ℕ) (i : Instruction) → fetch c
   longer : (n : ℕ) (r : Run) → Running n r → Running (suc n) r
   longer n r k = record { low = k .low; cycles = k .cycles; words = k .words; depth = k .depth; steps = omega (arith, k .steps) }
 
-  moved-running : (n : ℕ) (r : Run) (rest : List ℤ) (b : Bool) {m : Try Next} → OnePrice (Cheap C W) m → ((x : Next) → m ≡ done x → Leads Low x) → Running n r → Running (suc n) (moved r rest b m)
+  moved-running : (n : ℕ) (r : Run) (rest : List ℤ) (b : Bool) {m : Try Next} → OnePrice (AtMost C W) m → ((x : Next) → m ≡ done x → Leads Low x) → Running n r → Running (suc n) (moved r rest b m)
   unfolding moved
   moved-running n r rest true p l k = longer n r k
   moved-running n r rest false is-stuck l k = longer n r k
@@ -140,7 +135,7 @@ module _ (C W : ℕ) (c : Code) (cheap : (a : ℕ) (i : Instruction) → fetch c
   after-running (suc n) r k =
       let s = after c n r in
       let i = after-running n r k in
-      moved-running n s _ (s .stopped) (step-price (Cheap C W) c cheap (answer (s .answers)) (s .state)) (λ x e. step-low c (answer (s .answers)) (s .state) x e (i .low)) i
+      moved-running n s _ (s .stopped) (step-price (AtMost C W) c cheap (answer (s .answers)) (s .state)) (λ x e. step-low c (answer (s .answers)) (s .state) x e (i .low)) i
 
   judged : (budget : ℕ) (r : Run) (b : Bool) → r .stopped ≡ b → Running budget r → (q : Report) → judgeRun budget r ≡ accepted q → Bounded C W budget q
   unfolding judgeRun
