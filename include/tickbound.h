@@ -19,7 +19,7 @@
  *
  *   a report    its length, 1 to TICKBOUND_REPORT_MEMORY
  *   a refusal   bit 63 is 1, bits 32 to 47 are the refusal's number, bits 0 to 31 its place;
- *               all other bits are 0
+ *               all other bits are 0. No place is above 62,000
  *
  * So no answer is 0. A routine that costs nothing has a report (`0 0 0 1 0 -`), and its answer is that
  * report's length; a refused routine has no figures at all. Ask `tickbound_is_refused` before anything is

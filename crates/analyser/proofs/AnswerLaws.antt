@@ -1,36 +1,40 @@
 -- The promises of the answers to a text, from the laws of the layers below. Assumes nothing.
-use mathlib.Core.Path.{_≡_, refl, sym}
+use mathlib.Core.Path.{_≡_, refl, sym, ap, _∙_}
 use mathlib.Core.Bool.{Bool, true, false, cond}
 use mathlib.Core.List.{List, [], _∷_}
-use Prim.Native.Nat.{ℕ, zero, suc, _-_, _≤_, _<_}
+use Prim.Native.Nat.{ℕ, _≤_, _<_}
 use native.Mathlib.Omega.{arith}
 use lib.Dec.{ltb}
 use lib.ListN.{length}
 use borrow.Author.Tests.{lt-ltb, le-ltb, ltb-false}
 use Rattle.refusals.specs.declared.Refusal.{Refusal}
 use Rattle.refusals.specs.declared.Refusal.the-variants.{ReportMemory}
+use Rattle.refusals.specs.Refusals.{place}
 use Rattle.text.specs.Text.{lines, all}
-use Rattle.text.proofs.TextLaws.{Every, none, more}
-use Rattle.cells.specs.Try.{stuck, done}
-use Rattle.machine.specs.Lists.{nth}
+use Rattle.text.proofs.TextLaws.{Every, more}
+use Rattle.cells.specs.Try.{done}
 use Rattle.machine.specs.Machine.{height, Instruction, fetch}
+use Rattle.machine.proofs.FetchLaws.{fetch-every}
 use Rattle.machine.proofs.HeightLaws.{Low}
+use Rattle.machine.proofs.PriceLaws.{AtMost}
 use Rattle.bounds.specs.Tree.{Report, Verdict, openingLimit, bound}
 use Rattle.bounds.specs.Tree as verdicts
 use Rattle.bounds.specs.Run.{run}
 use Rattle.bounds.proofs.PromiseLaws.{interruptible, exact-reports, run-within-bound}
-use Rattle.bounds.proofs.FigureLaws.{Cheap, Bounded, bound-bounded, run-bounded}
+use Rattle.bounds.proofs.FigureLaws.{Bounded, bound-bounded, run-bounded}
+use Rattle.bounds.proofs.PlaceLaws.{bound-place, run-place}
 use Rattle.routine.specs.Routine.{Routine, routineOf, Reading, routine, readBound, readRun}
 use Rattle.routine.specs.Routine as readings
 use Rattle.routine.specs.Rows.{Passes}
 use Rattle.routine.proofs.RowLaws.{read-passes, run-passes}
 use Rattle.routine.proofs.RangeLaws.{prices-small, budget-small, tick-positive, start-low}
+use Rattle.routine.proofs.PlaceLaws.{read-bound-place, read-run-place, confined, start-small}
 use Rattle.routine.proofs.SpellingLaws.{accepted-ascii}
 use Rattle.routine.proofs.AnswerLaws.{SameButAnswers, same-but-answers}
 use Rattle.report.specs.Report.{boundText, runText}
 use Rattle.report.proofs.ReportLaws.{Small, bound-fits, run-fits}
 use Rattle.analyser.specs.Answers.{Answer, reported, refused, memoryLimit, ofVerdict, ofReading, boundRoutine, runRoutine, boundAnswer, runAnswer}
-use Rattle.analyser.specs.Promises.{ReportsKept, FilledInRuns, AnswersIrrelevant, PassingIsAscii, ReportsFit}
+use Rattle.analyser.specs.Promises.{ReportsKept, FilledInRuns, AnswersIrrelevant, PassingIsAscii, ReportsFit, PlacesSmall}
 
 -- ---- what a report comes from
 
@@ -76,9 +80,7 @@ reports-kept text n bs e =
     record {
       routine = x;
       report = v .report;
-      reads = a .reads;
-      accepts = v .accepts;
-      prints = sym (v .prints);
+      is = record { reads = a .reads; accepts = v .accepts; prints = sym (v .prints) };
       exact = exact-reports (x .code) (x .budget) (x .start) (v .report) (v .accepts);
       safe = λ s h answers m. interruptible (x .code) openingLimit (x .budget) (x .start) (v .report) (v .accepts) s h answers m;
     }
@@ -87,7 +89,7 @@ reports-kept text n bs e =
 
 pub filled-in-runs : FilledInRuns
 unfolding runAnswer runRoutine ofReading ofVerdict
-filled-in-runs x y q a h text n e lent =
+filled-in-runs text n x y q a h e lent =
     let a′ : bound (y .code) (y .budget) (x .start) ≡ verdicts.accepted q = rw (h .code, h .budget) a in
     let (r, b, le) = run-within-bound (y .code) (y .budget) (x .start) q a′ (y .start) (h .start) (y .answers) in
     (r, b, rw (le-ltb n memoryLimit lent, e, b) refl, le)
@@ -112,22 +114,9 @@ passing-is-ascii text x e = every-all text (accepted-ascii text (read-passes tex
 
 -- ---- 128 bytes
 
-nth-every : {A : Type 0} {P : A → Type 0} {xs : List A} → Every P xs → (n : ℕ) {x : A} → nth n xs ≡ done x → P x
-unfolding nth
-nth-every none n e = let z : _≡_ {A = ℕ} 0 1 = cc in absurd (omega arith)
-nth-every {A} {P} (more {x = y} p ps) zero {x} e = let h : y ≡ x = cc in rw h at p
-nth-every (more p ps) (suc n) e = nth-every ps n e
-
 module _ (text : List ℕ) (x : Routine) (passes : Passes (lines text)) (is : x ≡ routineOf (lines text)) where
-  cheap : (a : ℕ) (i : Instruction) → fetch (x .code) a ≡ done i → Cheap 131070 510 (i .price)
-  unfolding fetch
-  cheap a i e = go (ltb a (x .code .first)) e
-    where
-      go : (b : Bool) → cond b stuck (nth (a - x .code .first) (x .code .instructions)) ≡ done i → Cheap 131070 510 (i .price)
-      go true e = let z : _≡_ {A = ℕ} 0 1 = cc in absurd (omega arith)
-      go false e =
-          let h = nth-every (rw (← is) at (prices-small (lines text))) (a - x .code .first) e in
-          record { cycles = h .cycles; words = h .words }
+  priced : (a : ℕ) (i : Instruction) → fetch (x .code) a ≡ done i → AtMost 131070 510 (i .price)
+  priced a i e = fetch-every (x .code) a i e (rw (← is) at (prices-small (lines text)))
 
   low : Low (x .start)
   unfolding height
@@ -159,7 +148,7 @@ reports-fit = (λ text n bs e. of-bound text n bs e, λ text n bs e. of-run text
         let x = a .routine in
         let v = from-verdict (boundText (x .tick)) (bound (x .code) (x .budget) (x .start)) bs (a .gives) in
         let p = read-passes text x (a .reads) in
-        let b = bound-bounded 131070 510 (x .code) (cheap text x (p .0) (p .1)) (x .budget) (x .start) (low text x (p .0) (p .1)) (v .report) (v .accepts) in
+        let b = bound-bounded 131070 510 (x .code) (priced text x (p .0) (p .1)) (x .budget) (x .start) (low text x (p .0) (p .1)) (v .report) (v .accepts) in
         let s = bound-small (x .tick) (x .budget) (v .report) (ticks text x (p .0) (p .1)) (within text x (p .0) (p .1)) b in
         (rw (← v .prints) (bound-fits (x .tick) (v .report) s), a .lent)
 
@@ -169,7 +158,7 @@ reports-fit = (λ text n bs e. of-bound text n bs e, λ text n bs e. of-run text
         let x = a .routine in
         let v = from-verdict runText (run (x .code) (x .budget) (x .start) (x .answers)) bs (a .gives) in
         let p = run-passes text x (a .reads) in
-        let b = run-bounded 131070 510 (x .code) (cheap text x (p .0) (p .2)) (x .budget) (x .start) (low text x (p .0) (p .2)) (x .answers) (v .report) (v .accepts) in
+        let b = run-bounded 131070 510 (x .code) (priced text x (p .0) (p .2)) (x .budget) (x .start) (low text x (p .0) (p .2)) (x .answers) (v .report) (v .accepts) in
         let s = bound-small (x .tick) (x .budget) (v .report) (ticks text x (p .0) (p .2)) (within text x (p .0) (p .2)) b in
         (rw (← v .prints) (run-fits (v .report) (s .cycles) (s .words) (s .depth) (s .steps)), a .lent)
 
@@ -184,7 +173,7 @@ unfolding runText
 run-some q = omega arith
 
 pub bound-reports-some : (text : List ℕ) (n : ℕ) (bs : List ℕ) → boundAnswer text n ≡ reported bs → 1 ≤ length bs
-bound-reports-some text n bs e = let k = reports-kept text n bs e in rw (k .prints) (bound-some (k .routine .tick) (k .report))
+bound-reports-some text n bs e = let k = reports-kept text n bs e in rw (k .is .prints) (bound-some (k .routine .tick) (k .report))
 
 pub run-reports-some : (text : List ℕ) (n : ℕ) (bs : List ℕ) → runAnswer text n ≡ reported bs → 1 ≤ length bs
 unfolding runAnswer runRoutine
@@ -193,3 +182,42 @@ run-reports-some text n bs e =
     let x = a .routine in
     let v = from-verdict runText (run (x .code) (x .budget) (x .start) (x .answers)) bs (a .gives) in
     rw (← v .prints) (run-some (v .report))
+
+-- ---- places
+
+from-refused : (text : Report → List ℕ) (v : Verdict) (r : Refusal) → ofVerdict text v ≡ refused r → v ≡ verdicts.refused r
+unfolding ofVerdict
+from-refused text (verdicts.accepted q) r e = never r (text q) (sym e)
+from-refused text (verdicts.refused x) r e = let h : x ≡ r = cc in ap verdicts.refused h
+
+-- a refusal is that of the memory, that of the reading, or that of the routine
+place-from : (B : ℕ) (f : Routine → Answer) (m : Reading) (n : ℕ) (r : Refusal) → ((r : Refusal) → m ≡ readings.refused r → place r ≤ B) →
+    ((x : Routine) → m ≡ readings.routine x → f x ≡ refused r → place r ≤ B) → cond (ltb n memoryLimit) (refused ReportMemory) (ofReading f m) ≡ refused r → place r ≤ B
+unfolding ofReading place
+place-from B f m n r of-reading of-routine = lent (ltb n memoryLimit)
+  where
+    read : (k : Reading) → m ≡ k → ofReading f k ≡ refused r → place r ≤ B
+    read (readings.refused x) q e = let h : x ≡ r = cc in of-reading r (q ∙ ap readings.refused h)
+    read (readings.routine x) q e = of-routine x q e
+
+    lent : (b : Bool) → cond b (refused ReportMemory) (ofReading f m) ≡ refused r → place r ≤ B
+    lent true e = let h : ReportMemory ≡ r = cc in rw (← h) (omega arith)
+    lent false e = read m refl e
+
+pub places-small : PlacesSmall
+unfolding boundAnswer boundRoutine runAnswer runRoutine
+places-small = (of-bound, of-run)
+  where
+    of-bound : (text : List ℕ) (n : ℕ) (r : Refusal) → boundAnswer text n ≡ refused r → place r ≤ 62000
+    of-bound text n r =
+        place-from 62000 boundRoutine (readBound text) n r (λ r e. omega (arith, read-bound-place text r e)) (λ x e f.
+        let (p, is, short) = read-passes text x e in
+        let v = from-refused (boundText (x .tick)) (bound (x .code) (x .budget) (x .start)) r f in
+        bound-place 62000 (x .code) (rw is (confined (lines text) p)) (x .budget) (x .start) (rw is (start-small (lines text) p)) r v)
+
+    of-run : (text : List ℕ) (n : ℕ) (r : Refusal) → runAnswer text n ≡ refused r → place r ≤ 62000
+    of-run text n r =
+        place-from 62000 runRoutine (readRun text) n r (λ r e. omega (arith, read-run-place text r e)) (λ x e f.
+        let (p, known, is, short) = run-passes text x e in
+        let v = from-refused runText (run (x .code) (x .budget) (x .start) (x .answers)) r f in
+        run-place 62000 (x .code) (rw is (confined (lines text) p)) (x .budget) (x .start) (rw is (start-small (lines text) p)) (x .answers) r v)

@@ -1,9 +1,10 @@
 -- The routine that the code's arrays hold is bounded and run as the definitions say, and so is a text. Assumes nothing.
-use Prim.Native.Nat.{ℕ, _+_, _*_, _%_, _≤_, _<_}
-use mathlib.Core.Path.{_≡_, refl, sym, ap, _∙_, subst}
+use Prim.Native.Nat.{ℕ, _+_, _*_, _%_, _^_, _≤_, _<_}
+use mathlib.Core.Path.{_≡_, refl, sym, ap, ap₂, _∙_, subst}
 use mathlib.Core.List.{List, _++_}
 use mathlib.Core.Option.{Option, some}
 use native.Mathlib.Omega.{arith}
+use native.Mathlib.Nat.{mod-eq-of-lt}
 use lib.ListN.{length, drop}
 use borrow.Author.Tests.{lt-ltb, le-ltb}
 use Rattle.refusals.specs.declared.Refusal.{Refusal}
@@ -38,9 +39,9 @@ use Rattle.analyser.specs.Answers.{Answer, reported, ofVerdict, ofReadin
 use Rattle.analyser.specs.Answers as answers
 use Rattle.analyser.specs.declared.Answer as code
 use Rattle.analyser.specs.declared.Answer.the-variants.{Reported, Refused}
-use Rattle.analyser.specs.Functions.{answerOf, routineIn, Printable, Modest, wordOf, Tells}
+use Rattle.analyser.specs.Functions.{answerOf, routineIn, Printable, Modest, wordOf, Tells, AnswersTold}
 use Rattle.analyser.specs.Promises.{SafeReports, ExactReports, RunsWithin}
-use Rattle.analyser.proofs.AnswerLaws.{reports-kept, reports-fit, filled-in-runs, bound-reports-some, run-reports-some}
+use Rattle.analyser.proofs.AnswerLaws.{reports-kept, reports-fit, filled-in-runs, bound-reports-some, run-reports-some, places-small}
 
 module _ (x : Routine) (l : Limited x) where
   -- a routine starts at its first address
@@ -194,13 +195,13 @@ module _ (text : List ℕ) (n : ℕ) where
 
   -- the promises
   pub safe-reports : SafeReports text n
-  safe-reports bs e = let k = reports-kept text n bs e in (k .routine, k .report, record { reads = k .reads; accepts = k .accepts; prints = k .prints }, k .safe)
+  safe-reports bs e = let k = reports-kept text n bs e in (k .routine, k .report, k .is, k .safe)
 
   pub exact-reports : ExactReports text n
-  exact-reports bs e = let k = reports-kept text n bs e in (k .routine, k .report, record { reads = k .reads; accepts = k .accepts; prints = k .prints }, k .exact)
+  exact-reports bs e = let k = reports-kept text n bs e in (k .routine, k .report, k .is, k .exact)
 
   pub runs-within : RunsWithin text n
-  runs-within x y q a h e l = filled-in-runs x y q a h text n e l
+  runs-within = filled-in-runs text n
 
 -- ---- for C
 
@@ -227,14 +228,70 @@ pub word-reported : (a : code.Answer) (n : ℕ) → a ≡ Reported n → n ≡ w
 unfolding wordOf
 word-reported a n e = rw e refl
 
+-- a refusal by its number and its place
+abbrev refusalAt : ℕ → ℕ → Refusal
+refusalAt n p =
+    getD
+    (refusals.ReportMemory ∷ refusals.TextLength ∷ refusals.Layout p ∷ refusals.OutOfRange p ∷ refusals.BadName p ∷ refusals.Unpriced p
+    ∷ refusals.NoTarget p ∷ refusals.Stuck p ∷ refusals.Openings p ∷ refusals.Spent p ∷ refusals.ReportMemory ∷ refusals.UnknownCell p ∷ [])
+    n refusals.ReportMemory
+
+refusal-told : (r : Refusal) → r ≡ refusalAt (number r) (place r)
+unfolding number place
+refusal-told refusals.ReportMemory = refl
+refusal-told refusals.TextLength = refl
+refusal-told (refusals.Layout n) = refl
+refusal-told (refusals.OutOfRange n) = refl
+refusal-told (refusals.BadName n) = refl
+refusal-told (refusals.Unpriced n) = refl
+refusal-told (refusals.NoTarget n) = refl
+refusal-told (refusals.UnknownCell n) = refl
+refusal-told (refusals.Stuck a) = refl
+refusal-told (refusals.Openings a) = refl
+refusal-told (refusals.Spent a) = refl
+
+-- a report of 1 to 128 bytes, or a refusal whose place is at most 62,000
+record WithinLimits (a : Answer) : Type 0 where
+  report : (bs : List ℕ) → a ≡ reported bs → (1 ≤ length bs) × (length bs ≤ 128)
+  refusal : (r : Refusal) → a ≡ answers.refused r → place r ≤ 62000
+
+bound-limits : (text : List ℕ) (n : ℕ) → WithinLimits (boundAnswer text n)
+bound-limits text n = record { report = λ bs e. (bound-reports-some text n bs e, reports-fit .0 text n bs e .0); refusal = places-small .0 text n }
+
+run-limits : (text : List ℕ) (n : ℕ) → WithinLimits (runAnswer text n)
+run-limits text n = record { report = λ bs e. (run-reports-some text n bs e, reports-fit .1 text n bs e .0); refusal = places-small .1 text n }
+
 -- what holds of the number
-tells : (a : Answer) → ((bs : List ℕ) → a ≡ reported bs → (1 ≤ length bs) × (length bs ≤ 128)) → (w : ℕ) → w ≡ wordOf (answerOf a) → Tells a w
+tells : (a : Answer) → WithinLimits a → (w : ℕ) → w ≡ wordOf (answerOf a) → Tells a w
 unfolding wordOf answerOf
-tells a h w e = record { report = λ bs q. let k = h bs q in rw (e, q) k; refusal = λ r q. rw (e, q) (omega arith) }
+tells a h w e = record {
+  report = λ bs q. let k = h .report bs q in rw (e, q) k;
+  refusal = λ r q. rw (e, q) (omega arith);
+  place = λ r q. let k = h .refusal r q in let z : place r % 4294967296 ≡ place r = mod-eq-of-lt (omega arith) in (omega arith, rw (e, q, z) refl);
+}
+
+-- two answers with one number
+told : (a b : Answer) → WithinLimits a → WithinLimits b → wordOf (answerOf a) ≡ wordOf (answerOf b) → answerOf a ≡ answerOf b
+unfolding wordOf answerOf
+told (reported bs) (reported cs) h k e = ap Reported e
+told (reported bs) (answers.refused r) h k e = let l = h .report bs refl in absurd (omega arith)
+told (answers.refused r) (reported bs) h k e = let l = k .report bs refl in absurd (omega arith)
+told (answers.refused r) (answers.refused s) h k e =
+    let l = h .refusal r refl in
+    let m = k .refusal s refl in
+    let f : number r ≡ number s = omega arith in
+    let g : place r ≡ place s = omega arith in
+    ap Refused (refusal-told r ∙ ap₂ refusalAt f g ∙ sym (refusal-told s))
+
+pub answers-told : AnswersTold
+answers-told = (
+  λ text text′ n n′. told (boundAnswer text n) (boundAnswer text′ n′) (bound-limits text n) (bound-limits text′ n′),
+  λ text text′ n n′. told (runAnswer text n) (runAnswer text′ n′) (run-limits text n) (run-limits text′ n′),
+)
 
 module _ (text : List ℕ) (n : ℕ) where
   pub bound-tells : (w : ℕ) → w ≡ wordOf (answerOf (boundAnswer text n)) → Tells (boundAnswer text n) w
-  bound-tells = tells (boundAnswer text n) (λ bs e. (bound-reports-some text n bs e, reports-fit .0 text n bs e .0))
+  bound-tells = tells (boundAnswer text n) (bound-limits text n)
 
   pub run-tells : (w : ℕ) → w ≡ wordOf (answerOf (runAnswer text n)) → Tells (runAnswer text n) w
-  run-tells = tells (runAnswer text n) (λ bs e. (run-reports-some text n bs e, reports-fit .1 text n bs e .0))
+  run-tells = tells (runAnswer text n) (run-limits text n)

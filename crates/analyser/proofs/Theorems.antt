@@ -23,7 +23,9 @@ use Rattle.bounds.proofs.RunVerdictLaws as run-verdict-laws
 use Rattle.bounds.proofs.Interrupted as example
 use Rattle.analyser.specs.Answers.{reported}
 use Rattle.analyser.specs.Promises as answers
+use Rattle.analyser.specs.Functions as functions
 use Rattle.analyser.proofs.AnswerLaws as answer-laws
+use Rattle.analyser.proofs.FunctionLaws as function-laws
 
 -- ---- the erasure order and the step
 
@@ -104,6 +106,13 @@ passing-is-ascii = answer-laws.passing-is-ascii
 
 pub reports-fit : answers.ReportsFit
 reports-fit = answer-laws.reports-fit
+
+pub places-small : answers.PlacesSmall
+places-small = answer-laws.places-small
+
+-- the number that C gets tells the answer
+pub answers-told : functions.AnswersTold
+answers-told = function-laws.answers-told
 
 pub written-reads-back : answers.WrittenReadsBack
 written-reads-back = decimal-read

@@ -1,5 +1,5 @@
 -- What the public functions answer and write, in terms of the definitions.
-use Prim.Native.Nat.{ℕ, _+_, _*_, _%_, _≤_, _<_}
+use Prim.Native.Nat.{ℕ, _+_, _*_, _%_, _≤_}
 use mathlib.Core.Path.{_≡_}
 use mathlib.Core.List.{List}
 use lib.ListN.{length}
@@ -11,7 +11,7 @@ use Rattle.routine.specs.Routine as readings
 use Rattle.reader.specs.declared.Routine.{Routine}
 use Rattle.reader.specs.Reader.{codes, operands, cycles, words, sizes, answers}
 use Rattle.findings.specs.declared.Found.{Found}
-use Rattle.analyser.specs.Answers.{Answer, reported, refused}
+use Rattle.analyser.specs.Answers.{Answer, reported, refused, boundAnswer, runAnswer}
 use Rattle.analyser.specs.declared.Answer as code
 use Rattle.analyser.specs.declared.Answer.the-variants.{Reported, Refused}
 
@@ -47,7 +47,14 @@ unfoldable pub wordOf : code.Answer → ℕ
 wordOf (Reported n) = n
 wordOf (Refused r) = 9223372036854775808 + number r * 4294967296 + place r % 4294967296
 
--- what holds of it: a report's is from 1 to 128, a refusal's 2 ^ 63 or more
+-- what holds of it: a report's is from 1 to 128, a refusal's 2 ^ 63 or more, with its whole place
 pub record Tells (a : Answer) (w : ℕ) : Type 0 where
   pub report : (bs : List ℕ) → a ≡ reported bs → (1 ≤ w) × (w ≤ 128)
   pub refusal : (r : Refusal) → a ≡ refused r → 9223372036854775808 ≤ w
+  pub place : (r : Refusal) → a ≡ refused r → (place r < 4294967296) × (w ≡ 9223372036854775808 + number r * 4294967296 + place r)
+
+-- two answers with one number are the same refusal, or reports of one length
+abbrev pub AnswersTold : Type 0
+AnswersTold =
+    ((text text′ : List ℕ) (n n′ : ℕ) → wordOf (answerOf (boundAnswer text n)) ≡ wordOf (answerOf (boundAnswer text′ n′)) → answerOf (boundAnswer text n) ≡ answerOf (boundAnswer text′ n′))
+    × ((text text′ : List ℕ) (n n′ : ℕ) → wordOf (answerOf (runAnswer text n)) ≡ wordOf (answerOf (runAnswer text′ n′)) → answerOf (runAnswer text n) ≡ answerOf (runAnswer text′ n′))

@@ -6,6 +6,8 @@ use Prim.Native.Nat.{ℕ, _≤_}
 use lib.Dec.{ltb}
 use lib.IntN.{ℤ, pos}
 use lib.ListN.{length, take}
+use Rattle.refusals.specs.declared.Refusal.{Refusal}
+use Rattle.refusals.specs.Refusals.{place}
 use Rattle.text.specs.Text.{lines, all}
 use Rattle.text.specs.declared.Numeral.the-variants.{Number as number}
 use Rattle.text.specs.Decimal.{numeral, decimal}
@@ -19,24 +21,19 @@ use Rattle.routine.specs.Layout.{layout, body, codeLines}
 use Rattle.routine.specs.Routine.{Routine, readBound, readRun}
 use Rattle.routine.specs.Routine as readings
 use Rattle.report.specs.Report.{boundText, runText}
-use Rattle.analyser.specs.Answers.{reported, memoryLimit, boundAnswer, runAnswer}
+use Rattle.analyser.specs.Answers.{reported, refused, memoryLimit, boundAnswer, runAnswer}
 
--- the report bs of the bound on a text: demands 2 and 3 in terms of the file
-pub record Kept (text bs : List ℕ) : Type 0 where
-  pub routine : Routine
-  pub report : Report
-  pub reads : readBound text ≡ readings.routine routine
-  pub accepts : bound (routine .code) (routine .budget) (routine .start) ≡ accepted report
-  pub prints : bs ≡ boundText (routine .tick) report
-  pub exact : Exact (routine .code) openingLimit (routine .start) report
-  -- "starts from any memory that has the file's cells and no others, agrees with each known one and holds some number in each unknown
-  -- one; it is fed any list of input answers and interrupted after any number of steps, 0 included"
-  pub safe : (s : State) → Cellwise Allowed s (routine .start) → (answers : List ℤ) (n : ℕ) →
-      Safe (routine .code) (bound (routine .code) (routine .budget)) report n (after (routine .code) n (begin s answers))
+-- the bytes bs are the report q of the routine x that the text holds
+pub record Reports (text bs : List ℕ) (x : Routine) (q : Report) : Type 0 where
+  pub reads : readBound text ≡ readings.routine x
+  pub accepts : bound (x .code) (x .budget) (x .start) ≡ accepted q
+  pub prints : bs ≡ boundText (x .tick) q
 
--- every report of the bound is kept
-abbrev pub ReportsKept : Type 0
-ReportsKept = (text : List ℕ) (n : ℕ) (bs : List ℕ) → boundAnswer text n ≡ reported bs → Kept text bs
+-- demand 3, of the routine x under its report q: "starts from any memory that has the file's cells and no others, agrees with each known
+-- one and holds some number in each unknown one; it is fed any list of input answers and interrupted after any number of steps, 0 included"
+abbrev pub SafeRuns : Routine → Report → Type 0
+SafeRuns x q =
+    (s : State) → Cellwise Allowed s (x .start) → (answers : List ℤ) (n : ℕ) → Safe (x .code) (bound (x .code) (x .budget)) q n (after (x .code) n (begin s answers))
 
 -- two files: y is x with numbers for its `?`, and with any answers
 pub record FilledIn (y x : Routine) : Type 0 where
@@ -44,12 +41,40 @@ pub record FilledIn (y x : Routine) : Type 0 where
   pub code : y .code ≡ x .code
   pub start : Cellwise Allowed (y .start) (x .start)
 
+-- ---- as the public functions promise it, of a text and of n lent bytes
+
+-- demand 3
+abbrev pub SafeReports : List ℕ → ℕ → Type 0
+SafeReports text n = (bs : List ℕ) → boundAnswer text n ≡ reported bs → (x : Routine) × (q : Report) × Reports text bs x q × SafeRuns x q
+
+-- demand 2
+abbrev pub ExactReports : List ℕ → ℕ → Type 0
+ExactReports text n =
+    (bs : List ℕ) → boundAnswer text n ≡ reported bs → (x : Routine) × (q : Report) × Reports text bs x q × Exact (x .code) openingLimit (x .start) q
+
 -- the run of a file that fills in a bounded one is refused by neither 7 nor 9 and is within the report's four figures
-abbrev pub FilledInRuns : Type 0
-FilledInRuns =
-    (x y : Routine) (q : Report) → bound (x .code) (x .budget) (x .start) ≡ accepted q → FilledIn y x →
-    (text : List ℕ) (n : ℕ) → readRun text ≡ readings.routine y → memoryLimit ≤ n →
+abbrev pub RunsWithin : List ℕ → ℕ → Type 0
+RunsWithin text n =
+    (x y : Routine) (q : Report) → bound (x .code) (x .budget) (x .start) ≡ accepted q → FilledIn y x → readRun text ≡ readings.routine y → memoryLimit ≤ n →
     (r : Report) × (run (y .code) (y .budget) (y .start) (y .answers) ≡ accepted r) × (runAnswer text n ≡ reported (runText r)) × NoGreater r q
+
+-- ---- of all texts
+
+-- the report bs of the bound on a text: demands 2 and 3
+pub record Kept (text bs : List ℕ) : Type 0 where
+  pub routine : Routine
+  pub report : Report
+  pub is : Reports text bs routine report
+  pub exact : Exact (routine .code) openingLimit (routine .start) report
+  pub safe : SafeRuns routine report
+
+-- every report of the bound is kept
+abbrev pub ReportsKept : Type 0
+ReportsKept = (text : List ℕ) (n : ℕ) (bs : List ℕ) → boundAnswer text n ≡ reported bs → Kept text bs
+
+-- every run of a file that fills in a bounded one is within its report
+abbrev pub FilledInRuns : Type 0
+FilledInRuns = (text : List ℕ) (n : ℕ) → RunsWithin text n
 
 -- "Once a file passes 1 to 6, the bound does not depend on ANSWER.": two files with the same lines up to the last code line
 abbrev pub AnswersIrrelevant : Type 0
@@ -68,33 +93,12 @@ ReportsFit =
     ((text : List ℕ) (n : ℕ) (bs : List ℕ) → boundAnswer text n ≡ reported bs → (length bs ≤ memoryLimit) × (memoryLimit ≤ n))
     × ((text : List ℕ) (n : ℕ) (bs : List ℕ) → runAnswer text n ≡ reported bs → (length bs ≤ memoryLimit) × (memoryLimit ≤ n))
 
+-- no place of a refusal is above 62,000: a line is 32,769 at most, and the code and its targets are within 0 to 62,000
+abbrev pub PlacesSmall : Type 0
+PlacesSmall =
+    ((text : List ℕ) (n : ℕ) (r : Refusal) → boundAnswer text n ≡ refused r → place r ≤ 62000)
+    × ((text : List ℕ) (n : ℕ) (r : Refusal) → runAnswer text n ≡ refused r → place r ≤ 62000)
+
 -- reading a decimal number that was written gives it back
 abbrev pub WrittenReadsBack : Type 0
 WrittenReadsBack = (n : ℕ) → numeral (decimal n) ≡ number (pos n)
-
--- ---- the same as the public functions promise it, of a text and of n lent bytes
-
--- the bytes bs are the report q of the routine x that the text holds
-pub record Reports (text bs : List ℕ) (x : Routine) (q : Report) : Type 0 where
-  pub reads : readBound text ≡ readings.routine x
-  pub accepts : bound (x .code) (x .budget) (x .start) ≡ accepted q
-  pub prints : bs ≡ boundText (x .tick) q
-
--- demand 3: "starts from any memory that has the file's cells and no others, agrees with each known one and holds some number in each
--- unknown one; it is fed any list of input answers and interrupted after any number of steps, 0 included"
-abbrev pub SafeReports : List ℕ → ℕ → Type 0
-SafeReports text n =
-    (bs : List ℕ) → boundAnswer text n ≡ reported bs →
-    (x : Routine) × (q : Report) × Reports text bs x q
-    × ((s : State) → Cellwise Allowed s (x .start) → (answers : List ℤ) (m : ℕ) → Safe (x .code) (bound (x .code) (x .budget)) q m (after (x .code) m (begin s answers)))
-
--- demand 2
-abbrev pub ExactReports : List ℕ → ℕ → Type 0
-ExactReports text n =
-    (bs : List ℕ) → boundAnswer text n ≡ reported bs → (x : Routine) × (q : Report) × Reports text bs x q × Exact (x .code) openingLimit (x .start) q
-
--- where the bound accepts the file with `?` for some cells, its run is within the figures
-abbrev pub RunsWithin : List ℕ → ℕ → Type 0
-RunsWithin text n =
-    (x y : Routine) (q : Report) → bound (x .code) (x .budget) (x .start) ≡ accepted q → FilledIn y x → readRun text ≡ readings.routine y → memoryLimit ≤ n →
-    (r : Report) × (run (y .code) (y .budget) (y .start) (y .answers) ≡ accepted r) × (runAnswer text n ≡ reported (runText r)) × NoGreater r q

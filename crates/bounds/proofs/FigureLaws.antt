@@ -10,26 +10,22 @@ use lib.ListN.{length}
 use Rattle.cells.specs.Try.{Try, stuck, done}
 use Rattle.cells.specs.declared.Cell.{Cell}
 use Rattle.cells.specs.Cells.{unknown}
-use Rattle.machine.specs.Machine.{State, Price, Instruction, Code, fetch, Next, stops, goes, opens, stackLimit, height, step}
-use Rattle.machine.proofs.PriceLaws.{OnePrice, is-stuck, stops-at, goes-at, opens-at, step-price}
-use Rattle.machine.proofs.HeightLaws.{Low, LowNext, goes-low, opens-low, step-low}
+use Rattle.machine.specs.Machine.{State, Instruction, Code, fetch, Next, stops, goes, opens, stackLimit, height, step}
+use Rattle.machine.proofs.PriceLaws.{AtMost, OnePrice, is-stuck, stops-at, goes-at, opens-at, step-price}
+use Rattle.machine.proofs.LeadLaws.{Leads, goes-to, opens-to}
+use Rattle.machine.proofs.HeightLaws.{Low, step-low}
 use Rattle.bounds.specs.Tree.{Tree, expand, tree, cycles, words, depth, size, path, worse, Decision, Report, report, accepted, openingLimit, explore, bound, verdict}
 use Rattle.bounds.specs.Run.{Run, begin, answer, moved, leads, once, after, judgeRun, run}
 use Rattle.bounds.proofs.TreeLaws.{accepted-complete}
-
--- a price of at most C cycles and W words
-pub record Cheap (C W : ℕ) (p : Price) : Type 0 where
-  pub cycles : p .cycles ≤ C
-  pub words : p .words ≤ W
 
 module _ (C W : ℕ) where
   pub record Figures (t : Tree) : Type 0 where
     pub cycles : cycles t ≤ C * size t
     pub words : words t ≤ W * size t
 
-  module _ (act : State → Try Next) (cheap : (s : State) → OnePrice (Cheap C W) (act s)) where
+  module _ (act : State → Try Next) (cheap : (s : State) → OnePrice (AtMost C W) (act s)) where
     expand-figures : (below : ℕ → State → Tree) (ih : (o : ℕ) (s : State) → Figures (below o s))
-        (o : ℕ) (s : State) {m : Try Next} → OnePrice (Cheap C W) m → Figures (expand below o s m)
+        (o : ℕ) (s : State) {m : Try Next} → OnePrice (AtMost C W) m → Figures (expand below o s m)
     unfolding expand cycles words size
     expand-figures below ih o s is-stuck = omega arith
     expand-figures below ih o s (stops-at h) = omega (arith, h)
@@ -67,19 +63,19 @@ tree-path act (suc f) o s = expand-path (tree act f) (tree-path act f) o s (act 
 
 module _ (c : Code) where
   expand-low : (below : ℕ → State → Tree) (ih : (o : ℕ) (s : State) → Low s → depth (below o s) ≤ stackLimit)
-      (o : ℕ) (s : State) → Low s → (m : Try Next) → ((n : Next) → m ≡ done n → LowNext n) → depth (expand below o s m) ≤ stackLimit
+      (o : ℕ) (s : State) → Low s → (m : Try Next) → ((n : Next) → m ≡ done n → Leads Low n) → depth (expand below o s m) ≤ stackLimit
   unfolding expand depth
   expand-low below ih o s h stuck k = h .low
   expand-low below ih o s h (done (stops p)) k = h .low
   expand-low below ih o s h (done (goes p t)) k = go (k (goes p t) refl)
     where
-      go : LowNext (goes p t) → max (height s) (depth (below o t)) ≤ stackLimit
-      go (goes-low l) = omega (arith, h .low, ih o t l)
+      go : Leads Low (goes p t) → max (height s) (depth (below o t)) ≤ stackLimit
+      go (goes-to l) = omega (arith, h .low, ih o t l)
   expand-low below ih zero s h (done (opens p t q u)) k = h .low
   expand-low below ih (suc o) s h (done (opens p t q u)) k = go (k (opens p t q u) refl)
     where
-      go : LowNext (opens p t q u) → max (height s) (max (depth (below o t)) (depth (below o u))) ≤ stackLimit
-      go (opens-low l m) = omega (arith, h .low, ih o t l, ih o u m)
+      go : Leads Low (opens p t q u) → max (height s) (max (depth (below o t)) (depth (below o u))) ≤ stackLimit
+      go (opens-to l m) = omega (arith, h .low, ih o t l, ih o u m)
 
   tree-low : (r : Cell) (f o : ℕ) (s : State) → Low s → depth (tree (step c r) f o s) ≤ stackLimit
   unfolding tree depth
@@ -94,13 +90,13 @@ pub record Bounded (C W budget : ℕ) (q : Report) : Type 0 where
   pub steps : q .steps ≤ budget
   pub path : length (q .path) ≤ openingLimit
 
-module _ (C W : ℕ) (c : Code) (cheap : (a : ℕ) (i : Instruction) → fetch c a ≡ done i → Cheap C W (i .price)) where
+module _ (C W : ℕ) (c : Code) (cheap : (a : ℕ) (i : Instruction) → fetch c a ≡ done i → AtMost C W (i .price)) where
   pub bound-bounded : (budget : ℕ) (s : State) → Low s → (q : Report) → bound c budget s ≡ accepted q → Bounded C W budget q
   unfolding bound explore verdict report
   bound-bounded budget s h q a =
       let t = tree (step c unknown) budget openingLimit s in
       let (w, le, e) = accepted-complete t budget (report t) q a in
-      let k = tree-figures C W (step c unknown) (λ s. step-price (Cheap C W) c cheap unknown s) budget openingLimit s in
+      let k = tree-figures C W (step c unknown) (λ s. step-price (AtMost C W) c cheap unknown s) budget openingLimit s in
       rw (← e) (record {
         cycles = k .cycles;
         words = k .words;
@@ -120,7 +116,7 @@ module _ (C W : ℕ) (c : Code) (cheap : (a : ℕ) (i : Instruction) → fetch c
   longer : (n : ℕ) (r : Run) → Running n r → Running (suc n) r
   longer n r k = record { low = k .low; cycles = k .cycles; words = k .words; depth = k .depth; steps = omega (arith, k .steps) }
 
-  moved-running : (n : ℕ) (r : Run) (rest : List ℤ) (b : Bool) {m : Try Next} → OnePrice (Cheap C W) m → ((x : Next) → m ≡ done x → LowNext x) → Running n r → Running (suc n) (moved r rest b m)
+  moved-running : (n : ℕ) (r : Run) (rest : List ℤ) (b : Bool) {m : Try Next} → OnePrice (AtMost C W) m → ((x : Next) → m ≡ done x → Leads Low x) → Running n r → Running (suc n) (moved r rest b m)
   unfolding moved
   moved-running n r rest true p l k = longer n r k
   moved-running n r rest false is-stuck l k = longer n r k
@@ -128,8 +124,8 @@ module _ (C W : ℕ) (c : Code) (cheap : (a : ℕ) (i : Instruction) → fetch c
       record { low = k .low; cycles = omega (arith, h, k .cycles); words = omega (arith, h, k .words); depth = k .depth; steps = omega (arith, k .steps) }
   moved-running n r rest false (goes-at {p} {t} h) l k = go (l (goes p t) refl)
     where
-      go : LowNext (goes p t) → Running (suc n) (moved r rest false (done (goes p t)))
-      go (goes-low g) =
+      go : Leads Low (goes p t) → Running (suc n) (moved r rest false (done (goes p t)))
+      go (goes-to g) =
           record { low = g; cycles = omega (arith, h, k .cycles); words = omega (arith, h, k .words); depth = omega (arith, g .low, k .depth); steps = omega (arith, k .steps) }
   moved-running n r rest false (opens-at h) l k = longer n r k
 
@@ -139,7 +135,7 @@ module _ (C W : ℕ) (c : Code) (cheap : (a : ℕ) (i : Instruction) → fetch c
   after-running (suc n) r k =
       let s = after c n r in
       let i = after-running n r k in
-      moved-running n s _ (s .stopped) (step-price (Cheap C W) c cheap (answer (s .answers)) (s .state)) (λ x e. step-low c (answer (s .answers)) (s .state) x e (i .low)) i
+      moved-running n s _ (s .stopped) (step-price (AtMost C W) c cheap (answer (s .answers)) (s .state)) (λ x e. step-low c (answer (s .answers)) (s .state) x e (i .low)) i
 
   judged : (budget : ℕ) (r : Run) (b : Bool) → r .stopped ≡ b → Running budget r → (q : Report) → judgeRun budget r ≡ accepted q → Bounded C W budget q
   unfolding judgeRun

@@ -11,3 +11,4 @@ pub mod RunVerdictLaws
 pub mod PromiseLaws
 pub mod FigureLaws
 pub mod Interrupted
+pub mod PlaceLaws

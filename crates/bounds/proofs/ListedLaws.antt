@@ -9,7 +9,7 @@ use Rattle.cells.specs.Try.{Try, stuck, done}
 use Rattle.machine.specs.Machine.{State, Price, Next, stops, goes, opens}
 use Rattle.bounds.specs.Tree.{Tree, expand, tree, size, Report, report, Verdict, accepted, refused, verdict, explore}
 use Rattle.bounds.specs.Traces.{Finite, Comes, Listed}
-use Rattle.bounds.proofs.TreeLaws.{Complete, accepted-complete, complete-accepted}
+use Rattle.bounds.proofs.TreeLaws.{Complete, contradiction, accepted-complete, complete-accepted}
 use Rattle.bounds.proofs.ExploreLaws.{before, join, both-ways, explore-spent, explore-stuck, explore-stops, explore-goes, explore-over, explore-opens}
 
 module _ (act : State → Try Next) where
@@ -91,18 +91,15 @@ module _ (act : State → Try Next) where
       let h : b ≡ b - 0 = omega arith in
       lift 0 o o′ b s t (omega arith) (λ k p v c. let e : suc k ≡ suc (0 + k) = omega arith in subst (λ i. Comes act o′ s i p v) e (f k p v c)) (rw h at l)
 
-  clash : {A : Type 0} {x : Refusal} {r : Report} → accepted r ≡ refused x → A
-  clash e = let z : _≡_ {A = ℕ} 0 1 = cc in absurd (omega arith)
-
-  unbefore : (s : State) (p : Price) {x : Refusal} (v : Verdict) → before s p v ≡ refused x → v ≡ refused x
+  before-refused : (s : State) (p : Price) {x : Refusal} (v : Verdict) → before s p v ≡ refused x → v ≡ refused x
   unfolding before
-  unbefore s p (accepted r) e = clash e
-  unbefore s p (refused y) e = e
+  before-refused s p (accepted r) e = contradiction _ _ (sym e)
+  before-refused s p (refused y) e = e
 
-  unjoin : (s : State) (p : Price) (r : Report) (q : Price) {x : Refusal} (v : Verdict) → join s p r q v ≡ refused x → v ≡ refused x
+  join-refused : (s : State) (p : Price) (r : Report) (q : Price) {x : Refusal} (v : Verdict) → join s p r q v ≡ refused x → v ≡ refused x
   unfolding join
-  unjoin s p r q (accepted r′) e = clash e
-  unjoin s p r q (refused y) e = e
+  join-refused s p r q (accepted r′) e = contradiction _ _ (sym e)
+  join-refused s p r q (refused y) e = e
 
   -- n bounds the budget: the second way of a branch has what the first left of it
   abbrev Within : ℕ → Type 0
@@ -116,15 +113,15 @@ module _ (act : State → Try Next) where
       directly o (suc o) b s t (λ k p v c. Comes.not-taken e c) (ih b o t x le (rw h at f))
   by-ways n ih b o s t u p q x le e (accepted r) f a =
       let (d, fits) = accepted-finite b o t r f in
-      lift (r .steps) o (suc o) b s u fits (λ k p v c. Comes.taken e d c) (ih (b - r .steps) o u x (omega arith) (unjoin s p r q (explore act o (b - r .steps) u) a))
+      lift (r .steps) o (suc o) b s u fits (λ k p v c. Comes.taken e d c) (ih (b - r .steps) o u x (omega arith) (join-refused s p r q (explore act o (b - r .steps) u) a))
 
   by-step : (n : ℕ) → Within n → (b o : ℕ) (s : State) (x : Refusal) → b ≤ n → (m : Try Next) → act s ≡ m → explore act o (suc b) s ≡ refused x → Listed act o (suc b) s x
   by-step n ih b o s x le stuck e a =
       let h : x ≡ Stuck (s .at) = cc (explore-stuck act b o s e) in
       rw h (Listed.is-stuck Comes.here (omega arith) e)
-  by-step n ih b o s x le (done (stops p)) e a = clash (sym (explore-stops act b o s p e) ∙ a)
+  by-step n ih b o s x le (done (stops p)) e a = contradiction _ _ (sym a ∙ explore-stops act b o s p e)
   by-step n ih b o s x le (done (goes p t)) e a =
-      directly o o b s t (λ k p v c. Comes.next e c) (ih b o t x le (unbefore s p (explore act o b t) (sym (explore-goes act b o s t p e) ∙ a)))
+      directly o o b s t (λ k p v c. Comes.next e c) (ih b o t x le (before-refused s p (explore act o b t) (sym (explore-goes act b o s t p e) ∙ a)))
   by-step n ih b zero s x le (done (opens p t q u)) e a =
       let h : x ≡ Openings (s .at) = cc (explore-over act b s t u p q e) in
       rw h (Listed.opens-too-many Comes.here (omega arith) e)

@@ -128,8 +128,9 @@ unfolding total wordSum
 word-total [] = refl
 word-total (m ∷ ms) = let h = word-total ms in omega arith
 
-renamed : {P : List Move → Type 0} {f h : List Move → ℕ} {k l : ℕ} → ((ms : List Move) → f ms ≡ h ms) → k ≡ l → LargestOver P f k → LargestOver P h l
-renamed e d r = record {
+-- the same figure, defined another way
+same-largest : {P : List Move → Type 0} {f h : List Move → ℕ} {k l : ℕ} → ((ms : List Move) → f ms ≡ h ms) → k ≡ l → LargestOver P f k → LargestOver P h l
+same-largest e d r = record {
   witness = r .witness;
   path = r .path;
   attains = omega (arith, e (r .witness), r .attains, d);
@@ -138,10 +139,10 @@ renamed e d r = record {
 
 module _ (act : State → Try Next) where
   pub tree-costliest : (f o : ℕ) (s : State) → Complete (tree act f o s) → LargestOver (Path act s) cost (cycles (tree act f o s))
-  tree-costliest f o s w = renamed cost-total (cycles-largest (tree act f o s)) (tree-largest act cyclesOf f o s w)
+  tree-costliest f o s w = same-largest cost-total (cycles-largest (tree act f o s)) (tree-largest act cyclesOf f o s w)
 
   pub tree-wordiest : (f o : ℕ) (s : State) → Complete (tree act f o s) → LargestOver (Path act s) wordSum (words (tree act f o s))
-  tree-wordiest f o s w = renamed word-total (words-largest (tree act f o s)) (tree-largest act wordsOf f o s w)
+  tree-wordiest f o s w = same-largest word-total (words-largest (tree act f o s)) (tree-largest act wordsOf f o s w)
 
   -- the states reached from s, by what its step leads to
   stops-height : {s v : State} {p : Price} {ms : List Move} → act s ≡ done (stops p) → Trace act s ms v → height v ≡ height s

@@ -95,7 +95,7 @@ record Passed (t : Tree) (b : ℕ) (xs : List Step) (r r′ : Report) : Type 0 w
   fits : b ≡ size t + spare
   on : judge spare xs r ≡ accepted r′
 
-contradiction : {A : Type 0} (x : Refusal) (r : Report) → refused x ≡ accepted r → A
+pub contradiction : {A : Type 0} (x : Refusal) (r : Report) → refused x ≡ accepted r → A
 contradiction x r e = let z : _≡_ {A = ℕ} 0 1 = cc in absurd (omega arith)
 
 passes : (t : Tree) (b : ℕ) (xs : List Step) (r r′ : Report) → judge b (steps t ++ xs) r ≡ accepted r′ → Passed t b xs r r′

@@ -89,14 +89,6 @@ map₂-allowed f same-handle q = by-stuck
 
 -- conditions and handles
 
-test-self : (v : Value) → Covered (Narrower (Unit {0})) (test v) (test v)
-unfolding test
-test-self (Number (pos zero)) = both zeros
-test-self (Number (pos (suc n))) = both nonzeros
-test-self (Number (negsuc n)) = both nonzeros
-test-self Unknown = both (unknowns tt)
-test-self (Handle k) = by-stuck
-
 test-erased : {two : Type 0} (n : ℤ) → Covered (Narrower two) (test (Number n)) (test Unknown)
 unfolding test
 test-erased (pos zero) = both zero-unknown
@@ -108,6 +100,12 @@ unfolding test
 test-known (pos zero) = both zeros
 test-known (pos (suc n)) = both nonzeros
 test-known (negsuc n) = both nonzeros
+
+test-self : (v : Value) → Covered (Narrower (Unit {0})) (test v) (test v)
+unfolding test
+test-self (Number n) = test-known n
+test-self Unknown = both (unknowns tt)
+test-self (Handle k) = by-stuck
 
 condition-refines : {a a′ : Cell} → Refines a a′ → Covered (Narrower (Unit {0})) (condition a) (condition a′)
 unfolding condition

@@ -3,13 +3,13 @@ use Prim.Native.Nat.{ℕ, zero, suc, _+_, _-_, _<_, _≤_}
 use mathlib.Core.Path.{_≡_, refl, sym, ap, ap₂, subst, _∙_}
 use mathlib.Core.Bool.{Bool, true, false, cond, _&&_}
 use mathlib.Core.List.{List, [], _∷_}
-use mathlib.Core.Option.{Option, some}
+use mathlib.Core.Option.{Option}
 use native.Mathlib.Omega.{arith}
 use native.Mathlib.Nat.{le-of-suc-le-suc, not-suc-le-zero, eq-or-lt-of-le}
 use mathlib.Core.Logic.{⊎-elim}
 use lib.Dec.{eqb, leb, ltb}
 use lib.IntN.{ℤ, pos, negsuc, natAbs, _+ℤ_}
-use lib.ListN.{length, getD, getElem?}
+use lib.ListN.{length, getElem?}
 use lib.Signed.{mag, leZ, ltZ}
 use mir.Syntax.{w64}
 use mir.Val.{SFits, ofZ, toZ}
@@ -27,15 +27,11 @@ use Rattle.instructions.proofs.ColumnLaws.{column-at}
 use Rattle.routine.specs.Rows.{kindNamed, argumentOf, op, onArgument, firstAddresses, atRange, value}
 use Rattle.text.proofs.TextLaws.{and-left, and-right}
 use Rattle.values.specs.Values.{Near}
-use Rattle.values.proofs.ValueLaws.{Natural, natural-within}
+use Rattle.routine.proofs.RangeLaws.{Natural, natural-within}
+use Rattle.routine.proofs.CodeLaws.{some-at}
 use Rattle.lines.proofs.LineLaws.{kind-among}
 
 -- ---- the argument that OP calls for
-
-some-at : {A : Type 0} (l : List A) (k : ℕ) (d : A) → k < length l → getElem? l k ≡ some (getD l k d)
-some-at [] k d h = absurd (not-suc-le-zero h)
-some-at (x ∷ xs) zero d h = refl
-some-at (x ∷ xs) (suc k) d h = some-at xs k d (le-of-suc-le-suc h)
 
 none-at : {A : Type 0} (l : List A) (k : ℕ) → length l ≤ k → getElem? l k ≡ Option.none
 none-at [] k h = refl

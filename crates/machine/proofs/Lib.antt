@@ -4,4 +4,7 @@ pub mod NextCovering
 pub mod StateLaws
 pub mod StepLaws
 pub mod PriceLaws
+pub mod FetchLaws
+pub mod LeadLaws
 pub mod HeightLaws
+pub mod AddressLaws

@@ -1,6 +1,6 @@
 -- Every way of a step costs the price of its instruction; so both ways of an unknown branch cost the same. Assumes nothing.
 use mathlib.Core.Path.{_≡_, refl}
-use Prim.Native.Nat.{ℕ}
+use Prim.Native.Nat.{ℕ, _≤_}
 use lib.IntN.{ℤ}
 use Rattle.cells.specs.Try.{Try, stuck, done, _>>=_}
 use Rattle.cells.specs.declared.Cell.{Cell}
@@ -11,6 +11,12 @@ use Rattle.instructions.specs.declared.Operation.{Operation}
 use Rattle.instructions.specs.declared.Operation.the-variants.{Nothing, Access, Drop, Assign, Constant, GetField, SetField, Branch, BranchIf, BranchIfNot, Call, Stop, Alter, Combine}
 use Rattle.machine.specs.Machine.{index, State, Price, Instruction, Code, fetch, Next, stops, goes, opens, ahead, ways, opposite, perform, prepare, execute, step}
 
+-- a price of at most c cycles and w words
+pub record AtMost (c w : ℕ) (p : Price) : Type 0 where
+  pub cycles : p .cycles ≤ c
+  pub words : p .words ≤ w
+
+-- what a step leads to has one price, of which P holds
 pub data OnePrice (P : Price → Type 0) : Try Next → Type 0 where
   is-stuck : OnePrice P stuck
   stops-at : {p : Price} → P p → OnePrice P (done (stops p))

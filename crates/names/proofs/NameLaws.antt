@@ -108,10 +108,10 @@ leads-last l o n m q h p = rw (cut-last 32 l n q h) (go (split 32 o) (split-some
 
 -- ---- a field's name
 
-decimal-teen : (n : ℕ) → 10 ≤ n → n < 20 → decimal n ≡ 49 ∷ (38 + n) ∷ []
+decimal-below-20 : (n : ℕ) → 10 ≤ n → n < 20 → decimal n ≡ 49 ∷ (38 + n) ∷ []
 unfolding decimal digits
-decimal-teen zero h k = absurd (omega arith)
-decimal-teen (suc m) h k =
+decimal-below-20 zero h k = absurd (omega arith)
+decimal-below-20 (suc m) h k =
     let d : suc m / 10 ≡ 1 = omega arith in
     let r : 48 + suc m % 10 ≡ 38 + suc m = omega arith in
     rw (le-ltb (suc m) 10 h, d, r) refl
@@ -130,4 +130,4 @@ short-field k n w h l = rw (lt-ltb k 8 h, lt-ltb n 16 (omega arith), decimal-one
 
 pub long-field : (k n : ℕ) (w : List ℕ) → k < 8 → 10 ≤ n → n < 16 → isField k n w ≡ equals w (66 ∷ (48 + k) ∷ 46 ∷ 49 ∷ (38 + n) ∷ [])
 unfolding isField
-long-field k n w h l u = rw (lt-ltb k 8 h, lt-ltb n 16 u, decimal-one k (omega arith), decimal-teen n l (omega arith)) refl
+long-field k n w h l u = rw (lt-ltb k 8 h, lt-ltb n 16 u, decimal-one k (omega arith), decimal-below-20 n l (omega arith)) refl

@@ -1,7 +1,7 @@
 -- Signed locals. A local holds bits, and the machine computes with what it reads back from them; that is the number itself where the
 -- number fits the width. Assumes nothing.
 use mathlib.Core.Path.{_≡_, refl, sym, ap, subst, _∙_}
-use mathlib.Core.Bool.{Bool, true, false, cond}
+use mathlib.Core.Bool.{Bool, true, false, cond, false≢true}
 use Prim.Native.Nat.{ℕ, zero, suc, _-_, _<_, _≤_}
 use native.Mathlib.Nat.{mod-eq-of-lt, lt-of-lt-of-le}
 use native.Mathlib.Omega.{arith}
@@ -71,19 +71,16 @@ sub-mag a b k h g = sub-mag-by a b k h g (ltb a b) refl
 
 -- ---- what a sum or a difference wraps to: one modulus less above the range, and one more below it
 
-never {ℓ} : {X : Type ℓ} → false ≡ true → X
-never e = absurd (let z : _≡_ {A = ℕ} 0 1 = cc in omega arith)
-
 above : (z : ℤ) → mag z < modulus → ltZ (pos (half - 1)) z ≡ true → wrap z ≡ z -ℤ pos modulus
 unfolding wrap
 above (pos n) h t =
     let k : half - 1 < n = ltb-true _ _ t in
     ap signed (mod-eq-of-lt h) ∙ signed-high n (omega arith) ∙ sym (sub-less n modulus h)
-above (negsuc n) h t = never t
+above (negsuc n) h t = absurd (false≢true t)
 
 below : (z : ℤ) → mag z < modulus → ltZ z (negsuc (half - 1)) ≡ true → wrap z ≡ z +ℤ pos modulus
 unfolding wrap
-below (pos n) h t = never t
+below (pos n) h t = absurd (false≢true t)
 below (negsuc n) h t =
     let k : half - 1 < n = ltb-true _ _ t in
     ap (λ r. signed (modulus - suc r)) (mod-eq-of-lt h) ∙ signed-low (modulus - suc n) (omega arith) ∙ sym (sub-more modulus (suc n) h)

@@ -28,7 +28,7 @@ use Rattle.states.specs.Columns.{line, lineOf, linesOf}
 use Rattle.routine.specs.Layout.{list}
 use Rattle.routine.specs.Rows.{op, arg, value, cycleCounts, wordCounts}
 use Rattle.routine.specs.Routine.{inside, argumentValue}
-use Rattle.routine.proofs.RangeLaws.{inside-small}
+use Rattle.routine.proofs.RangeLaws.{natural-inside}
 use Rattle.parts.specs.Parts.{naturalAt, PriceLines, pricesIn, instructionAs, instructionIn, Coded}
 
 -- past the table's end stands its last kind
@@ -114,7 +114,7 @@ coded-stays k n e p =
 -- a price, with the primitive's or without
 
 pub natural-small : (high : ℕ) (line : List ℕ) (i : ℕ) {n : ℕ} → n ≡ naturalAt (range 0 high) line i → n ≤ high
-natural-small high line i e = omega (arith, e, inside-small 0 high (value (getD (list line) i [])))
+natural-small high line i e = omega (arith, e, natural-inside 0 high (value (getD (list line) i [])) .below)
 
 pub with-primitive : {b : Bool} {x y m n : ℕ} → b ≡ true → m ≡ x → n ≡ y → m + n ≡ x + cond b y 0
 with-primitive {b} {x} {y} e p q = ap₂ _+_ p (q ∙ sym (ap (λ (t : Bool). cond t y 0) e))

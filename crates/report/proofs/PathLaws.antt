@@ -5,9 +5,10 @@ use mathlib.Core.List.{List, [], _∷_, _++_, map, append-assoc}
 use native.Mathlib.Omega.{arith}
 use native.Mathlib.Numerals.{add-one}
 use lib.ListN.{length, take, drop, set, length-set}
-use lib.Seq.{take-suc-set, drop-set-lt, paste-zero}
+use lib.Seq.{take-suc-set, drop-set-lt}
 use Rattle.text.specs.Text.{bytes}
 use Rattle.text.specs.Memory.{over}
+use Rattle.text.proofs.MemoryLaws.{over-none}
 use Rattle.report.specs.Report.{letter, pathText}
 use Rattle.report.specs.Decode.{decision, decode}
 use Rattle.report.proofs.DecodeLaws.{decode-none, decode-more}
@@ -31,10 +32,6 @@ path-none n h = ap pathText (decode-none n h)
 pub path-letters : (n : ℕ) → 2 ≤ n → pathText (decode n) ≡ letters n
 unfolding pathText letters
 path-letters n h = ap pathText (decode-more n h) ∙ sym (ap (map letter) (decode-more n h))
-
--- nothing is left to write
-pub over-none : (d : List ℕ) (e : ℕ) → over d e [] ≡ d
-over-none d e = sym (paste-zero d e [])
 
 -- one letter is written, and the others are left
 pub over-cons : (d : List ℕ) (e x : ℕ) (t : List ℕ) → e < length d → over (set d e x) (e + 1) t ≡ over d e (x ∷ t)

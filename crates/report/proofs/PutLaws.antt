@@ -1,13 +1,11 @@
--- Laws of the lines of the report: how long they are, by their parts, and how a line is written part by part. Assumes nothing.
-use Prim.Native.Nat.{ℕ, _+_, _≤_}
+-- Laws of the lines of the report: how long they are, by their parts, and that the report is written when its parts are. Assumes nothing.
+use Prim.Native.Nat.{ℕ, _+_}
 use mathlib.Core.Path.{_≡_, refl, ap, _∙_}
 use mathlib.Core.List.{List, [], _++_}
-use native.Mathlib.Omega.{arith}
 use lib.ListN.{length, length-append}
 use Rattle.text.specs.Text.{bytes}
 use Rattle.text.specs.Decimal.{decimal}
-use Rattle.text.specs.Memory.{over}
-use Rattle.text.proofs.MemoryLaws.{over-over, Wrote}
+use Rattle.text.proofs.MemoryLaws.{Wrote}
 use Rattle.report.specs.Report.{share, pathText, space, feed, figures, boundText, runText, refusalLine}
 use Rattle.report.specs.Decode.{decode, reportOf}
 
@@ -40,21 +38,7 @@ pub refusal-length : (number place : ℕ) → length (refusalLine number place) 
 unfolding refusalLine
 refusal-length number place = simp length-append
 
--- o is the memory d with the text r over it from `at` on, and e is where r ends
-pub record Over (d : List ℕ) (at : ℕ) (r : List ℕ) (e : ℕ) (o : List ℕ) : Type 0 where
-  pub ends : e ≡ at + length r
-  pub holds : o ≡ over d at r
-
--- one text more, as `put` and `put_decimal` ensure it
-pub over-then : {d r o : List ℕ} {at e : ℕ} → Over d at r e o → (t : List ℕ) {e′ : ℕ} {o′ : List ℕ} → (e′ ≡ e + length t) × (o′ ≡ over o e t) → e ≤ length d → Over d at (r ++ t) e′ o′
-over-then {d} {r} {o} {at} {e} w t {e′} {o′} p h =
-    record {
-      ends = rw length-append (omega (arith, w .ends));
-      holds = over-over d r t o o′ at e (omega (arith, w .ends)) (w .ends) (w .holds) (p .1);
-    }
-
--- the report is written when its parts are
 pub bound-wrote : {d o : List ℕ} {e : ℕ} (tick cycles words depth steps path n : ℕ) → n ≡ share tick cycles
-    → Wrote d ([] ++ bytes "CYCLES WORDS DEPTH STEPS SHARE PATH\n" ++ figures (reportOf cycles words depth steps 1) ++ space ++ decimal n ++ space ++ pathText (decode path) ++ feed) e o
-    → Wrote d (boundText tick (reportOf cycles words depth steps path)) e o
+    → Wrote d 0 ([] ++ bytes "CYCLES WORDS DEPTH STEPS SHARE PATH\n" ++ figures (reportOf cycles words depth steps 1) ++ space ++ decimal n ++ space ++ pathText (decode path) ++ feed) e o
+    → Wrote d 0 (boundText tick (reportOf cycles words depth steps path)) e o
 bound-wrote {d} {o} {e} tick cycles words depth steps path n q w = rw (bound-parts, ← q) w

@@ -7,7 +7,7 @@ use mathlib.Core.Option.{some}
 use native.Mathlib.Omega.{arith}
 use lib.Dec.{eqb, ltb}
 use lib.IntN.{pos, _+ℤ_}
-use lib.ListN.{length, getElem?, length-map}
+use lib.ListN.{length, getD, getElem?, length-map}
 use borrow.Author.Tests.{eqb-true, ltb-true}
 use Rattle.text.specs.Text.{words, Line, find, among}
 use Rattle.text.specs.Decimal.{numeral}
@@ -16,6 +16,7 @@ use Rattle.numbers.specs.Numbers.{same}
 use Rattle.instructions.specs.Kinds.{Kind, kindNames}
 use Rattle.instructions.specs.declared.Argument.{Argument}
 use Rattle.instructions.specs.Kinds as table
+use Rattle.instructions.specs.Columns.{kindAt}
 use Rattle.routine.specs.declared.Section.the-variants.{Primitives as primitives}
 use Rattle.routine.specs.declared.Role.the-variants.{Names as names, Code as code}
 use Rattle.routine.specs.Layout.{body, listed}
@@ -44,7 +45,6 @@ code-laid-out ls k text e =
     }
 
 pub record CodeNamed (ls : List Line) (k : ℕ) (text : List ℕ) : Type 0 where
-  pub follows : same (value (at text)) (firstAt (body ls) +ℤ pos k) ≡ true
   pub kind : among (op text) kindNames ≡ true
   pub argument : onArgument (argumentNamed (listed (names primitives) ls) (arg text)) text ≡ true
 
@@ -55,17 +55,17 @@ code-named ls k text e =
     let kind = among (op text) kindNames in
     let argument = onArgument (argumentNamed (listed (names primitives) ls) (arg text)) text in
     let e₂ = and-left (follows && kind) argument e in
-    record { follows = and-left follows kind e₂; kind = and-right follows kind e₂; argument = and-right (follows && kind) argument e }
+    record { kind = and-right follows kind e₂; argument = and-right (follows && kind) argument e }
 
-there : {A : Type 0} (xs : List A) (i : ℕ) → i < length xs → (x : A) × (getElem? xs i ≡ some x)
-there [] i h = absurd (omega arith)
-there (x ∷ xs) zero h = (x, refl)
-there (x ∷ xs) (suc i) h = there xs i (omega arith)
+pub some-at : {A : Type 0} (xs : List A) (i : ℕ) (d : A) → i < length xs → getElem? xs i ≡ some (getD xs i d)
+some-at [] i d h = absurd (omega arith)
+some-at (x ∷ xs) zero d h = refl
+some-at (x ∷ xs) (suc i) d h = some-at xs i d (omega arith)
 
 -- a kind's name has its kind
 pub kind-there : (w : List ℕ) → among w kindNames ≡ true → (k : Kind) × (kindNamed w ≡ some k)
-unfolding kindNamed kindNames
-kind-there w e = there table.kinds (find w kindNames) (rw length-map at (find-below w kindNames e))
+unfolding kindNamed kindNames kindAt
+kind-there w e = (kindAt (find w kindNames), some-at table.kinds (find w kindNames) _ (rw length-map at (find-below w kindNames e)))
 
 -- a test of the argument is one of what that kind calls for
 pub on-kind : (t : Argument → Bool) (text : List ℕ) (k : Kind) → kindNamed (op text) ≡ some k → onArgument t text ≡ true → t (k .argument) ≡ true

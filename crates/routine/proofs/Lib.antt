@@ -6,3 +6,4 @@ pub mod RangeLaws
 pub mod SpellingLaws
 pub mod LayoutLaws
 pub mod PassingLaws
+pub mod PlaceLaws

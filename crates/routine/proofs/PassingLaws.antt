@@ -1,21 +1,19 @@
 -- What a text that passes rows of the refusal table has: its first address, and how many lines, cells and fields. Assumes nothing.
 use Prim.Native.Nat.{ℕ, suc, _+_, _<_, _≤_}
 use mathlib.Core.Path.{_≡_, refl}
-use mathlib.Core.Bool.{Bool, true, false, cond, false≢true}
+use mathlib.Core.Bool.{Bool, true, false, cond}
 use mathlib.Core.List.{List, [], _∷_, _++_}
 use native.Mathlib.Omega.{arith}
 use lib.Dec.{eqb, ltb}
-use lib.IntN.{ℤ, pos, negsuc, natAbs}
+use lib.IntN.{ℤ, pos, natAbs}
 use lib.ListN.{length, drop, length-drop}
 use borrow.Author.Tests.{eqb-true, ltb-true}
 use Rattle.text.specs.Text.{onto, split, Line, linesOf, lines}
 use Rattle.text.specs.Decimal.{numeral}
 use Rattle.text.proofs.TextLaws.{and-left}
 use Rattle.text.proofs.PieceLaws.{split-some}
-use Rattle.numbers.specs.Numbers.{range, within}
-use Rattle.routine.specs.declared.Section.{Section}
+use Rattle.numbers.specs.Numbers.{within}
 use Rattle.routine.specs.declared.Section.the-variants.{Cells as cells, Fields as fields, Answers as answers}
-use Rattle.routine.specs.declared.Column.{Column}
 use Rattle.routine.specs.declared.Column.the-variants.{Cell as cell}
 use Rattle.routine.specs.declared.Role.{Role}
 use Rattle.routine.specs.declared.Role.the-variants.{Names as names, Values as values, Code as code, Answer as answer}
@@ -23,10 +21,10 @@ use Rattle.routine.specs.declared.Row.{Row}
 use Rattle.routine.specs.declared.Row.the-variants.{Layout as layout-row, Range as range-row}
 use Rattle.routine.specs.declared.Fault.the-variants.{Clean as clean}
 use Rattle.routine.specs.Layout.{layout, isAnswer, body, upToAnswer, pastAnswer, codeLines, answerLines, answerRoles, codeRoles, bodyRoles, roles, listed}
-use Rattle.routine.specs.Rows.{value, isNumeral, at, arg, onArgument, argumentInRange, firstAddresses, columnLaidOut, valuesLaidOut, answerLaidOut, laidOut, codeInRange, inRange, blockSizes, total, wellNamed, named, firstAt, test, fault, Passes}
+use Rattle.routine.specs.Rows.{value, isNumeral, at, arg, onArgument, argumentInRange, firstAddresses, answerLaidOut, laidOut, codeInRange, inRange, blockSizes, total, wellNamed, named, firstAt, test, fault, Passes}
 use Rattle.routine.specs.Routine.{inside}
-use Rattle.routine.proofs.RowLaws.{Covered, passed, First, fault-clean, laid-out, passes-laid-out, passes-named}
-use Rattle.routine.proofs.RangeLaws.{inside-is, inside-small, cells-few}
+use Rattle.routine.proofs.RowLaws.{Covered, passed, fault-clean, laid-out, passes-named}
+use Rattle.routine.proofs.RangeLaws.{natural-within, inside-is, natural-inside, cells-few, values-counted}
 use Rattle.routine.proofs.CodeLaws.{code-laid-out}
 
 -- ---- the lines after the layout
@@ -49,11 +47,6 @@ first-within ls [] c = refl
 first-within ls (l ∷ bs) (passed p c) =
     and-left (within firstAddresses (value (at (l .text)))) (onArgument (argumentInRange (arg (l .text))) (l .text)) p
 
--- a number within a range from a natural number on is natural
-within-natural : (low high : ℕ) (z : ℤ) → within (range low high) z ≡ true → pos (natAbs z) ≡ z
-within-natural low high (pos n) e = refl
-within-natural low high (negsuc n) e = absurd (false≢true e)
-
 module _ (ls : List Line) (e : fault range-row ls ≡ clean) where
   pub first-ranged : within firstAddresses (firstAt (body ls)) ≡ true
   first-ranged = first-within ls (body ls) (covered-body range-row ls e)
@@ -62,11 +55,11 @@ module _ (ls : List Line) (e : fault range-row ls ≡ clean) where
   first-is = inside-is firstAddresses (firstAt (body ls)) first-ranged
 
   pub first-natural : pos (natAbs (inside firstAddresses (firstAt (body ls)))) ≡ firstAt (body ls)
-  first-natural = rw first-is (within-natural 0 60000 (firstAt (body ls)) first-ranged)
+  first-natural = rw first-is (natural-within 0 60000 (firstAt (body ls)) first-ranged .is)
 
 -- whatever the text says
 pub first-small : (z : ℤ) → natAbs (inside firstAddresses z) ≤ 60000
-first-small z = inside-small 0 60000 z
+first-small z = natural-inside 0 60000 z .below
 
 -- ---- the number of lines
 
@@ -191,16 +184,8 @@ fields-counted ls p =
     eqb-true (total (blockSizes ws)) (length ws) (passes-named p (names fields) refl)
 
 module _ {ls : List Line} (p : Passes ls) where
-  -- as many values as names
-  pub values-counted : (s : Section) (c : Column) → First (values s c) layout → length (listed (values s c) ls) ≡ length (listed (names s) ls)
-  unfolding listed laidOut valuesLaidOut
-  values-counted s c f =
-      let ws = listed (values s c) ls in
-      let n = length (listed (names s) ls) in
-      eqb-true (length ws) n (and-left (eqb (length ws) n) (columnLaidOut c ws) (passes-laid-out p (values s c) f))
-
   pub cells-small : length (listed (values cells cell) ls) ≤ 33
-  cells-small = rw (values-counted cells cell refl) (cells-few ls p)
+  cells-small = rw (values-counted p cells cell refl) (cells-few ls p)
 
   pub fields-total : total (blockSizes (listed (names fields) ls)) ≡ length (listed (values fields cell) ls)
-  fields-total = rw (values-counted fields cell refl) (fields-counted ls p)
+  fields-total = rw (values-counted p fields cell refl) (fields-counted ls p)

@@ -1,11 +1,12 @@
 -- What the ranges of a passing text say of its routine: prices, limits and the height of the start are small. Assumes nothing.
-use Prim.Native.Nat.{ℕ, _+_, _≤_, min}
+use Prim.Native.Nat.{ℕ, _+_, _≤_, min, zero-le}
 use mathlib.Core.Path.{_≡_, refl, ap, _∙_}
 use mathlib.Core.Bool.{Bool, true, false, cond, false≢true}
 use mathlib.Core.List.{List, [], _∷_, map}
 use native.Mathlib.Omega.{arith}
-use lib.Dec.{leb, eqb}
+use lib.Dec.{eqb}
 use lib.IntN.{ℤ, pos, negsuc, natAbs}
+use lib.Signed.{leZ}
 use lib.ListN.{length, getD, take, length-map, length-take, length-drop}
 use borrow.Author.Tests.{leb-true, eqb-true}
 use Rattle.text.specs.Text.{Line}
@@ -14,40 +15,62 @@ use Rattle.numbers.specs.declared.Range.{Range}
 use Rattle.numbers.specs.Numbers.{range, within}
 use Rattle.instructions.specs.declared.Argument.{Argument}
 use Rattle.instructions.specs.declared.Argument.the-variants.{Absent, Target, Primitive, Within}
-use Rattle.machine.specs.Machine.{instruction, Price, Prices, cost}
+use Rattle.machine.specs.Machine.{instruction, Prices, cost}
+use Rattle.machine.proofs.PriceLaws.{AtMost}
 use Rattle.routine.specs.declared.Section.{Section}
 use Rattle.routine.specs.declared.Section.the-variants.{Limits as limits, Kinds as kinds, Primitives as primitives, Cells as cells}
+use Rattle.routine.specs.declared.Column.{Column}
 use Rattle.routine.specs.declared.Column.the-variants.{Limit as limit, Cycles as cycles, Words as words-column, Cell as cell}
 use Rattle.routine.specs.declared.Role.the-variants.{Names as names, Values as values}
-use Rattle.routine.specs.Layout.{body, codeLines, listed}
+use Rattle.routine.specs.Layout.{layout, body, codeLines, listed}
 use Rattle.routine.specs.Rows.{budgets, ticks, valuesLaidOut, cellWord, value, cellNames, stackNames, columnInRange, columnLaidOut, inRange, laidOut, named, wellNamed, Passes}
 use Rattle.routine.specs.Routine.{inside, natural, limitAt, priceAt, prices, instructionOf, codeOf, cellOf, cellsOf, startOf, routineOf}
-use Rattle.routine.proofs.RowLaws.{passes-range, passes-laid-out, passes-named, lists-path}
+use Rattle.routine.proofs.RowLaws.{First, passes-range, passes-laid-out, passes-named, lists-path}
 
--- a number within a range from a natural number on is natural, between the two ends
-within-ends : (low high : ℕ) (z : ℤ) → within (range low high) z ≡ true → (low ≤ natAbs z) × (natAbs z ≤ high)
-within-ends low high (negsuc n) e = absurd (false≢true e)
-within-ends low high (pos n) e = (leb-true low n (cond-left (leb low n) (leb n high) e), leb-true n high (cond-right (leb low n) (leb n high) e))
+-- ---- numbers of a range
+
+pub within-low : (r : Range) (z : ℤ) → within r z ≡ true → leZ (r .low) z ≡ true
+within-low r z e = cond-left (leZ (r .low) z) (leZ z (r .high)) e
+
+pub within-high : (r : Range) (z : ℤ) → within r z ≡ true → leZ z (r .high) ≡ true
+within-high r z e = cond-right (leZ (r .low) z) (leZ z (r .high)) e
+
+-- a natural number, `high` at most
+pub record Natural (high : ℕ) (z : ℤ) : Type 0 where
+  pub is : pos (natAbs z) ≡ z
+  pub below : natAbs z ≤ high
+
+-- a number within a range from a natural number on
+pub natural-within : (low high : ℕ) (z : ℤ) → within (range low high) z ≡ true → Natural high z
+natural-within low high (pos n) e = record { is = refl; below = leb-true n high (within-high (range low high) (pos n) e) }
+natural-within low high (negsuc n) e = absurd (false≢true (within-low (range low high) (negsuc n) e))
+
+natural-above : (low high : ℕ) (z : ℤ) → within (range low high) z ≡ true → low ≤ natAbs z
+natural-above low high (pos n) e = leb-true low n (within-low (range low high) (pos n) e)
+natural-above low high (negsuc n) e = absurd (false≢true (within-low (range low high) (negsuc n) e))
 
 -- a number within its range counts as it is
 pub inside-is : (r : Range) (z : ℤ) → within r z ≡ true → inside r z ≡ z
 unfolding inside
 inside-is r z e = rw e refl
 
--- in any case no number is above its range
-pub inside-small : (low high : ℕ) (z : ℤ) → natAbs (inside (range low high) z) ≤ high
+-- a number of a range, or 0: it keeps what holds of both
+pub inside-keeps : (P : ℤ → Type 0) (r : Range) (z : ℤ) → P (pos 0) → ((y : ℤ) → within r y ≡ true → P y) → P (inside r z)
 unfolding inside
-inside-small low high z = go (within (range low high) z) refl
+inside-keeps P r z o f = go (within r z) refl
   where
-    go : (b : Bool) → within (range low high) z ≡ b → natAbs (cond b z (pos 0)) ≤ high
-    go true e = within-ends low high z e .1
-    go false e = omega arith
+    go : (b : Bool) → within r z ≡ b → P (cond b z (pos 0))
+    go true e = f z e
+    go false e = o
+
+pub natural-inside : (low high : ℕ) (z : ℤ) → Natural high (inside (range low high) z)
+natural-inside low high z = inside-keeps (Natural high) (range low high) z (record { is = refl; below = zero-le }) (natural-within low high)
 
 -- ---- limits
 
 -- a limit of a passing text is the number that its word spells
 limit-ends : (low high : ℕ) (w : List ℕ) → within (range low high) (value w) ≡ true → low ≤ natural (range low high) w
-limit-ends low high w e = rw (inside-is (range low high) (value w) e) (within-ends low high (value w) e .0)
+limit-ends low high w e = rw (inside-is (range low high) (value w) e) (natural-above low high (value w) e)
 
 module _ {ls : List Line} (p : Passes ls) where
   limits-within : columnInRange limit (listed (values limits limit) ls) ≡ true
@@ -56,7 +79,7 @@ module _ {ls : List Line} (p : Passes ls) where
 
   pub budget-small : routineOf ls .budget ≤ 1000000
   unfolding routineOf limitAt
-  budget-small = inside-small 1 1000000 (value (getD (listed (values limits limit) ls) 0 []))
+  budget-small = natural-inside 1 1000000 (value (getD (listed (values limits limit) ls) 0 [])) .below
 
   pub tick-positive : 1 ≤ routineOf ls .tick
   unfolding routineOf limitAt columnInRange
@@ -66,14 +89,9 @@ module _ {ls : List Line} (p : Passes ls) where
 
   pub tick-small : routineOf ls .tick ≤ 4000000000
   unfolding routineOf limitAt
-  tick-small = inside-small 1 4000000000 (value (getD (listed (values limits limit) ls) 1 []))
+  tick-small = natural-inside 1 4000000000 (value (getD (listed (values limits limit) ls) 1 [])) .below
 
 -- ---- prices
-
--- at most c cycles and w words
-pub record AtMost (c w : ℕ) (p : Price) : Type 0 where
-  pub cycles : p .cycles ≤ c
-  pub words : p .words ≤ w
 
 -- a kind's price and a primitive's, each at most c cycles and w words
 cost-small : (c w : ℕ) (ps : Prices) → ((k : ℕ) → AtMost c w (ps .kinds k)) → ((i : ℕ) → AtMost c w (ps .primitives i))
@@ -87,15 +105,15 @@ cost-small c w ps f g (Within r) k v = let h = f k in omega arith
 price-small : (s : Section) (ls : List Line) (i : ℕ) → AtMost 65535 255 (priceAt s ls i)
 unfolding priceAt
 price-small s ls i = record {
-  cycles = inside-small 0 65535 (value (getD (listed (values s cycles) ls) i []));
-  words = inside-small 0 255 (value (getD (listed (values s words-column) ls) i []));
+  cycles = natural-inside 0 65535 (value (getD (listed (values s cycles) ls) i [])) .below;
+  words = natural-inside 0 255 (value (getD (listed (values s words-column) ls) i [])) .below;
 }
 
 instruction-small : (ls : List Line) (text : List ℕ) → AtMost 131070 510 (instructionOf ls text .price)
 unfolding instructionOf instruction prices
 instruction-small ls text = cost-small 65535 255 (prices ls) (price-small kinds ls) (price-small primitives ls) _ _ _
 
-every-mapped : {A B : Type 0} {P : B → Type 0} (f : A → B) → ((x : A) → P (f x)) → (xs : List A) → Every P (map f xs)
+pub every-mapped : {A B : Type 0} {P : B → Type 0} (f : A → B) → ((x : A) → P (f x)) → (xs : List A) → Every P (map f xs)
 every-mapped f h [] = Every.none
 every-mapped f h (x ∷ xs) = more (h x) (every-mapped f h xs)
 
@@ -115,16 +133,20 @@ cells-few ls p =
     omega arith
 
 -- as many values as names
-cells-counted : (ls : List Line) → Passes ls → length (cellsOf cells ls) ≡ length (listed (names cells) ls)
-unfolding cellsOf listed laidOut valuesLaidOut
-cells-counted ls p =
-    let vs = listed (values cells cell) ls in
-    let n = length (listed (names cells) ls) in
-    length-map vs (λ w. cellOf (cellWord w)) ∙ eqb-true (length vs) n (and-left (eqb (length vs) n) (columnLaidOut cell vs) (passes-laid-out p (values cells cell) refl))
+pub values-counted : {ls : List Line} → Passes ls → (s : Section) (c : Column) → First (values s c) layout → length (listed (values s c) ls) ≡ length (listed (names s) ls)
+unfolding listed laidOut valuesLaidOut
+values-counted {ls} p s c f =
+    let ws = listed (values s c) ls in
+    let n = length (listed (names s) ls) in
+    eqb-true (length ws) n (and-left (eqb (length ws) n) (columnLaidOut c ws) (passes-laid-out p (values s c) f))
+
+cells-counted : {ls : List Line} → Passes ls → length (cellsOf cells ls) ≡ length (listed (names cells) ls)
+unfolding cellsOf
+cells-counted {ls} p = length-map (listed (values cells cell) ls) (λ w. cellOf (cellWord w)) ∙ values-counted p cells cell refl
 
 pub start-low : {ls : List Line} → Passes ls → length (routineOf ls .start .stack) ≤ 32
 unfolding routineOf startOf
 start-low {ls} p =
     let l = cells-few ls p in
-    let e = cells-counted ls p in
+    let e = cells-counted p in
     simp length-drop (omega arith)

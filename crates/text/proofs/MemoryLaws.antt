@@ -5,13 +5,17 @@ use mathlib.Core.List.{List, [], _∷_, _++_, append-assoc}
 use native.Mathlib.Omega.{arith}
 use native.Mathlib.Numerals.{add-one}
 use lib.ListN.{length, getD, take, drop, set, length-append}
-use lib.Seq.{take-suc, drop-cons, set-at, append-snoc, length-take-le, take-append-seam, drop-append-add, drop-drop}
+use lib.Seq.{take-suc, drop-cons, set-at, append-snoc, length-take-le, take-append-seam, drop-append-add, drop-drop, paste-zero}
 use Rattle.text.specs.Decimal.{decimal}
 use Rattle.text.specs.Memory.{over}
 use Rattle.text.proofs.DecimalLaws.{decimal-more, decimal-length-more}
 
+-- nothing is written
+pub over-none : (d : List ℕ) (at : ℕ) → over d at [] ≡ d
+over-none d at = sym (paste-zero d at [])
+
 -- one byte more
-pub over-more : (d : List ℕ) (at : ℕ) (t : List ℕ) (x : ℕ) → at + length t < length d → set (over d at t) (at + length t) x ≡ over d at (t ++ (x ∷ []))
+over-more : (d : List ℕ) (at : ℕ) (t : List ℕ) (x : ℕ) → at + length t < length d → set (over d at t) (at + length t) x ≡ over d at (t ++ (x ∷ []))
 over-more d at t x h =
     let k : at ≤ length d = omega arith in
     let n : length (take at d ++ t) ≡ at + length t = length-append (take at d) t ∙ ap (λ (m : ℕ). m + length t) (length-take-le at d k) in
@@ -35,9 +39,9 @@ over-next d at t i k h =
 over-seam : (p r b : List ℕ) → over (p ++ r) (length p) b ≡ p ++ b ++ drop (length b) r
 over-seam p r b = rw (take-append-seam, drop-append-add) refl
 
-pub over-over : (d a b o o′ : List ℕ) (at e : ℕ) → at + length a ≤ length d → e ≡ at + length a → o ≡ over d at a → o′ ≡ over o e b → o′ ≡ over d at (a ++ b)
+over-over : (d a b o o′ : List ℕ) (at e : ℕ) → at ≤ length d → e ≡ at + length a → o ≡ over d at a → o′ ≡ over o e b → o′ ≡ over d at (a ++ b)
 over-over d a b o o′ at e k p q r =
-    let n : e ≡ length (take at d ++ a) = p ∙ sym (length-append (take at d) a ∙ ap (λ (m : ℕ). m + length a) (length-take-le at d (omega arith))) in
+    let n : e ≡ length (take at d ++ a) = p ∙ sym (length-append (take at d) a ∙ ap (λ (m : ℕ). m + length a) (length-take-le at d k)) in
     let m : at + length a + length b ≡ at + length (a ++ b) = rw length-append (omega arith) in
     r
     ∙ ap (λ (x : List ℕ). over x e b) q
@@ -60,19 +64,24 @@ over-decimal d o at e n h k p q =
           ∙ ap (over d at) (sym m),
     )
 
--- o is the memory d with the text r at its start, and e is where r ends
-pub record Wrote (d r : List ℕ) (e : ℕ) (o : List ℕ) : Type 0 where
-  pub ends : e ≡ length r
-  pub holds : o ≡ r ++ drop (length r) d
+-- o is the memory d with the text r over it from `at` on, and e is where r ends
+pub record Wrote (d : List ℕ) (at : ℕ) (r : List ℕ) (e : ℕ) (o : List ℕ) : Type 0 where
+  pub starts : at ≤ length d
+  pub ends : e ≡ at + length r
+  pub holds : o ≡ over d at r
 
 -- nothing is written yet
-pub wrote-none : (d : List ℕ) → Wrote d [] 0 d
-wrote-none d = record { ends = refl; holds = refl }
-
-over-onto : (d r t : List ℕ) (at : ℕ) → at ≡ length r → over (r ++ drop (length r) d) at t ≡ (r ++ t) ++ drop (length (r ++ t)) d
-over-onto d r t at e = rw (e, take-append-seam, drop-append-add, drop-drop, length-append) refl
+pub wrote-none : (d : List ℕ) (at : ℕ) → at ≤ length d → Wrote d at [] at d
+wrote-none d at h = record { starts = h; ends = omega arith; holds = sym (over-none d at) }
 
 -- one text more, as `put` and `put_decimal` ensure it
-pub wrote-more : {d r o : List ℕ} {at : ℕ} → Wrote d r at o → (t : List ℕ) {e : ℕ} {o′ : List ℕ} → (e ≡ at + length t) × (o′ ≡ over o at t) → Wrote d (r ++ t) e o′
-wrote-more {d} {r} {o} {at} w t p =
-    record { ends = rw length-append (omega arith); holds = p .1 ∙ ap (λ (x : List ℕ). over x at t) (w .holds) ∙ over-onto d r t at (w .ends) }
+pub wrote-more : {d r o : List ℕ} {at e : ℕ} → Wrote d at r e o → (t : List ℕ) {e′ : ℕ} {o′ : List ℕ} → (e′ ≡ e + length t) × (o′ ≡ over o e t) → Wrote d at (r ++ t) e′ o′
+wrote-more {d} {r} {o} {at} {e} w t {e′} {o′} p = record {
+  starts = w .starts;
+  ends = rw length-append (omega (arith, w .ends));
+  holds = over-over d r t o o′ at e (w .starts) (w .ends) (w .holds) (p .1);
+}
+
+-- what is written from the start on stands before what the memory held there
+pub wrote-start : {d r o : List ℕ} {e : ℕ} → Wrote d 0 r e o → (e ≡ length r) × (o ≡ r ++ drop (length r) d)
+wrote-start {d} {r} w = let z : 0 + length r ≡ length r = omega arith in (w .ends ∙ z, w .holds ∙ ap (λ (n : ℕ). r ++ drop n d) z)

@@ -1,7 +1,7 @@
 -- What the code holds of a number or of a cell word passes the tests that the number or the cell word passes. Assumes nothing.
 use Prim.Native.Nat.{ℕ, zero, suc, _-_, _<_, _≤_, zero-le}
 use mathlib.Core.Path.{_≡_, refl, sym, ap, ap₂, subst, _∙_}
-use mathlib.Core.Bool.{Bool, true, false, cond}
+use mathlib.Core.Bool.{Bool, true, false, cond, false≢true}
 use mathlib.Core.List.{List, [], _∷_}
 use native.Mathlib.Omega.{arith}
 use lib.Dec.{T, ltb, lit<}
@@ -12,19 +12,20 @@ use lib.Signed.{mag, nonNeg, leZ, ltZ}
 use mir.Syntax.{w32}
 use mir.Val.{SFits}
 use borrow.Author.Tests.{leb-true, ltb-true, le-ltb, eq-eqb, ne-eqb}
-use Rattle.text.proofs.TextLaws.{cond-left, cond-right, ltb-suc}
+use Rattle.text.proofs.TextLaws.{ltb-suc}
 use Rattle.text.specs.Text.{equals, bytes}
 use Rattle.text.specs.Decimal.{numeral, most, clamp, clamped}
 use Rattle.text.specs.declared.Numeral.{Numeral}
 use Rattle.text.specs.declared.Numeral.the-variants.{Misspelt, Number}
 use Rattle.text.proofs.ClampLaws.{clamp-le, le-clamp, clamp-small, clamp-natAbs-lt}
 use Rattle.numbers.specs.declared.Range.{Range}
-use Rattle.numbers.specs.Numbers.{half, IsNumber, within, numbers, range}
+use Rattle.numbers.specs.Numbers.{half, IsNumber, within, numbers}
 use Rattle.cells.specs.Cells.{number, handle}
 use Rattle.routine.specs.declared.CellWord.{CellWord}
 use Rattle.routine.specs.declared.CellWord.the-variants.{Wrong, Unknown, Known, Block}
 use Rattle.routine.specs.Rows.{isNumeral, valueOf, knownOf, blockOf, hashed, cellWord, isCell, handles, cellInRange, cellPresent, isKnown}
 use Rattle.routine.specs.Routine.{inside, cellOf}
+use Rattle.routine.proofs.RangeLaws.{within-low, within-high, Natural, inside-keeps}
 use Rattle.values.specs.Values.{Near, clampedCell}
 
 -- ---- numbers
@@ -42,21 +43,12 @@ value-clamped (Number z) = refl
 pub within-clamp : (r : Range) (z : ℤ) → Near r → within r (clamp z) ≡ within r z
 within-clamp r z h = ap₂ (λ a b. cond a b false) (le-clamp (r .low) z (h .low)) (clamp-le z (r .high) (h .high))
 
-no : {X : Type 0} → false ≡ true → X
-no e = absurd (let z : _≡_ {A = ℕ} 0 1 = cc in omega arith)
-
 -- a number between two others is as near to 0 as one of them
 between : (low high z : ℤ) (k : ℕ) → mag low < k → mag high < k → leZ low z ≡ true → leZ z high ≡ true → mag z < k
 between low (pos b) (pos n) k l h e f = let q = leb-true n b f in omega arith
-between low (negsuc b) (pos n) k l h e f = no f
-between (pos a) high (negsuc n) k l h e f = no e
+between low (negsuc b) (pos n) k l h e f = absurd (false≢true f)
+between (pos a) high (negsuc n) k l h e f = absurd (false≢true e)
 between (negsuc a) high (negsuc n) k l h e f = let q = leb-true n a e in omega arith
-
-within-low : (r : Range) (z : ℤ) → within r z ≡ true → leZ (r .low) z ≡ true
-within-low r z e = cond-left (leZ (r .low) z) (leZ z (r .high)) e
-
-within-high : (r : Range) (z : ℤ) → within r z ≡ true → leZ z (r .high) ≡ true
-within-high r z e = cond-right (leZ (r .low) z) (leZ z (r .high)) e
 
 within-mag : (r : Range) (z : ℤ) (k : ℕ) → mag (r .low) < k → mag (r .high) < k → within r z ≡ true → mag z < k
 within-mag r z k l h e = between (r .low) (r .high) z k l h (within-low r z e) (within-high r z e)
@@ -68,27 +60,6 @@ inside-clamp r z h = ap (λ b. cond b (clamp z) (pos 0)) (within-clamp r z h) �
     go : (b : Bool) → within r z ≡ b → cond b (clamp z) (pos 0) ≡ cond b z (pos 0)
     go true e = clamp-small z (let m = within-mag r z most (h .low) (h .high) e in omega arith)
     go false e = refl
-
--- a number of a range, or 0: it keeps what holds of both
-pub inside-keeps : (P : ℤ → Type 0) (r : Range) (z : ℤ) → P (pos 0) → ((y : ℤ) → within r y ≡ true → P y) → P (inside r z)
-unfolding inside
-inside-keeps P r z o f = go (within r z) refl
-  where
-    go : (b : Bool) → within r z ≡ b → P (cond b z (pos 0))
-    go true e = f z e
-    go false e = o
-
--- a natural number of a range
-pub record Natural (high : ℕ) (z : ℤ) : Type 0 where
-  pub is : pos (natAbs z) ≡ z
-  pub below : natAbs z ≤ high
-
-pub natural-within : (low high : ℕ) (z : ℤ) → within (range low high) z ≡ true → Natural high z
-natural-within low high (pos n) e = record { is = refl; below = leb-true n high (within-high (range low high) (pos n) e) }
-natural-within low high (negsuc n) e = no (within-low (range low high) (negsuc n) e)
-
-pub natural-inside : (low high : ℕ) (z : ℤ) → Natural high (inside (range low high) z)
-natural-inside low high z = inside-keeps (Natural high) (range low high) z (record { is = refl; below = zero-le }) (natural-within low high)
 
 pub natural-sign : {high : ℕ} {z : ℤ} → Natural high z → T (nonNeg z)
 natural-sign {z = z} n = subst (λ y. T (nonNeg y)) (n .is) tt

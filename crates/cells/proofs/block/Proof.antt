@@ -1,4 +1,4 @@
--- `block` meets its contract. Assumes nothing.
+-- `cells::block` meets its contract. Assumes nothing.
 use mathlib.Core.Path.{_≡_, refl, sym, ap}
 use mathlib.Core.Logic.{⊎-elim}
 use mathlib.Core.List.{[], _∷_}

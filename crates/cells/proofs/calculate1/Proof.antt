@@ -1,4 +1,4 @@
--- `calculate1` meets its contract. Assumes nothing.
+-- `cells::calculate1` meets its contract. Assumes nothing.
 use mathlib.Core.Path.{ap}
 use lib.IntN.{pos, negℤ, _+ℤ_, _-ℤ_}
 use mir.Syntax.{w32}

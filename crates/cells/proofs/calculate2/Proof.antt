@@ -1,4 +1,4 @@
--- `calculate2` meets its contract. Assumes nothing.
+-- `cells::calculate2` meets its contract. Assumes nothing.
 use mathlib.Core.Path.{refl, sym, _∙_}
 use lib.IntN.{_+ℤ_, _-ℤ_}
 use mir.Syntax.{w32}

@@ -1,4 +1,4 @@
--- `condition_of` meets its contract. Assumes nothing.
+-- `cells::condition_of` meets its contract. Assumes nothing.
 use mathlib.Core.Path.{_≡_, refl, sym, ap, _∙_}
 use Prim.Native.Nat.{zero, suc}
 use lib.Dec.{lit<}

@@ -1,4 +1,4 @@
--- `number` meets its contract: a number of 32 bits wraps to itself. Assumes nothing.
+-- `cells::number` meets its contract: a number of 32 bits wraps to itself. Assumes nothing.
 use mathlib.Core.Path.{sym, ap, _∙_}
 use mir.Syntax.{w32}
 use mir.ValLaws.{toZ-ofZ}

@@ -1,4 +1,4 @@
--- `operate1` meets its contract. Assumes nothing.
+-- `cells::operate1` meets its contract. Assumes nothing.
 use mathlib.Core.Path.{refl, ap, _∙_}
 use mir.Syntax.{w32}
 use Rattle.numbers.specs.Numbers.{wrap}

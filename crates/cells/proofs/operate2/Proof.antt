@@ -1,4 +1,4 @@
--- `operate2` meets its contract. Assumes nothing.
+-- `cells::operate2` meets its contract. Assumes nothing.
 use mathlib.Core.Path.{refl, ap, _∙_}
 use mir.Syntax.{w32}
 use Rattle.numbers.specs.Numbers.{wrap}

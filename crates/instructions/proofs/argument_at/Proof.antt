@@ -1,4 +1,4 @@
--- `argument_at` meets its contract: an argument is known by its code and the ends of its range.
+-- `instructions::argument_at` meets its contract: an argument is known by its code and the ends of its range.
 -- Assumes nothing.
 use mathlib.Core.Path.{sym, ap₂, _∙_}
 use native.Mathlib.Omega.{arith}

@@ -1,4 +1,4 @@
--- `argument_code_at` meets its contract: the column is `map` of the rule over the table, by computation.
+-- `instructions::argument_code_at` meets its contract: the column is `map` of the rule over the table, by computation.
 -- Assumes nothing.
 use Rattle.instructions.specs.Kinds.{kinds}
 use Rattle.instructions.specs.Columns.{argumentCode}

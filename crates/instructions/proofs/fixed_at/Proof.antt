@@ -1,5 +1,5 @@
--- `fixed_at` meets its contract: the column is `map` of the rule over the table, by computation, and so is that each entry fits.
--- Assumes nothing.
+-- `instructions::fixed_at` meets its contract: the column is `map` of the rule over the table, by computation, and so is that each
+-- entry fits. Assumes nothing.
 use mathlib.Core.Path.{refl}
 use mathlib.Core.Bool.{true}
 use lib.Dec.{ltb}

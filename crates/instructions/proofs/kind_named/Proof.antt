@@ -1,4 +1,4 @@
--- `kind_named` meets its contract: the words of NAMES are the names of the kinds, by computation.
+-- `instructions::kind_named` meets its contract: the words of NAMES are the names of the kinds, by computation.
 -- Assumes nothing.
 use Rattle.text.specs.Text.{split, words}
 use Rattle.instructions.specs.Kinds.{kinds, kindNames}

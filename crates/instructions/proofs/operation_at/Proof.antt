@@ -1,4 +1,4 @@
--- `operation_at` meets its contract: the column is `map` of the rule over the table, by computation.
+-- `instructions::operation_at` meets its contract: the column is `map` of the rule over the table, by computation.
 -- Assumes nothing.
 use Rattle.instructions.specs.Kinds.{kinds}
 use Rattle.instructions.specs.Columns.{operationCode, unaryCode, binaryCode, comparisonCode}

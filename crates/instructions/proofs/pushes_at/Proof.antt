@@ -1,4 +1,4 @@
--- `pushes_at` meets its contract: the column is `map` of the rule over the table, by computation.
+-- `instructions::pushes_at` meets its contract: the column is `map` of the rule over the table, by computation.
 -- Assumes nothing.
 use mathlib.Core.Path.{refl}
 use mathlib.Core.Bool.{cond}

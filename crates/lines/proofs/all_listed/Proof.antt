@@ -1,4 +1,4 @@
--- `all_listed` meets its contract. Assumes nothing.
+-- `lines::all_listed` meets its contract. Assumes nothing.
 use mathlib.Core.Path.{sym, ap, _∙_}
 use Rattle.text.specs.Text.{all}
 use Rattle.lines.specs.Lines.{wordTest}

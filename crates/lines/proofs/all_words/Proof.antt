@@ -1,5 +1,5 @@
--- `all_words` meets its contract. The loop's invariant: e is the length of the first word of what is left, and the words of the line
--- pass as those of what is left do. The measure is the length of what is left. Assumes nothing.
+-- `lines::all_words` meets its contract. The loop's invariant: e is the length of the first word of what is left, and the words of
+-- the line pass as those of what is left do. The measure is the length of what is left. Assumes nothing.
 use mathlib.Core.Path.{_≡_, refl, sym, _∙_}
 use Prim.Native.Nat.{_≤_}
 use native.Mathlib.Omega.{arith}

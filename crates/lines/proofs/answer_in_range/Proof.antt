@@ -1,4 +1,4 @@
--- `answer_in_range` meets its contract. Assumes nothing.
+-- `lines::answer_in_range` meets its contract. Assumes nothing.
 use mathlib.Core.Path.{sym, ap, subst, _∙_}
 use Rattle.numbers.specs.Numbers.{within}
 use Rattle.routine.specs.Rows.{value, answerInRange}

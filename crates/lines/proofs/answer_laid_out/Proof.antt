@@ -1,4 +1,4 @@
--- `answer_laid_out` meets its contract. Assumes nothing.
+-- `lines::answer_laid_out` meets its contract. Assumes nothing.
 use borrow.Author.Tests.{lt-ltb, le-ltb}
 use Rattle.text.specs.Decimal.{numeral}
 use Rattle.routine.specs.Rows.{isNumeral, answerLaidOut}

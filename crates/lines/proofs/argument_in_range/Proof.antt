@@ -1,4 +1,4 @@
--- `argument_in_range` meets its contract. Assumes nothing.
+-- `lines::argument_in_range` meets its contract. Assumes nothing.
 use mathlib.Core.Path.{refl, sym, ap, _∙_}
 use native.Mathlib.Omega.{arith}
 use Rattle.numbers.specs.Numbers.{within}

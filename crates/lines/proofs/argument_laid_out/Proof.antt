@@ -1,4 +1,4 @@
--- `argument_laid_out` meets its contract. Assumes nothing.
+-- `lines::argument_laid_out` meets its contract. Assumes nothing.
 use mathlib.Core.Path.{sym, ap, _∙_}
 use mathlib.Core.Bool.{not}
 use native.Mathlib.Omega.{arith}

@@ -1,4 +1,4 @@
--- `argument_named` meets its contract. Assumes nothing.
+-- `lines::argument_named` meets its contract. Assumes nothing.
 use mathlib.Core.Path.{refl, ap, _∙_}
 use native.Mathlib.Omega.{arith}
 use Rattle.text.specs.Text.{among}

@@ -1,4 +1,4 @@
--- `at_range` meets its contract. Assumes nothing.
+-- `lines::at_range` meets its contract. Assumes nothing.
 use Rattle.lines.proofs.CodeLaws.{at-first, at-later}
 use Rattle.lines.proofs.at_range.Statement.{statement}
 use Rattle.lines.proofs.at_range.Tie as tie

@@ -1,4 +1,4 @@
--- `code_in_range` meets its contract. Assumes nothing.
+-- `lines::code_in_range` meets its contract. Assumes nothing.
 use mathlib.Core.Path.{sym, ap₂, subst, _∙_}
 use Rattle.numbers.specs.Numbers.{within}
 use Rattle.routine.specs.Rows.{value, arg, onArgument, argumentInRange, codeInRange}

@@ -1,4 +1,4 @@
--- `code_laid_out` meets its contract. Assumes nothing.
+-- `lines::code_laid_out` meets its contract. Assumes nothing.
 use mathlib.Core.Path.{sym, ap, _∙_}
 use native.Mathlib.Omega.{arith}
 use lib.Dec.{eqb}

@@ -1,4 +1,4 @@
--- `code_named` meets its contract. Assumes nothing.
+-- `lines::code_named` meets its contract. Assumes nothing.
 use mathlib.Core.Path.{sym, _∙_}
 use Rattle.text.specs.Text.{among}
 use Rattle.instructions.specs.Kinds.{kindNames}

@@ -1,4 +1,4 @@
--- `code_priced` meets its contract. Assumes nothing.
+-- `lines::code_priced` meets its contract. Assumes nothing.
 use mathlib.Core.Path.{ap, _∙_}
 use Rattle.text.specs.Text.{among}
 use Rattle.routine.specs.Layout.{list}

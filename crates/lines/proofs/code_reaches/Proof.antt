@@ -1,4 +1,4 @@
--- `code_reaches` meets its contract. Assumes nothing.
+-- `lines::code_reaches` meets its contract. Assumes nothing.
 use mathlib.Core.Path.{refl, sym, ap₂, _∙_}
 use native.Mathlib.Omega.{arith}
 use mir.Syntax.{w64}

@@ -1,4 +1,4 @@
--- `column_laid_out` meets its contract. Assumes nothing.
+-- `lines::column_laid_out` meets its contract. Assumes nothing.
 use Rattle.routine.specs.Layout.{list}
 use Rattle.routine.specs.Rows.{columnLaidOut}
 use Rattle.lines.specs.Lines.{wordTest}

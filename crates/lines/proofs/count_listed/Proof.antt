@@ -1,4 +1,4 @@
--- `count_listed` meets its contract. Assumes nothing.
+-- `lines::count_listed` meets its contract. Assumes nothing.
 use mathlib.Core.Path.{sym, ap, _∙_}
 use lib.ListN.{length}
 use Rattle.routine.proofs.LayoutLaws.{list-none, list-words}

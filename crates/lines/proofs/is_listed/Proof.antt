@@ -1,4 +1,4 @@
--- `is_listed` meets its contract. Assumes nothing.
+-- `lines::is_listed` meets its contract. Assumes nothing.
 use mathlib.Core.Path.{sym, ap, _∙_}
 use Rattle.text.specs.Text.{among}
 use Rattle.routine.proofs.LayoutLaws.{list-none, list-words}

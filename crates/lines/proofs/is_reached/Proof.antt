@@ -1,4 +1,4 @@
--- `is_reached` meets its contract. Assumes nothing.
+-- `lines::is_reached` meets its contract. Assumes nothing.
 use mathlib.Core.Path.{_∙_}
 use Prim.Native.Nat.{_-_}
 use native.Mathlib.Omega.{arith}

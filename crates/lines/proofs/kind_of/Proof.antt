@@ -1,4 +1,4 @@
--- `kind_of` meets its contract. Assumes nothing.
+-- `lines::kind_of` meets its contract. Assumes nothing.
 use mathlib.Core.Path.{ap, _∙_}
 use Rattle.text.specs.Text.{find}
 use Rattle.instructions.specs.Kinds.{kindNames}

@@ -1,4 +1,4 @@
--- `limits_in_range` meets its contract. Assumes nothing.
+-- `lines::limits_in_range` meets its contract. Assumes nothing.
 use mathlib.Core.Path.{sym, ap, _∙_}
 use mathlib.Core.List.{[]}
 use lib.ListN.{getD}

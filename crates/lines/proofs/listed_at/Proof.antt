@@ -1,4 +1,4 @@
--- `listed_at` meets its contract. Assumes nothing.
+-- `lines::listed_at` meets its contract. Assumes nothing.
 use mathlib.Core.Path.{sym, ap, _∙_}
 use mathlib.Core.List.{[]}
 use lib.ListN.{getD}

@@ -1,4 +1,4 @@
--- `names_laid_out` meets its contract. Assumes nothing.
+-- `lines::names_laid_out` meets its contract. Assumes nothing.
 use mathlib.Core.Path.{refl, ap, _∙_}
 use lib.Dec.{leb, ltb}
 use Rattle.routine.specs.Layout.{list}

@@ -1,4 +1,4 @@
--- `values_in_range` meets its contract. Assumes nothing.
+-- `lines::values_in_range` meets its contract. Assumes nothing.
 use Rattle.routine.specs.Layout.{list}
 use Rattle.routine.specs.Rows.{columnInRange}
 use Rattle.lines.specs.Lines.{wordTest}

@@ -1,4 +1,4 @@
--- `values_laid_out` meets its contract. Assumes nothing.
+-- `lines::values_laid_out` meets its contract. Assumes nothing.
 use mathlib.Core.Path.{sym, _∙_}
 use borrow.Author.Tests.{eq-eqb, ne-eqb}
 use Rattle.routine.specs.Layout.{list}

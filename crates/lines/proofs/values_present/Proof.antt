@@ -1,4 +1,4 @@
--- `values_present` meets its contract. Assumes nothing.
+-- `lines::values_present` meets its contract. Assumes nothing.
 use mathlib.Core.Path.{refl}
 use Rattle.routine.specs.Layout.{list}
 use Rattle.routine.specs.Rows.{cellPresent, onCells}

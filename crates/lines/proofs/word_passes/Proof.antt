@@ -1,4 +1,4 @@
--- `word_passes` meets its contract. Assumes nothing.
+-- `lines::word_passes` meets its contract. Assumes nothing.
 use mathlib.Core.Path.{ap, _∙_}
 use lib.Dec.{ltb}
 use Rattle.lines.specs.Lines.{wordTest}

@@ -1,4 +1,4 @@
--- `add_name` meets its contract. Assumes nothing.
+-- `names::add_name` meets its contract. Assumes nothing.
 use mathlib.Core.Path.{_≡_, sym, _∙_}
 use mathlib.Core.Bool.{false}
 use mathlib.Core.Logic.{⊎-elim}

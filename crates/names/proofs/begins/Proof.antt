@@ -1,6 +1,6 @@
--- `begins` meets its contract. The loop's invariant: e and f are the lengths of the first words of what is left of the two texts,
--- and the words of the line are the first of the names if those left are. The measure is the length of what is left of the line.
--- Assumes nothing.
+-- `names::begins` meets its contract. The loop's invariant: e and f are the lengths of the first words of what is left of the two
+-- texts, and the words of the line are the first of the names if those left are. The measure is the length of what is left of the
+-- line. Assumes nothing.
 use Prim.Native.Nat.{_≤_}
 use mathlib.Core.Path.{_≡_, refl, sym, _∙_}
 use native.Mathlib.Omega.{arith}

@@ -1,6 +1,6 @@
--- `blocks_named` meets its contract. The loop's invariant: e is the length of the first word of what is left, the blocks hold their
--- own sizes, and the sizes of the line are those with the names that are left. The measure is the length of what is left. Assumes
--- nothing.
+-- `names::blocks_named` meets its contract. The loop's invariant: e is the length of the first word of what is left, the blocks
+-- hold their own sizes, and the sizes of the line are those with the names that are left. The measure is the length of what is
+-- left. Assumes nothing.
 use Prim.Native.Nat.{_≤_}
 use mathlib.Core.Path.{_≡_, sym, _∙_}
 use native.Mathlib.Omega.{arith}

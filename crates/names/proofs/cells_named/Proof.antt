@@ -1,4 +1,4 @@
--- `cells_named` meets its contract: the words of CELLS are the names of the cells, by computation. Assumes nothing.
+-- `names::cells_named` meets its contract: the words of CELLS are the names of the cells, by computation. Assumes nothing.
 use Rattle.text.specs.Text.{split, words}
 use Rattle.text.specs.Decimal.{digits, decimal}
 use Rattle.routine.specs.Rows.{stackNames, cellNames}

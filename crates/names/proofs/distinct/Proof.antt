@@ -1,5 +1,5 @@
--- `distinct` meets its contract. The loop's invariant: e is the length of the first word of what is left, and no word of the line
--- stands twice if none of those left does. The measure is the length of what is left. Assumes nothing.
+-- `names::distinct` meets its contract. The loop's invariant: e is the length of the first word of what is left, and no word of the
+-- line stands twice if none of those left does. The measure is the length of what is left. Assumes nothing.
 use Prim.Native.Nat.{_≤_}
 use mathlib.Core.Path.{_≡_, refl, sym, _∙_}
 use native.Mathlib.Omega.{arith}

@@ -1,4 +1,4 @@
--- `in_name` meets its contract. Assumes nothing.
+-- `names::in_name` meets its contract. Assumes nothing.
 use mathlib.Core.Path.{refl, sym, _∙_}
 use borrow.Author.Needs.{needs}
 use Rattle.names.proofs.in_name.Statement.{statement}

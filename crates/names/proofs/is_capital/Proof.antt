@@ -1,4 +1,4 @@
--- `is_capital` meets its contract. Assumes nothing.
+-- `names::is_capital` meets its contract. Assumes nothing.
 use mathlib.Core.Path.{refl}
 use borrow.Author.Tests.{le-leb, lt-leb}
 use Rattle.names.proofs.is_capital.Statement.{statement}

@@ -1,4 +1,4 @@
--- `is_digit` meets its contract. Assumes nothing.
+-- `names::is_digit` meets its contract. Assumes nothing.
 use mathlib.Core.Path.{refl}
 use borrow.Author.Tests.{le-leb, lt-leb}
 use Rattle.names.proofs.is_digit.Statement.{statement}

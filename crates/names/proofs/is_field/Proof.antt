@@ -1,4 +1,4 @@
--- `is_field` meets its contract. Assumes nothing.
+-- `names::is_field` meets its contract. Assumes nothing.
 use mathlib.Core.Path.{sym, _∙_}
 use Rattle.names.proofs.NameLaws.{no-block, no-place, short-field, long-field}
 use borrow.Author.Needs.{needs}

@@ -1,5 +1,5 @@
--- `is_name` meets its contract. The loop's invariant: i bytes may stand in a name, and w is a name if those from i on may. The measure
--- is what is left of w. Assumes nothing.
+-- `names::is_name` meets its contract. The loop's invariant: i bytes may stand in a name, and w is a name if those from i on may.
+-- The measure is what is left of w. Assumes nothing.
 use Prim.Native.Nat.{_≤_, _-_}
 use mathlib.Core.Path.{_≡_, sym, _∙_}
 use native.Mathlib.Omega.{arith}

@@ -1,4 +1,4 @@
--- `bit` meets its contract. Assumes nothing.
+-- `numbers::bit` meets its contract. Assumes nothing.
 use mathlib.Core.Path.{ap, sym}
 use Rattle.numbers.specs.Numbers.{bit}
 use Rattle.numbers.proofs.bit.Statement.{statement}

@@ -1,4 +1,4 @@
--- `compare` meets its contract: each arm's test is that of its comparison. Assumes nothing.
+-- `numbers::compare` meets its contract: each arm's test is that of its comparison. Assumes nothing.
 use mathlib.Core.Path.{_≡_, sym, ap, _∙_}
 use mathlib.Core.Bool.{Bool, not}
 use lib.IntN.{ℤ}

@@ -1,4 +1,4 @@
--- `narrow` meets its contract: what each branch gives is what the argument wraps to. Assumes nothing.
+-- `numbers::narrow` meets its contract: what each branch gives is what the argument wraps to. Assumes nothing.
 use mathlib.Core.Path.{_≡_}
 use lib.IntN.{pos, _+ℤ_, _-ℤ_}
 use mir.Syntax.{w64}

@@ -1,4 +1,4 @@
--- `negate` meets its contract. Assumes nothing.
+-- `numbers::negate` meets its contract. Assumes nothing.
 use mathlib.Core.Path.{_≡_, ap, _∙_}
 use lib.IntN.{pos, negℤ, _-ℤ_}
 use mir.Syntax.{w32}

@@ -1,4 +1,4 @@
--- `within` meets its contract. Assumes nothing.
+-- `numbers::within` meets its contract. Assumes nothing.
 use mathlib.Core.Path.{_≡_, sym, ap, _∙_}
 use mathlib.Core.Bool.{true, false, cond}
 use lib.IntN.{ℤ}

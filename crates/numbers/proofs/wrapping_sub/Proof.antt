@@ -1,4 +1,4 @@
--- `wrapping_sub` meets its contract: nothing is lost in 64 bits, and `narrow` wraps it. Assumes nothing.
+-- `numbers::wrapping_sub` meets its contract: nothing is lost in 64 bits, and `narrow` wraps it. Assumes nothing.
 use mathlib.Core.Path.{ap, _∙_}
 use lib.IntN.{_-ℤ_}
 use mir.Syntax.{w32}

@@ -1,4 +1,4 @@
--- `letter` meets its contract. Assumes nothing.
+-- `report::letter` meets its contract. Assumes nothing.
 use mathlib.Core.Path.{refl}
 use borrow.Author.Tests.{eq-eqb, ne-eqb}
 use Rattle.report.proofs.letter.Statement.{statement}

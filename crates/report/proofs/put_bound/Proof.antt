@@ -1,11 +1,11 @@
--- `put_bound` meets its contract: the parts of the report one after the other. Assumes nothing.
-use Prim.Native.Nat.{ℕ, _+_}
+-- `report::put_bound` meets its contract: the parts of the report one after the other. Assumes nothing.
+use Prim.Native.Nat.{ℕ, _+_, zero-le}
 use mathlib.Core.Path.{_≡_, ap}
 use native.Mathlib.Omega.{arith}
 use lib.ListN.{length}
 use Rattle.text.specs.Text.{bytes}
 use Rattle.text.specs.Decimal.{decimal}
-use Rattle.text.proofs.MemoryLaws.{wrote-none, wrote-more}
+use Rattle.text.proofs.MemoryLaws.{wrote-none, wrote-more, wrote-start}
 use Rattle.report.specs.Report.{share, pathText, space, feed, figures, boundText}
 use Rattle.report.specs.Decode.{decode, reportOf}
 use Rattle.report.proofs.PutLaws.{bound-length, bound-wrote}
@@ -74,7 +74,7 @@ returns c =
     let c1 = c2 .before .before .before .before in
     let s = c1 .before .before .before .before in
     let a = s .args in
-    let w0 = wrote-none (a .out .now) in
+    let w0 = wrote-none (a .out .now) 0 zero-le in
     let w1 = wrote-more w0 (bytes "CYCLES WORDS DEPTH STEPS SHARE PATH\n") (c1 .put .ensures) in
     let w2 = wrote-more w1 (figures (reportOf (a .cycles) (a .words) (a .depth) (a .steps) 1)) (c2 .put-figures .ensures) in
     let w3 = wrote-more w2 space (c3 .put2 .ensures) in
@@ -82,8 +82,7 @@ returns c =
     let w5 = wrote-more w4 space (c6 .put3 .ensures) in
     let w6 = wrote-more w5 (pathText (decode (a .path))) (c7 .put-path .ensures) in
     let w7 = wrote-more w6 feed (c8 .put4 .ensures) in
-    let w = bound-wrote (a .tick) (a .cycles) (a .words) (a .depth) (a .steps) (a .path) (c4 .share .result) (c4 .share .ensures) w7 in
-    (w .ends, w .holds)
+    wrote-start (bound-wrote (a .tick) (a .cycles) (a .words) (a .depth) (a .steps) (a .path) (c4 .share .result) (c4 .share .ensures) w7)
 
 pub put-bound-spec : {M : Type 1} → statement M
 put-bound-spec =

@@ -1,12 +1,13 @@
--- `put_figures` meets its contract: the figures and the spaces one after the other. Assumes nothing.
+-- `report::put_figures` meets its contract: the figures and the spaces one after the other. Assumes nothing.
 use Prim.Native.Nat.{_+_}
 use mathlib.Core.Path.{_≡_}
 use native.Mathlib.Omega.{arith}
 use lib.ListN.{length}
 use Rattle.text.specs.Decimal.{decimal}
+use Rattle.text.proofs.MemoryLaws.{wrote-none, wrote-more}
 use Rattle.report.specs.Report.{space, figures}
 use Rattle.report.specs.Decode.{reportOf}
-use Rattle.report.proofs.PutLaws.{figures-length, Over, over-then}
+use Rattle.report.proofs.PutLaws.{figures-length}
 use borrow.Author.Needs.{needs}
 use Rattle.report.proofs.put_figures.Statement.{statement}
 use Rattle.report.proofs.put_figures.Tie as tie
@@ -69,13 +70,14 @@ returns c =
     let p5 = c5 .put-decimal3 .ensures in
     let p6 = c6 .put3 .ensures in
     let p7 = c7 .put-decimal4 .ensures in
-    let w1 : Over (a .out .now) (a .at) (decimal (a .cycles)) _ _ = record { ends = p1 .0; holds = p1 .1 } in
-    let w2 = over-then w1 space p2 (omega arith) in
-    let w3 = over-then w2 (decimal (a .words)) p3 (omega arith) in
-    let w4 = over-then w3 space p4 (omega arith) in
-    let w5 = over-then w4 (decimal (a .depth)) p5 (omega arith) in
-    let w6 = over-then w5 space p6 (omega arith) in
-    let w7 = over-then w6 (decimal (a .steps)) p7 (omega arith) in
+    let w0 = wrote-none (a .out .now) (a .at) (omega arith) in
+    let w1 = wrote-more w0 (decimal (a .cycles)) p1 in
+    let w2 = wrote-more w1 space p2 in
+    let w3 = wrote-more w2 (decimal (a .words)) p3 in
+    let w4 = wrote-more w3 space p4 in
+    let w5 = wrote-more w4 (decimal (a .depth)) p5 in
+    let w6 = wrote-more w5 space p6 in
+    let w7 = wrote-more w6 (decimal (a .steps)) p7 in
     (w7 .ends, w7 .holds)
 
 pub put-figures-spec : {M : Type 1} → statement M

@@ -1,5 +1,5 @@
--- `put_path` meets its contract. The loop's invariant: the letters that are left, written from e on, come to the path written from `at`
--- on. The measure is the number that is left. Assumes nothing.
+-- `report::put_path` meets its contract. The loop's invariant: the letters that are left, written from e on, come to the path
+-- written from `at` on. The measure is the number that is left. Assumes nothing.
 use Prim.Native.Nat.{_+_}
 use mathlib.Core.Path.{sym, ap, _∙_}
 use native.Mathlib.Omega.{arith}

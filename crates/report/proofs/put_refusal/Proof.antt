@@ -1,11 +1,11 @@
--- `put_refusal` meets its contract: the parts of the line one after the other. Assumes nothing.
-use Prim.Native.Nat.{_+_}
+-- `report::put_refusal` meets its contract: the parts of the line one after the other. Assumes nothing.
+use Prim.Native.Nat.{_+_, zero-le}
 use mathlib.Core.Path.{_≡_}
 use native.Mathlib.Omega.{arith}
 use lib.ListN.{length}
 use Rattle.text.specs.Text.{bytes}
 use Rattle.text.specs.Decimal.{decimal}
-use Rattle.text.proofs.MemoryLaws.{wrote-none, wrote-more}
+use Rattle.text.proofs.MemoryLaws.{wrote-none, wrote-more, wrote-start}
 use Rattle.report.specs.Report.{space, feed, refusalLine}
 use Rattle.report.proofs.PutLaws.{refusal-length}
 use borrow.Author.Needs.{needs}
@@ -53,13 +53,13 @@ returns c =
     let c1 = c2 .before .before .before .before in
     let s = c1 .before .before .before .before in
     let a = s .args in
-    let w0 = wrote-none (a .out .now) in
+    let w0 = wrote-none (a .out .now) 0 zero-le in
     let w1 = wrote-more w0 (bytes "REFUSED ") (c1 .put .ensures) in
     let w2 = wrote-more w1 (decimal (a .number)) (c2 .put-decimal .ensures) in
     let w3 = wrote-more w2 space (c3 .put2 .ensures) in
     let w4 = wrote-more w3 (decimal (a .place)) (c4 .put-decimal2 .ensures) in
     let w5 = wrote-more w4 feed (c5 .put3 .ensures) in
-    (w5 .ends, w5 .holds)
+    wrote-start w5
 
 pub put-refusal-spec : {M : Type 1} → statement M
 put-refusal-spec =

@@ -1,10 +1,10 @@
--- `put_run` meets its contract: the parts of the line one after the other. Assumes nothing.
-use Prim.Native.Nat.{_+_}
+-- `report::put_run` meets its contract: the parts of the line one after the other. Assumes nothing.
+use Prim.Native.Nat.{_+_, zero-le}
 use mathlib.Core.Path.{_≡_}
 use native.Mathlib.Omega.{arith}
 use lib.ListN.{length}
 use Rattle.text.specs.Text.{bytes}
-use Rattle.text.proofs.MemoryLaws.{wrote-none, wrote-more}
+use Rattle.text.proofs.MemoryLaws.{wrote-none, wrote-more, wrote-start}
 use Rattle.report.specs.Report.{feed, figures, runText}
 use Rattle.report.specs.Decode.{reportOf}
 use Rattle.report.proofs.PutLaws.{run-length}
@@ -42,11 +42,11 @@ returns c =
     let c1 = c2 .before .before .before .before in
     let s = c1 .before .before .before .before in
     let a = s .args in
-    let w0 = wrote-none (a .out .now) in
+    let w0 = wrote-none (a .out .now) 0 zero-le in
     let w1 = wrote-more w0 (bytes "CYCLES WORDS DEPTH STEPS\n") (c1 .put .ensures) in
     let w2 = wrote-more w1 (figures (reportOf (a .cycles) (a .words) (a .depth) (a .steps) 1)) (c2 .put-figures .ensures) in
     let w3 = wrote-more w2 feed (c3 .put2 .ensures) in
-    (w3 .ends, w3 .holds)
+    wrote-start w3
 
 pub put-run-spec : {M : Type 1} → statement M
 put-run-spec =

@@ -1,4 +1,4 @@
--- `share` meets its contract: nothing wraps, and TICK is not 0. Assumes nothing.
+-- `report::share` meets its contract: nothing wraps, and TICK is not 0. Assumes nothing.
 use mathlib.Core.Path.{refl}
 use borrow.Author.Needs.{needs}
 use Rattle.report.specs.Report.{share}

@@ -1,4 +1,4 @@
--- `block_word` meets its contract. Assumes nothing.
+-- `values::block_word` meets its contract. Assumes nothing.
 use mathlib.Core.Path.{sym, ap, _∙_}
 use mir.Syntax.{w64}
 use mir.ValLaws.{toZ-ofZ}

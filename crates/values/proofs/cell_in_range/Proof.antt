@@ -1,4 +1,4 @@
--- `cell_in_range` meets its contract. Assumes nothing.
+-- `values::cell_in_range` meets its contract. Assumes nothing.
 use mathlib.Core.Path.{refl, ap₂, _∙_}
 use mir.Syntax.{w64}
 use mir.ValLaws.{toZ-ofZ}

@@ -1,4 +1,4 @@
--- `cell_of` meets its contract. Assumes nothing.
+-- `values::cell_of` meets its contract. Assumes nothing.
 use mathlib.Core.Path.{ap, _∙_}
 use lib.IntN.{natAbs}
 use mir.Syntax.{w64}

@@ -1,4 +1,4 @@
--- `cell_present` meets its contract. Assumes nothing.
+-- `values::cell_present` meets its contract. Assumes nothing.
 use mathlib.Core.Path.{refl, ap, _∙_}
 use lib.Dec.{ltb}
 use lib.IntN.{natAbs}

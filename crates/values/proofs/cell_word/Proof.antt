@@ -1,4 +1,4 @@
--- `cell_word` meets its contract. Assumes nothing.
+-- `values::cell_word` meets its contract. Assumes nothing.
 use mathlib.Core.Path.{sym, ap, _∙_}
 use Rattle.text.specs.Decimal.{numeral}
 use Rattle.routine.specs.Rows.{knownOf, blockOf}

@@ -1,4 +1,4 @@
--- `handle_cell` meets its contract. Assumes nothing.
+-- `values::handle_cell` meets its contract. Assumes nothing.
 use mathlib.Core.Path.{_≡_, sym, ap, ap₂, subst, _∙_}
 use native.Mathlib.Omega.{arith}
 use lib.Dec.{T}
@@ -10,7 +10,8 @@ use mir.ValLaws.{toZ-ofZ}
 use Rattle.cells.specs.Cells.{handle}
 use Rattle.routine.specs.Rows.{handles}
 use Rattle.routine.specs.Routine.{inside}
-use Rattle.values.proofs.ValueLaws.{natural-inside, natural-sign}
+use Rattle.routine.proofs.RangeLaws.{natural-inside}
+use Rattle.values.proofs.ValueLaws.{natural-sign}
 use borrow.Author.Needs.{needs}
 use Rattle.values.proofs.handle_cell.Statement.{statement}
 use Rattle.values.proofs.handle_cell.Tie as tie

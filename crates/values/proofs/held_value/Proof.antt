@@ -1,4 +1,4 @@
--- `held_value` meets its contract. Assumes nothing.
+-- `values::held_value` meets its contract. Assumes nothing.
 use mathlib.Core.Path.{refl}
 use mir.Syntax.{w64}
 use mir.ValLaws.{toZ-ofZ}

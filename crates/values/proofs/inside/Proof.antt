@@ -1,4 +1,4 @@
--- `inside` meets its contract. Assumes nothing.
+-- `values::inside` meets its contract. Assumes nothing.
 use mathlib.Core.Path.{_≡_, sym, ap, _∙_}
 use mathlib.Core.Bool.{Bool, cond}
 use lib.IntN.{ℤ, pos}

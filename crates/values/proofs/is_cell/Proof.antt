@@ -1,4 +1,4 @@
--- `is_cell` meets its contract. Assumes nothing.
+-- `values::is_cell` meets its contract. Assumes nothing.
 use mathlib.Core.Path.{refl}
 use Rattle.routine.specs.Rows.{cellWord, isCell}
 use Rattle.values.specs.Values.{clampedCell}

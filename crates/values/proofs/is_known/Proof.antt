@@ -1,4 +1,4 @@
--- `is_known` meets its contract. Assumes nothing.
+-- `values::is_known` meets its contract. Assumes nothing.
 use mathlib.Core.Path.{refl}
 use Rattle.routine.specs.Rows.{cellWord, isKnown}
 use Rattle.values.specs.Values.{clampedCell}

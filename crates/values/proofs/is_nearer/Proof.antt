@@ -1,4 +1,4 @@
--- `is_nearer` meets its contract. Assumes nothing.
+-- `values::is_nearer` meets its contract. Assumes nothing.
 use mathlib.Core.Path.{_≡_, sym, ap, ap₂, subst, _∙_}
 use native.Mathlib.Omega.{arith}
 use Prim.Native.Nat.{ℕ, zero, suc, _≤_}

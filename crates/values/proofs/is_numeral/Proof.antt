@@ -1,4 +1,4 @@
--- `is_numeral` meets its contract. Assumes nothing.
+-- `values::is_numeral` meets its contract. Assumes nothing.
 use mathlib.Core.Path.{refl}
 use Rattle.text.specs.Decimal.{numeral, clamped}
 use Rattle.routine.specs.Rows.{isNumeral}

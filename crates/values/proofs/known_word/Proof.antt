@@ -1,4 +1,4 @@
--- `known_word` meets its contract. Assumes nothing.
+-- `values::known_word` meets its contract. Assumes nothing.
 use mathlib.Core.Path.{sym, ap, _∙_}
 use mir.Syntax.{w64}
 use mir.ValLaws.{toZ-ofZ}

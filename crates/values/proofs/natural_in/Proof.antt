@@ -1,4 +1,4 @@
--- `natural_in` meets its contract. Assumes nothing.
+-- `values::natural_in` meets its contract. Assumes nothing.
 use mathlib.Core.Path.{_≡_, sym, ap, ap₂, subst, _∙_}
 use native.Mathlib.Omega.{arith}
 use Prim.Native.Nat.{ℕ, _<_}
@@ -12,7 +12,8 @@ use Rattle.text.specs.Decimal.{most}
 use Rattle.numbers.specs.Numbers.{range}
 use Rattle.routine.specs.Rows.{value}
 use Rattle.routine.specs.Routine.{inside}
-use Rattle.values.proofs.ValueLaws.{natural-inside, natural-sign}
+use Rattle.routine.proofs.RangeLaws.{natural-inside}
+use Rattle.values.proofs.ValueLaws.{natural-sign}
 use borrow.Author.Needs.{needs}
 use Rattle.values.proofs.natural_in.Statement.{statement}
 use Rattle.values.proofs.natural_in.Tie as tie

@@ -1,4 +1,4 @@
--- `number_cell` meets its contract. Assumes nothing.
+-- `values::number_cell` meets its contract. Assumes nothing.
 use mathlib.Core.Path.{_≡_, sym, ap, ap₂, subst, _∙_}
 use mir.Syntax.{w32, w64}
 use mir.Val.{SFits, ofZ, toZ}

@@ -1,4 +1,4 @@
--- `tell_all` ends: each case takes a byte at least. Assumes nothing.
+-- `readings::texts::tell_all` ends: each case takes a byte at least. Assumes nothing.
 use native.Mathlib.Omega.{arith}
 use Prim.Native.Nat.{_-_}
 use lib.ListN.{length}
