@@ -15,7 +15,7 @@ use Rattle.states.specs.declared.State as code
 use Rattle.states.specs.declared.code.Line.{Line}
 use Rattle.machine.specs.Machine.{stops, goes, height, store}
 use Rattle.states.specs.Columns.{lineOf}
-use Rattle.states.specs.View.{Fits, whole}
+use Rattle.states.specs.View.{beside, Fits, whole}
 use Rattle.bounds.specs.Run.{Run, begin, answer, remaining, moved}
 use Rattle.progress.specs.declared.Progress.{Progress}
 use Rattle.progress.specs.Progress.{ofProgress, Counted, Sound, Moves}
@@ -57,18 +57,18 @@ runs-equal x y a b c d e f g = λ i. record { state = a i; answers = b i; cycles
 
 module _ (l : Line) (r : Progress) (counted : Counted r) (k : ℕ)
     (takes : ((answers : List ℤ) → drop k answers ≡ remaining (eqb (l .code) 13) (drop (r .taken) answers)) × (k ≤ r .taken + 1)) (cheap : (l .cycles < 4294967296) × (l .words < 4294967296)) where
-  pub goes-moves : (ns : List ℕ) (t : code.State) (fs : List Cell) (d : ℕ) → length (t .stack) ≡ 64 → t .free ≤ 64 → d ≡ max (r .depth) (64 - t .free) → Fits ns fs →
-      Moves ns r (eqb (l .code) 13) (done (goes (lineOf l .price) (whole ns fs t)))
-      (record { state = t; blocks = fs; taken = k; cycles = r .cycles + l .cycles; words = r .words + l .words; depth = d; steps = r .steps + 1; stopped = false })
+  pub goes-moves : (ns : List ℕ) (t : code.State) (cells fs : List Cell) (d : ℕ) → length cells ≡ 64 → t .free ≤ 64 → d ≡ max (r .depth) (64 - t .free) → Fits ns fs →
+      Moves ns r (eqb (l .code) 13) (done (goes (lineOf l .price) (whole ns fs (beside cells t))))
+      (record { state = t; stack = cells; blocks = fs; taken = k; cycles = r .cycles + l .cycles; words = r .words + l .words; depth = d; steps = r .steps + 1; stopped = false })
   unfolding ofProgress moved height whole store
-  goes-moves ns t fs d n h e fits = record {
-    run = λ answers. runs-equal _ _ refl (takes .0 answers) refl refl (let g : length (drop (t .free) (t .stack)) ≡ 64 - t .free = simp length-drop (omega arith) in rw g e) (add-one (r .steps)) refl;
+  goes-moves ns t cells fs d n h e fits = record {
+    run = λ answers. runs-equal _ _ refl (takes .0 answers) refl refl (let g : length (drop (t .free) cells) ≡ 64 - t .free = simp length-drop (omega arith) in rw g e) (add-one (r .steps)) refl;
     sound = record { fits = fits; free = h; counted = record { taken = omega arith; cycles = omega arith; words = omega arith } };
     steps = omega arith;
   }
 
   pub stops-moves : (ns : List ℕ) → Sound ns r → Moves ns r (eqb (l .code) 13) (done (stops (lineOf l .price)))
-      (record { state = r .state; blocks = r .blocks; taken = k; cycles = r .cycles + l .cycles; words = r .words + l .words; depth = r .depth; steps = r .steps + 1; stopped = true })
+      (record { state = r .state; stack = r .stack; blocks = r .blocks; taken = k; cycles = r .cycles + l .cycles; words = r .words + l .words; depth = r .depth; steps = r .steps + 1; stopped = true })
   unfolding ofProgress moved
   stops-moves ns sound = record {
     run = λ answers. runs-equal _ _ refl (takes .0 answers) refl refl refl (add-one (r .steps)) refl;
@@ -83,7 +83,7 @@ stays ns r calls sound = record { run = λ answers. refl; sound = sound; steps =
 
 -- ---- the first state
 
-pub begins : (ns : List ℕ) (answers : List ℤ) (s : code.State) (fs : List Cell) → length (s .stack) ≡ 64 → s .free ≤ 64 →
-    ofProgress ns answers (record { state = s; blocks = fs; taken = 0; cycles = 0; words = 0; depth = 64 - s .free; steps = 0; stopped = false }) ≡ begin (whole ns fs s) answers
+pub begins : (ns : List ℕ) (answers : List ℤ) (s : code.State) (cells fs : List Cell) → length cells ≡ 64 → s .free ≤ 64 →
+    ofProgress ns answers (record { state = s; stack = cells; blocks = fs; taken = 0; cycles = 0; words = 0; depth = 64 - s .free; steps = 0; stopped = false }) ≡ begin (whole ns fs (beside cells s)) answers
 unfolding ofProgress begin height whole store
-begins ns answers s fs n h = let g : 64 - s .free ≡ length (drop (s .free) (s .stack)) = simp length-drop (omega arith) in rw (← g) refl
+begins ns answers s cells fs n h = let g : 64 - s .free ≡ length (drop (s .free) cells) = simp length-drop (omega arith) in rw (← g) refl

@@ -7,14 +7,18 @@ use lib.IntN.{ℤ}
 use lib.ListN.{drop}
 use Rattle.cells.specs.Try.{Try}
 use Rattle.machine.specs.Machine.{Next}
-use Rattle.states.specs.View.{Fits, whole}
+use Rattle.states.specs.View.{Stacked, beside, Fits, whole}
 use Rattle.bounds.specs.Run.{Run, remaining, moved}
 use Rattle.progress.specs.declared.Progress.{Progress}
+
+-- the state of the run, with the cells of its stack
+abbrev pub here : Progress → Stacked
+here r = beside (r .stack) (r .state)
 
 -- the run, with blocks of the sizes ns, over the listed answers
 unfoldable pub ofProgress : List ℕ → List ℤ → Progress → Run
 ofProgress ns answers r = record {
-  state = whole ns (r .blocks) (r .state);
+  state = whole ns (r .blocks) (here r);
   answers = drop (r .taken) answers;
   cycles = r .cycles;
   words = r .words;

@@ -11,13 +11,14 @@ ghost use lib.ListN.{drop};
 ghost use Rattle.cells.specs.Try.{done};
 ghost use Rattle.machine.specs.Machine.{stops, goes};
 ghost use Rattle.states.specs.Columns.{lineOf};
-ghost use Rattle.states.specs.View.{whole, Fits};
+ghost use Rattle.states.specs.View.{beside, whole, Fits};
 ghost use Rattle.bounds.specs.Run.{begin, answer, remaining};
 ghost use Rattle.progress.specs.Progress.{ofProgress, Counted, Sound, Moves};
 
-// A run: its state and blocks, how many answers its calls asked for, its sums, and whether STOP was made.
+// A run: its state with the cells of its stack and its blocks, how many answers its calls asked for, its sums, and whether STOP was made.
 pub struct Progress {
     pub state: State,
+    pub stack: [Cell; 64],
     pub blocks: [Cell; 128],
     pub taken: usize,
     pub cycles: u64,
@@ -45,16 +46,17 @@ fn taken_after(code: u8, taken: usize) -> usize
     if code == 13 { taken + 1 } else { taken }
 }
 
-// After a step at the line that leads to the state `t` with `blocks`.
-pub fn gone(line: Line, t: State, blocks: [Cell; 128], r: Progress) -> Progress
+// After a step at the line that leads to the state `t` with `stack` and `blocks`.
+pub fn gone(line: Line, t: State, stack: [Cell; 64], blocks: [Cell; 128], r: Progress) -> Progress
     requires { ⌜ Counted r × (r .steps < 1000000) × (t .free ≤ 64) ⌝ }
-    ensures { λ q. ⌜ ((ns : List ℕ) → Fits ns blocks → Moves ns r (eqb (line .code) 13) (done (goes (lineOf line .price) (whole ns blocks t))) q) ⌝ }
+    ensures { λ q. ⌜ ((ns : List ℕ) → Fits ns blocks → Moves ns r (eqb (line .code) 13) (done (goes (lineOf line .price) (whole ns blocks (beside stack t)))) q) ⌝ }
 {
     let taken = taken_after(line.code, r.taken);
     let h = 64 - t.free;
     let depth = if r.depth < h { h } else { r.depth };
     Progress {
         state: t,
+        stack: stack,
         blocks: blocks,
         taken: taken,
         cycles: r.cycles + (line.cycles as u64),
@@ -73,9 +75,11 @@ pub fn halted(line: Line, r: Progress) -> Progress
     let taken = taken_after(line.code, r.taken);
     let spent = r.cycles + (line.cycles as u64);
     let state = r.state;
+    let stack = r.stack;
     let blocks = r.blocks;
     Progress {
         state: state,
+        stack: stack,
         blocks: blocks,
         taken: taken,
         cycles: spent,
@@ -87,14 +91,15 @@ pub fn halted(line: Line, r: Progress) -> Progress
 }
 
 // The run before its first step.
-pub fn begin(start: State, blocks: [Cell; 128]) -> Progress
+pub fn begin(start: State, stack: [Cell; 64], blocks: [Cell; 128]) -> Progress
     requires { ⌜ start .free ≤ 64 ⌝ }
-    ensures { λ r. ⌜ ((ns : List ℕ) (answers : List ℤ) → ofProgress ns answers r ≡ begin (whole ns blocks start) answers) ⌝ }
+    ensures { λ r. ⌜ ((ns : List ℕ) (answers : List ℤ) → ofProgress ns answers r ≡ begin (whole ns blocks (beside stack start)) answers) ⌝ }
     ensures { λ r. ⌜ ((ns : List ℕ) → Fits ns blocks → Sound ns r) × (r .steps ≡ 0) ⌝ }
 {
     let h = 64 - start.free;
     Progress {
         state: start,
+        stack: stack,
         blocks: blocks,
         taken: 0,
         cycles: 0,

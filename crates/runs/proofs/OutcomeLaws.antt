@@ -7,14 +7,13 @@ use native.Mathlib.Omega.{arith}
 use lib.Dec.{eqb}
 use lib.IntN.{ℤ, pos, negsuc}
 use lib.ListN.{length, getD, drop, set, length-drop, length-set}
-use lib.Seq.{getD-drop}
+use lib.Seq.{getD-drop, drop-set-add}
 use mir.Syntax.{w32}
 use mir.Val.{SFits}
 use Rattle.cells.specs.Try.{Try, stuck, done, _>>=_}
 use Rattle.cells.specs.declared.Cell.{Cell}
 use Rattle.cells.specs.Cells.{number}
 use Rattle.instructions.specs.declared.Operation.{Operation}
-use Rattle.states.specs.declared.State as code
 use Rattle.states.specs.declared.code.Line.{Line}
 use Rattle.outcomes.specs.declared.Outcome.{Outcome}
 use Rattle.outcomes.specs.declared.Outcome.the-variants.{Gives, Stores, Sets, Gets, Goes, Opens, Halts, Stuck}
@@ -24,12 +23,12 @@ use Rattle.machine.specs.Machine.{Code, Next, stops, goes, index, fetch, jump, 
 use Rattle.instructions.specs.Columns.{operationOf}
 use Rattle.outcomes.specs.Outcome.{entryOf, drops, outcome, resume}
 use Rattle.states.specs.Columns.{lineOf}
-use Rattle.states.specs.View.{view, slot, ofSlot, Fits, whole}
+use Rattle.states.specs.View.{Stacked, view, slot, ofSlot, Fits, whole}
 use Rattle.states.proofs.BlockLaws.{slot-below}
 use Rattle.outcomes.proofs.TurnLaws.{pushed, not-pushed, full, turns, gives-drops, stores-in, sets-in, gives-goes, stores-goes, goes-goes, gets-goes, gets-stuck, sets-goes, sets-stuck}
 use Rattle.bounds.specs.Run.{moved}
 use Rattle.progress.specs.declared.Progress.{Progress}
-use Rattle.progress.specs.Progress.{Sound, Moves}
+use Rattle.progress.specs.Progress.{here, Sound, Moves}
 use Rattle.runs.specs.Contract.{Possible}
 use Rattle.progress.proofs.ProgressLaws.{stays}
 
@@ -57,18 +56,26 @@ possible o i r h a e x g = record {
 pub slot-in : (ns : List ℕ) (fs : List Cell) → Fits ns fs → (a : Cell) (n j : ℕ) (s : Slot) → ofSlot s ≡ slot ns a n → s ≡ At j → j < length fs
 slot-in ns fs fits a n j s e p = omega (arith, slot-below ns fs fits a n j (sym e ∙ ap ofSlot p), fits .room)
 
+-- the state with c written in the place of entry n
+abbrev pub written : Stacked → ℕ → Cell → Stacked
+written t n c = record { at = t .at; accu = t .accu; free = t .free; stack = set (t .stack) (t .free + n) c }
+
+view-written : (t : Stacked) (n : ℕ) (c : Cell) → view (written t n c) ≡ restack (set (view t .stack) n c) (view t)
+unfolding restack
+view-written t n c = simp drop-set-add
+
 -- q is the run r after the outcome x at the line l, from the state t
-abbrev pub After : List ℕ → Line → code.State → Progress → Progress → Outcome → Type 0
+abbrev pub After : List ℕ → Line → Stacked → Progress → Progress → Outcome → Type 0
 After ns l t r q x = Moves ns r (eqb (l .code) 13) (resume (lineOf l .price) (operationOf (l .code)) (l .operand) (whole ns (r .blocks) t) x) q
 
 -- what `gone` ensures
-abbrev pub Gone : Line → Progress → List Cell → code.State → Progress → Type 0
+abbrev pub Gone : Line → Progress → List Cell → Stacked → Progress → Type 0
 Gone l r fs u q = (ns : List ℕ) → Fits ns fs → Moves ns r (eqb (l .code) 13) (done (goes (lineOf l .price) (whole ns fs u))) q
 
-module _ (ns : List ℕ) (l : Line) (t : code.State) (r : Progress) (sound : Sound ns r) (x : Outcome) (n : ℕ) (is : n ≡ index (l .operand)) where
+module _ (ns : List ℕ) (l : Line) (t : Stacked) (r : Progress) (sound : Sound ns r) (x : Outcome) (n : ℕ) (is : n ≡ index (l .operand)) where
   -- the state b is at the next address in u
-  module _ (q : Progress) (b u : code.State) (next : view u ≡ advance (view b)) where
-    pub gives-moves : (c : Cell) → x ≡ Gives c → (k : ℕ) → k ≡ drops (operationOf (l .code)) n → (a : code.State) → view a ≡ restack (drop k (view t .stack)) (view t) →
+  module _ (q : Progress) (b u : Stacked) (next : view u ≡ advance (view b)) where
+    pub gives-moves : (c : Cell) → x ≡ Gives c → (k : ℕ) → k ≡ drops (operationOf (l .code)) n → (a : Stacked) → view a ≡ restack (drop k (view t .stack)) (view t) →
         view b ≡ load c (view a) → Gone l r (r .blocks) u q → After ns l t r q x
     gives-moves c e k f a popped loaded g =
         moves-as
@@ -77,13 +84,12 @@ module _ (ns : List ℕ) (l : Line) (t : code.State) (r : Progress) (sound : Sou
         (next ∙ ap advance (loaded ∙ ap (load c) (popped ∙ ap (λ k. restack (drop k (view t .stack)) (view t)) (f ∙ ap (drops (operationOf (l .code))) is)))))
         (g ns (sound .fits))
 
-    pub stores-moves : (c d : Cell) → x ≡ Stores c → d ≡ number (pos 0) → (a : code.State) → view a ≡ restack (set (view t .stack) n c) (view t) →
-        view b ≡ load d (view a) → Gone l r (r .blocks) u q → After ns l t r q x
-    stores-moves c d e z a stored loaded g =
+    pub stores-moves : (c : Cell) → x ≡ Stores c → view b ≡ load (number (pos 0)) (view (written t n c)) → Gone l r (r .blocks) u q → After ns l t r q x
+    stores-moves c e stored g =
         moves-as
         (ap (resume (lineOf l .price) (operationOf (l .code)) (l .operand) (whole ns (r .blocks) t)) e
         ∙ stores-goes ns (r .blocks) (lineOf l .price) (operationOf (l .code)) (l .operand) t c u
-        (next ∙ ap advance (loaded ∙ ap (λ d. load d (view a)) z ∙ ap (load (number (pos 0))) (stored ∙ ap (λ n. restack (set (view t .stack) n c) (view t)) is))))
+        (next ∙ ap advance (stored ∙ ap (load (number (pos 0))) (view-written t n c ∙ ap (λ n. restack (set (view t .stack) n c) (view t)) is))))
         (g ns (sound .fits))
 
     module _ (s : Slot) (found : ofSlot s ≡ slot ns (t .accu) n) (j : ℕ) (there : s ≡ At j) where
@@ -97,16 +103,16 @@ module _ (ns : List ℕ) (l : Line) (t : code.State) (r : Progress) (sound : Sou
           ∙ gets-goes ns (r .blocks) (lineOf l .price) (operationOf (l .code)) (l .operand) t (sound .fits) j d u at-slot (next ∙ ap advance loaded))
           (g ns (sound .fits))
 
-      pub sets-moves : (c d : Cell) → x ≡ Sets c → d ≡ number (pos 0) → (a : code.State) → view a ≡ restack (drop 1 (view t .stack)) (view t) →
-          view b ≡ load d (view a) → Gone l r (set (r .blocks) j c) u q → After ns l t r q x
-      sets-moves c d e z a popped loaded g =
+      pub sets-moves : (c : Cell) → x ≡ Sets c → (a : Stacked) → view a ≡ restack (drop 1 (view t .stack)) (view t) →
+          view b ≡ load (number (pos 0)) (view a) → Gone l r (set (r .blocks) j c) u q → After ns l t r q x
+      sets-moves c e a popped stored g =
           moves-as
           (ap (resume (lineOf l .price) (operationOf (l .code)) (l .operand) (whole ns (r .blocks) t)) e
           ∙ sets-goes ns (r .blocks) (lineOf l .price) (operationOf (l .code)) (l .operand) t (sound .fits) c j u at-slot
-          (next ∙ ap advance (loaded ∙ ap (λ d. load d (view a)) z ∙ ap (load (number (pos 0))) popped)))
+          (next ∙ ap advance (stored ∙ ap (load (number (pos 0))) popped)))
           (g ns (record { few = sound .fits .few; room = simp length-set (sound .fits .room) }))
 
-  pub jumps-moves : (q : Progress) (u : code.State) → x ≡ Goes → view u ≡ jump n (view t) → Gone l r (r .blocks) u q → After ns l t r q x
+  pub jumps-moves : (q : Progress) (u : Stacked) → x ≡ Goes → view u ≡ jump n (view t) → Gone l r (r .blocks) u q → After ns l t r q x
   jumps-moves q u e jumped g =
       moves-as
       (ap (resume (lineOf l .price) (operationOf (l .code)) (l .operand) (whole ns (r .blocks) t)) e
@@ -131,7 +137,7 @@ module _ (ns : List ℕ) (l : Line) (t : code.State) (r : Progress) (sound : Sou
         ∙ sets-stuck ns (r .blocks) (lineOf l .price) (operationOf (l .code)) (l .operand) t (sound .fits) c no-slot)
         (stays ns r _ sound)
 
-module _ (ns : List ℕ) (l : Line) (t : code.State) (r : Progress) (sound : Sound ns r) (x : Outcome) where
+module _ (ns : List ℕ) (l : Line) (t : Stacked) (r : Progress) (sound : Sound ns r) (x : Outcome) where
   pub halts-moves : (q : Progress) → x ≡ Halts → Moves ns r (eqb (l .code) 13) (done (stops (lineOf l .price))) q → After ns l t r q x
   unfolding resume
   halts-moves q e g = moves-as (ap (resume (lineOf l .price) (operationOf (l .code)) (l .operand) (whole ns (r .blocks) t)) e) g
@@ -158,30 +164,30 @@ getD-there (x ∷ xs) (suc i) d e h = getD-there xs i d e (omega arith)
 entry-in : (xs : List Cell) (f k i : ℕ) (d e : Cell) → i < length xs → i ≡ f + k → e ≡ getD xs i d → e ≡ getD (drop f xs) k e
 entry-in xs f k i d e h is g = g ∙ getD-there xs i d e h ∙ ap (λ i. getD xs i e) is ∙ sym (getD-drop f xs k e)
 
-module _ (ns : List ℕ) (l : Line) (answer : Cell) (t : code.State) (r q : Progress) (room : length (t .stack) ≡ 64) where
+module _ (ns : List ℕ) (l : Line) (answer : Cell) (t : Stacked) (r q : Progress) (room : length (t .stack) ≡ 64) where
   pub steps-by : (x : Outcome) (e d : Cell) (n i : ℕ) → n ≡ index (l .operand) → i < 64 → (t .free + entryOf (operationOf (l .code)) n < 64 → i ≡ t .free + entryOf (operationOf (l .code)) n) → e ≡ getD (t .stack) i d →
       x ≡ outcome (operationOf (l .code)) (l .operand) answer (64 - t .free) (t .accu) e → After ns l t r q x →
-      (c : Code) → fetch c (r .state .at) ≡ done (lineOf l) → prepare (l .pushes) (whole ns (r .blocks) (r .state)) ≡ done (whole ns (r .blocks) t) →
-      Moves ns r (eqb (l .code) 13) (step c answer (whole ns (r .blocks) (r .state))) q
+      (c : Code) → fetch c (r .state .at) ≡ done (lineOf l) → prepare (l .pushes) (whole ns (r .blocks) (here r)) ≡ done (whole ns (r .blocks) t) →
+      Moves ns r (eqb (l .code) 13) (step c answer (whole ns (r .blocks) (here r))) q
   steps-by x e d n i is below place at g m c f p =
       moves-as
-      (turns ns (r .blocks) c answer (r .state) t (lineOf l) f p (64 - t .free) e (simp length-drop (omega arith))
+      (turns ns (r .blocks) c answer (here r) t (lineOf l) f p (64 - t .free) e (simp length-drop (omega arith))
       (λ h. let k = place (rw is (omega arith)) in entry-in (t .stack) (t .free) _ i d e (omega arith) (k ∙ ap (λ n. t .free + entryOf (operationOf (l .code)) n) is) at)
       ∙ ap (resume (lineOf l .price) (operationOf (l .code)) (l .operand) (whole ns (r .blocks) t)) (sym g))
       m
 
 -- the push before it
-blocked : (ns : List ℕ) (fs : List Cell) (s : code.State) (l : Line) (answer : Cell) (c : Code) → fetch c (s .at) ≡ done (lineOf l) → prepare (l .pushes) (whole ns fs s) ≡ stuck → step c answer (whole ns fs s) ≡ stuck
+blocked : (ns : List ℕ) (fs : List Cell) (s : Stacked) (l : Line) (answer : Cell) (c : Code) → fetch c (s .at) ≡ done (lineOf l) → prepare (l .pushes) (whole ns fs s) ≡ stuck → step c answer (whole ns fs s) ≡ stuck
 unfolding step execute whole store _>>=_
 blocked ns fs s l answer c f p = rw (f, p) refl
 
-module _ (ns : List ℕ) (l : Line) (answer : Cell) (r : Progress) (sound : Sound ns r) (room : length (r .state .stack) ≡ 64) where
-  pub full-stays : l .pushes ≡ true → r .state .free ≡ 0 → (c : Code) → fetch c (r .state .at) ≡ done (lineOf l) → Moves ns r (eqb (l .code) 13) (step c answer (whole ns (r .blocks) (r .state))) r
-  full-stays p z c f = moves-as (blocked ns (r .blocks) (r .state) l answer c f (ap (λ b. prepare b (whole ns (r .blocks) (r .state))) p ∙ full ns (r .blocks) (r .state) (simp length-drop (omega arith)))) (stays ns r _ sound)
+module _ (ns : List ℕ) (l : Line) (answer : Cell) (r : Progress) (sound : Sound ns r) (room : length (r .stack) ≡ 64) where
+  pub full-stays : l .pushes ≡ true → r .state .free ≡ 0 → (c : Code) → fetch c (r .state .at) ≡ done (lineOf l) → Moves ns r (eqb (l .code) 13) (step c answer (whole ns (r .blocks) (here r))) r
+  full-stays p z c f = moves-as (blocked ns (r .blocks) (here r) l answer c f (ap (λ b. prepare b (whole ns (r .blocks) (here r))) p ∙ full ns (r .blocks) (here r) (simp length-drop (omega arith)))) (stays ns r _ sound)
 
-  pub pushes-to : (t : code.State) → l .pushes ≡ true → (r .state .free ≡ 0 → ⊥) → view t ≡ restack (r .state .accu ∷ view (r .state) .stack) (view (r .state)) →
-      prepare (l .pushes) (whole ns (r .blocks) (r .state)) ≡ done (whole ns (r .blocks) t)
-  pushes-to t p z e = ap (λ b. prepare b (whole ns (r .blocks) (r .state))) p ∙ pushed ns (r .blocks) (r .state) t e (simp length-drop (omega (arith, sound .free)))
+  pub pushes-to : (t : Stacked) → l .pushes ≡ true → (r .state .free ≡ 0 → ⊥) → view t ≡ restack (r .state .accu ∷ view (here r) .stack) (view (here r)) →
+      prepare (l .pushes) (whole ns (r .blocks) (here r)) ≡ done (whole ns (r .blocks) t)
+  pushes-to t p z e = ap (λ b. prepare b (whole ns (r .blocks) (here r))) p ∙ pushed ns (r .blocks) (here r) t e (simp length-drop (omega (arith, sound .free)))
 
-  pub pushes-none : l .pushes ≡ false → prepare (l .pushes) (whole ns (r .blocks) (r .state)) ≡ done (whole ns (r .blocks) (r .state))
-  pushes-none p = ap (λ b. prepare b (whole ns (r .blocks) (r .state))) p ∙ not-pushed ns (r .blocks) (r .state)
+  pub pushes-none : l .pushes ≡ false → prepare (l .pushes) (whole ns (r .blocks) (here r)) ≡ done (whole ns (r .blocks) (here r))
+  pushes-none p = ap (λ b. prepare b (whole ns (r .blocks) (here r))) p ∙ not-pushed ns (r .blocks) (here r)

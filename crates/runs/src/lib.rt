@@ -18,9 +18,9 @@ ghost use Rattle.instructions.specs.Columns.{operationOf};
 ghost use Rattle.outcomes.specs.Outcome.{resume};
 ghost use Rattle.outcomes.specs.declared.Outcome.the-variants.{Sets, Gets};
 ghost use Rattle.states.specs.Columns.{codeOf, lineOf, Sized};
-ghost use Rattle.states.specs.View.{whole, Fits};
+ghost use Rattle.states.specs.View.{beside, whole, Fits};
 ghost use Rattle.bounds.specs.Run.{begin, once, after, judgeRun, run};
-ghost use Rattle.progress.specs.Progress.{ofProgress, Sound, Moves};
+ghost use Rattle.progress.specs.Progress.{here, ofProgress, Sound, Moves};
 ghost use Rattle.runs.specs.Contract.{verdictOf, Ready, Possible, SafeFrom, WithinBound};
 
 // STOP was made; or refusal 7 or 9 with its address.
@@ -40,9 +40,16 @@ pub struct Ran {
 }
 
 // The accumulator becomes field `n`, which the operand names.
-fn get_field(sizes: &[u8], line: Line, n: usize, t: State, r: Progress) -> Progress
+fn get_field(
+    sizes: &[u8],
+    line: Line,
+    n: usize,
+    t: State,
+    stack: [Cell; 64],
+    r: Progress,
+) -> Progress
     requires { ⌜ Ready (now sizes) line t r × (n ≡ index (line .operand)) ⌝ }
-    ensures { λ q. ⌜ Moves (now (sizes .entry)) r (eqb (line .code) 13) (resume (lineOf line .price) (operationOf (line .code)) (line .operand) (whole (now (sizes .entry)) (r .blocks) t) Gets) q ⌝ }
+    ensures { λ q. ⌜ Moves (now (sizes .entry)) r (eqb (line .code) 13) (resume (lineOf line .price) (operationOf (line .code)) (line .operand) (whole (now (sizes .entry)) (r .blocks) (beside stack t)) Gets) q ⌝ }
 {
     let slot = states::slot_of(sizes, t.accu, n);
     let Slot::At(j) = slot else {
@@ -50,13 +57,21 @@ fn get_field(sizes: &[u8], line: Line, n: usize, t: State, r: Progress) -> Progr
     };
     let blocks = r.blocks;
     let u = t.load(blocks[j]).advance();
-    progress::gone(line, u, blocks, r)
+    progress::gone(line, u, stack, blocks, r)
 }
 
 // Field `n`, which the operand names, becomes `c`, which is popped, and the accumulator 0.
-fn set_field(sizes: &[u8], line: Line, n: usize, t: State, c: Cell, r: Progress) -> Progress
+fn set_field(
+    sizes: &[u8],
+    line: Line,
+    n: usize,
+    t: State,
+    stack: [Cell; 64],
+    c: Cell,
+    r: Progress,
+) -> Progress
     requires { ⌜ Ready (now sizes) line t r × (n ≡ index (line .operand)) × (t .free < 64) ⌝ }
-    ensures { λ q. ⌜ Moves (now (sizes .entry)) r (eqb (line .code) 13) (resume (lineOf line .price) (operationOf (line .code)) (line .operand) (whole (now (sizes .entry)) (r .blocks) t) (Sets c)) q ⌝ }
+    ensures { λ q. ⌜ Moves (now (sizes .entry)) r (eqb (line .code) 13) (resume (lineOf line .price) (operationOf (line .code)) (line .operand) (whole (now (sizes .entry)) (r .blocks) (beside stack t)) (Sets c)) q ⌝ }
 {
     let place = states::slot_of(sizes, t.accu, n);
     let Slot::At(j) = place else {
@@ -64,61 +79,82 @@ fn set_field(sizes: &[u8], line: Line, n: usize, t: State, c: Cell, r: Progress)
     };
     let mut blocks = r.blocks;
     blocks[j] = c;
-    let u = t.pop(1).load(cells::number(0)).advance();
-    progress::gone(line, u, blocks, r)
+    let u = t.pop(1).store().advance();
+    progress::gone(line, u, stack, blocks, r)
 }
 
-// What the outcome makes of the run, from the state `t` after the line's push; `n` is the operand as an index.
-fn apply(sizes: &[u8], line: Line, n: usize, t: State, x: Outcome, r: Progress) -> Progress
+// What the outcome makes of the run, from the state `t` with `stack` after the line's push; `n` is the operand as an index.
+fn apply(
+    sizes: &[u8],
+    line: Line,
+    n: usize,
+    t: State,
+    stack: [Cell; 64],
+    x: Outcome,
+    r: Progress,
+) -> Progress
     requires { ⌜ Ready (now sizes) line t r × (n ≡ index (line .operand)) × Possible (operationOf (line .code)) n (64 - t .free) x ⌝ }
-    ensures { λ q. ⌜ Moves (now (sizes .entry)) r (eqb (line .code) 13) (resume (lineOf line .price) (operationOf (line .code)) (line .operand) (whole (now (sizes .entry)) (r .blocks) t) x) q ⌝ }
+    ensures { λ q. ⌜ Moves (now (sizes .entry)) r (eqb (line .code) 13) (resume (lineOf line .price) (operationOf (line .code)) (line .operand) (whole (now (sizes .entry)) (r .blocks) (beside stack t)) x) q ⌝ }
 {
     let blocks = r.blocks;
     match x {
         Outcome::Gives(c) => {
             let k = outcomes::drops_of(line.code, n);
-            progress::gone(line, t.pop(k).load(c).advance(), blocks, r)
+            progress::gone(line, t.pop(k).load(c).advance(), stack, blocks, r)
         }
         Outcome::Stores(c) => {
-            let u = t.store(n, c).load(cells::number(0)).advance();
-            progress::gone(line, u, blocks, r)
+            let mut cells = stack;
+            let i = t.free + n;
+            cells[i] = c;
+            let u = t.store().advance();
+            progress::gone(line, u, cells, blocks, r)
         }
-        Outcome::Sets(c) => set_field(sizes, line, n, t, c, r),
-        Outcome::Gets => get_field(sizes, line, n, t, r),
-        Outcome::Goes => progress::gone(line, t.jump(n), blocks, r),
+        Outcome::Sets(c) => set_field(sizes, line, n, t, stack, c, r),
+        Outcome::Gets => get_field(sizes, line, n, t, stack, r),
+        Outcome::Goes => progress::gone(line, t.jump(n), stack, blocks, r),
         Outcome::Opens => r,
         Outcome::Halts => progress::halted(line, r),
         Outcome::Stuck => r,
     }
 }
 
-// The step at the line, which a code fetches, from the state `t` after the line's push.
-fn perform(sizes: &[u8], line: Line, answer: Cell, t: State, r: Progress) -> Progress
+// The step at the line, which a code fetches, from the state `t` with `stack` after the line's push.
+fn perform(
+    sizes: &[u8],
+    line: Line,
+    answer: Cell,
+    t: State,
+    stack: [Cell; 64],
+    r: Progress,
+) -> Progress
     requires { ⌜ Ready (now sizes) line t r ⌝ }
-    ensures { λ q. ⌜ ((c : Code) → fetch c (r .state .at) ≡ done (lineOf line) → prepare (line .pushes) (whole (now (sizes .entry)) (r .blocks) (r .state)) ≡ done (whole (now (sizes .entry)) (r .blocks) t) → Moves (now (sizes .entry)) r (eqb (line .code) 13) (step c answer (whole (now (sizes .entry)) (r .blocks) (r .state))) q) ⌝ }
+    ensures { λ q. ⌜ ((c : Code) → fetch c (r .state .at) ≡ done (lineOf line) → prepare (line .pushes) (whole (now (sizes .entry)) (r .blocks) (here r)) ≡ done (whole (now (sizes .entry)) (r .blocks) (beside stack t)) → Moves (now (sizes .entry)) r (eqb (line .code) 13) (step c answer (whole (now (sizes .entry)) (r .blocks) (here r))) q) ⌝ }
 {
     let n = outcomes::index_of(line.operand);
     let i = outcomes::place_of(line.code, n, t.free);
-    let stack = t.stack;
     let h = 64 - t.free;
     let x = outcomes::outcome_of(line.code, line.operand, answer, h, t.accu, stack[i]);
-    apply(sizes, line, n, t, x, r)
+    apply(sizes, line, n, t, stack, x, r)
 }
 
 // The step at the line, which a code fetches.
 fn turn(sizes: &[u8], line: Line, answer: Cell, r: Progress) -> Progress
     requires { ⌜ Ready (now sizes) line (r .state) r ⌝ }
-    ensures { λ q. ⌜ ((c : Code) → fetch c (r .state .at) ≡ done (lineOf line) → Moves (now (sizes .entry)) r (eqb (line .code) 13) (step c answer (whole (now (sizes .entry)) (r .blocks) (r .state))) q) ⌝ }
+    ensures { λ q. ⌜ ((c : Code) → fetch c (r .state .at) ≡ done (lineOf line) → Moves (now (sizes .entry)) r (eqb (line .code) 13) (step c answer (whole (now (sizes .entry)) (r .blocks) (here r))) q) ⌝ }
 {
     let state = r.state;
+    let mut stack = r.stack;
     if line.pushes {
         if state.free == 0 {
             return r;
         }
-        let t = state.push(state.accu);
-        perform(sizes, line, answer, t, r)
+        let t = state.push();
+        let top = t.free;
+        let accu = state.accu;
+        stack[top] = accu;
+        perform(sizes, line, answer, t, stack, r)
     } else {
-        perform(sizes, line, answer, state, r)
+        perform(sizes, line, answer, state, stack, r)
     }
 }
 
@@ -149,7 +185,7 @@ fn once(
     turn(sizes, line, a, r)
 }
 
-// The run after `n` steps from `start` with `blocks`.
+// The run after `n` steps from `start` with `stack` and `blocks`.
 pub fn after(
     codes: &[u8],
     operands: &[i32],
@@ -158,15 +194,16 @@ pub fn after(
     sizes: &[u8],
     first: usize,
     start: State,
+    stack: [Cell; 64],
     blocks: [Cell; 128],
     answers: &[i32],
     n: usize,
 ) -> Progress
     requires { ⌜ Sized (now codes) (now operands) (now cycles) (now words) × (first + length (now codes) ≤ 65536) × Fits (now sizes) blocks × (start .free ≤ 64) × (n ≤ 1000000) ⌝ }
-    ensures { λ r. ⌜ ofProgress (now (sizes .entry)) (now (answers .entry)) r ≡ after (codeOf first (now (codes .entry)) (now (operands .entry)) (now (cycles .entry)) (now (words .entry))) n (begin (whole (now (sizes .entry)) blocks start) (now (answers .entry))) ⌝ }
-    ensures safe { λ r. ⌜ SafeFrom (codeOf first (now (codes .entry)) (now (operands .entry)) (now (cycles .entry)) (now (words .entry))) (whole (now (sizes .entry)) blocks start) n (ofProgress (now (sizes .entry)) (now (answers .entry)) r) ⌝ }
+    ensures { λ r. ⌜ ofProgress (now (sizes .entry)) (now (answers .entry)) r ≡ after (codeOf first (now (codes .entry)) (now (operands .entry)) (now (cycles .entry)) (now (words .entry))) n (begin (whole (now (sizes .entry)) blocks (beside stack start)) (now (answers .entry))) ⌝ }
+    ensures safe { λ r. ⌜ SafeFrom (codeOf first (now (codes .entry)) (now (operands .entry)) (now (cycles .entry)) (now (words .entry))) (whole (now (sizes .entry)) blocks (beside stack start)) n (ofProgress (now (sizes .entry)) (now (answers .entry)) r) ⌝ }
 {
-    let mut r = progress::begin(start, blocks);
+    let mut r = progress::begin(start, stack, blocks);
     let mut i = 0;
     while i < n {
         let next = once(codes, operands, cycles, words, sizes, first, answers, r);
@@ -209,13 +246,14 @@ pub fn run(
     sizes: &[u8],
     first: usize,
     start: State,
+    stack: [Cell; 64],
     blocks: [Cell; 128],
     answers: &[i32],
     budget: usize,
 ) -> Ran
     requires { ⌜ Sized (now codes) (now operands) (now cycles) (now words) × (first + length (now codes) ≤ 65536) × Fits (now sizes) blocks × (start .free ≤ 64) × (budget ≤ 1000000) ⌝ }
-    ensures { λ r. ⌜ verdictOf r ≡ run (codeOf first (now (codes .entry)) (now (operands .entry)) (now (cycles .entry)) (now (words .entry))) budget (whole (now (sizes .entry)) blocks start) (now (answers .entry)) ⌝ }
-    ensures within { λ r. ⌜ WithinBound (codeOf first (now (codes .entry)) (now (operands .entry)) (now (cycles .entry)) (now (words .entry))) budget (whole (now (sizes .entry)) blocks start) (verdictOf r) ⌝ }
+    ensures { λ r. ⌜ verdictOf r ≡ run (codeOf first (now (codes .entry)) (now (operands .entry)) (now (cycles .entry)) (now (words .entry))) budget (whole (now (sizes .entry)) blocks (beside stack start)) (now (answers .entry)) ⌝ }
+    ensures within { λ r. ⌜ WithinBound (codeOf first (now (codes .entry)) (now (operands .entry)) (now (cycles .entry)) (now (words .entry))) budget (whole (now (sizes .entry)) blocks (beside stack start)) (verdictOf r) ⌝ }
 {
     let r = after(
         codes,
@@ -225,6 +263,7 @@ pub fn run(
         sizes,
         first,
         start,
+        stack,
         blocks,
         answers,
         budget,

@@ -1,7 +1,11 @@
 -- `runs::apply` meets its contract: a law for each outcome, and the equations that the calls ensure. Assumes nothing.
 use mathlib.Core.Path.{ap}
+use mathlib.Core.List.{[]}
+use Prim.Native.Nat.{_+_, _<_}
 use native.Mathlib.Omega.{arith}
+use lib.ListN.{set}
 use Rattle.machine.specs.Machine.{State, load, restack}
+use Rattle.states.specs.View.{beside}
 use Rattle.runs.proofs.OutcomeLaws.{gives-moves, stores-moves, jumps-moves, halts-moves, stuck-stays, opens-stays}
 use borrow.Author.Needs.{needs}
 use Rattle.runs.proofs.apply.Statement.{statement}
@@ -25,7 +29,7 @@ load-requires c κs = search needs
 
 advance-requires : tie.Need-advance-requires
 unfolding load restack
-advance-requires c κs = let e = ap (λ (m : State). m .at) (c .load .ensures .0) in let f = ap (λ (m : State). m .at) (c .before .pop .ensures .0) in search needs
+advance-requires c κs = let e = ap (λ (m : State). m .at) (c .load .ensures .0 []) in let f = ap (λ (m : State). m .at) (c .before .pop .ensures .0 []) in search needs
 
 gone-requires : tie.Need-gone-requires
 gone-requires c κs = (c .before .before .before .before .before .before .before .before .before .pre .0 .sound .counted, c .before .before .before .before .before .before .before .before .before .pre .0 .steps, c .advance .ensures .1)
@@ -33,23 +37,30 @@ gone-requires c κs = (c .before .before .before .before .before .before .before
 enum-known-x-2 : tie.Need-enum-known-x-2
 enum-known-x-2 c = search needs
 
-store-requires : tie.Need-store-requires
-store-requires c κs = let start = c .before .before .before .before .before in
-    let h = start .pre .2 .stores _ (c .before .x2 .given .1) in
+-- the place of the entry that is stored
+within : (c : tie.After-struct-known) → c .before .before .before .before .before .before .args .t .free + c .before .before .before .before .before .before .args .n < 64
+within c = let start = c .before .before .before .before .before .before in
+    let h = start .pre .2 .stores _ (c .before .before .x2 .given .1) in
     omega arith
 
-number-requires : tie.Need-number-requires
-number-requires c κs = search needs
+add-i : tie.Need-add-i
+add-i c = let h = within c in omega arith
 
-load-requires-2 : tie.Need-load-requires-2
-load-requires-2 c κs = search needs
+mul-cells : tie.Need-mul-cells
+mul-cells c = let h = within c in omega arith
+
+array-set-from-cells : tie.Need-array-set-from-cells
+array-set-from-cells c = within c
+
+store-requires : tie.Need-store-requires
+store-requires c κs = search needs
 
 advance-requires-2 : tie.Need-advance-requires-2
-unfolding load restack
-advance-requires-2 c κs = let e = ap (λ (m : State). m .at) (c .load2 .ensures .0) in let f = ap (λ (m : State). m .at) (c .before .before .store .ensures .0) in search needs
+unfolding load
+advance-requires-2 c κs = let e = ap (λ (m : State). m .at) (c .store .ensures .0 []) in search needs
 
 gone-requires-2 : tie.Need-gone-requires-2
-gone-requires-2 c κs = (c .before .before .before .before .before .before .before .before .before .pre .0 .sound .counted, c .before .before .before .before .before .before .before .before .before .pre .0 .steps, c .advance2 .ensures .1)
+gone-requires-2 c κs = (c .before .before .before .before .before .before .before .before .pre .0 .sound .counted, c .before .before .before .before .before .before .before .before .pre .0 .steps, c .advance2 .ensures .1)
 
 enum-known-x-3 : tie.Need-enum-known-x-3
 enum-known-x-3 c = search needs
@@ -88,13 +99,16 @@ enum-told-5 c = search needs
 
 returns : tie.Need-returns
 returns c = let start = c .before .before .before .before .before .before .before .before .before .before in
-    gives-moves _ (start .args .line) (start .args .t) (start .args .r) (start .pre .0 .sound) _ _ (start .pre .1) _ (c .before .before .load .result) _ (c .before .advance .ensures .0)
-    _ (c .before .before .before .before .before .before .x .given .1) _ (c .before .before .before .before .drops-of .ensures) (c .before .before .before .pop .result) (c .before .before .before .pop .ensures .0) (c .before .before .load .ensures .0) (c .gone .ensures)
+    let cells = start .args .stack in
+    gives-moves _ (start .args .line) (beside cells (start .args .t)) (start .args .r) (start .pre .0 .sound) _ _ (start .pre .1) _ (beside cells (c .before .before .load .result)) _ (c .before .advance .ensures .0 cells)
+    _ (c .before .before .before .before .before .before .x .given .1) _ (c .before .before .before .before .drops-of .ensures) (beside cells (c .before .before .before .pop .result)) (c .before .before .before .pop .ensures .0 cells) (c .before .before .load .ensures .0 cells) (c .gone .ensures)
 
 returns-2 : tie.Need-returns-2
-returns-2 c = let start = c .before .before .before .before .before .before .before .before .before .before in
-    stores-moves _ (start .args .line) (start .args .t) (start .args .r) (start .pre .0 .sound) _ _ (start .pre .1) _ (c .before .before .load2 .result) _ (c .before .advance2 .ensures .0)
-    _ _ (c .before .before .before .before .before .before .x2 .given .1) (c .before .before .before .number .ensures) (c .before .before .before .before .store .result) (c .before .before .before .before .store .ensures .0) (c .before .before .load2 .ensures .0) (c .gone2 .ensures)
+returns-2 c = let start = c .before .before .before .before .before .before .before .before .before in
+    let s = start .args in
+    let cells = set (s .stack) (s .t .free + s .n) (c .before .before .before .before .before .x2 .given .0 .0) in
+    stores-moves _ (s .line) (beside (s .stack) (s .t)) (s .r) (start .pre .0 .sound) _ _ (start .pre .1) _ (beside cells (c .before .before .store .result)) _ (c .before .advance2 .ensures .0 cells)
+    _ (c .before .before .before .before .before .x2 .given .1) (c .before .before .store .ensures .0 cells) (c .gone2 .ensures)
 
 returns-3 : tie.Need-returns-3
 returns-3 c = rw (c .before .before .x3 .given .1) (c .set-field .ensures)
@@ -104,19 +118,19 @@ returns-4 c = rw (c .before .enum-told .given .1) (c .get-field .ensures)
 
 returns-5 : tie.Need-returns-5
 returns-5 c = let start = c .before .before .before .before .before .before in
-    jumps-moves _ (start .args .line) (start .args .t) (start .args .r) (start .pre .0 .sound) _ _ (start .pre .1) _ _ (c .before .before .enum-told2 .given .1) (c .before .jump .ensures .0) (c .gone3 .ensures)
+    jumps-moves _ (start .args .line) (beside (start .args .stack) (start .args .t)) (start .args .r) (start .pre .0 .sound) _ _ (start .pre .1) _ _ (c .before .before .enum-told2 .given .1) (c .before .jump .ensures .0 _) (c .gone3 .ensures)
 
 returns-6 : tie.Need-returns-6
 returns-6 c = let start = c .before .before .before .before in
-    opens-stays _ (start .args .line) (start .args .t) (start .args .r) (start .pre .0 .sound) _ (c .enum-told3 .given .1)
+    opens-stays _ (start .args .line) (beside (start .args .stack) (start .args .t)) (start .args .r) (start .pre .0 .sound) _ (c .enum-told3 .given .1)
 
 returns-7 : tie.Need-returns-7
 returns-7 c = let start = c .before .before .before .before .before in
-    halts-moves _ (start .args .line) (start .args .t) (start .args .r) (start .pre .0 .sound) _ _ (c .before .enum-told4 .given .1) (c .halted .ensures _ (start .pre .0 .sound))
+    halts-moves _ (start .args .line) (beside (start .args .stack) (start .args .t)) (start .args .r) (start .pre .0 .sound) _ _ (c .before .enum-told4 .given .1) (c .halted .ensures _ (start .pre .0 .sound))
 
 returns-8 : tie.Need-returns-8
 returns-8 c = let start = c .before .before .before .before in
-    stuck-stays _ (start .args .line) (start .args .t) (start .args .r) (start .pre .0 .sound) _ (c .enum-told5 .given .1)
+    stuck-stays _ (start .args .line) (beside (start .args .stack) (start .args .t)) (start .args .r) (start .pre .0 .sound) _ (c .enum-told5 .given .1)
 
 pub apply-spec : {M : Type 1} → statement M
 apply-spec =
@@ -129,9 +143,10 @@ apply-spec =
     advance-requires
     gone-requires
     enum-known-x-2
+    add-i
+    mul-cells
+    array-set-from-cells
     store-requires
-    number-requires
-    load-requires-2
     advance-requires-2
     gone-requires-2
     enum-known-x-3

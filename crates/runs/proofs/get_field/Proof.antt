@@ -1,9 +1,11 @@
 -- `runs::get_field` meets its contract. Assumes nothing.
 use mathlib.Core.Path.{_≡_, refl, ap}
+use mathlib.Core.List.{[]}
 use Prim.Native.Nat.{_<_}
 use native.Mathlib.Omega.{arith}
 use lib.ListN.{length}
 use borrow.Author.Needs.{needs}
+use Rattle.states.specs.View.{beside}
 use Rattle.states.proofs.Stack.{length-images}
 use Rattle.machine.specs.Machine.{State, load, advance}
 use Rattle.runs.proofs.OutcomeLaws.{slot-in, gets-moves, gets-stays}
@@ -21,7 +23,7 @@ enum-told c = search needs
 
 returns : tie.Need-returns
 returns c = let start = c .before .before .before .before in
-    gets-stays _ (start .args .line) (start .args .t) (start .args .r) (start .pre .0 .sound) _ _ (start .pre .1) _ (c .before .before .slot-of .ensures) (c .enum-told .given .1) refl
+    gets-stays _ (start .args .line) (beside (start .args .stack) (start .args .t)) (start .args .r) (start .pre .0 .sound) _ _ (start .pre .1) _ (c .before .before .slot-of .ensures) (c .enum-told .given .1) refl
 
 -- the array has its 128 places
 blocks-length : (c : tie.Start) → length (c .args .r .blocks) ≡ 128
@@ -45,15 +47,16 @@ load-requires c κs = search needs
 
 advance-requires : tie.Need-advance-requires
 unfolding load
-advance-requires c κs = let e = ap (λ (m : State). m .at) (c .load .ensures .0) in search needs
+advance-requires c κs = let e = ap (λ (m : State). m .at) (c .load .ensures .0 []) in search needs
 
 gone-requires : tie.Need-gone-requires
 gone-requires c κs = (c .before .before .before .before .before .before .before .before .before .pre .0 .sound .counted, c .before .before .before .before .before .before .before .before .before .pre .0 .steps, c .advance .ensures .1)
 
 returns-2 : tie.Need-returns-2
 returns-2 c = let start = c .before .before .before .before .before .before .before .before .before .before in
-    gets-moves _ (start .args .line) (start .args .t) (start .args .r) (start .pre .0 .sound) _ _ (start .pre .1) _ (c .before .before .load .result) _ (c .before .advance .ensures .0)
-    _ (c .before .before .before .before .before .before .before .before .slot-of .ensures) _ (c .before .before .before .before .before .before .slot .given .1) refl _ (c .before .before .load .ensures .0) (c .gone .ensures)
+    let cells = start .args .stack in
+    gets-moves _ (start .args .line) (beside cells (start .args .t)) (start .args .r) (start .pre .0 .sound) _ _ (start .pre .1) _ (beside cells (c .before .before .load .result)) _ (c .before .advance .ensures .0 cells)
+    _ (c .before .before .before .before .before .before .before .before .slot-of .ensures) _ (c .before .before .before .before .before .before .slot .given .1) refl _ (c .before .before .load .ensures .0 cells) (c .gone .ensures)
 
 pub get-field-spec : {M : Type 1} → statement M
 get-field-spec =

@@ -7,6 +7,7 @@ use mir.Val.{SFits}
 use mir.ValLaws.{toZ-ofZ}
 use borrow.Author.Needs.{needs}
 use Rattle.machine.specs.Machine.{index}
+use Rattle.states.specs.View.{beside}
 use Rattle.states.proofs.Stack.{length-images}
 use Rattle.runs.proofs.OutcomeLaws.{at-operand, index-small, possible, steps-by}
 use Rattle.runs.proofs.perform.Statement.{statement}
@@ -19,8 +20,8 @@ operand-fits c = record { sfits = search needs }
 found : (c : tie.After-index-of) → c .index-of .result ≡ index (c .before .before .before .args .line .operand)
 found c = c .index-of .ensures .0 ∙ ap index (toZ-ofZ w32 _ (operand-fits (c .before)))
 
--- the stack has its 64 places
-stack-length : (c : tie.Start) → length (c .args .t .stack) ≡ 64
+-- the cells of the stack, which are the fifth argument, are 64
+stack-length : (c : tie.Start) → length (c .args .t5) ≡ 64
 stack-length c = search (needs, length-images)
 
 index-of-requires : tie.Need-index-of-requires
@@ -45,17 +46,17 @@ outcome-of-requires c κs = search needs
 
 apply-requires : tie.Need-apply-requires
 apply-requires c κs =
-    let start = c .before .before .before .before .before .before .before .before .before in
-    let e = at-operand _ _ _ _ _ (toZ-ofZ w32 _ (operand-fits (c .before .before .before .before .before .before .before))) (c .outcome-of .ensures) in
-    let n = found (c .before .before .before .before .before .before) in
+    let start = c .before .before .before .before .before .before .before .before in
+    let e = at-operand _ _ _ _ _ (toZ-ofZ w32 _ (operand-fits (c .before .before .before .before .before .before))) (c .outcome-of .ensures) in
+    let n = found (c .before .before .before .before .before) in
     (start .pre, n, rw n (possible _ _ _ _ _ _ _ e))
 
 returns : tie.Need-returns
 returns c =
-    let start = c .before .before .before .before .before .before .before .before .before .before in
+    let start = c .before .before .before .before .before .before .before .before .before in
     let s = start .args in
-    let e = at-operand _ _ _ _ _ (toZ-ofZ w32 _ (operand-fits (c .before .before .before .before .before .before .before .before))) (c .before .outcome-of .ensures) in
-    steps-by _ (s .line) (s .answer) (s .t) (s .r) _ (stack-length start) _ _ _ _ _ (found (c .before .before .before .before .before .before .before)) (c .before .before .before .before .before .before .place-of .ensures .0) (c .before .before .before .before .before .before .place-of .ensures .1) refl e (c .apply .ensures)
+    let e = at-operand _ _ _ _ _ (toZ-ofZ w32 _ (operand-fits (c .before .before .before .before .before .before .before))) (c .before .outcome-of .ensures) in
+    steps-by _ (s .line) (s .answer) (beside (s .t5) (s .t)) (s .r) _ (stack-length start) _ _ _ _ _ (found (c .before .before .before .before .before .before)) (c .before .before .before .before .before .place-of .ensures .0) (c .before .before .before .before .before .place-of .ensures .1) refl e (c .apply .ensures)
 
 pub perform-spec : {M : Type 1} → statement M
 perform-spec =

@@ -1,9 +1,11 @@
 -- `runs::set_field` meets its contract. Assumes nothing.
 use mathlib.Core.Path.{_≡_, refl, ap}
+use mathlib.Core.List.{[]}
 use Prim.Native.Nat.{_<_}
 use native.Mathlib.Omega.{arith}
 use lib.ListN.{length}
 use borrow.Author.Needs.{needs}
+use Rattle.states.specs.View.{beside}
 use Rattle.states.proofs.Stack.{length-images}
 use Rattle.machine.specs.Machine.{State, load, restack, advance}
 use Rattle.runs.proofs.OutcomeLaws.{slot-in, sets-moves, sets-stays}
@@ -21,7 +23,7 @@ enum-told c = search needs
 
 returns : tie.Need-returns
 returns c = let start = c .before .before .before .before in
-    sets-stays _ (start .args .line) (start .args .t) (start .args .r) (start .pre .0 .sound) _ _ (start .pre .1) _ (c .before .before .slot-of .ensures) (c .enum-told .given .1) _ refl
+    sets-stays _ (start .args .line) (beside (start .args .stack) (start .args .t)) (start .args .r) (start .pre .0 .sound) _ _ (start .pre .1) _ (c .before .before .slot-of .ensures) (c .enum-told .given .1) _ refl
 
 -- the array has its 128 places
 blocks-length : (c : tie.Start) → length (c .args .r .blocks) ≡ 128
@@ -43,23 +45,21 @@ array-set-from-blocks c = within c
 pop-requires : tie.Need-pop-requires
 pop-requires c κs = search needs
 
-number-requires : tie.Need-number-requires
-number-requires c κs = search needs
-
-load-requires : tie.Need-load-requires
-load-requires c κs = search needs
+store-requires : tie.Need-store-requires
+store-requires c κs = search needs
 
 advance-requires : tie.Need-advance-requires
 unfolding load restack
-advance-requires c κs = let e = ap (λ (m : State). m .at) (c .load .ensures .0) in let f = ap (λ (m : State). m .at) (c .before .before .pop .ensures .0) in search needs
+advance-requires c κs = let e = ap (λ (m : State). m .at) (c .store .ensures .0 []) in let f = ap (λ (m : State). m .at) (c .before .pop .ensures .0 []) in search needs
 
 gone-requires : tie.Need-gone-requires
-gone-requires c κs = (c .before .before .before .before .before .before .before .before .before .before .pre .0 .sound .counted, c .before .before .before .before .before .before .before .before .before .before .pre .0 .steps, c .advance .ensures .1)
+gone-requires c κs = (c .before .before .before .before .before .before .before .before .before .pre .0 .sound .counted, c .before .before .before .before .before .before .before .before .before .pre .0 .steps, c .advance .ensures .1)
 
 returns-2 : tie.Need-returns-2
-returns-2 c = let start = c .before .before .before .before .before .before .before .before .before .before .before in
-    sets-moves _ (start .args .line) (start .args .t) (start .args .r) (start .pre .0 .sound) _ _ (start .pre .1) _ (c .before .before .load .result) _ (c .before .advance .ensures .0)
-    _ (c .before .before .before .before .before .before .before .before .before .slot-of .ensures) _ (c .before .before .before .before .before .before .before .place .given .1) _ _ refl (c .before .before .before .number .ensures) (c .before .before .before .before .pop .result) (c .before .before .before .before .pop .ensures .0) (c .before .before .load .ensures .0) (c .gone .ensures)
+returns-2 c = let start = c .before .before .before .before .before .before .before .before .before .before in
+    let cells = start .args .stack in
+    sets-moves _ (start .args .line) (beside cells (start .args .t)) (start .args .r) (start .pre .0 .sound) _ _ (start .pre .1) _ (beside cells (c .before .before .store .result)) _ (c .before .advance .ensures .0 cells)
+    _ (c .before .before .before .before .before .before .before .before .slot-of .ensures) _ (c .before .before .before .before .before .before .place .given .1) _ refl (beside cells (c .before .before .before .pop .result)) (c .before .before .before .pop .ensures .0 cells) (c .before .before .store .ensures .0 cells) (c .gone .ensures)
 
 pub set-field-spec : {M : Type 1} → statement M
 set-field-spec =
@@ -72,8 +72,7 @@ set-field-spec =
     mul-blocks
     array-set-from-blocks
     pop-requires
-    number-requires
-    load-requires
+    store-requires
     advance-requires
     gone-requires
     returns-2)
