@@ -7,7 +7,7 @@ use native.Mathlib.Omega.{arith}
 use lib.Dec.{eqb}
 use lib.IntN.{ℤ, pos, negsuc}
 use lib.ListN.{length, getD, drop, set, length-drop, length-set}
-use lib.Seq.{getD-drop, drop-set-add}
+use lib.Seq.{getD-drop}
 use mir.Syntax.{w32}
 use mir.Val.{SFits}
 use Rattle.cells.specs.Try.{Try, stuck, done, _>>=_}
@@ -25,6 +25,7 @@ use Rattle.outcomes.specs.Outcome.{entryOf, drops, outcome, resume}
 use Rattle.states.specs.Columns.{lineOf}
 use Rattle.states.specs.View.{Stacked, view, slot, ofSlot, Fits, whole}
 use Rattle.states.proofs.BlockLaws.{slot-below}
+use Rattle.states.proofs.StateLaws.{written, view-written}
 use Rattle.outcomes.proofs.TurnLaws.{pushed, not-pushed, full, turns, gives-drops, stores-in, sets-in, gives-goes, stores-goes, goes-goes, gets-goes, gets-stuck, sets-goes, sets-stuck}
 use Rattle.bounds.specs.Run.{moved}
 use Rattle.progress.specs.declared.Progress.{Progress}
@@ -55,14 +56,6 @@ possible o i r h a e x g = record {
 -- a place of the blocks
 pub slot-in : (ns : List ℕ) (fs : List Cell) → Fits ns fs → (a : Cell) (n j : ℕ) (s : Slot) → ofSlot s ≡ slot ns a n → s ≡ At j → j < length fs
 slot-in ns fs fits a n j s e p = omega (arith, slot-below ns fs fits a n j (sym e ∙ ap ofSlot p), fits .room)
-
--- the state with c written in the place of entry n
-abbrev pub written : Stacked → ℕ → Cell → Stacked
-written t n c = record { at = t .at; accu = t .accu; free = t .free; stack = set (t .stack) (t .free + n) c }
-
-view-written : (t : Stacked) (n : ℕ) (c : Cell) → view (written t n c) ≡ restack (set (view t .stack) n c) (view t)
-unfolding restack
-view-written t n c = simp drop-set-add
 
 -- q is the run r after the outcome x at the line l, from the state t
 abbrev pub After : List ℕ → Line → Stacked → Progress → Progress → Outcome → Type 0

@@ -1,15 +1,16 @@
 -- What a cell that is written beside a state does to the state. Assumes nothing.
 use mathlib.Core.Path.{_≡_}
-use mathlib.Core.List.{List}
 use Prim.Native.Nat.{ℕ, _+_}
 use lib.ListN.{set}
 use lib.Seq.{drop-set-add}
 use Rattle.cells.specs.declared.Cell.{Cell}
-use Rattle.states.specs.declared.State as code
-use Rattle.states.specs.View.{beside, view}
+use Rattle.states.specs.View.{Stacked, view}
 use Rattle.machine.specs.Machine.{restack}
 
--- entry n is set
-pub stored : (s : code.State) (cells : List Cell) (n : ℕ) (c : Cell) → view (beside (set cells (s .free + n) c) s) ≡ restack (set (view (beside cells s) .stack) n c) (view (beside cells s))
+-- the state with c written in the place of entry n
+abbrev pub written : Stacked → ℕ → Cell → Stacked
+written s n c = record { at = s .at; accu = s .accu; free = s .free; stack = set (s .stack) (s .free + n) c }
+
+pub view-written : (s : Stacked) (n : ℕ) (c : Cell) → view (written s n c) ≡ restack (set (view s .stack) n c) (view s)
 unfolding restack
-stored s cells n c = simp drop-set-add
+view-written s n c = simp drop-set-add

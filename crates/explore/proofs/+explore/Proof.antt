@@ -55,7 +55,7 @@ use Rattle.findings.proofs.Verdict as verdict
 use Rattle.findings.specs.declared.Found.{Found}
 use Rattle.findings.specs.Found.{refusedAs}
 use Rattle.states.proofs.Stack.{length-images}
-use Rattle.states.proofs.StateLaws.{stored}
+use Rattle.states.proofs.StateLaws.{view-written}
 use Rattle.instructions.proofs.ColumnLaws.{getD-any}
 use Rattle.explore.proofs.TurnLaws.{Turn, act, starts, turns, inside, overflows, outside}
 use Rattle.explore.proofs.ArmLaws.{Arm, Pushed, pushes, keeps, Kept, jumped-at, restacked-at, restacked-accu, loaded-at, stuck-out}
@@ -421,7 +421,7 @@ loop-again-2 : (t : ℕ) → explore-lts.Need-loop-again-2 (claims t) (explore-a
 loop-again-2 t c =
     let a : Acted t = c .before .before .before .before .before .before in
     let written : List Cell = set (cells a) (joined a .if1 .s .free + a .before .before .before .before .before .before .index-of .result) (c .before .before .before .before .out2 .given .0 .0) in
-    arms.stores (arm t a) _ (beside written (joined a .if1 .s)) (beside written (c .before .store .result)) (beside written (c .advance2 .result)) (c .before .before .before .before .out2 .given .1) (stored (joined a .if1 .s) (cells a) _ _) (c .before .store .ensures .0 written) (c .advance2 .ensures .0 written) (c .advance2 .ensures .1) (length-set (cells a) _ _ ∙ full t (joined a))
+    arms.stores (arm t a) _ (beside written (joined a .if1 .s)) (beside written (c .before .store .result)) (beside written (c .advance2 .result)) (c .before .before .before .before .out2 .given .1) (view-written (after a) _ _) (c .before .store .ensures .0 written) (c .advance2 .ensures .0 written) (c .advance2 .ensures .1) (length-set (cells a) _ _ ∙ full t (joined a))
 
 enum-known-out-3 : (t : ℕ) → explore-lts.Need-enum-known-out-3 (claims t) (explore-at t) explore.Post Inv-loop μ-loop
 enum-known-out-3 t c = search needs
