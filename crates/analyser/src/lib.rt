@@ -38,6 +38,8 @@ fn explored(x: Routine) -> Found
     let sizes = x.sizes;
     let fields = x.fields;
     let start = x.start;
+    let state = start.state;
+    let stack = start.stack;
     let count = x.count;
     let blocks = x.blocks;
     explore::explore(
@@ -47,8 +49,9 @@ fn explored(x: Routine) -> Found
         &words[..count],
         &sizes[..blocks],
         x.first,
+        state,
+        stack,
         fields,
-        start,
         x.first,
         32,
         x.budget,
@@ -68,6 +71,8 @@ fn ran(x: Routine) -> Ran
     let sizes = x.sizes;
     let fields = x.fields;
     let start = x.start;
+    let state = start.state;
+    let stack = start.stack;
     let answers = x.answers;
     let values = answers.values;
     let given = answers.count;
@@ -80,7 +85,8 @@ fn ran(x: Routine) -> Ran
         &words[..count],
         &sizes[..blocks],
         x.first,
-        start,
+        state,
+        stack,
         fields,
         &values[..given],
         x.budget,
