@@ -51,7 +51,7 @@ module _ (t : Argument → Bool) (line : List ℕ) {k : ℕ} (q : k ≡ find (op
       ap (argumentOf t) (none-at kinds (find (op line) kindNames) e)
 
   -- it takes the argument a
-  pub on-known : {a : Argument} → k < 61 → a ≡ kindAt k .argument → onArgument t line ≡ t a
+  on-known : {a : Argument} → k < 61 → a ≡ kindAt k .argument → onArgument t line ≡ t a
   unfolding onArgument argumentOf kindNamed kindAt kinds
   on-known {a} h p =
       let e : find (op line) kindNames < length kinds = omega (arith, kind-count) in

@@ -32,13 +32,13 @@ module _ {A : Type 0} {Q : A → A → Type 0} where
       go zero (cons r rs) q = both (cons q rs)
       go (suc n) (cons r rs) q = bind (go n rs q) (λ a b h. both (cons r h))
 
-  pub without-law : (n : ℕ) {xs ys : List A} → Pointwise Q xs ys → Covered (Pointwise Q) (without n xs) (without n ys)
+  without-law : (n : ℕ) {xs ys : List A} → Pointwise Q xs ys → Covered (Pointwise Q) (without n xs) (without n ys)
   unfolding without
   without-law zero h = both h
   without-law (suc n) end = by-stuck
   without-law (suc n) (cons q qs) = without-law n qs
 
-  pub length-law : {xs ys : List A} → Pointwise Q xs ys → length xs ≡ length ys
+  length-law : {xs ys : List A} → Pointwise Q xs ys → length xs ≡ length ys
   length-law end = refl
   length-law (cons q qs) = ap suc (length-law qs)
 

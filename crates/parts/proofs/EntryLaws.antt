@@ -38,7 +38,7 @@ kind-past k h = sym (List·getD-eq-default kinds _ h)
 
 -- an operation by its code
 
-pub operation-is : (o : Operation) → operationOf (operationCode o) ≡ o
+operation-is : (o : Operation) → operationOf (operationCode o) ≡ o
 unfolding operationOf operations operationCode unaryCode binaryCode comparisonCode
 operation-is Nothing = refl
 operation-is Access = refl

@@ -155,7 +155,7 @@ module _ (ls : List Line) (p : Passes ls) (ns-line fs-line cs-line : List ℕ) (
   unfolding listed
   sizes-are = held .sizes ∙ ap (λ t. blockSizes (list t)) names-at
 
-  pub small-blocks : (k : ℕ) → getD (take (bs .count) (bs .sizes)) k 0 ≤ 16
+  small-blocks : (k : ℕ) → getD (take (bs .count) (bs .sizes)) k 0 ≤ 16
   small-blocks = getD-take (bs .count) (bs .sizes) 16 (held .small)
 
   pub fields-ready : (bs .count ≤ 8) × ((k : ℕ) → getD (take (bs .count) (bs .sizes)) k 0 ≤ 16) × (total (take (bs .count) (bs .sizes)) ≡ length (list fs-line))

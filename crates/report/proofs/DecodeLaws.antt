@@ -42,7 +42,7 @@ pub decode-more : (n : ℕ) → 2 ≤ n → decode n ≡ decision (n % 2) ∷ de
 unfolding decode
 decode-more n h = decisions-more n n h (omega arith)
 
-pub encode-positive : (ds : List Decision) → 1 ≤ encode ds
+encode-positive : (ds : List Decision) → 1 ≤ encode ds
 unfolding encode
 encode-positive [] = omega arith
 encode-positive (N ∷ ds) = omega (arith, encode-positive ds)
@@ -56,7 +56,7 @@ decode-bit b n h k =
     decode-more (2 * n + b) (omega arith) ∙ ap (λ x. decision x ∷ decode ((2 * n + b) / 2)) r ∙ ap (λ x. decision b ∷ decode x) q
 
 -- the path of a number is the one that was encoded
-pub decode-encode : (ds : List Decision) → decode (encode ds) ≡ ds
+decode-encode : (ds : List Decision) → decode (encode ds) ≡ ds
 unfolding encode
 decode-encode [] = decode-none 1 (omega arith)
 decode-encode (N ∷ ds) =

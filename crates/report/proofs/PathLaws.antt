@@ -17,11 +17,11 @@ use Rattle.report.proofs.DecodeLaws.{decode-none, decode-more}
 unfoldable pub letters : ℕ → List ℕ
 letters n = map letter (decode n)
 
-pub letters-none : (n : ℕ) → n < 2 → letters n ≡ []
+letters-none : (n : ℕ) → n < 2 → letters n ≡ []
 unfolding letters
 letters-none n h = ap (map letter) (decode-none n h)
 
-pub letters-more : (n : ℕ) → 2 ≤ n → letters n ≡ letter (decision (n % 2)) ∷ letters (n / 2)
+letters-more : (n : ℕ) → 2 ≤ n → letters n ≡ letter (decision (n % 2)) ∷ letters (n / 2)
 unfolding letters
 letters-more n h = ap (map letter) (decode-more n h)
 
@@ -29,12 +29,12 @@ pub path-none : (n : ℕ) → n < 2 → pathText (decode n) ≡ bytes "-"
 unfolding pathText
 path-none n h = ap pathText (decode-none n h)
 
-pub path-letters : (n : ℕ) → 2 ≤ n → pathText (decode n) ≡ letters n
+path-letters : (n : ℕ) → 2 ≤ n → pathText (decode n) ≡ letters n
 unfolding pathText letters
 path-letters n h = ap pathText (decode-more n h) ∙ sym (ap (map letter) (decode-more n h))
 
 -- one letter is written, and the others are left
-pub over-cons : (d : List ℕ) (e x : ℕ) (t : List ℕ) → e < length d → over (set d e x) (e + 1) t ≡ over d e (x ∷ t)
+over-cons : (d : List ℕ) (e x : ℕ) (t : List ℕ) → e < length d → over (set d e x) (e + 1) t ≡ over d e (x ∷ t)
 over-cons d e x t h =
     let n : suc e + length t ≡ e + length (x ∷ t) = omega arith in
     ap (λ (k : ℕ). over (set d e x) k t) (add-one e)

@@ -9,7 +9,7 @@ use Rattle.text.proofs.MemoryLaws.{Wrote}
 use Rattle.report.specs.Report.{share, pathText, space, feed, figures, boundText, runText, refusalLine}
 use Rattle.report.specs.Decode.{decode, reportOf}
 
-pub figures-parts : (cycles words depth steps path : ℕ)
+figures-parts : (cycles words depth steps path : ℕ)
     → figures (reportOf cycles words depth steps path) ≡ decimal cycles ++ space ++ decimal words ++ space ++ decimal depth ++ space ++ decimal steps
 unfolding figures reportOf
 figures-parts cycles words depth steps path = refl
@@ -18,7 +18,7 @@ pub figures-length : (cycles words depth steps path : ℕ)
     → length (figures (reportOf cycles words depth steps path)) ≡ length (decimal cycles) + 1 + length (decimal words) + 1 + length (decimal depth) + 1 + length (decimal steps)
 figures-length cycles words depth steps path = ap length (figures-parts cycles words depth steps path) ∙ simp length-append
 
-pub bound-parts : (tick cycles words depth steps path : ℕ)
+bound-parts : (tick cycles words depth steps path : ℕ)
     → boundText tick (reportOf cycles words depth steps path)
     ≡ bytes "CYCLES WORDS DEPTH STEPS SHARE PATH\n" ++ figures (reportOf cycles words depth steps 1) ++ space ++ decimal (share tick cycles) ++ space ++ pathText (decode path) ++ feed
 unfolding boundText reportOf figures

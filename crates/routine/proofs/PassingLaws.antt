@@ -30,12 +30,12 @@ use Rattle.routine.proofs.CodeLaws.{code-laid-out}
 -- ---- the lines after the layout
 
 -- the later roles have the later lines
-pub covered-drop : {t : Role → Line → Bool} (xs ys : List Role) {ls : List Line} → Covered t (xs ++ ys) ls → Covered t ys (drop (length xs) ls)
+covered-drop : {t : Role → Line → Bool} (xs ys : List Role) {ls : List Line} → Covered t (xs ++ ys) ls → Covered t ys (drop (length xs) ls)
 covered-drop [] ys c = c
 covered-drop (x ∷ xs) ys (passed p c) = covered-drop xs ys c
 
 -- so of the lines after the layout, where a row is clean
-pub covered-body : (row : Row) (ls : List Line) → fault row ls ≡ clean → Covered (test row ls) (bodyRoles (body ls)) (body ls)
+covered-body : (row : Row) (ls : List Line) → fault row ls ≡ clean → Covered (test row ls) (bodyRoles (body ls)) (body ls)
 unfolding roles body
 covered-body row ls e = covered-drop layout (bodyRoles (body ls)) (fault-clean row ls e)
 
@@ -48,10 +48,10 @@ first-within ls (l ∷ bs) (passed p c) =
     and-left (within firstAddresses (value (at (l .text)))) (onArgument (argumentInRange (arg (l .text))) (l .text)) p
 
 module _ (ls : List Line) (e : fault range-row ls ≡ clean) where
-  pub first-ranged : within firstAddresses (firstAt (body ls)) ≡ true
+  first-ranged : within firstAddresses (firstAt (body ls)) ≡ true
   first-ranged = first-within ls (body ls) (covered-body range-row ls e)
 
-  pub first-is : inside firstAddresses (firstAt (body ls)) ≡ firstAt (body ls)
+  first-is : inside firstAddresses (firstAt (body ls)) ≡ firstAt (body ls)
   first-is = inside-is firstAddresses (firstAt (body ls)) first-ranged
 
   pub first-natural : pos (natAbs (inside firstAddresses (firstAt (body ls)))) ≡ firstAt (body ls)
@@ -84,7 +84,7 @@ pieces-count (x ∷ xs) = go (eqb x 10) (pieces-count xs)
     go false h = let k = onto-few x (split 10 xs) in omega arith
 
 -- no more lines than bytes
-pub lines-count : (text : List ℕ) → length (lines text) ≤ length text
+lines-count : (text : List ℕ) → length (lines text) ≤ length text
 unfolding lines
 lines-count text = pieces-count text
 

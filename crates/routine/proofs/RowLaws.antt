@@ -25,11 +25,11 @@ use Rattle.routine.specs.Routine.{Routine, routineOf, Reading, refused, 
 
 -- ---- the rows in their order
 
-pub bound-checked : (text : List ℕ) → readBound text ≡ limited text (checked boundChecks (lines text))
+bound-checked : (text : List ℕ) → readBound text ≡ limited text (checked boundChecks (lines text))
 unfolding readBound
 bound-checked text = refl
 
-pub run-checked : (text : List ℕ) → readRun text ≡ limited text (checked runChecks (lines text))
+run-checked : (text : List ℕ) → readRun text ≡ limited text (checked runChecks (lines text))
 unfolding readRun
 run-checked text = refl
 
@@ -99,7 +99,7 @@ module _ (ls : List Line) where
   passing : {cs : List Check} → Clean ls (boundChecks ++ cs) → Passes ls × Clean ls cs
   passing (more a (more b (more c (more d (more e es))))) = (record { layout = a; range = b; names = c; prices = d; targets = e }, es)
 
-  pub cleared : {cs : List Check} → Passes ls → Clean ls cs → Clean ls (boundChecks ++ cs)
+  cleared : {cs : List Check} → Passes ls → Clean ls cs → Clean ls (boundChecks ++ cs)
   cleared p es = more (p .layout) (more (p .range) (more (p .names) (more (p .prices) (more (p .targets) es))))
 
   only : {c : Check} → Clean ls (c ∷ []) → fault (c .row) ls ≡ clean
@@ -131,7 +131,7 @@ too-long text h =
 -- "Checked in the order of the rows": where the rows before c are clean and c is not, c decides, whatever the rows after it say.
 -- `bound-order` and `run-order` say it of each row of the two readers, where `all` is refl.
 module _ (text : List ℕ) (short : length text ≤ textLimit) (before : List Check) (c : Check) (after : List Check) (n : ℕ) where
-  pub row-order : Clean (lines text) before → fault (c .row) (lines text) ≡ line n → limited text (checked (before ++ c ∷ after) (lines text)) ≡ refused (c .refusal n)
+  row-order : Clean (lines text) before → fault (c .row) (lines text) ≡ line n → limited text (checked (before ++ c ∷ after) (lines text)) ≡ refused (c .refusal n)
   row-order b q = limited-short text (checked (before ++ c ∷ after) (lines text)) short ∙ first-checked (lines text) c after n q b
 
   pub bound-order : boundChecks ≡ before ++ c ∷ after → Clean (lines text) before → fault (c .row) (lines text) ≡ line n → readBound text ≡ refused (c .refusal n)
@@ -150,7 +150,7 @@ pub data Covered (t : Role → Line → Bool) : List Role → List Line → Type
 no-line : {A : Type 0} (n : ℕ) → line n ≡ clean → A
 no-line n e = let z : _≡_ {A = ℕ} 0 1 = cc in absurd (omega arith)
 
-pub earliest-clean : (t : Role → Line → Bool) (n : ℕ) (rs : List Role) (ls : List Line) → earliest t n rs ls ≡ clean → Covered t rs ls
+earliest-clean : (t : Role → Line → Bool) (n : ℕ) (rs : List Role) (ls : List Line) → earliest t n rs ls ≡ clean → Covered t rs ls
 unfolding earliest
 earliest-clean t n [] ls e = rest
 earliest-clean t n (r ∷ rs) [] e = no-line n e
@@ -219,7 +219,7 @@ held {t} r P f (x ∷ rs) bs s (passed {l} {ls} p c) = go (eqb (tag r) (tag x)) 
     go false q ih = ih q
 
 -- so of each role of the layout, where a row is clean
-pub held-row : (row : Row) (ls : List Line) → fault row ls ≡ clean → (r : Role) → First r layout
+held-row : (row : Row) (ls : List Line) → fault row ls ≡ clean → (r : Role) → First r layout
     → (P : List ℕ → Type 0) → ((l : Line) → test row ls r l ≡ true → P (l .text)) → P (textAt r layout ls)
 unfolding roles
 held-row row ls e r s P f = held r P f layout (bodyRoles (body ls)) s (fault-clean row ls e)

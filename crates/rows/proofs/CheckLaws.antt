@@ -41,7 +41,7 @@ check-long text Bound h = rw (too-long text h .0) refl
 check-long text Run h = rw (too-long text h .1) refl
 
 -- the first row that is not clean
-pub check-row : (text : List ℕ) (r : Reader) → length text ≤ 32768 → (before : List Check) (c : Check) (after after′ : List Check) (n : ℕ)
+check-row : (text : List ℕ) (r : Reader) → length text ≤ 32768 → (before : List Check) (c : Check) (after after′ : List Check) (n : ℕ)
     → boundChecks ≡ before ++ c ∷ after → runChecks ≡ before ++ c ∷ after′ → Clean (lines text) before → fault (c .row) (lines text) ≡ line n
     → Refused (c .refusal n) ≡ checkOf (readBy r text)
 unfolding readBy checkOf

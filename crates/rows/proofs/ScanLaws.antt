@@ -88,7 +88,7 @@ answered-more i m l ls h k =
     let e : suc (i - m - 1) ≡ i + 1 - m - 1 = omega arith in
     rw (at-answer i m (l ∷ ls) h k, le-ltb i 13 (omega arith), lt-ltb 0 m (omega arith), answer-more, at-answer (i + 1) m ls h (omega arith), e) refl
 
-pub remaining-more : (i m : ℕ) → Marked i m → (l : Line) (ls : List Line) → remaining i m (l ∷ ls) ≡ roleOf i m (l .text) ∷ remaining (i + 1) (markAfter i m (l .text)) ls
+remaining-more : (i m : ℕ) → Marked i m → (l : Line) (ls : List Line) → remaining i m (l ∷ ls) ≡ roleOf i m (l .text) ∷ remaining (i + 1) (markAfter i m (l .text)) ls
 remaining-more i m k l ls =
     ⊎-elim
     (λ (e : m ≡ 0). rw e (go (ltb i 13) refl))

@@ -11,13 +11,13 @@ use Rattle.text.proofs.TextLaws.{ltb-agree, leb-agree}
 
 -- ---- tests of natural numbers
 
-pub ltb-min : (m n : ℕ) → n ≤ most → ltb (min most m) n ≡ ltb m n
+ltb-min : (m n : ℕ) → n ≤ most → ltb (min most m) n ≡ ltb m n
 ltb-min m n h = ltb-agree (min most m) n m n (λ k. omega arith) (λ k. omega arith)
 
-pub leb-min : (m n : ℕ) → n < most → leb (min most m) n ≡ leb m n
+leb-min : (m n : ℕ) → n < most → leb (min most m) n ≡ leb m n
 leb-min m n h = leb-agree (min most m) n m n (λ k. omega arith) (λ k. omega arith)
 
-pub leb-min-right : (m n : ℕ) → m ≤ most → leb m (min most n) ≡ leb m n
+leb-min-right : (m n : ℕ) → m ≤ most → leb m (min most n) ≡ leb m n
 leb-min-right m n h = leb-agree m (min most n) m n (λ k. omega arith) (λ k. omega arith)
 
 -- ---- what is near 0 is kept
@@ -46,7 +46,7 @@ le-clamp (negsuc m) (negsuc n) h = leb-min n m h
 -- ---- how far a number is from 0
 
 -- a number below 0 is held as far as `most + 1` from it
-pub clamp-natAbs : (z : ℤ) → min most (natAbs (clamp z)) ≡ min most (natAbs z)
+clamp-natAbs : (z : ℤ) → min most (natAbs (clamp z)) ≡ min most (natAbs z)
 unfolding clamp
 clamp-natAbs (pos n) = omega arith
 clamp-natAbs (negsuc n) = omega arith

@@ -27,11 +27,11 @@ linesOf-more p (q ∷ ps) h = refl
 
 -- the lines of s, whose first piece has the length n
 
-pub lines-more : (s : List ℕ) (n : ℕ) → n ≡ firstLength 10 s → n < length s → lines s ≡ endedLine (take n s) ∷ lines (past n s)
+lines-more : (s : List ℕ) (n : ℕ) → n ≡ firstLength 10 s → n < length s → lines s ≡ endedLine (take n s) ∷ lines (past n s)
 unfolding lines
 lines-more s n q h = ap linesOf (cut-more 10 s n q h) ∙ linesOf-more (take n s) (split 10 (past n s)) (split-some 10 (past n s))
 
-pub lines-last : (s : List ℕ) (n : ℕ) → n ≡ firstLength 10 s → length s ≤ n → lines s ≡ cond (isEmpty s) [] (unendedLine s ∷ [])
+lines-last : (s : List ℕ) (n : ℕ) → n ≡ firstLength 10 s → length s ≤ n → lines s ≡ cond (isEmpty s) [] (unendedLine s ∷ [])
 unfolding lines linesOf
 lines-last s n q h = ap linesOf (cut-last 10 s n q h)
 

@@ -27,7 +27,7 @@ split-some c (x ∷ xs) = go (eqb x c) (split-some c xs)
     go true h = omega arith
     go false h = omega (arith, onto-length x (split c xs) h)
 
-pub split-length : (c : ℕ) (s : List ℕ) → length (split c s) ≤ length s + 1
+split-length : (c : ℕ) (s : List ℕ) → length (split c s) ≤ length s + 1
 unfolding split
 split-length c [] = omega arith
 split-length c (x ∷ xs) = go (eqb x c) (split-length c xs)

@@ -35,7 +35,7 @@ unfolding clamped isNumeral
 numeral-clamped Misspelt = refl
 numeral-clamped (Number z) = refl
 
-pub value-clamped : (n : Numeral) → valueOf (clamped n) ≡ clamp (valueOf n)
+value-clamped : (n : Numeral) → valueOf (clamped n) ≡ clamp (valueOf n)
 unfolding clamped valueOf clamp
 value-clamped Misspelt = refl
 value-clamped (Number z) = refl
