@@ -84,7 +84,7 @@ pieces-count (x ∷ xs) = go (eqb x 10) (pieces-count xs)
     go false h = let k = onto-few x (split 10 xs) in omega arith
 
 -- no more lines than bytes
-lines-count : (text : List ℕ) → length (lines text) ≤ length text
+pub lines-count : (text : List ℕ) → length (lines text) ≤ length text
 unfolding lines
 lines-count text = pieces-count text
 

@@ -28,7 +28,7 @@ use Rattle.routine.specs.declared.Fault.the-variants.{Clean as clean, Li
 use Rattle.routine.specs.Layout.{body, codeLines, roles, listed}
 use Rattle.routine.specs.Rows.{Passes, value, op, arg, firstAt, test, earliest, fault}
 use Rattle.routine.specs.Routine.{inside, argumentValue, instructionOf, codeOf, startOf, routineOf, refused, orElse, Check, boundChecks, runChecks, checked, textLimit, limited, readBound, readRun}
-use Rattle.routine.proofs.RangeLaws.{inside-small, every-mapped}
+use Rattle.routine.proofs.RangeLaws.{natural-inside, every-mapped}
 use Rattle.routine.proofs.PassingLaws.{first-small, lines-count, code-few}
 
 -- ---- lines
@@ -111,7 +111,7 @@ target-small ps w k e = go (branches (k .operation)) (k .argument) refl e
     go : (b : Bool) (a : Argument) → k .argument ≡ a → cond b (takesTarget a) true ≡ true → cond b (index (operand k (argumentValue ps w (k .argument)))) 0 ≤ 62000
     go false a q e = omega arith
     go true Absent q e = absurd (false≢true e)
-    go true Target q e = rw q (index-small (inside addresses (value w)) 62000 (inside-small 0 62000 (value w)))
+    go true Target q e = rw q (index-small (inside addresses (value w)) 62000 (natural-inside 0 62000 (value w) .below))
     go true Primitive q e = absurd (false≢true e)
     go true (Within r) q e = absurd (false≢true e)
 
