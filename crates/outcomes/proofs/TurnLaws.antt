@@ -20,7 +20,7 @@ use Rattle.instructions.specs.declared.Operation.the-variants.{Nothing, Access,
 use Rattle.states.specs.declared.State as code
 use Rattle.outcomes.specs.declared.Outcome.{Outcome}
 use Rattle.outcomes.specs.declared.Outcome.the-variants.{Gives, Stores, Sets, Gets, Goes, Opens, Halts, Stuck}
-use Rattle.machine.specs.Machine.{State, stackLimit, height, Price, Instruction, Code, fetch, goes, opens, index, jump, load, restack, store, push, advance, ahead, prepare, execute, step}
+use Rattle.machine.specs.Machine.{stackLimit, height, Price, Instruction, Code, fetch, goes, opens, index, jump, load, restack, store, push, advance, ahead, prepare, execute, step}
 use Rattle.outcomes.specs.Outcome.{entryOf, drops, given, branching, outcome, resume}
 use Rattle.states.specs.View.{view, blocksOf, slot, Fits, whole}
 use Rattle.outcomes.proofs.OutcomeLaws.{perform-resumes}

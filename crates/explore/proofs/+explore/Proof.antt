@@ -46,7 +46,7 @@ use Rattle.cells.specs.Cells.{unknown, cell}
 use Rattle.states.specs.declared.State as code
 use Rattle.states.specs.declared.code.Line.{Line}
 use Rattle.outcomes.specs.declared.Outcome.{Outcome}
-use Rattle.machine.specs.Machine.{index, fetch, store, jump}
+use Rattle.machine.specs.Machine.{index, fetch}
 use Rattle.instructions.specs.Columns.{operationOf}
 use Rattle.outcomes.specs.Outcome.{entryOf, outcome}
 use Rattle.states.specs.View.{whole, ofSlot}
