@@ -105,7 +105,7 @@ pub fn long_code(bytes: usize) -> Vec<u8> {
         let number = |i: usize| Arg::Number(-(10i64.pow((digits.saturating_sub(9 * i)).min(9) as u32)));
         let mut code: Code = vec![("STOP", Arg::Nothing)];
         code.extend((0..numbers).map(|i| ("PUSHCONSTINT", number(i))));
-        Draft { first: 10_000, ..draft(&["0"], Vec::new(), code) }.text().into_bytes()
+        Draft { first: 10_000, ..draft(&["0"], blocks(8), code) }.text().into_bytes()
     };
     text(bytes - text(0).len())
 }

@@ -16,7 +16,7 @@ use Rattle.cells.specs.declared.Cell.{Cell}
 use Rattle.cells.specs.Cells.{unknown}
 use Rattle.instructions.specs.declared.Operation.{Operation}
 use Rattle.outcomes.specs.declared.Outcome.the-variants.{Opens}
-use Rattle.machine.specs.Machine.{State, Code, Price, opens, index, jump, store, advance, step}
+use Rattle.machine.specs.Machine.{Code, Price, opens, index, jump, store, advance, step}
 use Rattle.outcomes.specs.Outcome.{resume}
 use Rattle.states.specs.View.{Stacked, view, blocksOf, whole}
 use Rattle.states.specs.Columns.{codeOf}
@@ -27,6 +27,7 @@ use Rattle.findings.specs.declared.Verdict.{Verdict}
 use Rattle.findings.specs.declared.Found.{Found}
 use Rattle.findings.specs.declared.Tally.{Tally}
 use Rattle.findings.specs.Found.{encode, refusalOf, acceptedAs, Shows, decidedOf, joinedOf, finishedOf, refusedAs}
+use Rattle.findings.proofs.PartLaws.{encode-positive}
 use Rattle.explore.specs.Contract.{Explores, SafeUnder, ExactFor, Modest}
 use Rattle.explore.proofs.LoopLaws as loop
 use Rattle.explore.proofs.TurnLaws.{act}
@@ -72,20 +73,14 @@ joined-modest o budget n left t f g r e z h c w mf mg =
 
 -- ---- an accepted answer has one report
 
-encode-some : (ds : List Decision) → 0 < encode ds
-unfolding encode
-encode-some [] = omega arith
-encode-some (N ∷ ds) = omega (arith, encode-some ds)
-encode-some (T ∷ ds) = omega (arith, encode-some ds)
-
 -- the number of a path is of no other path
 pub encode-injective : (ds es : List Decision) → encode ds ≡ encode es → ds ≡ es
 unfolding encode
 encode-injective [] [] e = refl
-encode-injective [] (N ∷ es) e = absurd (omega (arith, encode-some es))
-encode-injective [] (T ∷ es) e = absurd (omega (arith, encode-some es))
-encode-injective (N ∷ ds) [] e = absurd (omega (arith, encode-some ds))
-encode-injective (T ∷ ds) [] e = absurd (omega (arith, encode-some ds))
+encode-injective [] (N ∷ es) e = absurd (omega (arith, encode-positive es))
+encode-injective [] (T ∷ es) e = absurd (omega (arith, encode-positive es))
+encode-injective (N ∷ ds) [] e = absurd (omega (arith, encode-positive ds))
+encode-injective (T ∷ ds) [] e = absurd (omega (arith, encode-positive ds))
 encode-injective (N ∷ ds) (N ∷ es) e = ap (λ x. N ∷ x) (encode-injective ds es (omega arith))
 encode-injective (N ∷ ds) (T ∷ es) e = absurd (omega arith)
 encode-injective (T ∷ ds) (N ∷ es) e = absurd (omega arith)

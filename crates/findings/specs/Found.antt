@@ -73,6 +73,7 @@ finishedOf t n = record { verdict = Accepted; used = n; cycles = t .cycles; word
 unfoldable pub refusedAs : Verdict → ℕ → Found
 refusedAs v n = record { verdict = v; used = n; cycles = 0; words = 0; depth = 0; path = 1 }
 
+-- a price by its cycles and its words
 abbrev pub price : ℕ → ℕ → Price
 price c w = record { cycles = c; words = w }
 

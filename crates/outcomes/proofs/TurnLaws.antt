@@ -19,7 +19,7 @@ use Rattle.instructions.specs.declared.Operation.{Operation}
 use Rattle.instructions.specs.declared.Operation.the-variants.{Nothing, Access, Drop, Assign, Constant, GetField, SetField, Branch, BranchIf, BranchIfNot, Call, Stop, Alter, Combine}
 use Rattle.outcomes.specs.declared.Outcome.{Outcome}
 use Rattle.outcomes.specs.declared.Outcome.the-variants.{Gives, Stores, Sets, Gets, Goes, Opens, Halts, Stuck}
-use Rattle.machine.specs.Machine.{State, stackLimit, height, Price, Instruction, Code, fetch, goes, opens, index, jump, load, restack, store, push, advance, ahead, prepare, execute, step}
+use Rattle.machine.specs.Machine.{stackLimit, height, Price, Instruction, Code, fetch, goes, opens, index, jump, load, restack, store, push, advance, ahead, prepare, execute, step}
 use Rattle.outcomes.specs.Outcome.{entryOf, drops, given, branching, outcome, resume}
 use Rattle.states.specs.View.{Stacked, view, blocksOf, slot, Fits, whole}
 use Rattle.outcomes.proofs.OutcomeLaws.{perform-resumes}

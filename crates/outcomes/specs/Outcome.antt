@@ -50,6 +50,7 @@ drops Stop n = 0
 drops (Alter u) n = 0
 drops (Combine b) n = 1
 
+-- the outcome where an operation gives a cell or is stuck
 unfoldable pub given : Try Cell → Outcome
 given stuck = Stuck
 given (done c) = Gives c

@@ -8,6 +8,7 @@ use lib.Dec.{ltb}
 use borrow.Author.Tests.{lt-ltb, le-ltb, ltb-false}
 use Rattle.bounds.specs.Tree.{Report, Decision, N, T}
 use Rattle.findings.specs.Found.{encode}
+use Rattle.findings.proofs.PartLaws.{encode-positive}
 use Rattle.report.specs.Decode.{decision, decisions, decode, reportOf}
 
 -- more fuel changes nothing
@@ -41,12 +42,6 @@ decode-none n h = decisions-none n n h
 pub decode-more : (n : ℕ) → 2 ≤ n → decode n ≡ decision (n % 2) ∷ decode (n / 2)
 unfolding decode
 decode-more n h = decisions-more n n h (omega arith)
-
-encode-positive : (ds : List Decision) → 1 ≤ encode ds
-unfolding encode
-encode-positive [] = omega arith
-encode-positive (N ∷ ds) = omega (arith, encode-positive ds)
-encode-positive (T ∷ ds) = omega (arith, encode-positive ds)
 
 -- a bit below the others
 decode-bit : (b n : ℕ) → 1 ≤ n → b < 2 → decode (2 * n + b) ≡ decision b ∷ decode n

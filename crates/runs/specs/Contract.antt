@@ -23,12 +23,13 @@ use Rattle.runs.specs.declared.Verdict.{Verdict}
 use Rattle.runs.specs.declared.Verdict.the-variants.{Stopped, Stuck, Spent}
 use Rattle.runs.specs.declared.Ran.{Ran}
 
+-- the verdict of a case, with the figures of r where it stopped
 unfoldable pub judged : Verdict → Ran → bounds.Verdict
 judged Stopped r = accepted (record { cycles = r .cycles; words = r .words; depth = r .depth; steps = r .steps; path = [] })
 judged (Stuck a) r = refused (refusals.Stuck a)
 judged (Spent a) r = refused (refusals.Spent a)
 
--- the verdict on a run, with its four figures where it stopped
+-- the verdict on a run
 unfoldable pub verdictOf : Ran → bounds.Verdict
 verdictOf r = judged (r .verdict) r
 

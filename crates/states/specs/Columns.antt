@@ -26,10 +26,12 @@ lineOf l = record {
 abbrev pub line : ℕ → ℤ → ℕ → ℕ → Line
 line b i c w = record { code = b % 32; pushes = leb 32 b; operand = i; cycles = c; words = w }
 
+-- the instructions of the columns, one entry of each at a time
 unfoldable pub linesOf : List ℕ → List ℤ → List ℕ → List ℕ → List Instruction
 linesOf [] is cs ws = []
 linesOf (b ∷ bs) is cs ws = lineOf (line b (getD is 0 (pos 0)) (getD cs 0 0) (getD ws 0 0)) ∷ linesOf bs (drop 1 is) (drop 1 cs) (drop 1 ws)
 
+-- the code of the columns, from the address `first` on
 unfoldable pub codeOf : ℕ → List ℕ → List ℤ → List ℕ → List ℕ → Code
 codeOf first bs is cs ws = record { first = first; instructions = linesOf bs is cs ws }
 

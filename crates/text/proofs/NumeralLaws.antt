@@ -1,17 +1,17 @@
 -- Laws of a number as the code reads it, digit by digit, up to a limit. Assumes nothing.
 use Prim.Native.Nat.{ℕ, zero, suc, _+_, _-_, _*_, _<_, _≤_, min}
-use mathlib.Core.Path.{_≡_, refl, sym, ap, _∙_}
+use mathlib.Core.Path.{_≡_, refl, sym, ap, subst, _∙_}
 use mathlib.Core.Bool.{Bool, true, false, cond}
 use mathlib.Core.List.{List, [], _∷_}
 use native.Mathlib.Omega.{arith}
 use lib.Dec.{eqb}
-use lib.IntN.{pos, negsuc, _-ℤ_}
+use lib.IntN.{pos, negsuc, negℤ, _-ℤ_, +ℤ-idl}
 use lib.ListN.{length, getD, take, drop, drop-of-length-le}
 use lib.Seq.{drop-cons, take-all}
 use mir.Syntax.{w64}
 use mir.Val.{SFits, ofZ, toZ}
 use mir.ValLaws.{toZ-ofZ}
-use borrow.Author.Tests.{le-leb, lt-leb, eq-eqb, ne-eqb, lt-ltb}
+use borrow.Author.Tests.{le-leb, lt-leb, eq-eqb, ne-eqb}
 use Rattle.text.specs.Decimal.{isDigit, digitsFrom, natural, negative, numeral, most, clamp, clamped}
 use Rattle.text.specs.Magnitude.{held, toNumeral}
 use Rattle.text.specs.declared.Numeral.{Numeral}
@@ -129,20 +129,22 @@ numeral-negative (x ∷ xs) h e =
     rw (eq-eqb x 45 e) (ap (λ l. clamped (negative (toNumeral (held (natural l))))) (take-all (length (x ∷ xs) - 1) xs (omega arith)) ∙ held-negative (natural-unsigned xs))
 
 -- the code's number, from its bits
-fits : (n : ℕ) → n ≤ suc most → SFits w64 (pos n)
-fits n h = record { sfits = omega arith }
+pub natural-read : (n : ℕ) → n ≤ suc most → toZ w64 n ≡ pos n
+natural-read n h = toZ-ofZ w64 (pos n) (record { sfits = omega arith })
 
 pub positive-read : (v n : ℕ) → n ≡ min most v → clamped (toNumeral (value v)) ≡ number (toZ w64 n)
 unfolding clamped clamp toNumeral
-positive-read v n e = ap number (ap pos (sym e) ∙ sym (toZ-ofZ w64 (pos n) (fits n (omega arith))))
+positive-read v n e = ap number (ap pos (sym e) ∙ sym (natural-read n (omega arith)))
 
-minus : (n : ℕ) → 1 ≤ n → n ≤ suc most → pos 0 -ℤ toZ w64 n ≡ negsuc (n - 1)
-minus zero h k = absurd (omega arith)
-minus (suc n) h k =
-    ap (λ z. pos 0 -ℤ z) (toZ-ofZ w64 (pos (suc n)) (fits (suc n) k)) ∙ ap (λ t. cond t (negsuc (suc n - 1)) (pos (0 - suc n))) (lt-ltb 0 (suc n) (omega arith))
+minus-read : (n : ℕ) → n ≤ suc most → pos 0 -ℤ toZ w64 n ≡ negℤ (pos n)
+minus-read n h = ap (λ z. pos 0 -ℤ z) (natural-read n h) ∙ +ℤ-idl (negℤ (pos n))
 
-pub minus-fits : (n : ℕ) → 1 ≤ n → n ≤ suc most → SFits w64 (pos 0 -ℤ toZ w64 n)
-minus-fits n h k = rw (minus n h k) (record { sfits = omega arith })
+pub minus-fits : (n : ℕ) → n ≤ suc most → SFits w64 (pos 0 -ℤ toZ w64 n)
+minus-fits n h = subst (SFits w64) (sym (minus-read n h)) (go n h)
+  where
+    go : (n : ℕ) → n ≤ suc most → SFits w64 (negℤ (pos n))
+    go zero h = record { sfits = omega arith }
+    go (suc n) h = record { sfits = omega arith }
 
 pub negative-zero : (v : ℕ) → v ≡ 0 → clamped (negative (toNumeral (value v))) ≡ misspelt
 unfolding clamped toNumeral
@@ -153,5 +155,5 @@ pub negative-read : (v n : ℕ) → (v ≡ 0 → ⊥) → n ≡ min (suc most) v
 unfolding clamped clamp toNumeral
 negative-read zero n h e = absurd (h refl)
 negative-read (suc v) n h e =
-    let k = minus-fits n (omega arith) (omega arith) in
-    ap number (ap negsuc (omega arith) ∙ sym (toZ-ofZ w64 (pos 0 -ℤ toZ w64 n) k ∙ minus n (omega arith) (omega arith)))
+    let m : n ≡ suc (min most v) = omega arith in
+    ap number (sym (toZ-ofZ w64 (pos 0 -ℤ toZ w64 n) (minus-fits n (omega arith)) ∙ minus-read n (omega arith) ∙ ap (λ x. negℤ (pos x)) m))

@@ -44,7 +44,7 @@ use Rattle.cells.specs.declared.Value.the-variants.{Number}
 use Rattle.cells.specs.Cells.{unknown, cell}
 use Rattle.states.specs.declared.code.Line.{Line}
 use Rattle.outcomes.specs.declared.Outcome.{Outcome}
-use Rattle.machine.specs.Machine.{index, fetch, store, jump, restack}
+use Rattle.machine.specs.Machine.{index, fetch, restack}
 use Rattle.instructions.specs.Columns.{operationOf}
 use Rattle.outcomes.specs.Outcome.{entryOf, outcome}
 use Rattle.states.specs.View.{Stacked, beside, view, whole, ofSlot}

@@ -7,7 +7,7 @@ use lib.ListN.{length}
 use borrow.Author.Needs.{needs}
 use Rattle.states.specs.View.{beside}
 use Rattle.states.proofs.Stack.{length-images}
-use Rattle.machine.specs.Machine.{State, load, advance}
+use Rattle.machine.specs.Machine.{State, load}
 use Rattle.runs.proofs.OutcomeLaws.{slot-in, gets-moves, gets-stays}
 use Rattle.runs.proofs.get_field.Statement.{statement}
 use Rattle.runs.proofs.get_field.Tie as tie

@@ -7,7 +7,7 @@ use lib.ListN.{length}
 use borrow.Author.Needs.{needs}
 use Rattle.states.specs.View.{beside}
 use Rattle.states.proofs.Stack.{length-images}
-use Rattle.machine.specs.Machine.{State, load, restack, advance}
+use Rattle.machine.specs.Machine.{State, load, restack}
 use Rattle.runs.proofs.OutcomeLaws.{slot-in, sets-moves, sets-stays}
 use Rattle.runs.proofs.set_field.Statement.{statement}
 use Rattle.runs.proofs.set_field.Tie as tie

@@ -33,7 +33,7 @@ cast-t6 : tie.Need-cast-t6
 cast-t6 c = search needs
 
 sub-t7 : tie.Need-sub-t7
-sub-t7 c = minus-fits (c .smaller .result) (omega arith) (omega arith)
+sub-t7 c = minus-fits (c .smaller .result) (omega arith)
 
 returns-3 : tie.Need-returns-3
 returns-3 c =

@@ -1,40 +1,35 @@
 -- `values::is_nearer` meets its contract. Assumes nothing.
-use mathlib.Core.Path.{_≡_, sym, ap, ap₂, subst, _∙_}
+use mathlib.Core.Path.{_≡_, sym, ap, ap₂, _∙_}
 use native.Mathlib.Omega.{arith}
-use Prim.Native.Nat.{ℕ, zero, suc, _≤_}
-use lib.Dec.{lit<}
-use native.Mathlib.Nat.{lt-of-le-of-lt}
-use lib.IntN.{pos, negℤ, _-ℤ_, +ℤ-idl}
+use Prim.Native.Nat.{ℕ, _≤_}
+use lib.IntN.{pos, _-ℤ_}
 use lib.Signed.{ltZ}
 use mir.Syntax.{w64}
 use mir.Val.{SFits, toZ}
-use mir.ValLaws.{toZ-ofZ, toZ-pos}
+use mir.ValLaws.{toZ-ofZ}
 use Rattle.text.specs.Decimal.{most}
+use Rattle.text.proofs.NumeralLaws.{natural-read, minus-fits}
 use Rattle.values.proofs.ValueLaws.{nearer-above, nearer-below}
 use borrow.Author.Needs.{needs}
 use Rattle.values.proofs.is_nearer.Statement.{statement}
 use Rattle.values.proofs.is_nearer.Tie as tie
 
 small : (n : ℕ) → n ≤ most → toZ w64 n ≡ pos n
-small n h = toZ-pos w64 n (lt-of-le-of-lt h (lit< tt))
+small n h = natural-read n (omega arith)
 
-minus-mag : (n : ℕ) → n ≤ most → SFits w64 (negℤ (pos n))
-minus-mag zero h = record { sfits = lit< tt }
-minus-mag (suc n) h = record { sfits = omega arith }
-
-minus-fits : (n : ℕ) → n ≤ most → SFits w64 (pos 0 -ℤ toZ w64 n)
-minus-fits n h = subst (SFits w64) (sym (ap (λ z. pos 0 -ℤ z) (small n h) ∙ +ℤ-idl (negℤ (pos n)))) (minus-mag n h)
+minus : (n : ℕ) → n ≤ most → SFits w64 (pos 0 -ℤ toZ w64 n)
+minus n h = minus-fits n (omega arith)
 
 cast-m : tie.Need-cast-m
 cast-m c = search needs
 
 sub-result : tie.Need-sub-result
-sub-result c = minus-fits (c .before .args .n) (c .before .pre)
+sub-result c = minus (c .before .args .n) (c .before .pre)
 
 returns : tie.Need-returns
 returns c =
     let start = c .before in
-    ap₂ ltZ (toZ-ofZ w64 _ (minus-fits (start .args .n) (start .pre)) ∙ ap (λ z. pos 0 -ℤ z) (small (start .args .n) (start .pre))) (toZ-ofZ w64 (start .args .k) (start .fits .k))
+    ap₂ ltZ (toZ-ofZ w64 _ (minus (start .args .n) (start .pre)) ∙ ap (λ z. pos 0 -ℤ z) (small (start .args .n) (start .pre))) (toZ-ofZ w64 (start .args .k) (start .fits .k))
     ∙ nearer-below (start .args .k) (start .args .n) (sym (ap (λ z. ltZ z (pos 0)) (toZ-ofZ w64 (start .args .k) (start .fits .k))) ∙ c .if1 .taken)
 
 returns-2 : tie.Need-returns-2

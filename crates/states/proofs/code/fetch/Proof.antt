@@ -10,43 +10,33 @@ use Rattle.states.proofs.ColumnLaws.{fetch-below, fetch-past, fetch-in}
 use Rattle.states.proofs.code.fetch.Statement.{statement}
 use Rattle.states.proofs.code.fetch.Tie as tie
 
--- src/code.rt:34:9
 returns : tie.Need-returns
 returns c = (fetch-below _ _ _ _ _ _ (search needs), tt)
 
--- src/code.rt:38:9
 returns-2 : tie.Need-returns-2
 returns-2 c = (fetch-past _ _ _ _ _ _ (search needs) (search needs), tt)
 
--- src/code.rt:40:16
 shared-slice-read-byte : tie.Need-shared-slice-read-byte
 shared-slice-read-byte c = search needs
 
--- src/code.rt:44:18
 mul-t10 : tie.Need-mul-t10
 mul-t10 c = search needs
 
--- src/code.rt:44:18
 shared-slice-copy-out-t14 : tie.Need-shared-slice-copy-out-t14
 shared-slice-copy-out-t14 c = search needs
 
--- src/code.rt:45:17
 mul-t15 : tie.Need-mul-t15
 mul-t15 c = search needs
 
--- src/code.rt:45:17
 shared-slice-read-t17 : tie.Need-shared-slice-read-t17
 shared-slice-read-t17 c = search needs
 
--- src/code.rt:46:16
 mul-t18 : tie.Need-mul-t18
 mul-t18 c = search needs
 
--- src/code.rt:46:16
 shared-slice-read-t20 : tie.Need-shared-slice-read-t20
 shared-slice-read-t20 c = search needs
 
--- src/code.rt:21:1
 returns-3 : tie.Need-returns-3
 returns-3 c =
     let a = c .before .before .before .before .before .before .args in
