@@ -21,7 +21,7 @@ use Rattle.bounds.proofs.PromiseLaws as promise-laws
 use Rattle.bounds.proofs.RunLaws as run-laws
 use Rattle.bounds.proofs.RunVerdictLaws as run-verdict-laws
 use Rattle.bounds.proofs.Interrupted as example
-use Rattle.analyser.specs.Answers.{reported}
+use Rattle.report.proofs.ReportLaws.{share-nearest, share-unique}
 use Rattle.analyser.specs.Promises as answers
 use Rattle.analyser.specs.Functions as functions
 use Rattle.analyser.proofs.AnswerLaws as answer-laws
@@ -116,3 +116,6 @@ answers-told = function-laws.answers-told
 
 pub written-reads-back : answers.WrittenReadsBack
 written-reads-back = decimal-read
+
+pub share-is-nearest : answers.ShareNearest
+share-is-nearest tick cycles h = (share-nearest tick cycles h, λ n. share-unique tick cycles n h)

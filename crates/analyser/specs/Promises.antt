@@ -20,7 +20,7 @@ use Rattle.bounds.specs.Promises.{Exact, Safe, NoGreater}
 use Rattle.routine.specs.Layout.{layout, body, codeLines}
 use Rattle.routine.specs.Routine.{Routine, readBound, readRun}
 use Rattle.routine.specs.Routine as readings
-use Rattle.report.specs.Report.{boundText, runText}
+use Rattle.report.specs.Report.{share, Nearest, boundText, runText}
 use Rattle.analyser.specs.Answers.{reported, refused, memoryLimit, boundAnswer, runAnswer}
 
 -- the bytes bs are the report q of the routine x that the text holds
@@ -102,3 +102,7 @@ PlacesSmall =
 -- reading a decimal number that was written gives it back
 abbrev pub WrittenReadsBack : Type 0
 WrittenReadsBack = (n : ℕ) → numeral (decimal n) ≡ number (pos n)
+
+-- SHARE is the nearest whole number, a half going up, and no other number is
+abbrev pub ShareNearest : Type 0
+ShareNearest = (tick cycles : ℕ) → 1 ≤ tick → Nearest tick cycles (share tick cycles) × ((n : ℕ) → Nearest tick cycles n → n ≡ share tick cycles)

@@ -51,8 +51,8 @@ module _ (c : Code) (M : State → Verdict) (by-steps : Stepwise c M) (q : Repor
 
   -- the run r after n steps: it has stopped within q, or what is left from its state, bounded afresh, is within q
   data Within (n : ℕ) (r : Run) : Type 0 where
-    over : r .stopped ≡ true → r .cycles ≤ q .cycles → r .words ≤ q .words → r .depth ≤ q .depth → r .steps ≤ q .steps → Within n r
-    underway : (f : Report) → r .stopped ≡ false → Cellwise Allowed (r .state) (r .state) → M (r .state) ≡ accepted f →
+    ended : r .stopped ≡ true → r .cycles ≤ q .cycles → r .words ≤ q .words → r .depth ≤ q .depth → r .steps ≤ q .steps → Within n r
+    running : (f : Report) → r .stopped ≡ false → Cellwise Allowed (r .state) (r .state) → M (r .state) ≡ accepted f →
         r .cycles + f .cycles ≤ q .cycles → r .words + f .words ≤ q .words → r .depth ≤ q .depth → f .depth ≤ q .depth → r .steps + f .steps ≤ q .steps → r .steps ≡ n → Within n r
 
   -- a state that t allows, bounded afresh
@@ -69,31 +69,31 @@ module _ (c : Code) (M : State → Verdict) (by-steps : Stepwise c M) (q : Repor
   follows r e = step-law allowed-lawful c (answered (r .answers)) e
 
   -- one plain step, and what is left bounded afresh, cost no more
-  lands : (n : ℕ) (r : Run) (rest : List ℤ) (f : Report) (p : Price) (s t : State) → Cellwise Allowed s t → Leaves c M f p t →
+  step-within : (n : ℕ) (r : Run) (rest : List ℤ) (f : Report) (p : Price) (s t : State) → Cellwise Allowed s t → Leaves c M f p t →
       r .cycles + f .cycles ≤ q .cycles → r .words + f .words ≤ q .words → r .depth ≤ q .depth → f .depth ≤ q .depth → r .steps + f .steps ≤ q .steps → r .steps ≡ n →
       Within (suc n) (moved r rest false (done (goes p s)))
   unfolding moved
-  lands n r rest f p s t e l cy wo de df st co =
+  step-within n r rest f p s t e l cy wo de df st co =
       let (g, a, le) = afresh s t (l .left) e (l .accepts) in
       let h = by-steps .root s g a in
-      underway g refl (plain-self e) a (omega (arith, l, le)) (omega (arith, l, le)) (omega (arith, l, le, h)) (omega (arith, l, le)) (omega (arith, l, le)) (ap suc co)
+      running g refl (plain-self e) a (omega (arith, l, le)) (omega (arith, l, le)) (omega (arith, l, le, h)) (omega (arith, l, le)) (omega (arith, l, le)) (ap suc co)
 
   moves : (n : ℕ) (r : Run) (rest : List ℤ) (f : Report) {m m′ : Try Next} → Covered (NextCovered (Cellwise Allowed) ⊥) m m′ → Ways c M f m′ →
       r .cycles + f .cycles ≤ q .cycles → r .words + f .words ≤ q .words → r .depth ≤ q .depth → f .depth ≤ q .depth → r .steps + f .steps ≤ q .steps → r .steps ≡ n → 1 ≤ f .steps →
       Within (suc n) (moved r rest false m)
   unfolding moved
-  moves n r rest f (both stops-too) (stopping p w) cy wo de df st co on = over refl (omega arith) (omega arith) de (omega arith)
-  moves n r rest f (both (goes-too {p} {s} {t} e)) (going l) cy wo de df st co on = lands n r rest f p s t e l cy wo de df st co
+  moves n r rest f (both stops-too) (stopping p w) cy wo de df st co on = ended refl (omega arith) (omega arith) de (omega arith)
+  moves n r rest f (both (goes-too {p} {s} {t} e)) (going l) cy wo de df st co on = step-within n r rest f p s t e l cy wo de df st co
   moves n r rest f (both (opens-too no-way e e′)) (opening l l′) cy wo de df st co on = absurd no-way
-  moves n r rest f (both (goes-not-taken {p} {s} {s′ = t} e)) (opening l l′) cy wo de df st co on = lands n r rest f p s t e l cy wo de df st co
-  moves n r rest f (both (goes-taken {q = p} {t = s} {t′ = t} e)) (opening l l′) cy wo de df st co on = lands n r rest f p s t e l′ cy wo de df st co
+  moves n r rest f (both (goes-not-taken {p} {s} {s′ = t} e)) (opening l l′) cy wo de df st co on = step-within n r rest f p s t e l cy wo de df st co
+  moves n r rest f (both (goes-taken {q = p} {t = s} {t′ = t} e)) (opening l l′) cy wo de df st co on = step-within n r rest f p s t e l′ cy wo de df st co
 
   keeps : (n : ℕ) (r : Run) (rest : List ℤ) (b : Bool) → r .stopped ≡ b → Within n r → Within (suc n) (moved r rest b (leads c r))
   unfolding moved
-  keeps n r rest true e (over g cy wo de st) = over g cy wo de st
-  keeps n r rest true e (underway f g i a cy wo de df st co) = absurd (true≢false (sym e ∙ g))
-  keeps n r rest false e (over g cy wo de st) = absurd (true≢false (sym g ∙ e))
-  keeps n r rest false e (underway f g i a cy wo de df st co) =
+  keeps n r rest true e (ended g cy wo de st) = ended g cy wo de st
+  keeps n r rest true e (running f g i a cy wo de df st co) = absurd (true≢false (sym e ∙ g))
+  keeps n r rest false e (ended g cy wo de st) = absurd (true≢false (sym g ∙ e))
+  keeps n r rest false e (running f g i a cy wo de df st co) =
       moves n r rest f (follows r i) (by-steps .ways (r .state) f (erase i) a) cy wo de df st co (by-steps .root (r .state) f a .1)
 
   stays : (n : ℕ) (r : Run) → Within 0 r → Within n (after c n r)
@@ -111,7 +111,7 @@ module _ (c : Code) (M : State → Verdict) (by-steps : Stepwise c M) (q : Repor
 
   safe : (n : ℕ) (r : Run) → Within n r → Safe c M q n r
   unfolding isStuck stuckAt left
-  safe n r (over g cy wo de st) = record {
+  safe n r (ended g cy wo de st) = record {
     moves = ap (λ b. stuckAt b (leads c r)) g;
     depth = de;
     steps = st;
@@ -121,7 +121,7 @@ module _ (c : Code) (M : State → Verdict) (by-steps : Stepwise c M) (q : Repor
     words = omega arith;
     stops = λ h. g;
   }
-  safe n r (underway f g i a cy wo de df st co) = record {
+  safe n r (running f g i a cy wo de df st co) = record {
     moves = ap (λ b. stuckAt b (leads c r)) g ∙ unstuck (follows r i) (by-steps .ways (r .state) f (erase i) a);
     depth = de;
     steps = omega arith;
@@ -138,7 +138,7 @@ stepwise-interruptible c M by-steps t q a s e answers n =
     let (f, b, le) = afresh c M by-steps q s t q e a in
     let h = by-steps .root s f b in
     safe c M by-steps q n (after c n (begin s answers)) (stays c M by-steps q n (begin s answers)
-    (underway f refl (plain-self c M by-steps q e) b (omega (arith, le)) (omega (arith, le)) (omega (arith, le, h)) (omega (arith, le)) (omega (arith, le)) refl))
+    (running f refl (plain-self c M by-steps q e) b (omega (arith, le)) (omega (arith, le)) (omega (arith, le, h)) (omega (arith, le)) (omega (arith, le)) refl))
 
 -- where one step changes nothing, more change nothing
 stays-still : (c : Code) (n : ℕ) (r : Run) → once c r ≡ r → after c n r ≡ r

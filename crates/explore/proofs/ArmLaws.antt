@@ -205,12 +205,12 @@ module _ (first : ℕ) (bs : List ℕ) (is : List ℤ) (cs ws ns : List ℕ) (o 
 
     pub spent-out : {fs : List Cell} {s : Stacked} {left : ℕ} {t : Tally} → Turn first bs is cs ws ns o budget fs₀ s₀ fs s left t → left ≤ 0 → (r : Found) → r ≡ refusedAs (verdicts.Spent (s .at)) budget → Kept r
     unfolding whole store
-    spent-out {fs} {s} {left} {t} i h r e = shown r _ e (loop.spends (act first bs is cs ws ns o budget fs₀ s₀) o budget (whole ns fs₀ s₀) (whole ns fs s) left t (i .inv) h) (refused-modest o budget budget _ r e (omega arith))
+    spent-out {fs} {s} {left} {t} i h r e = shown r _ e (loop.spent-shown (act first bs is cs ws ns o budget fs₀ s₀) o budget (whole ns fs₀ s₀) (whole ns fs s) left t (i .inv) h) (refused-modest o budget budget _ r e (omega arith))
 
     pub stuck-out : {fs : List Cell} {s : Stacked} {left : ℕ} {t : Tally} → Turn first bs is cs ws ns o budget fs₀ s₀ fs s left t → 0 < left → (act first bs is cs ws ns o budget fs₀ s₀) (whole ns fs s) ≡ stuck → (r : Found) → r ≡ refusedAs (verdicts.Stuck (s .at)) (budget - left + 1) → Kept r
     unfolding whole store
     stuck-out {fs} {s} {left} {t} i h g r e =
-        shown r _ e (loop.sticks (act first bs is cs ws ns o budget fs₀ s₀) o budget (whole ns fs₀ s₀) (whole ns fs s) left t (i .inv) h g) (refused-modest o budget (budget - left + 1) _ r e (omega (arith, i .inv .within)))
+        shown r _ e (loop.stuck-shown (act first bs is cs ws ns o budget fs₀ s₀) o budget (whole ns fs₀ s₀) (whole ns fs s) left t (i .inv) h g) (refused-modest o budget (budget - left + 1) _ r e (omega (arith, i .inv .within)))
 
     module _ {fs : List Cell} {s : Stacked} {left : ℕ} {t : Tally} {l : Line} {t′ : Tally} {u : Stacked} {n : ℕ} {out : Outcome} (a : Arm first bs is cs ws ns o budget fs₀ s₀ fs s left t l t′ u n out) where
       used-is : budget - (left - 1) ≡ budget - left + 1
@@ -238,7 +238,7 @@ module _ (first : ℕ) (bs : List ℕ) (is : List ℤ) (cs ws ns : List ℕ) (o 
         pub over-out : o ≡ 0 → (r : Found) → r ≡ refusedAs (verdicts.Openings (s .at)) (budget - left + 1) → Kept r
         unfolding whole store
         over-out z r e =
-            shown r _ e (loop.deepens (act first bs is cs ws ns o budget fs₀ s₀) o budget (whole ns fs₀ s₀) (whole ns fs s) left t (a .turn .inv) (a .some) p p _ _ opened z)
+            shown r _ e (loop.over-shown (act first bs is cs ws ns o budget fs₀ s₀) o budget (whole ns fs₀ s₀) (whole ns fs s) left t (a .turn .inv) (a .some) p p _ _ opened z)
             (refused-modest o budget (budget - left + 1) _ r e (omega (arith, a .turn .inv .within, a .some)))
 
         module _ (z : 0 < o) (f : Found) (ef : Explores (codeOf first bs is cs ws) ns fs u (s .at + 1) (o - 1) (left - 1) f) (mf : Modest (o - 1) (left - 1) f) where

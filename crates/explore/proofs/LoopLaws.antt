@@ -64,8 +64,8 @@ leb-after p k l = go (leb k l) refl
     go true e = let h = leb-true k l e in e ∙ sym (le-leb (p + k) (p + l) (omega arith))
     go false e = let h = leb-false k l e in e ∙ sym (lt-leb (p + k) (p + l) (omega arith))
 
-founds : (f g : Found) → f .verdict ≡ g .verdict → f .used ≡ g .used → f .cycles ≡ g .cycles → f .words ≡ g .words → f .depth ≡ g .depth → f .path ≡ g .path → f ≡ g
-founds f g v u c w d p = λ i. record { verdict = v i; used = u i; cycles = c i; words = w i; depth = d i; path = p i }
+found-equal : (f g : Found) → f .verdict ≡ g .verdict → f .used ≡ g .used → f .cycles ≡ g .cycles → f .words ≡ g .words → f .depth ≡ g .depth → f .path ≡ g .path → f ≡ g
+found-equal f g v u c w d p = λ i. record { verdict = v i; used = u i; cycles = c i; words = w i; depth = d i; path = p i }
 
 -- the two ways of a branch, both accepted, after n steps of a tally
 joined-found : (t : Tally) (n : ℕ) (s : State) (p : Price) (r r′ : Report) (f g : Found) → f ≡ acceptedAs r → g ≡ acceptedAs r′ →
@@ -80,7 +80,7 @@ joined-found : (t : Tally) (n : ℕ) (s : State) (p : Price) (r r′ : Report) (
 unfolding joinedOf moreOf acceptedAs joined decidedOf
 joined-found t n s p r r′ f g e d =
     rw (e, d)
-    (founds _ _ refl (omega arith) (omega arith) (omega arith) (omega arith)
+    (found-equal _ _ refl (omega arith) (omega arith) (omega arith) (omega arith)
     (ap (λ b. cond b (2 * encode (r′ .path) + 1) (2 * encode (r .path))) (leb-after (p .cycles) (r .cycles) (r′ .cycles))
     ∙ sym (worse-path (leb (p .cycles + r .cycles) (p .cycles + r′ .cycles)) (r .path) (r′ .path))))
 
@@ -113,9 +113,9 @@ module _ (act : State → Try Next) (o budget : ℕ) (start : State) where
       let e : budget - budget ≡ 0 = omega arith in
       record { total = sym (ap (λ n. shift zeroTally n (explore act o budget start)) e ∙ shift-zero (explore act o budget start)); spent = omega arith; within = omega arith }
 
-  pub spends : (s : State) (left : ℕ) (t : Tally) → Inv s left t → left ≤ 0 → Shown (refusedAs (Spent (s .at)) budget)
+  pub spent-shown : (s : State) (left : ℕ) (t : Tally) → Inv s left t → left ≤ 0 → Shown (refusedAs (Spent (s .at)) budget)
   unfolding refusedAs refusalOf
-  spends s left t i h =
+  spent-shown s left t i h =
       let z : left ≡ 0 = omega arith in
       record {
         shows = shift-refused t (budget - left) _ (explore act o budget start) (i .total ∙ ap (shift t (budget - left)) (ap (λ b. explore act o b s) z ∙ explore-spent act o s)) _ refl;
@@ -150,17 +150,17 @@ module _ (act : State → Try Next) (o budget : ℕ) (start : State) where
       counts = let k = used-from (used-stops act (left - 1) o s p e) in omega (arith, k);
     }
 
-    pub sticks : act s ≡ stuck → Shown (refusedAs (Stuck (s .at)) (budget - left + 1))
+    pub stuck-shown : act s ≡ stuck → Shown (refusedAs (Stuck (s .at)) (budget - left + 1))
     unfolding refusedAs refusalOf
-    sticks e = record {
+    stuck-shown e = record {
       shows = shift-refused t (budget - left) _ (explore act o budget start) (verdict-from (explore-stuck act (left - 1) o s e)) _ refl;
       counts = let k = used-from (used-stuck act (left - 1) o s e) in omega (arith, k);
     }
 
     module _ (p q : Price) (u v : State) (e : act s ≡ done (opens p u q v)) where
-      pub deepens : o ≡ 0 → Shown (refusedAs (Openings (s .at)) (budget - left + 1))
+      pub over-shown : o ≡ 0 → Shown (refusedAs (Openings (s .at)) (budget - left + 1))
       unfolding refusedAs refusalOf
-      deepens z = record {
+      over-shown z = record {
         shows = shift-refused t (budget - left) _ (explore act o budget start) (verdict-from (ap (λ k. explore act k (suc (left - 1)) s) z ∙ explore-over act (left - 1) s u v p q e)) _ refl;
         counts = let k = used-from (ap (λ k. used act k (suc (left - 1)) s) z ∙ used-over act (left - 1) s u v p q e) in omega (arith, k);
       }

@@ -9,13 +9,7 @@ use lib.ListN.{length, length-append, length-map}
 use Rattle.text.specs.Decimal.{decimal}
 use Rattle.text.proofs.DecimalLaws.{decimal-length}
 use Rattle.bounds.specs.Tree.{Report, Decision}
-use Rattle.report.specs.Report.{share, letter, pathText, figures, boundText, runText}
-
--- "CYCLES × 1000 / TICK to the nearest whole number, a half going up": share less a half is at most CYCLES × 1000 / TICK, and share
--- and a half is above it; here both times 2 × TICK, with TICK added on each side
-pub record Nearest (tick cycles share : ℕ) : Type 0 where
-  pub not-above : 2 * tick * share ≤ 2 * (cycles * 1000) + tick
-  pub not-below : 2 * (cycles * 1000) + tick < 2 * tick * (share + 1)
+use Rattle.report.specs.Report.{share, Nearest, letter, pathText, figures, boundText, runText}
 
 pub share-nearest : (tick cycles : ℕ) → 1 ≤ tick → Nearest tick cycles (share tick cycles)
 unfolding share

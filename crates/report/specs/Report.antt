@@ -1,5 +1,5 @@
 -- What is printed: a report, a run's report, a refusal. (document 01, The printed report)
-use Prim.Native.Nat.{ℕ, _+_, _*_, _/_}
+use Prim.Native.Nat.{ℕ, _+_, _*_, _/_, _<_, _≤_}
 use mathlib.Core.List.{List, [], _∷_, _++_, map}
 use Rattle.refusals.specs.Refusals.{number, place}
 use Rattle.refusals.specs.declared.Refusal.{Refusal}
@@ -10,6 +10,12 @@ use Rattle.bounds.specs.Tree.{Report, Decision, N, T}
 -- "SHARE is CYCLES × 1000 / TICK to the nearest whole number, a half going up": the whole part of that and a half
 unfoldable pub share : ℕ → ℕ → ℕ
 share tick cycles = (2 * (cycles * 1000) + tick) / (2 * tick)
+
+-- the same without a division: SHARE less a half is at most CYCLES × 1000 / TICK, and SHARE and a half is above it; here both times
+-- 2 × TICK, with TICK added on each side
+pub record Nearest (tick cycles share : ℕ) : Type 0 where
+  pub not-above : 2 * tick * share ≤ 2 * (cycles * 1000) + tick
+  pub not-below : 2 * (cycles * 1000) + tick < 2 * tick * (share + 1)
 
 -- the letter of a decision: N or T
 abbrev pub letter : Decision → ℕ

@@ -264,16 +264,16 @@ module _ (t : ℕ) (b : Body t) where
   keeps-at = Kept (entry b .args .first) (entry b .args .codes .now) (entry b .args .operands .now) (entry b .args .cycles .now) (entry b .args .words .now) (entry b .args .sizes .now) (entry b .args .openings) (entry b .args .budget)
       (entry b .args .t9) (start-at b) (beside (entry b .args .t8) (entry b .args .start)) (entry b .args .place) (b .before .before .jump .ensures .0 _)
 
-  sticks : act (entry b .args .first) (entry b .args .codes .now) (entry b .args .operands .now) (entry b .args .cycles .now) (entry b .args .words .now) (entry b .args .sizes .now) (entry b .args .openings) (entry b .args .budget) (entry b .args .t9) (start-at b)
+  stuck-kept : act (entry b .args .first) (entry b .args .codes .now) (entry b .args .operands .now) (entry b .args .cycles .now) (entry b .args .words .now) (entry b .args .sizes .now) (entry b .args .openings) (entry b .args .budget) (entry b .args .t9) (start-at b)
       (whole (entry b .args .sizes .now) (b .before .loop .blocks) (state-at b)) ≡ stuck →
       (r : Found) → r ≡ refusedAs (Verdict.Stuck (b .before .loop .s .at)) (entry b .args .budget - b .before .loop .left + 1) → keeps-at r
-  sticks e r f =
+  stuck-kept e r f =
       stuck-out _ _ _ _ _ _ _ _ _ _ (beside (entry b .args .t8) (entry b .args .start)) (entry b .args .place) (b .before .before .jump .ensures .0 _) (b .before .loop .inv) (b .loop-test .taken) e r f
 
-  strays : stuck ≡ fetch (codeOf (entry b .args .first) (entry b .args .codes .now) (entry b .args .operands .now) (entry b .args .cycles .now) (entry b .args .words .now)) (b .before .loop .s .at) →
+  outside-kept : stuck ≡ fetch (codeOf (entry b .args .first) (entry b .args .codes .now) (entry b .args .operands .now) (entry b .args .cycles .now) (entry b .args .words .now)) (b .before .loop .s .at) →
       (r : Found) → r ≡ refusedAs (Verdict.Stuck (b .before .loop .s .at)) (entry b .args .budget - b .before .loop .left + 1) → keeps-at r
-  strays e =
-      sticks (outside (entry b .args .first) (entry b .args .codes .now) (entry b .args .operands .now) (entry b .args .cycles .now) (entry b .args .words .now) (entry b .args .sizes .now) (entry b .args .openings) (entry b .args .budget) (entry b .args .t9) (start-at b)
+  outside-kept e =
+      stuck-kept (outside (entry b .args .first) (entry b .args .codes .now) (entry b .args .operands .now) (entry b .args .cycles .now) (entry b .args .words .now) (entry b .args .sizes .now) (entry b .args .openings) (entry b .args .budget) (entry b .args .t9) (start-at b)
       (b .before .loop .blocks) (state-at b) e)
 
 jump-requires : (t : ℕ) → explore-lts.Need-jump-requires (claims t) (explore-at t) explore.Post Inv-loop μ-loop
@@ -308,7 +308,7 @@ refused-requires t c κs = search needs
 
 returns : (t : ℕ) → explore-lts.Need-returns (claims t) (explore-at t) explore.Post Inv-loop μ-loop
 returns t c =
-    let k = strays t (c .before .before .before .before) (ap ofFetched (sym (c .before .enum-told .given .1)) ∙ c .before .before .before .fetch .ensures .0) _ (c .refused .ensures) in
+    let k = outside-kept t (c .before .before .before .before) (ap ofFetched (sym (c .before .enum-told .given .1)) ∙ c .before .before .before .fetch .ensures .0) _ (c .refused .ensures) in
     (k .explored, (k .safe, (k .exact, k .modest)))
 
 sub-more : (t : ℕ) → explore-lts.Need-sub-more (claims t) (explore-at t) explore.Post Inv-loop μ-loop
@@ -328,7 +328,7 @@ returns-2 : (t : ℕ) → explore-lts.Need-returns-2 (claims t) (explore-at t) e
 returns-2 t c =
     let l : Lined t = c .before .before .before .before .before .before in
     let b : Body t = body l in
-    let k = sticks t b (overflows _ _ _ _ _ _ (entry b .args .openings) (entry b .args .budget) (entry b .args .t9) (start-at b) (b .before .loop .blocks) (state-at b) (line l) (found t l) (c .before .before .before .if1 .taken) (b .before .loop .inv .stack) (c .before .if2 .taken)) _ (c .refused2 .ensures) in
+    let k = stuck-kept t b (overflows _ _ _ _ _ _ (entry b .args .openings) (entry b .args .budget) (entry b .args .t9) (start-at b) (b .before .loop .blocks) (state-at b) (line l) (found t l) (c .before .before .before .if1 .taken) (b .before .loop .inv .stack) (c .before .if2 .taken)) _ (c .refused2 .ensures) in
     (k .explored, (k .safe, (k .exact, k .modest)))
 
 push-requires : (t : ℕ) → explore-lts.Need-push-requires (claims t) (explore-at t) explore.Post Inv-loop μ-loop
@@ -441,7 +441,7 @@ refused-requires-3 t c κs = search needs
 returns-3 : (t : ℕ) → explore-lts.Need-returns-3 (claims t) (explore-at t) explore.Post Inv-loop μ-loop
 returns-3 t c =
     let a : Acted t = c .before .before .before .before .before .before .before in
-    let k = sticks t (body (lined a)) (arms.sets-nothing (arm t a) _ (c .before .before .before .before .before .out3 .given .1) (ap ofSlot (sym (c .before .enum-told2 .given .1)) ∙ c .before .before .before .slot-of .ensures)) _ (c .refused3 .ensures) in
+    let k = stuck-kept t (body (lined a)) (arms.sets-nothing (arm t a) _ (c .before .before .before .before .before .out3 .given .1) (ap ofSlot (sym (c .before .enum-told2 .given .1)) ∙ c .before .before .before .slot-of .ensures)) _ (c .refused3 .ensures) in
     (k .explored, (k .safe, (k .exact, k .modest)))
 
 mul-blocks : (t : ℕ) → explore-lts.Need-mul-blocks (claims t) (explore-at t) explore.Post Inv-loop μ-loop
@@ -495,7 +495,7 @@ refused-requires-4 t c κs = search needs
 returns-4 : (t : ℕ) → explore-lts.Need-returns-4 (claims t) (explore-at t) explore.Post Inv-loop μ-loop
 returns-4 t c =
     let a : Acted t = c .before .before .before .before .before .before in
-    let k = sticks t (body (lined a)) (arms.gets-nothing (arm t a) (c .before .before .before .before .enum-told3 .given .1) (ap ofSlot (sym (c .before .enum-told4 .given .1)) ∙ c .before .before .before .slot-of2 .ensures)) _ (c .refused4 .ensures) in
+    let k = stuck-kept t (body (lined a)) (arms.gets-nothing (arm t a) (c .before .before .before .before .enum-told3 .given .1) (ap ofSlot (sym (c .before .enum-told4 .given .1)) ∙ c .before .before .before .slot-of2 .ensures)) _ (c .refused4 .ensures) in
     (k .explored, (k .safe, (k .exact, k .modest)))
 
 mul-load : (t : ℕ) → explore-lts.Need-mul-load (claims t) (explore-at t) explore.Post Inv-loop μ-loop
@@ -663,7 +663,7 @@ refused-requires-8 t c κs = search needs
 returns-10 : (t : ℕ) → explore-lts.Need-returns-10 (claims t) (explore-at t) explore.Post Inv-loop μ-loop
 returns-10 t c =
     let a : Acted t = c .before .before .before in
-    let k = sticks t (body (lined a)) (arms.is-stuck (arm t a) (c .before .enum-told10 .given .1)) _ (c .refused8 .ensures) in
+    let k = stuck-kept t (body (lined a)) (arms.is-stuck (arm t a) (c .before .enum-told10 .given .1)) _ (c .refused8 .ensures) in
     (k .explored, (k .safe, (k .exact, k .modest)))
 
 refused-requires-9 : (t : ℕ) → explore-lts.Need-refused-requires-9 (claims t) (explore-at t) explore.Post Inv-loop μ-loop
