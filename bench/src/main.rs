@@ -9,47 +9,53 @@ use independent::routine::TEXT_LIMIT;
 use std::hint::black_box;
 use std::time::Duration;
 
-const REPEATS: usize = 15;
+/// Passes over all files, so that a slow moment of the machine does not fall on one file alone; and calls of each in a pass.
+const PASSES: usize = 5;
+const REPEATS: usize = 3;
 
-/// The time of one call, over `calls` calls.
-fn time(function: &mut dyn FnMut(), calls: u32) -> Duration {
-    let start = now();
-    for _ in 0..calls {
-        function();
-    }
-    (now() - start) / calls
+/// A file, and the best times of one call of both.
+struct Measured {
+    name: &'static str,
+    text: Vec<u8>,
+    proved: Duration,
+    independent: Duration,
 }
 
-/// Calls `f` below `SPACE` bytes of stack: how fast a state is copied hangs on where it lies.
+impl Measured {
+    fn new(name: &'static str, text: Vec<u8>) -> Measured {
+        Measured { name, text, proved: Duration::MAX, independent: Duration::MAX }
+    }
+
+    /// Calls both in turn, and keeps the best times.
+    fn measure(&mut self) {
+        let mut memory = [0; MEMORY];
+        let mut both = || {
+            let text = black_box(&self.text[..]);
+            self.proved = self.proved.min(time(|| analyser::bound(text, &mut memory)));
+            self.independent = self.independent.min(time(|| bound_answer(text, MEMORY)));
+        };
+        for _ in 0..REPEATS {
+            below::<16>(&mut both);
+            below::<32>(&mut both);
+            below::<48>(&mut both);
+            below::<64>(&mut both);
+        }
+    }
+}
+
+fn time<T>(function: impl FnOnce() -> T) -> Duration {
+    let start = now();
+    black_box(function());
+    now() - start
+}
+
+/// Calls `f` below `SPACE` bytes of stack: how fast cells are copied hangs on where they lie.
 #[inline(never)]
 fn below<const SPACE: usize>(f: &mut dyn FnMut()) {
     let space = [0u8; SPACE];
     black_box(&space);
     f();
     black_box(&space);
-}
-
-/// The best times of one call of both, in turn.
-fn best_times(text: &[u8], calls: u32) -> (Duration, Duration) {
-    let (mut proved, mut independent) = (Duration::MAX, Duration::MAX);
-    let mut memory = [0; MEMORY];
-    let mut both = || {
-        let mut bound = || {
-            black_box(analyser::bound(black_box(text), black_box(&mut memory)));
-        };
-        proved = proved.min(time(&mut bound, calls));
-        let mut answer = || {
-            let _ = black_box(bound_answer(black_box(text), MEMORY));
-        };
-        independent = independent.min(time(&mut answer, calls));
-    };
-    for _ in 0..REPEATS {
-        below::<16>(&mut both);
-        below::<32>(&mut both);
-        below::<48>(&mut both);
-        below::<64>(&mut both);
-    }
-    (proved, independent)
 }
 
 /// What both answer, as it is printed; they must agree.
@@ -66,26 +72,19 @@ fn milliseconds(time: Duration) -> f64 {
     time.as_secs_f64() * 1e3
 }
 
+/// A line of a table: the times, how many times the second the first is, and the answer.
+fn row(file: &Measured, first: Duration, second: Duration) {
+    let ratio = first.as_secs_f64() / second.as_secs_f64();
+    let (first, second) = (milliseconds(first), milliseconds(second));
+    let (name, bytes, answer) = (file.name, file.text.len(), answer(&file.text));
+    println!("{name:<48} {bytes:>6} {first:>9.3} {second:>9.3} {ratio:>6.2}  {answer}");
+}
+
+fn head(name: &str, second: &str) {
+    println!("{name:<48} {:>6} {:>9} {second:>9} {:>6}  answer", "bytes", "bound, ms", "ratio");
+}
+
 fn main() {
-    println!("{:<44} {:>6} {:>9} {:>11} {:>6}  answer", "file", "bytes", "bound, ms", "other, ms", "ratio");
-    let explored = [
-        ("a straight path of 1,000,000 steps", files::straight_path(), 1),
-        ("a full tree of 18 openings, narrow", files::tree(false), 1),
-        ("a full tree of 18 openings, wide", files::tree(true), 1),
-        ("32,768 bytes", files::long_code(TEXT_LIMIT), 10),
-    ];
-    for (name, text, calls) in explored {
-        let answer = answer(&text);
-        let (proved, independent) = best_times(&text, calls);
-        let ratio = proved.as_secs_f64() / independent.as_secs_f64();
-        let (proved, independent) = (milliseconds(proved), milliseconds(independent));
-        println!("{name:<44} {:>6} {proved:>9.3} {independent:>11.3} {ratio:>6.2}  {answer}", text.len());
-    }
-    println!();
-    println!(
-        "{:<44} {:>6} {:>9} {:>11} {:>6}  answer",
-        "text that makes a scan long", "bytes", "bound, ms", "of half, ms", "ratio"
-    );
     let scanned: [(&str, fn(usize) -> Vec<u8>); 6] = [
         ("names on line 3", files::names),
         ("spaces on line 3", files::spaces),
@@ -94,12 +93,24 @@ fn main() {
         ("1,024 lines of code", files::long_code),
         ("1,024 lines that call the last of 32 primitives", files::long_calls),
     ];
-    for (name, text) in scanned {
-        let (whole, half) = (text(TEXT_LIMIT), text(TEXT_LIMIT / 2));
-        let answer = answer(&whole);
-        let ((whole_time, _), (half_time, _)) = (best_times(&whole, 3), best_times(&half, 3));
-        let ratio = whole_time.as_secs_f64() / half_time.as_secs_f64();
-        let (whole_time, half_time) = (milliseconds(whole_time), milliseconds(half_time));
-        println!("{name:<44} {:>6} {whole_time:>9.3} {half_time:>11.3} {ratio:>6.2}  {answer}", whole.len());
+    let mut explored = vec![
+        Measured::new("a straight path of 1,000,000 steps", files::straight_path()),
+        Measured::new("a full tree of 18 openings, narrow", files::tree(false)),
+        Measured::new("a full tree of 18 openings, wide", files::tree(true)),
+        Measured::new("a file of 32,768 bytes", files::long_code(TEXT_LIMIT)),
+    ];
+    let of_length = |bytes| scanned.map(|(name, text)| Measured::new(name, text(bytes)));
+    let (mut whole, mut half) = (of_length(TEXT_LIMIT), of_length(TEXT_LIMIT / 2));
+    for _ in 0..PASSES {
+        explored.iter_mut().chain(&mut whole).chain(&mut half).for_each(Measured::measure);
+    }
+    head("file", "other, ms");
+    for file in &explored {
+        row(file, file.proved, file.independent);
+    }
+    println!();
+    head("text that makes a scan long", "half, ms");
+    for (file, half) in whole.iter().zip(&half) {
+        row(file, file.proved, half.proved);
     }
 }
