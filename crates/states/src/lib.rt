@@ -41,12 +41,11 @@ impl State {
     }
 
     // With 0 in the accumulator, which has been stored.
-    pub fn store(mut self) -> Self
+    pub fn store(self) -> Self
         requires { ⌜ self .free ≤ 64 ⌝ }
         ensures { λ r. ⌜ ((cells : List Cell) → view (beside cells r) ≡ load (number (pos 0)) (view (beside cells self))) × (r .free ≤ 64) ⌝ }
     {
-        self.accu = cells::number(0);
-        self
+        self.load(cells::number(0))
     }
 
     // With `c` in the accumulator.

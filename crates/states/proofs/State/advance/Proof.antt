@@ -1,4 +1,4 @@
--- `State::advance` meets its contract. Assumes nothing.
+-- `states::State::advance` meets its contract. Assumes nothing.
 use native.Mathlib.Numerals.{add-one}
 use borrow.Author.Needs.{needs}
 use Rattle.machine.specs.Machine.{advance, jump}

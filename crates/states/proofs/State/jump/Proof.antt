@@ -1,4 +1,4 @@
--- `State::jump` meets its contract. Assumes nothing.
+-- `states::State::jump` meets its contract. Assumes nothing.
 use mathlib.Core.Path.{refl}
 use borrow.Author.Needs.{needs}
 use Rattle.machine.specs.Machine.{jump}

@@ -1,4 +1,4 @@
--- `State::load` meets its contract. Assumes nothing.
+-- `states::State::load` meets its contract. Assumes nothing.
 use mathlib.Core.Path.{refl}
 use borrow.Author.Needs.{needs}
 use Rattle.machine.specs.Machine.{load}

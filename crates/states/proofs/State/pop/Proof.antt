@@ -1,4 +1,4 @@
--- `State::pop` meets its contract. Assumes nothing.
+-- `states::State::pop` meets its contract. Assumes nothing.
 use lib.Seq.{drop-drop}
 use borrow.Author.Needs.{needs}
 use Rattle.machine.specs.Machine.{restack}

@@ -1,4 +1,4 @@
--- `State::push` meets its contract. Assumes nothing.
+-- `states::State::push` meets its contract. Assumes nothing.
 use mathlib.Core.Path.{_≡_}
 use mathlib.Core.List.{List}
 use Prim.Native.Nat.{_<_, _≤_}
