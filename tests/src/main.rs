@@ -9,6 +9,7 @@ use independent::damage::damaged;
 use independent::generate::draft;
 use independent::random::Random;
 use independent::report::{bound_answer, printed, run_answer, told, Answer, MEMORY};
+use independent::routine::KINDS;
 use std::collections::{BTreeMap, BTreeSet};
 use std::path::Path;
 
@@ -66,6 +67,19 @@ fn compare_cases(tally: &mut Tally, programs: &Path, random: &mut Random) {
     }
 }
 
+/// Files enough that every kind and every refusal of a text must come up.
+const MANY: u64 = 5_000;
+
+/// Whether the files that were compared had all kinds in accepted code, reports, and each refusal of a text.
+fn covers(tally: &Tally) -> Result<(), String> {
+    let missing: Vec<u32> = (0..=11).filter(|n| *n != 10 && !tally.answers.contains_key(n)).collect();
+    if tally.kinds.len() == KINDS.len() && missing.is_empty() {
+        Ok(())
+    } else {
+        Err(format!("{} kinds came up, and no answer of the numbers {missing:?}", tally.kinds.len()))
+    }
+}
+
 /// The stack that the header asks for is enough at 32 openings: a call that needs more ends this program.
 fn small_stack(tally: &mut Tally) {
     const STACK: usize = 256 * 1024;
@@ -105,6 +119,11 @@ fn main() {
             }
         });
         tally.count(&format!("file {number} of seed {seed}"), &text, found);
+    }
+
+    if count >= MANY {
+        let found = covers(&tally);
+        tally.count("what the files cover", &[], found);
     }
 
     println!("answer       bound     run");
