@@ -1,5 +1,5 @@
 -- The routine that the code's arrays hold is bounded and run as the definitions say, and so is a text. Assumes nothing.
-use Prim.Native.Nat.{ℕ, _+_, _*_, _%_, _^_, _≤_, _<_}
+use Prim.Native.Nat.{ℕ, _+_, _*_, _%_, _≤_, _<_}
 use mathlib.Core.Path.{_≡_, refl, sym, ap, ap₂, _∙_, subst}
 use mathlib.Core.List.{List, [], _∷_, _++_}
 use mathlib.Core.Option.{Option, some}
@@ -266,8 +266,7 @@ tells : (a : Answer) → WithinLimits a → (w : ℕ) → w ≡ wordOf (answerOf
 unfolding wordOf answerOf
 tells a h w e = record {
   report = λ bs q. let k = h .report bs q in rw (e, q) k;
-  refusal = λ r q. rw (e, q) (omega arith);
-  place = λ r q. let k = h .refusal r q in let z : place r % 4294967296 ≡ place r = mod-eq-of-lt (omega arith) in (omega arith, rw (e, q, z) refl);
+  refusal = λ r q. let k = h .refusal r q in let z : place r % 4294967296 ≡ place r = mod-eq-of-lt (omega arith) in (omega arith, rw (e, q, z) refl);
 }
 
 -- two answers with one number

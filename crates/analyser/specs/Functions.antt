@@ -47,11 +47,10 @@ unfoldable pub wordOf : code.Answer → ℕ
 wordOf (Reported n) = n
 wordOf (Refused r) = 9223372036854775808 + number r * 4294967296 + place r % 4294967296
 
--- what holds of it: a report's is from 1 to 128, a refusal's 2 ^ 63 or more, with its whole place
+-- what holds of it: a report's is from 1 to 128; a refusal's has bit 63, its number and its whole place
 pub record Tells (a : Answer) (w : ℕ) : Type 0 where
   pub report : (bs : List ℕ) → a ≡ reported bs → (1 ≤ w) × (w ≤ 128)
-  pub refusal : (r : Refusal) → a ≡ refused r → 9223372036854775808 ≤ w
-  pub place : (r : Refusal) → a ≡ refused r → (place r < 4294967296) × (w ≡ 9223372036854775808 + number r * 4294967296 + place r)
+  pub refusal : (r : Refusal) → a ≡ refused r → (place r < 4294967296) × (w ≡ 9223372036854775808 + number r * 4294967296 + place r)
 
 -- two answers with one number are the same refusal, or reports of one length
 abbrev pub AnswersTold : Type 0

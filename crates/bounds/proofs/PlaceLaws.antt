@@ -13,7 +13,7 @@ use Rattle.cells.specs.Try.{Try, stuck, done}
 use Rattle.cells.specs.Cells.{unknown}
 use Rattle.machine.specs.Machine.{State, Price, Next, stops, goes, opens, Code, step}
 use Rattle.machine.proofs.LeadLaws.{Leads, goes-to, opens-to}
-use Rattle.machine.proofs.AddressLaws.{Confined, AtMost, step-at-most}
+use Rattle.machine.proofs.AddressLaws.{Confined, AddressAtMost, step-at-most}
 use Rattle.bounds.specs.Tree.{Report, accepted, refused, bound}
 use Rattle.bounds.specs.Traces.{Comes, here, next, not-taken, taken, Listed, is-stuck, opens-too-many, is-spent}
 use Rattle.bounds.specs.Run.{Run, begin, answer, moved, leads, once, after, judgeRun, run}
@@ -28,13 +28,13 @@ opens-there (opens-to h k) = (h, k)
 module _ (B : ℕ) (c : Code) (confined : Confined B c) where
   -- ---- the bound
 
-  comes-at-most : {o k o′ : ℕ} {s t : State} → AtMost B s → Comes (step c unknown) o s k o′ t → AtMost B t
+  comes-at-most : {o k o′ : ℕ} {s t : State} → AddressAtMost B s → Comes (step c unknown) o s k o′ t → AddressAtMost B t
   comes-at-most h here = h
   comes-at-most h (next {s} e m) = comes-at-most (goes-there (step-at-most B c confined unknown s _ e)) m
   comes-at-most h (not-taken {s} e m) = comes-at-most (opens-there (step-at-most B c confined unknown s _ e) .0) m
   comes-at-most h (taken {s} e f m) = comes-at-most (opens-there (step-at-most B c confined unknown s _ e) .1) m
 
-  listed-place : {o budget : ℕ} {s : State} {r : Refusal} → AtMost B s → Listed (step c unknown) o budget s r → place r ≤ B
+  listed-place : {o budget : ℕ} {s : State} {r : Refusal} → AddressAtMost B s → Listed (step c unknown) o budget s r → place r ≤ B
   unfolding place
   listed-place h (is-stuck m l e) = comes-at-most h m .address
   listed-place h (opens-too-many m l e) = comes-at-most h m .address
@@ -45,7 +45,7 @@ module _ (B : ℕ) (c : Code) (confined : Confined B c) where
 
   -- ---- the run
 
-  moved-at-most : (r : Run) (rest : List ℤ) (b : Bool) (m : Try Next) → ((n : Next) → m ≡ done n → Leads (AtMost B) n) → AtMost B (r .state) → AtMost B (moved r rest b m .state)
+  moved-at-most : (r : Run) (rest : List ℤ) (b : Bool) (m : Try Next) → ((n : Next) → m ≡ done n → Leads (AddressAtMost B) n) → AddressAtMost B (r .state) → AddressAtMost B (moved r rest b m .state)
   unfolding moved
   moved-at-most r rest true m k h = h
   moved-at-most r rest false stuck k h = h
@@ -53,14 +53,14 @@ module _ (B : ℕ) (c : Code) (confined : Confined B c) where
   moved-at-most r rest false (done (goes p t)) k h = goes-there (k (goes p t) refl)
   moved-at-most r rest false (done (opens p t q u)) k h = h
 
-  after-at-most : (n : ℕ) (r : Run) → AtMost B (r .state) → AtMost B (after c n r .state)
+  after-at-most : (n : ℕ) (r : Run) → AddressAtMost B (r .state) → AddressAtMost B (after c n r .state)
   unfolding after once leads
   after-at-most zero r h = h
   after-at-most (suc n) r h =
       let q = after c n r in
       moved-at-most q _ (q .stopped) (step c (answer (q .answers)) (q .state)) (λ m e. step-at-most B c confined (answer (q .answers)) (q .state) m e) (after-at-most n r h)
 
-  judged-place : (budget : ℕ) (q : Run) → AtMost B (q .state) → (r : Refusal) → judgeRun budget q ≡ refused r → place r ≤ B
+  judged-place : (budget : ℕ) (q : Run) → AddressAtMost B (q .state) → (r : Refusal) → judgeRun budget q ≡ refused r → place r ≤ B
   unfolding judgeRun place
   judged-place budget q h r e = go (q .stopped) (ltb (q .steps) budget) _ e
     where

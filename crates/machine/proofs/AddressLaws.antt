@@ -15,13 +15,13 @@ pub record Confined (B : ℕ) (c : Code) : Type 0 where
   pub past : c .first + length (c .instructions) ≤ B
   pub targets : Every (λ (i : Instruction). target (i .operation) (i .operand) ≤ B) (c .instructions)
 
-pub record AtMost (B : ℕ) (s : State) : Type 0 where
+pub record AddressAtMost (B : ℕ) (s : State) : Type 0 where
   pub address : s .at ≤ B
 
 record Below (B : ℕ) (s : State) : Type 0 where
   address : s .at < B
 
-address-kept : (B : ℕ) → Keeps (Below B) (AtMost B) (λ a. a ≤ B)
+address-kept : (B : ℕ) → Keeps (Below B) (AddressAtMost B) (λ a. a ≤ B)
 unfolding load restack store advance jump
 address-kept B = record {
   loads = λ c s h. record { address = h .address };
@@ -31,6 +31,6 @@ address-kept B = record {
   jumps = λ a s t h. record { address = t };
 }
 
-pub step-at-most : (B : ℕ) (c : Code) → Confined B c → (r : Cell) (s : State) (n : Next) → step c r s ≡ done n → Leads (AtMost B) n
+pub step-at-most : (B : ℕ) (c : Code) → Confined B c → (r : Cell) (s : State) (n : Next) → step c r s ≡ done n → Leads (AddressAtMost B) n
 step-at-most B c h r s n e =
     step-leads (address-kept B) c r s n e (λ i f. (record { address = omega (arith, fetch-below c (s .at) i f, h .past) }, fetch-every c (s .at) i f (h .targets)))

@@ -12,13 +12,13 @@ use Rattle.bounds.specs.Run.{Run, remaining, moved}
 use Rattle.progress.specs.declared.Progress.{Progress}
 
 -- the state of the run, with the cells of its stack
-abbrev pub here : Progress → Stacked
-here r = beside (r .stack) (r .state)
+abbrev pub stateOf : Progress → Stacked
+stateOf r = beside (r .stack) (r .state)
 
 -- the run, with blocks of the sizes ns, over the listed answers
 unfoldable pub ofProgress : List ℕ → List ℤ → Progress → Run
 ofProgress ns answers r = record {
-  state = whole ns (r .blocks) (here r);
+  state = whole ns (r .blocks) (stateOf r);
   answers = drop (r .taken) answers;
   cycles = r .cycles;
   words = r .words;

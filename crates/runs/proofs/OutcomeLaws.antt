@@ -1,8 +1,8 @@
 -- What each outcome makes of a run, apart from the code: a law for each way that `apply` and what it calls return. Assumes nothing.
 use mathlib.Core.Path.{_≡_, refl, sym, ap, _∙_}
 use mathlib.Core.Bool.{Bool, true, false}
-use mathlib.Core.List.{List, [], _∷_}
-use Prim.Native.Nat.{ℕ, zero, suc, _+_, _-_, _<_}
+use mathlib.Core.List.{List, _∷_}
+use Prim.Native.Nat.{ℕ, _+_, _-_, _<_}
 use native.Mathlib.Omega.{arith}
 use lib.Dec.{eqb}
 use lib.IntN.{ℤ, pos, negsuc}
@@ -21,6 +21,7 @@ use Rattle.states.specs.declared.Slot.{Slot}
 use Rattle.states.specs.declared.Slot.the-variants.{At, Lacks}
 use Rattle.machine.specs.Machine.{Code, Next, stops, goes, index, fetch, jump, load, restack, advance, store, prepare, execute, step}
 use Rattle.instructions.specs.Columns.{operationOf}
+use Rattle.instructions.proofs.ColumnLaws.{getD-any}
 use Rattle.outcomes.specs.Outcome.{entryOf, drops, outcome, resume}
 use Rattle.states.specs.Columns.{lineOf}
 use Rattle.states.specs.View.{Stacked, view, slot, ofSlot, Fits, whole}
@@ -29,7 +30,7 @@ use Rattle.states.proofs.StateLaws.{written, view-written}
 use Rattle.outcomes.proofs.TurnLaws.{pushed, not-pushed, full, turns, gives-drops, stores-in, sets-in, gives-goes, stores-goes, goes-goes, gets-goes, gets-stuck, sets-goes, sets-stuck}
 use Rattle.bounds.specs.Run.{moved}
 use Rattle.progress.specs.declared.Progress.{Progress}
-use Rattle.progress.specs.Progress.{here, Sound, Moves}
+use Rattle.progress.specs.Progress.{stateOf, Sound, Moves}
 use Rattle.runs.specs.Contract.{Possible}
 use Rattle.progress.proofs.ProgressLaws.{stays}
 
@@ -147,24 +148,18 @@ module _ (ns : List ℕ) (l : Line) (t : Stacked) (r : Progress) (sound : Sound 
 
 -- ---- the step
 
--- an entry that is there, whatever it is by default
-getD-there : (xs : List Cell) (i : ℕ) (d e : Cell) → i < length xs → getD xs i d ≡ getD xs i e
-getD-there [] i d e h = absurd (omega arith)
-getD-there (x ∷ xs) zero d e h = refl
-getD-there (x ∷ xs) (suc i) d e h = getD-there xs i d e (omega arith)
-
 -- an entry of the array is one of the stack
 entry-in : (xs : List Cell) (f k i : ℕ) (d e : Cell) → i < length xs → i ≡ f + k → e ≡ getD xs i d → e ≡ getD (drop f xs) k e
-entry-in xs f k i d e h is g = g ∙ getD-there xs i d e h ∙ ap (λ i. getD xs i e) is ∙ sym (getD-drop f xs k e)
+entry-in xs f k i d e h is g = g ∙ getD-any xs i d e h ∙ ap (λ i. getD xs i e) is ∙ sym (getD-drop f xs k e)
 
 module _ (ns : List ℕ) (l : Line) (answer : Cell) (t : Stacked) (r q : Progress) (room : length (t .stack) ≡ 64) where
   pub steps-by : (x : Outcome) (e d : Cell) (n i : ℕ) → n ≡ index (l .operand) → i < 64 → (t .free + entryOf (operationOf (l .code)) n < 64 → i ≡ t .free + entryOf (operationOf (l .code)) n) → e ≡ getD (t .stack) i d →
       x ≡ outcome (operationOf (l .code)) (l .operand) answer (64 - t .free) (t .accu) e → After ns l t r q x →
-      (c : Code) → fetch c (r .state .at) ≡ done (lineOf l) → prepare (l .pushes) (whole ns (r .blocks) (here r)) ≡ done (whole ns (r .blocks) t) →
-      Moves ns r (eqb (l .code) 13) (step c answer (whole ns (r .blocks) (here r))) q
+      (c : Code) → fetch c (r .state .at) ≡ done (lineOf l) → prepare (l .pushes) (whole ns (r .blocks) (stateOf r)) ≡ done (whole ns (r .blocks) t) →
+      Moves ns r (eqb (l .code) 13) (step c answer (whole ns (r .blocks) (stateOf r))) q
   steps-by x e d n i is below place at g m c f p =
       moves-as
-      (turns ns (r .blocks) c answer (here r) t (lineOf l) f p (64 - t .free) e (simp length-drop (omega arith))
+      (turns ns (r .blocks) c answer (stateOf r) t (lineOf l) f p (64 - t .free) e (simp length-drop (omega arith))
       (λ h. let k = place (rw is (omega arith)) in entry-in (t .stack) (t .free) _ i d e (omega arith) (k ∙ ap (λ n. t .free + entryOf (operationOf (l .code)) n) is) at)
       ∙ ap (resume (lineOf l .price) (operationOf (l .code)) (l .operand) (whole ns (r .blocks) t)) (sym g))
       m
@@ -175,12 +170,12 @@ unfolding step execute whole store _>>=_
 blocked ns fs s l answer c f p = rw (f, p) refl
 
 module _ (ns : List ℕ) (l : Line) (answer : Cell) (r : Progress) (sound : Sound ns r) (room : length (r .stack) ≡ 64) where
-  pub full-stays : l .pushes ≡ true → r .state .free ≡ 0 → (c : Code) → fetch c (r .state .at) ≡ done (lineOf l) → Moves ns r (eqb (l .code) 13) (step c answer (whole ns (r .blocks) (here r))) r
-  full-stays p z c f = moves-as (blocked ns (r .blocks) (here r) l answer c f (ap (λ b. prepare b (whole ns (r .blocks) (here r))) p ∙ full ns (r .blocks) (here r) (simp length-drop (omega arith)))) (stays ns r _ sound)
+  pub full-stays : l .pushes ≡ true → r .state .free ≡ 0 → (c : Code) → fetch c (r .state .at) ≡ done (lineOf l) → Moves ns r (eqb (l .code) 13) (step c answer (whole ns (r .blocks) (stateOf r))) r
+  full-stays p z c f = moves-as (blocked ns (r .blocks) (stateOf r) l answer c f (ap (λ b. prepare b (whole ns (r .blocks) (stateOf r))) p ∙ full ns (r .blocks) (stateOf r) (simp length-drop (omega arith)))) (stays ns r _ sound)
 
-  pub pushes-to : (t : Stacked) → l .pushes ≡ true → (r .state .free ≡ 0 → ⊥) → view t ≡ restack (r .state .accu ∷ view (here r) .stack) (view (here r)) →
-      prepare (l .pushes) (whole ns (r .blocks) (here r)) ≡ done (whole ns (r .blocks) t)
-  pushes-to t p z e = ap (λ b. prepare b (whole ns (r .blocks) (here r))) p ∙ pushed ns (r .blocks) (here r) t e (simp length-drop (omega (arith, sound .free)))
+  pub pushes-to : (t : Stacked) → l .pushes ≡ true → (r .state .free ≡ 0 → ⊥) → view t ≡ restack (r .state .accu ∷ view (stateOf r) .stack) (view (stateOf r)) →
+      prepare (l .pushes) (whole ns (r .blocks) (stateOf r)) ≡ done (whole ns (r .blocks) t)
+  pushes-to t p z e = ap (λ b. prepare b (whole ns (r .blocks) (stateOf r))) p ∙ pushed ns (r .blocks) (stateOf r) t e (simp length-drop (omega (arith, sound .free)))
 
-  pub pushes-none : l .pushes ≡ false → prepare (l .pushes) (whole ns (r .blocks) (here r)) ≡ done (whole ns (r .blocks) (here r))
-  pushes-none p = ap (λ b. prepare b (whole ns (r .blocks) (here r))) p ∙ not-pushed ns (r .blocks) (here r)
+  pub pushes-none : l .pushes ≡ false → prepare (l .pushes) (whole ns (r .blocks) (stateOf r)) ≡ done (whole ns (r .blocks) (stateOf r))
+  pushes-none p = ap (λ b. prepare b (whole ns (r .blocks) (stateOf r))) p ∙ not-pushed ns (r .blocks) (stateOf r)

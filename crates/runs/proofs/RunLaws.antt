@@ -23,7 +23,7 @@ use Rattle.progress.specs.declared.Progress.{Progress}
 use Rattle.runs.specs.declared.Ran.{Ran}
 use Rattle.runs.specs.declared.Verdict.{Verdict}
 use Rattle.runs.specs.declared.Verdict.the-variants.{Stopped, Stuck, Spent}
-use Rattle.progress.specs.Progress.{here, ofProgress, Moves}
+use Rattle.progress.specs.Progress.{stateOf, ofProgress, Moves}
 use Rattle.runs.specs.Contract.{judged, verdictOf, SafeFrom, WithinBound}
 
 -- ---- one step
@@ -38,7 +38,7 @@ module _ (c : Code) (ns : List ℕ) (answers : List ℤ) (r : Progress) (going :
   once-outside f = rw (f, going) refl
 
   pub once-moves : (l : Line) (a : Cell) (q : Progress) → fetch c (r .state .at) ≡ done (lineOf l) → a ≡ answer (drop (r .taken) answers) →
-      Moves ns r (eqb (l .code) 13) (step c a (whole ns (r .blocks) (here r))) q → ofProgress ns answers q ≡ once c (ofProgress ns answers r)
+      Moves ns r (eqb (l .code) 13) (step c a (whole ns (r .blocks) (stateOf r))) q → ofProgress ns answers q ≡ once c (ofProgress ns answers r)
   unfolding once ofProgress leads takesAnswer takes whole store
   once-moves l a q f e m = m .run answers ∙ rw (f, going, e) refl
 

@@ -20,7 +20,7 @@ ghost use Rattle.outcomes.specs.declared.Outcome.the-variants.{Sets, Gets};
 ghost use Rattle.states.specs.Columns.{codeOf, lineOf, Sized};
 ghost use Rattle.states.specs.View.{beside, whole, Fits};
 ghost use Rattle.bounds.specs.Run.{begin, once, after, judgeRun, run};
-ghost use Rattle.progress.specs.Progress.{here, ofProgress, Sound, Moves};
+ghost use Rattle.progress.specs.Progress.{stateOf, ofProgress, Sound, Moves};
 ghost use Rattle.runs.specs.Contract.{verdictOf, Ready, Possible, SafeFrom, WithinBound};
 
 // STOP was made; or refusal 7 or 9 with its address.
@@ -128,7 +128,7 @@ fn perform(
     r: Progress,
 ) -> Progress
     requires { ⌜ Ready (now sizes) line t r ⌝ }
-    ensures { λ q. ⌜ ((c : Code) → fetch c (r .state .at) ≡ done (lineOf line) → prepare (line .pushes) (whole (now (sizes .entry)) (r .blocks) (here r)) ≡ done (whole (now (sizes .entry)) (r .blocks) (beside stack t)) → Moves (now (sizes .entry)) r (eqb (line .code) 13) (step c answer (whole (now (sizes .entry)) (r .blocks) (here r))) q) ⌝ }
+    ensures { λ q. ⌜ ((c : Code) → fetch c (r .state .at) ≡ done (lineOf line) → prepare (line .pushes) (whole (now (sizes .entry)) (r .blocks) (stateOf r)) ≡ done (whole (now (sizes .entry)) (r .blocks) (beside stack t)) → Moves (now (sizes .entry)) r (eqb (line .code) 13) (step c answer (whole (now (sizes .entry)) (r .blocks) (stateOf r))) q) ⌝ }
 {
     let n = outcomes::index_of(line.operand);
     let i = outcomes::place_of(line.code, n, t.free);
@@ -140,7 +140,7 @@ fn perform(
 // The step at the line, which a code fetches.
 fn turn(sizes: &[u8], line: Line, answer: Cell, r: Progress) -> Progress
     requires { ⌜ Ready (now sizes) line (r .state) r ⌝ }
-    ensures { λ q. ⌜ ((c : Code) → fetch c (r .state .at) ≡ done (lineOf line) → Moves (now (sizes .entry)) r (eqb (line .code) 13) (step c answer (whole (now (sizes .entry)) (r .blocks) (here r))) q) ⌝ }
+    ensures { λ q. ⌜ ((c : Code) → fetch c (r .state .at) ≡ done (lineOf line) → Moves (now (sizes .entry)) r (eqb (line .code) 13) (step c answer (whole (now (sizes .entry)) (r .blocks) (stateOf r))) q) ⌝ }
 {
     let state = r.state;
     let mut stack = r.stack;

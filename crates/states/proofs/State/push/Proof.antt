@@ -1,11 +1,8 @@
 -- `states::State::push` meets its contract. Assumes nothing.
-use mathlib.Core.Path.{_≡_}
-use mathlib.Core.List.{List}
 use Prim.Native.Nat.{_<_, _≤_}
 use native.Mathlib.Omega.{arith}
 use lib.ListN.{length}
 use borrow.Author.Needs.{needs}
-use Rattle.cells.specs.declared.Cell.{Cell}
 use Rattle.machine.specs.Machine.{restack}
 use Rattle.states.proofs.Stack.{drop-push}
 use Rattle.states.proofs.State.push.Statement.{statement}
