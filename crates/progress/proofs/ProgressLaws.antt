@@ -5,7 +5,6 @@ use mathlib.Core.List.{List, [], _∷_}
 use Prim.Native.Nat.{ℕ, zero, suc, _+_, _-_, max, _≤_, _<_}
 use native.Mathlib.Omega.{arith}
 use native.Mathlib.Numerals.{add-one}
-use lib.Dec.{eqb}
 use lib.IntN.{ℤ, pos}
 use lib.ListN.{length, getD, drop, length-drop}
 use Rattle.cells.specs.Try.{stuck, done}
@@ -56,9 +55,9 @@ runs-equal : (x y : Run) → x .state ≡ y .state → x .answers ≡ y .answers
 runs-equal x y a b c d e f g = λ i. record { state = a i; answers = b i; cycles = c i; words = d i; depth = e i; steps = f i; stopped = g i }
 
 module _ (l : Line) (r : Progress) (counted : Counted r) (k : ℕ)
-    (takes : ((answers : List ℤ) → drop k answers ≡ remaining (eqb (l .code) 13) (drop (r .taken) answers)) × (k ≤ r .taken + 1)) (cheap : (l .cycles < 4294967296) × (l .words < 4294967296)) where
+    (takes : ((answers : List ℤ) → drop k answers ≡ remaining (lineOf l .calls) (drop (r .taken) answers)) × (k ≤ r .taken + 1)) (cheap : (l .cycles < 4294967296) × (l .words < 4294967296)) where
   pub goes-moves : (ns : List ℕ) (t : code.State) (cells fs : List Cell) (d : ℕ) → length cells ≡ 64 → t .free ≤ 64 → d ≡ max (r .depth) (64 - t .free) → Fits ns fs →
-      Moves ns r (eqb (l .code) 13) (done (goes (lineOf l .price) (whole ns fs (beside cells t))))
+      Moves ns r (lineOf l .calls) (done (goes (lineOf l .price) (whole ns fs (beside cells t))))
       (record { state = t; stack = cells; blocks = fs; taken = k; cycles = r .cycles + l .cycles; words = r .words + l .words; depth = d; steps = r .steps + 1; stopped = false })
   unfolding ofProgress moved height whole store
   goes-moves ns t cells fs d n h e fits = record {
@@ -67,7 +66,7 @@ module _ (l : Line) (r : Progress) (counted : Counted r) (k : ℕ)
     steps = omega arith;
   }
 
-  pub stops-moves : (ns : List ℕ) → Sound ns r → Moves ns r (eqb (l .code) 13) (done (stops (lineOf l .price)))
+  pub stops-moves : (ns : List ℕ) → Sound ns r → Moves ns r (lineOf l .calls) (done (stops (lineOf l .price)))
       (record { state = r .state; stack = r .stack; blocks = r .blocks; taken = k; cycles = r .cycles + l .cycles; words = r .words + l .words; depth = r .depth; steps = r .steps + 1; stopped = true })
   unfolding ofProgress moved
   stops-moves ns sound = record {

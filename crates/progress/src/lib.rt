@@ -49,7 +49,7 @@ fn taken_after(code: u8, taken: usize) -> usize
 // After a step at the line that leads to the state `t` with `stack` and `blocks`.
 pub fn gone(line: Line, t: State, stack: [Cell; 64], blocks: [Cell; 128], r: Progress) -> Progress
     requires { ⌜ Counted r × (r .steps < 1000000) × (t .free ≤ 64) ⌝ }
-    ensures { λ q. ⌜ ((ns : List ℕ) → Fits ns blocks → Moves ns r (eqb (line .code) 13) (done (goes (lineOf line .price) (whole ns blocks (beside stack t)))) q) ⌝ }
+    ensures { λ q. ⌜ ((ns : List ℕ) → Fits ns blocks → Moves ns r (lineOf line .calls) (done (goes (lineOf line .price) (whole ns blocks (beside stack t)))) q) ⌝ }
 {
     let taken = taken_after(line.code, r.taken);
     let h = 64 - t.free;
@@ -70,7 +70,7 @@ pub fn gone(line: Line, t: State, stack: [Cell; 64], blocks: [Cell; 128], r: Pro
 // After STOP at the line.
 pub fn halted(line: Line, r: Progress) -> Progress
     requires { ⌜ Counted r × (r .steps < 1000000) ⌝ }
-    ensures { λ q. ⌜ ((ns : List ℕ) → Sound ns r → Moves ns r (eqb (line .code) 13) (done (stops (lineOf line .price))) q) ⌝ }
+    ensures { λ q. ⌜ ((ns : List ℕ) → Sound ns r → Moves ns r (lineOf line .calls) (done (stops (lineOf line .price))) q) ⌝ }
 {
     let taken = taken_after(line.code, r.taken);
     let spent = r.cycles + (line.cycles as u64);

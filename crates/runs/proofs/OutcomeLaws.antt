@@ -4,7 +4,6 @@ use mathlib.Core.Bool.{Bool, true, false}
 use mathlib.Core.List.{List, _∷_}
 use Prim.Native.Nat.{ℕ, _+_, _-_, _<_}
 use native.Mathlib.Omega.{arith}
-use lib.Dec.{eqb}
 use lib.IntN.{ℤ, pos, negsuc}
 use lib.ListN.{length, getD, drop, set, length-drop, length-set}
 use lib.Seq.{getD-drop}
@@ -60,11 +59,11 @@ slot-in ns fs fits a n j s e p = omega (arith, slot-below ns fs fits a n j (sym 
 
 -- q is the run r after the outcome x at the line l, from the state t
 abbrev pub After : List ℕ → Line → Stacked → Progress → Progress → Outcome → Type 0
-After ns l t r q x = Moves ns r (eqb (l .code) 13) (resume (lineOf l .price) (operationOf (l .code)) (l .operand) (whole ns (r .blocks) t) x) q
+After ns l t r q x = Moves ns r (lineOf l .calls) (resume (lineOf l .price) (operationOf (l .code)) (l .operand) (whole ns (r .blocks) t) x) q
 
 -- what `gone` ensures
 abbrev pub Gone : Line → Progress → List Cell → Stacked → Progress → Type 0
-Gone l r fs u q = (ns : List ℕ) → Fits ns fs → Moves ns r (eqb (l .code) 13) (done (goes (lineOf l .price) (whole ns fs u))) q
+Gone l r fs u q = (ns : List ℕ) → Fits ns fs → Moves ns r (lineOf l .calls) (done (goes (lineOf l .price) (whole ns fs u))) q
 
 module _ (ns : List ℕ) (l : Line) (t : Stacked) (r : Progress) (sound : Sound ns r) (x : Outcome) (n : ℕ) (is : n ≡ index (l .operand)) where
   -- the state b is at the next address in u
@@ -132,7 +131,7 @@ module _ (ns : List ℕ) (l : Line) (t : Stacked) (r : Progress) (sound : Sound 
         (stays ns r _ sound)
 
 module _ (ns : List ℕ) (l : Line) (t : Stacked) (r : Progress) (sound : Sound ns r) (x : Outcome) where
-  pub halts-moves : (q : Progress) → x ≡ Halts → Moves ns r (eqb (l .code) 13) (done (stops (lineOf l .price))) q → After ns l t r q x
+  pub halts-moves : (q : Progress) → x ≡ Halts → Moves ns r (lineOf l .calls) (done (stops (lineOf l .price))) q → After ns l t r q x
   unfolding resume
   halts-moves q e g = moves-as (ap (resume (lineOf l .price) (operationOf (l .code)) (l .operand) (whole ns (r .blocks) t)) e) g
 
@@ -156,7 +155,7 @@ module _ (ns : List ℕ) (l : Line) (answer : Cell) (t : Stacked) (r q : Progres
   pub steps-by : (x : Outcome) (e d : Cell) (n i : ℕ) → n ≡ index (l .operand) → i < 64 → (t .free + entryOf (operationOf (l .code)) n < 64 → i ≡ t .free + entryOf (operationOf (l .code)) n) → e ≡ getD (t .stack) i d →
       x ≡ outcome (operationOf (l .code)) (l .operand) answer (64 - t .free) (t .accu) e → After ns l t r q x →
       (c : Code) → fetch c (r .state .at) ≡ done (lineOf l) → prepare (l .pushes) (whole ns (r .blocks) (stateOf r)) ≡ done (whole ns (r .blocks) t) →
-      Moves ns r (eqb (l .code) 13) (step c answer (whole ns (r .blocks) (stateOf r))) q
+      Moves ns r (lineOf l .calls) (step c answer (whole ns (r .blocks) (stateOf r))) q
   steps-by x e d n i is below place at g m c f p =
       moves-as
       (turns ns (r .blocks) c answer (stateOf r) t (lineOf l) f p (64 - t .free) e (simp length-drop (omega arith))
@@ -170,7 +169,7 @@ unfolding step execute whole store _>>=_
 blocked ns fs s l answer c f p = rw (f, p) refl
 
 module _ (ns : List ℕ) (l : Line) (answer : Cell) (r : Progress) (sound : Sound ns r) (room : length (r .stack) ≡ 64) where
-  pub full-stays : l .pushes ≡ true → r .state .free ≡ 0 → (c : Code) → fetch c (r .state .at) ≡ done (lineOf l) → Moves ns r (eqb (l .code) 13) (step c answer (whole ns (r .blocks) (stateOf r))) r
+  pub full-stays : l .pushes ≡ true → r .state .free ≡ 0 → (c : Code) → fetch c (r .state .at) ≡ done (lineOf l) → Moves ns r (lineOf l .calls) (step c answer (whole ns (r .blocks) (stateOf r))) r
   full-stays p z c f = moves-as (blocked ns (r .blocks) (stateOf r) l answer c f (ap (λ b. prepare b (whole ns (r .blocks) (stateOf r))) p ∙ full ns (r .blocks) (stateOf r) (simp length-drop (omega arith)))) (stays ns r _ sound)
 
   pub pushes-to : (t : Stacked) → l .pushes ≡ true → (r .state .free ≡ 0 → ⊥) → view t ≡ restack (r .state .accu ∷ view (stateOf r) .stack) (view (stateOf r)) →

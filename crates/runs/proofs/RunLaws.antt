@@ -5,7 +5,6 @@ use mathlib.Core.List.{List}
 use Prim.Native.Nat.{ℕ, _+_, _≤_, _<_}
 use native.Mathlib.Omega.{arith}
 use native.Mathlib.Numerals.{add-one}
-use lib.Dec.{eqb}
 use lib.IntN.{ℤ}
 use lib.ListN.{drop}
 use borrow.Author.Tests.{lt-ltb, le-ltb}
@@ -38,7 +37,7 @@ module _ (c : Code) (ns : List ℕ) (answers : List ℤ) (r : Progress) (going :
   once-outside f = rw (f, going) refl
 
   pub once-moves : (l : Line) (a : Cell) (q : Progress) → fetch c (r .state .at) ≡ done (lineOf l) → a ≡ answer (drop (r .taken) answers) →
-      Moves ns r (eqb (l .code) 13) (step c a (whole ns (r .blocks) (stateOf r))) q → ofProgress ns answers q ≡ once c (ofProgress ns answers r)
+      Moves ns r (lineOf l .calls) (step c a (whole ns (r .blocks) (stateOf r))) q → ofProgress ns answers q ≡ once c (ofProgress ns answers r)
   unfolding once ofProgress leads takesAnswer takes whole store
   once-moves l a q f e m = m .run answers ∙ rw (f, going, e) refl
 

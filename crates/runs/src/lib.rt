@@ -9,7 +9,6 @@ use states::code::Line;
 ghost use mathlib.Core.Path.{_≡_};
 ghost use mathlib.Core.List.{List};
 ghost use Prim.Native.Nat.{ℕ, _+_, _-_, _<_, _≤_};
-ghost use lib.Dec.{eqb};
 ghost use lib.IntN.{ℤ};
 ghost use lib.ListN.{length};
 ghost use Rattle.cells.specs.Try.{done};
@@ -49,7 +48,7 @@ fn get_field(
     r: Progress,
 ) -> Progress
     requires { ⌜ Ready (now sizes) line t r × (n ≡ index (line .operand)) ⌝ }
-    ensures { λ q. ⌜ Moves (now (sizes .entry)) r (eqb (line .code) 13) (resume (lineOf line .price) (operationOf (line .code)) (line .operand) (whole (now (sizes .entry)) (r .blocks) (beside stack t)) Gets) q ⌝ }
+    ensures { λ q. ⌜ Moves (now (sizes .entry)) r (lineOf line .calls) (resume (lineOf line .price) (operationOf (line .code)) (line .operand) (whole (now (sizes .entry)) (r .blocks) (beside stack t)) Gets) q ⌝ }
 {
     let slot = states::slot_of(sizes, t.accu, n);
     let Slot::At(j) = slot else {
@@ -71,7 +70,7 @@ fn set_field(
     r: Progress,
 ) -> Progress
     requires { ⌜ Ready (now sizes) line t r × (n ≡ index (line .operand)) × (t .free < 64) ⌝ }
-    ensures { λ q. ⌜ Moves (now (sizes .entry)) r (eqb (line .code) 13) (resume (lineOf line .price) (operationOf (line .code)) (line .operand) (whole (now (sizes .entry)) (r .blocks) (beside stack t)) (Sets c)) q ⌝ }
+    ensures { λ q. ⌜ Moves (now (sizes .entry)) r (lineOf line .calls) (resume (lineOf line .price) (operationOf (line .code)) (line .operand) (whole (now (sizes .entry)) (r .blocks) (beside stack t)) (Sets c)) q ⌝ }
 {
     let place = states::slot_of(sizes, t.accu, n);
     let Slot::At(j) = place else {
@@ -94,7 +93,7 @@ fn apply(
     r: Progress,
 ) -> Progress
     requires { ⌜ Ready (now sizes) line t r × (n ≡ index (line .operand)) × Possible (operationOf (line .code)) n (64 - t .free) x ⌝ }
-    ensures { λ q. ⌜ Moves (now (sizes .entry)) r (eqb (line .code) 13) (resume (lineOf line .price) (operationOf (line .code)) (line .operand) (whole (now (sizes .entry)) (r .blocks) (beside stack t)) x) q ⌝ }
+    ensures { λ q. ⌜ Moves (now (sizes .entry)) r (lineOf line .calls) (resume (lineOf line .price) (operationOf (line .code)) (line .operand) (whole (now (sizes .entry)) (r .blocks) (beside stack t)) x) q ⌝ }
 {
     let blocks = r.blocks;
     match x {
@@ -128,7 +127,7 @@ fn perform(
     r: Progress,
 ) -> Progress
     requires { ⌜ Ready (now sizes) line t r ⌝ }
-    ensures { λ q. ⌜ ((c : Code) → fetch c (r .state .at) ≡ done (lineOf line) → prepare (line .pushes) (whole (now (sizes .entry)) (r .blocks) (stateOf r)) ≡ done (whole (now (sizes .entry)) (r .blocks) (beside stack t)) → Moves (now (sizes .entry)) r (eqb (line .code) 13) (step c answer (whole (now (sizes .entry)) (r .blocks) (stateOf r))) q) ⌝ }
+    ensures { λ q. ⌜ ((c : Code) → fetch c (r .state .at) ≡ done (lineOf line) → prepare (line .pushes) (whole (now (sizes .entry)) (r .blocks) (stateOf r)) ≡ done (whole (now (sizes .entry)) (r .blocks) (beside stack t)) → Moves (now (sizes .entry)) r (lineOf line .calls) (step c answer (whole (now (sizes .entry)) (r .blocks) (stateOf r))) q) ⌝ }
 {
     let n = outcomes::index_of(line.operand);
     let i = outcomes::place_of(line.code, n, t.free);
@@ -140,7 +139,7 @@ fn perform(
 // The step at the line, which a code fetches.
 fn turn(sizes: &[u8], line: Line, answer: Cell, r: Progress) -> Progress
     requires { ⌜ Ready (now sizes) line (r .state) r ⌝ }
-    ensures { λ q. ⌜ ((c : Code) → fetch c (r .state .at) ≡ done (lineOf line) → Moves (now (sizes .entry)) r (eqb (line .code) 13) (step c answer (whole (now (sizes .entry)) (r .blocks) (stateOf r))) q) ⌝ }
+    ensures { λ q. ⌜ ((c : Code) → fetch c (r .state .at) ≡ done (lineOf line) → Moves (now (sizes .entry)) r (lineOf line .calls) (step c answer (whole (now (sizes .entry)) (r .blocks) (stateOf r))) q) ⌝ }
 {
     let state = r.state;
     let mut stack = r.stack;

@@ -12,7 +12,7 @@ use Rattle.states.specs.declared.code.Fetched.the-variants.{Is, Outside}
 use Rattle.machine.specs.Machine.{Instruction, Code}
 use Rattle.instructions.specs.Columns.{operationOf}
 
--- a line by the code of its operation
+-- a line by the code of its operation; 13 is that of a call
 abbrev pub lineOf : Line → Instruction
 lineOf l = record {
   pushes = l .pushes;
