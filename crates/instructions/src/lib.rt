@@ -9,6 +9,7 @@ use cells::Unary;
 use numbers::Range;
 
 mod columns;
+pub mod operations;
 
 // "argument range after each": no argument, a number in a range, a target, or a primitive.
 // A kind with a target jumps there, and a kind with a primitive calls it.
