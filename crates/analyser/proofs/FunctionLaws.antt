@@ -12,7 +12,7 @@ use Rattle.refusals.specs.declared.Refusal.the-variants.{ReportMemory}
 use Rattle.refusals.specs.declared.Refusal.the-variants as refusals
 use Rattle.refusals.specs.Refusals.{number, place}
 use Rattle.cells.specs.Cells.{unknown}
-use Rattle.machine.specs.Machine.{jump, store, step}
+use Rattle.machine.specs.Machine.{jump, reblock, step}
 use Rattle.states.specs.View.{whole}
 use Rattle.bounds.specs.Tree.{Report, accepted, refused, bound, explore}
 use Rattle.bounds.specs.Tree as bounds
@@ -46,7 +46,7 @@ use Rattle.analyser.proofs.AnswerLaws.{reports-kept, reports-fit, fille
 module _ (x : Routine) (l : Limited x) where
   -- a routine starts at its first address
   at-start : jump (x .first) (whole (sizes x) (x .fields) (start x)) ≡ whole (sizes x) (x .fields) (start x)
-  unfolding jump whole store
+  unfolding jump whole reblock
   at-start = ap (λ a. jump a (whole (sizes x) (x .fields) (start x))) (sym (l .placed))
 
   pub ready : Ready (codes x) (sizes x) (x .first) (x .fields) (start x) (x .first) 32 (x .budget)

@@ -13,7 +13,7 @@ use Rattle.cells.specs.Cells.{unknown, number}
 use Rattle.states.specs.declared.code.Line.{Line}
 use Rattle.outcomes.specs.declared.Outcome.{Outcome}
 use Rattle.outcomes.specs.declared.Outcome.the-variants.{Gives, Stores, Sets, Gets, Goes, Opens, Halts, Stuck}
-use Rattle.machine.specs.Machine.{State, height, Price, Next, stops, goes, opens, index, jump, load, restack, store, advance, prepare}
+use Rattle.machine.specs.Machine.{State, height, Price, Next, stops, goes, opens, index, jump, load, restack, reblock, advance, prepare}
 use Rattle.instructions.specs.Columns.{operationOf}
 use Rattle.outcomes.specs.Outcome.{drops, outcome, resume}
 use Rattle.states.specs.View.{Stacked, view, slot, Fits, whole}
@@ -204,11 +204,11 @@ module _ (first : ℕ) (bs : List ℕ) (is : List ℤ) (cs ws ns : List ℕ) (o 
         record { explored = x; safe = safe-under _ _ _ _ _ _ _ r x; exact = exact-for _ _ _ _ _ _ _ r x; modest = m }
 
     pub spent-out : {fs : List Cell} {s : Stacked} {left : ℕ} {t : Tally} → Turn first bs is cs ws ns o budget fs₀ s₀ fs s left t → left ≤ 0 → (r : Found) → r ≡ refusedAs (verdicts.Spent (s .at)) budget → Kept r
-    unfolding whole store
+    unfolding whole reblock
     spent-out {fs} {s} {left} {t} i h r e = shown r _ e (loop.spent-shown (act first bs is cs ws ns o budget fs₀ s₀) o budget (whole ns fs₀ s₀) (whole ns fs s) left t (i .inv) h) (refused-modest o budget budget _ r e (omega arith))
 
     pub stuck-out : {fs : List Cell} {s : Stacked} {left : ℕ} {t : Tally} → Turn first bs is cs ws ns o budget fs₀ s₀ fs s left t → 0 < left → (act first bs is cs ws ns o budget fs₀ s₀) (whole ns fs s) ≡ stuck → (r : Found) → r ≡ refusedAs (verdicts.Stuck (s .at)) (budget - left + 1) → Kept r
-    unfolding whole store
+    unfolding whole reblock
     stuck-out {fs} {s} {left} {t} i h g r e =
         shown r _ e (loop.stuck-shown (act first bs is cs ws ns o budget fs₀ s₀) o budget (whole ns fs₀ s₀) (whole ns fs s) left t (i .inv) h g) (refused-modest o budget (budget - left + 1) _ r e (omega (arith, i .inv .within)))
 
@@ -236,7 +236,7 @@ module _ (first : ℕ) (bs : List ℕ) (is : List ℤ) (cs ws ns : List ℕ) (o 
         opened = opens-both a h
 
         pub over-out : o ≡ 0 → (r : Found) → r ≡ refusedAs (verdicts.Openings (s .at)) (budget - left + 1) → Kept r
-        unfolding whole store
+        unfolding whole reblock
         over-out z r e =
             shown r _ e (loop.over-shown (act first bs is cs ws ns o budget fs₀ s₀) o budget (whole ns fs₀ s₀) (whole ns fs s) left t (a .turn .inv) (a .some) p p _ _ opened z)
             (refused-modest o budget (budget - left + 1) _ r e (omega (arith, a .turn .inv .within, a .some)))

@@ -16,7 +16,7 @@ use Rattle.cells.specs.declared.Cell.{Cell}
 use Rattle.cells.specs.Cells.{unknown}
 use Rattle.instructions.specs.declared.Operation.{Operation}
 use Rattle.outcomes.specs.declared.Outcome.the-variants.{Opens}
-use Rattle.machine.specs.Machine.{Code, Price, opens, index, jump, store, advance, step}
+use Rattle.machine.specs.Machine.{Code, Price, opens, index, jump, reblock, advance, step}
 use Rattle.outcomes.specs.Outcome.{resume}
 use Rattle.states.specs.View.{Stacked, view, blocksOf, whole}
 use Rattle.states.specs.Columns.{codeOf}
@@ -116,8 +116,8 @@ module _ (c : Code) (ns : List ℕ) (fs : List Cell) (start : Stacked) (place o 
 module _ (first : ℕ) (bs : List ℕ) (is : List ℤ) (cs ws ns : List ℕ) (o budget : ℕ) (fs : List Cell) (s : Stacked) where
   -- the loop begins at the place that is asked for
   pub placed : (start : Stacked) (place : ℕ) → view s ≡ jump place (view start) → whole ns fs s ≡ jump place (whole ns fs start)
-  unfolding whole store jump
-  placed start place e = ap (λ v. store (blocksOf ns fs) v) e
+  unfolding whole reblock jump
+  placed start place e = ap (λ v. reblock (blocksOf ns fs) v) e
 
   pub explores : (start : Stacked) (place : ℕ) → view s ≡ jump place (view start) → (r r′ : Found) → r ≡ r′ →
       loop.Shown (act first bs is cs ws ns o budget fs s) o budget (whole ns fs s) r′ → Explores (codeOf first bs is cs ws) ns fs start place o budget r
@@ -131,7 +131,7 @@ module _ (first : ℕ) (bs : List ℕ) (is : List ℤ) (cs ws ns : List ℕ) (o 
   -- the two ways of an unknown branch, from the state u after the push
   pub both-ways : (t u : Stacked) (p : Price) (x : Operation) (i : ℤ) (n : ℕ) → step (codeOf first bs is cs ws) unknown (whole ns fs t) ≡ resume p x i (whole ns fs u) Opens → u .at ≡ t .at → n ≡ index i →
       step (codeOf first bs is cs ws) unknown (whole ns fs t) ≡ done (opens p (jump (t .at + 1) (whole ns fs u)) p (jump n (whole ns fs u)))
-  unfolding resume advance whole store
+  unfolding resume advance whole reblock
   both-ways t u p x i n e f g =
       let k : suc (u .at) ≡ t .at + 1 = omega arith in
       e ∙ ap (λ a. done (opens p (jump a (whole ns fs u)) p (jump (index i) (whole ns fs u)))) k ∙ ap (λ a. done (opens p (jump (t .at + 1) (whole ns fs u)) p (jump a (whole ns fs u)))) (sym g)

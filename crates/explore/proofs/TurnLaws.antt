@@ -13,7 +13,7 @@ use Rattle.cells.specs.declared.Cell.{Cell}
 use Rattle.cells.specs.Cells.{unknown}
 use Rattle.states.specs.declared.code.Line.{Line}
 use Rattle.outcomes.specs.declared.Outcome.{Outcome}
-use Rattle.machine.specs.Machine.{State, height, Price, Next, goes, index, store, fetch, prepare, execute, step}
+use Rattle.machine.specs.Machine.{State, height, Price, Next, goes, index, reblock, fetch, prepare, execute, step}
 use Rattle.instructions.specs.Columns.{operationOf}
 use Rattle.outcomes.specs.Outcome.{entryOf, outcome, resume}
 use Rattle.states.specs.View.{Stacked, view, Fits, whole}
@@ -48,7 +48,7 @@ module _ (first : ℕ) (bs : List ℕ) (is : List ℤ) (cs ws ns : List ℕ) (o 
   high s e = length-drop (s .free) (s .stack) ∙ ap (λ n. n - s .free) e
 
   whole-height : (fs : List Cell) (s : Stacked) → length (s .stack) ≡ 64 → height (whole ns fs s) ≡ 64 - s .free
-  unfolding height whole store
+  unfolding height whole reblock
   whole-height fs s e = high s e
 
   -- ---- the step of a turn
@@ -75,13 +75,13 @@ module _ (first : ℕ) (bs : List ℕ) (is : List ℤ) (cs ws ns : List ℕ) (o 
   -- a full stack, where the instruction pushes first
   pub overflows : (fs : List Cell) (s : Stacked) (l : Line) → done (lineOf l) ≡ fetch (codeOf first bs is cs ws) (s .at) → l .pushes ≡ true → length (s .stack) ≡ 64 → s .free ≡ 0 →
       act (whole ns fs s) ≡ stuck
-  unfolding step execute _>>=_ whole store
+  unfolding step execute _>>=_ whole reblock
   overflows fs s l found pushes full none =
       let h : prepare true (whole ns fs s) ≡ stuck = turn.full ns fs s (omega (arith, high s full)) in
       rw (sym found, pushes, h) refl
 
   pub outside : (fs : List Cell) (s : Stacked) → stuck ≡ fetch (codeOf first bs is cs ws) (s .at) → act (whole ns fs s) ≡ stuck
-  unfolding step _>>=_ whole store
+  unfolding step _>>=_ whole reblock
   outside fs s e = rw (sym e) refl
 
   -- ---- the next turn

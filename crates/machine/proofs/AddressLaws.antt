@@ -6,7 +6,7 @@ use lib.ListN.{length}
 use Rattle.text.proofs.TextLaws.{Every}
 use Rattle.cells.specs.Try.{done}
 use Rattle.cells.specs.declared.Cell.{Cell}
-use Rattle.machine.specs.Machine.{State, Instruction, Code, Next, jump, load, restack, store, advance, step}
+use Rattle.machine.specs.Machine.{State, Instruction, Code, Next, jump, load, restack, reblock, advance, step}
 use Rattle.machine.proofs.FetchLaws.{fetch-below, fetch-every}
 use Rattle.machine.proofs.LeadLaws.{Leads, Keeps, target, step-leads}
 
@@ -22,11 +22,11 @@ record Below (B : ℕ) (s : State) : Type 0 where
   address : s .at < B
 
 address-kept : (B : ℕ) → Keeps (Below B) (AddressAtMost B) (λ a. a ≤ B)
-unfolding load restack store advance jump
+unfolding load restack reblock advance jump
 address-kept B = record {
   loads = λ c s h. record { address = h .address };
   restacks = λ cs s l h. record { address = h .address };
-  stores = λ bs s h. record { address = h .address };
+  reblocks = λ bs s h. record { address = h .address };
   advances = λ s h. record { address = omega (arith, h .address) };
   jumps = λ a s t h. record { address = t };
 }

@@ -11,7 +11,7 @@ use Rattle.cells.specs.Cells.{number, unknown, handle, calculate₁, calculate�
 use Rattle.instructions.specs.Kinds.{kinds, kindNames, operand}
 use Rattle.instructions.specs.Columns.{kindAt}
 use Rattle.machine.specs.Lists.{nth, put, without}
-use Rattle.machine.specs.Machine.{instruction, State, Price, Code, fetch, goes, opens, height, jump, load, restack, store, push, pop, getField, setField, advance, ahead, ways, opposite, perform, prepare, execute, step}
+use Rattle.machine.specs.Machine.{instruction, State, Price, Code, fetch, goes, opens, height, jump, load, restack, reblock, push, pop, store, getField, setField, advance, ahead, ways, opposite, perform, prepare, execute, step}
 
 -- one instruction of the kind that is named, with its argument, at address 5 and at the price of 3 cycles
 abbrev price : Price
@@ -42,5 +42,5 @@ pub examples :
     × (step (one (bytes "STOP") (pos 0)) unknown (state 4 unknown []) ≡ stuck)
     × (step (one (bytes "GETFIELD2") (pos 0)) unknown (state 5 (handle 0) []) ≡ stuck)
     × (step (one (bytes "ADDINT") (pos 0)) unknown (state 5 (handle 0) (unknown ∷ [])) ≡ stuck)
-unfolding equals find kindNames wrap holds _>>=_ calculate₁ calculate₂ map₁ map₂ operate₁ operate₂ test condition handled block kinds operand kindAt instruction nth put without fetch height jump load restack store push pop getField setField advance ahead ways opposite perform prepare execute step
+unfolding equals find kindNames wrap holds _>>=_ calculate₁ calculate₂ map₁ map₂ operate₁ operate₂ test condition handled block kinds operand kindAt instruction nth put without fetch height jump load restack reblock push pop store getField setField advance ahead ways opposite perform prepare execute step
 examples = (refl, refl, refl, refl, refl, refl, refl, refl, refl, refl, refl, refl)

@@ -4,7 +4,7 @@ use Prim.Native.Nat.{_≤_}
 use native.Mathlib.Omega.{arith}
 use Rattle.cells.specs.Try.{done}
 use Rattle.cells.specs.declared.Cell.{Cell}
-use Rattle.machine.specs.Machine.{State, stackLimit, height, Code, Next, jump, load, restack, store, advance, step}
+use Rattle.machine.specs.Machine.{State, stackLimit, height, Code, Next, jump, load, restack, reblock, advance, step}
 use Rattle.machine.proofs.LeadLaws.{Leads, Keeps, step-leads}
 
 pub record Low (s : State) : Type 0 where
@@ -12,11 +12,11 @@ pub record Low (s : State) : Type 0 where
 
 -- wherever a branch jumps to
 low-kept : Keeps Low Low (λ a. Unit {0})
-unfolding load restack store advance jump height
+unfolding load restack reblock advance jump height
 low-kept = record {
   loads = λ c s h. record { low = h .low };
   restacks = λ cs s l h. record { low = omega (arith, h .low) };
-  stores = λ bs s h. record { low = h .low };
+  reblocks = λ bs s h. record { low = h .low };
   advances = λ s h. record { low = h .low };
   jumps = λ a s t h. record { low = h .low };
 }

@@ -16,7 +16,7 @@ use Rattle.cells.specs.declared.Condition.the-variants.{IsZero, IsNonzero, IsUn
 use Rattle.instructions.specs.declared.Operation.{Operation}
 use Rattle.instructions.specs.declared.Operation.the-variants.{Nothing, Access, Drop, Assign, Constant, GetField, SetField, Branch, BranchIf, BranchIfNot, Call, Stop, Alter, Combine}
 use Rattle.machine.specs.Lists.{nth, put, without}
-use Rattle.machine.specs.Machine.{index, State, stackLimit, height, Price, Instruction, Code, fetch, Next, stops, goes, opens, jump, load, restack, store, push, pop, getField, setField, advance, ahead, ways, opposite, perform, prepare, execute, step}
+use Rattle.machine.specs.Machine.{index, State, stackLimit, height, Price, Instruction, Code, fetch, Next, stops, goes, opens, jump, load, restack, reblock, push, pop, store, getField, setField, advance, ahead, ways, opposite, perform, prepare, execute, step}
 
 -- what an action gives, if it gives anything, has a property
 data Gives {A : Type 0} (P : A → Type 0) : Try A → Type 0 where
@@ -78,7 +78,7 @@ target o i = cond (branches o) (index i) 0
 pub record Keeps (P Q : State → Type 0) (T : ℕ → Type 0) : Type 0 where
   pub loads : (c : Cell) (s : State) → P s → P (load c s)
   pub restacks : (cs : List Cell) (s : State) → length cs ≤ max (height s) stackLimit → P s → P (restack cs s)
-  pub stores : (bs : List (List Cell)) (s : State) → P s → P (store bs s)
+  pub reblocks : (bs : List (List Cell)) (s : State) → P s → P (reblock bs s)
   pub advances : (s : State) → P s → Q (advance s)
   pub jumps : (a : ℕ) (s : State) → T a → P s → Q (jump a s)
 
@@ -102,7 +102,7 @@ module _ {P Q : State → Type 0} {T : ℕ → Type 0} (keeps : Keeps P Q T) whe
       bind (itself (nth k (s .blocks))) (λ b v.
       bind (itself (put n c b)) (λ d w.
       bind (itself (put k d (s .blocks))) (λ bs x.
-      given (keeps .stores bs s h)))))
+      given (keeps .reblocks bs s h)))))
 
   ahead-leads : (p : Price) {m : Try State} → Gives P m → Gives (Leads Q) (ahead p m)
   unfolding ahead
@@ -115,7 +115,7 @@ module _ {P Q : State → Type 0} {T : ℕ → Type 0} (keeps : Keeps P Q T) whe
   ways-lead p a s IsUnknown t h = opens-to (keeps .advances s h) (keeps .jumps a s t h)
 
   perform-leads : (p : Price) (r : Cell) (o : Operation) (i : ℤ) (s : State) → T (target o i) → P s → Gives (Leads Q) (perform p r o i s)
-  unfolding perform height
+  unfolding perform store height
   perform-leads p r Nothing i s t h = ahead-leads p (given h)
   perform-leads p r Access i s t h = ahead-leads p (bind (itself (nth (index i) (s .stack))) (λ c u. given (keeps .loads c s h)))
   perform-leads p r Drop i s t h = ahead-leads p (pop-keeps (index i) s h)

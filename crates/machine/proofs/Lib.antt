@@ -8,3 +8,4 @@ pub mod FetchLaws
 pub mod LeadLaws
 pub mod HeightLaws
 pub mod AddressLaws
+pub mod ApartLaws

@@ -10,7 +10,7 @@ use Rattle.cells.specs.declared.Cell.{Cell}
 use Rattle.cells.specs.Order.{Pointwise, end, cons}
 use Rattle.cells.proofs.Covering.{Covered, by-stuck, both, bind}
 use Rattle.machine.specs.Lists.{nth, put, without}
-use Rattle.machine.specs.Machine.{State, stackLimit, height, jump, load, restack, store, push, pop, advance}
+use Rattle.machine.specs.Machine.{State, stackLimit, height, jump, load, restack, reblock, push, pop, advance}
 use Rattle.machine.specs.Order.{Cellwise}
 
 module _ {A : Type 0} {Q : A → A → Type 0} where
@@ -63,9 +63,9 @@ module _ {R : Cell → Cell → Type 0} where
   unfolding restack
   restack-law e r = record { at = e .at; accu = e .accu; stack = r; blocks = e .blocks }
 
-  pub store-law : {s t : State} {xs ys : List (List Cell)} → Cellwise R s t → Pointwise (Pointwise R) xs ys → Cellwise R (store xs s) (store ys t)
-  unfolding store
-  store-law e r = record { at = e .at; accu = e .accu; stack = e .stack; blocks = r }
+  pub reblock-law : {s t : State} {xs ys : List (List Cell)} → Cellwise R s t → Pointwise (Pointwise R) xs ys → Cellwise R (reblock xs s) (reblock ys t)
+  unfolding reblock
+  reblock-law e r = record { at = e .at; accu = e .accu; stack = e .stack; blocks = r }
 
   cond-law : (b : Bool) {s t : State} → Cellwise R s t → Covered (Cellwise R) (cond b (done s) stuck) (cond b (done t) stuck)
   cond-law true e = both e

@@ -12,10 +12,10 @@ use Rattle.cells.proofs.Covering.{Covered, both, bind, covered-equal, Narrower,
 use Rattle.cells.proofs.CellLaws.{Lawful}
 use Rattle.instructions.specs.declared.Operation.{Operation}
 use Rattle.instructions.specs.declared.Operation.the-variants.{Nothing, Access, Drop, Assign, Constant, GetField, SetField, Branch, BranchIf, BranchIfNot, Call, Stop, Alter, Combine}
-use Rattle.machine.specs.Machine.{index, State, Price, Instruction, Code, fetch, getField, setField, ahead, ways, opposite, perform, prepare, execute, step}
+use Rattle.machine.specs.Machine.{index, State, Price, Instruction, Code, fetch, getField, setField, store, ahead, ways, opposite, perform, prepare, execute, step}
 use Rattle.machine.specs.Order.{Cellwise}
 use Rattle.machine.proofs.NextCovering.{NextCovered, stops-too, goes-too, opens-too, goes-not-taken, goes-taken}
-use Rattle.machine.proofs.StateLaws.{nth-law, put-law, jump-law, advance-law, load-law, restack-law, store-law, push-law, pop-law}
+use Rattle.machine.proofs.StateLaws.{nth-law, put-law, jump-law, advance-law, load-law, restack-law, reblock-law, push-law, pop-law}
 
 module _ {R : Cell → Cell → Type 0} {two : Type 0} (L : Lawful R two) where
   getField-law : (n : ℕ) {s t : State} → Cellwise R s t → Covered R (getField n s) (getField n t)
@@ -32,7 +32,7 @@ module _ {R : Cell → Cell → Type 0} {two : Type 0} (L : Lawful R two) where
       bind (nth-law h (e .blocks)) (λ b b′ g.
       bind (put-law refl g r) (λ b b′ g′.
       bind (put-law h (e .blocks) g′) (λ bs bs′ f.
-      both (store-law e f)))))
+      both (reblock-law e f)))))
 
   ahead-law : (p : Price) {m n : Try State} → Covered (Cellwise R) m n → Covered (NextCovered (Cellwise R) two) (ahead p m) (ahead p n)
   unfolding ahead
@@ -56,7 +56,7 @@ module _ {R : Cell → Cell → Type 0} {two : Type 0} (L : Lawful R two) where
 
   perform-law : (p : Price) {r r′ : Cell} (o : Operation) (i : ℤ) {s t : State} → R r r′ → Cellwise R s t →
       Covered (NextCovered (Cellwise R) two) (perform p r o i s) (perform p r′ o i t)
-  unfolding perform
+  unfolding perform store
   perform-law p Nothing i k e = ahead-law p (both e)
   perform-law p Access i k e = ahead-law p (bind (nth-law refl (e .stack)) (λ c d h. both (load-law e h)))
   perform-law p Drop i k e = ahead-law p (pop-law (index i) e)

@@ -100,8 +100,8 @@ unfoldable pub restack : List Cell → State → State
 restack cs s = record { at = s .at; accu = s .accu; stack = cs; blocks = s .blocks }
 
 -- other blocks
-unfoldable pub store : List (List Cell) → State → State
-store bs s = record { at = s .at; accu = s .accu; stack = s .stack; blocks = bs }
+unfoldable pub reblock : List (List Cell) → State → State
+reblock bs s = record { at = s .at; accu = s .accu; stack = s .stack; blocks = bs }
 
 -- "PUSH: push accumulator"; "Stuck: a push on 64 entries"
 unfoldable pub push : State → Try State
@@ -110,6 +110,10 @@ push s = cond (ltb (height s) stackLimit) (done (restack (s .accu ∷ s .stack) 
 -- "POP n (0 to 64): drop n."; "Stuck: an entry popped that is not there"
 unfoldable pub pop : ℕ → State → Try State
 pop n s = without n (s .stack) >>= λ cs. done (restack cs s)
+
+-- "ASSIGN n (0 to 63): entry n becomes the accumulator, which becomes 0."; "Stuck: an entry assigned that is not there"
+unfoldable pub store : ℕ → State → Try State
+store n s = put n (s .accu) (s .stack) >>= λ cs. done (load (number (pos 0)) (restack cs s))
 
 -- "field n of the handled block"; "Stuck: a field access through a non-handle; a field the block lacks"
 unfoldable pub getField : ℕ → State → Try Cell
@@ -125,7 +129,7 @@ setField n c s =
     nth k (s .blocks) >>= λ b.
     put n c b >>= λ b′.
     put k b′ (s .blocks) >>= λ bs.
-    done (store bs s)
+    done (reblock bs s)
 
 -- "The address rises by one unless a branch jumps."
 unfoldable pub advance : State → State
@@ -153,8 +157,7 @@ perform p r Nothing i s = ahead p (done s)
 -- "accumulator becomes entry n"
 perform p r Access i s = ahead p (nth (index i) (s .stack) >>= λ c. done (load c s))
 perform p r Drop i s = ahead p (pop (index i) s)
--- "entry n becomes the accumulator, which becomes 0"
-perform p r Assign i s = ahead p (put (index i) (s .accu) (s .stack) >>= λ cs. done (load (number (pos 0)) (restack cs s)))
+perform p r Assign i s = ahead p (store (index i) s)
 perform p r Constant i s = ahead p (done (load (number i) s))
 perform p r (Alter u) i s = ahead p (operate₁ u i (s .accu) >>= λ c. done (load c s))
 -- "accumulator on the left, popped entry on the right"

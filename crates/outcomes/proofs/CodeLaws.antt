@@ -14,7 +14,7 @@ use Rattle.cells.specs.declared.Binary.{Binary}
 use Rattle.cells.specs.declared.Binary.the-variants.{Add, Subtract, Compare}
 use Rattle.instructions.specs.declared.Operation.the-variants.{Stop, Combine}
 use Rattle.instructions.specs.Columns.{operations, operationOf}
-use Rattle.outcomes.specs.Outcome.{entryOf, drops}
+use Rattle.outcomes.specs.Outcome.{isOnCells, entryOf, drops}
 
 -- the values below b, from the last to the first
 row : {A : Type 0} → (ℕ → A) → ℕ → List A
@@ -60,6 +60,20 @@ combined k l h =
     let e : 15 + (k - 15) ≡ k = omega arith in
     let j : k - 15 < 8 = omega arith in
     (getD binaries (k - 15) Add, ap operationOf (sym e) ∙ agree (λ j. operationOf (15 + j)) (λ j. Combine (getD binaries j Add)) 8 refl (k - 15) j)
+
+-- a code of an operation on cells that is none of those on the accumulator alone
+pub on-two-cells : (k : ℕ) → isOnCells (operationOf k) ≡ true → (k ≡ 5 → ⊥) → (k ≡ 6 → ⊥) → (k ≡ 7 → ⊥) → 15 ≤ k
+unfolding operations operationOf isOnCells row
+on-two-cells k e p q r = go (ltb k 15) refl
+  where
+    go : (t : Bool) → ltb k 15 ≡ t → 15 ≤ k
+    go true l =
+        let none : isOnCells (operationOf k) ≡ false =
+        agree (λ k. isOnCells (operationOf k)) (λ k. cond (eqb k 5) true (cond (eqb k 6) true (cond (eqb k 7) true false))) 15 refl k (ltb-true k 15 l)
+        ∙ rw (ne-eqb k 5 p, ne-eqb k 6 q, ne-eqb k 7 r) refl in
+        let z : _≡_ {A = ℕ} 0 1 = cc in
+        absurd (omega arith)
+    go false l = ltb-false k 15 l
 
 -- what a code that is neither 2 nor 13 nor one of those drops
 pub drops-none : (k n : ℕ) → (k ≡ 2 → ⊥) → (k ≡ 13 → ⊥) → k < 15 → drops (operationOf k) n ≡ 0

@@ -1,10 +1,10 @@
--- What an operation comes to before the state is changed, in the code's own type: the run and the explorer share it, and each changes its
+-- What an operation comes to before the state is changed, in the code's own type: the step and the explorer share it, and each changes its
 -- own state and blocks.
-use Prim.Native.Nat.{ℕ}
+use Prim.Native.Nat.{ℕ, _≤_, _<_}
+use mathlib.Core.Path.{_≡_}
 use mathlib.Core.Bool.{Bool, true, false, cond}
 use lib.Dec.{leb, ltb}
 use lib.IntN.{ℤ, pos}
-use lib.ListN.{drop, set}
 use Rattle.cells.specs.Try.{Try, stuck, done, _>>=_}
 use Rattle.cells.specs.declared.Cell.{Cell}
 use Rattle.cells.specs.declared.Condition.{Condition}
@@ -13,8 +13,8 @@ use Rattle.cells.specs.Cells.{number, operate₁, operate₂, condition}
 use Rattle.instructions.specs.declared.Operation.{Operation}
 use Rattle.instructions.specs.declared.Operation.the-variants.{Nothing, Access, Drop, Assign, Constant, GetField, SetField, Branch, BranchIf, BranchIfNot, Call, Stop, Alter, Combine}
 use Rattle.outcomes.specs.declared.Outcome.{Outcome}
-use Rattle.outcomes.specs.declared.Outcome.the-variants.{Gives, Stores, Sets, Gets, Goes, Opens, Halts, Stuck}
-use Rattle.machine.specs.Machine.{State, Price, Next, stops, goes, opens, index, jump, load, restack, getField, setField, advance, ahead}
+use Rattle.outcomes.specs.declared.Outcome.the-variants.{Gives, Operates, Stores, Sets, Gets, Goes, Opens, Halts, Stuck}
+use Rattle.machine.specs.Machine.{State, Price, Next, stops, goes, opens, index, jump, load, pop, store, getField, setField}
 
 -- the entry that an operation looks at: entry n, or the top
 unfoldable pub entryOf : Operation → ℕ → ℕ
@@ -50,10 +50,39 @@ drops Stop n = 0
 drops (Alter u) n = 0
 drops (Combine b) n = 1
 
--- the outcome where an operation gives a cell or is stuck
-unfoldable pub given : Try Cell → Outcome
-given stuck = Stuck
-given (done c) = Gives c
+-- whether an operation is one on cells: on the accumulator, or on it and the popped entry
+unfoldable pub isOnCells : Operation → Bool
+isOnCells Nothing = false
+isOnCells Access = false
+isOnCells Drop = false
+isOnCells Assign = false
+isOnCells Constant = false
+isOnCells GetField = false
+isOnCells SetField = false
+isOnCells Branch = false
+isOnCells BranchIf = false
+isOnCells BranchIfNot = false
+isOnCells Call = false
+isOnCells Stop = false
+isOnCells (Alter u) = true
+isOnCells (Combine b) = true
+
+-- what an operation on cells gives, with the operand i, the accumulator a and the entry e
+unfoldable pub operated : Operation → ℤ → Cell → Cell → Try Cell
+operated Nothing i a e = stuck
+operated Access i a e = stuck
+operated Drop i a e = stuck
+operated Assign i a e = stuck
+operated Constant i a e = stuck
+operated GetField i a e = stuck
+operated SetField i a e = stuck
+operated Branch i a e = stuck
+operated BranchIf i a e = stuck
+operated BranchIfNot i a e = stuck
+operated Call i a e = stuck
+operated Stop i a e = stuck
+operated (Alter u) i a e = operate₁ u i a
+operated (Combine b) i a e = operate₂ b a e
 
 -- a conditional branch that jumps on zero or on non-zero, with the accumulator a
 unfoldable pub branching : Bool → Cell → Try Condition → Outcome
@@ -69,7 +98,7 @@ unfoldable pub outcome : Operation → ℤ → Cell → ℕ → Cell → Cell �
 outcome Nothing i r h a e = Gives a
 outcome Access i r h a e = cond (ltb (index i) h) (Gives e) Stuck
 outcome Drop i r h a e = cond (leb (index i) h) (Gives a) Stuck
-outcome Assign i r h a e = cond (ltb (index i) h) (Stores a) Stuck
+outcome Assign i r h a e = cond (ltb (index i) h) Stores Stuck
 outcome Constant i r h a e = Gives (number i)
 outcome GetField i r h a e = Gets
 outcome SetField i r h a e = cond (ltb 0 h) (Sets e) Stuck
@@ -78,16 +107,30 @@ outcome BranchIf i r h a e = branching false a (condition a)
 outcome BranchIfNot i r h a e = branching true a (condition a)
 outcome Call i r h a e = cond (leb (index i) h) (Gives r) Stuck
 outcome Stop i r h a e = Halts
-outcome (Alter u) i r h a e = given (operate₁ u i a)
-outcome (Combine b) i r h a e = cond (ltb 0 h) (given (operate₂ b a e)) Stuck
+outcome (Alter u) i r h a e = Operates
+outcome (Combine b) i r h a e = cond (ltb 0 h) Operates Stuck
 
--- what an outcome of the operation o with operand i makes of the state s, at the price p
-unfoldable pub resume : Price → Operation → ℤ → State → Outcome → Try Next
-resume p o i s (Gives c) = done (goes p (advance (load c (restack (drop (drops o (index i)) (s .stack)) s))))
-resume p o i s (Stores c) = done (goes p (advance (load (number (pos 0)) (restack (set (s .stack) (index i) c) s))))
-resume p o i s (Sets c) = ahead p (setField (index i) c (restack (drop 1 (s .stack)) s) >>= λ t. done (load (number (pos 0)) t))
-resume p o i s Gets = ahead p (getField (index i) s >>= λ c. done (load c s))
-resume p o i s Goes = done (goes p (jump (index i) s))
-resume p o i s Opens = done (opens p (advance s) p (jump (index i) s))
-resume p o i s Halts = done (stops p)
-resume p o i s Stuck = stuck
+-- what an outcome of the operation o with operand i makes of the state s, which is at the next address already, at the price p; e is the
+-- entry that the operation looked at
+unfoldable pub resume : Price → Operation → ℤ → State → Cell → Outcome → Try Next
+resume p o i s e (Gives c) = pop (drops o (index i)) s >>= λ t. done (goes p (load c t))
+resume p o i s e Operates = operated o i (s .accu) e >>= λ c. pop (drops o (index i)) s >>= λ t. done (goes p (load c t))
+resume p o i s e Stores = store (index i) s >>= λ t. done (goes p t)
+resume p o i s e (Sets c) = pop 1 s >>= λ t. setField (index i) c t >>= λ u. done (goes p (load (number (pos 0)) u))
+resume p o i s e Gets = getField (index i) s >>= λ c. done (goes p (load c s))
+resume p o i s e Goes = done (goes p (jump (index i) s))
+resume p o i s e Opens = done (opens p s p (jump (index i) s))
+resume p o i s e Halts = done (stops p)
+resume p o i s e Stuck = stuck
+
+-- what an outcome asks of a stack of height h
+abbrev pub Room : Operation → ℕ → ℕ → Outcome → Type 0
+Room o n h (Gives c) = drops o n ≤ h
+Room o n h Operates = (drops o n ≤ h) × (isOnCells o ≡ true)
+Room o n h Stores = n < h
+Room o n h (Sets c) = 0 < h
+Room o n h Gets = Unit {0}
+Room o n h Goes = Unit {0}
+Room o n h Opens = Unit {0}
+Room o n h Halts = Unit {0}
+Room o n h Stuck = Unit {0}

@@ -5,8 +5,10 @@ use cells::Condition;
 use cells::Operand;
 use cells::Tested;
 use cells::Unary;
+use instructions::operations;
 use numbers::Comparison;
 ghost use mathlib.Core.Path.{_≡_};
+ghost use mathlib.Core.Bool.{true};
 ghost use Prim.Native.Nat.{_+_, _<_, _≤_};
 ghost use Rattle.cells.specs.Cells.{condition};
 ghost use Rattle.cells.specs.Answers.{ofOperand};
@@ -14,14 +16,16 @@ ghost use Rattle.cells.specs.declared.Binary.the-variants.{Compare};
 ghost use Rattle.instructions.specs.declared.Operation.the-variants.{Combine};
 ghost use Rattle.machine.specs.Machine.{index};
 ghost use Rattle.instructions.specs.Columns.{operationOf};
-ghost use Rattle.outcomes.specs.Outcome.{given, branching, outcome, entryOf, drops};
+ghost use Rattle.outcomes.specs.Outcome.{isOnCells, operated, branching, outcome, entryOf, drops};
 
 // What an instruction's operands come to, before the state is changed.
 pub enum Outcome {
     // The accumulator becomes the cell.
     Gives(Cell),
-    // The entry becomes the cell, the accumulator 0.
-    Stores(Cell),
+    // The accumulator becomes what the operation on cells gives.
+    Operates,
+    // The entry becomes the accumulator, which becomes 0.
+    Stores,
     // The field becomes the cell, the accumulator 0.
     Sets(Cell),
     // The accumulator becomes the field.
@@ -32,16 +36,6 @@ pub enum Outcome {
     Opens,
     Halts,
     Stuck,
-}
-
-// What an operation on cells gives.
-fn outcome_given(x: Operand) -> Outcome
-    ensures { λ r. ⌜ r ≡ given (ofOperand x) ⌝ }
-{
-    match x {
-        Operand::Is(c) => Outcome::Gives(c),
-        Operand::Stuck => Outcome::Stuck,
-    }
 }
 
 // A conditional branch on the accumulator `a` that jumps on non-zero, or on zero.
@@ -71,30 +65,43 @@ fn outcome_branching(a: Cell, zero: bool) -> Outcome
     }
 }
 
-// The comparison of a code from 17 to 22.
+// The comparison of an operation's code.
 fn comparison_of(code: u8) -> Comparison
     requires { ⌜ (17 ≤ code) × (code ≤ 22) ⌝ }
     ensures { λ r. ⌜ Combine (Compare r) ≡ operationOf code ⌝ }
 {
     match code {
-        17 => Comparison::Equal,
-        18 => Comparison::Unequal,
-        19 => Comparison::Less,
-        20 => Comparison::AtMost,
-        21 => Comparison::Greater,
+        operations::EQUAL => Comparison::Equal,
+        operations::UNEQUAL => Comparison::Unequal,
+        operations::LESS => Comparison::Less,
+        operations::AT_MOST => Comparison::AtMost,
+        operations::GREATER => Comparison::Greater,
         _ => Comparison::AtLeast,
     }
 }
 
-// The operation on two cells of a code from 15 to 22.
+// The operation on two cells of a code.
 fn binary_of(code: u8) -> Binary
     requires { ⌜ (15 ≤ code) × (code ≤ 22) ⌝ }
     ensures { λ r. ⌜ Combine r ≡ operationOf code ⌝ }
 {
     match code {
-        15 => Binary::Add,
-        16 => Binary::Subtract,
+        operations::ADD => Binary::Add,
+        operations::SUBTRACT => Binary::Subtract,
         _ => Binary::Compare(comparison_of(code)),
+    }
+}
+
+// What an operation on the accumulator `a`, or on it and the entry `e`, gives, with the operand `i`.
+pub fn operated(code: u8, i: i32, a: Cell, e: Cell) -> Operand
+    requires { ⌜ (code ≤ 22) × (isOnCells (operationOf code) ≡ true) ⌝ }
+    ensures { λ r. ⌜ ofOperand r ≡ operated (operationOf code) i a e ⌝ }
+{
+    match code {
+        operations::OFFSET => cells::operate1(Unary::Offset, i, a),
+        operations::NEGATE => cells::operate1(Unary::Negate, i, a),
+        operations::COMPLEMENT => cells::operate1(Unary::Complement, i, a),
+        _ => cells::operate2(binary_of(code), a, e),
     }
 }
 
@@ -116,54 +123,54 @@ pub fn outcome_of(code: u8, i: i32, r: Cell, h: usize, a: Cell, e: Cell) -> Outc
 {
     let n = index_of(i);
     match code {
-        0 => Outcome::Gives(a),
-        1 => {
+        operations::NOTHING => Outcome::Gives(a),
+        operations::ACCESS => {
             if n < h {
                 Outcome::Gives(e)
             } else {
                 Outcome::Stuck
             }
         }
-        2 => {
+        operations::DROP => {
             if n <= h {
                 Outcome::Gives(a)
             } else {
                 Outcome::Stuck
             }
         }
-        3 => {
+        operations::ASSIGN => {
             if n < h {
-                Outcome::Stores(a)
+                Outcome::Stores
             } else {
                 Outcome::Stuck
             }
         }
-        4 => Outcome::Gives(cells::number(i)),
-        5 => outcome_given(cells::operate1(Unary::Offset, i, a)),
-        6 => outcome_given(cells::operate1(Unary::Negate, i, a)),
-        7 => outcome_given(cells::operate1(Unary::Complement, i, a)),
-        8 => Outcome::Gets,
-        9 => {
+        operations::CONSTANT => Outcome::Gives(cells::number(i)),
+        operations::OFFSET => Outcome::Operates,
+        operations::NEGATE => Outcome::Operates,
+        operations::COMPLEMENT => Outcome::Operates,
+        operations::GET_FIELD => Outcome::Gets,
+        operations::SET_FIELD => {
             if 0 < h {
                 Outcome::Sets(e)
             } else {
                 Outcome::Stuck
             }
         }
-        10 => Outcome::Goes,
-        11 => outcome_branching(a, false),
-        12 => outcome_branching(a, true),
-        13 => {
+        operations::BRANCH => Outcome::Goes,
+        operations::BRANCH_IF => outcome_branching(a, false),
+        operations::BRANCH_IF_NOT => outcome_branching(a, true),
+        operations::CALL => {
             if n <= h {
                 Outcome::Gives(r)
             } else {
                 Outcome::Stuck
             }
         }
-        14 => Outcome::Halts,
+        operations::STOP => Outcome::Halts,
         _ => {
             if 0 < h {
-                outcome_given(cells::operate2(binary_of(code), a, e))
+                Outcome::Operates
             } else {
                 Outcome::Stuck
             }
@@ -172,11 +179,15 @@ pub fn outcome_of(code: u8, i: i32, r: Cell, h: usize, a: Cell, e: Cell) -> Outc
 }
 
 // The entry that the operation of a code looks at, below `free` unused places; the last place where there is none.
-pub fn place_of(code: u8, n: usize, free: usize) -> usize
+pub fn entry_place(code: u8, n: usize, free: usize) -> usize
     requires { ⌜ (n < 4294967296) × (free ≤ 64) ⌝ }
     ensures { λ r. ⌜ (r < 64) × (free + entryOf (operationOf code) n < 64 → r ≡ free + entryOf (operationOf code) n) ⌝ }
 {
-    let i = if code == 1 { free + n } else { free };
+    let i = if code == operations::ACCESS {
+        free + n
+    } else {
+        free
+    };
     if i < 64 { i } else { 63 }
 }
 
@@ -186,8 +197,8 @@ pub fn drops_of(code: u8, n: usize) -> usize
     ensures { λ r. ⌜ r ≡ drops (operationOf code) n ⌝ }
 {
     match code {
-        2 | 13 => n,
-        15..=22 => 1,
+        operations::DROP | operations::CALL => n,
+        operations::ADD..=operations::AT_LEAST => 1,
         _ => 0,
     }
 }

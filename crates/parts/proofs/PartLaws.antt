@@ -7,7 +7,7 @@ use Rattle.text.specs.Text.{Line}
 use Rattle.numbers.specs.declared.Range.{Range}
 use Rattle.numbers.specs.Numbers.{numbers}
 use Rattle.cells.specs.declared.Cell.{Cell}
-use Rattle.machine.specs.Machine.{store}
+use Rattle.machine.specs.Machine.{reblock}
 use Rattle.states.specs.View.{Stacked, view, blocksOf, whole}
 use Rattle.routine.specs.declared.Section.the-variants.{Limits as limits, Kinds as kinds, Primitives as primitives, Cells as cells, Fields as fields}
 use Rattle.routine.specs.declared.Column.the-variants.{Limit as limit, Cycles as cycles, Words as words-column, Cell as cell}
@@ -44,6 +44,6 @@ pub start-whole : (ls : List Line) (s : Stacked) (ns : List ℕ) (fs : List Cell
     → ns ≡ blockSizes (listed (names fields) ls)
     → blocksOf ns fs ≡ blocksInLine ns (cellsIn (textAt (values fields cell) layout ls))
     → whole ns fs s ≡ startOf ls
-unfolding whole store startOf startIn cellsOf cellsIn listed
+unfolding whole reblock startOf startIn cellsOf cellsIn listed
 start-whole ls s ns fs v e b =
-    (λ i. store (b i) (v i)) ∙ ap (λ (ms : List ℕ). store (blocksInLine ms (cellsOf fields ls)) (startIn (codeOf ls .first) (cellsOf cells ls))) e
+    (λ i. reblock (b i) (v i)) ∙ ap (λ (ms : List ℕ). reblock (blocksInLine ms (cellsOf fields ls)) (startIn (codeOf ls .first) (cellsOf cells ls))) e

@@ -12,7 +12,7 @@ use Rattle.cells.specs.declared.Cell.{Cell}
 use Rattle.cells.specs.Cells.{number}
 use Rattle.states.specs.declared.State as code
 use Rattle.states.specs.declared.code.Line.{Line}
-use Rattle.machine.specs.Machine.{stops, goes, height, store}
+use Rattle.machine.specs.Machine.{stops, goes, height, reblock}
 use Rattle.states.specs.Columns.{lineOf}
 use Rattle.states.specs.View.{beside, Fits, whole}
 use Rattle.bounds.specs.Run.{Run, begin, answer, remaining, moved}
@@ -59,7 +59,7 @@ module _ (l : Line) (r : Progress) (counted : Counted r) (k : ℕ)
   pub goes-moves : (ns : List ℕ) (t : code.State) (cells fs : List Cell) (d : ℕ) → length cells ≡ 64 → t .free ≤ 64 → d ≡ max (r .depth) (64 - t .free) → Fits ns fs →
       Moves ns r (lineOf l .calls) (done (goes (lineOf l .price) (whole ns fs (beside cells t))))
       (record { state = t; stack = cells; blocks = fs; taken = k; cycles = r .cycles + l .cycles; words = r .words + l .words; depth = d; steps = r .steps + 1; stopped = false })
-  unfolding ofProgress moved height whole store
+  unfolding ofProgress moved height whole reblock
   goes-moves ns t cells fs d n h e fits = record {
     run = λ answers. runs-equal _ _ refl (takes .0 answers) refl refl (let g : length (drop (t .free) cells) ≡ 64 - t .free = simp length-drop (omega arith) in rw g e) (add-one (r .steps)) refl;
     sound = record { fits = fits; free = h; counted = record { taken = omega arith; cycles = omega arith; words = omega arith } };
@@ -84,5 +84,5 @@ stays ns r calls sound = record { run = λ answers. refl; sound = sound; steps =
 
 pub begins : (ns : List ℕ) (answers : List ℤ) (s : code.State) (cells fs : List Cell) → length cells ≡ 64 → s .free ≤ 64 →
     ofProgress ns answers (record { state = s; stack = cells; blocks = fs; taken = 0; cycles = 0; words = 0; depth = 64 - s .free; steps = 0; stopped = false }) ≡ begin (whole ns fs (beside cells s)) answers
-unfolding ofProgress begin height whole store
+unfolding ofProgress begin height whole reblock
 begins ns answers s cells fs n h = let g : 64 - s .free ≡ length (drop (s .free) cells) = simp length-drop (omega arith) in rw (← g) refl

@@ -18,7 +18,7 @@ use Rattle.outcomes.specs.declared.Outcome.{Outcome}
 use Rattle.outcomes.specs.declared.Outcome.the-variants.{Gives, Stores, Sets, Gets, Goes, Opens, Halts, Stuck}
 use Rattle.states.specs.declared.Slot.{Slot}
 use Rattle.states.specs.declared.Slot.the-variants.{At, Lacks}
-use Rattle.machine.specs.Machine.{Code, Next, stops, goes, index, fetch, jump, load, restack, advance, store, prepare, execute, step}
+use Rattle.machine.specs.Machine.{Code, Next, stops, goes, index, fetch, jump, load, restack, advance, reblock, prepare, execute, step}
 use Rattle.instructions.specs.Columns.{operationOf}
 use Rattle.instructions.proofs.ColumnLaws.{getD-any}
 use Rattle.outcomes.specs.Outcome.{entryOf, drops, outcome, resume}
@@ -165,7 +165,7 @@ module _ (ns : List ℕ) (l : Line) (answer : Cell) (t : Stacked) (r q : Progres
 
 -- the push before it
 blocked : (ns : List ℕ) (fs : List Cell) (s : Stacked) (l : Line) (answer : Cell) (c : Code) → fetch c (s .at) ≡ done (lineOf l) → prepare (l .pushes) (whole ns fs s) ≡ stuck → step c answer (whole ns fs s) ≡ stuck
-unfolding step execute whole store _>>=_
+unfolding step execute whole reblock _>>=_
 blocked ns fs s l answer c f p = rw (f, p) refl
 
 module _ (ns : List ℕ) (l : Line) (answer : Cell) (r : Progress) (sound : Sound ns r) (room : length (r .stack) ≡ 64) where

@@ -11,7 +11,7 @@ use borrow.Author.Tests.{lt-ltb, le-ltb}
 use Rattle.cells.specs.Try.{stuck, done, _>>=_}
 use Rattle.cells.specs.declared.Cell.{Cell}
 use Rattle.states.specs.declared.code.Line.{Line}
-use Rattle.machine.specs.Machine.{State, Code, store, fetch, step, takes, takesAnswer}
+use Rattle.machine.specs.Machine.{State, Code, reblock, fetch, step, takes, takesAnswer}
 use Rattle.states.specs.Columns.{lineOf}
 use Rattle.states.specs.View.{whole}
 use Rattle.bounds.specs.Tree.{openingLimit, bound}
@@ -33,12 +33,12 @@ once-stopped c ns answers r h = rw h refl
 
 module _ (c : Code) (ns : List ℕ) (answers : List ℤ) (r : Progress) (going : r .stopped ≡ false) where
   pub once-outside : fetch c (r .state .at) ≡ stuck → ofProgress ns answers r ≡ once c (ofProgress ns answers r)
-  unfolding once moved ofProgress leads step whole store _>>=_
+  unfolding once moved ofProgress leads step whole reblock _>>=_
   once-outside f = rw (f, going) refl
 
   pub once-moves : (l : Line) (a : Cell) (q : Progress) → fetch c (r .state .at) ≡ done (lineOf l) → a ≡ answer (drop (r .taken) answers) →
       Moves ns r (lineOf l .calls) (step c a (whole ns (r .blocks) (stateOf r))) q → ofProgress ns answers q ≡ once c (ofProgress ns answers r)
-  unfolding once ofProgress leads takesAnswer takes whole store
+  unfolding once ofProgress leads takesAnswer takes whole reblock
   once-moves l a q f e m = m .run answers ∙ rw (f, going, e) refl
 
 -- ---- the loop
@@ -73,11 +73,11 @@ module _ (ns : List ℕ) (answers : List ℤ) (budget : ℕ) (r : Progress) wher
   stopped-judged h = rw h refl
 
   pub stuck-judged : r .stopped ≡ false → r .steps < budget → verdictOf (ran r (Stuck (r .state .at))) ≡ judgeRun budget (ofProgress ns answers r)
-  unfolding verdictOf judged judgeRun ofProgress whole store
+  unfolding verdictOf judged judgeRun ofProgress whole reblock
   stuck-judged h l = rw (h, lt-ltb (r .steps) budget l) refl
 
   pub spent-judged : r .stopped ≡ false → budget ≤ r .steps → verdictOf (ran r (Spent (r .state .at))) ≡ judgeRun budget (ofProgress ns answers r)
-  unfolding verdictOf judged judgeRun ofProgress whole store
+  unfolding verdictOf judged judgeRun ofProgress whole reblock
   spent-judged h l = rw (h, le-ltb (r .steps) budget l) refl
 
 pub run-judged : (c : Code) (budget : ℕ) (s : State) (answers : List ℤ) (r : Run) (v : Ran) → verdictOf v ≡ judgeRun budget r → r ≡ after c budget (begin s answers) → verdictOf v ≡ run c budget s answers

@@ -12,7 +12,7 @@ use Rattle.cells.specs.Try.{Try, stuck, done, _>>=_}
 use Rattle.cells.specs.declared.Cell.{Cell}
 use Rattle.cells.specs.Cells.{block}
 use Rattle.machine.specs.Lists.{nth, put}
-use Rattle.machine.specs.Machine.{State, getField, setField, store}
+use Rattle.machine.specs.Machine.{State, getField, setField, reblock}
 use Rattle.states.specs.View.{blocksOf, slot, Fits}
 use Rattle.machine.proofs.ListLaws.{nth-in, nth-out, put-in, put-out}
 
@@ -81,13 +81,13 @@ module _ (ns : List ℕ) (fs : List Cell) (f : Fits ns fs) where
         go stuck = refl
         go (done k) = inside k (ltb k (length ns)) refl
 
-    pub setField-slot : (c : Cell) → setField n c s ≡ (slot ns (s .accu) n >>= λ j. done (store (blocksOf ns (set fs j c)) s))
-    unfolding setField slot _>>=_ store
+    pub setField-slot : (c : Cell) → setField n c s ≡ (slot ns (s .accu) n >>= λ j. done (reblock (blocksOf ns (set fs j c)) s))
+    unfolding setField slot _>>=_ reblock
     setField-slot c = rw is (go (block (s .accu)))
       where
         write : (k : ℕ) → k < length ns → (b : Bool) → ltb n (getD ns k 0) ≡ b →
-            (put n c (take (getD ns k 0) (drop (k * 16) fs)) >>= λ b. put k b (blocksOf ns fs) >>= λ bs. done (store bs s))
-            ≡ (cond b (done (k * 16 + n)) stuck >>= λ j. done (store (blocksOf ns (set fs j c)) s))
+            (put n c (take (getD ns k 0) (drop (k * 16) fs)) >>= λ b. put k b (blocksOf ns fs) >>= λ bs. done (reblock bs s))
+            ≡ (cond b (done (k * 16 + n)) stuck >>= λ j. done (reblock (blocksOf ns (set fs j c)) s))
         write k h true e =
             let l = ltb-true n (getD ns k 0) e in
             let b = block-length k h in
@@ -98,13 +98,13 @@ module _ (ns : List ℕ) (fs : List Cell) (f : Fits ns fs) where
             rw (put-out n c (take (getD ns k 0) (drop (k * 16) fs)) (omega arith)) refl
 
         inside : (k : ℕ) → (b : Bool) → ltb k (length ns) ≡ b →
-            (nth k (blocksOf ns fs) >>= λ b. put n c b >>= λ b. put k b (blocksOf ns fs) >>= λ bs. done (store bs s))
-            ≡ (cond b (cond (ltb n (getD ns k 0)) (done (k * 16 + n)) stuck) stuck >>= λ j. done (store (blocksOf ns (set fs j c)) s))
+            (nth k (blocksOf ns fs) >>= λ b. put n c b >>= λ b. put k b (blocksOf ns fs) >>= λ bs. done (reblock bs s))
+            ≡ (cond b (cond (ltb n (getD ns k 0)) (done (k * 16 + n)) stuck) stuck >>= λ j. done (reblock (blocksOf ns (set fs j c)) s))
         inside k true e = let h = ltb-true k (length ns) e in rw (block-in k ns fs h) (write k h (ltb n (getD ns k 0)) refl)
         inside k false e = rw (block-out k ns fs (ltb-false k (length ns) e)) refl
 
-        go : (m : Try ℕ) → (m >>= λ k. nth k (blocksOf ns fs) >>= λ b. put n c b >>= λ b. put k b (blocksOf ns fs) >>= λ bs. done (store bs s))
-            ≡ ((m >>= λ k. cond (ltb k (length ns)) (cond (ltb n (getD ns k 0)) (done (k * 16 + n)) stuck) stuck) >>= λ j. done (store (blocksOf ns (set fs j c)) s))
+        go : (m : Try ℕ) → (m >>= λ k. nth k (blocksOf ns fs) >>= λ b. put n c b >>= λ b. put k b (blocksOf ns fs) >>= λ bs. done (reblock bs s))
+            ≡ ((m >>= λ k. cond (ltb k (length ns)) (cond (ltb n (getD ns k 0)) (done (k * 16 + n)) stuck) stuck) >>= λ j. done (reblock (blocksOf ns (set fs j c)) s))
         go stuck = refl
         go (done k) = inside k (ltb k (length ns)) refl
 

@@ -1,5 +1,6 @@
 -- What the code's state stands for.
 use Prim.Native.Nat.{ℕ, _+_, _*_, _≤_}
+use mathlib.Core.Path.{_≡_}
 use mathlib.Core.Bool.{cond}
 use mathlib.Core.List.{List, [], _∷_}
 use lib.Dec.{ltb}
@@ -10,22 +11,16 @@ use Rattle.cells.specs.Cells.{block}
 use Rattle.states.specs.declared.State as code
 use Rattle.states.specs.declared.Slot.{Slot}
 use Rattle.states.specs.declared.Slot.the-variants.{At, Lacks}
-use Rattle.machine.specs.Machine.{State, store}
+use Rattle.machine.specs.Machine.{State, stackLimit, reblock}
 
--- a state with the cells of its stack
-pub record Stacked : Type 0 where
-  pub at : ℕ
-  pub accu : Cell
-  pub free : ℕ
-  pub stack : List Cell
-
--- the code's state, with the cells that lie beside it
-abbrev pub beside : List Cell → code.State → Stacked
-beside cells s = record { at = s .at; accu = s .accu; free = s .free; stack = cells }
-
--- the state without its blocks: the first cells of the stack are unused, then comes the top, "entry 0 on top"
-abbrev pub view : Stacked → State
+-- the state without its blocks: the first `free` cells of the array are unused, then comes the top, "entry 0 on top"
+abbrev pub view : code.State → State
 view s = record { at = s .at; accu = s .accu; stack = drop (s .free) (s .stack); blocks = [] }
+
+-- "a stack of at most 64 cells": the array has 64 places, and no more are unused
+pub record WellFormed (s : code.State) : Type 0 where
+  pub free : s .free ≤ stackLimit
+  pub places : length (s .stack) ≡ stackLimit
 
 -- blocks of the given sizes, each in sixteen places of one flat array
 unfoldable pub blocksOf : List ℕ → List Cell → List (List Cell)
@@ -47,5 +42,5 @@ ofSlot (At j) = done j
 ofSlot Lacks = stuck
 
 -- the state with its blocks
-unfoldable pub whole : List ℕ → List Cell → Stacked → State
-whole ns fs s = store (blocksOf ns fs) (view s)
+unfoldable pub whole : List ℕ → List Cell → code.State → State
+whole ns fs s = reblock (blocksOf ns fs) (view s)

@@ -2,65 +2,90 @@
 use cells::Cell;
 use cells::Handled;
 ghost use mathlib.Core.Path.{_≡_};
-ghost use mathlib.Core.List.{List, _∷_};
 ghost use Prim.Native.Nat.{_+_, _<_, _≤_};
-ghost use lib.IntN.{pos};
-ghost use lib.ListN.{length, drop, set};
-ghost use Rattle.cells.specs.declared.Cell.{Cell};
-ghost use Rattle.cells.specs.Cells.{number};
-ghost use Rattle.machine.specs.Machine.{restack, load, advance, jump};
-ghost use Rattle.states.specs.View.{beside, view, slot, ofSlot};
+ghost use Rattle.cells.specs.Try.{done};
+ghost use Rattle.machine.specs.Machine.{push, pop, store, load, advance, jump};
+ghost use Rattle.states.specs.View.{view, WellFormed, slot, ofSlot};
 
 pub mod code;
 
-// The cells of the stack and of the blocks lie beside the state, in arrays. Of the 64 cells of the stack the first `free` are unused; the
-// others are its entries, the top entry first.
+// "The state is an address, an accumulator, a stack of at most 64 cells (entry 0 on top)". Of the cells of `stack` the first `free` are
+// unused; the others are the entries, the top entry first. The blocks lie beside the state.
 pub struct State {
     pub at: usize,
     pub accu: Cell,
     pub free: usize,
+    pub stack: [Cell; 64],
 }
 
 impl State {
-    // With one entry more; its cell is the last that was free.
-    pub fn push(mut self) -> Self
-        requires { ⌜ (0 < self .free) × (self .free ≤ 64) ⌝ }
-        ensures { λ r. ⌜ ((cells : List Cell) (c : Cell) → length cells ≡ 64 → view (beside (set cells (r .free) c) r) ≡ restack (c ∷ view (beside cells self) .stack) (view (beside cells self))) × (r .free < 64) ⌝ }
+    // With the accumulator as a new top entry.
+    pub fn push(self) -> Self
+        requires { ⌜ WellFormed self × (0 < self .free) ⌝ }
+        ensures { λ r. ⌜ done (view r) ≡ push (view self) ⌝ }
+        ensures { λ r. ⌜ WellFormed r ⌝ }
     {
-        self.free = self.free - 1;
-        self
+        let free = self.free - 1;
+        let accu = self.accu;
+        let mut stack = self.stack;
+        stack[free] = accu;
+        State {
+            at: self.at,
+            accu: accu,
+            free: free,
+            stack: stack,
+        }
     }
 
     // Without its first `n` entries.
     pub fn pop(mut self, n: usize) -> Self
-        requires { ⌜ self .free + n ≤ 64 ⌝ }
-        ensures { λ r. ⌜ ((cells : List Cell) → view (beside cells r) ≡ restack (drop n (view (beside cells self) .stack)) (view (beside cells self))) × (r .free ≤ 64) ⌝ }
+        requires { ⌜ WellFormed self × (self .free + n ≤ 64) ⌝ }
+        ensures { λ r. ⌜ done (view r) ≡ pop n (view self) ⌝ }
+        ensures { λ r. ⌜ WellFormed r ⌝ }
     {
         self.free = self.free + n;
         self
     }
 
-    // With 0 in the accumulator, which has been stored.
-    pub fn store(self) -> Self
-        requires { ⌜ self .free ≤ 64 ⌝ }
-        ensures { λ r. ⌜ ((cells : List Cell) → view (beside cells r) ≡ load (number (pos 0)) (view (beside cells self))) × (r .free ≤ 64) ⌝ }
+    // With the accumulator as entry `n`, and 0 in the accumulator.
+    pub fn store(self, n: usize) -> Self
+        requires { ⌜ WellFormed self × (self .free + n < 64) ⌝ }
+        ensures { λ r. ⌜ done (view r) ≡ store n (view self) ⌝ }
+        ensures { λ r. ⌜ WellFormed r ⌝ }
     {
-        self.load(cells::number(0))
+        let entry = self.free + n;
+        let accu = self.accu;
+        let mut stack = self.stack;
+        stack[entry] = accu;
+        let zero = cells::number(0);
+        State {
+            at: self.at,
+            accu: zero,
+            free: self.free,
+            stack: stack,
+        }
     }
 
     // With `c` in the accumulator.
-    pub fn load(mut self, c: Cell) -> Self
-        requires { ⌜ self .free ≤ 64 ⌝ }
-        ensures { λ r. ⌜ ((cells : List Cell) → view (beside cells r) ≡ load c (view (beside cells self))) × (r .free ≤ 64) ⌝ }
+    pub fn load(self, c: Cell) -> Self
+        requires { ⌜ WellFormed self ⌝ }
+        ensures { λ r. ⌜ view r ≡ load c (view self) ⌝ }
+        ensures { λ r. ⌜ WellFormed r ⌝ }
     {
-        self.accu = c;
-        self
+        let stack = self.stack;
+        State {
+            at: self.at,
+            accu: c,
+            free: self.free,
+            stack: stack,
+        }
     }
 
     // At the next address.
     pub fn advance(mut self) -> Self
-        requires { ⌜ (self .at < 65536) × (self .free ≤ 64) ⌝ }
-        ensures { λ r. ⌜ ((cells : List Cell) → view (beside cells r) ≡ advance (view (beside cells self))) × (r .free ≤ 64) ⌝ }
+        requires { ⌜ WellFormed self × (self .at < 65536) ⌝ }
+        ensures { λ r. ⌜ view r ≡ advance (view self) ⌝ }
+        ensures { λ r. ⌜ WellFormed r ⌝ }
     {
         self.at = self.at + 1;
         self
@@ -68,8 +93,9 @@ impl State {
 
     // At the address `place`.
     pub fn jump(mut self, place: usize) -> Self
-        requires { ⌜ self .free ≤ 64 ⌝ }
-        ensures { λ r. ⌜ ((cells : List Cell) → view (beside cells r) ≡ jump place (view (beside cells self))) × (r .free ≤ 64) ⌝ }
+        requires { ⌜ WellFormed self ⌝ }
+        ensures { λ r. ⌜ view r ≡ jump place (view self) ⌝ }
+        ensures { λ r. ⌜ WellFormed r ⌝ }
     {
         self.at = place;
         self

@@ -5,12 +5,11 @@ use borrow.Author.Needs.{needs}
 use mir.Syntax.{w32}
 use mir.ValLaws.{toZ-ofZ}
 use Rattle.numbers.proofs.SignedLaws.{read}
-use Rattle.cells.specs.declared.Unary.the-variants.{Offset, Negate, Complement}
-use Rattle.cells.specs.Cells.{number, operate₁}
+use Rattle.cells.specs.Cells.{number}
 use Rattle.outcomes.specs.declared.Outcome.the-variants.{Gives}
 use Rattle.machine.specs.Machine.{index}
 use Rattle.instructions.specs.Columns.{operations, operationOf}
-use Rattle.outcomes.specs.Outcome.{outcome, given}
+use Rattle.outcomes.specs.Outcome.{outcome}
 use Rattle.outcomes.proofs.CodeLaws.{past, combined}
 use Rattle.outcomes.proofs.outcome_of.Statement.{statement}
 use Rattle.outcomes.proofs.outcome_of.Tie as tie
@@ -28,38 +27,11 @@ index-of-requires c κs = search needs
 number-requires : tie.Need-number-requires
 number-requires c κs = search needs
 
-operate1-requires : tie.Need-operate1-requires
-operate1-requires c κs = search needs
-
-outcome-given-requires : tie.Need-outcome-given-requires
-outcome-given-requires c κs = search needs
-
-operate1-requires-2 : tie.Need-operate1-requires-2
-operate1-requires-2 c κs = search needs
-
-outcome-given-requires-2 : tie.Need-outcome-given-requires-2
-outcome-given-requires-2 c κs = search needs
-
-operate1-requires-3 : tie.Need-operate1-requires-3
-operate1-requires-3 c κs = search needs
-
-outcome-given-requires-3 : tie.Need-outcome-given-requires-3
-outcome-given-requires-3 c κs = search needs
-
 outcome-branching-requires : tie.Need-outcome-branching-requires
 outcome-branching-requires c κs = search needs
 
 outcome-branching-requires-2 : tie.Need-outcome-branching-requires-2
 outcome-branching-requires-2 c κs = search needs
-
-binary-of-requires : tie.Need-binary-of-requires
-binary-of-requires c κs = (past 15 _ (c .before .match .rest), c .before .before .before .pre)
-
-operate2-requires : tie.Need-operate2-requires
-operate2-requires c κs = search needs
-
-outcome-given-requires-4 : tie.Need-outcome-given-requires-4
-outcome-given-requires-4 c κs = search needs
 
 returns : tie.Need-returns
 unfolding operations operationOf outcome
@@ -95,21 +67,15 @@ returns-8 c = rw (c .before .match .keys5) (ap Gives (c .number .ensures ∙ ap 
 
 returns-9 : tie.Need-returns-9
 unfolding operations operationOf outcome
-returns-9 c =
-    let start = c .before .before .before .before in
-    rw (c .before .before .match .keys6) (c .outcome-given .ensures ∙ ap given (c .before .operate1 .ensures ∙ ap (λ i. operate₁ Offset i (start .args .a)) (same start)))
+returns-9 c = rw (c .match .keys6)
 
 returns-10 : tie.Need-returns-10
 unfolding operations operationOf outcome
-returns-10 c =
-    let start = c .before .before .before .before in
-    rw (c .before .before .match .keys7) (c .outcome-given2 .ensures ∙ ap given (c .before .operate12 .ensures ∙ ap (λ i. operate₁ Negate i (start .args .a)) (same start)))
+returns-10 c = rw (c .match .keys7)
 
 returns-11 : tie.Need-returns-11
 unfolding operations operationOf outcome
-returns-11 c =
-    let start = c .before .before .before .before in
-    rw (c .before .before .match .keys8) (c .outcome-given3 .ensures ∙ ap given (c .before .operate13 .ensures ∙ ap (λ i. operate₁ Complement i (start .args .a)) (same start)))
+returns-11 c = rw (c .match .keys8)
 
 returns-12 : tie.Need-returns-12
 unfolding operations operationOf outcome
@@ -149,7 +115,7 @@ returns-20 c = rw (c .match .keys15)
 
 returns-21 : tie.Need-returns-21
 unfolding outcome
-returns-21 c = rw (← c .before .before .binary-of .ensures, lt-ltb _ _ (c .before .before .before .if6 .taken)) (c .outcome-given4 .ensures ∙ ap given (c .before .operate2 .ensures))
+returns-21 c = rw (combined _ (past 15 _ (c .before .match .rest)) (c .before .before .before .pre) .1, lt-ltb _ _ (c .if6 .taken))
 
 returns-22 : tie.Need-returns-22
 unfolding outcome
@@ -161,17 +127,8 @@ outcome-of-spec =
     (tie.spec
     index-of-requires
     number-requires
-    operate1-requires
-    outcome-given-requires
-    operate1-requires-2
-    outcome-given-requires-2
-    operate1-requires-3
-    outcome-given-requires-3
     outcome-branching-requires
     outcome-branching-requires-2
-    binary-of-requires
-    operate2-requires
-    outcome-given-requires-4
     returns
     returns-2
     returns-3

@@ -1,13 +1,13 @@
 -- `states::State::jump` meets its contract. Assumes nothing.
 use mathlib.Core.Path.{refl}
-use borrow.Author.Needs.{needs}
 use Rattle.machine.specs.Machine.{jump}
+use borrow.Author.Needs.{needs}
 use Rattle.states.proofs.State.jump.Statement.{statement}
 use Rattle.states.proofs.State.jump.Tie as tie
 
 returns : tie.Need-returns
 unfolding jump
-returns c = (λ cells. refl, search needs)
+returns c = (refl, record { free = c .pre .free; places = c .pre .places })
 
 pub jump-spec : {M : Type 1} → statement M
 jump-spec = tie.close (tie.spec returns)

@@ -1,13 +1,13 @@
 -- `states::State::load` meets its contract. Assumes nothing.
 use mathlib.Core.Path.{refl}
-use borrow.Author.Needs.{needs}
 use Rattle.machine.specs.Machine.{load}
+use borrow.Author.Needs.{needs}
 use Rattle.states.proofs.State.load.Statement.{statement}
 use Rattle.states.proofs.State.load.Tie as tie
 
 returns : tie.Need-returns
 unfolding load
-returns c = (λ cells. refl, search needs)
+returns c = (refl, record { free = c .before .pre .free; places = c .before .pre .places })
 
 pub load-spec : {M : Type 1} → statement M
 load-spec = tie.close (tie.spec returns)

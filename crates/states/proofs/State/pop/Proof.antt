@@ -1,7 +1,6 @@
 -- `states::State::pop` meets its contract. Assumes nothing.
-use lib.Seq.{drop-drop}
 use borrow.Author.Needs.{needs}
-use Rattle.machine.specs.Machine.{restack}
+use Rattle.states.proofs.StateLaws.{pop-is}
 use Rattle.states.proofs.State.pop.Statement.{statement}
 use Rattle.states.proofs.State.pop.Tie as tie
 
@@ -9,8 +8,7 @@ add-self : tie.Need-add-self
 add-self c = search needs
 
 returns : tie.Need-returns
-unfolding restack
-returns c = (λ cells. simp drop-drop, search needs)
+returns c = let start = c .before in (pop-is (start .args .self) (start .pre .0) (start .args .n) (start .pre .1), record { free = start .pre .1; places = start .pre .0 .places })
 
 pub pop-spec : {M : Type 1} → statement M
 pop-spec = tie.close (tie.spec add-self returns)

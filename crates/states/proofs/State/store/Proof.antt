@@ -1,21 +1,32 @@
 -- `states::State::store` meets its contract. Assumes nothing.
 use mathlib.Core.Path.{ap, _∙_}
+use Rattle.cells.specs.Try.{done}
+use Rattle.states.specs.View.{view}
 use borrow.Author.Needs.{needs}
-use Rattle.machine.specs.Machine.{load}
-use Rattle.states.specs.View.{beside, view}
+use Rattle.states.proofs.StateLaws.{stored, store-is, store-formed}
 use Rattle.states.proofs.State.store.Statement.{statement}
 use Rattle.states.proofs.State.store.Tie as tie
+
+add-entry : tie.Need-add-entry
+add-entry c = search needs
+
+mul-stack : tie.Need-mul-stack
+mul-stack c = search needs
+
+array-set-from-stack : tie.Need-array-set-from-stack
+array-set-from-stack c = search needs
 
 number-requires : tie.Need-number-requires
 number-requires c κs = search needs
 
-load-requires : tie.Need-load-requires
-load-requires c κs = search needs
-
 returns : tie.Need-returns
 returns c =
-    let s = c .before .before .args .self in
-    (λ cells. c .load .ensures .0 cells ∙ ap (λ a. load a (view (beside cells s))) (c .before .number .ensures), c .load .ensures .1)
+    let start = c .before .before .before .before in
+    let s = start .args .self in
+    let formed = store-formed s (start .pre .0) (start .args .n) in (
+      ap (λ a. done (view (record { at = s .at; accu = a; free = s .free; stack = stored (start .args .n) s .stack }))) (c .number .ensures) ∙ store-is s (start .pre .0) (start .args .n) (start .pre .1),
+      record { free = formed .free; places = formed .places },
+    )
 
 pub store-spec : {M : Type 1} → statement M
-store-spec = tie.close (tie.spec number-requires load-requires returns)
+store-spec = tie.close (tie.spec add-entry mul-stack array-set-from-stack number-requires returns)

@@ -1,4 +1,4 @@
--- `outcomes::place_of` meets its contract: `i` is the place of the entry. Assumes nothing.
+-- `outcomes::entry_place` meets its contract: `i` is the place of the entry. Assumes nothing.
 use mathlib.Core.Path.{_≡_}
 use mathlib.Core.Logic.{⊎-elim}
 use Prim.Native.Nat.{ℕ, _+_}
@@ -7,8 +7,8 @@ use borrow.Author.Needs.{needs}
 use Rattle.instructions.specs.Columns.{operations, operationOf}
 use Rattle.outcomes.specs.Outcome.{entryOf}
 use Rattle.outcomes.proofs.CodeLaws.{entry-top}
-use Rattle.outcomes.proofs.place_of.Statement.{statement}
-use Rattle.outcomes.proofs.place_of.Tie as tie
+use Rattle.outcomes.proofs.entry_place.Statement.{statement}
+use Rattle.outcomes.proofs.entry_place.Tie as tie
 
 entry-one : (k n : ℕ) → k ≡ 1 → entryOf (operationOf k) n ≡ n
 unfolding operations operationOf entryOf
@@ -32,5 +32,5 @@ returns c = (c .if2 .taken, λ h. place (c .before))
 returns-2 : tie.Need-returns-2
 returns-2 c = (omega arith, λ h. omega (arith, place (c .before)))
 
-pub place-of-spec : {M : Type 1} → statement M
-place-of-spec = tie.close (tie.spec add-i returns returns-2)
+pub entry-place-spec : {M : Type 1} → statement M
+entry-place-spec = tie.close (tie.spec add-i returns returns-2)

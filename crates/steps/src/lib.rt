@@ -1,0 +1,156 @@
+// One step of the machine, by value: "A step takes the machine's state and hands back the next one." The meaning is in specs/.
+use cells::Cell;
+use cells::Operand;
+use outcomes::Outcome;
+use states::Slot;
+use states::State;
+use states::code::Fetched;
+ghost use mathlib.Core.Path.{_≡_};
+ghost use Prim.Native.Nat.{_+_, _≤_};
+ghost use lib.ListN.{length};
+ghost use Rattle.machine.specs.Machine.{step, takesAnswer};
+ghost use Rattle.states.specs.Columns.{codeOf, Sized};
+ghost use Rattle.states.specs.View.{WellFormed, Fits, whole};
+ghost use Rattle.steps.specs.Step.{nextOf};
+
+// What a way costs.
+pub struct Price {
+    pub cycles: u32,
+    pub words: u32,
+}
+
+// What comes next: nothing where the step is stuck; STOP; one way; or the two ways of an unknown branch, of which the one not taken is at
+// the state's address and the one taken at the address given.
+pub enum Next {
+    Stuck,
+    Stops(Price),
+    Goes(Price),
+    Opens(Price, usize, Price),
+}
+
+// What a step gives: what comes next, with the state and the blocks, and whether an answer was taken.
+pub struct Stepped {
+    pub next: Next,
+    pub calls: bool,
+    pub state: State,
+    pub blocks: [Cell; 128],
+}
+
+// One step from `state` with `blocks`, where a C_CALL gets `answer`.
+pub fn step(
+    codes: &[u8],
+    operands: &[i32],
+    cycles: &[u32],
+    words: &[u32],
+    sizes: &[u8],
+    first: usize,
+    answer: Cell,
+    mut state: State,
+    mut blocks: [Cell; 128],
+) -> Stepped
+    requires { ⌜ Sized (now codes) (now operands) (now cycles) (now words) × (first + length (now codes) ≤ 65536) × WellFormed state × Fits (now sizes) blocks ⌝ }
+    ensures { λ r. ⌜ nextOf (r .next) (whole (now (sizes .entry)) (r .blocks) (r .state)) ≡ step (codeOf first (now (codes .entry)) (now (operands .entry)) (now (cycles .entry)) (now (words .entry))) answer (whole (now (sizes .entry)) blocks state) ⌝ }
+    ensures { λ r. ⌜ r .calls ≡ takesAnswer (codeOf first (now (codes .entry)) (now (operands .entry)) (now (cycles .entry)) (now (words .entry))) (whole (now (sizes .entry)) blocks state) ⌝ }
+    ensures { λ r. ⌜ WellFormed (r .state) × Fits (now (sizes .entry)) (r .blocks) ⌝ }
+{
+    let fetched = states::code::fetch(codes, operands, cycles, words, first, state.at);
+    let Fetched::Is(line) = fetched else {
+        return Stepped {
+            next: Next::Stuck,
+            calls: false,
+            state: state,
+            blocks: blocks,
+        };
+    };
+    let calls = line.code == 13;
+    if line.pushes {
+        if state.free == 0 {
+            return Stepped {
+                next: Next::Stuck,
+                calls: calls,
+                state: state,
+                blocks: blocks,
+            };
+        }
+        state = state.push();
+    }
+    let n = outcomes::index_of(line.operand);
+    let free = state.free;
+    let i = outcomes::entry_place(line.code, n, free);
+    let k = outcomes::drops_of(line.code, n);
+    let price = Price {
+        cycles: line.cycles,
+        words: line.words,
+    };
+    let out = outcomes::outcome_of(
+        line.code,
+        line.operand,
+        answer,
+        64 - free,
+        state.accu,
+        state.stack[i],
+    );
+    let mut next = Next::Goes(price);
+    match out {
+        Outcome::Gives(c) => {
+            state = state.pop(k).load(c).advance();
+        }
+        Outcome::Operates => {
+            let given = outcomes::operated(line.code, line.operand, state.accu, state.stack[i]);
+            match given {
+                Operand::Is(c) => {
+                    state = state.pop(k).load(c).advance();
+                }
+                Operand::Stuck => {
+                    next = Next::Stuck;
+                }
+            }
+        }
+        Outcome::Stores => {
+            state = state.store(n).advance();
+        }
+        Outcome::Sets(c) => {
+            let field = states::slot_of(sizes, state.accu, n);
+            match field {
+                Slot::At(j) => {
+                    blocks[j] = c;
+                    let zero = cells::number(0);
+                    state = state.pop(1).load(zero).advance();
+                }
+                Slot::Lacks => {
+                    next = Next::Stuck;
+                }
+            }
+        }
+        Outcome::Gets => {
+            let field = states::slot_of(sizes, state.accu, n);
+            match field {
+                Slot::At(j) => {
+                    state = state.load(blocks[j]).advance();
+                }
+                Slot::Lacks => {
+                    next = Next::Stuck;
+                }
+            }
+        }
+        Outcome::Goes => {
+            state = state.jump(n);
+        }
+        Outcome::Opens => {
+            state = state.advance();
+            next = Next::Opens(price, n, price);
+        }
+        Outcome::Halts => {
+            next = Next::Stops(price);
+        }
+        Outcome::Stuck => {
+            next = Next::Stuck;
+        }
+    }
+    Stepped {
+        next: next,
+        calls: calls,
+        state: state,
+        blocks: blocks,
+    }
+}
