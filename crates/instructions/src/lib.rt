@@ -2,7 +2,7 @@
 ghost use mathlib.Core.Path.{_≡_};
 ghost use Prim.Native.Nat.{_<_};
 ghost use Rattle.text.specs.Text.{find};
-ghost use Rattle.instructions.specs.Kinds.{kindNames};
+ghost use Rattle.instructions.specs.Kinds.{kindNames, calls};
 ghost use Rattle.instructions.specs.Columns.{kindAt, argumentCode, lowest, highest, operationCode};
 use cells::Binary;
 use cells::Unary;
@@ -75,6 +75,14 @@ pub fn argument_at(k: usize) -> Argument
         2 => Argument::Target,
         _ => Argument::Primitive,
     }
+}
+
+// Whether a kind calls a primitive.
+pub fn calls_at(k: usize) -> bool
+    requires { ⌜ k < 61 ⌝ }
+    ensures { λ r. ⌜ r ≡ calls (kindAt k .argument) ⌝ }
+{
+    columns::ARGUMENTS[k] == 3
 }
 
 // Whether a kind pushes first.

@@ -5,7 +5,7 @@ use mathlib.Core.Bool.{Bool, true, false, cond}
 use mathlib.Core.List.{List, [], _∷_, _++_, map}
 use native.Mathlib.Omega.{arith}
 use native.Mathlib.Numerals.{add-one}
-use lib.Dec.{eqb}
+use lib.Dec.{leb}
 use lib.IntN.{ℤ}
 use lib.ListN.{length, getD, take, set, length-map, List·getD-eq-default}
 use lib.Seq.{take-suc, take-suc-set, length-take-le}
@@ -22,7 +22,6 @@ use Rattle.instructions.specs.declared.Operation.{Operation}
 use Rattle.instructions.specs.declared.Operation.the-variants.{Nothing, Access, Drop, Assign, Constant, GetField, SetField, Branch, BranchIf, BranchIfNot, Call, Stop, Alter, Combine}
 use Rattle.instructions.specs.Kinds.{Kind, kinds, kindNames, operand, calls, addresses}
 use Rattle.instructions.specs.Columns.{kindAt, operationCode, unaryCode, binaryCode, comparisonCode, operations, operationOf}
-use Rattle.instructions.proofs.ColumnLaws.{column-at, natural-at}
 use Rattle.machine.specs.Machine.{Price, Instruction, instruction, cost}
 use Rattle.states.specs.Columns.{line, lineOf, linesOf}
 use Rattle.routine.specs.Layout.{list}
@@ -90,26 +89,25 @@ operation-small (Combine (Compare AtMost)) = omega arith
 operation-small (Combine (Compare Greater)) = omega arith
 operation-small (Combine (Compare AtLeast)) = omega arith
 
--- the kinds that call are those with the code 13
-pub calls-code : (k : ℕ) → k < 61 → eqb (operationCode (kindAt k .operation)) 13 ≡ calls (kindAt k .argument)
-unfolding kinds operationCode unaryCode binaryCode comparisonCode
-calls-code k h =
-    ap (λ (n : ℕ). eqb n 13) (sym (natural-at (λ (r : Kind). operationCode (r .operation)) k h))
-    ∙ column-at (λ (r : Kind). operationCode (r .operation)) (λ (n : ℕ). eqb n 13) (λ (r : Kind). calls (r .argument)) 0 refl k h
-
 -- an entry of the column of codes
 
-pub coded-pushes : (k : Kind) (n : ℕ) → n ≡ operationCode (k .operation) → k .pushes ≡ true → Coded k (n + 32)
-coded-pushes k n e p =
-    let s : n ≤ 22 = omega (arith, operation-small (k .operation)) in
-    let m : (n + 32) % 32 ≡ n = omega arith in
-    record { code = m ∙ e; pushes = le-leb 32 (n + 32) (omega arith) ∙ sym p }
+pub cond-most : (b : Bool) {n x : ℕ} → x ≡ cond b n 0 → x ≤ n
+cond-most true e = omega arith
+cond-most false e = omega arith
 
-pub coded-stays : (k : Kind) (n : ℕ) → n ≡ operationCode (k .operation) → k .pushes ≡ false → Coded k n
-coded-stays k n e p =
-    let s : n ≤ 22 = omega (arith, operation-small (k .operation)) in
-    let m : n % 32 ≡ n = omega arith in
-    record { code = m ∙ e; pushes = lt-leb 32 n (omega arith) ∙ sym p }
+entry-parts : (n : ℕ) → n ≤ 22 → (p c : Bool) →
+    ((n + cond p 32 0 + cond c 64 0) % 32 ≡ n) × (leb 32 ((n + cond p 32 0 + cond c 64 0) % 64) ≡ p) × (leb 64 (n + cond p 32 0 + cond c 64 0) ≡ c)
+entry-parts n h true true = (omega arith, le-leb 32 ((n + 32 + 64) % 64) (omega arith), le-leb 64 (n + 32 + 64) (omega arith))
+entry-parts n h true false = (omega arith, le-leb 32 ((n + 32 + 0) % 64) (omega arith), lt-leb 64 (n + 32 + 0) (omega arith))
+entry-parts n h false true = (omega arith, lt-leb 32 ((n + 0 + 64) % 64) (omega arith), le-leb 64 (n + 0 + 64) (omega arith))
+entry-parts n h false false = (omega arith, lt-leb 32 ((n + 0 + 0) % 64) (omega arith), lt-leb 64 (n + 0 + 0) (omega arith))
+
+pub coded : (k : Kind) {n x y : ℕ} {p c : Bool} → n ≡ operationCode (k .operation) → p ≡ k .pushes → x ≡ cond p 32 0 → c ≡ calls (k .argument) → y ≡ cond c 64 0
+    → Coded k (n + x + y)
+coded k {n} {x} {y} {p} {c} e p-is x-is c-is y-is =
+    let h : n ≤ 22 = omega (arith, operation-small (k .operation)) in
+    let r = entry-parts n h p c in
+    rw (x-is, y-is) (record { code = r .0 ∙ e; pushes = r .1 ∙ p-is; calls = r .2 ∙ c-is })
 
 -- a price, with the primitive's or without
 
@@ -165,7 +163,6 @@ priced p (Within r) i w = alone (naturalAt cycleCounts (p .kindCycles) i) (natur
 
 module _ (p : PriceLines) (text : List ℕ) (k : ℕ) (b : ℕ) (i : ℤ) (c w : ℕ) where
   pub record Read : Type 0 where
-    pub kind : k < 61
     pub coded : Coded (kindAt k) b
     pub operand : (ps : List (List ℕ)) → i ≡ operand (kindAt k) (argumentValue ps (arg text) (kindAt k .argument))
     pub cycles : c ≡ naturalAt cycleCounts (p .kindCycles) (find (op text) (list (p .kinds)))
@@ -177,10 +174,9 @@ module _ (p : PriceLines) (text : List ℕ) (k : ℕ) (b : ℕ) (i : ℤ) (c w :
   unfolding instructionAs instruction
   entry-as r =
       let o : operationOf (b % 32) ≡ kindAt k .operation = ap operationOf (r .coded .code) ∙ operation-is (kindAt k .operation) in
-      let t : eqb (b % 32) 13 ≡ calls (kindAt k .argument) = ap (λ (n : ℕ). eqb n 13) (r .coded .code) ∙ calls-code k (r .kind) in
       let s : _≡_ {A = Price} (record { cycles = c; words = w }) (cost (pricesIn p) (kindAt k .argument) (find (op text) (list (p .kinds))) (argumentValue (list (p .primitives)) (arg text) (kindAt k .argument))) =
       (λ j. record { cycles = r .cycles j; words = r .words j }) ∙ priced p (kindAt k .argument) (find (op text) (list (p .kinds))) (arg text) in
-      λ j. record { pushes = r .coded .pushes j; operation = o j; operand = r .operand (list (p .primitives)) j; calls = t j; price = s j }
+      λ j. record { pushes = r .coded .pushes j; operation = o j; operand = r .operand (list (p .primitives)) j; calls = r .coded .calls j; price = s j }
 
   pub entry-is : Read → kindAt k ≡ kindAt (find (op text) kindNames) → lineOf (line b i c w) ≡ instructionIn p text
   unfolding instructionIn

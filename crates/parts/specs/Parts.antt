@@ -10,7 +10,7 @@ use Rattle.text.specs.Text.{find}
 use Rattle.numbers.specs.declared.Range.{Range}
 use Rattle.cells.specs.declared.Cell.{Cell}
 use Rattle.cells.specs.Cells.{number}
-use Rattle.instructions.specs.Kinds.{Kind, kindNames}
+use Rattle.instructions.specs.Kinds.{Kind, kindNames, calls}
 use Rattle.instructions.specs.Columns.{kindAt, operationCode}
 use Rattle.machine.specs.Machine.{State, Price, Prices, Instruction, instruction, cost}
 use Rattle.routine.specs.Layout.{list}
@@ -52,10 +52,11 @@ instructionAs k p text =
 unfoldable pub instructionIn : PriceLines → List ℕ → Instruction
 instructionIn p text = instructionAs (kindAt (find (op text) kindNames)) p text
 
--- an entry b of the column of codes for kind k: its operation's code, and 32 more where it pushes first
+-- an entry b of the column of codes for kind k: its operation's code, 32 more where it pushes first, and 64 more where it calls a primitive
 pub record Coded (k : Kind) (b : ℕ) : Type 0 where
   pub code : b % 32 ≡ operationCode (k .operation)
-  pub pushes : leb 32 b ≡ k .pushes
+  pub pushes : leb 32 (b % 64) ≡ k .pushes
+  pub calls : leb 64 b ≡ calls (k .argument)
 
 -- the cells of a line
 unfoldable pub cellsIn : List ℕ → List Cell

@@ -12,7 +12,7 @@ ghost use lib.ListN.{length, getD, take, drop};
 ghost use Rattle.text.specs.Text.{bytes, equals, find, lines};
 ghost use Rattle.numbers.specs.Numbers.{IsNumber, range, numbers};
 ghost use Rattle.cells.specs.Cells.{number};
-ghost use Rattle.instructions.specs.Kinds.{kindNames, operand, calls};
+ghost use Rattle.instructions.specs.Kinds.{kindNames, operand};
 ghost use Rattle.instructions.specs.Columns.{kindAt};
 ghost use Rattle.states.specs.Columns.{line, lineOf, linesOf};
 ghost use Rattle.states.specs.View.{beside, view, blocksOf};
@@ -164,17 +164,22 @@ fn kind_of(w: &[u8]) -> usize
     if k < 61 { k } else { 60 }
 }
 
-// The code of a kind's operation, and 32 more where the kind pushes first.
+// n where b is true, else 0.
+fn where_true(b: bool, n: u8) -> u8
+    ensures { λ r. ⌜ r ≡ cond b n 0 ⌝ }
+{
+    if b { n } else { 0 }
+}
+
+// The code of a kind's operation, 32 more where the kind pushes first, and 64 more where it calls a primitive.
 fn code_of(k: usize) -> u8
     requires { ⌜ k < 61 ⌝ }
     ensures { λ r. ⌜ Coded (kindAt k) r ⌝ }
 {
-    let code = instructions::operation_at(k);
-    if instructions::pushes_at(k) {
-        code + 32
-    } else {
-        code
-    }
+    let operation = instructions::operation_at(k);
+    let pushed = where_true(instructions::pushes_at(k), 32);
+    let called = where_true(instructions::calls_at(k), 64);
+    operation + pushed + called
 }
 
 // The operand of kind k with the argument w.
@@ -194,14 +199,6 @@ fn operand_of(k: usize, w: &[u8]) -> i32
         Argument::Primitive => instructions::fixed_at(k),
         Argument::Within(_) => number_of(values::number_range(), w),
     }
-}
-
-// Whether kind k calls a primitive.
-fn calls_at(k: usize) -> bool
-    requires { ⌜ k < 61 ⌝ }
-    ensures { λ r. ⌜ r ≡ calls (kindAt k .argument) ⌝ }
-{
-    instructions::operation_at(k) == 13
 }
 
 // The price at place i of a line of the kinds' prices, and where the kind calls, that at place j of a line of the primitives'.
@@ -241,7 +238,7 @@ pub fn entry_of(
     let op = text::word_at(text, 1);
     let arg = text::word_at(text, 2);
     let k = kind_of(op);
-    let called = calls_at(k);
+    let called = instructions::calls_at(k);
     let i = place_of(kinds, op);
     let j = place_of(primitives, arg);
     let code = code_of(k);

@@ -5,7 +5,6 @@ use states::code::Line;
 ghost use mathlib.Core.Path.{_≡_};
 ghost use mathlib.Core.List.{List};
 ghost use Prim.Native.Nat.{ℕ, _+_, _<_, _≤_};
-ghost use lib.Dec.{eqb};
 ghost use lib.IntN.{ℤ};
 ghost use lib.ListN.{drop};
 ghost use Rattle.cells.specs.Try.{done};
@@ -38,12 +37,12 @@ pub fn answer_at(answers: &[i32], taken: usize) -> Cell
     cells::number(answers[taken])
 }
 
-// The answers asked for after a line with the operation's code.
-fn taken_after(code: u8, taken: usize) -> usize
+// The answers asked for after a line that calls or not.
+fn taken_after(calls: bool, taken: usize) -> usize
     requires { ⌜ taken < 1000000 ⌝ }
-    ensures { λ r. ⌜ ((answers : List ℤ) → drop r answers ≡ remaining (eqb code 13) (drop taken answers)) × (r ≤ taken + 1) ⌝ }
+    ensures { λ r. ⌜ ((answers : List ℤ) → drop r answers ≡ remaining calls (drop taken answers)) × (r ≤ taken + 1) ⌝ }
 {
-    if code == 13 { taken + 1 } else { taken }
+    if calls { taken + 1 } else { taken }
 }
 
 // After a step at the line that leads to the state `t` with `stack` and `blocks`.
@@ -51,7 +50,7 @@ pub fn gone(line: Line, t: State, stack: [Cell; 64], blocks: [Cell; 128], r: Pro
     requires { ⌜ Counted r × (r .steps < 1000000) × (t .free ≤ 64) ⌝ }
     ensures { λ q. ⌜ ((ns : List ℕ) → Fits ns blocks → Moves ns r (lineOf line .calls) (done (goes (lineOf line .price) (whole ns blocks (beside stack t)))) q) ⌝ }
 {
-    let taken = taken_after(line.code, r.taken);
+    let taken = taken_after(line.calls, r.taken);
     let h = 64 - t.free;
     let depth = if r.depth < h { h } else { r.depth };
     Progress {
@@ -72,7 +71,7 @@ pub fn halted(line: Line, r: Progress) -> Progress
     requires { ⌜ Counted r × (r .steps < 1000000) ⌝ }
     ensures { λ q. ⌜ ((ns : List ℕ) → Sound ns r → Moves ns r (lineOf line .calls) (done (stops (lineOf line .price))) q) ⌝ }
 {
-    let taken = taken_after(line.code, r.taken);
+    let taken = taken_after(line.calls, r.taken);
     let spent = r.cycles + (line.cycles as u64);
     let state = r.state;
     let stack = r.stack;

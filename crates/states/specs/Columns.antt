@@ -2,7 +2,7 @@
 use mathlib.Core.Path.{_≡_}
 use mathlib.Core.List.{List, [], _∷_}
 use Prim.Native.Nat.{ℕ, _%_, _≤_}
-use lib.Dec.{eqb, leb}
+use lib.Dec.{leb}
 use lib.IntN.{ℤ, pos}
 use lib.ListN.{length, getD, drop}
 use Rattle.cells.specs.Try.{Try, stuck, done}
@@ -12,19 +12,19 @@ use Rattle.states.specs.declared.code.Fetched.the-variants.{Is, Outside}
 use Rattle.machine.specs.Machine.{Instruction, Code}
 use Rattle.instructions.specs.Columns.{operationOf}
 
--- a line by the code of its operation; 13 is that of a call
+-- a line by the code of its operation
 abbrev pub lineOf : Line → Instruction
 lineOf l = record {
   pushes = l .pushes;
   operation = operationOf (l .code);
   operand = l .operand;
-  calls = eqb (l .code) 13;
+  calls = l .calls;
   price = record { cycles = l .cycles; words = l .words };
 }
 
--- an entry b of the column of codes is an operation's code, and 32 more where the line pushes first
+-- an entry b of the column of codes is an operation's code, 32 more where the line pushes first, and 64 more where it calls a primitive
 abbrev pub line : ℕ → ℤ → ℕ → ℕ → Line
-line b i c w = record { code = b % 32; pushes = leb 32 b; operand = i; cycles = c; words = w }
+line b i c w = record { code = b % 32; pushes = leb 32 (b % 64); calls = leb 64 b; operand = i; cycles = c; words = w }
 
 -- the instructions of the columns, one entry of each at a time
 unfoldable pub linesOf : List ℕ → List ℤ → List ℕ → List ℕ → List Instruction

@@ -3,10 +3,11 @@ ghost use mathlib.Core.Path.{_≡_};
 ghost use Rattle.machine.specs.Machine.{fetch};
 ghost use Rattle.states.specs.Columns.{codeOf, ofFetched, Sized, Known};
 
-// A line: the code of its operation, whether it pushes first, its operand, what it costs.
+// A line: the code of its operation, whether it pushes first, whether it calls a primitive, its operand, what it costs.
 pub struct Line {
     pub code: u8,
     pub pushes: bool,
+    pub calls: bool,
     pub operand: i32,
     pub cycles: u32,
     pub words: u32,
@@ -17,7 +18,8 @@ pub enum Fetched {
     Outside,
 }
 
-// The line at an address. An entry of `codes` is an operation's code, and 32 more where the line pushes first.
+// The line at an address. An entry of `codes` is an operation's code, 32 more where the line pushes first, and 64 more where it
+// calls a primitive.
 pub fn fetch(
     codes: &[u8],
     operands: &[i32],
@@ -40,7 +42,8 @@ pub fn fetch(
     let byte = codes[j];
     Fetched::Is(Line {
         code: byte % 32,
-        pushes: 32 <= byte,
+        pushes: 32 <= byte % 64,
+        calls: 64 <= byte,
         operand: operands[j],
         cycles: cycles[j],
         words: words[j],

@@ -63,7 +63,6 @@ returns c =
     let t = c .before .before .before .before .before .before .calls-at .ensures in
     let r : Read p text k _ _ _ _ =
     record {
-      kind = kind .kind-of .ensures .1;
       coded = c .before .before .before .code-of .ensures;
       operand = λ ps. toZ-ofZ w32 (c .before .before .operand-of .result) (search needs) ∙ c .before .before .operand-of .ensures ps ∙ ap (λ (w : List ℕ). operand (kindAt k) (argumentValue ps w (kindAt k .argument))) a;
       cycles = same-price cycleCounts (p .kindCycles) (p .primitiveCycles) i t j (c .before .price-of .ensures);

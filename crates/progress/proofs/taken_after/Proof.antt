@@ -1,5 +1,4 @@
 -- `progress::taken_after` meets its contract. Assumes nothing.
-use borrow.Author.Tests.{eq-eqb, ne-eqb}
 use borrow.Author.Needs.{needs}
 use Rattle.progress.proofs.ProgressLaws.{takes-one, takes-none}
 use Rattle.progress.proofs.taken_after.Statement.{statement}
@@ -9,10 +8,10 @@ add-result : tie.Need-add-result
 add-result c = search needs
 
 returns : tie.Need-returns
-returns c = (λ answers. rw (eq-eqb _ _ (c .if1 .taken)) (takes-one answers (c .before .args .taken)), search needs)
+returns c = (λ answers. rw (c .if1 .taken) (takes-one answers (c .before .args .taken)), search needs)
 
 returns-2 : tie.Need-returns-2
-returns-2 c = (λ answers. rw (ne-eqb _ _ (c .if1 .left)) (takes-none _), search needs)
+returns-2 c = (λ answers. rw (c .if1 .left) (takes-none _), search needs)
 
 pub taken-after-spec : {M : Type 1} → statement M
 taken-after-spec = tie.close (tie.spec add-result returns returns-2)

@@ -22,25 +22,25 @@ shared-slice-read-byte c = search needs
 mul-t10 : tie.Need-mul-t10
 mul-t10 c = search needs
 
-shared-slice-copy-out-t14 : tie.Need-shared-slice-copy-out-t14
-shared-slice-copy-out-t14 c = search needs
+shared-slice-copy-out-t16 : tie.Need-shared-slice-copy-out-t16
+shared-slice-copy-out-t16 c = search needs
 
-mul-t15 : tie.Need-mul-t15
-mul-t15 c = search needs
+mul-t17 : tie.Need-mul-t17
+mul-t17 c = search needs
 
-shared-slice-read-t17 : tie.Need-shared-slice-read-t17
-shared-slice-read-t17 c = search needs
+shared-slice-read-t19 : tie.Need-shared-slice-read-t19
+shared-slice-read-t19 c = search needs
 
-mul-t18 : tie.Need-mul-t18
-mul-t18 c = search needs
+mul-t20 : tie.Need-mul-t20
+mul-t20 c = search needs
 
-shared-slice-read-t20 : tie.Need-shared-slice-read-t20
-shared-slice-read-t20 c = search needs
+shared-slice-read-t22 : tie.Need-shared-slice-read-t22
+shared-slice-read-t22 c = search needs
 
 returns-3 : tie.Need-returns-3
 returns-3 c =
     let a = c .before .before .before .before .before .before .args in
-    let f : SFits w32 (getD (a .operands .now) (a .at - a .first) (pos 0)) = record { sfits = search (needs, c .before .before .t14 .given) } in
+    let f : SFits w32 (getD (a .operands .now) (a .at - a .first) (pos 0)) = record { sfits = search (needs, c .before .before .t16 .given) } in
     (rw (toZ-ofZ w32 _ f) (fetch-in _ _ _ _ _ _ (search needs) (search needs)), c .before .before .before .before .before .before .pre .codes _)
 
 pub fetch-spec : {M : Type 1} → statement M
@@ -51,9 +51,9 @@ fetch-spec =
     returns-2
     shared-slice-read-byte
     mul-t10
-    shared-slice-copy-out-t14
-    mul-t15
-    shared-slice-read-t17
-    mul-t18
-    shared-slice-read-t20
+    shared-slice-copy-out-t16
+    mul-t17
+    shared-slice-read-t19
+    mul-t20
+    shared-slice-read-t22
     returns-3)
