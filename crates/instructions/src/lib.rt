@@ -8,6 +8,7 @@ use cells::Binary;
 use cells::Unary;
 use numbers::Range;
 
+mod arguments;
 mod columns;
 pub mod operations;
 
@@ -67,12 +68,12 @@ pub fn argument_at(k: usize) -> Argument
     ensures { λ r. ⌜ r ≡ kindAt k .argument ⌝ }
 {
     match argument_code_at(k) {
-        0 => Argument::Absent,
-        1 => Argument::Within(Range {
+        arguments::ABSENT => Argument::Absent,
+        arguments::WITHIN => Argument::Within(Range {
             low: low_at(k),
             high: high_at(k),
         }),
-        2 => Argument::Target,
+        arguments::TARGET => Argument::Target,
         _ => Argument::Primitive,
     }
 }
@@ -82,7 +83,7 @@ pub fn calls_at(k: usize) -> bool
     requires { ⌜ k < 61 ⌝ }
     ensures { λ r. ⌜ r ≡ calls (kindAt k .argument) ⌝ }
 {
-    columns::ARGUMENTS[k] == 3
+    columns::ARGUMENTS[k] == arguments::PRIMITIVE
 }
 
 // Whether a kind pushes first.
