@@ -1,3 +1,4 @@
 pub mod OutcomeLaws
 pub mod CodeLaws
 pub mod TurnLaws
+pub mod ArmLaws

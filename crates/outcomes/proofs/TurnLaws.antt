@@ -107,6 +107,12 @@ prepare-before true s u e = go (push s) refl
     go stuck g = let z : stuck ≡ done u = ap (λ m. m >>= λ t. done (advance t)) (sym g) ∙ sym (push-advance s) ∙ e in let y : _≡_ {A = ℕ} 0 1 = cc in absurd (omega arith)
     go (done t) g = (t, g, (let z : done (advance t) ≡ done u = ap (λ m. m >>= λ t. done (advance t)) (sym g) ∙ sym (push-advance s) ∙ e in cc))
 
+-- and the other way round
+pub prepare-after : (b : Bool) (s t : State) → prepare b s ≡ done t → prepare b (advance s) ≡ done (advance t)
+unfolding prepare _>>=_
+prepare-after false s t e = (let g : done s ≡ done t = e in ap (λ m. m >>= λ t. done (advance t)) g)
+prepare-after true s t e = push-advance s ∙ ap (λ m. m >>= λ t. done (advance t)) e
+
 module _ (ns : List ℕ) (fs : List Cell) where
   -- a push, where the instruction pushes first
   pub pushed : (s t : code.State) → done (view t) ≡ push (view s) → prepare true (whole ns fs s) ≡ done (whole ns fs t)

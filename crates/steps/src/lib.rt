@@ -62,7 +62,7 @@ pub fn step(
             blocks: blocks,
         };
     };
-    let calls = line.code == 13;
+    let calls = line.calls;
     if line.pushes {
         if state.free == 0 {
             return Stepped {

@@ -1,0 +1,474 @@
+-- `steps::step` meets its contract: each arm by the laws of the arms, with the state at the next address. Assumes nothing.
+use mathlib.Core.Path.{_≡_, refl, sym, ap, subst, _∙_}
+use mathlib.Core.List.{List}
+use mathlib.Core.Logic.{⊎-elim}
+use Prim.Native.Nat.{ℕ, _+_, _-_, _≤_, _<_}
+use native.Mathlib.Omega.{arith}
+use lib.IntN.{pos}
+use lib.ListN.{length, getD, length-set}
+use mir.Syntax.{w32}
+use mir.Val.{SFits}
+use mir.ValLaws.{toZ-ofZ}
+use borrow.Author.Needs.{needs}
+use Rattle.cells.specs.Try.{Try, stuck, done}
+use Rattle.cells.specs.declared.Cell.{Cell}
+use Rattle.cells.specs.declared.Value.the-variants.{Number}
+use Rattle.cells.specs.Cells.{cell, number}
+use Rattle.cells.specs.Answers.{ofOperand}
+use Rattle.instructions.specs.Columns.{operationOf}
+use Rattle.machine.specs.Machine.{Next, Code, fetch, index, step, load, takesAnswer}
+use Rattle.machine.proofs.ApartLaws.{pop-at, store-at}
+use Rattle.outcomes.specs.declared.Outcome.{Outcome}
+use Rattle.outcomes.specs.Outcome.{outcome, operated}
+use Rattle.outcomes.proofs.ArmLaws.{Arm}
+use Rattle.outcomes.proofs.ArmLaws as arms
+use Rattle.states.specs.declared.State.{State}
+use Rattle.states.specs.declared.code.Line.{Line}
+use Rattle.states.specs.Columns.{codeOf, lineOf, ofFetched, Known}
+use Rattle.states.specs.View.{view, WellFormed, Fits, whole, ofSlot}
+use Rattle.states.proofs.ColumnLaws.{fetch-within}
+use Rattle.states.proofs.Stack.{length-images}
+use Rattle.steps.specs.Step.{nextOf}
+use Rattle.steps.proofs.StepLaws.{next, popped-next, stored-next, loaded-next, jumped-next, Ready, pushes, keeps, rises, outside, overflows, calls, opened}
+use Rattle.steps.proofs.step.Statement.{statement}
+use Rattle.steps.proofs.step.Tie as tie
+
+-- ---- places, and what is known there
+
+abbrev start : tie.After-known-told → tie.Start
+start k = k .before .before .before .before .before .before .before .before
+
+abbrev line : tie.After-known-told → Line
+line k = k .before .fetched .given .0 .0
+
+abbrev joined : tie.After-outcome-of → tie.Joined1
+joined a = a .before .before .before .before .before .before .before .before
+
+abbrev lined : tie.After-outcome-of → tie.After-known-told
+lined a = joined a .before
+
+abbrev code : tie.Start → Code
+code s = codeOf (s .args .first) (s .args .codes .now) (s .args .operands .now) (s .args .cycles .now) (s .args .words .now)
+
+found : (k : tie.After-known-told) → done (lineOf (line k)) ≡ fetch (code (start k)) (start k .args .t8 .at)
+found k = ap ofFetched (sym (k .before .fetched .given .1)) ∙ k .before .before .before .fetch .ensures .0
+
+known : (k : tie.After-known-told) → line k .code ≤ 22
+known k = subst Known (k .before .fetched .given .1) (k .before .before .before .fetch .ensures .1)
+
+-- the code's address is low
+low : (k : tie.After-known-told) → start k .args .t8 .at < 65536
+low k = let s = start k in omega (arith, fetch-within (s .args .first) (s .args .codes .now) (s .args .operands .now) (s .args .cycles .now) (s .args .words .now) (s .args .t8 .at) (lineOf (line k)) (sym (found k)), s .pre .1)
+
+fields : (s : tie.Start) → length (s .args .t9) ≡ 128
+fields s = search (needs, length-images)
+
+ready : (j : tie.Joined1) → Ready (start (j .before) .args .sizes .now) (start (j .before) .args .t9) (line (j .before)) (start (j .before) .args .t8) (j .if1 .state)
+ready j =
+    let s = start (j .before) in
+    ⊎-elim
+    (λ x. pushes (s .args .sizes .now) (s .args .t9) (line (j .before)) (s .args .t8) (j .if1 .state) (x .2 .result) (x .0 .taken) (x .2 .ensures .0) (x .2 .ensures .1) (x .3))
+    (λ x. keeps (s .args .sizes .now) (s .args .t9) (line (j .before)) (s .args .t8) (j .if1 .state) (x .0 .left) (s .pre .2) (x .1))
+    (j .if1 .came)
+
+module _ (a : tie.After-outcome-of) where
+  abbrev s : tie.Start
+  s = start (lined a)
+
+  abbrev l : Line
+  l = line (lined a)
+
+  abbrev t : State
+  t = joined a .if1 .state
+
+  abbrev n : ℕ
+  n = a .before .before .before .before .before .before .index-of .result
+
+  abbrev entry : Cell
+  entry = getD (t .stack) (a .before .before .before .before .before .entry-place .result) (cell (Number (pos 0)))
+
+  fitting : SFits w32 (l .operand)
+  fitting = search needs
+
+  prepared : Ready (s .args .sizes .now) (s .args .t9) l (s .args .t8) t
+  prepared = ready (joined a)
+
+  arm : Arm (step (code s) (s .args .answer) (whole (s .args .sizes .now) (s .args .t9) (s .args .t8))) (s .args .sizes .now) (s .args .t9) (lineOf l .price) (operationOf (l .code)) (l .operand) (s .args .answer) (next t) n entry (a .outcome-of .result)
+  arm =
+      arms.arm (code s) (s .args .answer) (s .args .sizes .now) (s .args .t9) (s .args .t8) (next t) l (sym (found (lined a))) (rises (s .args .sizes .now) (s .args .t9) l (s .args .t8) t prepared)
+      (record { free = prepared .formed .free; places = prepared .formed .places }) (s .pre .3) n (a .before .before .before .before .before .entry-place .result) entry (cell (Number (pos 0))) (a .outcome-of .result)
+      (a .before .before .before .before .before .before .index-of .ensures .0 ∙ ap index (toZ-ofZ w32 _ fitting)) (a .before .before .before .before .before .entry-place .ensures) refl
+      (a .outcome-of .ensures ∙ ap (λ z. outcome (operationOf (l .code)) z (s .args .answer) (64 - t .free) (t .accu) entry) (toZ-ofZ w32 _ fitting))
+
+  -- an address after methods that keep it
+  near : (v : ℕ) → v ≡ t .at → v < 65536
+  near v e = omega (arith, e, prepared .stays, low (lined a))
+
+  -- what is promised of a step with the outcome next and the state w, once it is known what it leads to
+  module _ (x : Try Next) (e : step (code s) (s .args .answer) (whole (s .args .sizes .now) (s .args .t9) (s .args .t8)) ≡ x) (fs : List Cell) (w : State) (formed : WellFormed w) (fits : Fits (s .args .sizes .now) fs) where
+    kept : (x ≡ step (code s) (s .args .answer) (whole (s .args .sizes .now) (s .args .t9) (s .args .t8)))
+        × ((l .calls ≡ takesAnswer (code s) (whole (s .args .sizes .now) (s .args .t9) (s .args .t8))) × (WellFormed w × Fits (s .args .sizes .now) fs))
+    kept = (sym e, (calls (code s) (s .args .answer) (s .args .sizes .now) (s .args .t9) (s .args .t8) l (found (lined a)), (formed, fits)))
+
+fetch-requires : tie.Need-fetch-requires
+fetch-requires c κs = search needs
+
+enum-known-fetched : tie.Need-enum-known-fetched
+enum-known-fetched c = search needs
+
+enum-told : tie.Need-enum-told
+enum-told c = search needs
+
+returns : tie.Need-returns
+unfolding nextOf
+returns c =
+    let s = c .before .before .before .before .before .before .before in
+    let o = outside (code s) (s .args .answer) (s .args .sizes .now) (s .args .t9) (s .args .t8) (ap ofFetched (sym (c .enum-told .given .1)) ∙ c .before .before .fetch .ensures .0) in
+    (o .0, (o .1, (s .pre .2, s .pre .3)))
+
+returns-2 : tie.Need-returns-2
+unfolding nextOf
+returns-2 c =
+    let k = c .before .before in
+    let s = start k in (
+      overflows (code s) (s .args .answer) (s .args .sizes .now) (s .args .t9) (s .args .t8) (line k) (found k) (c .before .if1 .taken) (s .pre .2) (c .if2 .taken),
+      (calls (code s) (s .args .answer) (s .args .sizes .now) (s .args .t9) (s .args .t8) (line k) (found k), (s .pre .2, s .pre .3)),
+    )
+
+push-requires : tie.Need-push-requires
+push-requires c κs = search needs
+
+index-of-requires : tie.Need-index-of-requires
+index-of-requires c κs = search needs
+
+entry-place-requires : tie.Need-entry-place-requires
+entry-place-requires c κs = (omega (arith, c .index-of .ensures .1), ready (c .before .before) .formed .free)
+
+drops-of-requires : tie.Need-drops-of-requires
+drops-of-requires c κs = known (c .before .before .before .before)
+
+sub-outcome-of : tie.Need-sub-outcome-of
+sub-outcome-of c = ready (c .before .before .before .before) .formed .free
+
+mul-outcome-of : tie.Need-mul-outcome-of
+mul-outcome-of c = search needs
+
+element-copy-out-outcome-of : tie.Need-element-copy-out-outcome-of
+element-copy-out-outcome-of c = search needs
+
+outcome-of-requires : tie.Need-outcome-of-requires
+outcome-of-requires c κs = known (c .before .before .before .before .before .before .before .before)
+
+enum-known-out : tie.Need-enum-known-out
+enum-known-out c = search needs
+
+-- ---- the accumulator becomes a cell
+
+pop-requires : tie.Need-pop-requires
+pop-requires c κs = let a = c .before .before .before in (prepared a .formed, arms.drop-room (arm a) _ _ (c .before .out .given .1) (a .before .before .before .before .drops-of .ensures))
+
+load-requires : tie.Need-load-requires
+load-requires c κs = search needs
+
+-- an accumulator that is loaded leaves the address
+loaded-at : (s w : State) (c : Cell) → view w ≡ load c (view s) → w .at ≡ s .at
+unfolding load
+loaded-at s w c e = ap (λ v. v .at) e
+
+advance-requires : tie.Need-advance-requires
+advance-requires c κs =
+    let a = c .before .before .before .before .before in
+    (c .load .ensures .1, near a _ (loaded-at (c .before .pop .result) (c .load .result) _ (c .load .ensures .0) ∙ pop-at _ (view (t a)) (view (c .before .pop .result)) (c .before .pop .ensures .0)))
+
+returns-3 : tie.Need-returns-3
+unfolding nextOf
+returns-3 c =
+    let a = c .before .before .before .before .before .before in
+    let v = c .before .before .pop .result in
+    kept a _
+    (arms.gives (arm a) (c .before .before .before .before .out .given .0 .0) (a .before .before .before .before .drops-of .result) (next v) (c .advance .result) (a .before .before .before .before .drops-of .ensures) (popped-next (t a) v _ (c .before .before .pop .ensures .0))
+    (loaded-next v (c .before .load .result) (c .advance .result) _ (c .before .load .ensures .0) (c .advance .ensures .0)) (c .before .before .before .before .out .given .1))
+    (s a .args .t9) (c .advance .result) (c .advance .ensures .1) (s a .pre .3)
+
+-- ---- an operation on cells
+
+enum-told-2 : tie.Need-enum-told-2
+enum-told-2 c = search needs
+
+mul-operated : tie.Need-mul-operated
+mul-operated c = search needs
+
+element-copy-out-operated : tie.Need-element-copy-out-operated
+element-copy-out-operated c = search needs
+
+operated-requires : tie.Need-operated-requires
+operated-requires c κs = let a = c .before .before .before .before .before in (known (lined a), arms.on-cells (arm a) (c .before .before .before .enum-told2 .given .1))
+
+enum-known-given : tie.Need-enum-known-given
+enum-known-given c = search needs
+
+-- what the operation gave
+given : (c : tie.After-operated) → ofOperand (c .operated .result) ≡ operated (operationOf (l (c .before .before .before .before .before .before) .code)) (l (c .before .before .before .before .before .before) .operand) (t (c .before .before .before .before .before .before) .accu) (entry (c .before .before .before .before .before .before))
+given c = let a = c .before .before .before .before .before .before in c .operated .ensures ∙ ap (λ z. operated (operationOf (l a .code)) z (t a .accu) (entry a)) (toZ-ofZ w32 _ (fitting a))
+
+pop-requires-2 : tie.Need-pop-requires-2
+pop-requires-2 c κs = let a = c .before .before .before .before .before .before .before .before .before in (prepared a .formed, arms.operate-room (arm a) _ (c .before .before .before .before .before .before .before .enum-told2 .given .1) (a .before .before .before .before .drops-of .ensures))
+
+load-requires-2 : tie.Need-load-requires-2
+load-requires-2 c κs = search needs
+
+advance-requires-2 : tie.Need-advance-requires-2
+advance-requires-2 c κs =
+    let a = c .before .before .before .before .before .before .before .before .before .before .before in
+    (c .load2 .ensures .1, near a _ (loaded-at (c .before .pop2 .result) (c .load2 .result) _ (c .load2 .ensures .0) ∙ pop-at _ (view (t a)) (view (c .before .pop2 .result)) (c .before .pop2 .ensures .0)))
+
+returns-4 : tie.Need-returns-4
+unfolding nextOf
+returns-4 c =
+    let a = c .before .before .before .before .before .before .before .before .before .before .before .before in
+    let v = c .before .before .pop2 .result in
+    kept a _
+    (arms.operates (arm a) (c .before .before .before .before .given .given .0 .0) (a .before .before .before .before .drops-of .result) (next v) (c .advance2 .result) (a .before .before .before .before .drops-of .ensures) (popped-next (t a) v _ (c .before .before .pop2 .ensures .0))
+    (loaded-next v (c .before .load2 .result) (c .advance2 .result) _ (c .before .load2 .ensures .0) (c .advance2 .ensures .0)) (c .before .before .before .before .before .before .before .before .before .before .enum-told2 .given .1) (sym (given (c .before .before .before .before .before .before)) ∙ ap ofOperand (c .before .before .before .before .given .given .1)))
+    (s a .args .t9) (c .advance2 .result) (c .advance2 .ensures .1) (s a .pre .3)
+
+enum-told-3 : tie.Need-enum-told-3
+enum-told-3 c = search needs
+
+returns-5 : tie.Need-returns-5
+unfolding nextOf
+returns-5 c =
+    let a = c .before .before .before .before .before .before .before .before in
+    kept a _ (arms.operates-nothing (arm a) (c .before .before .before .before .before .before .enum-told2 .given .1) (sym (given (c .before .before)) ∙ ap ofOperand (c .enum-told3 .given .1))) (s a .args .t9) (t a) (prepared a .formed) (s a .pre .3)
+
+-- ---- an entry becomes the accumulator
+
+enum-told-4 : tie.Need-enum-told-4
+enum-told-4 c = search needs
+
+store-requires : tie.Need-store-requires
+store-requires c κs = let a = c .before .before in (prepared a .formed, arms.store-room (arm a) (c .enum-told4 .given .1))
+
+advance-requires-3 : tie.Need-advance-requires-3
+advance-requires-3 c κs = let a = c .before .before .before in (c .store .ensures .1, near a _ (store-at _ (view (t a)) (view (c .store .result)) (c .store .ensures .0)))
+
+returns-6 : tie.Need-returns-6
+unfolding nextOf
+returns-6 c =
+    let a = c .before .before .before .before in
+    kept a _ (arms.stores (arm a) (c .advance3 .result) (c .before .before .enum-told4 .given .1) (stored-next (t a) (c .before .store .result) (c .advance3 .result) _ (c .before .store .ensures .0) (c .advance3 .ensures .0)))
+    (s a .args .t9) (c .advance3 .result) (c .advance3 .ensures .1) (s a .pre .3)
+
+-- ---- a field is set
+
+enum-known-out-2 : tie.Need-enum-known-out-2
+enum-known-out-2 c = search needs
+
+slot-of-requires : tie.Need-slot-of-requires
+slot-of-requires c κs = search needs
+
+enum-known-field : tie.Need-enum-known-field
+enum-known-field c = search needs
+
+-- the place that was found
+set-slot : (c : tie.After-known-told5) → done (c .before .field .given .0 .0) ≡ ofSlot (c .before .before .before .slot-of .result)
+set-slot c = ap ofSlot (sym (c .before .field .given .1))
+
+set-within : (c : tie.After-known-told5) → c .before .field .given .0 .0 < 128
+set-within c = let a = c .before .before .before .before .before .before .before .before in omega (arith, arms.slot-in (arm a) _ (set-slot c ∙ c .before .before .before .slot-of .ensures), fields (s a))
+
+mul-blocks : tie.Need-mul-blocks
+mul-blocks c = omega (arith, set-within c)
+
+array-set-from-blocks : tie.Need-array-set-from-blocks
+array-set-from-blocks c = set-within c
+
+number-requires : tie.Need-number-requires
+number-requires c κs = search needs
+
+pop-requires-3 : tie.Need-pop-requires-3
+pop-requires-3 c κs = let a = c .before .before .before .before .before .before .before .before .before in (prepared a .formed, arms.set-room (arm a) _ (c .before .before .before .before .before .before .before .out2 .given .1))
+
+load-requires-3 : tie.Need-load-requires-3
+load-requires-3 c κs = search needs
+
+advance-requires-4 : tie.Need-advance-requires-4
+advance-requires-4 c κs =
+    let a = c .before .before .before .before .before .before .before .before .before .before .before in
+    (c .load3 .ensures .1, near a _ (loaded-at (c .before .pop3 .result) (c .load3 .result) _ (c .load3 .ensures .0) ∙ pop-at _ (view (t a)) (view (c .before .pop3 .result)) (c .before .pop3 .ensures .0)))
+
+returns-7 : tie.Need-returns-7
+unfolding nextOf
+returns-7 c =
+    let a = c .before .before .before .before .before .before .before .before .before .before .before .before in
+    let v = c .before .before .pop3 .result in
+    kept a _
+    (arms.sets (arm a) (c .before .before .before .before .before .before .before .before .before .before .out2 .given .0 .0) (c .before .before .before .before .before .field .given .0 .0) (next v) (c .advance4 .result) (c .before .before .before .before .before .before .before .before .before .before .out2 .given .1) (set-slot (c .before .before .before .before) ∙ c .before .before .before .before .before .before .before .slot-of .ensures) (popped-next (t a) v _ (c .before .before .pop3 .ensures .0))
+    (loaded-next v (c .before .load3 .result) (c .advance4 .result) _ (c .before .load3 .ensures .0) (c .advance4 .ensures .0) ∙ ap (λ z. load z (view (next v))) (c .before .before .before .number .ensures)))
+    _ (c .advance4 .result) (c .advance4 .ensures .1) (record { few = s a .pre .3 .few; room = simp length-set (s a .pre .3 .room) })
+
+enum-told-5 : tie.Need-enum-told-5
+enum-told-5 c = search needs
+
+returns-8 : tie.Need-returns-8
+unfolding nextOf
+returns-8 c =
+    let a = c .before .before .before .before .before .before .before in
+    kept a _ (arms.sets-nothing (arm a) _ (c .before .before .before .before .before .out2 .given .1) (ap ofSlot (sym (c .enum-told5 .given .1)) ∙ c .before .before .slot-of .ensures)) (s a .args .t9) (t a) (prepared a .formed) (s a .pre .3)
+
+-- ---- the accumulator becomes a field
+
+enum-told-6 : tie.Need-enum-told-6
+enum-told-6 c = search needs
+
+slot-of-requires-2 : tie.Need-slot-of-requires-2
+slot-of-requires-2 c κs = search needs
+
+enum-known-field-2 : tie.Need-enum-known-field-2
+enum-known-field-2 c = search needs
+
+get-slot : (c : tie.After-known-told6) → done (c .before .field2 .given .0 .0) ≡ ofSlot (c .before .before .before .slot-of2 .result)
+get-slot c = ap ofSlot (sym (c .before .field2 .given .1))
+
+get-within : (c : tie.After-known-told6) → c .before .field2 .given .0 .0 < 128
+get-within c = let a = c .before .before .before .before .before .before .before in omega (arith, arms.slot-in (arm a) _ (get-slot c ∙ c .before .before .before .slot-of2 .ensures), fields (s a))
+
+mul-load : tie.Need-mul-load
+mul-load c = omega (arith, get-within c)
+
+array-copy-out-load : tie.Need-array-copy-out-load
+array-copy-out-load c = get-within c
+
+load-requires-4 : tie.Need-load-requires-4
+load-requires-4 c κs = let a = c .before .before .before .before .before .before .before .before in prepared a .formed
+
+advance-requires-5 : tie.Need-advance-requires-5
+advance-requires-5 c κs = let a = c .before .before .before .before .before .before .before .before .before in (c .load4 .ensures .1, near a _ (loaded-at (t a) (c .load4 .result) _ (c .load4 .ensures .0)))
+
+returns-9 : tie.Need-returns-9
+unfolding nextOf
+returns-9 c =
+    let a = c .before .before .before .before .before .before .before .before .before .before in
+    kept a _
+    (arms.gets (arm a) (c .before .before .before .before .field2 .given .0 .0) _ (c .advance5 .result) (c .before .before .before .before .before .before .before .before .enum-told6 .given .1) (get-slot (c .before .before .before) ∙ c .before .before .before .before .before .before .slot-of2 .ensures)
+    (loaded-next (t a) (c .before .load4 .result) (c .advance5 .result) _ (c .before .load4 .ensures .0) (c .advance5 .ensures .0)))
+    (s a .args .t9) (c .advance5 .result) (c .advance5 .ensures .1) (s a .pre .3)
+
+enum-told-7 : tie.Need-enum-told-7
+enum-told-7 c = search needs
+
+returns-10 : tie.Need-returns-10
+unfolding nextOf
+returns-10 c =
+    let a = c .before .before .before .before .before .before in
+    kept a _ (arms.gets-nothing (arm a) (c .before .before .before .before .enum-told6 .given .1) (ap ofSlot (sym (c .enum-told7 .given .1)) ∙ c .before .before .slot-of2 .ensures)) (s a .args .t9) (t a) (prepared a .formed) (s a .pre .3)
+
+-- ---- branches, STOP, stuck
+
+enum-told-8 : tie.Need-enum-told-8
+enum-told-8 c = search needs
+
+jump-requires : tie.Need-jump-requires
+jump-requires c κs = let a = c .before .before in prepared a .formed
+
+returns-11 : tie.Need-returns-11
+unfolding nextOf
+returns-11 c =
+    let a = c .before .before .before in
+    kept a _ (arms.jumps (arm a) (c .jump .result) (c .before .enum-told8 .given .1) (jumped-next (t a) (c .jump .result) _ (c .jump .ensures .0))) (s a .args .t9) (c .jump .result) (c .jump .ensures .1) (s a .pre .3)
+
+enum-told-9 : tie.Need-enum-told-9
+enum-told-9 c = search needs
+
+advance-requires-6 : tie.Need-advance-requires-6
+advance-requires-6 c κs = let a = c .before .before in (prepared a .formed, near a _ refl)
+
+returns-12 : tie.Need-returns-12
+unfolding nextOf
+returns-12 c =
+    let a = c .before .before .before in
+    kept a _ (opened (s a .args .sizes .now) (s a .args .t9) (t a) (c .advance6 .result) (arm a) (c .before .enum-told9 .given .1) (c .advance6 .ensures .0)) (s a .args .t9) (c .advance6 .result) (c .advance6 .ensures .1) (s a .pre .3)
+
+enum-told-10 : tie.Need-enum-told-10
+enum-told-10 c = search needs
+
+returns-13 : tie.Need-returns-13
+unfolding nextOf
+returns-13 c = let a = c .before .before in kept a _ (arms.halts (arm a) (c .enum-told10 .given .1)) (s a .args .t9) (t a) (prepared a .formed) (s a .pre .3)
+
+enum-told-11 : tie.Need-enum-told-11
+enum-told-11 c = search needs
+
+returns-14 : tie.Need-returns-14
+unfolding nextOf
+returns-14 c = let a = c .before .before in kept a _ (arms.is-stuck (arm a) (c .enum-told11 .given .1)) (s a .args .t9) (t a) (prepared a .formed) (s a .pre .3)
+
+pub step-spec : {M : Type 1} → statement M
+step-spec =
+    tie.close
+    (tie.spec
+    fetch-requires
+    enum-known-fetched
+    enum-told
+    returns
+    returns-2
+    push-requires
+    index-of-requires
+    entry-place-requires
+    drops-of-requires
+    sub-outcome-of
+    mul-outcome-of
+    element-copy-out-outcome-of
+    outcome-of-requires
+    enum-known-out
+    pop-requires
+    load-requires
+    advance-requires
+    enum-told-2
+    mul-operated
+    element-copy-out-operated
+    operated-requires
+    enum-known-given
+    pop-requires-2
+    load-requires-2
+    advance-requires-2
+    enum-told-3
+    enum-told-4
+    store-requires
+    advance-requires-3
+    enum-known-out-2
+    slot-of-requires
+    enum-known-field
+    mul-blocks
+    array-set-from-blocks
+    number-requires
+    pop-requires-3
+    load-requires-3
+    advance-requires-4
+    enum-told-5
+    enum-told-6
+    slot-of-requires-2
+    enum-known-field-2
+    mul-load
+    array-copy-out-load
+    load-requires-4
+    advance-requires-5
+    enum-told-7
+    enum-told-8
+    jump-requires
+    enum-told-9
+    advance-requires-6
+    enum-told-10
+    enum-told-11
+    returns-3
+    returns-4
+    returns-5
+    returns-6
+    returns-7
+    returns-8
+    returns-9
+    returns-10
+    returns-11
+    returns-12
+    returns-13
+    returns-14)
