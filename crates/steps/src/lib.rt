@@ -11,7 +11,7 @@ ghost use lib.ListN.{length};
 ghost use Rattle.machine.specs.Machine.{step, takesAnswer};
 ghost use Rattle.states.specs.Columns.{codeOf, Sized};
 ghost use Rattle.states.specs.View.{WellFormed, Fits, whole};
-ghost use Rattle.steps.specs.Step.{nextOf};
+ghost use Rattle.steps.specs.Step.{ofNext};
 
 // What a way costs.
 pub struct Price {
@@ -49,7 +49,7 @@ pub fn step(
     mut blocks: [Cell; 128],
 ) -> Stepped
     requires { ⌜ Sized (now codes) (now operands) (now cycles) (now words) × (first + length (now codes) ≤ 65536) × WellFormed state × Fits (now sizes) blocks ⌝ }
-    ensures { λ r. ⌜ nextOf (r .next) (whole (now (sizes .entry)) (r .blocks) (r .state)) ≡ step (codeOf first (now (codes .entry)) (now (operands .entry)) (now (cycles .entry)) (now (words .entry))) answer (whole (now (sizes .entry)) blocks state) ⌝ }
+    ensures { λ r. ⌜ ofNext (r .next) (whole (now (sizes .entry)) (r .blocks) (r .state)) ≡ step (codeOf first (now (codes .entry)) (now (operands .entry)) (now (cycles .entry)) (now (words .entry))) answer (whole (now (sizes .entry)) blocks state) ⌝ }
     ensures { λ r. ⌜ r .calls ≡ takesAnswer (codeOf first (now (codes .entry)) (now (operands .entry)) (now (cycles .entry)) (now (words .entry))) (whole (now (sizes .entry)) blocks state) ⌝ }
     ensures { λ r. ⌜ WellFormed (r .state) × Fits (now (sizes .entry)) (r .blocks) ⌝ }
 {

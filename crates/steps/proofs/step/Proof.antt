@@ -28,7 +28,7 @@ use Rattle.states.specs.Columns.{codeOf, lineOf, ofFetched, Known}
 use Rattle.states.specs.View.{view, WellFormed, Fits, whole, ofSlot}
 use Rattle.states.proofs.ColumnLaws.{fetch-within}
 use Rattle.states.proofs.Stack.{length-images}
-use Rattle.steps.specs.Step.{nextOf}
+use Rattle.steps.specs.Step.{ofNext}
 use Rattle.steps.proofs.StepLaws.{next, popped-next, stored-next, loaded-next, jumped-next, Ready, pushes, keeps, rises, outside, overflows, calls, opened}
 use Rattle.steps.proofs.step.Statement.{statement}
 use Rattle.steps.proofs.step.Tie as tie
@@ -120,14 +120,14 @@ enum-told : tie.Need-enum-told
 enum-told c = search needs
 
 returns : tie.Need-returns
-unfolding nextOf
+unfolding ofNext
 returns c =
     let s = c .before .before .before .before .before .before .before in
     let o = outside (code s) (s .args .answer) (s .args .sizes .now) (s .args .t9) (s .args .t8) (ap ofFetched (sym (c .enum-told .given .1)) ∙ c .before .before .fetch .ensures .0) in
     (o .0, (o .1, (s .pre .2, s .pre .3)))
 
 returns-2 : tie.Need-returns-2
-unfolding nextOf
+unfolding ofNext
 returns-2 c =
     let k = c .before .before in
     let s = start k in (
@@ -181,7 +181,7 @@ advance-requires c κs =
     (c .load .ensures .1, near a _ (loaded-at (c .before .pop .result) (c .load .result) _ (c .load .ensures .0) ∙ pop-at _ (view (t a)) (view (c .before .pop .result)) (c .before .pop .ensures .0)))
 
 returns-3 : tie.Need-returns-3
-unfolding nextOf
+unfolding ofNext
 returns-3 c =
     let a = c .before .before .before .before .before .before in
     let v = c .before .before .pop .result in
@@ -223,7 +223,7 @@ advance-requires-2 c κs =
     (c .load2 .ensures .1, near a _ (loaded-at (c .before .pop2 .result) (c .load2 .result) _ (c .load2 .ensures .0) ∙ pop-at _ (view (t a)) (view (c .before .pop2 .result)) (c .before .pop2 .ensures .0)))
 
 returns-4 : tie.Need-returns-4
-unfolding nextOf
+unfolding ofNext
 returns-4 c =
     let a = c .before .before .before .before .before .before .before .before .before .before .before .before in
     let v = c .before .before .pop2 .result in
@@ -236,7 +236,7 @@ enum-told-3 : tie.Need-enum-told-3
 enum-told-3 c = search needs
 
 returns-5 : tie.Need-returns-5
-unfolding nextOf
+unfolding ofNext
 returns-5 c =
     let a = c .before .before .before .before .before .before .before .before in
     kept a _ (arms.operates-nothing (arm a) (c .before .before .before .before .before .before .enum-told2 .given .1) (sym (given (c .before .before)) ∙ ap ofOperand (c .enum-told3 .given .1))) (s a .args .t9) (t a) (prepared a .formed) (s a .pre .3)
@@ -253,7 +253,7 @@ advance-requires-3 : tie.Need-advance-requires-3
 advance-requires-3 c κs = let a = c .before .before .before in (c .store .ensures .1, near a _ (store-at _ (view (t a)) (view (c .store .result)) (c .store .ensures .0)))
 
 returns-6 : tie.Need-returns-6
-unfolding nextOf
+unfolding ofNext
 returns-6 c =
     let a = c .before .before .before .before in
     kept a _ (arms.stores (arm a) (c .advance3 .result) (c .before .before .enum-told4 .given .1) (stored-next (t a) (c .before .store .result) (c .advance3 .result) _ (c .before .store .ensures .0) (c .advance3 .ensures .0)))
@@ -298,7 +298,7 @@ advance-requires-4 c κs =
     (c .load3 .ensures .1, near a _ (loaded-at (c .before .pop3 .result) (c .load3 .result) _ (c .load3 .ensures .0) ∙ pop-at _ (view (t a)) (view (c .before .pop3 .result)) (c .before .pop3 .ensures .0)))
 
 returns-7 : tie.Need-returns-7
-unfolding nextOf
+unfolding ofNext
 returns-7 c =
     let a = c .before .before .before .before .before .before .before .before .before .before .before .before in
     let v = c .before .before .pop3 .result in
@@ -311,7 +311,7 @@ enum-told-5 : tie.Need-enum-told-5
 enum-told-5 c = search needs
 
 returns-8 : tie.Need-returns-8
-unfolding nextOf
+unfolding ofNext
 returns-8 c =
     let a = c .before .before .before .before .before .before .before in
     kept a _ (arms.sets-nothing (arm a) _ (c .before .before .before .before .before .out2 .given .1) (ap ofSlot (sym (c .enum-told5 .given .1)) ∙ c .before .before .slot-of .ensures)) (s a .args .t9) (t a) (prepared a .formed) (s a .pre .3)
@@ -346,7 +346,7 @@ advance-requires-5 : tie.Need-advance-requires-5
 advance-requires-5 c κs = let a = c .before .before .before .before .before .before .before .before .before in (c .load4 .ensures .1, near a _ (loaded-at (t a) (c .load4 .result) _ (c .load4 .ensures .0)))
 
 returns-9 : tie.Need-returns-9
-unfolding nextOf
+unfolding ofNext
 returns-9 c =
     let a = c .before .before .before .before .before .before .before .before .before .before in
     kept a _
@@ -358,7 +358,7 @@ enum-told-7 : tie.Need-enum-told-7
 enum-told-7 c = search needs
 
 returns-10 : tie.Need-returns-10
-unfolding nextOf
+unfolding ofNext
 returns-10 c =
     let a = c .before .before .before .before .before .before in
     kept a _ (arms.gets-nothing (arm a) (c .before .before .before .before .enum-told6 .given .1) (ap ofSlot (sym (c .enum-told7 .given .1)) ∙ c .before .before .slot-of2 .ensures)) (s a .args .t9) (t a) (prepared a .formed) (s a .pre .3)
@@ -372,7 +372,7 @@ jump-requires : tie.Need-jump-requires
 jump-requires c κs = let a = c .before .before in prepared a .formed
 
 returns-11 : tie.Need-returns-11
-unfolding nextOf
+unfolding ofNext
 returns-11 c =
     let a = c .before .before .before in
     kept a _ (arms.jumps (arm a) (c .jump .result) (c .before .enum-told8 .given .1) (jumped-next (t a) (c .jump .result) _ (c .jump .ensures .0))) (s a .args .t9) (c .jump .result) (c .jump .ensures .1) (s a .pre .3)
@@ -384,7 +384,7 @@ advance-requires-6 : tie.Need-advance-requires-6
 advance-requires-6 c κs = let a = c .before .before in (prepared a .formed, near a _ refl)
 
 returns-12 : tie.Need-returns-12
-unfolding nextOf
+unfolding ofNext
 returns-12 c =
     let a = c .before .before .before in
     kept a _ (opened (s a .args .sizes .now) (s a .args .t9) (t a) (c .advance6 .result) (arm a) (c .before .enum-told9 .given .1) (c .advance6 .ensures .0)) (s a .args .t9) (c .advance6 .result) (c .advance6 .ensures .1) (s a .pre .3)
@@ -393,14 +393,14 @@ enum-told-10 : tie.Need-enum-told-10
 enum-told-10 c = search needs
 
 returns-13 : tie.Need-returns-13
-unfolding nextOf
+unfolding ofNext
 returns-13 c = let a = c .before .before in kept a _ (arms.halts (arm a) (c .enum-told10 .given .1)) (s a .args .t9) (t a) (prepared a .formed) (s a .pre .3)
 
 enum-told-11 : tie.Need-enum-told-11
 enum-told-11 c = search needs
 
 returns-14 : tie.Need-returns-14
-unfolding nextOf
+unfolding ofNext
 returns-14 c = let a = c .before .before in kept a _ (arms.is-stuck (arm a) (c .enum-told11 .given .1)) (s a .args .t9) (t a) (prepared a .formed) (s a .pre .3)
 
 pub step-spec : {M : Type 1} → statement M
