@@ -20,7 +20,8 @@ use Rattle.machine.proofs.PriceLaws.{AtMost}
 use Rattle.bounds.specs.Tree.{Report, Verdict, openingLimit, bound}
 use Rattle.bounds.specs.Tree as verdicts
 use Rattle.bounds.specs.Run.{run}
-use Rattle.bounds.proofs.PromiseLaws.{interruptible, exact-reports, run-within-bound}
+use Rattle.bounds.specs.Promises.{NoGreater}
+use Rattle.bounds.proofs.PromiseLaws.{interruptible, bound-exact, run-within-bound}
 use Rattle.bounds.proofs.FigureLaws.{Bounded, bound-bounded, run-bounded}
 use Rattle.bounds.proofs.PlaceLaws.{bound-place, run-place}
 use Rattle.routine.specs.Routine.{Routine, routineOf, Reading, routine, readBound, readRun}
@@ -34,7 +35,8 @@ use Rattle.routine.proofs.AnswerLaws.{SameButAnswers, same-but-answers}
 use Rattle.report.specs.Report.{boundText, runText}
 use Rattle.report.proofs.ReportLaws.{Small, bound-fits, run-fits}
 use Rattle.analyser.specs.Answers.{Answer, reported, refused, memoryLimit, ofVerdict, ofReading, boundRoutine, runRoutine, boundAnswer, runAnswer}
-use Rattle.analyser.specs.Promises.{ReportsKept, FilledInRuns, AnswersIrrelevant, PassingIsAscii, ReportsFit, PlacesSmall}
+use Rattle.analyser.specs.Functions.{answerOf, reportLength}
+use Rattle.analyser.specs.Promises.{BoundReported, RunReported, WithinReport, RunAccepted, FilledIn, ReportsKept, RunsKept, AnswersIrrelevant, PassingIsAscii, ReportsFit, PlacesSmall}
 
 -- ---- what a report comes from
 
@@ -77,22 +79,39 @@ reports-kept text n bs e =
     let a = from-reading boundRoutine (readBound text) n bs e in
     let x = a .routine in
     let v = from-verdict (boundText (x .tick)) (bound (x .code) (x .budget) (x .start)) bs (a .gives) in
-    record {
-      routine = x;
-      report = v .report;
-      is = record { reads = a .reads; accepts = v .accepts; prints = sym (v .prints) };
-      exact = exact-reports (x .code) (x .budget) (x .start) (v .report) (v .accepts);
-      safe = λ s h answers m. interruptible (x .code) openingLimit (x .budget) (x .start) (v .report) (v .accepts) s h answers m;
-    }
+    let is : BoundReported text bs x (v .report) = record { reads = a .reads; accepts = v .accepts; prints = sym (v .prints) } in (
+      (x, v .report, is, λ s h answers m. interruptible (x .code) openingLimit (x .budget) (x .start) (v .report) (v .accepts) s h answers m),
+      (x, v .report, is, bound-exact (x .code) (x .budget) (x .start) (v .report) (v .accepts)),
+    )
 
 -- ---- two files
 
-pub filled-in-runs : FilledInRuns
-unfolding runAnswer runRoutine ofReading ofVerdict
-filled-in-runs text n x y q a h e lent =
+-- the run of y under the bound of x
+filled-in : (x y : Routine) (q : Report) → bound (x .code) (x .budget) (x .start) ≡ verdicts.accepted q → FilledIn y x →
+    (r : Report) × (run (y .code) (y .budget) (y .start) (y .answers) ≡ verdicts.accepted r) × NoGreater r q
+filled-in x y q a h =
     let a′ : bound (y .code) (y .budget) (x .start) ≡ verdicts.accepted q = rw (h .code, h .budget) a in
-    let (r, b, le) = run-within-bound (y .code) (y .budget) (x .start) q a′ (y .start) (h .start) (y .answers) in
-    (r, b, rw (le-ltb n memoryLimit lent, e, b) refl, le)
+    run-within-bound (y .code) (y .budget) (x .start) q a′ (y .start) (h .start) (y .answers)
+
+pub runs-kept : RunsKept
+unfolding runAnswer runRoutine ofReading ofVerdict answerOf reportLength
+runs-kept = (within, accepts)
+  where
+    within : (text : List ℕ) (n : ℕ) (bytes : List ℕ) → runAnswer text n ≡ reported bytes → WithinReport text bytes
+    within text n bytes e =
+        let a = from-reading runRoutine (readRun text) n bytes e in
+        let y = a .routine in
+        let v = from-verdict runText (run (y .code) (y .budget) (y .start) (y .answers)) bytes (a .gives) in (
+          y,
+          v .report,
+          record { reads = a .reads; accepts = v .accepts; prints = sym (v .prints) },
+          λ x q b h. let (r, f, le) = filled-in x y q b h in let same : r ≡ v .report = cc (v .accepts) in rw same at le,
+        )
+
+    accepts : (text : List ℕ) (n : ℕ) → RunAccepted text n (reportLength (answerOf (runAnswer text n)))
+    accepts text n x y q a h e lent =
+        let (r, b, le) = filled-in x y q a h in
+        (length (runText r), rw (le-ltb n memoryLimit lent, e, b) refl)
 
 pub answers-irrelevant : AnswersIrrelevant
 unfolding boundAnswer ofReading boundRoutine
@@ -173,15 +192,10 @@ unfolding runText
 run-some q = omega arith
 
 pub bound-reports-some : (text : List ℕ) (n : ℕ) (bs : List ℕ) → boundAnswer text n ≡ reported bs → 1 ≤ length bs
-bound-reports-some text n bs e = let k = reports-kept text n bs e in rw (k .is .prints) (bound-some (k .routine .tick) (k .report))
+bound-reports-some text n bs e = let (x, q, is, safe) = reports-kept text n bs e .0 in rw (is .prints) (bound-some (x .tick) q)
 
 pub run-reports-some : (text : List ℕ) (n : ℕ) (bs : List ℕ) → runAnswer text n ≡ reported bs → 1 ≤ length bs
-unfolding runAnswer runRoutine
-run-reports-some text n bs e =
-    let a = from-reading runRoutine (readRun text) n bs e in
-    let x = a .routine in
-    let v = from-verdict runText (run (x .code) (x .budget) (x .start) (x .answers)) bs (a .gives) in
-    rw (← v .prints) (run-some (v .report))
+run-reports-some text n bs e = let (y, r, is, within) = runs-kept .0 text n bs e in rw (is .prints) (run-some r)
 
 -- ---- places
 

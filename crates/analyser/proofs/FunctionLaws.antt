@@ -5,7 +5,8 @@ use mathlib.Core.List.{List, [], _∷_, _++_}
 use mathlib.Core.Option.{Option, some}
 use native.Mathlib.Omega.{arith}
 use native.Mathlib.Nat.{mod-eq-of-lt}
-use lib.ListN.{length, getD, drop}
+use lib.ListN.{length, getD, drop, length-append}
+use lib.Seq.{take-append-seam}
 use borrow.Author.Tests.{lt-ltb, le-ltb}
 use Rattle.refusals.specs.declared.Refusal.{Refusal}
 use Rattle.refusals.specs.declared.Refusal.the-variants.{ReportMemory}
@@ -39,9 +40,9 @@ use Rattle.analyser.specs.Answers.{Answer, reported, ofVerdict, ofReadin
 use Rattle.analyser.specs.Answers as answers
 use Rattle.analyser.specs.declared.Answer as code
 use Rattle.analyser.specs.declared.Answer.the-variants.{Reported, Refused}
-use Rattle.analyser.specs.Functions.{answerOf, routineIn, Printable, Modest, wordOf, Tells, AnswersTold}
-use Rattle.analyser.specs.Promises.{SafeReports, ExactReports, RunsWithin}
-use Rattle.analyser.proofs.AnswerLaws.{reports-kept, reports-fit, filled-in-runs, bound-reports-some, run-reports-some, places-small}
+use Rattle.analyser.specs.Functions.{answerOf, routineIn, Printable, Shareable, reportLength, Delivers, toldLength, wordOf, Tells, AnswersTold}
+use Rattle.analyser.specs.Promises.{SafeReport, ExactReport, WithinReport, RunAccepted}
+use Rattle.analyser.proofs.AnswerLaws.{reports-kept, reports-fit, runs-kept, bound-reports-some, run-reports-some, places-small}
 
 module _ (x : Routine) (l : Limited x) where
   -- a routine starts at its first address
@@ -64,8 +65,8 @@ module _ (x : Routine) (l : Limited x) where
   unfolding bound
   explored-shows r e = subst (λ s. Shows r (explore (step (routineIn x .code) unknown) 32 (x .budget) s)) at-start (e .shows)
 
-  pub explored-modest : (r : Found) → contract.Modest 32 (x .budget) r → Modest r
-  explored-modest r m = record { cycles = let a = m .cycles in let b = m .used in let d = l .budget in omega arith }
+  pub explored-shareable : (r : Found) → contract.Modest 32 (x .budget) r → Shareable r
+  explored-shareable r m = record { cycles = let a = m .cycles in let b = m .used in let d = l .budget in omega arith }
 
 -- ---- what the explorer's answer gives
 
@@ -193,15 +194,46 @@ module _ (text : List ℕ) (n : ℕ) where
         fits = λ bs q. let k = reports-fit .1 text n bs (run-passed h x e ∙ q) in omega (arith, k .0, k .1);
       }
 
-  -- the promises
-  pub safe-reports : SafeReports text n
-  safe-reports bs e = let k = reports-kept text n bs e in (k .routine, k .report, k .is, k .safe)
+-- ---- the promises
 
-  pub exact-reports : ExactReports text n
-  exact-reports bs e = let k = reports-kept text n bs e in (k .routine, k .report, k .is, k .exact)
+-- what holds of the bytes of every report holds of those that are told
+delivers : (P : List ℕ → Type 0) (a : Answer) → ((bs : List ℕ) → a ≡ reported bs → P bs) →
+    (r : code.Answer) → r ≡ answerOf a → (former out : List ℕ) → out ≡ memory a former → Delivers (reportLength r) out P
+unfolding answerOf memory reportLength
+delivers P (reported bs) h r e former out m n t =
+    let l : length bs ≡ n = cc in
+    rw (m, ← l, take-append-seam) (omega (arith, length-append bs (drop (length bs) former)), h bs refl)
+delivers P (answers.refused x) h r e former out m n t = let z : _≡_ {A = ℕ} 0 1 = cc in absurd (omega arith)
 
-  pub runs-within : RunsWithin text n
-  runs-within = filled-in-runs text n
+module _ (text : List ℕ) (n : ℕ) (former out : List ℕ) (r : code.Answer) where
+  -- what the equations of an answer give besides
+  pub bound-keeps : (r ≡ answerOf (boundAnswer text n)) × (out ≡ memory (boundAnswer text n) former) →
+      (r ≡ answerOf (boundAnswer text n)) × ((out ≡ memory (boundAnswer text n) former)
+      × (Delivers (reportLength r) out (SafeReport text) × Delivers (reportLength r) out (ExactReport text)))
+  bound-keeps (e, m) = (
+    e,
+    (
+      m,
+      (
+        delivers (SafeReport text) (boundAnswer text n) (λ bs q. reports-kept text n bs q .0) r e former out m,
+        delivers (ExactReport text) (boundAnswer text n) (λ bs q. reports-kept text n bs q .1) r e former out m,
+      ),
+    ),
+  )
+
+  pub run-keeps : (r ≡ answerOf (runAnswer text n)) × (out ≡ memory (runAnswer text n) former) →
+      (r ≡ answerOf (runAnswer text n)) × ((out ≡ memory (runAnswer text n) former)
+      × (Delivers (reportLength r) out (WithinReport text) × RunAccepted text n (reportLength r)))
+  run-keeps (e, m) = (
+    e,
+    (
+      m,
+      (
+        delivers (WithinReport text) (runAnswer text n) (λ bs q. runs-kept .0 text n bs q) r e former out m,
+        rw e (runs-kept .1 text n),
+      ),
+    ),
+  )
 
 -- ---- for C
 
@@ -269,6 +301,12 @@ tells a h w e = record {
   refusal = λ r q. let k = h .refusal r q in let z : place r % 4294967296 ≡ place r = mod-eq-of-lt (omega arith) in (omega arith, rw (e, q, z) refl);
 }
 
+-- the length that the number tells is the one answered
+told-length : (a : Answer) → WithinLimits a → toldLength (wordOf (answerOf a)) ≡ reportLength (answerOf a)
+unfolding wordOf answerOf toldLength reportLength
+told-length (reported bs) h = let k = h .report bs refl in rw (lt-ltb (length bs) 9223372036854775808 (omega arith)) refl
+told-length (answers.refused r) h = rw (le-ltb (9223372036854775808 + number r * 4294967296 + place r % 4294967296) 9223372036854775808 (omega arith)) refl
+
 -- two answers with one number
 told : (a b : Answer) → WithinLimits a → WithinLimits b → wordOf (answerOf a) ≡ wordOf (answerOf b) → answerOf a ≡ answerOf b
 unfolding wordOf answerOf
@@ -292,5 +330,11 @@ module _ (text : List ℕ) (n : ℕ) where
   pub bound-tells : (w : ℕ) → w ≡ wordOf (answerOf (boundAnswer text n)) → Tells (boundAnswer text n) w
   bound-tells = tells (boundAnswer text n) (bound-limits text n)
 
+  pub bound-length : (r : code.Answer) → r ≡ answerOf (boundAnswer text n) → (w : ℕ) → w ≡ wordOf r → reportLength r ≡ toldLength w
+  bound-length r e w f = rw (f, e) (sym (told-length (boundAnswer text n) (bound-limits text n)))
+
   pub run-tells : (w : ℕ) → w ≡ wordOf (answerOf (runAnswer text n)) → Tells (runAnswer text n) w
   run-tells = tells (runAnswer text n) (run-limits text n)
+
+  pub run-length : (r : code.Answer) → r ≡ answerOf (runAnswer text n) → (w : ℕ) → w ≡ wordOf r → reportLength r ≡ toldLength w
+  run-length r e w f = rw (f, e) (sym (told-length (runAnswer text n) (run-limits text n)))

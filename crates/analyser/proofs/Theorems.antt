@@ -19,6 +19,7 @@ use Rattle.bounds.specs.Run.{begin, after}
 use Rattle.bounds.specs.Promises as bounds
 use Rattle.bounds.proofs.PromiseLaws as promise-laws
 use Rattle.bounds.proofs.RunLaws as run-laws
+use Rattle.bounds.proofs.TraceLaws as trace-laws
 use Rattle.bounds.proofs.RunVerdictLaws as run-verdict-laws
 use Rattle.bounds.proofs.Interrupted as example
 use Rattle.report.proofs.ReportLaws.{share-nearest, share-unique}
@@ -55,21 +56,25 @@ unfolding bound
 interruptible c budget = promise-laws.interruptible c openingLimit budget
 
 -- with one instance: case 1's start, the answer 7
-pub interruptible-instance : (n : ℕ) → bounds.Safe example.code (bound example.code 1000) example.reported n (after example.code n (begin example.plain (pos 7 ∷ [])))
+pub interruptible-instance : (n : ℕ) → bounds.Safe example.code (bound example.code 1000) example.reported (begin example.plain (pos 7 ∷ [])) n (after example.code n (begin example.plain (pos 7 ∷ [])))
 interruptible-instance = example.interrupted .1
 
 pub nothing-follows : bounds.NothingFollows
 nothing-follows = run-laws.nothing-follows
 
+-- Definition 2 of document 000, and its Theorem 14
+pub runs-trace : bounds.RunsTrace
+runs-trace = trace-laws.runs-trace
+
 pub theorem14 : bounds.Theorem14
-theorem14 = promise-laws.theorem14
+theorem14 = trace-laws.theorem14
 
 pub run-within-bound : bounds.RunWithinBound
 run-within-bound = promise-laws.run-within-bound
 
 -- demand 2
-pub exact-reports : bounds.ExactReports
-exact-reports = promise-laws.exact-reports
+pub bound-exact : bounds.BoundExact
+bound-exact = promise-laws.bound-exact
 
 pub steps-listed : bounds.StepsListed
 steps-listed = promise-laws.steps-listed
@@ -95,8 +100,8 @@ fuel-irrelevant = promise-laws.fuel-irrelevant
 pub reports-kept : answers.ReportsKept
 reports-kept = answer-laws.reports-kept
 
-pub filled-in-runs : answers.FilledInRuns
-filled-in-runs = answer-laws.filled-in-runs
+pub runs-kept : answers.RunsKept
+runs-kept = answer-laws.runs-kept
 
 pub answers-irrelevant : answers.AnswersIrrelevant
 answers-irrelevant = answer-laws.answers-irrelevant

@@ -1,8 +1,11 @@
 -- What the public functions answer and write, in terms of the definitions.
 use Prim.Native.Nat.{ℕ, _+_, _*_, _%_, _≤_, _<_}
 use mathlib.Core.Path.{_≡_}
+use mathlib.Core.Bool.{cond}
 use mathlib.Core.List.{List}
-use lib.ListN.{length}
+use mathlib.Core.Option.{Option, some, none}
+use lib.Dec.{ltb}
+use lib.ListN.{length, take}
 use Rattle.refusals.specs.declared.Refusal.{Refusal}
 use Rattle.refusals.specs.Refusals.{number, place}
 use Rattle.states.specs.Columns.{codeOf}
@@ -37,8 +40,19 @@ pub record Printable (a : Answer) (tick n : ℕ) : Type 0 where
   pub fits : (bs : List ℕ) → a ≡ reported bs → length bs ≤ n
 
 -- CYCLES is small enough for the numbers that SHARE is computed with
-pub record Modest (r : Found) : Type 0 where
-  pub cycles : r .cycles ≤ 4294967296000000
+pub record Shareable (found : Found) : Type 0 where
+  pub cycles : found .cycles ≤ 4294967296000000
+
+-- ---- what an answer says of the lent memory
+
+-- the length of the report that is answered, if it is one
+unfoldable pub reportLength : code.Answer → Option ℕ
+reportLength (Reported n) = some n
+reportLength (Refused r) = none
+
+-- where a report of n bytes is told, at least n are lent, and P holds of the first n that they hold
+abbrev pub Delivers : Option ℕ → List ℕ → (List ℕ → Type 0) → Type 0
+Delivers told lent P = (n : ℕ) → told ≡ some n → (n ≤ length lent) × P (take n lent)
 
 -- ---- for C
 
@@ -46,6 +60,10 @@ pub record Modest (r : Found) : Type 0 where
 unfoldable pub wordOf : code.Answer → ℕ
 wordOf (Reported n) = n
 wordOf (Refused r) = 9223372036854775808 + number r * 4294967296 + place r % 4294967296
+
+-- the length of the report that a number tells: a number below 2 ^ 63 tells one
+unfoldable pub toldLength : ℕ → Option ℕ
+toldLength w = cond (ltb w 9223372036854775808) (some w) none
 
 -- what holds of it: a report's is from 1 to 128; a refusal's has bit 63, its number and its whole place
 pub record Tells (a : Answer) (w : ℕ) : Type 0 where

@@ -2,6 +2,7 @@
 use mathlib.Core.Path.{_≡_}
 use mathlib.Core.Bool.{true}
 use mathlib.Core.List.{List}
+use mathlib.Core.Option.{Option, some}
 use Prim.Native.Nat.{ℕ, _≤_}
 use lib.Dec.{ltb}
 use lib.IntN.{ℤ, pos}
@@ -22,18 +23,26 @@ use Rattle.routine.specs.Routine.{Routine, readBound, readRun}
 use Rattle.routine.specs.Routine as readings
 use Rattle.report.specs.Report.{share, Nearest, boundText, runText}
 use Rattle.analyser.specs.Answers.{reported, refused, memoryLimit, boundAnswer, runAnswer}
+use Rattle.analyser.specs.Functions.{answerOf, reportLength}
 
--- the bytes bs are the report q of the routine x that the text holds
-pub record Reports (text bs : List ℕ) (x : Routine) (q : Report) : Type 0 where
+-- the bytes are the bound's report, with the figures q, of the routine x that the text holds
+pub record BoundReported (text bytes : List ℕ) (x : Routine) (q : Report) : Type 0 where
   pub reads : readBound text ≡ readings.routine x
   pub accepts : bound (x .code) (x .budget) (x .start) ≡ accepted q
-  pub prints : bs ≡ boundText (x .tick) q
+  pub prints : bytes ≡ boundText (x .tick) q
+
+-- the bytes are the run's report, likewise
+pub record RunReported (text bytes : List ℕ) (y : Routine) (r : Report) : Type 0 where
+  pub reads : readRun text ≡ readings.routine y
+  pub accepts : run (y .code) (y .budget) (y .start) (y .answers) ≡ accepted r
+  pub prints : bytes ≡ runText r
 
 -- demand 3, of the routine x under its report q: "starts from any memory that has the file's cells and no others, agrees with each known
 -- one and holds some number in each unknown one; it is fed any list of input answers and interrupted after any number of steps, 0 included"
 abbrev pub SafeRuns : Routine → Report → Type 0
 SafeRuns x q =
-    (s : State) → Cellwise Allowed s (x .start) → (answers : List ℤ) (n : ℕ) → Safe (x .code) (bound (x .code) (x .budget)) q n (after (x .code) n (begin s answers))
+    (s : State) → Cellwise Allowed s (x .start) → (answers : List ℤ) (n : ℕ) →
+    Safe (x .code) (bound (x .code) (x .budget)) q (begin s answers) n (after (x .code) n (begin s answers))
 
 -- two files: y is x with numbers for its `?`, and with any answers
 pub record FilledIn (y x : Routine) : Type 0 where
@@ -41,40 +50,39 @@ pub record FilledIn (y x : Routine) : Type 0 where
   pub code : y .code ≡ x .code
   pub start : Cellwise Allowed (y .start) (x .start)
 
--- ---- as the public functions promise it, of a text and of n lent bytes
+-- ---- as the public functions promise it, of a text and of the bytes that they report
 
 -- demand 3
-abbrev pub SafeReports : List ℕ → ℕ → Type 0
-SafeReports text n = (bs : List ℕ) → boundAnswer text n ≡ reported bs → (x : Routine) × (q : Report) × Reports text bs x q × SafeRuns x q
+abbrev pub SafeReport : List ℕ → List ℕ → Type 0
+SafeReport text bytes = (x : Routine) × (q : Report) × BoundReported text bytes x q × SafeRuns x q
 
 -- demand 2
-abbrev pub ExactReports : List ℕ → ℕ → Type 0
-ExactReports text n =
-    (bs : List ℕ) → boundAnswer text n ≡ reported bs → (x : Routine) × (q : Report) × Reports text bs x q × Exact (x .code) openingLimit (x .start) q
+abbrev pub ExactReport : List ℕ → List ℕ → Type 0
+ExactReport text bytes = (x : Routine) × (q : Report) × BoundReported text bytes x q × Exact (x .code) openingLimit (x .start) q
 
--- the run of a file that fills in a bounded one is refused by neither 7 nor 9 and is within the report's four figures
-abbrev pub RunsWithin : List ℕ → ℕ → Type 0
-RunsWithin text n =
-    (x y : Routine) (q : Report) → bound (x .code) (x .budget) (x .start) ≡ accepted q → FilledIn y x → readRun text ≡ readings.routine y → memoryLimit ≤ n →
-    (r : Report) × (run (y .code) (y .budget) (y .start) (y .answers) ≡ accepted r) × (runAnswer text n ≡ reported (runText r)) × NoGreater r q
+-- the run's figures are no greater than those of a bound that accepts a file which this one fills in
+abbrev pub WithinReport : List ℕ → List ℕ → Type 0
+WithinReport text bytes =
+    (y : Routine) × (r : Report) × RunReported text bytes y r
+    × ((x : Routine) (q : Report) → bound (x .code) (x .budget) (x .start) ≡ accepted q → FilledIn y x → NoGreater r q)
+
+-- and where there is such a bound, the run is refused by neither 7 nor 9: with enough bytes lent a report is told
+abbrev pub RunAccepted : List ℕ → ℕ → Option ℕ → Type 0
+RunAccepted text lent told =
+    (x y : Routine) (q : Report) → bound (x .code) (x .budget) (x .start) ≡ accepted q → FilledIn y x → readRun text ≡ readings.routine y → memoryLimit ≤ lent →
+    (n : ℕ) × (told ≡ some n)
 
 -- ---- of all texts
 
--- the report bs of the bound on a text: demands 2 and 3
-pub record Kept (text bs : List ℕ) : Type 0 where
-  pub routine : Routine
-  pub report : Report
-  pub is : Reports text bs routine report
-  pub exact : Exact (routine .code) openingLimit (routine .start) report
-  pub safe : SafeRuns routine report
-
--- every report of the bound is kept
+-- demands 2 and 3
 abbrev pub ReportsKept : Type 0
-ReportsKept = (text : List ℕ) (n : ℕ) (bs : List ℕ) → boundAnswer text n ≡ reported bs → Kept text bs
+ReportsKept = (text : List ℕ) (n : ℕ) (bytes : List ℕ) → boundAnswer text n ≡ reported bytes → SafeReport text bytes × ExactReport text bytes
 
--- every run of a file that fills in a bounded one is within its report
-abbrev pub FilledInRuns : Type 0
-FilledInRuns = (text : List ℕ) (n : ℕ) → RunsWithin text n
+-- every run of a file that fills in a bounded one is accepted, and within its report
+abbrev pub RunsKept : Type 0
+RunsKept =
+    ((text : List ℕ) (n : ℕ) (bytes : List ℕ) → runAnswer text n ≡ reported bytes → WithinReport text bytes)
+    × ((text : List ℕ) (n : ℕ) → RunAccepted text n (reportLength (answerOf (runAnswer text n))))
 
 -- "Once a file passes 1 to 6, the bound does not depend on ANSWER.": two files with the same lines up to the last code line
 abbrev pub AnswersIrrelevant : Type 0

@@ -14,9 +14,9 @@ ghost use Rattle.findings.specs.Found.{Shows};
 ghost use Rattle.runs.specs.Contract.{verdictOf};
 ghost use Rattle.reader.specs.Reader.{Limited};
 ghost use Rattle.analyser.specs.Answers.{boundRoutine, runRoutine, boundAnswer, runAnswer, memory};
-ghost use Rattle.analyser.specs.Functions.{answerOf, routineIn, Modest, Printable, wordOf, Tells};
+ghost use Rattle.analyser.specs.Functions.{answerOf, routineIn, Shareable, Printable, reportLength, Delivers, wordOf, toldLength, Tells};
 ghost use Rattle.analyser.specs.declared.Answer.the-variants.{Refused};
-ghost use Rattle.analyser.specs.Promises.{SafeReports, ExactReports, RunsWithin};
+ghost use Rattle.analyser.specs.Promises.{SafeReport, ExactReport, WithinReport, RunAccepted};
 
 // The answer to a text: a report of so many bytes, or a refusal.
 pub enum Answer {
@@ -28,7 +28,7 @@ pub enum Answer {
 fn explored(x: Routine) -> Found
     requires { ⌜ Limited x ⌝ }
     ensures { λ r. ⌜ Shows r (bound (routineIn x .code) (routineIn x .budget) (routineIn x .start)) ⌝ }
-    ensures { λ r. ⌜ Modest r ⌝ }
+    ensures { λ r. ⌜ Shareable r ⌝ }
 {
     let columns = x.columns;
     let codes = columns.codes;
@@ -148,8 +148,8 @@ fn run_routine(x: Routine, out: &mut [u8]) -> Answer
 pub fn bound(text: &[u8], out: &mut [u8]) -> Answer
     ensures { λ r. ⌜ r ≡ answerOf (boundAnswer (now (text .entry)) (length (now (out .entry)))) ⌝ }
     ensures { λ _. ⌜ now (out .exit) ≡ memory (boundAnswer (now (text .entry)) (length (now (out .entry)))) (now (out .entry)) ⌝ }
-    ensures safe { λ _. ⌜ SafeReports (now (text .entry)) (length (now (out .entry))) ⌝ }
-    ensures exact { λ _. ⌜ ExactReports (now (text .entry)) (length (now (out .entry))) ⌝ }
+    ensures safe { λ r. ⌜ Delivers (reportLength r) (now (out .exit)) (SafeReport (now (text .entry))) ⌝ }
+    ensures exact { λ r. ⌜ Delivers (reportLength r) (now (out .exit)) (ExactReport (now (text .entry))) ⌝ }
 {
     let lent = out.len();
     if lent < 128 {
@@ -170,7 +170,8 @@ pub fn bound(text: &[u8], out: &mut [u8]) -> Answer
 pub fn run(text: &[u8], out: &mut [u8]) -> Answer
     ensures { λ r. ⌜ r ≡ answerOf (runAnswer (now (text .entry)) (length (now (out .entry)))) ⌝ }
     ensures { λ _. ⌜ now (out .exit) ≡ memory (runAnswer (now (text .entry)) (length (now (out .entry)))) (now (out .entry)) ⌝ }
-    ensures within { λ _. ⌜ RunsWithin (now (text .entry)) (length (now (out .entry))) ⌝ }
+    ensures within { λ r. ⌜ Delivers (reportLength r) (now (out .exit)) (WithinReport (now (text .entry))) ⌝ }
+    ensures accepts { λ r. ⌜ RunAccepted (now (text .entry)) (length (now (out .entry))) (reportLength r) ⌝ }
 {
     if out.len() < 128 {
         return Answer::Refused(Refusal::ReportMemory);
@@ -211,8 +212,8 @@ pub extern "C" fn tickbound_bound(text: &[u8], out: &mut [u8]) -> u64
     ensures { λ r. ⌜ r ≡ wordOf (answerOf (boundAnswer (now (text .entry)) (length (now (out .entry))))) ⌝ }
     ensures { λ _. ⌜ now (out .exit) ≡ memory (boundAnswer (now (text .entry)) (length (now (out .entry)))) (now (out .entry)) ⌝ }
     ensures tells { λ r. ⌜ Tells (boundAnswer (now (text .entry)) (length (now (out .entry)))) r ⌝ }
-    ensures safe { λ _. ⌜ SafeReports (now (text .entry)) (length (now (out .entry))) ⌝ }
-    ensures exact { λ _. ⌜ ExactReports (now (text .entry)) (length (now (out .entry))) ⌝ }
+    ensures safe { λ r. ⌜ Delivers (toldLength r) (now (out .exit)) (SafeReport (now (text .entry))) ⌝ }
+    ensures exact { λ r. ⌜ Delivers (toldLength r) (now (out .exit)) (ExactReport (now (text .entry))) ⌝ }
 {
     let answer = bound(text, out);
     word_of(answer)
@@ -224,7 +225,8 @@ pub extern "C" fn tickbound_run(text: &[u8], out: &mut [u8]) -> u64
     ensures { λ r. ⌜ r ≡ wordOf (answerOf (runAnswer (now (text .entry)) (length (now (out .entry))))) ⌝ }
     ensures { λ _. ⌜ now (out .exit) ≡ memory (runAnswer (now (text .entry)) (length (now (out .entry)))) (now (out .entry)) ⌝ }
     ensures tells { λ r. ⌜ Tells (runAnswer (now (text .entry)) (length (now (out .entry)))) r ⌝ }
-    ensures within { λ _. ⌜ RunsWithin (now (text .entry)) (length (now (out .entry))) ⌝ }
+    ensures within { λ r. ⌜ Delivers (toldLength r) (now (out .exit)) (WithinReport (now (text .entry))) ⌝ }
+    ensures accepts { λ r. ⌜ RunAccepted (now (text .entry)) (length (now (out .entry))) (toldLength r) ⌝ }
 {
     let answer = run(text, out);
     word_of(answer)

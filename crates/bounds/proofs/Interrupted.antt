@@ -8,7 +8,7 @@ use lib.IntN.{pos}
 use Rattle.text.specs.Text.{bytes, equals, find}
 use Rattle.numbers.specs.Numbers.{wrap, holds}
 use Rattle.cells.specs.Try.{_>>=_}
-use Rattle.cells.specs.Cells.{number, unknown, calculate₂, map₂, operate₂, test, condition}
+use Rattle.cells.specs.Cells.{number, unknown, calculate₂, map₂, operate₂, conditionIn, condition}
 use Rattle.cells.specs.Order.{Allowed, known, end, cons}
 use Rattle.cells.proofs.CellLaws.{number-allowed}
 use Rattle.instructions.specs.Kinds.{kinds, kindNames, operand}
@@ -47,22 +47,22 @@ abbrev pub reported : Report
 reported = record { cycles = 65; words = 4; depth = 1; steps = 6; path = N ∷ [] }
 
 is-bounded : bound code 1000 bounded ≡ accepted reported
-unfolding code equals find wrap holds _>>=_ calculate₂ map₂ operate₂ test condition kinds kindNames operand kindAt instruction nth without fetch height jump load restack push pop advance ahead ways perform prepare execute step expand tree steps size cycles words depth worse path report judge verdict explore bound
+unfolding code equals find wrap holds _>>=_ calculate₂ map₂ operate₂ conditionIn condition kinds kindNames operand kindAt instruction nth without fetch height jump load restack push pop advance ahead ways perform prepare execute step expand tree steps size cycles words depth worse path report judge verdict explore bound
 is-bounded = refl
 
 is-allowed : Cellwise Allowed plain bounded
 is-allowed = record { at = refl; accu = known; stack = cons (number-allowed (pos 0)) end; blocks = end }
 
-is-safe : (n : ℕ) → Safe code (bound code 1000) reported n (after code n (begin plain (pos 7 ∷ [])))
+is-safe : (n : ℕ) → Safe code (bound code 1000) reported (begin plain (pos 7 ∷ [])) n (after code n (begin plain (pos 7 ∷ [])))
 unfolding bound
 is-safe n = interruptible code openingLimit 1000 bounded reported is-bounded plain is-allowed (pos 7 ∷ []) n
 
 stops-third : (after code 3 (begin plain (pos 7 ∷ [])) .stopped ≡ true) × (after code 3 (begin plain (pos 7 ∷ [])) .cycles ≡ 56)
-unfolding code equals find wrap _>>=_ test condition kinds kindNames operand kindAt instruction nth without fetch height jump load restack pop advance ahead ways perform prepare execute step takes takesAnswer begin answer remaining moved leads once after
+unfolding code equals find wrap _>>=_ conditionIn condition kinds kindNames operand kindAt instruction nth without fetch height jump load restack pop advance ahead ways perform prepare execute step takes takesAnswer begin answer remaining moved leads once after
 stops-third = (refl, refl)
 
 pub interrupted :
     (bound code 1000 bounded ≡ accepted reported)
-    × ((n : ℕ) → Safe code (bound code 1000) reported n (after code n (begin plain (pos 7 ∷ []))))
+    × ((n : ℕ) → Safe code (bound code 1000) reported (begin plain (pos 7 ∷ [])) n (after code n (begin plain (pos 7 ∷ []))))
     × ((after code 3 (begin plain (pos 7 ∷ [])) .stopped ≡ true) × (after code 3 (begin plain (pos 7 ∷ [])) .cycles ≡ 56))
 interrupted = (is-bounded, is-safe, stops-third)

@@ -7,6 +7,7 @@ pub mod PathLaws
 pub mod PrefixLaws
 pub mod ListedLaws
 pub mod RunLaws
+pub mod TraceLaws
 pub mod RunVerdictLaws
 pub mod PromiseLaws
 pub mod FigureLaws

@@ -66,13 +66,6 @@ module _ (act : State → Try Next) where
       let k = finite-whole d b le in
       (report t, complete-accepted t b (report t) (k .complete) (omega (arith, k .sized)), k .sized)
 
-  -- more openings do no harm
-  pub finite-more : {o n : ℕ} {s : State} → Finite act o s n → (o′ : ℕ) → o ≤ o′ → Finite act o′ s n
-  finite-more (Finite.stop e) o′ le = Finite.stop e
-  finite-more (Finite.next e d) o′ le = Finite.next e (finite-more d o′ le)
-  finite-more (Finite.fork e d d′) zero le = absurd (omega arith)
-  finite-more (Finite.fork e d d′) (suc o′) le = Finite.fork e (finite-more d o′ (omega arith)) (finite-more d′ o′ (omega arith))
-
   -- a refusal below a step is one of the step, if what is below comes after the step and j steps more
   abbrev After : ℕ → ℕ → State → ℕ → State → Type 0
   After j o t o′ s = (k p : ℕ) (v : State) → Comes act o t k p v → Comes act o′ s (suc (j + k)) p v

@@ -15,14 +15,14 @@ use Rattle.machine.proofs.StateLaws.{height-law}
 use Rattle.machine.proofs.StepLaws.{step-law}
 use Rattle.machine.proofs.PriceLaws.{opening-price}
 use Rattle.bounds.specs.Tree.{Tree, expand, tree, cycles, words, depth, size, Report, report, accepted, openingLimit, explore, bound, verdict}
-use Rattle.bounds.specs.Traces.{CostMax, Finite}
+use Rattle.bounds.specs.Traces.{CostMax}
 use Rattle.bounds.specs.Run.{begin, after, run}
-use Rattle.bounds.specs.Promises.{NoGreater, Exact, Interruptible, Monotone, ExactReports, StepsListed, OneMaximum, AcceptedWhere, RefusedWhere, FuelIrrelevant, RunWithinBound, Theorem14}
+use Rattle.bounds.specs.Promises.{NoGreater, Exact, Interruptible, Monotone, BoundExact, StepsListed, OneMaximum, AcceptedWhere, RefusedWhere, FuelIrrelevant, RunWithinBound}
 use Rattle.bounds.proofs.TreeLaws.{Complete, tree-law, tree-root, steps-size, accepted-complete, complete-accepted}
 use Rattle.bounds.proofs.FuelLaws.{verdict-fuel}
 use Rattle.bounds.proofs.MaxLaws.{OpensAlike, cost-unique, run-unique, tree-worst}
 use Rattle.bounds.proofs.PathLaws.{tree-costliest, tree-wordiest, tree-height}
-use Rattle.bounds.proofs.ListedLaws.{accepted-finite, finite-accepted, finite-more, refused-listed, listed-refused}
+use Rattle.bounds.proofs.ListedLaws.{accepted-finite, finite-accepted, refused-listed, listed-refused}
 use Rattle.bounds.proofs.RunLaws.{Leaves, Ways, stopping, going, opening, Stepwise, stepwise-interruptible, stopped-verdict}
 
 equal-reports : (r q : Report) → r ≡ q → NoGreater r q
@@ -62,7 +62,7 @@ module _ (c : Code) (limit budget : ℕ) where
   unfolding report
   leaves q p f o t e lf lo w le cy wo de st =
       let (b, l) = afresh f o t t e lf lo w le in
-      record { left = report (whole t); accepts = b; cycles = omega (arith, l); words = omega (arith, l); depth = omega (arith, l); steps = omega (arith, l) }
+      record { fresh = report (whole t); accepts = b; cycles = omega (arith, l); words = omega (arith, l); depth = omega (arith, l); steps = omega (arith, l) }
 
   ways : (q : Report) (f o : ℕ) (s : State) (m : Try Next) → Leads (λ s. Cellwise Refines s s) m → suc f ≤ budget → o ≤ limit → Complete (expand (tree (acts c) f) o s m) →
       size (expand (tree (acts c) f) o s m) ≤ budget → NoGreater (report (expand (tree (acts c) f) o s m)) q → Ways c (explore (acts c) limit budget) q m
@@ -125,26 +125,9 @@ exact c openings budget s q a =
       steps = rw (← eq) at f;
     })
 
-pub exact-reports : ExactReports
+pub bound-exact : BoundExact
 unfolding bound
-exact-reports c budget s q a = exact c openingLimit budget s q a
-
--- a maximum cost is of a finite tree, with enough openings
-cost-finite : (act : State → Try Next) {t : State} {k : ℕ} → CostMax act t k → (o : ℕ) × (n : ℕ) × Finite act o t n
-cost-finite act (CostMax.stop e) = (0, 1, Finite.stop e)
-cost-finite act (CostMax.next e d) = let (o, n, f) = cost-finite act d in (o, suc n, Finite.next e f)
-cost-finite act (CostMax.fork e d d′) =
-    let (o, m, f) = cost-finite act d in
-    let (o′, n, g) = cost-finite act d′ in
-    (suc (max o o′), suc (m + n), Finite.fork e (finite-more act f (max o o′) (omega arith)) (finite-more act g (max o o′) (omega arith)))
-
-pub theorem14 : Theorem14
-theorem14 c t k d s e answers m stopped =
-    let (o, n, f) = cost-finite (acts c) d in
-    let (q, a, sized) = finite-accepted (acts c) f n (omega arith) in
-    let h : q .cycles ≡ k = cost-unique (acts c) (worst c o n t q a) d in
-    let safe = interruptible c o n t q a s e answers m in
-    omega (arith, safe .cycles)
+bound-exact c budget s q a = exact c openingLimit budget s q a
 
 -- a run that the bounded start allows
 pub run-within-bound : RunWithinBound

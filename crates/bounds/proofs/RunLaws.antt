@@ -18,18 +18,18 @@ use Rattle.machine.proofs.NextCovering.{NextCovered, stops-too, goes-too, opens
 use Rattle.machine.proofs.StateLaws.{cellwise-map, cellwise-self}
 use Rattle.machine.proofs.StepLaws.{step-law}
 use Rattle.bounds.specs.Tree.{Report, Verdict, accepted}
-use Rattle.bounds.specs.Run.{Run, begin, answer, moved, leads, once, after, stuckAt, isStuck, left, judgeRun}
+use Rattle.bounds.specs.Run.{Run, begin, answer, moved, leads, once, after, stuckAt, isStuck, boundedAfresh, judgeRun}
 use Rattle.bounds.specs.Promises.{NoGreater, Safe, Interruptible, Monotone, NothingFollows}
 
 module _ (c : Code) (M : State → Verdict) where
   -- the bound at t, and a step of price p before it, within the report q
   pub record Leaves (q : Report) (p : Price) (t : State) : Type 0 where
-    pub left : Report
-    pub accepts : M t ≡ accepted left
-    pub cycles : p .cycles + left .cycles ≤ q .cycles
-    pub words : p .words + left .words ≤ q .words
-    pub depth : left .depth ≤ q .depth
-    pub steps : suc (left .steps) ≤ q .steps
+    pub fresh : Report
+    pub accepts : M t ≡ accepted fresh
+    pub cycles : p .cycles + fresh .cycles ≤ q .cycles
+    pub words : p .words + fresh .words ≤ q .words
+    pub depth : fresh .depth ≤ q .depth
+    pub steps : suc (fresh .steps) ≤ q .steps
 
   pub data Ways (q : Report) : Try Next → Type 0 where
     stopping : {p : Price} → p .cycles ≤ q .cycles → p .words ≤ q .words → Ways q (done (stops p))
@@ -42,6 +42,12 @@ module _ (c : Code) (M : State → Verdict) where
     pub root : (s : State) (q : Report) → M s ≡ accepted q → (height s ≤ q .depth) × (1 ≤ q .steps)
     pub ways : (s : State) (q : Report) → Cellwise Refines s s → M s ≡ accepted q → Ways q (step c unknown s)
 
+-- an answer of a run is one that the bound allows
+pub answered : (answers : List ℤ) → Allowed (answer answers) unknown
+unfolding answer
+answered [] = number-allowed (pos 0)
+answered (a ∷ rest) = number-allowed a
+
 module _ (c : Code) (M : State → Verdict) (by-steps : Stepwise c M) (q : Report) where
   plain-self : {s t : State} → Cellwise Allowed s t → Cellwise Allowed s s
   plain-self e = cellwise-self (λ a b h. allowed-plain h) e
@@ -51,18 +57,13 @@ module _ (c : Code) (M : State → Verdict) (by-steps : Stepwise c M) (q : Repor
 
   -- the run r after n steps: it has stopped within q, or what is left from its state, bounded afresh, is within q
   data Within (n : ℕ) (r : Run) : Type 0 where
-    ended : r .stopped ≡ true → r .cycles ≤ q .cycles → r .words ≤ q .words → r .depth ≤ q .depth → r .steps ≤ q .steps → Within n r
+    ended : r .stopped ≡ true → height (r .state) ≤ q .depth → r .cycles ≤ q .cycles → r .words ≤ q .words → r .depth ≤ q .depth → r .steps ≤ q .steps → Within n r
     running : (f : Report) → r .stopped ≡ false → Cellwise Allowed (r .state) (r .state) → M (r .state) ≡ accepted f →
         r .cycles + f .cycles ≤ q .cycles → r .words + f .words ≤ q .words → r .depth ≤ q .depth → f .depth ≤ q .depth → r .steps + f .steps ≤ q .steps → r .steps ≡ n → Within n r
 
   -- a state that t allows, bounded afresh
   afresh : (s t : State) (f : Report) → Cellwise Allowed s t → M t ≡ accepted f → (r : Report) × (M s ≡ accepted r) × NoGreater r f
   afresh s t f e a = by-steps .monotone t f a s (erase e)
-
-  answered : (answers : List ℤ) → Allowed (answer answers) unknown
-  unfolding answer
-  answered [] = number-allowed (pos 0)
-  answered (a ∷ rest) = number-allowed a
 
   follows : (r : Run) → Cellwise Allowed (r .state) (r .state) → Covered (NextCovered (Cellwise Allowed) ⊥) (leads c r) (step c unknown (r .state))
   unfolding leads
@@ -74,15 +75,15 @@ module _ (c : Code) (M : State → Verdict) (by-steps : Stepwise c M) (q : Repor
       Within (suc n) (moved r rest false (done (goes p s)))
   unfolding moved
   step-within n r rest f p s t e l cy wo de df st co =
-      let (g, a, le) = afresh s t (l .left) e (l .accepts) in
+      let (g, a, le) = afresh s t (l .fresh) e (l .accepts) in
       let h = by-steps .root s g a in
       running g refl (plain-self e) a (omega (arith, l, le)) (omega (arith, l, le)) (omega (arith, l, le, h)) (omega (arith, l, le)) (omega (arith, l, le)) (ap suc co)
 
   moves : (n : ℕ) (r : Run) (rest : List ℤ) (f : Report) {m m′ : Try Next} → Covered (NextCovered (Cellwise Allowed) ⊥) m m′ → Ways c M f m′ →
-      r .cycles + f .cycles ≤ q .cycles → r .words + f .words ≤ q .words → r .depth ≤ q .depth → f .depth ≤ q .depth → r .steps + f .steps ≤ q .steps → r .steps ≡ n → 1 ≤ f .steps →
+      r .cycles + f .cycles ≤ q .cycles → r .words + f .words ≤ q .words → r .depth ≤ q .depth → f .depth ≤ q .depth → r .steps + f .steps ≤ q .steps → r .steps ≡ n → (height (r .state) ≤ f .depth) × (1 ≤ f .steps) →
       Within (suc n) (moved r rest false m)
   unfolding moved
-  moves n r rest f (both stops-too) (stopping p w) cy wo de df st co on = ended refl (omega arith) (omega arith) de (omega arith)
+  moves n r rest f (both stops-too) (stopping p w) cy wo de df st co on = ended refl (omega arith) (omega arith) (omega arith) de (omega arith)
   moves n r rest f (both (goes-too {p} {s} {t} e)) (going l) cy wo de df st co on = step-within n r rest f p s t e l cy wo de df st co
   moves n r rest f (both (opens-too no-way e e′)) (opening l l′) cy wo de df st co on = absurd no-way
   moves n r rest f (both (goes-not-taken {p} {s} {s′ = t} e)) (opening l l′) cy wo de df st co on = step-within n r rest f p s t e l cy wo de df st co
@@ -90,11 +91,11 @@ module _ (c : Code) (M : State → Verdict) (by-steps : Stepwise c M) (q : Repor
 
   keeps : (n : ℕ) (r : Run) (rest : List ℤ) (b : Bool) → r .stopped ≡ b → Within n r → Within (suc n) (moved r rest b (leads c r))
   unfolding moved
-  keeps n r rest true e (ended g cy wo de st) = ended g cy wo de st
+  keeps n r rest true e (ended g hi cy wo de st) = ended g hi cy wo de st
   keeps n r rest true e (running f g i a cy wo de df st co) = absurd (true≢false (sym e ∙ g))
-  keeps n r rest false e (ended g cy wo de st) = absurd (true≢false (sym g ∙ e))
+  keeps n r rest false e (ended g hi cy wo de st) = absurd (true≢false (sym g ∙ e))
   keeps n r rest false e (running f g i a cy wo de df st co) =
-      moves n r rest f (follows r i) (by-steps .ways (r .state) f (erase i) a) cy wo de df st co (by-steps .root (r .state) f a .1)
+      moves n r rest f (follows r i) (by-steps .ways (r .state) f (erase i) a) cy wo de df st co (by-steps .root (r .state) f a)
 
   stays : (n : ℕ) (r : Run) → Within 0 r → Within n (after c n r)
   unfolding after once
@@ -109,36 +110,48 @@ module _ (c : Code) (M : State → Verdict) (by-steps : Stepwise c M) (q : Repor
   unstuck (both (goes-not-taken e)) w = refl
   unstuck (both (goes-taken e)) w = refl
 
-  safe : (n : ℕ) (r : Run) → Within n r → Safe c M q n r
-  unfolding isStuck stuckAt left
-  safe n r (ended g cy wo de st) = record {
+  low : (n : ℕ) (r : Run) → Within n r → height (r .state) ≤ q .depth
+  low n r (ended g hi cy wo de st) = hi
+  low n r (running f g i a cy wo de df st co) = omega (arith, by-steps .root (r .state) f a)
+
+  lows : (r : Run) → Within 0 r → (n k : ℕ) → k ≤ n → height (after c k r .state) ≤ q .depth
+  lows r i n k h = low k (after c k r) (stays k r i)
+
+  safe : (start : Run) (n : ℕ) (r : Run) → ((k : ℕ) → k ≤ n → height (after c k start .state) ≤ q .depth) → Within n r → Safe c M q start n r
+  unfolding isStuck stuckAt boundedAfresh
+  safe start n r hs (ended g hi cy wo de st) = record {
     moves = ap (λ b. stuckAt b (leads c r)) g;
     depth = de;
+    heights = hs;
     steps = st;
     fresh = record { cycles = 0; words = 0; depth = 0; steps = 0; path = [] };
-    accepts = ap (λ b. left M b (r .state)) g;
+    accepts = ap (λ b. boundedAfresh M b (r .state)) g;
     cycles = omega arith;
     words = omega arith;
     stops = λ h. g;
   }
-  safe n r (running f g i a cy wo de df st co) = record {
+  safe start n r hs (running f g i a cy wo de df st co) = record {
     moves = ap (λ b. stuckAt b (leads c r)) g ∙ unstuck (follows r i) (by-steps .ways (r .state) f (erase i) a);
     depth = de;
+    heights = hs;
     steps = omega arith;
     fresh = f;
-    accepts = ap (λ b. left M b (r .state)) g ∙ a;
+    accepts = ap (λ b. boundedAfresh M b (r .state)) g ∙ a;
     cycles = cy;
     words = wo;
     stops = λ h. absurd (omega (arith, by-steps .root (r .state) f a));
   }
+
+  always-safe : (start : Run) → Within 0 start → (n : ℕ) → Safe c M q start n (after c n start)
+  always-safe start i n = safe start n (after c n start) (lows start i n) (stays n start i)
 
 pub stepwise-interruptible : (c : Code) (M : State → Verdict) → Stepwise c M → Interruptible c M
 unfolding begin
 stepwise-interruptible c M by-steps t q a s e answers n =
     let (f, b, le) = afresh c M by-steps q s t q e a in
     let h = by-steps .root s f b in
-    safe c M by-steps q n (after c n (begin s answers)) (stays c M by-steps q n (begin s answers)
-    (running f refl (plain-self c M by-steps q e) b (omega (arith, le)) (omega (arith, le)) (omega (arith, le, h)) (omega (arith, le)) (omega (arith, le)) refl))
+    always-safe c M by-steps q (begin s answers)
+    (running f refl (plain-self c M by-steps q e) b (omega (arith, le)) (omega (arith, le)) (omega (arith, le, h)) (omega (arith, le)) (omega (arith, le)) refl) n
 
 -- where one step changes nothing, more change nothing
 stays-still : (c : Code) (n : ℕ) (r : Run) → once c r ≡ r → after c n r ≡ r
@@ -170,7 +183,7 @@ unfolding once
 once-uncounted c r e = moved-uncounted r _ (r .stopped) (leads c r) e
 
 -- m steps after n
-after-after : (c : Code) (n m : ℕ) (r : Run) → after c (n + m) r ≡ after c m (after c n r)
+pub after-after : (c : Code) (n m : ℕ) (r : Run) → after c (n + m) r ≡ after c m (after c n r)
 unfolding after
 after-after c n zero r = rw (add-zero n) refl
 after-after c n (suc m) r = rw (add-suc n m) (ap (once c) (after-after c n m r))

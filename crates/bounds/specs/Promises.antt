@@ -15,85 +15,102 @@ use Rattle.cells.specs.Try.{Try}
 use Rattle.machine.specs.Order.{Cellwise}
 use Rattle.bounds.specs.Tree.{tree, steps, verdict, Report, Verdict, accepted, refused, openingLimit, bound}
 use Rattle.bounds.specs.Traces.{Move, cost, wordSum, decisions, Trace, Path, CostMax, RunMax, Finite, Listed}
-use Rattle.bounds.specs.Run.{Run, begin, after, isStuck, left, run}
+use Rattle.bounds.specs.Run.{Run, begin, after, isStuck, boundedAfresh, DeterministicTrace, run}
 
--- no figure of the report r is greater than that of q
-pub record NoGreater (r q : Report) : Type 0 where
-  pub cycles : r .cycles ≤ q .cycles
-  pub words : r .words ≤ q .words
-  pub depth : r .depth ≤ q .depth
-  pub steps : r .steps ≤ q .steps
+-- no figure of the first report is greater than that of the second
+pub record NoGreater (less more : Report) : Type 0 where
+  pub cycles : less .cycles ≤ more .cycles
+  pub words : less .words ≤ more .words
+  pub depth : less .depth ≤ more .depth
+  pub steps : less .steps ≤ more .steps
 
--- Demand 3, of a run r that n steps have made, under the report q of the bound M
-pub record Safe (c : Code) (M : State → Verdict) (q : Report) (n : ℕ) (r : Run) : Type 0 where
-  -- "it is not stuck, its stack has nowhere been deeper than reported"
-  pub moves : isStuck c r ≡ false
-  pub depth : r .depth ≤ q .depth
-  pub steps : r .steps ≤ q .steps
+-- Demand 3, of the run that n steps from the start have made, under what the bound M has reported
+pub record Safe (code : Code) (M : State → Verdict) (reported : Report) (start : Run) (n : ℕ) (run : Run) : Type 0 where
+  -- "it is not stuck, its stack has nowhere been deeper than reported": by what the run remembers, and in each state up to this one
+  pub moves : isStuck code run ≡ false
+  pub depth : run .depth ≤ reported .depth
+  pub heights : (k : ℕ) → k ≤ n → height (after code k start .state) ≤ reported .depth
+  pub steps : run .steps ≤ reported .steps
   -- "bounding it afresh from the state reached, under the same budget, is never refused"; "after STOP nothing is left to bound"
   pub fresh : Report
-  pub accepts : left M (r .stopped) (r .state) ≡ accepted fresh
+  pub accepts : boundedAfresh M (run .stopped) (run .state) ≡ accepted fresh
   -- "The cycles spent plus those bounded afresh are at most the reported cycles, and the same for words"
-  pub cycles : r .cycles + fresh .cycles ≤ q .cycles
-  pub words : r .words + fresh .words ≤ q .words
+  pub cycles : run .cycles + fresh .cycles ≤ reported .cycles
+  pub words : run .words + fresh .words ≤ reported .words
   -- "Every such run makes its STOP within the reported steps."
-  pub stops : q .steps ≤ n → r .stopped ≡ true
+  pub stops : reported .steps ≤ n → run .stopped ≡ true
 
 -- Demand 3, whole: for every start that t allows, every list of answers and every number of steps
 abbrev pub Interruptible : Code → (State → Verdict) → Type 0
 Interruptible c M =
     (t : State) (q : Report) → M t ≡ accepted q →
-    (s : State) → Cellwise Allowed s t → (answers : List ℤ) (n : ℕ) → Safe c M q n (after c n (begin s answers))
+    (s : State) → Cellwise Allowed s t → (answers : List ℤ) (n : ℕ) → Safe c M q (begin s answers) n (after c n (begin s answers))
 
 -- "STOP is a step, and none follows it: a larger number of steps gives the same state and sums."
 abbrev pub NothingFollows : Type 0
 NothingFollows = (c : Code) (n : ℕ) (r : Run) → r .stopped ≡ true → after c n r ≡ r
 
--- Theorem 14 of document 000: the maximum cost from an erasure of the start is at least the cost of the run
+-- a run at the end of a trace
+pub record Ended (trace : List Move) (run : Run) : Type 0 where
+  pub stopped : run .stopped ≡ true
+  pub cycles : run .cycles ≡ cost trace
+  pub words : run .words ≡ wordSum trace
+  pub steps : run .steps ≡ length trace
+
+-- The run and Definition 2 of document 000: "the corresponding execution trace is unique"; the run makes as many steps as it has, and has
+-- then spent what it costs; and a run that makes its STOP has one
+abbrev pub RunsTrace : Type 0
+RunsTrace =
+    (c : Code) (s : State) (answers : List ℤ) →
+    ((xs ys : List Move) → DeterministicTrace c s answers xs → DeterministicTrace c s answers ys → xs ≡ ys)
+    × ((trace : List Move) → DeterministicTrace c s answers trace → (n : ℕ) → length trace ≤ n → Ended trace (after c n (begin s answers)))
+    × ((n : ℕ) → after c n (begin s answers) .stopped ≡ true → (trace : List Move) × DeterministicTrace c s answers trace × (length trace ≤ n))
+
+-- Theorem 14 of document 000: the maximum cost from an erasure of the start is at least the cost of the deterministic trace
 abbrev pub Theorem14 : Type 0
 Theorem14 =
-    (c : Code) (t : State) (k : ℕ) → CostMax (step c unknown) t k →
-    (s : State) → Cellwise Allowed s t → (answers : List ℤ) (n : ℕ) → after c n (begin s answers) .stopped ≡ true → after c n (begin s answers) .cycles ≤ k
+    (c : Code) (s : State) (answers : List ℤ) (trace : List Move) → DeterministicTrace c s answers trace →
+    (t : State) → Cellwise Refines s t → (k : ℕ) → CostMax (step c unknown) t k → cost trace ≤ k
 
 -- knowing more never costs more, of a bound M
 abbrev pub Monotone : (State → Verdict) → Type 0
 Monotone M = (t : State) (q : Report) → M t ≡ accepted q → (s : State) → Cellwise Refines s t → (r : Report) × (M s ≡ accepted r) × NoGreater r q
 
--- k is the value of f on some path, and no path has a larger one
-pub record LargestOver (P : List Move → Type 0) (f : List Move → ℕ) (k : ℕ) : Type 0 where
+-- a number is the value of f on some path, and no path has a larger one
+pub record LargestOver (IsPath : List Move → Type 0) (f : List Move → ℕ) (largest : ℕ) : Type 0 where
   pub witness : List Move
-  pub path : P witness
-  pub attains : f witness ≡ k
-  pub most : (ms : List Move) → P ms → f ms ≤ k
+  pub path : IsPath witness
+  pub attains : f witness ≡ largest
+  pub most : (moves : List Move) → IsPath moves → f moves ≤ largest
 
--- k is the height of some state that a trace reaches from s, and no trace reaches a higher one
-pub record LargestHeight (act : State → Try Next) (s : State) (k : ℕ) : Type 0 where
+-- a number is the height of some state that a trace reaches from the start, and no trace reaches a higher one
+pub record LargestHeight (act : State → Try Next) (start : State) (largest : ℕ) : Type 0 where
   pub deepest : State
   pub trace : List Move
-  pub reached : Trace act s trace deepest
-  pub attains : height deepest ≡ k
-  pub most : (ms : List Move) (t : State) → Trace act s ms t → height t ≤ k
+  pub reached : Trace act start trace deepest
+  pub attains : height deepest ≡ largest
+  pub most : (moves : List Move) (end : State) → Trace act start moves end → height end ≤ largest
 
--- Demand 2, of the report q of the bound from s, with so many openings on a path
-pub record Exact (c : Code) (openings : ℕ) (s : State) (q : Report) : Type 0 where
+-- Demand 2, of what the bound reports from a start, with so many openings on a path
+pub record Exact (code : Code) (openings : ℕ) (start : State) (reported : Report) : Type 0 where
   -- CYCLES is the maximum cost, and the cost of a path, and no path costs more
-  pub cycles : CostMax (step c unknown) s (q .cycles)
-  pub costliest : LargestOver (Path (step c unknown) s) cost (q .cycles)
+  pub cycles : CostMax (step code unknown) start (reported .cycles)
+  pub costliest : LargestOver (Path (step code unknown) start) cost (reported .cycles)
   -- PATH is the decisions of the maximum trace, whose cost is CYCLES (Lemma 12)
   pub trace : List Move
-  pub worst : RunMax (step c unknown) s trace
-  pub lemma12 : cost trace ≡ q .cycles
-  pub path : decisions trace ≡ q .path
+  pub worst : RunMax (step code unknown) start trace
+  pub lemma12 : cost trace ≡ reported .cycles
+  pub path : decisions trace ≡ reported .path
   -- WORDS is the largest word sum over all paths
-  pub words : LargestOver (Path (step c unknown) s) wordSum (q .words)
+  pub words : LargestOver (Path (step code unknown) start) wordSum (reported .words)
   -- DEPTH is the largest height over all states reached
-  pub depth : LargestHeight (step c unknown) s (q .depth)
+  pub depth : LargestHeight (step code unknown) start (reported .depth)
   -- STEPS is the number of steps of the tree
-  pub steps : Finite (step c unknown) openings s (q .steps)
+  pub steps : Finite (step code unknown) openings start (reported .steps)
 
--- Demand 2, whole: every accepted report is exact
-abbrev pub ExactReports : Type 0
-ExactReports = (c : Code) (budget : ℕ) (s : State) (q : Report) → bound c budget s ≡ accepted q → Exact c openingLimit s q
+-- Demand 2, whole: every report of the bound is exact
+abbrev pub BoundExact : Type 0
+BoundExact = (c : Code) (budget : ℕ) (s : State) (q : Report) → bound c budget s ≡ accepted q → Exact c openingLimit s q
 
 -- STEPS is the number of steps listed in depth-first order
 abbrev pub StepsListed : Type 0

@@ -9,7 +9,7 @@ use Rattle.cells.specs.declared.Value.the-variants.{Number, Unknown, Han
 use Rattle.cells.specs.declared.Cell.{Cell}
 use Rattle.cells.specs.declared.Unary.{Unary}
 use Rattle.cells.specs.declared.Binary.{Binary}
-use Rattle.cells.specs.Cells.{number, unknown, calculate₁, calculate₂, map₁, map₂, operate₁, operate₂, test, condition, handled, block}
+use Rattle.cells.specs.Cells.{number, unknown, calculate₁, calculate₂, map₁, map₂, operate₁, operate₂, conditionIn, condition, handled, block}
 use Rattle.cells.specs.Order.{Refines, same, erased, Allowed, known, some-number, same-handle}
 use Rattle.cells.proofs.Covering.{Covered, by-stuck, both, covered-self, Narrower, zeros, nonzeros, zero-unknown, nonzero-unknown, unknowns}
 
@@ -89,33 +89,33 @@ map₂-allowed f same-handle q = by-stuck
 
 -- conditions and handles
 
-test-erased : {two : Type 0} (n : ℤ) → Covered (Narrower two) (test (Number n)) (test Unknown)
-unfolding test
-test-erased (pos zero) = both zero-unknown
-test-erased (pos (suc n)) = both nonzero-unknown
-test-erased (negsuc n) = both nonzero-unknown
+condition-erased : {two : Type 0} (n : ℤ) → Covered (Narrower two) (conditionIn (Number n)) (conditionIn Unknown)
+unfolding conditionIn
+condition-erased (pos zero) = both zero-unknown
+condition-erased (pos (suc n)) = both nonzero-unknown
+condition-erased (negsuc n) = both nonzero-unknown
 
-test-known : {two : Type 0} (n : ℤ) → Covered (Narrower two) (test (Number n)) (test (Number n))
-unfolding test
-test-known (pos zero) = both zeros
-test-known (pos (suc n)) = both nonzeros
-test-known (negsuc n) = both nonzeros
+condition-known : {two : Type 0} (n : ℤ) → Covered (Narrower two) (conditionIn (Number n)) (conditionIn (Number n))
+unfolding conditionIn
+condition-known (pos zero) = both zeros
+condition-known (pos (suc n)) = both nonzeros
+condition-known (negsuc n) = both nonzeros
 
-test-self : (v : Value) → Covered (Narrower (Unit {0})) (test v) (test v)
-unfolding test
-test-self (Number n) = test-known n
-test-self Unknown = both (unknowns tt)
-test-self (Handle k) = by-stuck
+condition-self : (v : Value) → Covered (Narrower (Unit {0})) (conditionIn v) (conditionIn v)
+unfolding conditionIn
+condition-self (Number n) = condition-known n
+condition-self Unknown = both (unknowns tt)
+condition-self (Handle k) = by-stuck
 
 condition-refines : {a a′ : Cell} → Refines a a′ → Covered (Narrower (Unit {0})) (condition a) (condition a′)
 unfolding condition
-condition-refines (same {a}) = test-self (a .value)
-condition-refines (erased {n} h) = test-erased n
+condition-refines (same {a}) = condition-self (a .value)
+condition-refines (erased {n} h) = condition-erased n
 
 condition-allowed : {a a′ : Cell} → Allowed a a′ → Covered (Narrower ⊥) (condition a) (condition a′)
-unfolding condition test
-condition-allowed (known {n}) = test-known n
-condition-allowed (some-number {n} h) = test-erased n
+unfolding condition conditionIn
+condition-allowed (known {n}) = condition-known n
+condition-allowed (some-number {n} h) = condition-erased n
 condition-allowed same-handle = by-stuck
 
 block-refines : {a a′ : Cell} → Refines a a′ → Covered _≡_ (block a) (block a′)

@@ -66,16 +66,16 @@ unfoldable pub operate₂ : Binary → Cell → Cell → Try Cell
 operate₂ b a c = map₂ (calculate₂ b) (a .value) (c .value)
 
 -- a branch condition
-unfoldable pub test : Value → Try Condition
-test (Number (pos zero)) = done IsZero
-test (Number (pos (suc n))) = done IsNonzero
-test (Number (negsuc n)) = done IsNonzero
-test Unknown = done IsUnknown
-test (Handle k) = stuck
+unfoldable pub conditionIn : Value → Try Condition
+conditionIn (Number (pos zero)) = done IsZero
+conditionIn (Number (pos (suc n))) = done IsNonzero
+conditionIn (Number (negsuc n)) = done IsNonzero
+conditionIn Unknown = done IsUnknown
+conditionIn (Handle k) = stuck
 
 -- the same of a cell
 unfoldable pub condition : Cell → Try Condition
-condition a = test (a .value)
+condition a = conditionIn (a .value)
 
 -- "Stuck: a field access through a non-handle"
 unfoldable pub handled : Value → Try ℕ

@@ -34,7 +34,7 @@ pub record Explores (c : Code) (ns : List ℕ) (fs : List Cell) (start : Stacked
 -- some number in each unknown one; it is fed any list of input answers and interrupted after any number of steps"
 abbrev pub SafeUnder : Code → ℕ → ℕ → State → Found → Type 0
 SafeUnder c openings budget t r =
-    (q : Report) → r ≡ acceptedAs q → (s : State) → Cellwise Allowed s t → (answers : List ℤ) (n : ℕ) → Safe c (explore (step c unknown) openings budget) q n (after c n (begin s answers))
+    (q : Report) → r ≡ acceptedAs q → (s : State) → Cellwise Allowed s t → (answers : List ℤ) (n : ℕ) → Safe c (explore (step c unknown) openings budget) q (begin s answers) n (after c n (begin s answers))
 
 -- Demand 2, of an accepted answer for the start t
 abbrev pub ExactFor : Code → ℕ → State → Found → Type 0

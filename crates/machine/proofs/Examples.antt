@@ -7,7 +7,7 @@ use Rattle.text.specs.Text.{bytes, find, equals}
 use Rattle.numbers.specs.Numbers.{wrap, holds}
 use Rattle.cells.specs.Try.{stuck, done, _>>=_}
 use Rattle.cells.specs.declared.Cell.{Cell}
-use Rattle.cells.specs.Cells.{number, unknown, handle, calculate₁, calculate₂, map₁, map₂, operate₁, operate₂, test, condition, handled, block}
+use Rattle.cells.specs.Cells.{number, unknown, handle, calculate₁, calculate₂, map₁, map₂, operate₁, operate₂, conditionIn, condition, handled, block}
 use Rattle.instructions.specs.Kinds.{kinds, kindNames, operand}
 use Rattle.instructions.specs.Columns.{kindAt}
 use Rattle.machine.specs.Lists.{nth, put, without}
@@ -42,5 +42,5 @@ pub examples :
     × (step (one (bytes "STOP") (pos 0)) unknown (state 4 unknown []) ≡ stuck)
     × (step (one (bytes "GETFIELD2") (pos 0)) unknown (state 5 (handle 0) []) ≡ stuck)
     × (step (one (bytes "ADDINT") (pos 0)) unknown (state 5 (handle 0) (unknown ∷ [])) ≡ stuck)
-unfolding equals find kindNames wrap holds _>>=_ calculate₁ calculate₂ map₁ map₂ operate₁ operate₂ test condition handled block kinds operand kindAt instruction nth put without fetch height jump load restack reblock push pop store getField setField advance ahead ways opposite perform prepare execute step
+unfolding equals find kindNames wrap holds _>>=_ calculate₁ calculate₂ map₁ map₂ operate₁ operate₂ conditionIn condition handled block kinds operand kindAt instruction nth put without fetch height jump load restack reblock push pop store getField setField advance ahead ways opposite perform prepare execute step
 examples = (refl, refl, refl, refl, refl, refl, refl, refl, refl, refl, refl, refl)

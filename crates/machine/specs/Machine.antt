@@ -61,11 +61,11 @@ abbrev pub sum : Price → Price → Price
 sum p q = record { cycles = p .cycles + q .cycles; words = p .words + q .words }
 
 -- "A step costs its kind's price, a C_CALL also its primitive's."
-unfoldable pub cost : Prices → Argument → ℕ → ℤ → Price
-cost ps Absent k a = ps .kinds k
-cost ps Target k a = ps .kinds k
-cost ps Primitive k a = sum (ps .kinds k) (ps .primitives (natAbs a))
-cost ps (Within r) k a = ps .kinds k
+unfoldable pub priceOf : Prices → Argument → ℕ → ℤ → Price
+priceOf ps Absent k a = ps .kinds k
+priceOf ps Target k a = ps .kinds k
+priceOf ps Primitive k a = sum (ps .kinds k) (ps .primitives (natAbs a))
+priceOf ps (Within r) k a = ps .kinds k
 
 -- an operand that numbers an entry, a field, an address or a count of entries; no file has a negative one there
 abbrev pub index : ℤ → ℕ

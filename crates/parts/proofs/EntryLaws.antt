@@ -22,7 +22,7 @@ use Rattle.instructions.specs.declared.Operation.{Operation}
 use Rattle.instructions.specs.declared.Operation.the-variants.{Nothing, Access, Drop, Assign, Constant, GetField, SetField, Branch, BranchIf, BranchIfNot, Call, Stop, Alter, Combine}
 use Rattle.instructions.specs.Kinds.{Kind, kinds, kindNames, operand, calls, addresses}
 use Rattle.instructions.specs.Columns.{kindAt, operationCode, unaryCode, binaryCode, comparisonCode, operations, operationOf}
-use Rattle.machine.specs.Machine.{Price, Instruction, instruction, cost}
+use Rattle.machine.specs.Machine.{Price, Instruction, instruction, priceOf}
 use Rattle.states.specs.Columns.{line, lineOf, linesOf}
 use Rattle.routine.specs.Layout.{list}
 use Rattle.routine.specs.Rows.{op, arg, value, cycleCounts, wordCounts}
@@ -154,8 +154,8 @@ priced : (p : PriceLines) (a : Argument) (i : ℕ) (w : List ℕ) → _≡_ {A =
       cycles = naturalAt cycleCounts (p .kindCycles) i + cond (calls a) (naturalAt cycleCounts (p .primitiveCycles) (find w (list (p .primitives)))) 0;
       words = naturalAt wordCounts (p .kindWords) i + cond (calls a) (naturalAt wordCounts (p .primitiveWords) (find w (list (p .primitives)))) 0;
     })
-    (cost (pricesIn p) a i (argumentValue (list (p .primitives)) w a))
-unfolding cost pricesIn argumentValue
+    (priceOf (pricesIn p) a i (argumentValue (list (p .primitives)) w a))
+unfolding priceOf pricesIn argumentValue
 priced p Absent i w = alone (naturalAt cycleCounts (p .kindCycles) i) (naturalAt wordCounts (p .kindWords) i)
 priced p Target i w = alone (naturalAt cycleCounts (p .kindCycles) i) (naturalAt wordCounts (p .kindWords) i)
 priced p Primitive i w = refl
@@ -174,7 +174,7 @@ module _ (p : PriceLines) (text : List ℕ) (k : ℕ) (b : ℕ) (i : ℤ) (c w :
   unfolding instructionAs instruction
   entry-as r =
       let o : operationOf (b % 32) ≡ kindAt k .operation = ap operationOf (r .coded .code) ∙ operation-is (kindAt k .operation) in
-      let s : _≡_ {A = Price} (record { cycles = c; words = w }) (cost (pricesIn p) (kindAt k .argument) (find (op text) (list (p .kinds))) (argumentValue (list (p .primitives)) (arg text) (kindAt k .argument))) =
+      let s : _≡_ {A = Price} (record { cycles = c; words = w }) (priceOf (pricesIn p) (kindAt k .argument) (find (op text) (list (p .kinds))) (argumentValue (list (p .primitives)) (arg text) (kindAt k .argument))) =
       (λ j. record { cycles = r .cycles j; words = r .words j }) ∙ priced p (kindAt k .argument) (find (op text) (list (p .kinds))) (arg text) in
       λ j. record { pushes = r .coded .pushes j; operation = o j; operand = r .operand (list (p .primitives)) j; calls = r .coded .calls j; price = s j }
 

@@ -12,7 +12,7 @@ use Rattle.cells.specs.declared.Cell.{Cell}
 use Rattle.cells.specs.Cells.{number}
 use Rattle.instructions.specs.Kinds.{Kind, kindNames, calls}
 use Rattle.instructions.specs.Columns.{kindAt, operationCode}
-use Rattle.machine.specs.Machine.{State, Price, Prices, Instruction, instruction, cost}
+use Rattle.machine.specs.Machine.{State, Price, Prices, Instruction, instruction, priceOf}
 use Rattle.routine.specs.Layout.{list}
 use Rattle.routine.specs.Rows.{cellWord, op, arg, cycleCounts, wordCounts}
 use Rattle.routine.specs.Routine.{natural, argumentValue, cellOf}
@@ -46,7 +46,7 @@ pricesIn p = record { kinds = λ i. priceIn (p .kindCycles) (p .kindWords) i; pr
 unfoldable pub instructionAs : Kind → PriceLines → List ℕ → Instruction
 instructionAs k p text =
     let v = argumentValue (list (p .primitives)) (arg text) (k .argument) in
-    instruction k v (cost (pricesIn p) (k .argument) (find (op text) (list (p .kinds))) v)
+    instruction k v (priceOf (pricesIn p) (k .argument) (find (op text) (list (p .kinds))) v)
 
 -- the instruction of a code line
 unfoldable pub instructionIn : PriceLines → List ℕ → Instruction

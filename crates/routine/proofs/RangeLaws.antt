@@ -15,7 +15,7 @@ use Rattle.numbers.specs.declared.Range.{Range}
 use Rattle.numbers.specs.Numbers.{range, within}
 use Rattle.instructions.specs.declared.Argument.{Argument}
 use Rattle.instructions.specs.declared.Argument.the-variants.{Absent, Target, Primitive, Within}
-use Rattle.machine.specs.Machine.{instruction, Prices, cost}
+use Rattle.machine.specs.Machine.{instruction, Prices, priceOf}
 use Rattle.machine.proofs.PriceLaws.{AtMost}
 use Rattle.routine.specs.declared.Section.{Section}
 use Rattle.routine.specs.declared.Section.the-variants.{Limits as limits, Kinds as kinds, Primitives as primitives, Cells as cells}
@@ -94,13 +94,13 @@ module _ {ls : List Line} (p : Passes ls) where
 -- ---- prices
 
 -- a kind's price and a primitive's, each at most c cycles and w words
-cost-small : (c w : ℕ) (ps : Prices) → ((k : ℕ) → AtMost c w (ps .kinds k)) → ((i : ℕ) → AtMost c w (ps .primitives i))
-    → (a : Argument) (k : ℕ) (v : ℤ) → AtMost (c + c) (w + w) (cost ps a k v)
-unfolding cost
-cost-small c w ps f g Absent k v = let h = f k in omega arith
-cost-small c w ps f g Target k v = let h = f k in omega arith
-cost-small c w ps f g Primitive k v = let h = f k in let i = g (natAbs v) in omega arith
-cost-small c w ps f g (Within r) k v = let h = f k in omega arith
+price-of-small : (c w : ℕ) (ps : Prices) → ((k : ℕ) → AtMost c w (ps .kinds k)) → ((i : ℕ) → AtMost c w (ps .primitives i))
+    → (a : Argument) (k : ℕ) (v : ℤ) → AtMost (c + c) (w + w) (priceOf ps a k v)
+unfolding priceOf
+price-of-small c w ps f g Absent k v = let h = f k in omega arith
+price-of-small c w ps f g Target k v = let h = f k in omega arith
+price-of-small c w ps f g Primitive k v = let h = f k in let i = g (natAbs v) in omega arith
+price-of-small c w ps f g (Within r) k v = let h = f k in omega arith
 
 price-small : (s : Section) (ls : List Line) (i : ℕ) → AtMost 65535 255 (priceAt s ls i)
 unfolding priceAt
@@ -111,7 +111,7 @@ price-small s ls i = record {
 
 instruction-small : (ls : List Line) (text : List ℕ) → AtMost 131070 510 (instructionOf ls text .price)
 unfolding instructionOf instruction prices
-instruction-small ls text = cost-small 65535 255 (prices ls) (price-small kinds ls) (price-small primitives ls) _ _ _
+instruction-small ls text = price-of-small 65535 255 (prices ls) (price-small kinds ls) (price-small primitives ls) _ _ _
 
 pub every-mapped : {A B : Type 0} {P : B → Type 0} (f : A → B) → ((x : A) → P (f x)) → (xs : List A) → Every P (map f xs)
 every-mapped f h [] = Every.none

@@ -18,7 +18,7 @@ use Rattle.instructions.specs.Kinds.{addresses, kindNames}
 use Rattle.instructions.specs.Columns.{kindAt}
 use Rattle.instructions.specs.declared.Argument.{Argument}
 use Rattle.instructions.specs.declared.Argument.the-variants.{Absent, Target, Primitive, Within}
-use Rattle.machine.specs.Machine.{instruction, State, Price, Instruction, Prices, cost, Code}
+use Rattle.machine.specs.Machine.{instruction, State, Price, Instruction, Prices, priceOf, Code}
 use Rattle.routine.specs.declared.Section.{Section}
 use Rattle.routine.specs.declared.Section.the-variants.{Limits as limits, Kinds as kinds, Primitives as primitives, Cells as cells, Fields as fields}
 use Rattle.routine.specs.declared.Column.the-variants.{Limit as limit, Cycles as cycles, Words as words-column, Cell as cell}
@@ -81,7 +81,7 @@ unfoldable pub instructionOf : List Line → List ℕ → Instruction
 instructionOf ls text =
     let k = kindAt (find (op text) kindNames) in
     let v = argumentValue (listed (names primitives) ls) (arg text) (k .argument) in
-    instruction k v (cost (prices ls) (k .argument) (find (op text) (listed (names kinds) ls)) v)
+    instruction k v (priceOf (prices ls) (k .argument) (find (op text) (listed (names kinds) ls)) v)
 
 -- "AT starts anywhere from 0 to 60,000"
 unfoldable pub codeOf : List Line → Code

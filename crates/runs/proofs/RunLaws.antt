@@ -86,7 +86,7 @@ run-judged c budget s answers r v h e = h ∙ ap (judgeRun budget) e
 
 -- ---- demand 3
 
-pub safe-from : (c : Code) (s : State) (answers : List ℤ) (n : ℕ) (r : Run) → r ≡ after c n (begin s answers) → SafeFrom c s n r
+pub safe-from : (c : Code) (s : State) (answers : List ℤ) (n : ℕ) (r : Run) → r ≡ after c n (begin s answers) → SafeFrom c s answers n r
 unfolding bound
 safe-from c s answers n r e budget t q a w = rw e (interruptible c openingLimit budget t q a s w answers n)
 

@@ -2,6 +2,7 @@
 use Prim.Native.Nat.{ℕ, _≤_, _<_}
 use mathlib.Core.Path.{_≡_}
 use mathlib.Core.List.{List, []}
+use lib.IntN.{ℤ}
 use Rattle.refusals.specs.declared.Refusal.the-variants as refusals
 use Rattle.cells.specs.Order.{Allowed}
 use Rattle.cells.specs.declared.Cell.{Cell}
@@ -15,7 +16,7 @@ use Rattle.machine.specs.Order.{Cellwise}
 use Rattle.outcomes.specs.Outcome.{drops}
 use Rattle.bounds.specs.Tree.{Report, accepted, refused, bound}
 use Rattle.bounds.specs.Tree as bounds
-use Rattle.bounds.specs.Run.{Run}
+use Rattle.bounds.specs.Run.{Run, begin}
 use Rattle.bounds.specs.Promises.{NoGreater, Safe}
 use Rattle.progress.specs.declared.Progress.{Progress}
 use Rattle.progress.specs.Progress.{Sound}
@@ -47,9 +48,10 @@ pub record Possible (o : Operation) (n h : ℕ) (x : Outcome) : Type 0 where
   pub stores : (c : Cell) → x ≡ Stores c → n < h
   pub sets : (c : Cell) → x ≡ Sets c → 0 < h
 
--- Demand 3, of the run r that n steps from s have made: under every bound that accepts a start which allows s
-abbrev pub SafeFrom : Code → State → ℕ → Run → Type 0
-SafeFrom c s n r = (budget : ℕ) (t : State) (q : Report) → bound c budget t ≡ accepted q → Cellwise Allowed s t → Safe c (bound c budget) q n r
+-- Demand 3, of the run r that n steps from s have made with the answers: under every bound that accepts a start which allows s
+abbrev pub SafeFrom : Code → State → List ℤ → ℕ → Run → Type 0
+SafeFrom c s answers n r =
+    (budget : ℕ) (t : State) (q : Report) → bound c budget t ≡ accepted q → Cellwise Allowed s t → Safe c (bound c budget) q (begin s answers) n r
 
 -- where the bound accepts a start that allows s, the verdict v is accepted, with no figure greater
 abbrev pub WithinBound : Code → ℕ → State → bounds.Verdict → Type 0

@@ -200,7 +200,7 @@ pub fn after(
 ) -> Progress
     requires { ⌜ Sized (now codes) (now operands) (now cycles) (now words) × (first + length (now codes) ≤ 65536) × Fits (now sizes) blocks × (start .free ≤ 64) × (n ≤ 1000000) ⌝ }
     ensures { λ r. ⌜ ofProgress (now (sizes .entry)) (now (answers .entry)) r ≡ after (codeOf first (now (codes .entry)) (now (operands .entry)) (now (cycles .entry)) (now (words .entry))) n (begin (whole (now (sizes .entry)) blocks (beside stack start)) (now (answers .entry))) ⌝ }
-    ensures safe { λ r. ⌜ SafeFrom (codeOf first (now (codes .entry)) (now (operands .entry)) (now (cycles .entry)) (now (words .entry))) (whole (now (sizes .entry)) blocks (beside stack start)) n (ofProgress (now (sizes .entry)) (now (answers .entry)) r) ⌝ }
+    ensures safe { λ r. ⌜ SafeFrom (codeOf first (now (codes .entry)) (now (operands .entry)) (now (cycles .entry)) (now (words .entry))) (whole (now (sizes .entry)) blocks (beside stack start)) (now (answers .entry)) n (ofProgress (now (sizes .entry)) (now (answers .entry)) r) ⌝ }
 {
     let mut r = progress::begin(start, stack, blocks);
     let mut i = 0;

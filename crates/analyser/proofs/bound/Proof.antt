@@ -6,7 +6,7 @@ use Rattle.rows.specs.Checks.{readBy}
 use mathlib.Core.Path.{sym, ap, _∙_}
 use lib.ListN.{length}
 use denote.Ref.{now}
-use Rattle.analyser.proofs.FunctionLaws.{gives-refusal, reading-refused, reading-limited, reading-routine, bound-short, bound-refused, bound-passed, bound-printable, safe-reports, exact-reports}
+use Rattle.analyser.proofs.FunctionLaws.{gives-refusal, reading-refused, reading-limited, reading-routine, bound-short, bound-refused, bound-passed, bound-printable, bound-keeps}
 use borrow.Author.Needs.{needs}
 use Rattle.analyser.proofs.bound.Statement.{statement}
 use Rattle.analyser.proofs.bound.Tie as tie
@@ -14,7 +14,7 @@ use Rattle.analyser.proofs.bound.Tie as tie
 returns : tie.Need-returns
 returns c =
     let g = gives-refusal _ _ (bound-short (now (c .before .before .before .args .text)) (length (now (c .before .before .before .args .out))) (c .if1 .taken)) _ in
-    (g .0, (g .1, (safe-reports _ _, exact-reports _ _)))
+    bound-keeps _ _ _ _ _ g
 
 read-requires : tie.Need-read-requires
 read-requires c κs = search needs
@@ -42,7 +42,7 @@ returns-2 c =
     let r = c .before .before .before .before .before .before .before .read .result in
     let e = reading-routine r _ (c .before .before .before .before .before .before .before .read .ensures) (c .before .before .before .before .before .enum-told .given .1) in
     let q = sym (bound-passed (now (c .before .before .before .before .before .before .before .before .before .before .before .args .text)) (length (now (c .before .before .before .before .before .before .before .before .before .before .before .args .out))) (c .before .before .before .before .before .before .before .before .if1 .left) _ e) in
-    (c .before .before .bound-routine .ensures .0 ∙ ap answerOf q, (c .before .before .bound-routine .ensures .1 ∙ ap (λ a. memory a (now (c .before .before .before .before .before .before .before .before .before .before .before .args .out))) q, (safe-reports _ _, exact-reports _ _)))
+    bound-keeps _ _ _ _ _ (c .before .before .bound-routine .ensures .0 ∙ ap answerOf q, c .before .before .bound-routine .ensures .1 ∙ ap (λ a. memory a (now (c .before .before .before .before .before .before .before .before .before .before .before .args .out))) q)
 
 returns-3 : tie.Need-returns-3
 unfolding readBy
@@ -50,7 +50,7 @@ returns-3 c =
     let r = c .before .before .before .read .result in
     let e = reading-refused r _ (c .before .before .before .read .ensures) _ (c .before .checked .given .1) in
     let g = gives-refusal _ _ (bound-refused (now (c .before .before .before .before .before .before .before .args .text)) (length (now (c .before .before .before .before .before .before .before .args .out))) (c .before .before .before .before .if1 .left) _ e) _ in
-    (g .0, (g .1, (safe-reports _ _, exact-reports _ _)))
+    bound-keeps _ _ _ _ _ g
 
 pub bound-spec : {M : Type 1} → statement M
 bound-spec =

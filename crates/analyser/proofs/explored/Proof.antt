@@ -5,7 +5,7 @@ use mathlib.Core.Path.{_≡_, sym}
 use lib.ListN.{length}
 use Rattle.states.proofs.Stack.{length-images}
 use Rattle.reader.proofs.ReaderLaws.{taken}
-use Rattle.analyser.proofs.FunctionLaws.{ready, explored-shows, explored-modest}
+use Rattle.analyser.proofs.FunctionLaws.{ready, explored-shows, explored-shareable}
 use Rattle.analyser.proofs.explored.Statement.{statement}
 use Rattle.analyser.proofs.explored.Tie as tie
 
@@ -43,7 +43,7 @@ explore-requires : tie.Need-explore-requires
 explore-requires c κs = let s = c .before .before .before .before .before .before .before .before .before .before .before .before .before .before .before in (s .pre .sized, ready (s .args .x) (s .pre))
 
 returns : tie.Need-returns
-returns c = let s = c .before .before .before .before .before .before .before .before .before .before .before .before .before .before .before .before in (explored-shows (s .args .x) (s .pre) _ (c .explore .ensures .0), explored-modest (s .args .x) (s .pre) _ (c .explore .ensures .1 .1 .1))
+returns c = let s = c .before .before .before .before .before .before .before .before .before .before .before .before .before .before .before .before in (explored-shows (s .args .x) (s .pre) _ (c .explore .ensures .0), explored-shareable (s .args .x) (s .pre) _ (c .explore .ensures .1 .1 .1))
 
 pub explored-spec : {M : Type 1} → statement M
 explored-spec =

@@ -6,7 +6,7 @@ use Rattle.rows.specs.Checks.{readBy}
 use mathlib.Core.Path.{sym, ap, _∙_}
 use lib.ListN.{length}
 use denote.Ref.{now}
-use Rattle.analyser.proofs.FunctionLaws.{gives-refusal, reading-refused, reading-limited, reading-routine, run-short, run-refused, run-passed, run-printable, runs-within}
+use Rattle.analyser.proofs.FunctionLaws.{gives-refusal, reading-refused, reading-limited, reading-routine, run-short, run-refused, run-passed, run-printable, run-keeps}
 use borrow.Author.Needs.{needs}
 use Rattle.analyser.proofs.run.Statement.{statement}
 use Rattle.analyser.proofs.run.Tie as tie
@@ -14,7 +14,7 @@ use Rattle.analyser.proofs.run.Tie as tie
 returns : tie.Need-returns
 returns c =
     let g = gives-refusal _ _ (run-short (now (c .before .before .before .args .text)) (length (now (c .before .before .before .args .out))) (c .if1 .taken)) _ in
-    (g .0, (g .1, runs-within _ _))
+    run-keeps _ _ _ _ _ g
 
 read-requires : tie.Need-read-requires
 read-requires c κs = search needs
@@ -42,7 +42,7 @@ returns-2 c =
     let r = c .before .before .before .before .before .before .before .read .result in
     let e = reading-routine r _ (c .before .before .before .before .before .before .before .read .ensures) (c .before .before .before .before .before .enum-told .given .1) in
     let q = sym (run-passed (now (c .before .before .before .before .before .before .before .before .before .before .before .args .text)) (length (now (c .before .before .before .before .before .before .before .before .before .before .before .args .out))) (c .before .before .before .before .before .before .before .before .if1 .left) _ e) in
-    (c .before .before .run-routine .ensures .0 ∙ ap answerOf q, (c .before .before .run-routine .ensures .1 ∙ ap (λ a. memory a (now (c .before .before .before .before .before .before .before .before .before .before .before .args .out))) q, runs-within _ _))
+    run-keeps _ _ _ _ _ (c .before .before .run-routine .ensures .0 ∙ ap answerOf q, c .before .before .run-routine .ensures .1 ∙ ap (λ a. memory a (now (c .before .before .before .before .before .before .before .before .before .before .before .args .out))) q)
 
 returns-3 : tie.Need-returns-3
 unfolding readBy
@@ -50,7 +50,7 @@ returns-3 c =
     let r = c .before .before .before .read .result in
     let e = reading-refused r _ (c .before .before .before .read .ensures) _ (c .before .checked .given .1) in
     let g = gives-refusal _ _ (run-refused (now (c .before .before .before .before .before .before .before .args .text)) (length (now (c .before .before .before .before .before .before .before .args .out))) (c .before .before .before .before .if1 .left) _ e) _ in
-    (g .0, (g .1, runs-within _ _))
+    run-keeps _ _ _ _ _ g
 
 pub run-spec : {M : Type 1} → statement M
 run-spec =

@@ -1,7 +1,7 @@
 -- `analyser::tickbound_bound` meets its contract. Assumes nothing.
 use Rattle.analyser.specs.Functions.{wordOf}
 use mathlib.Core.Path.{ap, _∙_}
-use Rattle.analyser.proofs.FunctionLaws.{bound-tells, safe-reports, exact-reports}
+use Rattle.analyser.proofs.FunctionLaws.{bound-tells, bound-length}
 use borrow.Author.Needs.{needs}
 use Rattle.analyser.proofs.tickbound_bound.Statement.{statement}
 use Rattle.analyser.proofs.tickbound_bound.Tie as tie
@@ -16,7 +16,11 @@ same-length : tie.Need-same-length
 same-length c = search needs
 
 returns : tie.Need-returns
-returns c = let w = c .word-of .ensures ∙ ap wordOf (c .before .before .before .bound .ensures .0) in (w, (c .before .before .before .bound .ensures .1 .0, (bound-tells _ _ _ w, (safe-reports _ _, exact-reports _ _))))
+returns c =
+    let b = c .before .before .before .bound .ensures in
+    let w = c .word-of .ensures ∙ ap wordOf (b .0) in
+    let l = bound-length _ _ _ (b .0) _ (c .word-of .ensures) in
+    (w, (b .1 .0, (bound-tells _ _ _ w, rw l at (b .1 .1))))
 
 pub tickbound-bound-spec : {M : Type 1} → statement M
 tickbound-bound-spec = tie.close (tie.spec bound-requires word-of-requires same-length returns)

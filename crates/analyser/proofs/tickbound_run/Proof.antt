@@ -1,7 +1,7 @@
 -- `analyser::tickbound_run` meets its contract. Assumes nothing.
 use Rattle.analyser.specs.Functions.{wordOf}
 use mathlib.Core.Path.{ap, _∙_}
-use Rattle.analyser.proofs.FunctionLaws.{run-tells, runs-within}
+use Rattle.analyser.proofs.FunctionLaws.{run-tells, run-length}
 use borrow.Author.Needs.{needs}
 use Rattle.analyser.proofs.tickbound_run.Statement.{statement}
 use Rattle.analyser.proofs.tickbound_run.Tie as tie
@@ -16,7 +16,11 @@ same-length : tie.Need-same-length
 same-length c = search needs
 
 returns : tie.Need-returns
-returns c = let w = c .word-of .ensures ∙ ap wordOf (c .before .before .before .run .ensures .0) in (w, (c .before .before .before .run .ensures .1 .0, (run-tells _ _ _ w, runs-within _ _)))
+returns c =
+    let b = c .before .before .before .run .ensures in
+    let w = c .word-of .ensures ∙ ap wordOf (b .0) in
+    let l = run-length _ _ _ (b .0) _ (c .word-of .ensures) in
+    (w, (b .1 .0, (run-tells _ _ _ w, rw l at (b .1 .1))))
 
 pub tickbound-run-spec : {M : Type 1} → statement M
 tickbound-run-spec = tie.close (tie.spec run-requires word-of-requires same-length returns)
