@@ -3,27 +3,34 @@
 use mathlib.Core.Path.{_≡_, refl}
 use mathlib.Core.List.{List, [], _∷_, _++_}
 use Prim.Native.Nat.{ℕ}
+use native.Mathlib.Omega.{arith}
 use Prim.Native.String.{String}
-use lib.IntN.{pos, negsuc}
+use lib.IntN.{ℤ, pos, negsuc}
 use Rattle.refusals.specs.Refusals as refusals
 use Rattle.text.specs.Text as text
 use Rattle.text.specs.Decimal as decimals
 use Rattle.numbers.specs.Numbers as numbers
 use Rattle.cells.specs.Try as try
 use Rattle.cells.specs.Cells as cells
-use Rattle.cells.specs.declared.Binary.the-variants.{Add}
-use Rattle.cells.specs.declared.Unary.the-variants.{Negate}
+use Rattle.cells.specs.Order.{Allowed, known, some-number, end, cons}
+use Rattle.cells.specs.declared.Value.the-variants.{Number}
+use Rattle.cells.specs.declared.Cell.{Cell}
 use Rattle.instructions.specs.Kinds as kinds
 use Rattle.instructions.specs.Columns as columns
 use Rattle.machine.specs.Lists as lists
 use Rattle.machine.specs.Machine as machine
+use Rattle.machine.specs.Order.{Cellwise}
 use Rattle.bounds.specs.Tree as tree
 use Rattle.bounds.specs.Run as run
+use Rattle.bounds.specs.Promises.{Safe}
+use Rattle.bounds.proofs.Interrupted as interrupted
 use Rattle.routine.specs.Layout as layout
 use Rattle.routine.specs.Rows as rows
 use Rattle.routine.specs.Routine as routines
 use Rattle.report.specs.Report as reports
 use Rattle.analyser.specs.Answers as answers
+use Rattle.analyser.specs.Promises.{BoundReported, SafeRuns}
+use Rattle.analyser.proofs.AnswerLaws.{reports-kept}
 
 -- a file by its lines
 abbrev file : List String → List ℕ
@@ -90,7 +97,22 @@ Runs text expected = answers.printed (answers.runAnswer text 128) ≡ file expec
 abbrev report : String → List String
 report values = "CYCLES WORDS DEPTH STEPS SHARE PATH" ∷ values ∷ []
 
-pub starred :
+-- the cell with a number that stands as it is
+abbrev cell : ℤ → Cell
+cell z = cells.cell (Number z)
+
+abbrev state : ℕ → ℤ → List Cell → machine.State
+state at accu stack = record { at = at; accu = cell accu; stack = stack; blocks = [] }
+
+-- the one step of a kind that takes no argument, from an accumulator and a stack, leaves another accumulator and an empty stack
+abbrev Gives : String → ℤ → List Cell → ℤ → Type 0
+Gives kind accu stack expected =
+    let price : machine.Price = record { cycles = 1; words = 0 } in
+    let code : machine.Code = record { first = 0; instructions = machine.instruction (columns.kindAt (text.find (text.bytes kind) kinds.kindNames)) (pos 0) price ∷ [] } in
+    machine.step code cells.unknown (state 0 accu stack) ≡ try.done (machine.goes price (state 1 expected []))
+
+abbrev Starred : Type 0
+Starred =
     Bounds case1 (report "65 4 1 6 65 N")
     × Bounds case1-half (report "65 4 1 6 33 N")
     × Bounds case2 (report "6 0 0 3 6 T")
@@ -99,9 +121,53 @@ pub starred :
     × Bounds case3 (report "0 0 0 1 0 -")
     × Bounds case4 (report "13 9 0 5 13 N")
     -- case 5: 2147483647 plus 1 is -2147483648, and NEGINT of -2147483648 is itself
-    × (cells.operate₂ Add (cells.number (pos 2147483647)) (cells.number (pos 1)) ≡ try.done (cells.number (negsuc 2147483647)))
-    × (cells.operate₁ Negate (pos 0) (cells.number (negsuc 2147483647)) ≡ try.done (cells.number (negsuc 2147483647)))
+    × Gives "ADDINT" (pos 2147483647) (cell (pos 1) ∷ []) (negsuc 2147483647)
+    × Gives "NEGINT" (negsuc 2147483647) [] (negsuc 2147483647)
     × Bounds case6 ("REFUSED 7 1" ∷ [])
     × Runs case7 ("CYCLES WORDS DEPTH STEPS" ∷ "56 4 1 3" ∷ [])
-unfolding case1 case1-half case2 case2-spent case2-exact case3 case4 case6 case7 refusals.number refusals.place text.equals text.split text.words text.linesOf text.lines text.find text.among text.all text.distinct decimals.digitsFrom decimals.natural decimals.numeral decimals.digits decimals.decimal numbers.wrap numbers.holds try._>>=_ cells.calculate₁ cells.calculate₂ cells.map₁ cells.map₂ cells.operate₁ cells.operate₂ cells.conditionIn cells.condition cells.handled cells.block kinds.kinds kinds.kindNames kinds.operand lists.nth lists.put lists.without machine.height machine.priceOf machine.fetch machine.jump machine.load machine.restack machine.store machine.push machine.pop machine.getField machine.setField machine.advance machine.ahead machine.ways machine.opposite machine.perform machine.prepare machine.execute machine.step machine.takes machine.takesAnswer tree.expand tree.tree tree.address tree.steps tree.size tree.cycles tree.words tree.depth tree.worse tree.path tree.report tree.refusal tree.judge tree.verdict tree.explore tree.bound run.begin run.answer run.remaining run.moved run.leads run.once run.after run.stuckAt run.isStuck run.boundedAfresh run.judgeRun run.run layout.isAnswer layout.body layout.upToAnswer layout.pastAnswer layout.codeLines layout.answerLines layout.answerRoles layout.codeRoles layout.bodyRoles layout.roles layout.list layout.textAt layout.listed rows.isNumeral rows.valueOf rows.value rows.knownOf rows.blockOf rows.hashed rows.cellWord rows.isCell rows.cellInRange rows.cellPresent rows.isKnown rows.isName rows.stackNames rows.cellNames rows.equalLists rows.isField rows.sizesFrom rows.blockSizes rows.total rows.kindNamed rows.argumentOf rows.onArgument rows.argumentLaidOut rows.argumentInRange rows.argumentNamed rows.argumentReaches rows.columnInRange rows.columnLaidOut rows.onCells rows.namesLaidOut rows.valuesLaidOut rows.codeLaidOut rows.answerLaidOut rows.laidOut rows.codeInRange rows.answerInRange rows.inRange rows.wellNamed rows.firstAt rows.codeNamed rows.named rows.priced rows.codeReaches rows.reaches rows.allKnown rows.test rows.earliest rows.fault routines.inside routines.limitAt routines.priceAt routines.prices routines.argumentValue routines.instructionOf columns.kindAt machine.instruction routines.codeOf routines.cellOf routines.cellsOf routines.blocksOf routines.startOf routines.routineOf routines.orElse routines.checked routines.limited routines.readBound routines.readRun reports.share reports.pathText reports.figures reports.boundText reports.runText reports.refusalLine reports.refusalText answers.ofVerdict answers.ofReading answers.boundRoutine answers.runRoutine answers.boundAnswer answers.runAnswer answers.memory answers.printed
-starred = (refl, refl, refl, refl, refl, refl, refl, refl, refl, refl, refl)
+
+-- ---- demand 3 of a file: case 1, and its file with S0 known and one answer (case 7)
+
+-- what the published file holds, with its start and its answers
+abbrev holding : machine.State → List ℤ → routines.Routine
+holding start given = record { budget = 1000; tick = 1000; code = interrupted.code; start = start; answers = given }
+
+abbrev figures : tree.Report
+figures = record { cycles = 65; words = 4; depth = 1; steps = 6; path = tree.N ∷ [] }
+
+-- case 1 is answered by a report; case 7 holds the same code, S0 0 and the answer 7
+abbrev Published : Type 0
+Published =
+    (answers.boundAnswer case1 128 ≡ answers.reported (file (report "65 4 1 6 65 N")))
+    × (routines.readBound case1 ≡ routines.routine (holding (state 0 (pos 0) (cells.unknown ∷ [])) []))
+    × (routines.readRun case7 ≡ routines.routine (holding (state 0 (pos 0) (cell (pos 0) ∷ [])) (pos 7 ∷ [])))
+
+computed : Starred × Published
+unfolding case1 case1-half case2 case2-spent case2-exact case3 case4 case6 case7 refusals.number refusals.place text.equals text.split text.words text.linesOf text.lines text.find text.among text.all text.distinct decimals.digitsFrom decimals.natural decimals.numeral decimals.digits decimals.decimal numbers.wrap numbers.holds try._>>=_ cells.calculate₁ cells.calculate₂ cells.map₁ cells.map₂ cells.operate₁ cells.operate₂ cells.conditionIn cells.condition cells.handled cells.block kinds.kinds kinds.kindNames kinds.operand lists.nth lists.put lists.without machine.height machine.priceOf machine.fetch machine.jump machine.load machine.restack machine.store machine.push machine.pop machine.getField machine.setField machine.advance machine.ahead machine.ways machine.opposite machine.perform machine.prepare machine.execute machine.step machine.takes machine.takesAnswer tree.expand tree.tree tree.address tree.steps tree.size tree.cycles tree.words tree.depth tree.worse tree.path tree.report tree.refusal tree.judge tree.verdict tree.explore tree.bound run.begin run.answer run.remaining run.moved run.leads run.once run.after run.stuckAt run.isStuck run.boundedAfresh run.judgeRun run.run layout.isAnswer layout.body layout.upToAnswer layout.pastAnswer layout.codeLines layout.answerLines layout.answerRoles layout.codeRoles layout.bodyRoles layout.roles layout.list layout.textAt layout.listed rows.isNumeral rows.valueOf rows.value rows.knownOf rows.blockOf rows.hashed rows.cellWord rows.isCell rows.cellInRange rows.cellPresent rows.isKnown rows.isName rows.stackNames rows.cellNames rows.equalLists rows.isField rows.sizesFrom rows.blockSizes rows.total rows.kindNamed rows.argumentOf rows.onArgument rows.argumentLaidOut rows.argumentInRange rows.argumentNamed rows.argumentReaches rows.columnInRange rows.columnLaidOut rows.onCells rows.namesLaidOut rows.valuesLaidOut rows.codeLaidOut rows.answerLaidOut rows.laidOut rows.codeInRange rows.answerInRange rows.inRange rows.wellNamed rows.firstAt rows.codeNamed rows.named rows.priced rows.codeReaches rows.reaches rows.allKnown rows.test rows.earliest rows.fault routines.inside routines.limitAt routines.priceAt routines.prices routines.argumentValue routines.instructionOf columns.kindAt machine.instruction interrupted.code routines.codeOf routines.cellOf routines.cellsOf routines.blocksOf routines.startOf routines.routineOf routines.orElse routines.checked routines.limited routines.readBound routines.readRun reports.share reports.pathText reports.figures reports.boundText reports.runText reports.refusalLine reports.refusalText answers.ofVerdict answers.ofReading answers.boundRoutine answers.runRoutine answers.boundAnswer answers.runAnswer answers.memory answers.printed
+computed = ((refl, refl, refl, refl, refl, refl, refl, refl, refl, refl, refl), (refl, refl, refl))
+
+pub starred : Starred
+starred = computed .0
+
+-- the report on a text, with its routine and its figures
+report-of : (x : routines.Routine) (q : tree.Report) (bytes : List ℕ) → routines.readBound case1 ≡ routines.routine x → tree.bound (x .code) (x .budget) (x .start) ≡ tree.accepted q →
+    (y : routines.Routine) (p : tree.Report) → BoundReported case1 bytes y p → SafeRuns y p → SafeRuns x q
+report-of x q bytes e f y p is safe =
+    let same : y ≡ x = cc (is .reads) in
+    let g : tree.bound (x .code) (x .budget) (x .start) ≡ tree.accepted p = rw same at (is .accepts) in
+    let alike : p ≡ q = cc in
+    rw (same, alike) at safe
+
+is-allowed : Cellwise Allowed (state 0 (pos 0) (cell (pos 0) ∷ [])) (state 0 (pos 0) (cells.unknown ∷ []))
+is-allowed = record { at = refl; accu = known; stack = cons (some-number {n = pos 0} (record { fits = omega arith })) end; blocks = end }
+
+-- the published file, run with S0 0 and the answer 7, and interrupted after any number of steps: what is spent and what is bounded afresh are within
+-- 65 cycles and 4 words, the stack is nowhere higher than 1, and STOP is made within 6 steps
+pub published-interrupted : Published × ((n : ℕ) →
+    let begun = run.begin (state 0 (pos 0) (cell (pos 0) ∷ [])) (pos 7 ∷ []) in
+    Safe interrupted.code (tree.bound interrupted.code 1000) figures begun n (run.after interrupted.code n begun))
+unfolding numbers.wrap
+published-interrupted =
+    let (e, reads, runs) = computed .1 in
+    let (y, p, is, safe) = reports-kept case1 128 _ e .0 in
+    (computed .1, report-of (holding (state 0 (pos 0) (cells.unknown ∷ [])) []) figures _ reads (interrupted.interrupted .0) y p is safe _ is-allowed (pos 7 ∷ []))

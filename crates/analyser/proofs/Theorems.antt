@@ -1,8 +1,6 @@
 -- What is proved, by the names of the statements in specs/. Nothing else of proofs/ needs to be read.
 -- Assumes nothing.
-use mathlib.Core.List.{[], _∷_}
 use Prim.Native.Nat.{ℕ}
-use lib.IntN.{pos}
 use Rattle.text.proofs.DecimalLaws.{decimal-read}
 use Rattle.cells.specs.declared.Cell.{Cell}
 use Rattle.cells.specs.Cells.{unknown}
@@ -15,13 +13,11 @@ use Rattle.machine.proofs.NextCovering.{NextCovered}
 use Rattle.machine.proofs.StateLaws.{cellwise-refl, cellwise-trans}
 use Rattle.machine.proofs.StepLaws.{step-law}
 use Rattle.bounds.specs.Tree.{openingLimit, bound}
-use Rattle.bounds.specs.Run.{begin, after}
 use Rattle.bounds.specs.Promises as bounds
 use Rattle.bounds.proofs.PromiseLaws as promise-laws
 use Rattle.bounds.proofs.RunLaws as run-laws
 use Rattle.bounds.proofs.TraceLaws as trace-laws
 use Rattle.bounds.proofs.RunVerdictLaws as run-verdict-laws
-use Rattle.bounds.proofs.Interrupted as example
 use Rattle.report.proofs.ReportLaws.{share-nearest, share-unique}
 use Rattle.analyser.specs.Promises as answers
 use Rattle.analyser.specs.Functions as functions
@@ -50,14 +46,10 @@ pub monotone : (c : Code) (budget : ℕ) → bounds.Monotone (bound c budget)
 unfolding bound
 monotone c budget = promise-laws.monotone c openingLimit budget
 
--- demand 3
+-- demand 3; `published-interrupted` in Cases is its instance at a file
 pub interruptible : (c : Code) (budget : ℕ) → bounds.Interruptible c (bound c budget)
 unfolding bound
 interruptible c budget = promise-laws.interruptible c openingLimit budget
-
--- with one instance: case 1's start, the answer 7
-pub interruptible-instance : (n : ℕ) → bounds.Safe example.code (bound example.code 1000) example.reported (begin example.plain (pos 7 ∷ [])) n (after example.code n (begin example.plain (pos 7 ∷ [])))
-interruptible-instance = example.interrupted .1
 
 pub nothing-follows : bounds.NothingFollows
 nothing-follows = run-laws.nothing-follows

@@ -153,7 +153,7 @@ pub fn bound(text: &[u8], out: &mut [u8]) -> Answer
 {
     let lent = out.len();
     if lent < 128 {
-        return Answer::Refused(Refusal::ReportMemory);
+        return Answer::Refused(Refusal::ReportMemory); // the first row, before the text is read
     }
     let reading = reader::read(Reader::Bound, text);
     let checked = reading.checked;

@@ -24,7 +24,7 @@ use Rattle.bounds.proofs.PromiseLaws.{interruptible}
 abbrev line : List ℕ → ℕ → ℕ → ℕ → Instruction
 line name a c w = instruction (kindAt (find name kindNames)) (pos a) (record { cycles = c; words = w })
 
-pub code : Code
+unfoldable pub code : Code
 code = record {
   first = 0;
   instructions =
