@@ -17,6 +17,12 @@ pub enum Refusal {
     Spent(usize),
 }
 
+// How a check of a text, a bound or a run ends.
+pub enum Verdict {
+    Accepted,
+    Refused(Refusal),
+}
+
 // The number of a refusal.
 pub fn number(refusal: Refusal) -> u64
     ensures { λ r. ⌜ r ≡ number refusal ⌝ }

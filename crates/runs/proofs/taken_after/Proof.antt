@@ -1,8 +1,8 @@
--- `progress::taken_after` meets its contract. Assumes nothing.
+-- `runs::taken_after` meets its contract. Assumes nothing.
 use borrow.Author.Needs.{needs}
-use Rattle.progress.proofs.ProgressLaws.{takes-one, takes-none}
-use Rattle.progress.proofs.taken_after.Statement.{statement}
-use Rattle.progress.proofs.taken_after.Tie as tie
+use Rattle.runs.proofs.RunLaws.{takes-one, takes-none}
+use Rattle.runs.proofs.taken_after.Statement.{statement}
+use Rattle.runs.proofs.taken_after.Tie as tie
 
 add-result : tie.Need-add-result
 add-result c = search needs

@@ -1,4 +1,4 @@
--- `progress::answer_at` meets its contract. Assumes nothing.
+-- `runs::answer_at` meets its contract. Assumes nothing.
 use mathlib.Core.Path.{ap, _∙_}
 use lib.IntN.{pos}
 use lib.ListN.{getD}
@@ -7,9 +7,9 @@ use mir.Val.{SFits}
 use mir.ValLaws.{toZ-ofZ}
 use borrow.Author.Needs.{needs}
 use Rattle.cells.specs.Cells.{number}
-use Rattle.progress.proofs.ProgressLaws.{answer-out, answer-in}
-use Rattle.progress.proofs.answer_at.Statement.{statement}
-use Rattle.progress.proofs.answer_at.Tie as tie
+use Rattle.runs.proofs.RunLaws.{answer-out, answer-in}
+use Rattle.runs.proofs.answer_at.Statement.{statement}
+use Rattle.runs.proofs.answer_at.Tie as tie
 
 number-requires : tie.Need-number-requires
 number-requires c κs = search needs

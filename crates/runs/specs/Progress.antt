@@ -1,0 +1,20 @@
+-- What a run so far stands for in code.
+use Prim.Native.Nat.{ℕ}
+use mathlib.Core.List.{List}
+use lib.IntN.{ℤ}
+use lib.ListN.{drop}
+use Rattle.states.specs.View.{whole}
+use Rattle.bounds.specs.Run.{Run}
+use Rattle.runs.specs.declared.Progress.{Progress}
+
+-- the run, with blocks of the sizes ns, over the listed answers
+unfoldable pub ofProgress : List ℕ → List ℤ → Progress → Run
+ofProgress ns answers r = record {
+  state = whole ns (r .blocks) (r .state);
+  answers = drop (r .taken) answers;
+  cycles = r .cycles;
+  words = r .words;
+  depth = r .depth;
+  steps = r .steps;
+  stopped = r .stopped;
+}
