@@ -3,7 +3,6 @@
 use mathlib.Core.Path.{_≡_, refl, sym, subst, _∙_, ap}
 use mathlib.Core.Bool.{Bool, true, false, cond}
 use mathlib.Core.List.{List}
-use mathlib.Core.Option.{Option, some}
 use Prim.Native.Nat.{ℕ, suc, _+_, _-_, _*_, max, _≤_, _<_}
 use native.Mathlib.Omega.{arith}
 use lib.Dec.{leb}
@@ -14,10 +13,11 @@ use Rattle.machine.specs.Machine.{State, height, Price, Next, stops, goes, open
 use Rattle.bounds.specs.Tree.{Decision, worse, Report, accepted, refused, explore}
 use Rattle.bounds.specs.Tree as bounds
 use Rattle.bounds.proofs.ExploreLaws.{before, join, joined, both-ways, explore-spent, explore-stuck, explore-stops, explore-goes, explore-over, explore-opens}
-use Rattle.findings.specs.declared.Verdict.the-variants.{Accepted, Stuck, Openings, Spent}
+use Rattle.refusals.specs.declared.Refusal.the-variants.{Stuck, Openings, Spent}
+use Rattle.refusals.specs.declared.Verdict.the-variants.{Accepted, Refused}
 use Rattle.findings.specs.declared.Found.{Found}
 use Rattle.findings.specs.declared.Tally.{Tally}
-use Rattle.findings.specs.Found.{encode, refusalOf, acceptedAs, Shows, moreOf, decidedOf, joinedOf, finishedOf, refusedAs}
+use Rattle.findings.specs.Found.{encode, acceptedAs, Shows, moreOf, decidedOf, joinedOf, finishedOf, refusedAs}
 use Rattle.explore.proofs.UsedLaws.{used, used-spent, used-stuck, used-stops, used-goes, used-over, used-first, used-both}
 
 -- n steps of a tally before what follows
@@ -47,7 +47,7 @@ shift-accepted : (t : Tally) (n : ℕ) (q : Report) (v : bounds.Verdict) → v �
 unfolding shift
 shift-accepted t n q v e r f = subst (Shows r) (sym e) f
 
-shift-refused : (t : Tally) (n : ℕ) (x : Refusal) (v : bounds.Verdict) → v ≡ shift t n (refused x) → (r : Found) → refusalOf (r .verdict) ≡ some x → Shows r v
+shift-refused : (t : Tally) (n : ℕ) (x : Refusal) (v : bounds.Verdict) → v ≡ shift t n (refused x) → (r : Found) → r .verdict ≡ Refused x → Shows r v
 unfolding shift
 shift-refused t n x v e r f = subst (Shows r) (sym e) f
 
@@ -87,14 +87,13 @@ joined-found t n s p r r′ f g e d =
 -- an answer that is accepted shows a report, and one that is not a refusal
 
 pub accepted-shows : (f : Found) (v : bounds.Verdict) → Shows f v → f .verdict ≡ Accepted → (q : Report) × (v ≡ accepted q) × (f ≡ acceptedAs q)
-unfolding refusalOf
 accepted-shows f (accepted q) h e = (q, refl, h)
-accepted-shows f (refused x) h e = let g : Option.none ≡ some x = sym (ap refusalOf e) ∙ h in let z : _≡_ {A = ℕ} 0 1 = cc in absurd (omega arith)
+accepted-shows f (refused x) h e = let g : Accepted ≡ Refused x = sym e ∙ h in let z : _≡_ {A = ℕ} 0 1 = cc in absurd (omega arith)
 
-refused-shows : (f : Found) (v : bounds.Verdict) → Shows f v → (f .verdict ≡ Accepted → ⊥) → (x : Refusal) × (v ≡ refused x) × (refusalOf (f .verdict) ≡ some x)
+refused-shows : (f : Found) (v : bounds.Verdict) (x : Refusal) → Shows f v → f .verdict ≡ Refused x → v ≡ refused x
 unfolding acceptedAs
-refused-shows f (accepted q) h no-way = absurd (no-way (ap (λ r. r .verdict) h))
-refused-shows f (refused x) h no-way = (x, refl, h)
+refused-shows f (accepted q) x h e = let g : Accepted ≡ Refused x = sym (ap (λ r. r .verdict) h) ∙ e in let z : _≡_ {A = ℕ} 0 1 = cc in absurd (omega arith)
+refused-shows f (refused y) x h e = let g : Refused y ≡ Refused x = sym h ∙ e in cc
 
 module _ (act : State → Try Next) (o budget : ℕ) (start : State) where
   -- the tally, and then what is left, come to what the whole comes to
@@ -114,7 +113,7 @@ module _ (act : State → Try Next) (o budget : ℕ) (start : State) where
       record { total = sym (ap (λ n. shift zeroTally n (explore act o budget start)) e ∙ shift-zero (explore act o budget start)); spent = omega arith; within = omega arith }
 
   pub spent-shown : (s : State) (left : ℕ) (t : Tally) → Inv s left t → left ≤ 0 → Shown (refusedAs (Spent (s .at)) budget)
-  unfolding refusedAs refusalOf
+  unfolding refusedAs
   spent-shown s left t i h =
       let z : left ≡ 0 = omega arith in
       record {
@@ -151,7 +150,7 @@ module _ (act : State → Try Next) (o budget : ℕ) (start : State) where
     }
 
     pub stuck-shown : act s ≡ stuck → Shown (refusedAs (Stuck (s .at)) (budget - left + 1))
-    unfolding refusedAs refusalOf
+    unfolding refusedAs
     stuck-shown e = record {
       shows = shift-refused t (budget - left) _ (explore act o budget start) (verdict-from (explore-stuck act (left - 1) o s e)) _ refl;
       counts = let k = used-from (used-stuck act (left - 1) o s e) in omega (arith, k);
@@ -159,7 +158,7 @@ module _ (act : State → Try Next) (o budget : ℕ) (start : State) where
 
     module _ (p q : Price) (u v : State) (e : act s ≡ done (opens p u q v)) where
       pub over-shown : o ≡ 0 → Shown (refusedAs (Openings (s .at)) (budget - left + 1))
-      unfolding refusedAs refusalOf
+      unfolding refusedAs
       over-shown z = record {
         shows = shift-refused t (budget - left) _ (explore act o budget start) (verdict-from (ap (λ k. explore act k (suc (left - 1)) s) z ∙ explore-over act (left - 1) s u v p q e)) _ refl;
         counts = let k = used-from (ap (λ k. used act k (suc (left - 1)) s) z ∙ used-over act (left - 1) s u v p q e) in omega (arith, k);
@@ -170,12 +169,12 @@ module _ (act : State → Try Next) (o budget : ℕ) (start : State) where
         opened : explore act o (suc (left - 1)) s ≡ both-ways s p (explore act o′ (left - 1) u) q (λ k. explore act o′ (left - 1 - k) v)
         opened = ap (λ k. explore act k (suc (left - 1)) s) lower ∙ explore-opens act (left - 1) o′ s u v p q e
 
-        pub first-fails : (f .verdict ≡ Accepted → ⊥) → Shown (refusedAs (f .verdict) (budget - left + 1 + f .used))
+        pub first-fails : (x : Refusal) → f .verdict ≡ Refused x → Shown (refusedAs x (budget - left + 1 + f .used))
         unfolding refusedAs both-ways
-        first-fails no-way =
-            let (x, g, r) = refused-shows f (explore act o′ (left - 1) u) shows no-way in
+        first-fails x refuses =
+            let g = refused-shows f (explore act o′ (left - 1) u) x shows refuses in
             record {
-              shows = shift-refused t (budget - left) x (explore act o budget start) (verdict-from (opened ∙ ap (λ w. both-ways s p w q (λ k. explore act o′ (left - 1 - k) v)) g)) _ r;
+              shows = shift-refused t (budget - left) x (explore act o budget start) (verdict-from (opened ∙ ap (λ w. both-ways s p w q (λ k. explore act o′ (left - 1 - k) v)) g)) _ refl;
               counts = let k = used-from (ap (λ k. used act k (suc (left - 1)) s) lower ∙ used-first act (left - 1) o′ s u v p q x e g) in omega (arith, k, counts);
             }
 
@@ -199,12 +198,12 @@ module _ (act : State → Try Next) (o budget : ℕ) (start : State) where
               used-from (ap (λ k. used act k (suc (left - 1)) s) lower ∙ used-both act (left - 1) o′ s u v p q (first .0) e (first .1)
               ∙ ap (λ k. suc (k + used act o′ (left - 1 - k) v)) same-used ∙ ap (λ k. suc (f .used + k)) (sym counts′))
 
-          pub second-fails : (g .verdict ≡ Accepted → ⊥) → Shown (refusedAs (g .verdict) (budget - left + 1 + f .used + g .used))
+          pub second-fails : (x : Refusal) → g .verdict ≡ Refused x → Shown (refusedAs x (budget - left + 1 + f .used + g .used))
           unfolding refusedAs join
-          second-fails no-way =
-              let (x, w, r) = refused-shows g (explore act o′ (left - 1 - f .used) v) shows′ no-way in
+          second-fails x refuses =
+              let w = refused-shows g (explore act o′ (left - 1 - f .used) v) x shows′ refuses in
               record {
-                shows = shift-refused t (budget - left) x (explore act o budget start) (verdict-from (opened-second ∙ ap (join s p (first .0) q) w)) _ r;
+                shows = shift-refused t (budget - left) x (explore act o budget start) (verdict-from (opened-second ∙ ap (join s p (first .0) q) w)) _ refl;
                 counts = omega (arith, used-second);
               }
 

@@ -7,9 +7,10 @@ use lib.ListN.{length}
 use Rattle.cells.specs.declared.Cell.{Cell}
 use Rattle.cells.specs.Cells.{unknown}
 use Rattle.cells.specs.Order.{Allowed}
-use Rattle.machine.specs.Machine.{State, Code, jump, step}
+use Rattle.machine.specs.Machine.{State, Code, step}
 use Rattle.machine.specs.Order.{Cellwise}
-use Rattle.states.specs.View.{Stacked, Fits, whole}
+use Rattle.states.specs.declared.State as states
+use Rattle.states.specs.View.{WellFormed, Fits, whole}
 use Rattle.bounds.specs.Tree.{Report, explore, tree, steps}
 use Rattle.bounds.specs.Run.{begin, after}
 use Rattle.bounds.specs.Promises.{Safe, Exact}
@@ -17,18 +18,17 @@ use Rattle.findings.specs.declared.Found.{Found}
 use Rattle.findings.specs.Found.{acceptedAs, Shows, walked}
 
 -- what is asked: addresses, counts and blocks within their limits
-pub record Ready (bs ns : List ℕ) (first : ℕ) (fs : List Cell) (start : Stacked) (place openings budget : ℕ) : Type 0 where
+pub record Explorable (bs ns : List ℕ) (first : ℕ) (fs : List Cell) (start : states.State) (openings budget : ℕ) : Type 0 where
   pub addresses : first + length bs ≤ 65536
-  pub place-fits : place < 4294967296
-  pub free : start .free ≤ 64
+  pub formed : WellFormed start
   pub budget-fits : budget ≤ 1000000
   pub openings-fit : openings ≤ 32
   pub fits : Fits ns fs
 
 -- what is promised: the answer shows the verdict of the tree, and the steps walked
-pub record Explores (c : Code) (ns : List ℕ) (fs : List Cell) (start : Stacked) (place openings budget : ℕ) (r : Found) : Type 0 where
-  pub shows : Shows r (explore (step c unknown) openings budget (jump place (whole ns fs start)))
-  pub counts : r .used ≡ walked budget (steps (tree (step c unknown) budget openings (jump place (whole ns fs start))))
+pub record Explores (c : Code) (ns : List ℕ) (fs : List Cell) (start : states.State) (openings budget : ℕ) (r : Found) : Type 0 where
+  pub shows : Shows r (explore (step c unknown) openings budget (whole ns fs start))
+  pub counts : r .used ≡ walked budget (steps (tree (step c unknown) budget openings (whole ns fs start)))
 
 -- Demand 3, of an accepted answer for the start t: "any memory that has the file's cells and no others, agrees with each known one and holds
 -- some number in each unknown one; it is fed any list of input answers and interrupted after any number of steps"
@@ -41,7 +41,7 @@ abbrev pub ExactFor : Code → ℕ → State → Found → Type 0
 ExactFor c openings t r = (q : Report) → r ≡ acceptedAs q → Exact c openings t q
 
 -- the answer's numbers are within what the code's numbers hold
-pub record Modest (openings budget : ℕ) (r : Found) : Type 0 where
+pub record Bounded (openings budget : ℕ) (r : Found) : Type 0 where
   pub used : r .used ≤ budget
   pub cycles : r .cycles ≤ 4294967296 * r .used
   pub words : r .words ≤ 4294967296 * r .used

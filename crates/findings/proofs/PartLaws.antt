@@ -4,7 +4,7 @@ use mathlib.Core.List.{List, [], _∷_}
 use Prim.Native.Nat.{ℕ, _+_, max, _≤_}
 use native.Mathlib.Omega.{arith}
 use Rattle.bounds.specs.Tree.{Decision, N, T}
-use Rattle.findings.specs.declared.Verdict.the-variants.{Accepted}
+use Rattle.refusals.specs.declared.Verdict.the-variants.{Accepted}
 use Rattle.findings.specs.declared.Found.{Found}
 use Rattle.findings.specs.declared.Tally.{Tally}
 use Rattle.findings.specs.Found.{encode, decidedOf, joinedOf}

@@ -2,16 +2,12 @@
 use Prim.Native.Nat.{ℕ, zero, suc, _+_, _*_, max, _≤_}
 use mathlib.Core.Bool.{cond}
 use mathlib.Core.List.{List, [], _∷_}
-use mathlib.Core.Option.{Option, some}
 use mathlib.Core.Path.{_≡_}
 use lib.Dec.{leb}
 use Rattle.refusals.specs.declared.Refusal.{Refusal}
-use Rattle.refusals.specs.declared.Refusal.the-variants as refusals
 use Rattle.machine.specs.Machine.{Price}
-use Rattle.bounds.specs.Tree.{Decision, N, T, Step, made, not-made, Report, accepted, refused}
-use Rattle.bounds.specs.Tree as bounds
-use Rattle.findings.specs.declared.Verdict.{Verdict}
-use Rattle.findings.specs.declared.Verdict.the-variants.{Accepted, Stuck, Openings, Spent}
+use Rattle.bounds.specs.Tree.{Decision, N, T, Step, made, not-made, Report, Verdict, accepted, refused}
+use Rattle.refusals.specs.declared.Verdict.the-variants.{Accepted, Refused}
 use Rattle.findings.specs.declared.Found.{Found}
 use Rattle.findings.specs.declared.Tally.{Tally}
 
@@ -21,21 +17,14 @@ encode [] = 1
 encode (N ∷ ds) = 2 * encode ds
 encode (T ∷ ds) = 2 * encode ds + 1
 
--- the refusal that a case stands for: 7, 8 or 9 with its address
-unfoldable pub refusalOf : Verdict → Option Refusal
-refusalOf Accepted = Option.none
-refusalOf (Stuck a) = some (refusals.Stuck a)
-refusalOf (Openings a) = some (refusals.Openings a)
-refusalOf (Spent a) = some (refusals.Spent a)
-
 -- an accepted answer with the figures of a report
 unfoldable pub acceptedAs : Report → Found
 acceptedAs q = record { verdict = Accepted; used = q .steps; cycles = q .cycles; words = q .words; depth = q .depth; path = encode (q .path) }
 
 -- the answer r shows the verdict v
-abbrev pub Shows : Found → bounds.Verdict → Type 0
+abbrev pub Shows : Found → Verdict → Type 0
 Shows r (accepted q) = r ≡ acceptedAs q
-Shows r (refused x) = refusalOf (r .verdict) ≡ some x
+Shows r (refused x) = r .verdict ≡ Refused x
 
 -- the steps walked under a budget: all of them, or those up to and with the first that is not made
 unfoldable pub walked : ℕ → List Step → ℕ
@@ -70,8 +59,8 @@ unfoldable pub finishedOf : Tally → ℕ → Found
 finishedOf t n = record { verdict = Accepted; used = n; cycles = t .cycles; words = t .words; depth = t .depth; path = 1 }
 
 -- n steps walked, and a refusal
-unfoldable pub refusedAs : Verdict → ℕ → Found
-refusedAs v n = record { verdict = v; used = n; cycles = 0; words = 0; depth = 0; path = 1 }
+unfoldable pub refusedAs : Refusal → ℕ → Found
+refusedAs x n = record { verdict = Refused x; used = n; cycles = 0; words = 0; depth = 0; path = 1 }
 
 -- a price by its cycles and its words
 abbrev pub price : ℕ → ℕ → Price

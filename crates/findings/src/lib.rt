@@ -1,15 +1,9 @@
 // What exploring comes to, and how it is put together: a step more, STOP, a refusal, the two ways of a branch. The meaning is in specs/.
+use refusals::Refusal;
+use refusals::Verdict;
 ghost use mathlib.Core.Path.{_≡_};
 ghost use Prim.Native.Nat.{_≤_, max};
 ghost use Rattle.findings.specs.Found.{price, moreOf, decidedOf, joinedOf, finishedOf, refusedAs, Summable};
-
-// The bound's verdict: accepted, or refusal 7, 8 or 9 with its address.
-pub enum Verdict {
-    Accepted,
-    Stuck(usize),
-    Openings(usize),
-    Spent(usize),
-}
 
 // What exploring comes to: the verdict, the steps walked, and where it is accepted the figures of the report.
 // `path` has a bit for each decision, the first one lowest, 1 for taken, with a 1 above the last.
@@ -73,11 +67,11 @@ pub fn finished(t: Tally, n: usize) -> Found
 }
 
 // A refusal, after the steps walked.
-pub fn refused(v: Verdict, walked: usize) -> Found
-    ensures { λ r. ⌜ r ≡ refusedAs v walked ⌝ }
+pub fn refused(x: Refusal, walked: usize) -> Found
+    ensures { λ r. ⌜ r ≡ refusedAs x walked ⌝ }
 {
     Found {
-        verdict: v,
+        verdict: Verdict::Refused(x),
         used: walked,
         cycles: 0,
         words: 0,
