@@ -1,5 +1,5 @@
 -- The table's rule, once for every column. A column of the code is what h gives of each kind in order, and g reads it as f: that g
--- undoes h at each kind is computed for the whole table. And an argument is known by its code and the ends of its range. Assumes
+-- undoes h at each kind is computed for the whole table. And an argument is known by its code and its range. Assumes
 -- nothing.
 use mathlib.Core.Path.{_≡_, refl, sym, ap, _∙_}
 use mathlib.Core.Bool.{cond}
@@ -12,10 +12,11 @@ use lib.IntN.{ℤ, pos}
 use lib.ListN.{length, getD, List·getD-map}
 use mir.Syntax.{Width}
 use mir.Val.{ofZ, toZ}
+use Rattle.numbers.specs.declared.Range.{Range}
 use Rattle.instructions.specs.declared.Argument.{Argument}
 use Rattle.instructions.specs.declared.Argument.the-variants.{Absent, Target, Primitive, Within}
-use Rattle.instructions.specs.Kinds.{Kind, kinds}
-use Rattle.instructions.specs.Columns.{kindAt, argumentCode, lowest, highest}
+use Rattle.instructions.specs.Kinds.{addresses, Kind, kinds}
+use Rattle.instructions.specs.Columns.{kindAt, argumentCode, rangeOf}
 
 -- within a list the default does not matter
 pub getD-any : {A : Type 0} (l : List A) (k : ℕ) (d e : A) → k < length l → getD l k d ≡ getD l k e
@@ -37,12 +38,12 @@ natural-at f k l = column-at f (λ x. x) f 0 refl k l
 pub integer-at : (w : Width) (f : Kind → ℤ) → map (λ x. toZ w (ofZ w x)) (map f kinds) ≡ map f kinds → (k : ℕ) → k < 61 → toZ w (ofZ w (getD (map f kinds) k (pos 0))) ≡ f (kindAt k)
 integer-at w f e k l = column-at f (λ x. toZ w (ofZ w x)) f (pos 0) e k l
 
--- the argument with a code and the ends of a range
-abbrev pub decoded : ℕ → ℤ → ℤ → Argument
-decoded n low high = cond (eqb n 0) Absent (cond (eqb n 1) (Within record { low = low; high = high }) (cond (eqb n 2) Target Primitive))
+-- the argument with a code and a range
+abbrev pub decoded : ℕ → Range → Argument
+decoded n r = cond (eqb n 0) Absent (cond (eqb n 1) (Within r) (cond (eqb n 2) Target Primitive))
 
-pub decoded-is : (n : ℕ) (a : Argument) → n ≡ argumentCode a → decoded n (lowest a) (highest a) ≡ a
-unfolding argumentCode lowest highest
+pub decoded-is : (n : ℕ) (a : Argument) → n ≡ argumentCode a → decoded n (rangeOf a) ≡ a
+unfolding argumentCode rangeOf
 decoded-is n Absent e = rw e refl
 decoded-is n (Within r) e = rw e refl
 decoded-is n Target e = rw e refl
@@ -54,3 +55,8 @@ code-bound Absent = omega arith
 code-bound (Within r) = omega arith
 code-bound Target = omega arith
 code-bound Primitive = omega arith
+
+-- the range of a target
+pub target-range : {a b : Argument} {r : Range} → r ≡ rangeOf b → a ≡ b → a ≡ Target → r ≡ addresses
+unfolding rangeOf
+target-range e p q = e ∙ ap rangeOf (sym p ∙ q)

@@ -1,8 +1,9 @@
 -- The table by columns of numbers, as the code has it: what stands in each column at a kind.
 use Prim.Native.Nat.{ℕ}
 use mathlib.Core.List.{List, [], _∷_}
-use lib.IntN.{ℤ, pos}
 use lib.ListN.{getD}
+use Rattle.numbers.specs.declared.Range.{Range}
+use Rattle.numbers.specs.Numbers.{range}
 use Rattle.numbers.specs.declared.Comparison.{Comparison}
 use Rattle.numbers.specs.declared.Comparison.the-variants.{Equal, Unequal, Less, AtMost, Greater, AtLeast}
 use Rattle.cells.specs.declared.Unary.{Unary}
@@ -13,7 +14,7 @@ use Rattle.instructions.specs.declared.Argument.{Argument}
 use Rattle.instructions.specs.declared.Argument.the-variants.{Absent, Target, Primitive, Within}
 use Rattle.instructions.specs.declared.Operation.{Operation}
 use Rattle.instructions.specs.declared.Operation.the-variants.{Nothing, Access, Drop, Assign, Constant, GetField, SetField, Branch, BranchIf, BranchIfNot, Call, Stop, Alter, Combine}
-use Rattle.instructions.specs.Kinds.{Kind, kind, kinds, stays}
+use Rattle.instructions.specs.Kinds.{addresses, Kind, kind, kinds, stays}
 
 -- the kind at a place of the table, counted from 0; past its end, the last
 unfoldable pub kindAt : ℕ → Kind
@@ -26,19 +27,12 @@ argumentCode (Within r) = 1
 argumentCode Target = 2
 argumentCode Primitive = 3
 
--- the low end of the range of a kind that takes a number, else 0
-unfoldable pub lowest : Argument → ℤ
-lowest Absent = pos 0
-lowest (Within r) = r .low
-lowest Target = pos 0
-lowest Primitive = pos 0
-
--- the high end
-unfoldable pub highest : Argument → ℤ
-highest Absent = pos 0
-highest (Within r) = r .high
-highest Target = pos 0
-highest Primitive = pos 0
+-- the range of the number or the target that a kind takes; 0 to 0 where it takes neither
+unfoldable pub rangeOf : Argument → Range
+rangeOf Absent = range 0 0
+rangeOf (Within r) = r
+rangeOf Target = addresses
+rangeOf Primitive = range 0 0
 
 -- the code of each comparison
 unfoldable pub comparisonCode : Comparison → ℕ

@@ -67,7 +67,7 @@ pub const ARGUMENTS: [u8; 61] = [
     arguments::ABSENT, // STOP
 ];
 
-// The lowest number of the range, or 0 where there is none.
+// The lowest number or target of the range, or 0 where there is none.
 pub const LOWS: [i64; 61] = [
     0, // ACC0
     0, // ACC1
@@ -132,7 +132,7 @@ pub const LOWS: [i64; 61] = [
     0, // STOP
 ];
 
-// The highest number of the range, or 0 where there is none.
+// The highest number or target of the range, or 0 where there is none.
 pub const HIGHS: [i64; 61] = [
     0, // ACC0
     0, // ACC1
@@ -186,9 +186,9 @@ pub const HIGHS: [i64; 61] = [
     0, // SETFIELD2
     0, // SETFIELD3
     15, // SETFIELD
-    0, // BRANCH
-    0, // BRANCHIF
-    0, // BRANCHIFNOT
+    62000, // BRANCH
+    62000, // BRANCHIF
+    62000, // BRANCHIFNOT
     0, // C_CALL1
     0, // C_CALL2
     0, // C_CALL3

@@ -3,7 +3,7 @@ ghost use mathlib.Core.Path.{_≡_};
 ghost use Prim.Native.Nat.{_<_};
 ghost use Rattle.text.specs.Text.{find};
 ghost use Rattle.instructions.specs.Kinds.{kindNames, calls};
-ghost use Rattle.instructions.specs.Columns.{kindAt, argumentCode, lowest, highest, operationCode};
+ghost use Rattle.instructions.specs.Columns.{kindAt, argumentCode, rangeOf, operationCode};
 use cells::Binary;
 use cells::Unary;
 use numbers::Range;
@@ -50,16 +50,27 @@ fn argument_code_at(k: usize) -> u8
 // The ends of its range, or 0 where there is none.
 fn low_at(k: usize) -> i64
     requires { ⌜ k < 61 ⌝ }
-    ensures { λ r. ⌜ r ≡ lowest (kindAt k .argument) ⌝ }
+    ensures { λ r. ⌜ r ≡ rangeOf (kindAt k .argument) .low ⌝ }
 {
     columns::LOWS[k]
 }
 
 fn high_at(k: usize) -> i64
     requires { ⌜ k < 61 ⌝ }
-    ensures { λ r. ⌜ r ≡ highest (kindAt k .argument) ⌝ }
+    ensures { λ r. ⌜ r ≡ rangeOf (kindAt k .argument) .high ⌝ }
 {
     columns::HIGHS[k]
+}
+
+// The range of the number or the target that a kind takes; 0 to 0 where it takes neither.
+pub fn range_at(k: usize) -> Range
+    requires { ⌜ k < 61 ⌝ }
+    ensures { λ r. ⌜ r ≡ rangeOf (kindAt k .argument) ⌝ }
+{
+    Range {
+        low: low_at(k),
+        high: high_at(k),
+    }
 }
 
 // What a kind takes.
@@ -69,10 +80,7 @@ pub fn argument_at(k: usize) -> Argument
 {
     match argument_code_at(k) {
         arguments::ABSENT => Argument::Absent,
-        arguments::WITHIN => Argument::Within(Range {
-            low: low_at(k),
-            high: high_at(k),
-        }),
+        arguments::WITHIN => Argument::Within(range_at(k)),
         arguments::TARGET => Argument::Target,
         _ => Argument::Primitive,
     }

@@ -22,7 +22,7 @@ use Rattle.numbers.specs.Numbers.{range, within, same}
 use Rattle.instructions.specs.declared.Argument.{Argument}
 use Rattle.instructions.specs.declared.Argument.the-variants.{Within}
 use Rattle.instructions.specs.Kinds.{Kind, kinds, kindNames}
-use Rattle.instructions.specs.Columns.{kindAt, lowest, highest}
+use Rattle.instructions.specs.Columns.{kindAt, rangeOf}
 use Rattle.instructions.proofs.ColumnLaws.{column-at}
 use Rattle.routine.specs.Rows.{kindNamed, argumentOf, op, onArgument, firstAddresses, atRange, value}
 use Rattle.text.proofs.TextLaws.{and-left, and-right}
@@ -73,20 +73,23 @@ module _ (t : Argument → Bool) (line : List ℕ) {k : ℕ} (q : k ≡ find (op
 
 -- that both ends of an argument's range are near 0
 nearEnds : Kind → Bool
-nearEnds k = ltb (mag (lowest (k .argument))) most && ltb (mag (highest (k .argument))) most
+nearEnds k = ltb (mag (rangeOf (k .argument) .low)) most && ltb (mag (rangeOf (k .argument) .high)) most
 
 ends-near : (k : ℕ) → k < 61 → true ≡ nearEnds (kindAt k)
-unfolding kinds lowest highest nearEnds
+unfolding kinds rangeOf nearEnds
 ends-near k h = column-at (λ j. j .name) (λ j. true) nearEnds [] refl k h
 
-pub near-at : (k : ℕ) {a : Argument} {r : Range} → k < 61 → a ≡ kindAt k .argument → a ≡ Within r → Near r
-unfolding lowest highest nearEnds
-near-at k {r = r} h p q =
-    let e : kindAt k .argument ≡ Within r = sym p ∙ q in
-    let n : true ≡ ltb (mag (r .low)) most && ltb (mag (r .high)) most = ends-near k h ∙ ap (λ a. ltb (mag (lowest a)) most && ltb (mag (highest a)) most) e in
+pub near-at : (k : ℕ) {r : Range} → k < 61 → r ≡ rangeOf (kindAt k .argument) → Near r
+unfolding nearEnds
+near-at k {r} h e =
+    let n : true ≡ ltb (mag (r .low)) most && ltb (mag (r .high)) most = ends-near k h ∙ ap (λ s. ltb (mag (s .low)) most && ltb (mag (s .high)) most) (sym e) in
     let a = ltb (mag (r .low)) most in
     let b = ltb (mag (r .high)) most in
     record { low = ltb-true (mag (r .low)) most (and-left a b (sym n)); high = ltb-true (mag (r .high)) most (and-right a b (sym n)) }
+
+pub near-within : (k : ℕ) {a : Argument} {r : Range} → k < 61 → a ≡ kindAt k .argument → a ≡ Within r → Near r
+unfolding rangeOf
+near-within k h p q = near-at k h (ap rangeOf (sym q ∙ p))
 
 pub near-at-range : (k : ℕ) → Near (atRange k)
 near-at-range zero = record { low = omega arith; high = omega arith }

@@ -268,13 +268,7 @@ fn argument_in_range(line: &[u8]) -> bool
     let w = text::word_at(line, 2);
     match instructions::argument_at(k) {
         Argument::Absent => true,
-        Argument::Target => values::is_within(
-            Range {
-                low: 0,
-                high: 62000,
-            },
-            w,
-        ),
+        Argument::Target => values::is_within(instructions::range_at(k), w),
         Argument::Primitive => true,
         Argument::Within(r) => values::is_within(r, w),
     }

@@ -11,6 +11,7 @@ use Rattle.numbers.specs.declared.Range.{Range}
 use Rattle.numbers.specs.Numbers.{IsNumber, numbers}
 use Rattle.cells.specs.declared.Cell.{Cell}
 use Rattle.cells.specs.Cells.{number}
+use Rattle.instructions.specs.Kinds.{addresses}
 use Rattle.machine.specs.Machine.{State}
 use Rattle.routine.specs.Layout.{list}
 use Rattle.routine.specs.Rows.{cellWord, hashed}
@@ -25,6 +26,9 @@ near r l h = let p = l .fits in let q = h .fits in record { low = omega arith; h
 
 pub numbers-fit : (r : Range) → r ≡ numbers → IsNumber (r .low) × IsNumber (r .high)
 numbers-fit r e = rw e (record { fits = lit< tt }, record { fits = lit< tt })
+
+pub addresses-fit : (r : Range) → r ≡ addresses → IsNumber (r .low) × IsNumber (r .high)
+addresses-fit r e = rw e (record { fits = lit< tt }, record { fits = lit< tt })
 
 -- the cells of a line
 

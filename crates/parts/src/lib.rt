@@ -189,13 +189,7 @@ fn operand_of(k: usize, w: &[u8]) -> i32
 {
     match instructions::argument_at(k) {
         Argument::Absent => instructions::fixed_at(k),
-        Argument::Target => number_of(
-            Range {
-                low: 0,
-                high: 62000,
-            },
-            w,
-        ),
+        Argument::Target => number_of(instructions::range_at(k), w),
         Argument::Primitive => instructions::fixed_at(k),
         Argument::Within(_) => number_of(values::number_range(), w),
     }

@@ -1,9 +1,7 @@
--- `instructions::argument_at` meets its contract: an argument is known by its code and the ends of its range.
+-- `instructions::argument_at` meets its contract: an argument is known by its code and its range.
 -- Assumes nothing.
-use mathlib.Core.Path.{sym, ap₂, _∙_}
+use mathlib.Core.Path.{sym, ap, _∙_}
 use native.Mathlib.Omega.{arith}
-use mir.Syntax.{w64}
-use mir.ValLaws.{toZ-ofZ}
 use Rattle.instructions.specs.Columns.{kindAt}
 use Rattle.instructions.proofs.ColumnLaws.{decoded, decoded-is, code-bound}
 use borrow.Author.Needs.{needs}
@@ -13,21 +11,14 @@ use Rattle.instructions.proofs.argument_at.Tie as tie
 argument-code-at-requires : tie.Need-argument-code-at-requires
 argument-code-at-requires c κs = search needs
 
-low-at-requires : tie.Need-low-at-requires
-low-at-requires c κs = search needs
-
-high-at-requires : tie.Need-high-at-requires
-high-at-requires c κs = search needs
+range-at-requires : tie.Need-range-at-requires
+range-at-requires c κs = search needs
 
 returns : tie.Need-returns
 returns c = decoded-is 0 _ (sym (c .match .keys1) ∙ c .before .argument-code-at .ensures)
 
 returns-2 : tie.Need-returns-2
-returns-2 c =
-    let low = toZ-ofZ w64 _ record { sfits = c .before .low-at .ok } ∙ c .before .low-at .ensures in
-    let high = toZ-ofZ w64 _ record { sfits = c .high-at .ok } ∙ c .high-at .ensures in
-    let m = c .before .before in
-    ap₂ (decoded 1) low high ∙ decoded-is 1 _ (sym (m .match .keys2) ∙ m .before .argument-code-at .ensures)
+returns-2 c = ap (decoded 1) (c .range-at .ensures) ∙ decoded-is 1 _ (sym (c .before .match .keys2) ∙ c .before .before .argument-code-at .ensures)
 
 returns-3 : tie.Need-returns-3
 returns-3 c = decoded-is 2 _ (sym (c .match .keys3) ∙ c .before .argument-code-at .ensures)
@@ -41,11 +32,4 @@ returns-4 c =
 pub argument-at-spec : {M : Type 1} → statement M
 argument-at-spec =
     tie.close
-    (tie.spec
-    argument-code-at-requires
-    low-at-requires
-    high-at-requires
-    returns
-    returns-2
-    returns-3
-    returns-4)
+    (tie.spec argument-code-at-requires range-at-requires returns returns-2 returns-3 returns-4)

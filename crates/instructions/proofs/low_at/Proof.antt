@@ -3,7 +3,7 @@
 use mathlib.Core.Path.{refl}
 use mir.Syntax.{w64}
 use Rattle.instructions.specs.Kinds.{kinds}
-use Rattle.instructions.specs.Columns.{lowest}
+use Rattle.instructions.specs.Columns.{rangeOf}
 use Rattle.instructions.proofs.ColumnLaws.{integer-at}
 use borrow.Author.Needs.{needs}
 use Rattle.instructions.proofs.low_at.Statement.{statement}
@@ -16,8 +16,8 @@ array-copy-out-result : tie.Need-array-copy-out-result
 array-copy-out-result c = search needs
 
 returns : tie.Need-returns
-unfolding kinds lowest
-returns c = integer-at w64 (λ r. lowest (r .argument)) refl (c .before .args .k) (c .before .pre)
+unfolding kinds rangeOf
+returns c = integer-at w64 (λ r. rangeOf (r .argument) .low) refl (c .before .args .k) (c .before .pre)
 
 pub low-at-spec : {M : Type 1} → statement M
 low-at-spec = tie.close (tie.spec mul-result array-copy-out-result returns)

@@ -1,10 +1,10 @@
 -- `lines::argument_in_range` meets its contract. Assumes nothing.
-use mathlib.Core.Path.{refl, sym, ap, _∙_}
+use mathlib.Core.Path.{refl, sym, ap, ap₂, _∙_}
 use native.Mathlib.Omega.{arith}
 use Rattle.numbers.specs.Numbers.{within}
-use Rattle.instructions.specs.Kinds.{addresses}
+use Rattle.instructions.proofs.ColumnLaws.{target-range}
 use Rattle.routine.specs.Rows.{value, arg, argumentInRange}
-use Rattle.lines.proofs.CodeLaws.{on-unknown, on-argument, near-at}
+use Rattle.lines.proofs.CodeLaws.{on-unknown, on-argument, near-at, near-within}
 use borrow.Author.Needs.{needs}
 use Rattle.lines.proofs.argument_in_range.Statement.{statement}
 use Rattle.lines.proofs.argument_in_range.Tie as tie
@@ -29,8 +29,11 @@ enum-told c = search needs
 enum-told-2 : tie.Need-enum-told-2
 enum-told-2 c = search needs
 
+range-at-requires : tie.Need-range-at-requires
+range-at-requires c κs = search needs
+
 is-within-requires : tie.Need-is-within-requires
-is-within-requires c κs = search needs
+is-within-requires c κs = near-at (c .before .before .before .before .before .before .kind-of .result) (c .before .before .before .before .before .if1 .left) (c .range-at .ensures)
 
 enum-told-3 : tie.Need-enum-told-3
 enum-told-3 c = search needs
@@ -40,7 +43,7 @@ enum-known-r c = search needs
 
 is-within-requires-2 : tie.Need-is-within-requires-2
 is-within-requires-2 c κs =
-    near-at (c .before .before .before .before .before .before .kind-of .result) (c .before .before .before .before .before .if1 .left) (c .before .before .before .argument-at .ensures) (c .before .r .given .1)
+    near-within (c .before .before .before .before .before .before .kind-of .result) (c .before .before .before .before .before .if1 .left) (c .before .before .before .argument-at .ensures) (c .before .r .given .1)
 
 returns-2 : tie.Need-returns-2
 unfolding argumentInRange
@@ -51,9 +54,11 @@ returns-2 c =
 returns-3 : tie.Need-returns-3
 unfolding argumentInRange
 returns-3 c =
-    let line = c .before .before .before .before .before .before .before .before .args .line .now in
-    on-argument (argumentInRange (arg line)) line (c .before .before .before .before .before .before .kind-of .ensures) (c .before .before .before .before .before .if1 .left) (c .before .before .before .argument-at .ensures) (c .before .enum-told2 .given .1)
-    (c .is-within .ensures ∙ ap (λ w. within addresses (value w)) (c .before .before .before .before .word-at .ensures))
+    let line = c .before .before .before .before .before .before .before .before .before .args .line .now in
+    let m = c .before .before in
+    let r = target-range (c .before .range-at .ensures) (m .before .before .argument-at .ensures) (m .enum-told2 .given .1) in
+    on-argument (argumentInRange (arg line)) line (m .before .before .before .before .before .kind-of .ensures) (m .before .before .before .before .if1 .left) (m .before .before .argument-at .ensures) (m .enum-told2 .given .1)
+    (c .is-within .ensures ∙ ap₂ (λ r w. within r (value w)) r (m .before .before .before .word-at .ensures))
 
 returns-4 : tie.Need-returns-4
 unfolding argumentInRange
@@ -78,6 +83,7 @@ argument-in-range-spec =
     argument-at-requires
     enum-told
     enum-told-2
+    range-at-requires
     is-within-requires
     enum-told-3
     enum-known-r

@@ -6,7 +6,8 @@ use Rattle.numbers.specs.declared.Range.{Range}
 use Rattle.routine.specs.Rows.{value}
 use Rattle.routine.specs.Routine.{inside}
 use Rattle.instructions.specs.Columns.{kindAt}
-use Rattle.parts.proofs.WordLaws.{numbers-fit}
+use Rattle.instructions.proofs.ColumnLaws.{target-range}
+use Rattle.parts.proofs.WordLaws.{numbers-fit, addresses-fit}
 use Rattle.parts.proofs.EntryLaws.{operand-absent, operand-target, operand-primitive, operand-within}
 use borrow.Author.Needs.{needs}
 use Rattle.parts.proofs.operand_of.Statement.{statement}
@@ -24,8 +25,11 @@ fixed-at-requires c κs = search needs
 enum-told-2 : tie.Need-enum-told-2
 enum-told-2 c = search needs
 
+range-at-requires : tie.Need-range-at-requires
+range-at-requires c κs = search needs
+
 number-of-requires : tie.Need-number-of-requires
-number-of-requires c κs = search needs
+number-of-requires c κs = addresses-fit _ (target-range (c .range-at .ensures) (c .before .before .before .argument-at .ensures) (c .before .enum-told2 .given .1))
 
 enum-told-3 : tie.Need-enum-told-3
 enum-told-3 c = search needs
@@ -46,7 +50,12 @@ returns : tie.Need-returns
 returns c = λ ps. toZ-ofZ w32 _ (search needs) ∙ c .fixed-at .ensures ∙ operand-absent (kindAt (c .before .before .before .before .before .args .k)) ps (c .before .before .before .before .before .args .w .now) (sym (c .before .before .before .argument-at .ensures) ∙ c .before .enum-told .given .1)
 
 returns-2 : tie.Need-returns-2
-returns-2 c = λ ps. toZ-ofZ w32 _ (search needs) ∙ c .number-of .ensures ∙ operand-target (kindAt (c .before .before .before .before .before .args .k)) ps (c .before .before .before .before .before .args .w .now) (sym (c .before .before .before .argument-at .ensures) ∙ c .before .enum-told2 .given .1)
+returns-2 c =
+    let start = c .before .before .before .before .before .before in
+    let p = c .before .before .before .before .argument-at .ensures in
+    let q = c .before .before .enum-told2 .given .1 in
+    λ ps. toZ-ofZ w32 _ (search needs) ∙ c .number-of .ensures ∙ ap (λ (r : Range). inside r (value (start .args .w .now))) (target-range (c .before .range-at .ensures) p q)
+    ∙ operand-target (kindAt (start .args .k)) ps (start .args .w .now) (sym p ∙ q)
 
 returns-3 : tie.Need-returns-3
 returns-3 c = λ ps. toZ-ofZ w32 _ (search needs) ∙ c .fixed-at2 .ensures ∙ operand-primitive (kindAt (c .before .before .before .before .before .args .k)) ps (c .before .before .before .before .before .args .w .now) (sym (c .before .before .before .argument-at .ensures) ∙ c .before .enum-told3 .given .1)
@@ -62,6 +71,7 @@ operand-of-spec =
     enum-told
     fixed-at-requires
     enum-told-2
+    range-at-requires
     number-of-requires
     enum-told-3
     fixed-at-requires-2
