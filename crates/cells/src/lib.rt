@@ -2,7 +2,7 @@
 use numbers::Comparison;
 ghost use mathlib.Core.Path.{_≡_};
 ghost use Rattle.numbers.specs.Numbers.{wrap};
-ghost use Rattle.cells.specs.Cells.{number, unknown, calculate₁, calculate₂, operate₁, operate₂, condition, block};
+ghost use Rattle.cells.specs.Cells.{number, unknown, handle, calculate₁, calculate₂, operate₁, operate₂, condition, block};
 ghost use Rattle.cells.specs.Answers.{ofOperand, ofTested, ofHandled};
 
 // "A cell holds a number, an unknown number or a block handle."
@@ -68,6 +68,15 @@ pub fn unknown() -> Cell
 {
     Cell {
         value: Value::Unknown,
+    }
+}
+
+// The handle of block k.
+pub fn handle(k: u8) -> Cell
+    ensures { λ r. ⌜ r ≡ handle k ⌝ }
+{
+    Cell {
+        value: Value::Handle(k),
     }
 }
 

@@ -1,6 +1,5 @@
 // What a word of a line of values says. The meaning is in specs/ here and of crate routine.
 use cells::Cell;
-use cells::Value;
 use numbers::Range;
 use routine::CellWord;
 use text::Numeral;
@@ -192,9 +191,7 @@ fn handle_cell(k: i64) -> Cell
     ensures { λ r. ⌜ r ≡ handle (natAbs (inside handles k)) ⌝ }
 {
     let n = inside(handle_range(), k);
-    Cell {
-        value: Value::Handle(n as u8),
-    }
+    cells::handle(n as u8)
 }
 
 // The cell that w says.

@@ -25,13 +25,16 @@ handle-range-requires c κs = search needs
 inside-requires : tie.Need-inside-requires
 inside-requires c κs = search needs
 
-cast-t4 : tie.Need-cast-t4
-cast-t4 c =
+cast-handle : tie.Need-cast-handle
+cast-handle c =
     let n = natural-inside 0 7 (c .before .before .args .k) in
     (subst (λ z. T (nonNeg z)) (sym (held c)) (natural-sign n), subst (λ z. Fits w8 (natAbs z)) (sym (held c)) (omega (arith, n .below)))
 
+handle-requires : tie.Need-handle-requires
+handle-requires c κs = search needs
+
 returns : tie.Need-returns
-returns c = ap (λ z. handle (natAbs z)) (held c)
+returns c = c .handle .ensures ∙ ap (λ z. handle (natAbs z)) (held (c .before))
 
 pub handle-cell-spec : {M : Type 1} → statement M
-handle-cell-spec = tie.close (tie.spec handle-range-requires inside-requires cast-t4 returns)
+handle-cell-spec = tie.close (tie.spec handle-range-requires inside-requires cast-handle handle-requires returns)
