@@ -32,7 +32,7 @@ use Rattle.routine.proofs.RangeLaws.{tick-positive, tick-small}
 use Rattle.rows.specs.declared.Checked.the-variants as checks
 use Rattle.reader.specs.declared.Routine.{Routine}
 use Rattle.reader.specs.declared.Reading.{Reading}
-use Rattle.reader.specs.Reader.{codes, sizes, start, Holds, Limited}
+use Rattle.reader.specs.Reader.{codes, sizes, Holds, Limited}
 use Rattle.reader.specs.Reader as reader
 use Rattle.report.specs.Decode.{reportOf}
 use Rattle.report.proofs.DecodeLaws.{report-of, report-of-run}
@@ -46,11 +46,11 @@ use Rattle.analyser.proofs.AnswerLaws.{reports-kept, reports-fit, runs-
 
 module _ (x : Routine) (l : Limited x) where
   -- a routine starts at its first address
-  at-start : jump (x .first) (whole (sizes x) (x .fields) (start x)) ≡ whole (sizes x) (x .fields) (start x)
+  at-start : jump (x .first) (whole (sizes x) (x .fields) (x .start)) ≡ whole (sizes x) (x .fields) (x .start)
   unfolding jump whole reblock
-  at-start = ap (λ a. jump a (whole (sizes x) (x .fields) (start x))) (sym (l .placed))
+  at-start = ap (λ a. jump a (whole (sizes x) (x .fields) (x .start))) (sym (l .placed))
 
-  pub ready : Ready (codes x) (sizes x) (x .first) (x .fields) (start x) (x .first) 32 (x .budget)
+  pub ready : Ready (codes x) (sizes x) (x .first) (x .fields) (x .start) (x .first) 32 (x .budget)
   ready = record {
     addresses = let n = l .sized .few in let f = l .first in omega arith;
     place-fits = let f = l .first in omega arith;
@@ -60,7 +60,7 @@ module _ (x : Routine) (l : Limited x) where
     fits = l .fits;
   }
 
-  pub explored-shows : (r : Found) → Explores (routineIn x .code) (sizes x) (x .fields) (start x) (x .first) 32 (x .budget) r
+  pub explored-shows : (r : Found) → Explores (routineIn x .code) (sizes x) (x .fields) (x .start) (x .first) 32 (x .budget) r
       → Shows r (bound (routineIn x .code) (routineIn x .budget) (routineIn x .start))
   unfolding bound
   explored-shows r e = subst (λ s. Shows r (explore (step (routineIn x .code) unknown) 32 (x .budget) s)) at-start (e .shows)

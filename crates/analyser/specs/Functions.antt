@@ -12,7 +12,7 @@ use Rattle.states.specs.Columns.{codeOf}
 use Rattle.states.specs.View.{whole}
 use Rattle.routine.specs.Routine as readings
 use Rattle.reader.specs.declared.Routine.{Routine}
-use Rattle.reader.specs.Reader.{codes, operands, cycles, words, sizes, start, answers}
+use Rattle.reader.specs.Reader.{codes, operands, cycles, words, sizes, answers}
 use Rattle.findings.specs.declared.Found.{Found}
 use Rattle.analyser.specs.Answers.{Answer, reported, refused, boundAnswer, runAnswer}
 use Rattle.analyser.specs.declared.Answer as code
@@ -29,7 +29,7 @@ routineIn x = record {
   budget = x .budget;
   tick = x .tick;
   code = codeOf (x .first) (codes x) (operands x) (cycles x) (words x);
-  start = whole (sizes x) (x .fields) (start x);
+  start = whole (sizes x) (x .fields) (x .start);
   answers = answers x;
 }
 

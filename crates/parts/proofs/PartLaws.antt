@@ -8,7 +8,8 @@ use Rattle.numbers.specs.declared.Range.{Range}
 use Rattle.numbers.specs.Numbers.{numbers}
 use Rattle.cells.specs.declared.Cell.{Cell}
 use Rattle.machine.specs.Machine.{reblock}
-use Rattle.states.specs.View.{Stacked, view, blocksOf, whole}
+use Rattle.states.specs.View.{view, blocksOf, whole}
+use Rattle.states.specs.declared.State as code
 use Rattle.routine.specs.declared.Section.the-variants.{Limits as limits, Kinds as kinds, Primitives as primitives, Cells as cells, Fields as fields}
 use Rattle.routine.specs.declared.Column.the-variants.{Limit as limit, Cycles as cycles, Words as words-column, Cell as cell}
 use Rattle.routine.specs.declared.Role.the-variants.{Names as names, Values as values}
@@ -39,7 +40,7 @@ unfolding routineOf
 answers-in ls = ap (map (λ (l : Line). inside numbers (value (l .text)))) (answer-drop (body ls))
 
 -- the start, with its blocks
-pub start-whole : (ls : List Line) (s : Stacked) (ns : List ℕ) (fs : List Cell)
+pub start-whole : (ls : List Line) (s : code.State) (ns : List ℕ) (fs : List Cell)
     → view s ≡ startIn (codeOf ls .first) (cellsIn (textAt (values cells cell) layout ls))
     → ns ≡ blockSizes (listed (names fields) ls)
     → blocksOf ns fs ≡ blocksInLine ns (cellsIn (textAt (values fields cell) layout ls))

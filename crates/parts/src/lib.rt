@@ -15,7 +15,7 @@ ghost use Rattle.cells.specs.Cells.{number};
 ghost use Rattle.instructions.specs.Kinds.{kindNames, operand};
 ghost use Rattle.instructions.specs.Columns.{kindAt};
 ghost use Rattle.states.specs.Columns.{line, lineOf, linesOf};
-ghost use Rattle.states.specs.View.{beside, view, blocksOf};
+ghost use Rattle.states.specs.View.{view, WellFormed, blocksOf};
 ghost use Rattle.routine.specs.Layout.{list, codeLines};
 ghost use Rattle.routine.specs.Rows.{value, total};
 ghost use Rattle.routine.specs.Routine.{inside, argumentValue, blocksOf as blocksInLine};
@@ -117,17 +117,11 @@ pub fn answers_of(text: &[u8]) -> Answers
 
 // ---- the start
 
-// The state at the start, with the cells of its stack.
-pub struct Start {
-    pub state: State,
-    pub stack: [Cell; 64],
-}
-
-// The start at the address `first`: the first cell of a line is ACCU, the others are the stack, the top first.
-pub fn start_of(values: &[u8], first: usize) -> Start
+// The state at the start, at the address `first`: the first cell of a line is ACCU, the others are the stack, the top first.
+pub fn start_of(values: &[u8], first: usize) -> State
     requires { ⌜ length (list (now values)) ≤ 33 ⌝ }
-    ensures start { λ r. ⌜ view (beside (r .stack) (r .state)) ≡ startIn first (cellsIn (now (values .entry))) ⌝ }
-    ensures room { λ r. ⌜ r .state .free ≤ 64 ⌝ }
+    ensures start { λ r. ⌜ view r ≡ startIn first (cellsIn (now (values .entry))) ⌝ }
+    ensures formed { λ r. ⌜ WellFormed r ⌝ }
 {
     let accu = cell_at(values, 0);
     let zero = cells::number(0);
@@ -142,13 +136,10 @@ pub fn start_of(values: &[u8], first: usize) -> Start
         stack[j] = cell;
         i += 1;
     }
-    let state = State {
+    State {
         at: first,
         accu: accu,
         free: free,
-    };
-    Start {
-        state: state,
         stack: stack,
     }
 }

@@ -11,7 +11,8 @@ use Rattle.text.specs.Text.{words, Line, lines, noLine}
 use Rattle.numbers.specs.Numbers.{range, numbers}
 use Rattle.cells.specs.declared.Cell.{Cell}
 use Rattle.states.specs.Columns.{linesOf, codeOf, Sized}
-use Rattle.states.specs.View.{Stacked, view, Fits, whole}
+use Rattle.states.specs.View.{view, Fits, whole}
+use Rattle.states.specs.declared.State as code
 use Rattle.states.specs.View as view-of
 use Rattle.routine.specs.declared.Section.the-variants.{Limits as limits, Kinds as kinds, Primitives as primitives, Cells as cells, Fields as fields}
 use Rattle.routine.specs.declared.Column.the-variants.{Limit as limit, Cycles as cycles, Words as words-column, Cell as cell}
@@ -166,7 +167,7 @@ module _ (ls : List Line) (p : Passes ls) (ns-line fs-line cs-line : List ℕ) (
   unfolding listed
   cells-ready = rw cells-at (cells-small p)
 
-  pub start-held : (first : ℕ) → first ≡ readings.codeOf ls .first → (s : Stacked) → view s ≡ startIn first (cellsIn cs-line)
+  pub start-held : (first : ℕ) → first ≡ readings.codeOf ls .first → (s : code.State) → view s ≡ startIn first (cellsIn cs-line)
       → (fs : List Cell) → view-of.blocksOf (take (bs .count) (bs .sizes)) fs ≡ readings.blocksOf (take (bs .count) (bs .sizes)) (cellsIn fs-line)
       → whole (take (bs .count) (bs .sizes)) fs s ≡ routineOf ls .start
   unfolding routineOf
@@ -183,7 +184,7 @@ module _ (ls : List Line) (p : Passes ls) (ns-line fs-line cs-line : List ℕ) (
         omega arith;
   }
 
-pub start-at : (first : ℕ) (cs : List Cell) (s : Stacked) → view s ≡ startIn first cs → s .at ≡ first
+pub start-at : (first : ℕ) (cs : List Cell) (s : code.State) → view s ≡ startIn first cs → s .at ≡ first
 unfolding startIn
 start-at first cs s e = ap (λ v. v .at) e
 
@@ -214,7 +215,7 @@ blankWith z = record {
   first = 0;
   count = 0;
   columns = blank .columns;
-  start = record { state = record { at = 0; accu = z; free = 64 }; stack = replicate 64 z };
+  start = record { at = 0; accu = z; free = 64; stack = replicate 64 z };
   fields = replicate 128 z;
   sizes = blank .sizes;
   blocks = 0;

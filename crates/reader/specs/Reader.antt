@@ -7,7 +7,7 @@ use lib.ListN.{length, getD, take, replicate}
 use Rattle.text.specs.Text.{Line}
 use Rattle.cells.specs.Cells.{number}
 use Rattle.states.specs.Columns.{linesOf, codeOf, Sized}
-use Rattle.states.specs.View.{Stacked, beside, Fits, whole}
+use Rattle.states.specs.View.{WellFormed, Fits, whole}
 use Rattle.routine.specs.Layout.{body, codeLines}
 use Rattle.routine.specs.Rows.{firstAddresses, firstAt}
 use Rattle.routine.specs.Routine as readings
@@ -36,16 +36,12 @@ sizes r = take (r .blocks) (r .sizes)
 abbrev pub answers : Routine → List ℤ
 answers r = take (r .answers .count) (r .answers .values)
 
--- the start's state with the cells of its stack
-abbrev pub start : Routine → Stacked
-start r = beside (r .start .stack) (r .start .state)
-
 -- r holds the routine x, part by part
 pub record Holds (x : readings.Routine) (r : Routine) : Type 0 where
   pub budget : r .budget ≡ x .budget
   pub tick : r .tick ≡ x .tick
   pub code : codeOf (r .first) (codes r) (operands r) (cycles r) (words r) ≡ x .code
-  pub start : whole (sizes r) (r .fields) (start r) ≡ x .start
+  pub start : whole (sizes r) (r .fields) (r .start) ≡ x .start
   pub answered : answers r ≡ x .answers
 
 -- columns of 1,024 places
@@ -62,8 +58,8 @@ pub record Limited (r : Routine) : Type 0 where
   pub few : r .count ≤ 1024
   pub full : Full (r .columns)
   pub sized : Sized (codes r) (operands r) (cycles r) (words r)
-  pub placed : r .start .state .at ≡ r .first
-  pub free : r .start .state .free ≤ 64
+  pub placed : r .start .at ≡ r .first
+  pub formed : WellFormed (r .start)
   pub present : r .blocks ≤ 8
   pub fits : Fits (sizes r) (r .fields)
   pub answered : r .answers .count ≤ 64
@@ -77,7 +73,7 @@ blank = record {
   first = 0;
   count = 0;
   columns = record { codes = replicate 1024 0; operands = replicate 1024 (pos 0); cycles = replicate 1024 0; words = replicate 1024 0 };
-  start = record { state = record { at = 0; accu = number (pos 0); free = 64 }; stack = replicate 64 (number (pos 0)) };
+  start = record { at = 0; accu = number (pos 0); free = 64; stack = replicate 64 (number (pos 0)) };
   fields = replicate 128 (number (pos 0));
   sizes = replicate 8 0;
   blocks = 0;

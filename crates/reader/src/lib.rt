@@ -2,7 +2,6 @@
 use cells::Cell;
 use parts::Answers;
 use parts::Columns;
-use parts::Start;
 use rows::Checked;
 use rows::Reader;
 use states::State;
@@ -13,14 +12,14 @@ ghost use Rattle.routine.specs.Routine.{routineOf};
 ghost use Rattle.rows.specs.Checks.{readBy};
 ghost use Rattle.reader.specs.Reader.{Holds, Limited, blank, Shows, Counted, HoldsCode, firstIn};
 
-// A routine by value: its limits, its code in columns, its start with the stack and the blocks in flat arrays, its answers.
+// A routine by value: its limits, its code in columns, the state it starts in, the blocks in a flat array, its answers.
 pub struct Routine {
     pub budget: usize,
     pub tick: u64,
     pub first: usize,
     pub count: usize,
     pub columns: Columns,
-    pub start: Start,
+    pub start: State,
     pub fields: [Cell; 128],
     pub sizes: [u8; 8],
     pub blocks: usize,
@@ -44,13 +43,10 @@ fn blank() -> Routine
         cycles: [0u32; 1024],
         words: [0u32; 1024],
     };
-    let state = State {
+    let start = State {
         at: 0,
         accu: zero,
         free: 64,
-    };
-    let start = Start {
-        state: state,
         stack: [zero; 64],
     };
     let answers = Answers {

@@ -85,7 +85,7 @@ returns c =
     let h = l .inv .2 in (
       start-is (start .args .first) cs _ _ (c .before .before .before .before .before .before .cell-at .ensures)
           (fill-all _ (drop 1 cs) (l .i) (rw length-drop (omega arith)) (rw length-drop (omega arith)) (l .inv .4)),
-      omega arith,
+      record { free = omega arith; places = l .inv .1 },
     )
 
 pub start-of-spec : {M : Type 1} → statement M

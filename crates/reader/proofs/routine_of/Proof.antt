@@ -3,7 +3,6 @@ use Rattle.reader.proofs.ReaderLaws.{counted, start-at, first-low, budg
 use native.Mathlib.Omega.{arith}
 use mathlib.Core.Path.{_≡_, refl}
 use lib.ListN.{length}
-use Rattle.states.specs.View.{beside}
 use Rattle.states.proofs.Stack.{length-images}
 use borrow.Author.Needs.{needs}
 use Rattle.reader.proofs.routine_of.Statement.{statement}
@@ -86,8 +85,8 @@ returns c =
         few = k .few;
         full = record { codes = a; operands = b; cycles = d; words = e };
         sized = columns-sized _ (c .before .before .before .before .columns-in .result) (k .few) a b d e (c .before .before .before .before .columns-in .ensures .known);
-        placed = start-at _ _ (beside (c .before .before .start-of .result .stack) (c .before .before .start-of .result .state)) (c .before .before .start-of .ensures .0);
-        free = c .before .before .start-of .ensures .1;
+        placed = start-at _ _ (c .before .before .start-of .result) (c .before .before .start-of .ensures .0);
+        formed = c .before .before .start-of .ensures .1;
         present = c .before .before .before .before .before .before .before .before .before .before .before .blocks-named .ensures .few;
         fits = blocks-fit _ (c .before .before .before .before .before .before .before .before .before .before .before .before .before .before .before .before .before .pre) _ _ _ (c .before .before .before .before .before .before .before .before .before .before .before .before .line-at2 .ensures) (c .before .before .before .before .before .before .before .before .before .line-at3 .ensures) (c .before .before .before .line-at4 .ensures) _ (c .before .before .before .before .before .before .before .before .before .before .before .blocks-named .ensures) _ f;
         answered = c .answers-of .ensures .1;
