@@ -138,15 +138,15 @@ holds-is : (x : readings.Routine) (r : Routine) → Holds x r → routineIn r �
 holds-is x r h = λ i. record { budget = h .budget i; tick = h .tick i; code = h .code i; start = h .start i; answers = h .answered i }
 
 module _ (r : Reading) where
-  pub reading-refused : (m : readings.Reading) → reader.Shows r m → (x : Refusal) → r .checked ≡ checks.Refused x → m ≡ readings.refused x
+  pub reading-refused : (m : readings.Reading) → reader.Represents r m → (x : Refusal) → r .checked ≡ checks.Refused x → m ≡ readings.refused x
   reading-refused (readings.refused y) s x e = ap readings.refused (same-checked y x (sym (s .0) ∙ e))
   reading-refused (readings.routine y) s x e = passes-not x (sym (s .0) ∙ e)
 
-  pub reading-limited : (m : readings.Reading) → reader.Shows r m → r .checked ≡ checks.Passes → Limited (r .routine)
+  pub reading-limited : (m : readings.Reading) → reader.Represents r m → r .checked ≡ checks.Passes → Limited (r .routine)
   reading-limited (readings.refused y) s e = passes-not y (sym e ∙ s .0)
   reading-limited (readings.routine y) s e = s .2
 
-  pub reading-routine : (m : readings.Reading) → reader.Shows r m → r .checked ≡ checks.Passes → m ≡ readings.routine (routineIn (r .routine))
+  pub reading-routine : (m : readings.Reading) → reader.Represents r m → r .checked ≡ checks.Passes → m ≡ readings.routine (routineIn (r .routine))
   reading-routine (readings.refused y) s e = passes-not y (sym e ∙ s .0)
   reading-routine (readings.routine y) s e = ap readings.routine (sym (holds-is y (r .routine) (s .1)))
 

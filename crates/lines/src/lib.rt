@@ -220,7 +220,7 @@ pub fn values_known(c: Column, line: &[u8]) -> bool
 // ---- code lines
 
 // The kind that OP names, by its place in the table; 61 where it names none.
-fn kind_of(line: &[u8]) -> usize
+pub fn kind_of(line: &[u8]) -> usize
     ensures { λ r. ⌜ r ≡ find (op (now (line .entry))) kindNames ⌝ }
 {
     instructions::kind_named(text::word_at(line, 1))

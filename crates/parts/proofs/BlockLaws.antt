@@ -9,7 +9,7 @@ use lib.Seq.{take-suc, take-take, take-nil, drop-drop, length-take-le, getD-take
 use Rattle.cells.specs.declared.Cell.{Cell}
 use Rattle.states.specs.View.{blocksOf}
 use Rattle.routine.specs.Rows.{total}
-use Rattle.routine.specs.Routine.{blocksOf as blocksInLine}
+use Rattle.routine.specs.Routine.{blocksInLine}
 use Rattle.names.proofs.BlockLaws.{small-total}
 
 -- one more block

@@ -23,7 +23,7 @@ use Rattle.instructions.specs.declared.Operation.the-variants.{Nothing, Access,
 use Rattle.instructions.specs.Kinds.{Kind, kinds, kindNames, operand, calls, addresses}
 use Rattle.instructions.specs.Columns.{kindAt, operationCode, unaryCode, binaryCode, comparisonCode, operations, operationOf}
 use Rattle.machine.specs.Machine.{Price, Instruction, instruction, priceOf}
-use Rattle.states.specs.Columns.{line, lineOf, linesOf}
+use Rattle.states.specs.Columns.{line, lineOf, instructionsOf}
 use Rattle.routine.specs.Layout.{list}
 use Rattle.routine.specs.Rows.{op, arg, value, cycleCounts, wordCounts}
 use Rattle.routine.specs.Routine.{inside, argumentValue}
@@ -188,8 +188,8 @@ module _ (p : PriceLines) (text : List ℕ) (k : ℕ) (b : ℕ) (i : ℤ) (c w :
 -- columns of equal lengths with one more line
 
 lines-snoc : (bs : List ℕ) (is : List ℤ) (cs ws : List ℕ) (b : ℕ) (i : ℤ) (c w : ℕ) → length is ≡ length bs → length cs ≡ length bs → length ws ≡ length bs
-    → linesOf (bs ++ (b ∷ [])) (is ++ (i ∷ [])) (cs ++ (c ∷ [])) (ws ++ (w ∷ [])) ≡ linesOf bs is cs ws ++ (lineOf (line b i c w) ∷ [])
-unfolding linesOf
+    → instructionsOf (bs ++ (b ∷ [])) (is ++ (i ∷ [])) (cs ++ (c ∷ [])) (ws ++ (w ∷ [])) ≡ instructionsOf bs is cs ws ++ (lineOf (line b i c w) ∷ [])
+unfolding instructionsOf
 lines-snoc [] [] [] [] b i c w p q r = refl
 lines-snoc [] [] [] (y ∷ ws) b i c w p q r = absurd (omega arith)
 lines-snoc [] [] (x ∷ cs) ws b i c w p q r = absurd (omega arith)
@@ -209,7 +209,7 @@ pub record Room (bs : List ℕ) (is : List ℤ) (cs ws : List ℕ) : Type 0 wher
 
 module _ (bs : List ℕ) (is : List ℤ) (cs ws : List ℕ) (n : ℕ) where
   abbrev pub firstLines : List Instruction
-  firstLines = linesOf (take n bs) (take n is) (take n cs) (take n ws)
+  firstLines = instructionsOf (take n bs) (take n is) (take n cs) (take n ws)
 
 pub columns-more : (f : Line → Instruction) (ls : List Line) (bs : List ℕ) (is : List ℤ) (cs ws : List ℕ) (n : ℕ) (b : ℕ) (i : ℤ) (c w : ℕ)
     → Room bs is cs ws → n < 1024 → n < length ls → lineOf (line b i c w) ≡ getD (map f ls) n (f noLine)

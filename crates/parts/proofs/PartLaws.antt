@@ -15,7 +15,7 @@ use Rattle.routine.specs.declared.Column.the-variants.{Limit as limit, Cycles a
 use Rattle.routine.specs.declared.Role.the-variants.{Names as names, Values as values}
 use Rattle.routine.specs.Layout.{layout, body, codeLines, textAt, listed}
 use Rattle.routine.specs.Rows.{value, blockSizes}
-use Rattle.routine.specs.Routine.{inside, limitAt, priceAt, prices, instructionOf, codeOf, cellsOf, startOf, routineOf, blocksOf as blocksInLine}
+use Rattle.routine.specs.Routine.{inside, limitAt, priceAt, prices, instructionOf, codeIn, cellsOf, startOf, routineOf, blocksInLine}
 use Rattle.parts.specs.Parts.{naturalAt, PriceLines, priceLines, pricesIn, instructionAs, instructionIn, cellsIn, startIn}
 use Rattle.parts.proofs.ListLaws.{code-take, answer-drop}
 
@@ -30,8 +30,8 @@ unfolding limitAt listed
 limit-in r i ls = refl
 
 -- the instructions are those of the first lines after the layout
-pub instructions-in : (ls : List Line) → codeOf ls .instructions ≡ map (λ l. instructionIn (linesOfPrices ls) (l .text)) (take (length (codeLines (body ls))) (body ls))
-unfolding codeOf instructionOf prices priceAt listed instructionIn instructionAs pricesIn
+pub instructions-in : (ls : List Line) → codeIn ls .instructions ≡ map (λ l. instructionIn (linesOfPrices ls) (l .text)) (take (length (codeLines (body ls))) (body ls))
+unfolding codeIn instructionOf prices priceAt listed instructionIn instructionAs pricesIn
 instructions-in ls = ap (map (λ (l : Line). instructionIn (linesOfPrices ls) (l .text))) (code-take (body ls))
 
 -- the answers are those of the lines after ANSWER
@@ -41,10 +41,10 @@ answers-in ls = ap (map (λ (l : Line). inside numbers (value (l .text)))) (answ
 
 -- the start, with its blocks
 pub start-whole : (ls : List Line) (s : code.State) (ns : List ℕ) (fs : List Cell)
-    → view s ≡ startIn (codeOf ls .first) (cellsIn (textAt (values cells cell) layout ls))
+    → view s ≡ startIn (codeIn ls .first) (cellsIn (textAt (values cells cell) layout ls))
     → ns ≡ blockSizes (listed (names fields) ls)
     → blocksOf ns fs ≡ blocksInLine ns (cellsIn (textAt (values fields cell) layout ls))
     → whole ns fs s ≡ startOf ls
 unfolding whole reblock startOf startIn cellsOf cellsIn listed
 start-whole ls s ns fs v e b =
-    (λ i. reblock (b i) (v i)) ∙ ap (λ (ms : List ℕ). reblock (blocksInLine ms (cellsOf fields ls)) (startIn (codeOf ls .first) (cellsOf cells ls))) e
+    (λ i. reblock (b i) (v i)) ∙ ap (λ (ms : List ℕ). reblock (blocksInLine ms (cellsOf fields ls)) (startIn (codeIn ls .first) (cellsOf cells ls))) e

@@ -15,11 +15,11 @@ use Rattle.instructions.specs.Columns.{kindAt, operationCode}
 use Rattle.machine.specs.Machine.{State, Price, Prices, Instruction, instruction, priceOf}
 use Rattle.routine.specs.Layout.{list}
 use Rattle.routine.specs.Rows.{cellWord, op, arg, cycleCounts, wordCounts}
-use Rattle.routine.specs.Routine.{natural, argumentValue, cellOf}
+use Rattle.routine.specs.Routine.{naturalIn, argumentValue, cellOf}
 
 -- the number at place i of a line
 abbrev pub naturalAt : Range → List ℕ → ℕ → ℕ
-naturalAt r line i = natural r (getD (list line) i [])
+naturalAt r line i = naturalIn r (getD (list line) i [])
 
 -- the price at place i of a line of cycles and of a line of words
 abbrev pub priceIn : List ℕ → List ℕ → ℕ → Price

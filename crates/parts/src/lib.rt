@@ -12,13 +12,13 @@ ghost use lib.ListN.{length, getD, take, drop};
 ghost use Rattle.text.specs.Text.{bytes, equals, find, lines};
 ghost use Rattle.numbers.specs.Numbers.{IsNumber, range, numbers};
 ghost use Rattle.cells.specs.Cells.{number};
-ghost use Rattle.instructions.specs.Kinds.{kindNames, operand};
+ghost use Rattle.instructions.specs.Kinds.{operand};
 ghost use Rattle.instructions.specs.Columns.{kindAt};
-ghost use Rattle.states.specs.Columns.{line, lineOf, linesOf};
+ghost use Rattle.states.specs.Columns.{line, lineOf, instructionsOf};
 ghost use Rattle.states.specs.View.{view, WellFormed, blocksOf};
 ghost use Rattle.routine.specs.Layout.{list, codeLines};
 ghost use Rattle.routine.specs.Rows.{value, total};
-ghost use Rattle.routine.specs.Routine.{inside, argumentValue, blocksOf as blocksInLine};
+ghost use Rattle.routine.specs.Routine.{inside, argumentValue, blocksInLine};
 ghost use Rattle.parts.specs.Parts.{naturalAt, priceLines, instructionIn, Coded, cellsIn, startIn};
 
 // ---- the words of a line
@@ -31,7 +31,7 @@ fn lists_nothing(line: &[u8]) -> bool
 }
 
 // Where a word stands among those that a line lists, counted from 0; their number where it is none of them.
-pub fn place_of(names: &[u8], w: &[u8]) -> usize
+pub fn place_listed(names: &[u8], w: &[u8]) -> usize
     ensures { λ r. ⌜ r ≡ find (now (w .entry)) (list (now (names .entry))) ⌝ }
 {
     if lists_nothing(names) {
@@ -146,12 +146,11 @@ pub fn start_of(values: &[u8], first: usize) -> State
 
 // ---- code lines
 
-// The place in the table of the kind that a word names; that of the last kind where it names none.
-fn kind_of(w: &[u8]) -> usize
-    ensures kind { λ r. ⌜ kindAt r ≡ kindAt (find (now (w .entry)) kindNames) ⌝ }
+// A place of the table: k, or that of the last kind where k is past the table.
+fn table_place(k: usize) -> usize
+    ensures kind { λ r. ⌜ kindAt r ≡ kindAt k ⌝ }
     ensures place { λ r. ⌜ r < 61 ⌝ }
 {
-    let k = instructions::kind_named(w);
     if k < 61 { k } else { 60 }
 }
 
@@ -222,10 +221,10 @@ pub fn entry_of(
 {
     let op = text::word_at(text, 1);
     let arg = text::word_at(text, 2);
-    let k = kind_of(op);
+    let k = table_place(lines::kind_of(text));
     let called = instructions::calls_at(k);
-    let i = place_of(kinds, op);
-    let j = place_of(primitives, arg);
+    let i = place_listed(kinds, op);
+    let j = place_listed(primitives, arg);
     let code = code_of(k);
     let operand = operand_of(k, arg);
     let cycles = price_of(65535, kind_cycles, i, called, primitive_cycles, j);
@@ -258,7 +257,7 @@ pub fn columns_of(
     count: usize,
 ) -> Columns
     requires { ⌜ (count ≤ 1024) × (count ≤ length (lines (now body))) ⌝ }
-    ensures instructions { λ r. ⌜ linesOf (take count (r .codes)) (take count (r .operands)) (take count (r .cycles)) (take count (r .words)) ≡ map (λ l. instructionIn (priceLines (now (kinds .entry)) (now («kind_cycles» .entry)) (now («kind_words» .entry)) (now (primitives .entry)) (now («primitive_cycles» .entry)) (now («primitive_words» .entry))) (l .text)) (take count (lines (now (body .entry)))) ⌝ }
+    ensures instructions { λ r. ⌜ instructionsOf (take count (r .codes)) (take count (r .operands)) (take count (r .cycles)) (take count (r .words)) ≡ map (λ l. instructionIn (priceLines (now (kinds .entry)) (now («kind_cycles» .entry)) (now («kind_words» .entry)) (now (primitives .entry)) (now («primitive_cycles» .entry)) (now («primitive_words» .entry))) (l .text)) (take count (lines (now (body .entry)))) ⌝ }
     ensures known { λ r. ⌜ ((j : ℕ) → getD (take count (r .codes)) j 0 % 32 ≤ 22) ⌝ }
 {
     let mut codes = [0u8; 1024];

@@ -10,7 +10,7 @@ use Rattle.refusals.specs.declared.Refusal.{Refusal}
 use Rattle.text.specs.Text.{words, Line, lines, noLine}
 use Rattle.numbers.specs.Numbers.{range, numbers}
 use Rattle.cells.specs.declared.Cell.{Cell}
-use Rattle.states.specs.Columns.{linesOf, codeOf, Sized}
+use Rattle.states.specs.Columns.{instructionsOf, codeOf, Sized}
 use Rattle.states.specs.View.{view, Fits, whole}
 use Rattle.states.specs.declared.State as code
 use Rattle.states.specs.View as view-of
@@ -19,7 +19,7 @@ use Rattle.routine.specs.declared.Column.the-variants.{Limit as limit, Cycles a
 use Rattle.routine.specs.declared.Role.the-variants.{Names as names, Values as values}
 use Rattle.routine.specs.Layout.{layout, body, codeLines, list, textAt, listed}
 use Rattle.routine.specs.Rows.{Passes, value, blockSizes, total, firstAddresses, firstAt, budgets, ticks}
-use Rattle.routine.specs.Routine.{inside, natural, routineOf}
+use Rattle.routine.specs.Routine.{inside, naturalIn, routineOf}
 use Rattle.routine.specs.Routine as readings
 use Rattle.routine.proofs.RowLaws.{read-passes, run-passes}
 use Rattle.routine.proofs.RangeLaws.{budget-small}
@@ -38,12 +38,12 @@ use Rattle.rows.specs.declared.Checked.the-variants as checks
 use Rattle.rows.specs.declared.Reader.{Reader}
 use Rattle.rows.specs.declared.Reader.the-variants.{Bound, Run}
 use Rattle.rows.proofs.FoundLaws.{first-value}
-use Rattle.reader.specs.Reader.{Holds, Limited, blank, Shows, Counted, HoldsCode, firstIn}
+use Rattle.reader.specs.Reader.{Holds, Limited, blank, Represents, BodyLines, HoldsCode, firstIn}
 use Rattle.reader.specs.declared.Routine.{Routine}
 
 -- ---- the first address
 
-pub first-found : (ms : List Line) (l w : List ℕ) (n : ℕ) → l ≡ getD ms 0 noLine .text → w ≡ getD (words l) 0 [] → n ≡ natural (range 0 60000) w → n ≡ firstIn ms
+pub first-found : (ms : List Line) (l w : List ℕ) (n : ℕ) → l ≡ getD ms 0 noLine .text → w ≡ getD (words l) 0 [] → n ≡ naturalIn (range 0 60000) w → n ≡ firstIn ms
 first-found ms l w n a b c =
     c ∙ ap (λ t. natAbs (inside firstAddresses (value t))) (b ∙ ap (λ t. getD (words t) 0 []) a) ∙ ap (λ z. natAbs (inside firstAddresses z)) (first-value ms)
 
@@ -52,7 +52,7 @@ first-low ms n e = rw e (first-small (firstAt ms))
 
 -- ---- the code
 
-module _ (ls ms : List Line) (count : ℕ) (x : Counted ls ms count) where
+module _ (ls ms : List Line) (count : ℕ) (x : BodyLines ls ms count) where
   pub counted-few : (count ≤ 1024) × (count ≤ length ms)
   counted-few = (x .few, rw (x .after, x .counted) (code-among (body ls)))
 
@@ -70,7 +70,7 @@ module _ (ls ms : List Line) (count : ℕ) (x : Counted ls ms count) where
         ) refl
 
     pub code-held : (r : Columns)
-        → linesOf (take count (r .codes)) (take count (r .operands)) (take count (r .cycles)) (take count (r .words)) ≡ map (λ l. instructionIn (priceLines ks kc kw ps pc pw) (l .text)) (take count ms)
+        → instructionsOf (take count (r .codes)) (take count (r .operands)) (take count (r .cycles)) (take count (r .words)) ≡ map (λ l. instructionIn (priceLines ks kc kw ps pc pw) (l .text)) (take count ms)
         → ((j : ℕ) → getD (take count (r .codes)) j 0 % 32 ≤ 22) → HoldsCode ls count r
     code-held r h k = record {
       instructions =
@@ -92,7 +92,7 @@ module _ (ls : List Line) (p : Passes ls) (ms : List Line) (after : ms ≡ drop 
   code-small : count ≤ 1024
   code-small = rw code-counted (passing.code-few ls (p .layout))
 
-  pub counted : Counted ls ms count
+  pub counted : BodyLines ls ms count
   counted = record { after = is-body; counted = code-counted; few = code-small }
 
   module _ (rest : List Line) (left : rest ≡ drop (count + 1) ms) where
@@ -107,13 +107,13 @@ module _ (ls : List Line) (p : Passes ls) (ms : List Line) (after : ms ≡ drop 
     pub answers-held : (vs : List ℤ) → vs ≡ map (λ l. inside numbers (value (l .text))) rest → vs ≡ routineOf ls .answers
     answers-held vs e = e ∙ ap (map (λ (l : Line). inside numbers (value (l .text)))) answer-lines ∙ sym (answers-in ls)
 
-  pub code-is : (first : ℕ) → first ≡ firstIn ms → (bs : List ℕ) (is : List ℤ) (cs ws : List ℕ) → linesOf bs is cs ws ≡ readings.codeOf ls .instructions
+  pub code-is : (first : ℕ) → first ≡ firstIn ms → (bs : List ℕ) (is : List ℤ) (cs ws : List ℕ) → instructionsOf bs is cs ws ≡ readings.codeIn ls .instructions
       → codeOf first bs is cs ws ≡ routineOf ls .code
-  unfolding codeOf readings.codeOf routineOf
+  unfolding codeOf readings.codeIn routineOf
   code-is first f bs is cs ws e = ap₂ (λ n ins. record { first = n; instructions = ins }) (f ∙ ap firstIn is-body) e
 
-  pub first-is : (first : ℕ) → first ≡ firstIn ms → first ≡ readings.codeOf ls .first
-  unfolding readings.codeOf
+  pub first-is : (first : ℕ) → first ≡ firstIn ms → first ≡ readings.codeIn ls .first
+  unfolding readings.codeIn
   first-is first f = f ∙ ap firstIn is-body
 
 -- ---- the limits
@@ -167,13 +167,13 @@ module _ (ls : List Line) (p : Passes ls) (ns-line fs-line cs-line : List ℕ) (
   unfolding listed
   cells-ready = rw cells-at (cells-small p)
 
-  pub start-held : (first : ℕ) → first ≡ readings.codeOf ls .first → (s : code.State) → view s ≡ startIn first (cellsIn cs-line)
-      → (fs : List Cell) → view-of.blocksOf (take (bs .count) (bs .sizes)) fs ≡ readings.blocksOf (take (bs .count) (bs .sizes)) (cellsIn fs-line)
+  pub start-held : (first : ℕ) → first ≡ readings.codeIn ls .first → (s : code.State) → view s ≡ startIn first (cellsIn cs-line)
+      → (fs : List Cell) → view-of.blocksOf (take (bs .count) (bs .sizes)) fs ≡ readings.blocksInLine (take (bs .count) (bs .sizes)) (cellsIn fs-line)
       → whole (take (bs .count) (bs .sizes)) fs s ≡ routineOf ls .start
   unfolding routineOf
   start-held first f s v fs h =
       start-whole ls s (take (bs .count) (bs .sizes)) fs (v ∙ ap₂ (λ n t. startIn n (cellsIn t)) f cells-at) sizes-are
-      (h ∙ ap (λ t. readings.blocksOf (take (bs .count) (bs .sizes)) (cellsIn t)) fields-at)
+      (h ∙ ap (λ t. readings.blocksInLine (take (bs .count) (bs .sizes)) (cellsIn t)) fields-at)
 
   pub blocks-fit : (fs : List Cell) → length fs ≡ 128 → Fits (take (bs .count) (bs .sizes)) fs
   blocks-fit fs e = record {
@@ -248,17 +248,17 @@ module _ (reader : Reader) (text : List ℕ) where
       go (readings.refused x) h k = passes-not x k
       go (readings.routine x) h k = read-is reader x h .0
 
-  pub shows-routine : (r : Routine) → Holds (routineOf (lines text)) r → Limited r → checkOf (readBy reader text) ≡ checks.Passes
-      → Shows (record { checked = checks.Passes; routine = r }) (readBy reader text)
-  shows-routine r h l e = go (readBy reader text) refl e
+  pub represents-routine : (r : Routine) → Holds (routineOf (lines text)) r → Limited r → checkOf (readBy reader text) ≡ checks.Passes
+      → Represents (record { checked = checks.Passes; routine = r }) (readBy reader text)
+  represents-routine r h l e = go (readBy reader text) refl e
     where
-      go : (q : readings.Reading) → readBy reader text ≡ q → checkOf q ≡ checks.Passes → Shows (record { checked = checks.Passes; routine = r }) q
+      go : (q : readings.Reading) → readBy reader text ≡ q → checkOf q ≡ checks.Passes → Represents (record { checked = checks.Passes; routine = r }) q
       go (readings.refused x) i k = passes-not x k
       go (readings.routine x) i k = (refl, rw (read-is reader x i .1) h, l)
 
-  pub shows-refusal : (b : Routine) → b ≡ blank → (x : Refusal) → checkOf (readBy reader text) ≡ Refused x → Shows (record { checked = Refused x; routine = b }) (readBy reader text)
-  shows-refusal b f x e = go (readBy reader text) e
+  pub represents-refusal : (b : Routine) → b ≡ blank → (x : Refusal) → checkOf (readBy reader text) ≡ Refused x → Represents (record { checked = Refused x; routine = b }) (readBy reader text)
+  represents-refusal b f x e = go (readBy reader text) e
     where
-      go : (q : readings.Reading) → checkOf q ≡ Refused x → Shows (record { checked = Refused x; routine = b }) q
+      go : (q : readings.Reading) → checkOf q ≡ Refused x → Represents (record { checked = Refused x; routine = b }) q
       go (readings.refused y) k = (rw (same-refusal y x k) refl, f)
       go (readings.routine y) k = refused-not y x k

@@ -6,7 +6,7 @@ use lib.IntN.{ℤ, pos, natAbs}
 use lib.ListN.{length, getD, take, replicate}
 use Rattle.text.specs.Text.{Line}
 use Rattle.cells.specs.Cells.{number}
-use Rattle.states.specs.Columns.{linesOf, codeOf, Sized}
+use Rattle.states.specs.Columns.{instructionsOf, codeOf, Sized}
 use Rattle.states.specs.View.{WellFormed, Fits, whole}
 use Rattle.routine.specs.Layout.{body, codeLines}
 use Rattle.routine.specs.Rows.{firstAddresses, firstAt}
@@ -81,21 +81,21 @@ blank = record {
 }
 
 -- the answer r shows a reading: its refusal, or its routine
-abbrev pub Shows : Reading → readings.Reading → Type 0
-Shows r (readings.refused x) = (r .checked ≡ Refused x) × (r .routine ≡ blank)
-Shows r (readings.routine x) = (r .checked ≡ Passes) × Holds x (r .routine) × Limited (r .routine)
+abbrev pub Represents : Reading → readings.Reading → Type 0
+Represents r (readings.refused x) = (r .checked ≡ Refused x) × (r .routine ≡ blank)
+Represents r (readings.routine x) = (r .checked ≡ Passes) × Holds x (r .routine) × Limited (r .routine)
 
 -- ---- the parts of the reader
 
 -- the lines ms are those after the layout of ls, and count of them are code
-pub record Counted (ls ms : List Line) (count : ℕ) : Type 0 where
+pub record BodyLines (ls ms : List Line) (count : ℕ) : Type 0 where
   pub after : ms ≡ body ls
   pub counted : count ≡ length (codeLines (body ls))
   pub few : count ≤ 1024
 
 -- the columns c hold the code of ls
 pub record HoldsCode (ls : List Line) (count : ℕ) (c : Columns) : Type 0 where
-  pub instructions : linesOf (take count (c .codes)) (take count (c .operands)) (take count (c .cycles)) (take count (c .words)) ≡ readings.codeOf ls .instructions
+  pub instructions : instructionsOf (take count (c .codes)) (take count (c .operands)) (take count (c .cycles)) (take count (c .words)) ≡ readings.codeIn ls .instructions
   pub known : (j : ℕ) → getD (take count (c .codes)) j 0 % 32 ≤ 22
 
 -- the first address, by the lines after the layout

@@ -10,7 +10,7 @@ ghost use Rattle.text.specs.Text.{lines};
 ghost use Rattle.routine.specs.Rows.{Passes};
 ghost use Rattle.routine.specs.Routine.{routineOf};
 ghost use Rattle.rows.specs.Checks.{readBy};
-ghost use Rattle.reader.specs.Reader.{Holds, Limited, blank, Shows, Counted, HoldsCode, firstIn};
+ghost use Rattle.reader.specs.Reader.{Holds, Limited, blank, Represents, BodyLines, HoldsCode, firstIn};
 
 // A routine by value: its limits, its code in columns, the state it starts in, the blocks in a flat array, its answers.
 pub struct Routine {
@@ -69,7 +69,7 @@ fn blank() -> Routine
 
 // The code lines of a text, whose lines after the layout are those of body.
 fn columns_in(text: &[u8], body: &[u8], count: usize) -> Columns
-    requires { ⌜ Counted (lines (now text)) (lines (now body)) count ⌝ }
+    requires { ⌜ BodyLines (lines (now text)) (lines (now body)) count ⌝ }
     ensures { λ r. ⌜ HoldsCode (lines (now (text .entry))) count r ⌝ }
 {
     let kinds = text::line_at(text, 2);
@@ -134,7 +134,7 @@ fn routine_of(text: &[u8]) -> Routine
 
 // A text as the bound or the run reads it.
 pub fn read(reader: Reader, text: &[u8]) -> Reading
-    ensures { λ r. ⌜ Shows r (readBy reader (now (text .entry))) ⌝ }
+    ensures { λ r. ⌜ Represents r (readBy reader (now (text .entry))) ⌝ }
 {
     let checked = rows::check(reader, text);
     match checked {

@@ -12,7 +12,7 @@ use Rattle.routine.specs.declared.Role.{Role}
 use Rattle.routine.specs.Layout.{layout, body, codeLines, list, tag, textAt, listed}
 use Rattle.numbers.specs.declared.Range.{Range}
 use Rattle.routine.specs.Rows.{budgets, ticks, firstAt}
-use Rattle.routine.specs.Routine.{Routine, limitAt, priceAt, prices, instructionOf, codeOf, cellsOf, startOf, routineOf}
+use Rattle.routine.specs.Routine.{Routine, limitAt, priceAt, prices, instructionOf, codeIn, cellsOf, startOf, routineOf}
 
 -- the two routines differ in their answers at most
 abbrev pub SameButAnswers : Routine → Routine → Type 0
@@ -55,8 +55,8 @@ module _ (ls ms : List Line) (e : take (length layout) ls ≡ take (length layou
   same-first : firstAt (body ls) ≡ firstAt (body ms)
   same-first = sym (first-code (body ls)) ∙ ap firstAt c ∙ first-code (body ms)
 
-  same-code : codeOf ls ≡ codeOf ms
-  unfolding codeOf
+  same-code : codeIn ls ≡ codeIn ms
+  unfolding codeIn
   same-code = simp (same-first, same-instruction, c)
 
   same-cells : (s : Section) → cellsOf s ls ≡ cellsOf s ms

@@ -19,11 +19,11 @@ use Rattle.routine.specs.declared.Role.{Role}
 use Rattle.routine.specs.declared.Role.the-variants.{Names as names, Values as values, Code as code, Answer as answer}
 use Rattle.routine.specs.declared.Row.{Row}
 use Rattle.routine.specs.declared.Row.the-variants.{Layout as layout-row, Range as range-row}
-use Rattle.routine.specs.declared.Fault.the-variants.{Clean as clean}
+use Rattle.routine.specs.declared.RefusedLine.the-variants.{Nowhere as nowhere}
 use Rattle.routine.specs.Layout.{layout, isAnswer, body, upToAnswer, pastAnswer, codeLines, answerLines, answerRoles, codeRoles, bodyRoles, roles, listed}
-use Rattle.routine.specs.Rows.{value, isNumeral, at, arg, onArgument, argumentInRange, firstAddresses, answerLaidOut, laidOut, codeInRange, inRange, blockSizes, total, wellNamed, named, firstAt, test, fault, Passes}
+use Rattle.routine.specs.Rows.{value, isNumeral, at, arg, onArgument, argumentInRange, firstAddresses, answerLaidOut, laidOut, codeInRange, inRange, blockSizes, total, wellNamed, named, firstAt, test, refusedLine, Passes}
 use Rattle.routine.specs.Routine.{inside}
-use Rattle.routine.proofs.RowLaws.{Covered, passed, fault-clean, laid-out, passes-named}
+use Rattle.routine.proofs.RowLaws.{Covered, passed, row-covered, laid-out, passes-named}
 use Rattle.routine.proofs.RangeLaws.{natural-within, inside-is, natural-inside, cells-few, values-counted}
 use Rattle.routine.proofs.CodeLaws.{code-laid-out}
 
@@ -34,10 +34,10 @@ covered-drop : {t : Role → Line → Bool} (xs ys : List Role) {ls : List Line}
 covered-drop [] ys c = c
 covered-drop (x ∷ xs) ys (passed p c) = covered-drop xs ys c
 
--- so of the lines after the layout, where a row is clean
-covered-body : (row : Row) (ls : List Line) → fault row ls ≡ clean → Covered (test row ls) (bodyRoles (body ls)) (body ls)
+-- so of the lines after the layout, where a row refuses nothing
+covered-body : (row : Row) (ls : List Line) → refusedLine row ls ≡ nowhere → Covered (test row ls) (bodyRoles (body ls)) (body ls)
 unfolding roles body
-covered-body row ls e = covered-drop layout (bodyRoles (body ls)) (fault-clean row ls e)
+covered-body row ls e = covered-drop layout (bodyRoles (body ls)) (row-covered row ls e)
 
 -- ---- the first address
 
@@ -47,7 +47,7 @@ first-within ls [] c = refl
 first-within ls (l ∷ bs) (passed p c) =
     and-left (within firstAddresses (value (at (l .text)))) (onArgument (argumentInRange (arg (l .text))) (l .text)) p
 
-module _ (ls : List Line) (e : fault range-row ls ≡ clean) where
+module _ (ls : List Line) (e : refusedLine range-row ls ≡ nowhere) where
   first-ranged : within firstAddresses (firstAt (body ls)) ≡ true
   first-ranged = first-within ls (body ls) (covered-body range-row ls e)
 
@@ -167,7 +167,7 @@ module _ (ls : List Line) where
   few-answers [] c = omega arith
   few-answers (l ∷ bs) (passed p c) = answers-past 1 bs c
 
-module _ (ls : List Line) (e : fault layout-row ls ≡ clean) where
+module _ (ls : List Line) (e : refusedLine layout-row ls ≡ nowhere) where
   pub code-few : length (codeLines (body ls)) ≤ 1024
   code-few = few-code ls (body ls) (covered-body layout-row ls e)
 

@@ -23,17 +23,17 @@ use Rattle.machine.proofs.AddressLaws.{Confined}
 use Rattle.routine.specs.declared.Section.the-variants.{Primitives as primitives}
 use Rattle.routine.specs.declared.Role.{Role}
 use Rattle.routine.specs.declared.Role.the-variants.{Names as names}
-use Rattle.routine.specs.declared.Fault.{Fault}
-use Rattle.routine.specs.declared.Fault.the-variants.{Clean as clean, Line as line}
+use Rattle.routine.specs.declared.RefusedLine.{RefusedLine}
+use Rattle.routine.specs.declared.RefusedLine.the-variants.{Nowhere as nowhere, Line as line}
 use Rattle.routine.specs.Layout.{body, codeLines, roles, listed}
-use Rattle.routine.specs.Rows.{Passes, value, op, arg, firstAt, test, earliest, fault}
-use Rattle.routine.specs.Routine.{inside, argumentValue, instructionOf, codeOf, startOf, routineOf, refused, orElse, Check, boundChecks, runChecks, checked, textLimit, limited, readBound, readRun}
+use Rattle.routine.specs.Rows.{Passes, value, op, arg, firstAt, test, earliest, refusedLine}
+use Rattle.routine.specs.Routine.{inside, argumentValue, instructionOf, codeIn, startOf, routineOf, refused, orElse, Check, boundChecks, runChecks, checked, textLimit, limited, readBound, readRun}
 use Rattle.routine.proofs.RangeLaws.{natural-inside, every-mapped}
 use Rattle.routine.proofs.PassingLaws.{first-small, lines-count, code-few}
 
 -- ---- lines
 
--- a line at fault is one of the lines, or the one after the last
+-- a refused line is one of the lines, or the one after the last
 earliest-line : (t : Role → Line → Bool) (n : ℕ) (rs : List Role) (ls : List Line) (k : ℕ) → earliest t n rs ls ≡ line k → k ≤ n + length ls
 unfolding earliest
 earliest-line t n [] ls k e = let z : _≡_ {A = ℕ} 0 1 = cc in absurd (omega arith)
@@ -57,12 +57,12 @@ unfolding place
 run-lines = every-append bound-lines (more (λ n. refl) none)
 
 checked-place : (ls : List Line) {cs : List Check} → Every AtLine cs → (r : Refusal) → checked cs ls ≡ refused r → place r ≤ suc (length ls)
-unfolding checked orElse fault
+unfolding checked orElse refusedLine
 checked-place ls none r e = let z : _≡_ {A = ℕ} 0 1 = cc in absurd (omega arith)
-checked-place ls (more {x = c} {xs = cs} p ps) r e = go (fault (c .row) ls) refl e (checked-place ls ps r)
+checked-place ls (more {x = c} {xs = cs} p ps) r e = go (refusedLine (c .row) ls) refl e (checked-place ls ps r)
   where
-    go : (f : Fault) → fault (c .row) ls ≡ f → orElse f (c .refusal) (checked cs ls) ≡ refused r → (checked cs ls ≡ refused r → place r ≤ suc (length ls)) → place r ≤ suc (length ls)
-    go clean q e ih = ih e
+    go : (f : RefusedLine) → refusedLine (c .row) ls ≡ f → orElse f (c .refusal) (checked cs ls) ≡ refused r → (checked cs ls ≡ refused r → place r ≤ suc (length ls)) → place r ≤ suc (length ls)
+    go nowhere q e ih = ih e
     go (line n) q e ih =
         let f : c .refusal n ≡ r = cc in
         rw (← f, p n) (omega (arith, earliest-line (test (c .row) ls) 1 (roles ls) ls n q))
@@ -123,12 +123,12 @@ instruction-target ls text =
 
 module _ (ls : List Line) (passes : Passes ls) where
   pub confined : Confined 62000 (routineOf ls .code)
-  unfolding routineOf codeOf
+  unfolding routineOf codeIn
   confined = record {
     past = simp length-map (omega (arith, first-small (firstAt (body ls)), code-few ls (passes .layout)));
     targets = every-mapped (λ l. instructionOf ls (l .text)) (λ l. instruction-target ls (l .text)) (codeLines (body ls));
   }
 
   pub start-small : routineOf ls .start .at ≤ 62000
-  unfolding routineOf startOf codeOf
+  unfolding routineOf startOf codeIn
   start-small = omega (arith, first-small (firstAt (body ls)))

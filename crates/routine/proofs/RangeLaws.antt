@@ -24,7 +24,7 @@ use Rattle.routine.specs.declared.Column.the-variants.{Limit as limit, C
 use Rattle.routine.specs.declared.Role.the-variants.{Names as names, Values as values}
 use Rattle.routine.specs.Layout.{layout, body, codeLines, listed}
 use Rattle.routine.specs.Rows.{budgets, ticks, valuesLaidOut, cellWord, value, cellNames, stackNames, columnInRange, columnLaidOut, inRange, laidOut, named, wellNamed, Passes}
-use Rattle.routine.specs.Routine.{inside, natural, limitAt, priceAt, prices, instructionOf, codeOf, cellOf, cellsOf, startOf, routineOf}
+use Rattle.routine.specs.Routine.{inside, naturalIn, limitAt, priceAt, prices, instructionOf, codeIn, cellOf, cellsOf, startOf, routineOf}
 use Rattle.routine.proofs.RowLaws.{First, passes-range, passes-laid-out, passes-named, lists-path}
 
 -- ---- numbers of a range
@@ -69,7 +69,7 @@ natural-inside low high z = inside-keeps (Natural high) (range low high) z (reco
 -- ---- limits
 
 -- a limit of a passing text is the number that its word spells
-limit-ends : (low high : ℕ) (w : List ℕ) → within (range low high) (value w) ≡ true → low ≤ natural (range low high) w
+limit-ends : (low high : ℕ) (w : List ℕ) → within (range low high) (value w) ≡ true → low ≤ naturalIn (range low high) w
 limit-ends low high w e = rw (inside-is (range low high) (value w) e) (natural-above low high (value w) e)
 
 module _ {ls : List Line} (p : Passes ls) where
@@ -119,7 +119,7 @@ every-mapped f h (x ∷ xs) = more (h x) (every-mapped f h xs)
 
 -- whatever the text says, no price is larger
 pub prices-small : (ls : List Line) → Every (λ i. AtMost 131070 510 (i .price)) (routineOf ls .code .instructions)
-unfolding routineOf codeOf
+unfolding routineOf codeIn
 prices-small ls = every-mapped (λ l. instructionOf ls (l .text)) (λ l. instruction-small ls (l .text)) (codeLines (body ls))
 
 -- ---- the start

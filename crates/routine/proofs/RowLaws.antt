@@ -1,4 +1,4 @@
--- The rows of the refusal table: a text is read exactly if every row is clean, the first row that is not clean decides, and a clean
+-- The rows of the refusal table: a text is read exactly if no row refuses a line, the first row that does decides, and a row that does not
 -- row has a line for each role, which passes its test. Assumes nothing.
 use Prim.Native.Nat.{ℕ, suc, _-_, _<_, _≤_}
 use mathlib.Core.Path.{_≡_, refl, sym, ap₂, _∙_}
@@ -18,9 +18,9 @@ use Rattle.routine.specs.declared.Role.the-variants.{Names as names, Cod
 use Rattle.routine.specs.Layout.{layout, isAnswer, body, answerRoles, codeRoles, bodyRoles, roles, tag, textAt}
 use Rattle.routine.specs.declared.Row.{Row}
 use Rattle.routine.specs.declared.Row.the-variants.{Layout as layout-row, Range as range-row, Name as name-row, Known as known-row}
-use Rattle.routine.specs.declared.Fault.{Fault}
-use Rattle.routine.specs.declared.Fault.the-variants.{Clean as clean, Line as line}
-use Rattle.routine.specs.Rows.{Passes, equalLists, earliest, fault, test, laidOut, inRange, named}
+use Rattle.routine.specs.declared.RefusedLine.{RefusedLine}
+use Rattle.routine.specs.declared.RefusedLine.the-variants.{Nowhere as nowhere, Line as line}
+use Rattle.routine.specs.Rows.{Passes, equalLists, earliest, refusedLine, test, laidOut, inRange, named}
 use Rattle.routine.specs.Routine.{Routine, routineOf, Reading, refused, routine, orElse, Check, boundChecks, runChecks, checked, textLimit, limited, readBound, readRun}
 
 -- ---- the rows in their order
@@ -33,30 +33,30 @@ run-checked : (text : List ℕ) → readRun text ≡ limited text (checked runCh
 unfolding readRun
 run-checked text = refl
 
--- the rows of cs are clean
-abbrev pub Clean : List Line → List Check → Type 0
-Clean ls cs = Every (λ c. fault (c .row) ls ≡ clean) cs
+-- no row of cs refuses a line
+abbrev pub Unrefused : List Line → List Check → Type 0
+Unrefused ls cs = Every (λ c. refusedLine (c .row) ls ≡ nowhere) cs
 
 refused-not : {A : Type 0} (r : Refusal) (x : Routine) → refused r ≡ routine x → A
 refused-not r x e = let z : _≡_ {A = ℕ} 0 1 = cc in absurd (omega arith)
 
 module _ (ls : List Line) where
-  clean-checked : {cs : List Check} → Clean ls cs → checked cs ls ≡ routine (routineOf ls)
+  unrefused-checked : {cs : List Check} → Unrefused ls cs → checked cs ls ≡ routine (routineOf ls)
   unfolding checked orElse
-  clean-checked none = refl
-  clean-checked (more e es) = rw e (clean-checked es)
+  unrefused-checked none = refl
+  unrefused-checked (more e es) = rw e (unrefused-checked es)
 
-  checked-clean : (cs : List Check) (x : Routine) → checked cs ls ≡ routine x → Clean ls cs × (x ≡ routineOf ls)
+  checked-unrefused : (cs : List Check) (x : Routine) → checked cs ls ≡ routine x → Unrefused ls cs × (x ≡ routineOf ls)
   unfolding checked orElse
-  checked-clean [] x e = (none, cc)
-  checked-clean (c ∷ cs) x e = go (fault (c .row) ls) refl e (checked-clean cs x)
+  checked-unrefused [] x e = (none, cc)
+  checked-unrefused (c ∷ cs) x e = go (refusedLine (c .row) ls) refl e (checked-unrefused cs x)
     where
-      go : (f : Fault) → fault (c .row) ls ≡ f → orElse f (c .refusal) (checked cs ls) ≡ routine x → (checked cs ls ≡ routine x → Clean ls cs × (x ≡ routineOf ls))
-          → Clean ls (c ∷ cs) × (x ≡ routineOf ls)
-      go clean q h ih = let r = ih h in (more q (r .0), r .1)
+      go : (f : RefusedLine) → refusedLine (c .row) ls ≡ f → orElse f (c .refusal) (checked cs ls) ≡ routine x → (checked cs ls ≡ routine x → Unrefused ls cs × (x ≡ routineOf ls))
+          → Unrefused ls (c ∷ cs) × (x ≡ routineOf ls)
+      go nowhere q h ih = let r = ih h in (more q (r .0), r .1)
       go (line n) q h ih = refused-not (c .refusal n) x h
 
-  first-checked : (c : Check) (after : List Check) (n : ℕ) → fault (c .row) ls ≡ line n → {before : List Check} → Clean ls before
+  first-checked : (c : Check) (after : List Check) (n : ℕ) → refusedLine (c .row) ls ≡ line n → {before : List Check} → Unrefused ls before
       → checked (before ++ c ∷ after) ls ≡ refused (c .refusal n)
   unfolding checked orElse
   first-checked c after n q none = rw q refl
@@ -84,40 +84,40 @@ module _ (text : List ℕ) (next : Reading) where
 -- ---- what a text that is read gives
 
 module _ (text : List ℕ) where
-  -- rows that let a text through are clean
-  read-clean : (cs : List Check) (x : Routine) → limited text (checked cs (lines text)) ≡ routine x
-      → Clean (lines text) cs × (x ≡ routineOf (lines text)) × (length text ≤ textLimit)
-  read-clean cs x e =
+  -- rows that let a text through refuse no line
+  read-unrefused : (cs : List Check) (x : Routine) → limited text (checked cs (lines text)) ≡ routine x
+      → Unrefused (lines text) cs × (x ≡ routineOf (lines text)) × (length text ≤ textLimit)
+  read-unrefused cs x e =
       let l = limited-routine text (checked cs (lines text)) x e in
-      let c = checked-clean (lines text) cs x (l .1) in
+      let c = checked-unrefused (lines text) cs x (l .1) in
       (c .0, c .1, l .0)
 
-  clean-read : {cs : List Check} → Clean (lines text) cs → length text ≤ textLimit → limited text (checked cs (lines text)) ≡ routine (routineOf (lines text))
-  clean-read {cs} c h = limited-short text (checked cs (lines text)) h ∙ clean-checked (lines text) c
+  unrefused-read : {cs : List Check} → Unrefused (lines text) cs → length text ≤ textLimit → limited text (checked cs (lines text)) ≡ routine (routineOf (lines text))
+  unrefused-read {cs} c h = limited-short text (checked cs (lines text)) h ∙ unrefused-checked (lines text) c
 
 module _ (ls : List Line) where
-  passing : {cs : List Check} → Clean ls (boundChecks ++ cs) → Passes ls × Clean ls cs
+  passing : {cs : List Check} → Unrefused ls (boundChecks ++ cs) → Passes ls × Unrefused ls cs
   passing (more a (more b (more c (more d (more e es))))) = (record { layout = a; range = b; names = c; prices = d; targets = e }, es)
 
-  cleared : {cs : List Check} → Passes ls → Clean ls cs → Clean ls (boundChecks ++ cs)
+  cleared : {cs : List Check} → Passes ls → Unrefused ls cs → Unrefused ls (boundChecks ++ cs)
   cleared p es = more (p .layout) (more (p .range) (more (p .names) (more (p .prices) (more (p .targets) es))))
 
-  only : {c : Check} → Clean ls (c ∷ []) → fault (c .row) ls ≡ clean
+  only : {c : Check} → Unrefused ls (c ∷ []) → refusedLine (c .row) ls ≡ nowhere
   only (more e none) = e
 
--- the bound reads a text exactly if rows 2 to 6 are clean, the run exactly if row 11 is too
+-- the bound reads a text exactly if rows 2 to 6 refuse no line, the run exactly if row 11 does not either
 pub read-passes : (text : List ℕ) (x : Routine) → readBound text ≡ routine x → Passes (lines text) × (x ≡ routineOf (lines text)) × (length text ≤ textLimit)
 read-passes text x e =
-    let r = read-clean text boundChecks x (sym (bound-checked text) ∙ e) in
+    let r = read-unrefused text boundChecks x (sym (bound-checked text) ∙ e) in
     (passing (lines text) (r .0) .0, r .1, r .2)
 
 pub passes-read : (text : List ℕ) → Passes (lines text) → length text ≤ textLimit → readBound text ≡ routine (routineOf (lines text))
-passes-read text p h = bound-checked text ∙ clean-read text (cleared (lines text) p none) h
+passes-read text p h = bound-checked text ∙ unrefused-read text (cleared (lines text) p none) h
 
 pub run-passes : (text : List ℕ) (x : Routine) → readRun text ≡ routine x
-    → Passes (lines text) × (fault known-row (lines text) ≡ clean) × (x ≡ routineOf (lines text)) × (length text ≤ textLimit)
+    → Passes (lines text) × (refusedLine known-row (lines text) ≡ nowhere) × (x ≡ routineOf (lines text)) × (length text ≤ textLimit)
 run-passes text x e =
-    let r = read-clean text runChecks x (sym (run-checked text) ∙ e) in
+    let r = read-unrefused text runChecks x (sym (run-checked text) ∙ e) in
     let p = passing (lines text) (r .0) in
     (p .0, only (lines text) (p .1), r .1, r .2)
 
@@ -128,41 +128,41 @@ pub too-long : (text : List ℕ) → textLimit < length text → (readBound text
 too-long text h =
     (bound-checked text ∙ limited-long text (checked boundChecks (lines text)) h, run-checked text ∙ limited-long text (checked runChecks (lines text)) h)
 
--- "Checked in the order of the rows": where the rows before c are clean and c is not, c decides, whatever the rows after it say.
+-- "Checked in the order of the rows": where the rows before c refuse no line and c does, c decides, whatever the rows after it say.
 -- `bound-order` and `run-order` say it of each row of the two readers, where `all` is refl.
 module _ (text : List ℕ) (short : length text ≤ textLimit) (before : List Check) (c : Check) (after : List Check) (n : ℕ) where
-  row-order : Clean (lines text) before → fault (c .row) (lines text) ≡ line n → limited text (checked (before ++ c ∷ after) (lines text)) ≡ refused (c .refusal n)
+  row-order : Unrefused (lines text) before → refusedLine (c .row) (lines text) ≡ line n → limited text (checked (before ++ c ∷ after) (lines text)) ≡ refused (c .refusal n)
   row-order b q = limited-short text (checked (before ++ c ∷ after) (lines text)) short ∙ first-checked (lines text) c after n q b
 
-  pub bound-order : boundChecks ≡ before ++ c ∷ after → Clean (lines text) before → fault (c .row) (lines text) ≡ line n → readBound text ≡ refused (c .refusal n)
+  pub bound-order : boundChecks ≡ before ++ c ∷ after → Unrefused (lines text) before → refusedLine (c .row) (lines text) ≡ line n → readBound text ≡ refused (c .refusal n)
   bound-order all b q = bound-checked text ∙ rw all (row-order b q)
 
-  pub run-order : runChecks ≡ before ++ c ∷ after → Clean (lines text) before → fault (c .row) (lines text) ≡ line n → readRun text ≡ refused (c .refusal n)
+  pub run-order : runChecks ≡ before ++ c ∷ after → Unrefused (lines text) before → refusedLine (c .row) (lines text) ≡ line n → readRun text ≡ refused (c .refusal n)
   run-order all b q = run-checked text ∙ rw all (row-order b q)
 
--- ---- what a clean row gives
+-- ---- what a row gives that refuses no line
 
 -- each role has its line, which passes the test t
 pub data Covered (t : Role → Line → Bool) : List Role → List Line → Type 0 where
   rest : {ls : List Line} → Covered t [] ls
   passed : {r : Role} {l : Line} {rs : List Role} {ls : List Line} → t r l ≡ true → Covered t rs ls → Covered t (r ∷ rs) (l ∷ ls)
 
-no-line : {A : Type 0} (n : ℕ) → line n ≡ clean → A
+no-line : {A : Type 0} (n : ℕ) → line n ≡ nowhere → A
 no-line n e = let z : _≡_ {A = ℕ} 0 1 = cc in absurd (omega arith)
 
-earliest-clean : (t : Role → Line → Bool) (n : ℕ) (rs : List Role) (ls : List Line) → earliest t n rs ls ≡ clean → Covered t rs ls
+earliest-covered : (t : Role → Line → Bool) (n : ℕ) (rs : List Role) (ls : List Line) → earliest t n rs ls ≡ nowhere → Covered t rs ls
 unfolding earliest
-earliest-clean t n [] ls e = rest
-earliest-clean t n (r ∷ rs) [] e = no-line n e
-earliest-clean t n (r ∷ rs) (l ∷ ls) e = go (t r l) refl e (earliest-clean t (suc n) rs ls)
+earliest-covered t n [] ls e = rest
+earliest-covered t n (r ∷ rs) [] e = no-line n e
+earliest-covered t n (r ∷ rs) (l ∷ ls) e = go (t r l) refl e (earliest-covered t (suc n) rs ls)
   where
-    go : (b : Bool) → t r l ≡ b → cond b (earliest t (suc n) rs ls) (line n) ≡ clean → (earliest t (suc n) rs ls ≡ clean → Covered t rs ls) → Covered t (r ∷ rs) (l ∷ ls)
+    go : (b : Bool) → t r l ≡ b → cond b (earliest t (suc n) rs ls) (line n) ≡ nowhere → (earliest t (suc n) rs ls ≡ nowhere → Covered t rs ls) → Covered t (r ∷ rs) (l ∷ ls)
     go true q h ih = passed q (ih h)
     go false q h ih = no-line n h
 
-pub fault-clean : (row : Row) (ls : List Line) → fault row ls ≡ clean → Covered (test row ls) (roles ls) ls
-unfolding fault
-fault-clean row ls e = earliest-clean (test row ls) 1 (roles ls) ls e
+pub row-covered : (row : Row) (ls : List Line) → refusedLine row ls ≡ nowhere → Covered (test row ls) (roles ls) ls
+unfolding refusedLine
+row-covered row ls e = earliest-covered (test row ls) 1 (roles ls) ls e
 
 -- every line has a role: what two passed tests give of each line holds of all lines
 every-line : {t u : Role → Line → Bool} {P : Line → Type 0} → ((r : Role) (l : Line) → t r l ≡ true → u r l ≡ true → P l)
@@ -197,10 +197,10 @@ roles-enough ls =
     let h : length ls - length layout ≤ length (bodyRoles (body ls)) = rw length-drop at (body-roles (body ls)) in
     rw length-append (omega arith)
 
--- so of each line, where two rows are clean
-pub held-lines : (row row′ : Row) (ls : List Line) → fault row ls ≡ clean → fault row′ ls ≡ clean
+-- so of each line, where two rows refuse none
+pub held-lines : (row row′ : Row) (ls : List Line) → refusedLine row ls ≡ nowhere → refusedLine row′ ls ≡ nowhere
     → {P : Line → Type 0} → ((r : Role) (l : Line) → test row ls r l ≡ true → test row′ ls r l ≡ true → P l) → Every P ls
-held-lines row row′ ls e e′ f = every-line f (roles ls) ls (roles-enough ls) (fault-clean row ls e) (fault-clean row′ ls e′)
+held-lines row row′ ls e e′ f = every-line f (roles ls) ls (roles-enough ls) (row-covered row ls e) (row-covered row′ ls e′)
 
 -- that r stands in a list, and no role with its tag before it: `refl` shows it of each role of the layout
 abbrev pub First : Role → List Role → Type 0
@@ -218,11 +218,11 @@ held {t} r P f (x ∷ rs) bs s (passed {l} {ls} p c) = go (eqb (tag r) (tag x)) 
     go true q ih = f l (rw q p)
     go false q ih = ih q
 
--- so of each role of the layout, where a row is clean
-held-row : (row : Row) (ls : List Line) → fault row ls ≡ clean → (r : Role) → First r layout
+-- so of each role of the layout, where a row refuses no line
+held-row : (row : Row) (ls : List Line) → refusedLine row ls ≡ nowhere → (r : Role) → First r layout
     → (P : List ℕ → Type 0) → ((l : Line) → test row ls r l ≡ true → P (l .text)) → P (textAt r layout ls)
 unfolding roles
-held-row row ls e r s P f = held r P f layout (bodyRoles (body ls)) s (fault-clean row ls e)
+held-row row ls e r s P f = held r P f layout (bodyRoles (body ls)) s (row-covered row ls e)
 
 -- row 2 also asks of a line that it is ended and that one space parts its words
 pub laid-out : (ls : List Line) (r : Role) (l : Line) → test layout-row ls r l ≡ true → laidOut ls r (l .text) ≡ true

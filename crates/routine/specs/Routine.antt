@@ -28,9 +28,9 @@ use Rattle.routine.specs.declared.CellWord.{CellWord}
 use Rattle.routine.specs.declared.CellWord.the-variants.{Wrong as wrong, Unknown as unknown, Known as known, Block as block}
 use Rattle.routine.specs.declared.Row.{Row}
 use Rattle.routine.specs.declared.Row.the-variants.{Layout as layout-row, Range as range-row, Name as name-row, Price as price-row, Target as target-row, Known as known-row}
-use Rattle.routine.specs.declared.Fault.{Fault}
-use Rattle.routine.specs.declared.Fault.the-variants.{Clean as clean, Line as line}
-use Rattle.routine.specs.Rows.{value, cellWord, handles, blockSizes, op, arg, firstAddresses, budgets, ticks, cycleCounts, wordCounts, firstAt, fault}
+use Rattle.routine.specs.declared.RefusedLine.{RefusedLine}
+use Rattle.routine.specs.declared.RefusedLine.the-variants.{Nowhere as nowhere, Line as line}
+use Rattle.routine.specs.Rows.{value, cellWord, handles, blockSizes, op, arg, firstAddresses, budgets, ticks, cycleCounts, wordCounts, firstAt, refusedLine}
 
 -- a routine: BUDGET and TICK, its code, the state it starts in, its answers
 pub record Routine : Type 0 where
@@ -45,22 +45,22 @@ unfoldable pub inside : Range → ℤ → ℤ
 inside r z = cond (within r z) z (pos 0)
 
 -- the same for a word and a range that begins at 0 or above
-abbrev pub natural : Range → List ℕ → ℕ
-natural r w = natAbs (inside r (value w))
+abbrev pub naturalIn : Range → List ℕ → ℕ
+naturalIn r w = natAbs (inside r (value w))
 
 -- ---- the limits
 
 -- BUDGET is at place 0 of line 2, TICK at place 1
 unfoldable pub limitAt : Range → ℕ → List Line → ℕ
-limitAt r i ls = natural r (getD (listed (values limits limit) ls) i [])
+limitAt r i ls = naturalIn r (getD (listed (values limits limit) ls) i [])
 
 -- ---- prices
 
 -- the price at place i of a section: entry i of its cycles and of its words
 unfoldable pub priceAt : Section → List Line → ℕ → Price
 priceAt s ls i = record {
-  cycles = natural cycleCounts (getD (listed (values s cycles) ls) i []);
-  words = natural wordCounts (getD (listed (values s words-column) ls) i []);
+  cycles = naturalIn cycleCounts (getD (listed (values s cycles) ls) i []);
+  words = naturalIn wordCounts (getD (listed (values s words-column) ls) i []);
 }
 
 -- by the places of the names on lines 3 and 6
@@ -84,8 +84,8 @@ instructionOf ls text =
     instruction k v (priceOf (prices ls) (k .argument) (find (op text) (listed (names kinds) ls)) v)
 
 -- "AT starts anywhere from 0 to 60,000"
-unfoldable pub codeOf : List Line → Code
-codeOf ls = record { first = natAbs (inside firstAddresses (firstAt (body ls))); instructions = map (λ l. instructionOf ls (l .text)) (codeLines (body ls)) }
+unfoldable pub codeIn : List Line → Code
+codeIn ls = record { first = natAbs (inside firstAddresses (firstAt (body ls))); instructions = map (λ l. instructionOf ls (l .text)) (codeLines (body ls)) }
 
 -- ---- cells
 
@@ -101,19 +101,19 @@ unfoldable pub cellsOf : Section → List Line → List Cell
 cellsOf s ls = map (λ w. cellOf (cellWord w)) (listed (values s cell) ls)
 
 -- the fields, "block after block"
-unfoldable pub blocksOf : List ℕ → List Cell → List (List Cell)
-blocksOf [] cs = []
-blocksOf (n ∷ ns) cs = take n cs ∷ blocksOf ns (drop n cs)
+unfoldable pub blocksInLine : List ℕ → List Cell → List (List Cell)
+blocksInLine [] cs = []
+blocksInLine (n ∷ ns) cs = take n cs ∷ blocksInLine ns (drop n cs)
 
 -- "The start address is that of the first AT line."; ACCU first, then S0, the top, and on
 unfoldable pub startOf : List Line → State
 startOf ls =
     let cs = cellsOf cells ls in
     record {
-      at = codeOf ls .first;
+      at = codeIn ls .first;
       accu = getD cs 0 (number (pos 0));
       stack = drop 1 cs;
-      blocks = blocksOf (blockSizes (listed (names fields) ls)) (cellsOf fields ls);
+      blocks = blocksInLine (blockSizes (listed (names fields) ls)) (cellsOf fields ls);
     }
 
 -- the routine that the lines of a file hold
@@ -121,7 +121,7 @@ unfoldable pub routineOf : List Line → Routine
 routineOf ls = record {
   budget = limitAt budgets 0 ls;
   tick = limitAt ticks 1 ls;
-  code = codeOf ls;
+  code = codeIn ls;
   start = startOf ls;
   answers = map (λ l. inside numbers (value (l .text))) (answerLines (body ls));
 }
@@ -133,9 +133,9 @@ pub data Reading : Type 0 where
   refused : Refusal → Reading
   routine : Routine → Reading
 
--- the refusal of a fault at its line, or what comes next
-unfoldable pub orElse : Fault → (ℕ → Refusal) → Reading → Reading
-orElse clean r next = next
+-- the refusal at the line that a row refuses, or what comes next
+unfoldable pub orElse : RefusedLine → (ℕ → Refusal) → Reading → Reading
+orElse nowhere r next = next
 orElse (line n) r next = refused (r n)
 
 -- a row of the refusal table, and its refusal at a line
@@ -155,10 +155,10 @@ boundChecks = check layout-row Layout ∷ check range-row OutOfRange ∷ check n
 abbrev pub runChecks : List Check
 runChecks = boundChecks ++ (check known-row UnknownCell ∷ [])
 
--- the reading of lines by the given checks: the first fault decides
+-- the reading of lines by the given checks: the first row that refuses a line decides
 unfoldable pub checked : List Check → List Line → Reading
 checked [] ls = routine (routineOf ls)
-checked (c ∷ cs) ls = orElse (fault (c .row) ls) (c .refusal) (checked cs ls)
+checked (c ∷ cs) ls = orElse (refusedLine (c .row) ls) (c .refusal) (checked cs ls)
 
 -- "ASCII, at most 32,768 bytes"
 abbrev pub textLimit : ℕ

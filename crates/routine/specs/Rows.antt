@@ -29,8 +29,8 @@ use Rattle.routine.specs.declared.CellWord.{CellWord}
 use Rattle.routine.specs.declared.CellWord.the-variants.{Wrong as wrong, Unknown as unknown, Known as known, Block as block}
 use Rattle.routine.specs.declared.Row.{Row}
 use Rattle.routine.specs.declared.Row.the-variants.{Layout as layout-row, Range as range-row, Name as name-row, Price as price-row, Target as target-row, Known as known-row}
-use Rattle.routine.specs.declared.Fault.{Fault}
-use Rattle.routine.specs.declared.Fault.the-variants.{Clean as clean, Line as line}
+use Rattle.routine.specs.declared.RefusedLine.{RefusedLine}
+use Rattle.routine.specs.declared.RefusedLine.the-variants.{Nowhere as nowhere, Line as line}
 use Rattle.routine.specs.Layout.{body, codeLines, roles, list, listed}
 
 -- ---- words
@@ -361,19 +361,19 @@ test target-row ls r l = reaches ls r (l .text)
 test known-row ls r l = allKnown r (l .text)
 
 -- the earliest line that fails a test, counted from n; "A missing line has the number it would have."
-unfoldable pub earliest : (Role → Line → Bool) → ℕ → List Role → List Line → Fault
-earliest t n [] ls = clean
+unfoldable pub earliest : (Role → Line → Bool) → ℕ → List Role → List Line → RefusedLine
+earliest t n [] ls = nowhere
 earliest t n (r ∷ rs) [] = line n
 earliest t n (r ∷ rs) (l ∷ ls) = cond (t r l) (earliest t (suc n) rs ls) (line n)
 
 -- "each over the whole file, earliest line first"
-unfoldable pub fault : Row → List Line → Fault
-fault row ls = earliest (test row ls) 1 (roles ls) ls
+unfoldable pub refusedLine : Row → List Line → RefusedLine
+refusedLine row ls = earliest (test row ls) 1 (roles ls) ls
 
 -- a text that refusals 2 to 6 let through
 pub record Passes (ls : List Line) : Type 0 where
-  pub layout : fault layout-row ls ≡ clean
-  pub range : fault range-row ls ≡ clean
-  pub names : fault name-row ls ≡ clean
-  pub prices : fault price-row ls ≡ clean
-  pub targets : fault target-row ls ≡ clean
+  pub layout : refusedLine layout-row ls ≡ nowhere
+  pub range : refusedLine range-row ls ≡ nowhere
+  pub names : refusedLine name-row ls ≡ nowhere
+  pub prices : refusedLine price-row ls ≡ nowhere
+  pub targets : refusedLine target-row ls ≡ nowhere

@@ -46,7 +46,7 @@ pub enum Row {
 }
 
 // The earliest line that a row refuses, if there is one.
-pub enum Fault {
-    Clean,
+pub enum RefusedLine {
+    Nowhere,
     Line(u32),
 }

@@ -1,4 +1,4 @@
--- A text is refused by its length or by the first row that is not clean, and passes where all rows are clean. Assumes nothing.
+-- A text is refused by its length or by the first row that refuses a line, and passes where no row does. Assumes nothing.
 use Prim.Native.Nat.{ℕ, _<_, _≤_}
 use mathlib.Core.Path.{_≡_, refl}
 use mathlib.Core.List.{List, [], _∷_, _++_}
@@ -10,10 +10,10 @@ use Rattle.text.specs.Text.{Line, lines}
 use Rattle.text.proofs.TextLaws.{none, more}
 use Rattle.routine.specs.declared.Row.{Row}
 use Rattle.routine.specs.declared.Row.the-variants.{Layout as layout-row, Range as range-row, Name as name-row, Price as price-row, Target as target-row, Known as known-row}
-use Rattle.routine.specs.declared.Fault.the-variants.{Clean as clean, Line as line}
-use Rattle.routine.specs.Rows.{fault, Passes}
+use Rattle.routine.specs.declared.RefusedLine.the-variants.{Nowhere as nowhere, Line as line}
+use Rattle.routine.specs.Rows.{refusedLine, Passes}
 use Rattle.routine.specs.Routine.{Check, check, boundChecks, runChecks, checked, orElse, limited, readRun}
-use Rattle.routine.proofs.RowLaws.{Clean, passes-read, bound-order, run-order, too-long}
+use Rattle.routine.proofs.RowLaws.{Unrefused, passes-read, bound-order, run-order, too-long}
 use Rattle.rows.specs.Checks.{readBy, checkOf, knownChecks, Due}
 use Rattle.rows.specs.declared.Checked.the-variants.{Refused}
 use Rattle.rows.specs.declared.Checked.the-variants as checks
@@ -31,7 +31,7 @@ due-range ls = record { names-row = λ e. let z : _≡_ {A = ℕ} 0 1 = cc in ab
 pub due-known : (ls : List Line) → Due known-row ls
 due-known ls = record { names-row = λ e. let z : _≡_ {A = ℕ} 0 1 = cc in absurd (omega arith); targets-row = λ e. let z : _≡_ {A = ℕ} 0 1 = cc in absurd (omega arith) }
 
-pub due-after : (row : Row) {ls : List Line} → fault range-row ls ≡ clean → Due row ls
+pub due-after : (row : Row) {ls : List Line} → refusedLine range-row ls ≡ nowhere → Due row ls
 due-after row h = record { names-row = λ e. h; targets-row = λ e. h }
 
 -- a text that is too long
@@ -40,9 +40,9 @@ unfolding readBy checkOf
 check-long text Bound h = rw (too-long text h .0) refl
 check-long text Run h = rw (too-long text h .1) refl
 
--- the first row that is not clean
+-- the first row that refuses a line
 check-row : (text : List ℕ) (r : Reader) → length text ≤ 32768 → (before : List Check) (c : Check) (after after′ : List Check) (n : ℕ)
-    → boundChecks ≡ before ++ c ∷ after → runChecks ≡ before ++ c ∷ after′ → Clean (lines text) before → fault (c .row) (lines text) ≡ line n
+    → boundChecks ≡ before ++ c ∷ after → runChecks ≡ before ++ c ∷ after′ → Unrefused (lines text) before → refusedLine (c .row) (lines text) ≡ line n
     → Refused (c .refusal n) ≡ checkOf (readBy r text)
 unfolding readBy checkOf
 check-row text Bound h before c after after′ n p q b e = rw (bound-order text h before c after n p b e) refl
@@ -51,29 +51,29 @@ check-row text Run h before c after after′ n p q b e = rw (run-order text h be
 -- so for each row
 
 module _ (text : List ℕ) (r : Reader) (h : length text ≤ 32768) (n : ℕ) where
-  pub check-layout : fault layout-row (lines text) ≡ line n → Refused (Layout n) ≡ checkOf (readBy r text)
+  pub check-layout : refusedLine layout-row (lines text) ≡ line n → Refused (Layout n) ≡ checkOf (readBy r text)
   check-layout e = check-row text r h [] (check layout-row Layout) _ _ n refl refl none e
 
-  module _ (a : fault layout-row (lines text) ≡ clean) where
-    pub check-range : fault range-row (lines text) ≡ line n → Refused (OutOfRange n) ≡ checkOf (readBy r text)
+  module _ (a : refusedLine layout-row (lines text) ≡ nowhere) where
+    pub check-range : refusedLine range-row (lines text) ≡ line n → Refused (OutOfRange n) ≡ checkOf (readBy r text)
     check-range e = check-row text r h (check layout-row Layout ∷ []) (check range-row OutOfRange) _ _ n refl refl (more a none) e
 
-    module _ (b : fault range-row (lines text) ≡ clean) where
-      pub check-name : fault name-row (lines text) ≡ line n → Refused (BadName n) ≡ checkOf (readBy r text)
+    module _ (b : refusedLine range-row (lines text) ≡ nowhere) where
+      pub check-name : refusedLine name-row (lines text) ≡ line n → Refused (BadName n) ≡ checkOf (readBy r text)
       check-name e = check-row text r h (check layout-row Layout ∷ check range-row OutOfRange ∷ []) (check name-row BadName) _ _ n refl refl (more a (more b none)) e
 
-      module _ (c : fault name-row (lines text) ≡ clean) where
-        pub check-price : fault price-row (lines text) ≡ line n → Refused (Unpriced n) ≡ checkOf (readBy r text)
+      module _ (c : refusedLine name-row (lines text) ≡ nowhere) where
+        pub check-price : refusedLine price-row (lines text) ≡ line n → Refused (Unpriced n) ≡ checkOf (readBy r text)
         check-price e =
             check-row text r h (check layout-row Layout ∷ check range-row OutOfRange ∷ check name-row BadName ∷ []) (check price-row Unpriced) _ _ n refl refl
             (more a (more b (more c none))) e
 
-        pub check-target : fault price-row (lines text) ≡ clean → fault target-row (lines text) ≡ line n → Refused (NoTarget n) ≡ checkOf (readBy r text)
+        pub check-target : refusedLine price-row (lines text) ≡ nowhere → refusedLine target-row (lines text) ≡ line n → Refused (NoTarget n) ≡ checkOf (readBy r text)
         check-target d e =
             check-row text r h (check layout-row Layout ∷ check range-row OutOfRange ∷ check name-row BadName ∷ check price-row Unpriced ∷ [])
             (check target-row NoTarget) _ _ n refl refl (more a (more b (more c (more d none)))) e
 
--- rows 2 to 6 are clean: all that the bound asks, and row 11 decides for the run
+-- rows 2 to 6 refuse no line: all that the bound asks, and row 11 decides for the run
 
 pub check-bound : (text : List ℕ) (r : Reader) → r ≡ Bound → length text ≤ 32768 → Passes (lines text) → checks.Passes ≡ checkOf (readBy r text)
 unfolding readBy checkOf
@@ -85,10 +85,10 @@ check-run text r e h p = rw (e, le-ltb 32768 (length text) h, p .layout, p .rang
 
 -- row 11
 
-pub known-fails : (ls : List Line) (n : ℕ) → fault known-row ls ≡ line n → Refused (UnknownCell n) ≡ checkOf (checked knownChecks ls)
+pub known-fails : (ls : List Line) (n : ℕ) → refusedLine known-row ls ≡ line n → Refused (UnknownCell n) ≡ checkOf (checked knownChecks ls)
 unfolding checkOf checked orElse
 known-fails ls n e = rw e refl
 
-pub known-passes : (ls : List Line) → fault known-row ls ≡ clean → checks.Passes ≡ checkOf (checked knownChecks ls)
+pub known-passes : (ls : List Line) → refusedLine known-row ls ≡ nowhere → checks.Passes ≡ checkOf (checked knownChecks ls)
 unfolding checkOf checked orElse
 known-passes ls e = rw e refl

@@ -24,7 +24,7 @@ use Rattle.lines.specs.Lines.{wordTest}
 use Rattle.lines.specs.declared.WordTest.the-variants.{Filled, Kind, Primitive}
 use Rattle.lines.proofs.LineLaws.{and-true, and-false, and-through, and-stop}
 use Rattle.routine.proofs.LayoutLaws.{list-none, list-words}
-use Rattle.rows.specs.Scan.{NameContext, TargetContext, Small, lineOf}
+use Rattle.rows.specs.Scan.{NameContext, TargetContext, Small, lineWith}
 use Rattle.rows.proofs.ArmLaws.{not-true, not-false}
 
 -- the first address is in its range
@@ -58,17 +58,17 @@ small-code o k e h = subst Small e h
 -- row 2, by its three parts
 
 module _ (ls : List Line) (o : Role) (text : List ℕ) (ended filled : Bool) (f : filled ≡ all (wordTest Filled) (words text)) where
-  pub unended : not ended ≡ true → false ≡ test layout-row ls o (lineOf text ended)
+  pub unended : not ended ≡ true → false ≡ test layout-row ls o (lineWith text ended)
   unfolding test
   unended e = and-stop ended (all (λ w. not (isEmpty w)) (words text)) (laidOut ls o text) (not-true ended e)
 
-  pub unfilled : not ended ≡ false → not filled ≡ true → false ≡ test layout-row ls o (lineOf text ended)
+  pub unfilled : not ended ≡ false → not filled ≡ true → false ≡ test layout-row ls o (lineWith text ended)
   unfolding test wordTest
   unfilled e h =
       let k : all (λ w. not (isEmpty w)) (words text) ≡ false = sym f ∙ not-true filled h in
       and-through ended (all (λ w. not (isEmpty w)) (words text)) (laidOut ls o text) (not-false ended e) (and-false (laidOut ls o text) k)
 
-  pub well-laid : {r : Bool} → not ended ≡ false → not filled ≡ false → r ≡ laidOut ls o text → r ≡ test layout-row ls o (lineOf text ended)
+  pub well-laid : {r : Bool} → not ended ≡ false → not filled ≡ false → r ≡ laidOut ls o text → r ≡ test layout-row ls o (lineWith text ended)
   unfolding test wordTest
   well-laid e h q =
       let k : all (λ w. not (isEmpty w)) (words text) ≡ true = sym f ∙ not-false filled h in

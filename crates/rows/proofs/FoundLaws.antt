@@ -13,7 +13,7 @@ use Rattle.routine.specs.declared.Role.the-variants.{Names as names}
 use Rattle.routine.specs.declared.Row.{Row}
 use Rattle.routine.specs.Layout.{layout, body, codeLines, list, textAt, listed}
 use Rattle.routine.specs.Rows.{value, valueOf, blockSizes, firstAddresses, firstAt}
-use Rattle.routine.specs.Routine.{inside, natural}
+use Rattle.routine.specs.Routine.{inside, naturalIn}
 use Rattle.routine.proofs.PassingLaws.{first-natural, first-small}
 use Rattle.routine.proofs.PassingLaws as passing
 use Rattle.names.specs.declared.Blocks.{Blocks}
@@ -39,7 +39,7 @@ module _ (row : Row) (text ks ps fs rest l w : List ℕ) (short : length text �
     (k : ks ≡ textAt (names kinds) layout (lines text)) (p : ps ≡ textAt (names primitives) layout (lines text)) (f : fs ≡ textAt (names fields) layout (lines text))
     (b : Blocks) (held : BlocksOf (blockSizes (list fs)) b) (eight : length (b .sizes) ≡ 8)
     (left : lines rest ≡ drop 13 (lines text)) (first-line : l ≡ getD (lines rest) 0 noLine .text) (word : w ≡ getD (words l) 0 [])
-    (first count : ℕ) (address : first ≡ natural (range 0 60000) w) (counted : count ≡ length (codeLines (lines rest))) where
+    (first count : ℕ) (address : first ≡ naturalIn (range 0 60000) w) (counted : count ≡ length (codeLines (lines rest))) where
   lines-left : lines rest ≡ body (lines text)
   unfolding body
   lines-left = left

@@ -14,10 +14,10 @@ use Rattle.text.specs.Text.{bytes, equals, Line}
 use Rattle.routine.specs.declared.Section.the-variants.{Answers as answers}
 use Rattle.routine.specs.declared.Role.{Role}
 use Rattle.routine.specs.declared.Role.the-variants.{Names as names, Code as code, Answer as answer}
-use Rattle.routine.specs.declared.Fault.the-variants.{Clean as clean, Line as line}
+use Rattle.routine.specs.declared.RefusedLine.the-variants.{Nowhere as nowhere, Line as line}
 use Rattle.routine.specs.Layout.{layout, isAnswer, body, answerRoles, codeRoles, bodyRoles, roles}
 use Rattle.routine.specs.Rows.{earliest}
-use Rattle.rows.specs.Scan.{Marked, marks, roleOf, markAfter, missing}
+use Rattle.rows.specs.Scan.{HeadingBefore, isHeading, roleOf, headingAfter, missing}
 
 -- the roles that are left before line i, where the lines that are left are ls
 unfoldable pub remaining : ℕ → ℕ → List Line → List Role
@@ -61,8 +61,8 @@ layout-rest i ls (inr k) =
     let b : 12 - i ≡ 13 - suc i = omega arith in
     rw (a, b) (sym (in-layout (suc i) 0 ls k))
 
-layout-more : (i : ℕ) (l : Line) (ls : List Line) → i < 13 → remaining i 0 (l ∷ ls) ≡ roleOf i 0 (l .text) ∷ remaining (i + 1) (markAfter i 0 (l .text)) ls
-unfolding roleOf markAfter marks
+layout-more : (i : ℕ) (l : Line) (ls : List Line) → i < 13 → remaining i 0 (l ∷ ls) ≡ roleOf i 0 (l .text) ∷ remaining (i + 1) (headingAfter i 0 (l .text)) ls
+unfolding roleOf headingAfter isHeading
 layout-more i l ls h =
     let d : drop i layout ≡ getD layout i (code 0) ∷ drop (suc i) layout = drop-cons layout i (code 0) h in
     let e : 13 - i ≡ suc (12 - i) = omega arith in
@@ -70,59 +70,59 @@ layout-more i l ls h =
     rw (lt-ltb i 13 h, le-ltb 13 i (omega arith))
     (in-layout i 0 (l ∷ ls) h ∙ ap₂ (λ rs ms. rs ++ bodyRoles ms) d f ∙ ap (λ rs. getD layout i (code 0) ∷ rs) (layout-rest i ls (eq-or-lt-of-le h)))
 
-first-more : (l : Line) (ls : List Line) → remaining 13 0 (l ∷ ls) ≡ roleOf 13 0 (l .text) ∷ remaining (13 + 1) (markAfter 13 0 (l .text)) ls
-unfolding roleOf markAfter marks bodyRoles
+first-more : (l : Line) (ls : List Line) → remaining 13 0 (l ∷ ls) ≡ roleOf 13 0 (l .text) ∷ remaining (13 + 1) (headingAfter 13 0 (l .text)) ls
+unfolding roleOf headingAfter isHeading bodyRoles
 first-more l ls = at-first (l ∷ ls) ∙ ap (λ rs. code 0 ∷ rs) (sym (at-code 14 ls (omega arith)))
 
-code-more : (i : ℕ) (l : Line) (ls : List Line) → 13 < i → remaining i 0 (l ∷ ls) ≡ roleOf i 0 (l .text) ∷ remaining (i + 1) (markAfter i 0 (l .text)) ls
-unfolding roleOf markAfter marks codeRoles isAnswer
+code-more : (i : ℕ) (l : Line) (ls : List Line) → 13 < i → remaining i 0 (l ∷ ls) ≡ roleOf i 0 (l .text) ∷ remaining (i + 1) (headingAfter i 0 (l .text)) ls
+unfolding roleOf headingAfter isHeading codeRoles isAnswer
 code-more i l ls h = rw (at-code i (l ∷ ls) h, le-ltb i 13 (omega arith), lt-ltb 13 i h) (go (equals (l .text) (bytes "ANSWER")))
   where
     go : (b : Bool) → cond b (names answers ∷ answerRoles 0 ls) (code (i - 13) ∷ codeRoles (suc (i - 13)) ls) ≡ cond b (names answers) (code (i - 13)) ∷ remaining (i + 1) (cond b i 0) ls
     go true = let e : i + 1 - i - 1 ≡ 0 = omega arith in rw (at-answer (i + 1) i ls h (omega arith), e) refl
     go false = let e : suc (i - 13) ≡ i + 1 - 13 = omega arith in rw (at-code (i + 1) ls (omega arith), e) refl
 
-answered-more : (i m : ℕ) (l : Line) (ls : List Line) → 13 < m → m < i → remaining i m (l ∷ ls) ≡ roleOf i m (l .text) ∷ remaining (i + 1) (markAfter i m (l .text)) ls
-unfolding roleOf markAfter
+answered-more : (i m : ℕ) (l : Line) (ls : List Line) → 13 < m → m < i → remaining i m (l ∷ ls) ≡ roleOf i m (l .text) ∷ remaining (i + 1) (headingAfter i m (l .text)) ls
+unfolding roleOf headingAfter
 answered-more i m l ls h k =
     let e : suc (i - m - 1) ≡ i + 1 - m - 1 = omega arith in
     rw (at-answer i m (l ∷ ls) h k, le-ltb i 13 (omega arith), lt-ltb 0 m (omega arith), answer-more, at-answer (i + 1) m ls h (omega arith), e) refl
 
-remaining-more : (i m : ℕ) → Marked i m → (l : Line) (ls : List Line) → remaining i m (l ∷ ls) ≡ roleOf i m (l .text) ∷ remaining (i + 1) (markAfter i m (l .text)) ls
+remaining-more : (i m : ℕ) → HeadingBefore i m → (l : Line) (ls : List Line) → remaining i m (l ∷ ls) ≡ roleOf i m (l .text) ∷ remaining (i + 1) (headingAfter i m (l .text)) ls
 remaining-more i m k l ls =
     ⊎-elim
     (λ (e : m ≡ 0). rw e (go (ltb i 13) refl))
     (λ (h : (13 < m) × (m < i)). answered-more i m l ls (h .0) (h .1))
-    (k .mark)
+    (k .heading)
   where
-    past : (13 ≡ i) ⊎ (13 < i) → remaining i 0 (l ∷ ls) ≡ roleOf i 0 (l .text) ∷ remaining (i + 1) (markAfter i 0 (l .text)) ls
+    past : (13 ≡ i) ⊎ (13 < i) → remaining i 0 (l ∷ ls) ≡ roleOf i 0 (l .text) ∷ remaining (i + 1) (headingAfter i 0 (l .text)) ls
     past (inl e) = rw (← e) (first-more l ls)
     past (inr h) = code-more i l ls h
 
-    go : (b : Bool) → ltb i 13 ≡ b → remaining i 0 (l ∷ ls) ≡ roleOf i 0 (l .text) ∷ remaining (i + 1) (markAfter i 0 (l .text)) ls
+    go : (b : Bool) → ltb i 13 ≡ b → remaining i 0 (l ∷ ls) ≡ roleOf i 0 (l .text) ∷ remaining (i + 1) (headingAfter i 0 (l .text)) ls
     go true e = layout-more i l ls (ltb-true i 13 e)
     go false e = past (eq-or-lt-of-le (ltb-false i 13 e))
 
 -- the line ANSWER stands before, and goes on to do so after another line
 
-pub mark-before : (i m : ℕ) → Marked i m → 0 < m → m < i
-mark-before i m k h = ⊎-elim (λ (e : m ≡ 0). absurd (omega arith)) (λ (p : (13 < m) × (m < i)). p .1) (k .mark)
+pub heading-before : (i m : ℕ) → HeadingBefore i m → 0 < m → m < i
+heading-before i m k h = ⊎-elim (λ (e : m ≡ 0). absurd (omega arith)) (λ (p : (13 < m) × (m < i)). p .1) (k .heading)
 
-pub marked-start : Marked 0 0
-marked-start = record { mark = inl refl }
+pub heading-start : HeadingBefore 0 0
+heading-start = record { heading = inl refl }
 
-pub marked-after : (i m : ℕ) (text : List ℕ) → Marked i m → Marked (i + 1) (markAfter i m text)
-unfolding markAfter marks
-marked-after i m text k =
+pub heading-next : (i m : ℕ) (text : List ℕ) → HeadingBefore i m → HeadingBefore (i + 1) (headingAfter i m text)
+unfolding headingAfter isHeading
+heading-next i m text k =
     ⊎-elim
     (λ (e : m ≡ 0). rw e (go (ltb 13 i) refl (equals text (bytes "ANSWER"))))
-    (λ (p : (13 < m) × (m < i)). rw (lt-ltb 0 m (omega arith)) (record { mark = inr (p .0, omega arith) }))
-    (k .mark)
+    (λ (p : (13 < m) × (m < i)). rw (lt-ltb 0 m (omega arith)) (record { heading = inr (p .0, omega arith) }))
+    (k .heading)
   where
-    go : (a : Bool) → ltb 13 i ≡ a → (b : Bool) → Marked (i + 1) (cond (a && b) i 0)
-    go true e true = record { mark = inr (ltb-true 13 i e, omega arith) }
-    go true e false = record { mark = inl refl }
-    go false e b = record { mark = inl refl }
+    go : (a : Bool) → ltb 13 i ≡ a → (b : Bool) → HeadingBefore (i + 1) (cond (a && b) i 0)
+    go true e true = record { heading = inr (ltb-true 13 i e, omega arith) }
+    go true e false = record { heading = inl refl }
+    go false e b = record { heading = inl refl }
 
 -- past the last line, a role is left where a line is missing, and else none
 
@@ -131,7 +131,7 @@ module _ (t : Role → Line → Bool) where
   unfolding earliest
   no-line n r rs = refl
 
-  no-role : (n : ℕ) → earliest t n [] [] ≡ clean
+  no-role : (n : ℕ) → earliest t n [] [] ≡ nowhere
   unfolding earliest
   no-role n = refl
 
@@ -144,7 +144,7 @@ module _ (t : Role → Line → Bool) where
   unfolding bodyRoles
   first-ends n = ap (λ rs. earliest t n rs []) (at-first []) ∙ no-line n (code 0) []
 
-  code-ends : (n i : ℕ) → 13 < i → earliest t n (remaining i 0 []) [] ≡ clean
+  code-ends : (n i : ℕ) → 13 < i → earliest t n (remaining i 0 []) [] ≡ nowhere
   unfolding codeRoles
   code-ends n i h = ap (λ rs. earliest t n rs []) (at-code i [] h) ∙ no-role n
 
@@ -152,11 +152,11 @@ module _ (t : Role → Line → Bool) where
   unfolding answerRoles
   answer-none n = no-line n (answer 0) []
 
-  answer-some : (n j : ℕ) → earliest t n (answerRoles (suc j) []) [] ≡ clean
+  answer-some : (n j : ℕ) → earliest t n (answerRoles (suc j) []) [] ≡ nowhere
   unfolding answerRoles
   answer-some n j = no-role n
 
-  answers-end : (n i m : ℕ) → 13 < m → m < i → earliest t n (remaining i m []) [] ≡ cond (eqb i (m + 1)) (line n) clean
+  answers-end : (n i m : ℕ) → 13 < m → m < i → earliest t n (remaining i m []) [] ≡ cond (eqb i (m + 1)) (line n) nowhere
   answers-end n i m h k =
       let b : m + 1 ≤ i = omega arith in
       ap (λ rs. earliest t n rs []) (at-answer i m [] h k) ∙
@@ -167,27 +167,27 @@ module _ (t : Role → Line → Bool) where
       rw (z, ne-eqb i (m + 1) (omega arith)) (answer-some n (i - m - 2)))
       (eq-or-lt-of-le b)
 
-  pub scan-ends : (n i m : ℕ) → Marked i m → earliest t n (remaining i m []) [] ≡ cond (missing i m) (line n) clean
+  pub scan-ends : (n i m : ℕ) → HeadingBefore i m → earliest t n (remaining i m []) [] ≡ cond (missing i m) (line n) nowhere
   unfolding missing
   scan-ends n i m k =
       ⊎-elim (λ (e : m ≡ 0). rw e (go (ltb i 13) refl))
-      (λ (p : (13 < m) × (m < i)). rw (le-ltb i 14 (omega arith), lt-ltb 0 m (omega arith)) (answers-end n i m (p .0) (p .1))) (k .mark)
+      (λ (p : (13 < m) × (m < i)). rw (le-ltb i 14 (omega arith), lt-ltb 0 m (omega arith)) (answers-end n i m (p .0) (p .1))) (k .heading)
     where
-      past : (13 ≡ i) ⊎ (13 < i) → earliest t n (remaining i 0 []) [] ≡ cond (cond (ltb i 14) true false) (line n) clean
+      past : (13 ≡ i) ⊎ (13 < i) → earliest t n (remaining i 0 []) [] ≡ cond (cond (ltb i 14) true false) (line n) nowhere
       past (inl e) = rw (← e) (first-ends n)
       past (inr h) = rw (le-ltb i 14 (omega arith)) (code-ends n i h)
 
-      go : (b : Bool) → ltb i 13 ≡ b → earliest t n (remaining i 0 []) [] ≡ cond (cond (ltb i 14) true false) (line n) clean
+      go : (b : Bool) → ltb i 13 ≡ b → earliest t n (remaining i 0 []) [] ≡ cond (cond (ltb i 14) true false) (line n) nowhere
       go true e = let h = ltb-true i 13 e in rw (lt-ltb i 14 (omega arith)) (layout-ends n i 0 h)
       go false e = past (eq-or-lt-of-le (ltb-false i 13 e))
 
   -- a line that passes is followed by the others, and one that fails is the earliest
 
-  pub scan-fails : (n i m : ℕ) → Marked i m → (l : Line) (ls : List Line) → t (roleOf i m (l .text)) l ≡ false → earliest t n (remaining i m (l ∷ ls)) (l ∷ ls) ≡ line n
+  pub scan-fails : (n i m : ℕ) → HeadingBefore i m → (l : Line) (ls : List Line) → t (roleOf i m (l .text)) l ≡ false → earliest t n (remaining i m (l ∷ ls)) (l ∷ ls) ≡ line n
   unfolding earliest
   scan-fails n i m k l ls e = rw (remaining-more i m k l ls, e) refl
 
-  pub scan-goes : (n i m : ℕ) → Marked i m → (l : Line) (ls : List Line) → t (roleOf i m (l .text)) l ≡ true
-      → earliest t n (remaining i m (l ∷ ls)) (l ∷ ls) ≡ earliest t (suc n) (remaining (i + 1) (markAfter i m (l .text)) ls) ls
+  pub scan-goes : (n i m : ℕ) → HeadingBefore i m → (l : Line) (ls : List Line) → t (roleOf i m (l .text)) l ≡ true
+      → earliest t n (remaining i m (l ∷ ls)) (l ∷ ls) ≡ earliest t (suc n) (remaining (i + 1) (headingAfter i m (l .text)) ls) ls
   unfolding earliest
   scan-goes n i m k l ls e = rw (remaining-more i m k l ls, e) refl

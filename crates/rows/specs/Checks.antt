@@ -6,8 +6,8 @@ use Rattle.refusals.specs.declared.Refusal.the-variants.{UnknownCell}
 use Rattle.text.specs.Text.{Line}
 use Rattle.routine.specs.declared.Row.{Row}
 use Rattle.routine.specs.declared.Row.the-variants.{Range as range-row, Name as name-row, Target as target-row, Known as known-row}
-use Rattle.routine.specs.declared.Fault.the-variants.{Clean as clean}
-use Rattle.routine.specs.Rows.{fault}
+use Rattle.routine.specs.declared.RefusedLine.the-variants.{Nowhere as nowhere}
+use Rattle.routine.specs.Rows.{refusedLine}
 use Rattle.routine.specs.Routine.{Reading, refused, routine, Check, check, readBound, readRun}
 use Rattle.rows.specs.declared.Checked.{Checked}
 use Rattle.rows.specs.declared.Checked.the-variants.{Passes, Refused}
@@ -30,5 +30,5 @@ knownChecks = check known-row UnknownCell ∷ []
 
 -- rows 4 and 6 are checked after row 3
 pub record Due (row : Row) (ls : List Line) : Type 0 where
-  pub names-row : row ≡ name-row → fault range-row ls ≡ clean
-  pub targets-row : row ≡ target-row → fault range-row ls ≡ clean
+  pub names-row : row ≡ name-row → refusedLine range-row ls ≡ nowhere
+  pub targets-row : row ≡ target-row → refusedLine range-row ls ≡ nowhere

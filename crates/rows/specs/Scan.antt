@@ -45,24 +45,24 @@ Small (code k) = k ≤ 32768
 Small (answer k) = Unit {0}
 
 -- a line by its two parts
-abbrev pub lineOf : List ℕ → Bool → Line
-lineOf text ended = record { text = text; ended = ended }
+abbrev pub lineWith : List ℕ → Bool → Line
+lineWith text ended = record { text = text; ended = ended }
 
--- at line i, the line m that is ANSWER stands before it and after a code line, or m is 0
-pub record Marked (i m : ℕ) : Type 0 where
-  pub mark : (m ≡ 0) ⊎ ((13 < m) × (m < i))
+-- at line i, the heading m, which is the line ANSWER, stands before it and after a code line, or m is 0
+pub record HeadingBefore (i m : ℕ) : Type 0 where
+  pub heading : (m ≡ 0) ⊎ ((13 < m) × (m < i))
 
--- whether line i (from 0) is ANSWER: a line of that word, after at least one code line
-unfoldable pub marks : ℕ → List ℕ → Bool
-marks i text = ltb 13 i && equals text (bytes "ANSWER")
+-- whether line i (from 0) is the heading of the answers: a line of the word ANSWER, after at least one code line
+unfoldable pub isHeading : ℕ → List ℕ → Bool
+isHeading i text = ltb 13 i && equals text (bytes "ANSWER")
 
--- the role of line i, where line m is ANSWER, or m is 0 as long as no line was
+-- the role of line i, where the heading is line m, or m is 0 as long as there was none
 unfoldable pub roleOf : ℕ → ℕ → List ℕ → Role
-roleOf i m text = cond (ltb i 13) (getD layout i (code 0)) (cond (ltb 0 m) (answer (i - m - 1)) (cond (marks i text) (names answers) (code (i - 13))))
+roleOf i m text = cond (ltb i 13) (getD layout i (code 0)) (cond (ltb 0 m) (answer (i - m - 1)) (cond (isHeading i text) (names answers) (code (i - 13))))
 
--- m after line i
-unfoldable pub markAfter : ℕ → ℕ → List ℕ → ℕ
-markAfter i m text = cond (ltb 0 m) m (cond (marks i text) i 0)
+-- the heading after line i
+unfoldable pub headingAfter : ℕ → ℕ → List ℕ → ℕ
+headingAfter i m text = cond (ltb 0 m) m (cond (isHeading i text) i 0)
 
 -- whether a line is missing after the first i, which are all: "A missing line has the number it would have."
 unfoldable pub missing : ℕ → ℕ → Bool

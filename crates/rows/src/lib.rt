@@ -2,7 +2,7 @@
 use lines::WordTest;
 use refusals::Refusal;
 use routine::Column;
-use routine::Fault;
+use routine::RefusedLine;
 use routine::Role;
 use routine::Row;
 use routine::Section;
@@ -15,8 +15,8 @@ ghost use Rattle.routine.specs.declared.Role.the-variants.{Names, Code};
 ghost use Rattle.routine.specs.declared.Section.the-variants.{Kinds};
 ghost use Rattle.routine.specs.declared.Row.the-variants.{Layout};
 ghost use Rattle.routine.specs.Layout.{layout, list, textAt};
-ghost use Rattle.routine.specs.Rows.{wellNamed, laidOut, inRange, named, priced, reaches, allKnown, test, fault};
-ghost use Rattle.rows.specs.Scan.{NameContext, TargetContext, Context, Small, Marked, lineOf, marks, roleOf, markAfter, missing};
+ghost use Rattle.routine.specs.Rows.{wellNamed, laidOut, inRange, named, priced, reaches, allKnown, test, refusedLine};
+ghost use Rattle.rows.specs.Scan.{NameContext, TargetContext, Context, Small, HeadingBefore, lineWith, isHeading, roleOf, headingAfter, missing};
 ghost use Rattle.routine.specs.Routine.{checked};
 ghost use Rattle.rows.specs.Checks.{readBy, checkOf, knownChecks, Due};
 
@@ -187,7 +187,7 @@ fn all_known(role: Role, line: &[u8]) -> bool
 
 // Row 2 on a line that a line feed ends or not.
 fn laid_out_line(text: &[u8], role: Role, line: &[u8], ended: bool) -> bool
-    ensures { λ r. ⌜ r ≡ test Layout (lines (now (text .entry))) role (lineOf (now (line .entry)) ended) ⌝ }
+    ensures { λ r. ⌜ r ≡ test Layout (lines (now (text .entry))) role (lineWith (now (line .entry)) ended) ⌝ }
 {
     if !ended {
         return false;
@@ -213,7 +213,7 @@ fn passes(
 ) -> bool
     requires { ⌜ Context row (lines (now text)) (now kinds) (now primitives) blocks first count ⌝ }
     requires { ⌜ Small role ⌝ }
-    ensures { λ r. ⌜ r ≡ test row (lines (now (text .entry))) role (lineOf (now (line .entry)) ended) ⌝ }
+    ensures { λ r. ⌜ r ≡ test row (lines (now (text .entry))) role (lineWith (now (line .entry)) ended) ⌝ }
 {
     match row {
         Row::Layout => laid_out_line(text, role, line, ended),
@@ -225,9 +225,9 @@ fn passes(
     }
 }
 
-// Whether line i is ANSWER.
-fn marks(i: usize, line: &[u8]) -> bool
-    ensures { λ r. ⌜ r ≡ marks i (now (line .entry)) ⌝ }
+// Whether line i is ANSWER, the heading of the answers.
+fn is_heading(i: usize, line: &[u8]) -> bool
+    ensures { λ r. ⌜ r ≡ isHeading i (now (line .entry)) ⌝ }
 {
     if 13 < i {
         return text::same(line, b"ANSWER");
@@ -235,42 +235,42 @@ fn marks(i: usize, line: &[u8]) -> bool
     false
 }
 
-// The role of line i.
-fn role_of(i: usize, mark: usize, line: &[u8]) -> Role
-    requires { ⌜ Marked i mark ⌝ }
-    ensures { λ r. ⌜ r ≡ roleOf i mark (now (line .entry)) ⌝ }
+// The role of line i, where the heading is a line before it, or 0 as long as there was none.
+fn role_of(i: usize, heading: usize, line: &[u8]) -> Role
+    requires { ⌜ HeadingBefore i heading ⌝ }
+    ensures { λ r. ⌜ r ≡ roleOf i heading (now (line .entry)) ⌝ }
 {
     if i < 13 {
         return role_at(i);
     }
-    if 0 < mark {
-        return Role::Answer(i - mark - 1);
+    if 0 < heading {
+        return Role::Answer(i - heading - 1);
     }
-    if marks(i, line) {
+    if is_heading(i, line) {
         return Role::Names(Section::Answers);
     }
     Role::Code(i - 13)
 }
 
-// Which line is ANSWER, after line i.
-fn mark_after(i: usize, mark: usize, line: &[u8]) -> usize
-    ensures { λ r. ⌜ r ≡ markAfter i mark (now (line .entry)) ⌝ }
+// The heading after line i.
+fn heading_after(i: usize, heading: usize, line: &[u8]) -> usize
+    ensures { λ r. ⌜ r ≡ headingAfter i heading (now (line .entry)) ⌝ }
 {
-    if 0 < mark {
-        return mark;
+    if 0 < heading {
+        return heading;
     }
-    if marks(i, line) { i } else { 0 }
+    if is_heading(i, line) { i } else { 0 }
 }
 
 // Whether a line is missing after the first i, which are all.
-fn misses(i: usize, mark: usize) -> bool
-    requires { ⌜ Marked i mark ⌝ }
-    ensures { λ r. ⌜ r ≡ missing i mark ⌝ }
+fn misses(i: usize, heading: usize) -> bool
+    requires { ⌜ HeadingBefore i heading ⌝ }
+    ensures { λ r. ⌜ r ≡ missing i heading ⌝ }
 {
     if i < 14 {
         return true;
     }
-    if 0 < mark { i == mark + 1 } else { false }
+    if 0 < heading { i == heading + 1 } else { false }
 }
 
 // The earliest line that a row refuses.
@@ -282,18 +282,18 @@ fn earliest(
     blocks: usize,
     first: usize,
     count: usize,
-) -> Fault
+) -> RefusedLine
     requires { ⌜ length (now text) ≤ 32768 ⌝ }
     requires { ⌜ Context row (lines (now text)) (now kinds) (now primitives) blocks first count ⌝ }
-    ensures { λ r. ⌜ r ≡ fault row (lines (now (text .entry))) ⌝ }
+    ensures { λ r. ⌜ r ≡ refusedLine row (lines (now (text .entry))) ⌝ }
 {
     let mut rest = text;
     let mut i: usize = 0;
-    let mut mark: usize = 0;
+    let mut heading: usize = 0;
     while 0 < rest.len() {
         let line = text::first_line(rest);
         let ended = text::line_ends(rest);
-        let role = role_of(i, mark, line);
+        let role = role_of(i, heading, line);
         if !passes(
             row,
             text,
@@ -306,25 +306,25 @@ fn earliest(
             line,
             ended,
         ) {
-            return Fault::Line((i + 1) as u32);
+            return RefusedLine::Line((i + 1) as u32);
         }
-        mark = mark_after(i, mark, line);
+        heading = heading_after(i, heading, line);
         let next = text::next_lines(rest);
         rest = next;
         i += 1;
     }
-    if misses(i, mark) {
-        Fault::Line((i + 1) as u32)
+    if misses(i, heading) {
+        RefusedLine::Line((i + 1) as u32)
     } else {
-        Fault::Clean
+        RefusedLine::Nowhere
     }
 }
 
 // The earliest line of a text that a row refuses.
-fn fault_of(row: Row, text: &[u8]) -> Fault
+fn refused_line(row: Row, text: &[u8]) -> RefusedLine
     requires { ⌜ length (now text) ≤ 32768 ⌝ }
     requires { ⌜ Due row (lines (now text)) ⌝ }
-    ensures { λ r. ⌜ r ≡ fault row (lines (now (text .entry))) ⌝ }
+    ensures { λ r. ⌜ r ≡ refusedLine row (lines (now (text .entry))) ⌝ }
 {
     let kinds = names_line(text, Section::Kinds);
     let primitives = names_line(text, Section::Primitives);
@@ -344,8 +344,8 @@ fn check_known(text: &[u8]) -> Checked
     requires { ⌜ length (now text) ≤ 32768 ⌝ }
     ensures { λ r. ⌜ r ≡ checkOf (checked knownChecks (lines (now (text .entry)))) ⌝ }
 {
-    let known = fault_of(Row::Known, text);
-    if let Fault::Line(n) = known {
+    let known = refused_line(Row::Known, text);
+    if let RefusedLine::Line(n) = known {
         return Checked::Refused(Refusal::UnknownCell(n));
     }
     Checked::Passes
@@ -358,24 +358,24 @@ pub fn check(reader: Reader, text: &[u8]) -> Checked
     if 32768 < text.len() {
         return Checked::Refused(Refusal::TextLength);
     }
-    let layout = fault_of(Row::Layout, text);
-    if let Fault::Line(n) = layout {
+    let layout = refused_line(Row::Layout, text);
+    if let RefusedLine::Line(n) = layout {
         return Checked::Refused(Refusal::Layout(n));
     }
-    let range = fault_of(Row::Range, text);
-    if let Fault::Line(n) = range {
+    let range = refused_line(Row::Range, text);
+    if let RefusedLine::Line(n) = range {
         return Checked::Refused(Refusal::OutOfRange(n));
     }
-    let name = fault_of(Row::Name, text);
-    if let Fault::Line(n) = name {
+    let name = refused_line(Row::Name, text);
+    if let RefusedLine::Line(n) = name {
         return Checked::Refused(Refusal::BadName(n));
     }
-    let price = fault_of(Row::Price, text);
-    if let Fault::Line(n) = price {
+    let price = refused_line(Row::Price, text);
+    if let RefusedLine::Line(n) = price {
         return Checked::Refused(Refusal::Unpriced(n));
     }
-    let target = fault_of(Row::Target, text);
-    if let Fault::Line(n) = target {
+    let target = refused_line(Row::Target, text);
+    if let RefusedLine::Line(n) = target {
         return Checked::Refused(Refusal::NoTarget(n));
     }
     match reader {

@@ -11,22 +11,22 @@ use borrow.Author.Tests.{lt-ltb, le-ltb, ltb-true, ltb-false}
 use Rattle.cells.specs.Try.{stuck, done}
 use Rattle.machine.specs.Lists.{nth}
 use Rattle.machine.specs.Machine.{Instruction, fetch}
-use Rattle.states.specs.Columns.{line, lineOf, linesOf, codeOf}
+use Rattle.states.specs.Columns.{line, lineOf, instructionsOf, codeOf}
 
 tail-at : {A : Type 0} (xs : List A) (j : ℕ) (d : A) → getD (drop 1 xs) j d ≡ getD xs (suc j) d
 tail-at [] j d = refl
 tail-at (x ∷ xs) j d = refl
 
 lines-in : (j : ℕ) (bs : List ℕ) (is : List ℤ) (cs ws : List ℕ) → j < length bs →
-    nth j (linesOf bs is cs ws) ≡ done (lineOf (line (getD bs j 0) (getD is j (pos 0)) (getD cs j 0) (getD ws j 0)))
-unfolding nth linesOf
+    nth j (instructionsOf bs is cs ws) ≡ done (lineOf (line (getD bs j 0) (getD is j (pos 0)) (getD cs j 0) (getD ws j 0)))
+unfolding nth instructionsOf
 lines-in j [] is cs ws h = absurd (omega arith)
 lines-in zero (b ∷ bs) is cs ws h = refl
 lines-in (suc j) (b ∷ bs) is cs ws h =
     rw (tail-at is j (pos 0), tail-at cs j 0, tail-at ws j 0) at (lines-in j bs (drop 1 is) (drop 1 cs) (drop 1 ws) (omega arith))
 
-lines-out : (j : ℕ) (bs : List ℕ) (is : List ℤ) (cs ws : List ℕ) → length bs ≤ j → nth j (linesOf bs is cs ws) ≡ stuck
-unfolding nth linesOf
+lines-out : (j : ℕ) (bs : List ℕ) (is : List ℤ) (cs ws : List ℕ) → length bs ≤ j → nth j (instructionsOf bs is cs ws) ≡ stuck
+unfolding nth instructionsOf
 lines-out j [] is cs ws h = refl
 lines-out zero (b ∷ bs) is cs ws h = absurd (omega arith)
 lines-out (suc j) (b ∷ bs) is cs ws h = lines-out j bs (drop 1 is) (drop 1 cs) (drop 1 ws) (omega arith)

@@ -27,13 +27,13 @@ abbrev pub line : ℕ → ℤ → ℕ → ℕ → Line
 line b i c w = record { code = b % 32; pushes = leb 32 (b % 64); calls = leb 64 b; operand = i; cycles = c; words = w }
 
 -- the instructions of the columns, one entry of each at a time
-unfoldable pub linesOf : List ℕ → List ℤ → List ℕ → List ℕ → List Instruction
-linesOf [] is cs ws = []
-linesOf (b ∷ bs) is cs ws = lineOf (line b (getD is 0 (pos 0)) (getD cs 0 0) (getD ws 0 0)) ∷ linesOf bs (drop 1 is) (drop 1 cs) (drop 1 ws)
+unfoldable pub instructionsOf : List ℕ → List ℤ → List ℕ → List ℕ → List Instruction
+instructionsOf [] is cs ws = []
+instructionsOf (b ∷ bs) is cs ws = lineOf (line b (getD is 0 (pos 0)) (getD cs 0 0) (getD ws 0 0)) ∷ instructionsOf bs (drop 1 is) (drop 1 cs) (drop 1 ws)
 
 -- the code of the columns, from the address `first` on
 unfoldable pub codeOf : ℕ → List ℕ → List ℤ → List ℕ → List ℕ → Code
-codeOf first bs is cs ws = record { first = first; instructions = linesOf bs is cs ws }
+codeOf first bs is cs ws = record { first = first; instructions = instructionsOf bs is cs ws }
 
 -- what the code's answer stands for
 abbrev pub ofFetched : Fetched → Try Instruction

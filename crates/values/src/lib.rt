@@ -11,7 +11,7 @@ ghost use Rattle.text.specs.Decimal.{numeral, most, clamp};
 ghost use Rattle.numbers.specs.Numbers.{range, within, numbers};
 ghost use Rattle.cells.specs.Cells.{number, handle};
 ghost use Rattle.routine.specs.Rows.{isNumeral, value, knownOf, blockOf, cellWord, isCell, handles, cellInRange, cellPresent, isKnown};
-ghost use Rattle.routine.specs.Routine.{inside, natural, cellOf};
+ghost use Rattle.routine.specs.Routine.{inside, naturalIn, cellOf};
 ghost use Rattle.values.specs.Values.{Near, clampedCell};
 
 // ---- numbers
@@ -60,7 +60,7 @@ pub fn number_in(range: Range, w: &[u8]) -> i64
 
 // A natural number of a range.
 pub fn natural_in(low: u32, high: u32, w: &[u8]) -> u32
-    ensures { λ r. ⌜ r ≡ natural (range low high) (now (w .entry)) ⌝ }
+    ensures { λ r. ⌜ r ≡ naturalIn (range low high) (now (w .entry)) ⌝ }
 {
     let z = number_in(
         Range {

@@ -10,7 +10,7 @@ use Rattle.machine.specs.Machine.{Instruction}
 use mir.Syntax.{w32}
 use mir.ValLaws.{toZ-ofZ}
 use lib.IntN.{ℤ}
-use Rattle.states.specs.Columns.{line, lineOf, linesOf}
+use Rattle.states.specs.Columns.{line, lineOf, instructionsOf}
 use Rattle.parts.specs.Parts.{PriceLines, priceLines, instructionIn}
 use Rattle.parts.proofs.FillLaws.{take-map, line-next, line-is}
 use Rattle.parts.proofs.EntryLaws.{Room, firstLines, columns-more, known-more}
@@ -31,7 +31,7 @@ abbrev μ-loop : tie.MeasureT-loop
 μ-loop kinds kind-cycles kind-words primitives primitive-cycles primitive-words body count codes₀ operands₀ cycles₀ words₀ rest₀ n₀ codes operands cycles words rest n = count - n
 
 loop-holds : tie.Need-loop-holds Inv-loop μ-loop
-unfolding linesOf
+unfolding instructionsOf
 loop-holds c = (omega arith, record { codes = refl; operands = refl; cycles = refl; words = refl }, refl, refl, λ j. omega arith)
 
 first-line-requires : tie.Need-first-line-requires Inv-loop μ-loop

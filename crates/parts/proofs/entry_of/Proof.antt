@@ -6,7 +6,7 @@ use native.Mathlib.Omega.{arith}
 use mir.Syntax.{w32}
 use mir.ValLaws.{toZ-ofZ}
 use Rattle.text.specs.Text.{find}
-use Rattle.instructions.specs.Kinds.{operand, kindNames}
+use Rattle.instructions.specs.Kinds.{operand}
 use Rattle.instructions.specs.Columns.{kindAt}
 use Rattle.routine.specs.Layout.{list}
 use Rattle.routine.specs.Rows.{cycleCounts, wordCounts}
@@ -26,20 +26,23 @@ word-at-requires-2 c κs = search needs
 kind-of-requires : tie.Need-kind-of-requires
 kind-of-requires c κs = search needs
 
+table-place-requires : tie.Need-table-place-requires
+table-place-requires c κs = search needs
+
 calls-at-requires : tie.Need-calls-at-requires
-calls-at-requires c κs = c .kind-of .ensures .1
+calls-at-requires c κs = c .table-place .ensures .1
 
-place-of-requires : tie.Need-place-of-requires
-place-of-requires c κs = search needs
+place-listed-requires : tie.Need-place-listed-requires
+place-listed-requires c κs = search needs
 
-place-of-requires-2 : tie.Need-place-of-requires-2
-place-of-requires-2 c κs = search needs
+place-listed-requires-2 : tie.Need-place-listed-requires-2
+place-listed-requires-2 c κs = search needs
 
 code-of-requires : tie.Need-code-of-requires
-code-of-requires c κs = c .before .before .before .kind-of .ensures .1
+code-of-requires c κs = c .before .before .before .table-place .ensures .1
 
 operand-of-requires : tie.Need-operand-of-requires
-operand-of-requires c κs = c .before .before .before .before .kind-of .ensures .1
+operand-of-requires c κs = c .before .before .before .before .table-place .ensures .1
 
 price-of-requires : tie.Need-price-of-requires
 price-of-requires c κs = omega arith
@@ -49,17 +52,17 @@ price-of-requires-2 c κs = omega arith
 
 returns : tie.Need-returns
 returns c =
-    let start = c .before .before .before .before .before .before .before .before .before .before .before .before .before .before .before .before .before in
+    let start = c .before .before .before .before .before .before .before .before .before .before .before .before .before .before .before .before .before .before in
     let kind = c .before .before .before .before .before .before .before in
-    let k = kind .kind-of .result in
+    let k = kind .table-place .result in
     let text = start .args .text .now in
     let p =
     priceLines (start .args .kinds .now) (start .args .kind-cycles .now) (start .args .kind-words .now) (start .args .primitives .now)
     (start .args .primitive-cycles .now) (start .args .primitive-words .now) in
-    let o = kind .before .before .word-at .ensures in
-    let a = kind .before .word-at2 .ensures in
-    let i = c .before .before .before .before .before .place-of .ensures ∙ ap (λ (w : List ℕ). find w (list (p .kinds))) o in
-    let j = c .before .before .before .before .place-of2 .ensures ∙ ap (λ (w : List ℕ). find w (list (p .primitives))) a in
+    let o = kind .before .before .before .word-at .ensures in
+    let a = kind .before .before .word-at2 .ensures in
+    let i = c .before .before .before .before .before .place-listed .ensures ∙ ap (λ (w : List ℕ). find w (list (p .kinds))) o in
+    let j = c .before .before .before .before .place-listed2 .ensures ∙ ap (λ (w : List ℕ). find w (list (p .primitives))) a in
     let t = c .before .before .before .before .before .before .calls-at .ensures in
     let r : Read p text k _ _ _ _ =
     record {
@@ -68,7 +71,7 @@ returns c =
       cycles = same-price cycleCounts (p .kindCycles) (p .primitiveCycles) i t j (c .before .price-of .ensures);
       words = same-price wordCounts (p .kindWords) (p .primitiveWords) i t j (c .price-of2 .ensures);
     } in
-    (entry-is p text k _ _ _ _ r (kind .kind-of .ensures .0 ∙ ap (λ (w : List ℕ). kindAt (find w kindNames)) o), code-small p text k _ _ _ _ r)
+    (entry-is p text k _ _ _ _ r (kind .table-place .ensures .0 ∙ ap kindAt (kind .before .kind-of .ensures)), code-small p text k _ _ _ _ r)
 
 pub entry-of-spec : {M : Type 1} → statement M
 entry-of-spec =
@@ -77,9 +80,10 @@ entry-of-spec =
     word-at-requires
     word-at-requires-2
     kind-of-requires
+    table-place-requires
     calls-at-requires
-    place-of-requires
-    place-of-requires-2
+    place-listed-requires
+    place-listed-requires-2
     code-of-requires
     operand-of-requires
     price-of-requires

@@ -6,7 +6,7 @@ use native.Mathlib.Omega.{arith}
 use lib.ListN.{length, getD, take, drop}
 use Rattle.states.specs.View.{blocksOf}
 use Rattle.routine.specs.Rows.{total}
-use Rattle.routine.specs.Routine.{blocksOf as blocksInLine}
+use Rattle.routine.specs.Routine.{blocksInLine}
 use Rattle.parts.specs.Parts.{cellsIn}
 use Rattle.parts.proofs.BlockLaws.{passed-more, passed-within, passed-few, block-few, blocks-more}
 use borrow.Author.Needs.{needs}

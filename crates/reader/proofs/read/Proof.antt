@@ -1,6 +1,6 @@
 -- `reader::read` meets its contract. Assumes nothing.
 use mathlib.Core.Path.{sym, _∙_}
-use Rattle.reader.proofs.ReaderLaws.{reading-passes, shows-routine, shows-refusal}
+use Rattle.reader.proofs.ReaderLaws.{reading-passes, represents-routine, represents-refusal}
 use borrow.Author.Needs.{needs}
 use Rattle.reader.proofs.read.Statement.{statement}
 use Rattle.reader.proofs.read.Tie as tie
@@ -21,10 +21,10 @@ blank-requires : tie.Need-blank-requires
 blank-requires c κs = search needs
 
 returns : tie.Need-returns
-returns c = shows-routine (c .before .before .before .before .before .args .reader) _ _ (c .routine-of .ensures .0) (c .routine-of .ensures .1) (sym (c .before .before .before .check .ensures) ∙ c .before .enum-told .given .1)
+returns c = represents-routine (c .before .before .before .before .before .args .reader) _ _ (c .routine-of .ensures .0) (c .routine-of .ensures .1) (sym (c .before .before .before .check .ensures) ∙ c .before .enum-told .given .1)
 
 returns-2 : tie.Need-returns-2
-returns-2 c = shows-refusal (c .before .before .before .before .before .before .args .reader) _ _ (c .blank .ensures) _ (sym (c .before .before .before .before .check .ensures) ∙ c .before .before .checked .given .1)
+returns-2 c = represents-refusal (c .before .before .before .before .before .before .args .reader) _ _ (c .blank .ensures) _ (sym (c .before .before .before .before .check .ensures) ∙ c .before .before .checked .given .1)
 
 pub read-spec : {M : Type 1} → statement M
 read-spec =

@@ -1,20 +1,20 @@
--- `rows::earliest` meets its contract. The loop's invariant: the row's fault is that of the lines left (`Scanned`). The measure is the
--- length of what is left. Assumes nothing.
+-- `rows::earliest` meets its contract. The loop's invariant: the line that the row refuses is the first that it refuses of the lines
+-- left (`Scanned`). The measure is the length of what is left. Assumes nothing.
 use lib.ListN.{length}
 use native.Mathlib.Omega.{arith}
 use borrow.Author.Needs.{needs}
 use Prim.Native.Nat.{_≤_}
 use mathlib.Core.Path.{sym, subst}
 use Rattle.rows.specs.Scan.{Small}
-use Rattle.rows.proofs.LoopLaws.{role-small, Scanned, scanned-start, scanned-fails, scanned-goes, scanned-misses, scanned-clean}
+use Rattle.rows.proofs.LoopLaws.{role-small, Scanned, scanned-start, scanned-fails, scanned-goes, scanned-misses, scanned-through}
 use Rattle.rows.proofs.earliest.Statement.{statement}
 use Rattle.rows.proofs.earliest.Tie as tie
 
 abbrev Inv-loop : tie.InvT-loop
-Inv-loop row text kinds primitives blocks first count rest₀ i₀ mark₀ rest i mark = Scanned row text rest i mark
+Inv-loop row text kinds primitives blocks first count rest₀ i₀ heading₀ rest i heading = Scanned row text rest i heading
 
 abbrev μ-loop : tie.MeasureT-loop
-μ-loop row text kinds primitives blocks first count rest₀ i₀ mark₀ rest i mark = length rest
+μ-loop row text kinds primitives blocks first count rest₀ i₀ heading₀ rest i heading = length rest
 
 loop-holds : tie.Need-loop-holds Inv-loop μ-loop
 loop-holds c = scanned-start _ _
@@ -26,7 +26,7 @@ line-ends-requires : tie.Need-line-ends-requires Inv-loop μ-loop
 line-ends-requires c κs = search needs
 
 role-of-requires : tie.Need-role-of-requires Inv-loop μ-loop
-role-of-requires c κs = c .before .before .before .loop .inv .marked
+role-of-requires c κs = c .before .before .before .loop .inv .heading
 
 passes-requires : tie.Need-passes-requires Inv-loop μ-loop
 passes-requires c κs = let s = c .before .before .before .before .before .before .before .before in let v = c .before .before .before .before .loop .inv in let z : c .before .before .before .before .loop .i ≤ 32768 = (let q = v .size in let r = s .pre .0 in omega arith) in (s .pre .1, subst Small (sym (c .role-of .ensures)) (role-small _ _ _ z))
@@ -40,8 +40,8 @@ cast-t19 c = let v = c .before .before .before .before .before .before .loop .in
 returns : tie.Need-returns Inv-loop μ-loop
 returns c = scanned-fails (c .before .before .before .before .before .before .loop .inv) (c .before .before .before .before .before .loop-test .taken) (c .before .before .before .before .first-line .ensures) (c .before .before .before .line-ends .ensures) (c .before .before .role-of .ensures) (c .before .passes .ensures) (c .if1 .taken)
 
-mark-after-requires : tie.Need-mark-after-requires Inv-loop μ-loop
-mark-after-requires c κs = search needs
+heading-after-requires : tie.Need-heading-after-requires Inv-loop μ-loop
+heading-after-requires c κs = search needs
 
 next-lines-requires : tie.Need-next-lines-requires Inv-loop μ-loop
 next-lines-requires c κs = search needs
@@ -53,10 +53,10 @@ loop-less : tie.Need-loop-less Inv-loop μ-loop
 loop-less c = let k = c .next-lines .ensures .1 in let h = c .before .before .before .before .before .before .before .loop-test .taken in omega arith
 
 loop-again : tie.Need-loop-again Inv-loop μ-loop
-loop-again c = scanned-goes (c .before .before .before .before .before .before .before .before .loop .inv) (c .before .before .before .before .before .before .before .loop-test .taken) (c .before .before .before .before .before .before .first-line .ensures) (c .before .before .before .before .before .line-ends .ensures) (c .before .before .before .before .role-of .ensures) (c .before .before .before .passes .ensures) (c .before .before .if1 .left) _ (c .next-lines .ensures .0) (c .next-lines .ensures .1) _ (c .before .mark-after .ensures)
+loop-again c = scanned-goes (c .before .before .before .before .before .before .before .before .loop .inv) (c .before .before .before .before .before .before .before .loop-test .taken) (c .before .before .before .before .before .before .first-line .ensures) (c .before .before .before .before .before .line-ends .ensures) (c .before .before .before .before .role-of .ensures) (c .before .before .before .passes .ensures) (c .before .before .if1 .left) _ (c .next-lines .ensures .0) (c .next-lines .ensures .1) _ (c .before .heading-after .ensures)
 
 misses-requires : tie.Need-misses-requires Inv-loop μ-loop
-misses-requires c κs = c .before .loop .inv .marked
+misses-requires c κs = c .before .loop .inv .heading
 
 add-t22 : tie.Need-add-t22 Inv-loop μ-loop
 add-t22 c = let v = c .before .before .before .loop .inv .size in let r = c .before .before .before .before .before .before .before .pre .0 in omega arith
@@ -68,7 +68,7 @@ returns-2 : tie.Need-returns-2 Inv-loop μ-loop
 returns-2 c = scanned-misses (c .before .before .before .loop .inv) (c .before .before .loop-test .left) (c .before .misses .ensures) (c .if2 .taken)
 
 returns-3 : tie.Need-returns-3 Inv-loop μ-loop
-returns-3 c = scanned-clean (c .before .before .before .loop .inv) (c .before .before .loop-test .left) (c .before .misses .ensures) (c .if2 .left)
+returns-3 c = scanned-through (c .before .before .before .loop .inv) (c .before .before .loop-test .left) (c .before .misses .ensures) (c .if2 .left)
 
 pub earliest-spec : {M : Type 1} → statement M
 earliest-spec =
@@ -84,7 +84,7 @@ earliest-spec =
     add-t18
     cast-t19
     returns
-    mark-after-requires
+    heading-after-requires
     next-lines-requires
     add-i
     loop-less

@@ -1,6 +1,6 @@
 -- `rows::misses` meets its contract. Assumes nothing.
 use native.Mathlib.Omega.{arith}
-use Rattle.rows.proofs.ScanLaws.{mark-before}
+use Rattle.rows.proofs.ScanLaws.{heading-before}
 use borrow.Author.Tests.{lt-ltb, le-ltb}
 use Rattle.rows.specs.Scan.{missing}
 use Rattle.rows.proofs.misses.Statement.{statement}
@@ -11,15 +11,15 @@ unfolding missing
 returns c = rw (lt-ltb (c .before .args .i) 14 (c .if1 .taken))
 
 add-result : tie.Need-add-result
-add-result c = let h = mark-before _ _ (c .before .before .pre) (c .if2 .taken) in let k = c .before .before .fits .i in omega arith
+add-result c = let h = heading-before _ _ (c .before .before .pre) (c .if2 .taken) in let k = c .before .before .fits .i in omega arith
 
 returns-2 : tie.Need-returns-2
 unfolding missing
-returns-2 c = rw (le-ltb (c .before .before .args .i) 14 (c .before .if1 .left), lt-ltb 0 (c .before .before .args .mark) (c .if2 .taken))
+returns-2 c = rw (le-ltb (c .before .before .args .i) 14 (c .before .if1 .left), lt-ltb 0 (c .before .before .args .heading) (c .if2 .taken))
 
 returns-3 : tie.Need-returns-3
 unfolding missing
-returns-3 c = rw (le-ltb (c .before .before .args .i) 14 (c .before .if1 .left), le-ltb 0 (c .before .before .args .mark) (c .if2 .left))
+returns-3 c = rw (le-ltb (c .before .before .args .i) 14 (c .before .if1 .left), le-ltb 0 (c .before .before .args .heading) (c .if2 .left))
 
 pub misses-spec : {M : Type 1} → statement M
 misses-spec = tie.close (tie.spec returns add-result returns-2 returns-3)

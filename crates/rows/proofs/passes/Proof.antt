@@ -1,5 +1,5 @@
 -- `rows::passes` meets its contract. Assumes nothing.
-use Rattle.rows.specs.Scan.{lineOf}
+use Rattle.rows.specs.Scan.{lineWith}
 use Rattle.routine.specs.Rows.{test}
 use Rattle.text.specs.Text.{lines}
 use denote.Ref.{now}
@@ -45,27 +45,27 @@ all-known-requires : tie.Need-all-known-requires
 all-known-requires c κs = search needs
 
 returns : tie.Need-returns
-returns c = arm (λ r. test r (lines (now (c .before .before .before .before .before .before .before .args .text))) (c .before .before .before .before .before .before .before .args .role) (lineOf (now (c .before .before .before .before .before .before .before .args .line)) (c .before .before .before .before .before .before .before .args .ended))) (c .before .enum-told .given .1) (c .laid-out-line .ensures)
+returns c = arm (λ r. test r (lines (now (c .before .before .before .before .before .before .before .args .text))) (c .before .before .before .before .before .before .before .args .role) (lineWith (now (c .before .before .before .before .before .before .before .args .line)) (c .before .before .before .before .before .before .before .args .ended))) (c .before .enum-told .given .1) (c .laid-out-line .ensures)
 
 returns-2 : tie.Need-returns-2
 unfolding test
-returns-2 c = arm (λ r. test r (lines (now (c .before .before .before .before .before .before .before .args .text))) (c .before .before .before .before .before .before .before .args .role) (lineOf (now (c .before .before .before .before .before .before .before .args .line)) (c .before .before .before .before .before .before .before .args .ended))) (c .before .enum-told2 .given .1) (c .in-range .ensures)
+returns-2 c = arm (λ r. test r (lines (now (c .before .before .before .before .before .before .before .args .text))) (c .before .before .before .before .before .before .before .args .role) (lineWith (now (c .before .before .before .before .before .before .before .args .line)) (c .before .before .before .before .before .before .before .args .ended))) (c .before .enum-told2 .given .1) (c .in-range .ensures)
 
 returns-3 : tie.Need-returns-3
 unfolding test
-returns-3 c = arm (λ r. test r (lines (now (c .before .before .before .before .before .before .before .args .text))) (c .before .before .before .before .before .before .before .args .role) (lineOf (now (c .before .before .before .before .before .before .before .args .line)) (c .before .before .before .before .before .before .before .args .ended))) (c .before .enum-told3 .given .1) (c .named .ensures)
+returns-3 c = arm (λ r. test r (lines (now (c .before .before .before .before .before .before .before .args .text))) (c .before .before .before .before .before .before .before .args .role) (lineWith (now (c .before .before .before .before .before .before .before .args .line)) (c .before .before .before .before .before .before .before .args .ended))) (c .before .enum-told3 .given .1) (c .named .ensures)
 
 returns-4 : tie.Need-returns-4
 unfolding test
-returns-4 c = arm (λ r. test r (lines (now (c .before .before .before .before .before .before .before .args .text))) (c .before .before .before .before .before .before .before .args .role) (lineOf (now (c .before .before .before .before .before .before .before .args .line)) (c .before .before .before .before .before .before .before .args .ended))) (c .before .enum-told4 .given .1) (c .priced .ensures)
+returns-4 c = arm (λ r. test r (lines (now (c .before .before .before .before .before .before .before .args .text))) (c .before .before .before .before .before .before .before .args .role) (lineWith (now (c .before .before .before .before .before .before .before .args .line)) (c .before .before .before .before .before .before .before .args .ended))) (c .before .enum-told4 .given .1) (c .priced .ensures)
 
 returns-5 : tie.Need-returns-5
 unfolding test
-returns-5 c = arm (λ r. test r (lines (now (c .before .before .before .before .before .before .before .args .text))) (c .before .before .before .before .before .before .before .args .role) (lineOf (now (c .before .before .before .before .before .before .before .args .line)) (c .before .before .before .before .before .before .before .args .ended))) (c .before .enum-told5 .given .1) (c .reaches .ensures)
+returns-5 c = arm (λ r. test r (lines (now (c .before .before .before .before .before .before .before .args .text))) (c .before .before .before .before .before .before .before .args .role) (lineWith (now (c .before .before .before .before .before .before .before .args .line)) (c .before .before .before .before .before .before .before .args .ended))) (c .before .enum-told5 .given .1) (c .reaches .ensures)
 
 returns-6 : tie.Need-returns-6
 unfolding test
-returns-6 c = arm (λ r. test r (lines (now (c .before .before .before .before .before .before .before .args .text))) (c .before .before .before .before .before .before .before .args .role) (lineOf (now (c .before .before .before .before .before .before .before .args .line)) (c .before .before .before .before .before .before .before .args .ended))) (c .before .enum-told6 .given .1) (c .all-known .ensures)
+returns-6 c = arm (λ r. test r (lines (now (c .before .before .before .before .before .before .before .args .text))) (c .before .before .before .before .before .before .before .args .role) (lineWith (now (c .before .before .before .before .before .before .before .args .line)) (c .before .before .before .before .before .before .before .args .ended))) (c .before .enum-told6 .given .1) (c .all-known .ensures)
 
 pub passes-spec : {M : Type 1} → statement M
 passes-spec =

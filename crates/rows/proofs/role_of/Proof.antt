@@ -1,6 +1,6 @@
 -- `rows::role_of` meets its contract. Assumes nothing.
 use native.Mathlib.Omega.{arith}
-use Rattle.rows.proofs.ScanLaws.{mark-before}
+use Rattle.rows.proofs.ScanLaws.{heading-before}
 use mathlib.Core.Path.{sym, _∙_}
 use borrow.Author.Tests.{lt-ltb, le-ltb}
 use Rattle.rows.specs.Scan.{roleOf}
@@ -16,27 +16,27 @@ unfolding roleOf
 returns c = rw (lt-ltb (c .before .before .before .args .i) 13 (c .before .if1 .taken)) (c .role-at .ensures)
 
 sub-t5 : tie.Need-sub-t5
-sub-t5 c = let h = mark-before _ _ (c .before .before .before .pre) (c .if2 .taken) in omega arith
+sub-t5 c = let h = heading-before _ _ (c .before .before .before .pre) (c .if2 .taken) in omega arith
 
 sub-t6 : tie.Need-sub-t6
-sub-t6 c = let h = mark-before _ _ (c .before .before .before .pre) (c .if2 .taken) in omega arith
+sub-t6 c = let h = heading-before _ _ (c .before .before .before .pre) (c .if2 .taken) in omega arith
 
 returns-2 : tie.Need-returns-2
 unfolding roleOf
-returns-2 c = rw (le-ltb (c .before .before .before .args .i) 13 (c .before .if1 .left), lt-ltb 0 (c .before .before .before .args .mark) (c .if2 .taken))
+returns-2 c = rw (le-ltb (c .before .before .before .args .i) 13 (c .before .if1 .left), lt-ltb 0 (c .before .before .before .args .heading) (c .if2 .taken))
 
-marks-requires : tie.Need-marks-requires
-marks-requires c κs = search needs
+is-heading-requires : tie.Need-is-heading-requires
+is-heading-requires c κs = search needs
 
 returns-3 : tie.Need-returns-3
 unfolding roleOf
-returns-3 c = rw (le-ltb (c .before .before .before .before .before .args .i) 13 (c .before .before .before .if1 .left), le-ltb 0 (c .before .before .before .before .before .args .mark) (c .before .before .if2 .left), sym (c .before .marks .ensures) ∙ c .if3 .taken)
+returns-3 c = rw (le-ltb (c .before .before .before .before .before .args .i) 13 (c .before .before .before .if1 .left), le-ltb 0 (c .before .before .before .before .before .args .heading) (c .before .before .if2 .left), sym (c .before .is-heading .ensures) ∙ c .if3 .taken)
 
 returns-4 : tie.Need-returns-4
 unfolding roleOf
-returns-4 c = rw (le-ltb (c .before .before .before .before .before .args .i) 13 (c .before .before .before .if1 .left), le-ltb 0 (c .before .before .before .before .before .args .mark) (c .before .before .if2 .left), sym (c .before .marks .ensures) ∙ c .if3 .left)
+returns-4 c = rw (le-ltb (c .before .before .before .before .before .args .i) 13 (c .before .before .before .if1 .left), le-ltb 0 (c .before .before .before .before .before .args .heading) (c .before .before .if2 .left), sym (c .before .is-heading .ensures) ∙ c .if3 .left)
 
 pub role-of-spec : {M : Type 1} → statement M
 role-of-spec =
     tie.close
-    (tie.spec role-at-requires returns sub-t5 sub-t6 returns-2 marks-requires returns-3 returns-4)
+    (tie.spec role-at-requires returns sub-t5 sub-t6 returns-2 is-heading-requires returns-3 returns-4)

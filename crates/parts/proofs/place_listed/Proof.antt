@@ -1,10 +1,10 @@
--- `parts::place_of` meets its contract. Assumes nothing.
+-- `parts::place_listed` meets its contract. Assumes nothing.
 use mathlib.Core.Path.{sym, ap, _∙_}
 use Rattle.text.specs.Text.{find}
 use Rattle.routine.proofs.LayoutLaws.{list-none, list-words}
 use borrow.Author.Needs.{needs}
-use Rattle.parts.proofs.place_of.Statement.{statement}
-use Rattle.parts.proofs.place_of.Tie as tie
+use Rattle.parts.proofs.place_listed.Statement.{statement}
+use Rattle.parts.proofs.place_listed.Tie as tie
 
 lists-nothing-requires : tie.Need-lists-nothing-requires
 lists-nothing-requires c κs = search needs
@@ -19,5 +19,5 @@ find-requires c κs = search needs
 returns-2 : tie.Need-returns-2
 returns-2 c = c .find .ensures ∙ sym (ap (find _) (list-words _ (sym (c .before .before .lists-nothing .ensures) ∙ c .before .if1 .left)))
 
-pub place-of-spec : {M : Type 1} → statement M
-place-of-spec = tie.close (tie.spec lists-nothing-requires returns find-requires returns-2)
+pub place-listed-spec : {M : Type 1} → statement M
+place-listed-spec = tie.close (tie.spec lists-nothing-requires returns find-requires returns-2)

@@ -1,9 +1,9 @@
--- `rows::marks` meets its contract. Assumes nothing.
+-- `rows::is_heading` meets its contract. Assumes nothing.
 use borrow.Author.Tests.{lt-ltb, le-ltb}
-use Rattle.rows.specs.Scan.{marks}
+use Rattle.rows.specs.Scan.{isHeading}
 use borrow.Author.Needs.{needs}
-use Rattle.rows.proofs.marks.Statement.{statement}
-use Rattle.rows.proofs.marks.Tie as tie
+use Rattle.rows.proofs.is_heading.Statement.{statement}
+use Rattle.rows.proofs.is_heading.Tie as tie
 
 slice-aggregate-same : tie.Need-slice-aggregate-same
 slice-aggregate-same c = search needs
@@ -12,12 +12,12 @@ same-requires : tie.Need-same-requires
 same-requires c κs = search needs
 
 returns : tie.Need-returns
-unfolding marks
+unfolding isHeading
 returns c = rw (lt-ltb 13 (c .before .before .before .before .args .i) (c .before .before .if1 .taken)) (c .same .ensures)
 
 returns-2 : tie.Need-returns-2
-unfolding marks
+unfolding isHeading
 returns-2 c = rw (le-ltb 13 (c .before .before .args .i) (c .if1 .left))
 
-pub marks-spec : {M : Type 1} → statement M
-marks-spec = tie.close (tie.spec slice-aggregate-same same-requires returns returns-2)
+pub is-heading-spec : {M : Type 1} → statement M
+is-heading-spec = tie.close (tie.spec slice-aggregate-same same-requires returns returns-2)

@@ -1,11 +1,11 @@
--- `rows::fault_of` meets its contract. Assumes nothing.
+-- `rows::refused_line` meets its contract. Assumes nothing.
 use lib.ListN.{length}
 use mathlib.Core.Path.{_≡_}
 use Rattle.states.proofs.Stack.{length-images}
 use Rattle.rows.proofs.FoundLaws.{context-found}
 use borrow.Author.Needs.{needs}
-use Rattle.rows.proofs.fault_of.Statement.{statement}
-use Rattle.rows.proofs.fault_of.Tie as tie
+use Rattle.rows.proofs.refused_line.Statement.{statement}
+use Rattle.rows.proofs.refused_line.Tie as tie
 
 names-line-requires : tie.Need-names-line-requires
 names-line-requires c κs = search needs
@@ -46,8 +46,8 @@ earliest-requires c κs =
 returns : tie.Need-returns
 returns c = search needs
 
-pub fault-of-spec : {M : Type 1} → statement M
-fault-of-spec =
+pub refused-line-spec : {M : Type 1} → statement M
+refused-line-spec =
     tie.close
     (tie.spec
     names-line-requires
