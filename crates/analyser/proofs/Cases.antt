@@ -149,10 +149,10 @@ computed = ((refl, refl, refl, refl, refl, refl, refl, refl, refl, refl, refl), 
 pub starred : Starred
 starred = computed .0
 
--- the report on a text, with its routine and its figures
-report-of : (x : routines.Routine) (q : tree.Report) (bytes : List ℕ) → routines.readBound case1 ≡ routines.routine x → tree.bound (x .code) (x .budget) (x .start) ≡ tree.accepted q →
+-- the report on case 1, by the routine that it holds and its figures
+safe-report : (x : routines.Routine) (q : tree.Report) (bytes : List ℕ) → routines.readBound case1 ≡ routines.routine x → tree.bound (x .code) (x .budget) (x .start) ≡ tree.accepted q →
     (y : routines.Routine) (p : tree.Report) → BoundReported case1 bytes y p → SafeRuns y p → SafeRuns x q
-report-of x q bytes e f y p is safe =
+safe-report x q bytes e f y p is safe =
     let same : y ≡ x = cc (is .reads) in
     let g : tree.bound (x .code) (x .budget) (x .start) ≡ tree.accepted p = rw same at (is .accepts) in
     let alike : p ≡ q = cc in
@@ -170,4 +170,4 @@ unfolding numbers.wrap
 published-interrupted =
     let (e, reads, runs) = computed .1 in
     let (y, p, is, safe) = reports-kept case1 128 _ e .0 in
-    (computed .1, report-of (holding (state 0 (pos 0) (cells.unknown ∷ [])) []) figures _ reads (interrupted.interrupted .0) y p is safe _ is-allowed (pos 7 ∷ []))
+    (computed .1, safe-report (holding (state 0 (pos 0) (cells.unknown ∷ [])) []) figures _ reads (interrupted.interrupted .0) y p is safe _ is-allowed (pos 7 ∷ []))

@@ -3,7 +3,7 @@
 use mathlib.Core.Path.{_≡_, refl, sym, ap, ap₂, _∙_}
 use mathlib.Core.Bool.{Bool, true, false, true≢false}
 use mathlib.Core.List.{List, [], _∷_}
-use Prim.Native.Nat.{ℕ, zero, suc, _+_, _-_, _≤_}
+use Prim.Native.Nat.{ℕ, zero, suc, _+_, _≤_}
 use native.Mathlib.Omega.{arith}
 use lib.IntN.{ℤ}
 use lib.ListN.{length}
@@ -12,6 +12,7 @@ use Rattle.cells.specs.Cells.{unknown}
 use Rattle.cells.specs.Order.{Refines}
 use Rattle.cells.proofs.Covering.{Covered, by-stuck, both}
 use Rattle.cells.proofs.CellLaws.{allowed-refines, refines-lawful}
+use Rattle.machine.specs.Lists.{nth}
 use Rattle.machine.specs.Machine.{State, Price, Next, stops, goes, opens, Code, step, takesAnswer}
 use Rattle.machine.specs.Order.{Cellwise}
 use Rattle.machine.proofs.NextCovering.{NextCovered, stops-too, goes-too, opens-too, goes-not-taken, goes-taken}
@@ -19,7 +20,7 @@ use Rattle.machine.proofs.StepLaws.{step-law}
 use Rattle.bounds.specs.Traces.{Move, move, cost, wordSum, CostMax}
 use Rattle.bounds.specs.Run.{Run, begin, answer, remaining, moved, leads, once, after, DeterministicTrace}
 use Rattle.bounds.specs.Promises.{Ended, RunsTrace, Theorem14}
-use Rattle.bounds.proofs.RunLaws.{answered, after-after, nothing-follows}
+use Rattle.bounds.proofs.RunLaws.{answered, after-after, after-still, nothing-follows}
 
 module _ (c : Code) where
   unique : {s : State} {answers : List ℤ} {xs ys : List Move} → DeterministicTrace c s answers xs → DeterministicTrace c s answers ys → xs ≡ ys
@@ -43,9 +44,14 @@ module _ (c : Code) where
   unfolding after
   after-suc n r = let h : suc n ≡ 1 + n = omega arith in ap (λ k. after c k r) h ∙ after-after c 1 n r
 
+  -- a run at a state of a trace, with the answers to come there: what its step leads to, and the run after it
   leads-at : {s : State} {answers : List ℤ} {m : Try Next} (r : Run) → r .state ≡ s → r .answers ≡ answers → step c (answer answers) s ≡ m → leads c r ≡ m
   unfolding leads
   leads-at {s} {answers} r e f g = ap₂ (λ x y. step c (answer x) y) f e ∙ g
+
+  once-at : {s : State} {answers : List ℤ} (m : Try Next) (r : Run) → r .state ≡ s → r .answers ≡ answers → r .stopped ≡ false → step c (answer answers) s ≡ m →
+      once c r ≡ moved r (remaining (takesAnswer c s) answers) false m
+  once-at m r e f g d = once-by r m g (leads-at r e f d) ∙ ap₂ (λ x y. moved r (remaining (takesAnswer c x) y) false m) e f
 
   -- a run at the start of a trace, and at its end
   record Makes (r : Run) (trace : List Move) (end : Run) : Type 0 where
@@ -58,15 +64,26 @@ module _ (c : Code) where
       Makes r trace (after c (length trace) r)
   unfolding after moved cost wordSum
   makes (DeterministicTrace.stop {p} d) r e f g =
-      let h = once-by r (done (stops p)) g (leads-at r e f d) in
+      let h = once-at (done (stops p)) r e f g d in
       rw h (record { stopped = refl; cycles = omega arith; words = omega arith; steps = omega arith })
   makes (DeterministicTrace.next {s} {t} {p} {trace} d ds) r e f g =
-      let h = once-by r (done (goes p t)) g (leads-at r e f d) in
-      let k = makes ds (once c r) (ap (λ x. x .state) h) (ap (λ x. x .answers) h ∙ ap₂ (λ x y. remaining (takesAnswer c x) y) e f) (ap (λ x. x .stopped) h) in
+      let h = once-at (done (goes p t)) r e f g d in
+      let k = makes ds (once c r) (ap (λ x. x .state) h) (ap (λ x. x .answers) h) (ap (λ x. x .stopped) h) in
       let cycles = ap (λ x. x .cycles) h in
       let words = ap (λ x. x .words) h in
       let steps = ap (λ x. x .steps) h in
       rw (after-suc (length trace) r) (record { stopped = k .stopped; cycles = omega arith; words = omega arith; steps = omega arith })
+
+  -- and goes by its states
+  visits : {s : State} {answers : List ℤ} {trace : List Move} → DeterministicTrace c s answers trace → (r : Run) → r .state ≡ s → r .answers ≡ answers → r .stopped ≡ false →
+      (k : ℕ) (m : Move) → nth k trace ≡ done m → after c k r .state ≡ m .state
+  unfolding after moved nth
+  visits (DeterministicTrace.stop d) r e f g zero m h = cc
+  visits (DeterministicTrace.stop d) r e f g (suc k) m h = cc
+  visits (DeterministicTrace.next d ds) r e f g zero m h = cc
+  visits (DeterministicTrace.next {s} {t} {p} {trace} d ds) r e f g (suc k) m h =
+      let o = once-at (done (goes p t)) r e f g d in
+      rw (after-suc k r) (visits ds (once c r) (ap (λ x. x .state) o) (ap (λ x. x .answers) o) (ap (λ x. x .stopped) o) k m h)
 
   -- a run that has stopped after n steps has a trace
   has-trace : (n : ℕ) (r : Run) → r .stopped ≡ false → after c n r .stopped ≡ true → (trace : List Move) × DeterministicTrace c (r .state) (r .answers) trace × (length trace ≤ n)
@@ -87,17 +104,15 @@ module _ (c : Code) where
       go ih (done (opens p t q u)) d = let (trace, x, le) = ih r e (later (done (opens p t q u)) d) in (trace, x, omega arith)
 
   ends : (s : State) (answers : List ℤ) (trace : List Move) → DeterministicTrace c s answers trace → (n : ℕ) → length trace ≤ n → Ended trace (after c n (begin s answers))
-  unfolding begin
+  unfolding begin after
   ends s answers trace d n h =
       let k = makes d (begin s answers) refl refl refl in
-      let sum : n ≡ length trace + (n - length trace) = omega arith in
-      let same : after c n (begin s answers) ≡ after c (length trace) (begin s answers) =
-      ap (λ m. after c m (begin s answers)) sum ∙ after-after c (length trace) (n - length trace) (begin s answers) ∙ nothing-follows c (n - length trace) _ (k .stopped) in
-      rw same (record { stopped = k .stopped; cycles = omega (arith, k .cycles); words = omega (arith, k .words); steps = omega (arith, k .steps) })
+      rw (after-still c (length trace) n (begin s answers) h (nothing-follows c 1 _ (k .stopped)))
+      (record { stopped = k .stopped; cycles = omega (arith, k .cycles); words = omega (arith, k .words); steps = omega (arith, k .steps) })
 
 pub runs-trace : RunsTrace
 unfolding begin
-runs-trace c s answers = (λ xs ys x y. unique c x y, ends c s answers, λ n e. has-trace c n (begin s answers) refl e)
+runs-trace c s answers = (λ xs ys x y. unique c x y, λ trace d. visits c d (begin s answers) refl refl refl, ends c s answers, λ n e. has-trace c n (begin s answers) refl e)
 
 -- ---- Theorem 14
 

@@ -11,7 +11,8 @@ use Rattle.refusals.specs.declared.Refusal.the-variants.{Stuck, Spent}
 use Rattle.cells.specs.Order.{Refines, Allowed}
 use Rattle.cells.specs.Cells.{unknown}
 use Rattle.machine.specs.Machine.{State, Next, Code, height, step}
-use Rattle.cells.specs.Try.{Try}
+use Rattle.cells.specs.Try.{Try, done}
+use Rattle.machine.specs.Lists.{nth}
 use Rattle.machine.specs.Order.{Cellwise}
 use Rattle.bounds.specs.Tree.{tree, steps, verdict, Report, Verdict, accepted, refused, openingLimit, bound}
 use Rattle.bounds.specs.Traces.{Move, cost, wordSum, decisions, Trace, Path, CostMax, RunMax, Finite, Listed}
@@ -24,21 +25,21 @@ pub record NoGreater (less more : Report) : Type 0 where
   pub depth : less .depth ≤ more .depth
   pub steps : less .steps ≤ more .steps
 
--- Demand 3, of the run that n steps from the start have made, under what the bound M has reported
-pub record Safe (code : Code) (M : State → Verdict) (reported : Report) (start : Run) (n : ℕ) (run : Run) : Type 0 where
+-- Demand 3, of the run that so many steps from the start have made, under what the bound has reported
+pub record Safe (code : Code) (bounding : State → Verdict) (reported : Report) (start : Run) (made : ℕ) (run : Run) : Type 0 where
   -- "it is not stuck, its stack has nowhere been deeper than reported": by what the run remembers, and in each state up to this one
   pub moves : isStuck code run ≡ false
   pub depth : run .depth ≤ reported .depth
-  pub heights : (k : ℕ) → k ≤ n → height (after code k start .state) ≤ reported .depth
+  pub heights : (k : ℕ) → k ≤ made → height (after code k start .state) ≤ reported .depth
   pub steps : run .steps ≤ reported .steps
   -- "bounding it afresh from the state reached, under the same budget, is never refused"; "after STOP nothing is left to bound"
   pub fresh : Report
-  pub accepts : boundedAfresh M (run .stopped) (run .state) ≡ accepted fresh
+  pub accepts : boundedAfresh bounding (run .stopped) (run .state) ≡ accepted fresh
   -- "The cycles spent plus those bounded afresh are at most the reported cycles, and the same for words"
   pub cycles : run .cycles + fresh .cycles ≤ reported .cycles
   pub words : run .words + fresh .words ≤ reported .words
   -- "Every such run makes its STOP within the reported steps."
-  pub stops : reported .steps ≤ n → run .stopped ≡ true
+  pub stops : reported .steps ≤ made → run .stopped ≡ true
 
 -- Demand 3, whole: for every start that t allows, every list of answers and every number of steps
 abbrev pub Interruptible : Code → (State → Verdict) → Type 0
@@ -57,12 +58,13 @@ pub record Ended (trace : List Move) (run : Run) : Type 0 where
   pub words : run .words ≡ wordSum trace
   pub steps : run .steps ≡ length trace
 
--- The run and Definition 2 of document 000: "the corresponding execution trace is unique"; the run makes as many steps as it has, and has
--- then spent what it costs; and a run that makes its STOP has one
+-- The run and Definition 2 of document 000: "the corresponding execution trace is unique"; the run goes by its states and makes as many
+-- steps as it has, and has then spent what it costs; and a run that makes its STOP has one
 abbrev pub RunsTrace : Type 0
 RunsTrace =
     (c : Code) (s : State) (answers : List ℤ) →
     ((xs ys : List Move) → DeterministicTrace c s answers xs → DeterministicTrace c s answers ys → xs ≡ ys)
+    × ((trace : List Move) → DeterministicTrace c s answers trace → (k : ℕ) (m : Move) → nth k trace ≡ done m → after c k (begin s answers) .state ≡ m .state)
     × ((trace : List Move) → DeterministicTrace c s answers trace → (n : ℕ) → length trace ≤ n → Ended trace (after c n (begin s answers)))
     × ((n : ℕ) → after c n (begin s answers) .stopped ≡ true → (trace : List Move) × DeterministicTrace c s answers trace × (length trace ≤ n))
 
