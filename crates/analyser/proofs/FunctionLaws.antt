@@ -29,7 +29,8 @@ use Rattle.routine.specs.Routine.{readBound, readRun}
 use Rattle.routine.specs.Routine as readings
 use Rattle.routine.proofs.RowLaws.{read-passes, run-passes}
 use Rattle.routine.proofs.RangeLaws.{tick-positive, tick-small}
-use Rattle.rows.specs.declared.Checked.the-variants as checks
+use Rattle.refusals.specs.declared.Verdict.the-variants as verdicts
+use Rattle.refusals.specs.declared.Verdict.the-variants.{Accepted}
 use Rattle.reader.specs.declared.Routine.{Routine}
 use Rattle.reader.specs.declared.Reading.{Reading}
 use Rattle.reader.specs.Reader.{codes, sizes, Holds, Limited}
@@ -127,10 +128,10 @@ gives-refusal a x e former = (rw e refl, rw e refl)
 
 -- ---- a text
 
-passes-not : {A : Type 0} (x : Refusal) → checks.Passes ≡ checks.Refused x → A
+passes-not : {A : Type 0} (x : Refusal) → Accepted ≡ verdicts.Refused x → A
 passes-not x e = let z : _≡_ {A = ℕ} 0 1 = cc in absurd (omega arith)
 
-same-checked : (x y : Refusal) → checks.Refused x ≡ checks.Refused y → x ≡ y
+same-checked : (x y : Refusal) → verdicts.Refused x ≡ verdicts.Refused y → x ≡ y
 same-checked x y e = cc
 
 -- the routine that is held is the routine
@@ -138,15 +139,15 @@ holds-is : (x : readings.Routine) (r : Routine) → Holds x r → routineIn r �
 holds-is x r h = λ i. record { budget = h .budget i; tick = h .tick i; code = h .code i; start = h .start i; answers = h .answered i }
 
 module _ (r : Reading) where
-  pub reading-refused : (m : readings.Reading) → reader.Represents r m → (x : Refusal) → r .checked ≡ checks.Refused x → m ≡ readings.refused x
+  pub reading-refused : (m : readings.Reading) → reader.Represents r m → (x : Refusal) → r .verdict ≡ verdicts.Refused x → m ≡ readings.refused x
   reading-refused (readings.refused y) s x e = ap readings.refused (same-checked y x (sym (s .0) ∙ e))
   reading-refused (readings.routine y) s x e = passes-not x (sym (s .0) ∙ e)
 
-  pub reading-limited : (m : readings.Reading) → reader.Represents r m → r .checked ≡ checks.Passes → Limited (r .routine)
+  pub reading-limited : (m : readings.Reading) → reader.Represents r m → r .verdict ≡ Accepted → Limited (r .routine)
   reading-limited (readings.refused y) s e = passes-not y (sym e ∙ s .0)
   reading-limited (readings.routine y) s e = s .2
 
-  pub reading-routine : (m : readings.Reading) → reader.Represents r m → r .checked ≡ checks.Passes → m ≡ readings.routine (routineIn (r .routine))
+  pub reading-routine : (m : readings.Reading) → reader.Represents r m → r .verdict ≡ Accepted → m ≡ readings.routine (routineIn (r .routine))
   reading-routine (readings.refused y) s e = passes-not y (sym e ∙ s .0)
   reading-routine (readings.routine y) s e = ap readings.routine (sym (holds-is y (r .routine) (s .1)))
 

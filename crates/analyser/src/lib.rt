@@ -1,9 +1,8 @@
 // The public functions on texts and lent memory. The meaning is in specs/.
 use findings::Found;
-use findings::Verdict;
 use reader::Routine;
 use refusals::Refusal;
-use rows::Checked;
+use refusals::Verdict;
 use rows::Reader;
 use runs::Ran;
 ghost use mathlib.Core.Path.{_≡_};
@@ -38,8 +37,6 @@ fn explored(x: Routine) -> Found
     let sizes = x.sizes;
     let fields = x.fields;
     let start = x.start;
-    let state = start.state;
-    let stack = start.stack;
     let count = x.count;
     let blocks = x.blocks;
     explore::explore(
@@ -49,10 +46,8 @@ fn explored(x: Routine) -> Found
         &words[..count],
         &sizes[..blocks],
         x.first,
-        state,
-        stack,
+        start,
         fields,
-        x.first,
         32,
         x.budget,
     )
@@ -71,8 +66,6 @@ fn ran(x: Routine) -> Ran
     let sizes = x.sizes;
     let fields = x.fields;
     let start = x.start;
-    let state = start.state;
-    let stack = start.stack;
     let answers = x.answers;
     let values = answers.values;
     let given = answers.count;
@@ -85,8 +78,7 @@ fn ran(x: Routine) -> Ran
         &words[..count],
         &sizes[..blocks],
         x.first,
-        state,
-        stack,
+        start,
         fields,
         &values[..given],
         x.budget,
@@ -117,9 +109,7 @@ fn bound_routine(x: Routine, out: &mut [u8]) -> Answer
             );
             Answer::Reported(n)
         }
-        Verdict::Stuck(a) => Answer::Refused(Refusal::Stuck(a)),
-        Verdict::Openings(a) => Answer::Refused(Refusal::Openings(a)),
-        Verdict::Spent(a) => Answer::Refused(Refusal::Spent(a)),
+        Verdict::Refused(x) => Answer::Refused(x),
     }
 }
 
@@ -135,12 +125,11 @@ fn run_routine(x: Routine, out: &mut [u8]) -> Answer
     let depth = ran.depth as u64;
     let verdict = ran.verdict;
     match verdict {
-        runs::Verdict::Stopped => {
+        Verdict::Accepted => {
             let n = report::put_run(out, ran.cycles, ran.words, depth, steps);
             Answer::Reported(n)
         }
-        runs::Verdict::Stuck(a) => Answer::Refused(Refusal::Stuck(a)),
-        runs::Verdict::Spent(a) => Answer::Refused(Refusal::Spent(a)),
+        Verdict::Refused(x) => Answer::Refused(x),
     }
 }
 
@@ -156,13 +145,13 @@ pub fn bound(text: &[u8], out: &mut [u8]) -> Answer
         return Answer::Refused(Refusal::ReportMemory); // the first row, before the text is read
     }
     let reading = reader::read(Reader::Bound, text);
-    let checked = reading.checked;
-    match checked {
-        Checked::Passes => {
+    let verdict = reading.verdict;
+    match verdict {
+        Verdict::Accepted => {
             let x = reading.routine;
             bound_routine(x, out)
         }
-        Checked::Refused(r) => Answer::Refused(r),
+        Verdict::Refused(r) => Answer::Refused(r),
     }
 }
 
@@ -177,13 +166,13 @@ pub fn run(text: &[u8], out: &mut [u8]) -> Answer
         return Answer::Refused(Refusal::ReportMemory);
     }
     let reading = reader::read(Reader::Run, text);
-    let checked = reading.checked;
-    match checked {
-        Checked::Passes => {
+    let verdict = reading.verdict;
+    match verdict {
+        Verdict::Accepted => {
             let x = reading.routine;
             run_routine(x, out)
         }
-        Checked::Refused(r) => Answer::Refused(r),
+        Verdict::Refused(r) => Answer::Refused(r),
     }
 }
 

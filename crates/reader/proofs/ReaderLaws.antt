@@ -33,8 +33,7 @@ use Rattle.parts.proofs.ListLaws.{answer-drop}
 use Rattle.routine.proofs.LayoutLaws.{text-at}
 use Rattle.parts.proofs.PartLaws.{linesOfPrices, limit-in, instructions-in, answers-in, start-whole}
 use Rattle.rows.specs.Checks.{readBy, checkOf}
-use Rattle.rows.specs.declared.Checked.the-variants.{Refused}
-use Rattle.rows.specs.declared.Checked.the-variants as checks
+use Rattle.refusals.specs.declared.Verdict.the-variants.{Accepted, Refused}
 use Rattle.rows.specs.declared.Reader.{Reader}
 use Rattle.rows.specs.declared.Reader.the-variants.{Bound, Run}
 use Rattle.rows.proofs.FoundLaws.{first-value}
@@ -222,7 +221,7 @@ blankWith z = record {
   answers = blank .answers;
 }
 
-passes-not : {A : Type 0} (x : Refusal) → checkOf (readings.refused x) ≡ checks.Passes → A
+passes-not : {A : Type 0} (x : Refusal) → checkOf (readings.refused x) ≡ Accepted → A
 unfolding checkOf
 passes-not x e = let z : _≡_ {A = ℕ} 0 1 = cc in absurd (omega arith)
 
@@ -241,24 +240,24 @@ module _ (reader : Reader) (text : List ℕ) where
   read-is Bound x e = let r = read-passes text x e in (r .0, r .1)
   read-is Run x e = let r = run-passes text x e in (r .0, r .2)
 
-  pub reading-passes : checkOf (readBy reader text) ≡ checks.Passes → Passes (lines text)
+  pub reading-passes : checkOf (readBy reader text) ≡ Accepted → Passes (lines text)
   reading-passes e = go (readBy reader text) refl e
     where
-      go : (q : readings.Reading) → readBy reader text ≡ q → checkOf q ≡ checks.Passes → Passes (lines text)
+      go : (q : readings.Reading) → readBy reader text ≡ q → checkOf q ≡ Accepted → Passes (lines text)
       go (readings.refused x) h k = passes-not x k
       go (readings.routine x) h k = read-is reader x h .0
 
-  pub represents-routine : (r : Routine) → Holds (routineOf (lines text)) r → Limited r → checkOf (readBy reader text) ≡ checks.Passes
-      → Represents (record { checked = checks.Passes; routine = r }) (readBy reader text)
+  pub represents-routine : (r : Routine) → Holds (routineOf (lines text)) r → Limited r → checkOf (readBy reader text) ≡ Accepted
+      → Represents (record { verdict = Accepted; routine = r }) (readBy reader text)
   represents-routine r h l e = go (readBy reader text) refl e
     where
-      go : (q : readings.Reading) → readBy reader text ≡ q → checkOf q ≡ checks.Passes → Represents (record { checked = checks.Passes; routine = r }) q
+      go : (q : readings.Reading) → readBy reader text ≡ q → checkOf q ≡ Accepted → Represents (record { verdict = Accepted; routine = r }) q
       go (readings.refused x) i k = passes-not x k
       go (readings.routine x) i k = (refl, rw (read-is reader x i .1) h, l)
 
-  pub represents-refusal : (b : Routine) → b ≡ blank → (x : Refusal) → checkOf (readBy reader text) ≡ Refused x → Represents (record { checked = Refused x; routine = b }) (readBy reader text)
+  pub represents-refusal : (b : Routine) → b ≡ blank → (x : Refusal) → checkOf (readBy reader text) ≡ Refused x → Represents (record { verdict = Refused x; routine = b }) (readBy reader text)
   represents-refusal b f x e = go (readBy reader text) e
     where
-      go : (q : readings.Reading) → checkOf q ≡ Refused x → Represents (record { checked = Refused x; routine = b }) q
+      go : (q : readings.Reading) → checkOf q ≡ Refused x → Represents (record { verdict = Refused x; routine = b }) q
       go (readings.refused y) k = (rw (same-refusal y x k) refl, f)
       go (readings.routine y) k = refused-not y x k

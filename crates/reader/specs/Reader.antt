@@ -11,7 +11,7 @@ use Rattle.states.specs.View.{WellFormed, Fits, whole}
 use Rattle.routine.specs.Layout.{body, codeLines}
 use Rattle.routine.specs.Rows.{firstAddresses, firstAt}
 use Rattle.routine.specs.Routine as readings
-use Rattle.rows.specs.declared.Checked.the-variants.{Passes, Refused}
+use Rattle.refusals.specs.declared.Verdict.the-variants.{Accepted, Refused}
 use Rattle.parts.specs.declared.Columns.{Columns}
 use Rattle.reader.specs.declared.Routine.{Routine}
 use Rattle.reader.specs.declared.Reading.{Reading}
@@ -82,8 +82,8 @@ blank = record {
 
 -- the answer r shows a reading: its refusal, or its routine
 abbrev pub Represents : Reading → readings.Reading → Type 0
-Represents r (readings.refused x) = (r .checked ≡ Refused x) × (r .routine ≡ blank)
-Represents r (readings.routine x) = (r .checked ≡ Passes) × Holds x (r .routine) × Limited (r .routine)
+Represents r (readings.refused x) = (r .verdict ≡ Refused x) × (r .routine ≡ blank)
+Represents r (readings.routine x) = (r .verdict ≡ Accepted) × Holds x (r .routine) × Limited (r .routine)
 
 -- ---- the parts of the reader
 

@@ -2,7 +2,7 @@
 use cells::Cell;
 use parts::Answers;
 use parts::Columns;
-use rows::Checked;
+use refusals::Verdict;
 use rows::Reader;
 use states::State;
 ghost use mathlib.Core.Path.{_≡_};
@@ -28,7 +28,7 @@ pub struct Routine {
 
 // What a text is read as. Beside a refusal the routine is blank.
 pub struct Reading {
-    pub checked: Checked,
+    pub verdict: Verdict,
     pub routine: Routine,
 }
 
@@ -136,19 +136,19 @@ fn routine_of(text: &[u8]) -> Routine
 pub fn read(reader: Reader, text: &[u8]) -> Reading
     ensures { λ r. ⌜ Represents r (readBy reader (now (text .entry))) ⌝ }
 {
-    let checked = rows::check(reader, text);
-    match checked {
-        Checked::Passes => {
+    let verdict = rows::check(reader, text);
+    match verdict {
+        Verdict::Accepted => {
             let routine = routine_of(text);
             Reading {
-                checked: Checked::Passes,
+                verdict: Verdict::Accepted,
                 routine: routine,
             }
         }
-        Checked::Refused(r) => {
+        Verdict::Refused(r) => {
             let routine = blank();
             Reading {
-                checked: Checked::Refused(r),
+                verdict: Verdict::Refused(r),
                 routine: routine,
             }
         }

@@ -1,11 +1,11 @@
 // Prints what the reader says of the texts in a list of cases.
 use refusals::Refusal;
-use rows::Checked;
+use refusals::Verdict;
 use rows::Reader;
 
 // Prints whether a text passes.
-fn show(checked: Checked) {
-    let Checked::Refused(refusal) = checked else {
+fn show(verdict: Verdict) {
+    let Verdict::Refused(refusal) = verdict else {
         io::write_all(1, b" PASSES");
         return;
     };
@@ -24,10 +24,10 @@ fn show_refusal(refusal: Refusal) {
 fn tell(name: &[u8], text: &[u8]) {
     io::write_all(1, name);
     let bound = reader::read(Reader::Bound, text);
-    let said = bound.checked;
+    let said = bound.verdict;
     show(said);
     let run = reader::read(Reader::Run, text);
-    let said_by_run = run.checked;
+    let said_by_run = run.verdict;
     show(said_by_run);
     io::write_all(1, b"\n");
 }

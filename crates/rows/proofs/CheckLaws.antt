@@ -15,8 +15,7 @@ use Rattle.routine.specs.Rows.{refusedLine, Passes}
 use Rattle.routine.specs.Routine.{Check, check, boundChecks, runChecks, checked, orElse, limited, readRun}
 use Rattle.routine.proofs.RowLaws.{Unrefused, passes-read, bound-order, run-order, too-long}
 use Rattle.rows.specs.Checks.{readBy, checkOf, knownChecks, Due}
-use Rattle.rows.specs.declared.Checked.the-variants.{Refused}
-use Rattle.rows.specs.declared.Checked.the-variants as checks
+use Rattle.refusals.specs.declared.Verdict.the-variants.{Accepted, Refused}
 use Rattle.rows.specs.declared.Reader.{Reader}
 use Rattle.rows.specs.declared.Reader.the-variants.{Bound, Run}
 
@@ -75,7 +74,7 @@ module _ (text : List ℕ) (r : Reader) (h : length text ≤ 32768) (n : ℕ) wh
 
 -- rows 2 to 6 refuse no line: all that the bound asks, and row 11 decides for the run
 
-pub check-bound : (text : List ℕ) (r : Reader) → r ≡ Bound → length text ≤ 32768 → Passes (lines text) → checks.Passes ≡ checkOf (readBy r text)
+pub check-bound : (text : List ℕ) (r : Reader) → r ≡ Bound → length text ≤ 32768 → Passes (lines text) → Accepted ≡ checkOf (readBy r text)
 unfolding readBy checkOf
 check-bound text r e h p = rw (e, passes-read text p h) refl
 
@@ -89,6 +88,6 @@ pub known-fails : (ls : List Line) (n : ℕ) → refusedLine known-row ls ≡ li
 unfolding checkOf checked orElse
 known-fails ls n e = rw e refl
 
-pub known-passes : (ls : List Line) → refusedLine known-row ls ≡ nowhere → checks.Passes ≡ checkOf (checked knownChecks ls)
+pub known-passes : (ls : List Line) → refusedLine known-row ls ≡ nowhere → Accepted ≡ checkOf (checked knownChecks ls)
 unfolding checkOf checked orElse
 known-passes ls e = rw e refl

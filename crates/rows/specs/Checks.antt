@@ -9,8 +9,8 @@ use Rattle.routine.specs.declared.Row.the-variants.{Range as range-row, Name as
 use Rattle.routine.specs.declared.RefusedLine.the-variants.{Nowhere as nowhere}
 use Rattle.routine.specs.Rows.{refusedLine}
 use Rattle.routine.specs.Routine.{Reading, refused, routine, Check, check, readBound, readRun}
-use Rattle.rows.specs.declared.Checked.{Checked}
-use Rattle.rows.specs.declared.Checked.the-variants.{Passes, Refused}
+use Rattle.refusals.specs.declared.Verdict.{Verdict}
+use Rattle.refusals.specs.declared.Verdict.the-variants.{Accepted, Refused}
 use Rattle.rows.specs.declared.Reader.{Reader}
 use Rattle.rows.specs.declared.Reader.the-variants.{Bound, Run}
 
@@ -20,9 +20,9 @@ readBy Bound text = readBound text
 readBy Run text = readRun text
 
 -- the refusal of a reading, if it is refused
-unfoldable pub checkOf : Reading → Checked
+unfoldable pub checkOf : Reading → Verdict
 checkOf (refused r) = Refused r
-checkOf (routine x) = Passes
+checkOf (routine x) = Accepted
 
 -- row 11 alone
 abbrev pub knownChecks : List Check

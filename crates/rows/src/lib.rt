@@ -1,6 +1,7 @@
 // The rows of the refusal table over the lines of a text. The meaning is in specs/.
 use lines::WordTest;
 use refusals::Refusal;
+use refusals::Verdict;
 use routine::Column;
 use routine::RefusedLine;
 use routine::Role;
@@ -24,12 +25,6 @@ ghost use Rattle.rows.specs.Checks.{readBy, checkOf, knownChecks, Due};
 pub enum Reader {
     Bound,
     Run,
-}
-
-// What a check says: a text passes, or is refused.
-pub enum Checked {
-    Passes,
-    Refused(Refusal),
 }
 
 // The role of line i of the layout, counted from 0.
@@ -340,46 +335,46 @@ fn refused_line(row: Row, text: &[u8]) -> RefusedLine
 }
 
 // Row 11.
-fn check_known(text: &[u8]) -> Checked
+fn check_known(text: &[u8]) -> Verdict
     requires { ⌜ length (now text) ≤ 32768 ⌝ }
     ensures { λ r. ⌜ r ≡ checkOf (checked knownChecks (lines (now (text .entry)))) ⌝ }
 {
     let known = refused_line(Row::Known, text);
     if let RefusedLine::Line(n) = known {
-        return Checked::Refused(Refusal::UnknownCell(n));
+        return Verdict::Refused(Refusal::UnknownCell(n));
     }
-    Checked::Passes
+    Verdict::Accepted
 }
 
 // The refusal of a text by the rows in their order, each over the whole text, as the bound or the run reads it.
-pub fn check(reader: Reader, text: &[u8]) -> Checked
+pub fn check(reader: Reader, text: &[u8]) -> Verdict
     ensures { λ r. ⌜ r ≡ checkOf (readBy reader (now (text .entry))) ⌝ }
 {
     if 32768 < text.len() {
-        return Checked::Refused(Refusal::TextLength);
+        return Verdict::Refused(Refusal::TextLength);
     }
     let layout = refused_line(Row::Layout, text);
     if let RefusedLine::Line(n) = layout {
-        return Checked::Refused(Refusal::Layout(n));
+        return Verdict::Refused(Refusal::Layout(n));
     }
     let range = refused_line(Row::Range, text);
     if let RefusedLine::Line(n) = range {
-        return Checked::Refused(Refusal::OutOfRange(n));
+        return Verdict::Refused(Refusal::OutOfRange(n));
     }
     let name = refused_line(Row::Name, text);
     if let RefusedLine::Line(n) = name {
-        return Checked::Refused(Refusal::BadName(n));
+        return Verdict::Refused(Refusal::BadName(n));
     }
     let price = refused_line(Row::Price, text);
     if let RefusedLine::Line(n) = price {
-        return Checked::Refused(Refusal::Unpriced(n));
+        return Verdict::Refused(Refusal::Unpriced(n));
     }
     let target = refused_line(Row::Target, text);
     if let RefusedLine::Line(n) = target {
-        return Checked::Refused(Refusal::NoTarget(n));
+        return Verdict::Refused(Refusal::NoTarget(n));
     }
     match reader {
-        Reader::Bound => Checked::Passes,
+        Reader::Bound => Verdict::Accepted,
         Reader::Run => check_known(text),
     }
 }

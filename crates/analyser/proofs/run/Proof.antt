@@ -30,8 +30,8 @@ run-routine-requires c κs =
     let e = reading-routine r _ (c .before .before .before .before .read .ensures) p in
     (reading-limited r (readRun (now (c .before .before .before .before .before .before .before .before .args .text))) (c .before .before .before .before .read .ensures) p, run-printable (now (c .before .before .before .before .before .before .before .before .args .text)) (length (now (c .before .before .before .before .before .before .before .before .args .out))) (c .before .before .before .before .before .if1 .left) _ e)
 
-enum-known-checked : tie.Need-enum-known-checked
-enum-known-checked c = search needs
+enum-known-verdict : tie.Need-enum-known-verdict
+enum-known-verdict c = search needs
 
 same-length : tie.Need-same-length
 same-length c = search needs
@@ -48,7 +48,7 @@ returns-3 : tie.Need-returns-3
 unfolding readBy
 returns-3 c =
     let r = c .before .before .before .read .result in
-    let e = reading-refused r _ (c .before .before .before .read .ensures) _ (c .before .checked .given .1) in
+    let e = reading-refused r _ (c .before .before .before .read .ensures) _ (c .before .verdict .given .1) in
     let g = gives-refusal _ _ (run-refused (now (c .before .before .before .before .before .before .before .args .text)) (length (now (c .before .before .before .before .before .before .before .args .out))) (c .before .before .before .before .if1 .left) _ e) _ in
     run-keeps _ _ _ _ _ g
 
@@ -60,7 +60,7 @@ run-spec =
     read-requires
     enum-told
     run-routine-requires
-    enum-known-checked
+    enum-known-verdict
     same-length
     returns-2
     returns-3)

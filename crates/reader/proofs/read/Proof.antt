@@ -14,8 +14,8 @@ enum-told c = search needs
 routine-of-requires : tie.Need-routine-of-requires
 routine-of-requires c κs = reading-passes (c .before .before .before .before .args .reader) _ (sym (c .before .before .check .ensures) ∙ c .enum-told .given .1)
 
-enum-known-checked : tie.Need-enum-known-checked
-enum-known-checked c = search needs
+enum-known-verdict : tie.Need-enum-known-verdict
+enum-known-verdict c = search needs
 
 blank-requires : tie.Need-blank-requires
 blank-requires c κs = search needs
@@ -24,7 +24,7 @@ returns : tie.Need-returns
 returns c = represents-routine (c .before .before .before .before .before .args .reader) _ _ (c .routine-of .ensures .0) (c .routine-of .ensures .1) (sym (c .before .before .before .check .ensures) ∙ c .before .enum-told .given .1)
 
 returns-2 : tie.Need-returns-2
-returns-2 c = represents-refusal (c .before .before .before .before .before .before .args .reader) _ _ (c .blank .ensures) _ (sym (c .before .before .before .before .check .ensures) ∙ c .before .before .checked .given .1)
+returns-2 c = represents-refusal (c .before .before .before .before .before .before .args .reader) _ _ (c .blank .ensures) _ (sym (c .before .before .before .before .check .ensures) ∙ c .before .before .verdict .given .1)
 
 pub read-spec : {M : Type 1} → statement M
 read-spec =
@@ -33,7 +33,7 @@ read-spec =
     check-requires
     enum-told
     routine-of-requires
-    enum-known-checked
+    enum-known-verdict
     blank-requires
     returns
     returns-2)
