@@ -132,33 +132,33 @@ pub struct Blocks {
 }
 
 // The blocks with one more name; the same blocks where the name is out of sequence.
-fn add_name(b: Blocks, w: &[u8]) -> Blocks
-    requires { ⌜ BlocksOf (take (b .count) (b .sizes)) b ⌝ }
-    ensures { λ r. ⌜ BlocksOf (added 0 (take (b .count) (b .sizes)) (now (w .entry))) r ⌝ }
+fn add_name(blocks: Blocks, name: &[u8]) -> Blocks
+    requires { ⌜ BlocksOf (take (blocks .count) (blocks .sizes)) blocks ⌝ }
+    ensures { λ r. ⌜ BlocksOf (added 0 (take (blocks .count) (blocks .sizes)) (now (name .entry))) r ⌝ }
 {
-    let count = b.count;
-    let mut sizes = b.sizes;
+    let count = blocks.count;
+    let mut sizes = blocks.sizes;
     if 0 < count {
         let last = count - 1;
         let n = sizes[last];
-        if is_field(last, n as usize, w) {
+        if is_field(last, n as usize, name) {
             sizes[last] = n + 1;
             return Blocks {
                 sizes: sizes,
                 count: count,
-                total: b.total + 1,
+                total: blocks.total + 1,
             };
         }
     }
-    if is_field(count, 0, w) {
+    if is_field(count, 0, name) {
         sizes[count] = 1;
         return Blocks {
             sizes: sizes,
             count: count + 1,
-            total: b.total + 1,
+            total: blocks.total + 1,
         };
     }
-    b
+    blocks
 }
 
 // The blocks that the names on line make, up to the first name that is out of sequence.
@@ -166,24 +166,24 @@ pub fn blocks_named(line: &[u8]) -> Blocks
     ensures { λ r. ⌜ BlocksOf (blockSizes (list (now (line .entry)))) r ⌝ }
 {
     let none = [0; 8];
-    let mut b = Blocks {
+    let mut blocks = Blocks {
         sizes: none,
         count: 0,
         total: 0,
     };
     if text::same(line, b"-") {
-        return b;
+        return blocks;
     }
     let mut rest = line;
     let mut e = text::piece_length(rest, b' ');
     while e < rest.len() {
-        let next = add_name(b, &rest[..e]);
-        if next.total == b.total {
-            return b;
+        let next = add_name(blocks, &rest[..e]);
+        if next.total == blocks.total {
+            return blocks;
         }
-        b = next;
+        blocks = next;
         rest = &rest[e + 1..];
         e = text::piece_length(rest, b' ');
     }
-    add_name(b, rest)
+    add_name(blocks, rest)
 }

@@ -265,10 +265,10 @@ pub fn columns_of(
     let mut cycles = [0u32; 1024];
     let mut words = [0u32; 1024];
     let mut rest = body;
-    let mut n = 0;
-    while n < count {
+    let mut place = 0;
+    while place < count {
         let line = text::first_line(rest);
-        let e = entry_of(
+        let entry = entry_of(
             kinds,
             kind_cycles,
             kind_words,
@@ -277,14 +277,14 @@ pub fn columns_of(
             primitive_words,
             line,
         );
-        codes[n] = e.code;
-        let operand = e.operand;
-        operands[n] = operand;
-        cycles[n] = e.cycles;
-        words[n] = e.words;
+        codes[place] = entry.code;
+        let operand = entry.operand;
+        operands[place] = operand;
+        cycles[place] = entry.cycles;
+        words[place] = entry.words;
         let next = text::next_lines(rest);
         rest = next;
-        n += 1;
+        place += 1;
     }
     Columns {
         codes: codes,

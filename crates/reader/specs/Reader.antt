@@ -36,13 +36,13 @@ sizes r = take (r .blocks) (r .sizes)
 abbrev pub answers : Routine → List ℤ
 answers r = take (r .answers .count) (r .answers .values)
 
--- r holds the routine x, part by part
-pub record Holds (x : readings.Routine) (r : Routine) : Type 0 where
-  pub budget : r .budget ≡ x .budget
-  pub tick : r .tick ≡ x .tick
-  pub code : codeOf (r .first) (codes r) (operands r) (cycles r) (words r) ≡ x .code
-  pub start : whole (sizes r) (r .fields) (r .start) ≡ x .start
-  pub answered : answers r ≡ x .answers
+-- the code's routine holds the routine x, part by part
+pub record Holds (x : readings.Routine) (held : Routine) : Type 0 where
+  pub budget : held .budget ≡ x .budget
+  pub tick : held .tick ≡ x .tick
+  pub code : codeOf (held .first) (codes held) (operands held) (cycles held) (words held) ≡ x .code
+  pub start : whole (sizes held) (held .fields) (held .start) ≡ x .start
+  pub answered : answers held ≡ x .answers
 
 -- columns of 1,024 places
 pub record Full (c : Columns) : Type 0 where
@@ -52,18 +52,18 @@ pub record Full (c : Columns) : Type 0 where
   pub words : length (c .words) ≡ 1024
 
 -- and its parts are within their limits
-pub record Limited (r : Routine) : Type 0 where
-  pub budget : r .budget ≤ 1000000
-  pub first : r .first ≤ 60000
-  pub few : r .count ≤ 1024
-  pub full : Full (r .columns)
-  pub sized : Sized (codes r) (operands r) (cycles r) (words r)
-  pub placed : r .start .at ≡ r .first
-  pub formed : WellFormed (r .start)
-  pub present : r .blocks ≤ 8
-  pub fits : Fits (sizes r) (r .fields)
-  pub answered : r .answers .count ≤ 64
-  pub places : length (r .answers .values) ≡ 64
+pub record Limited (held : Routine) : Type 0 where
+  pub budget : held .budget ≤ 1000000
+  pub first : held .first ≤ 60000
+  pub few : held .count ≤ 1024
+  pub full : Full (held .columns)
+  pub sized : Sized (codes held) (operands held) (cycles held) (words held)
+  pub placed : held .start .at ≡ held .first
+  pub formed : WellFormed (held .start)
+  pub present : held .blocks ≤ 8
+  pub fits : Fits (sizes held) (held .fields)
+  pub answered : held .answers .count ≤ 64
+  pub places : length (held .answers .values) ≡ 64
 
 -- the routine beside a refusal
 abbrev pub blank : Routine

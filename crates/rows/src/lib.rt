@@ -283,12 +283,12 @@ fn earliest(
     ensures { λ r. ⌜ r ≡ refusedLine row (lines (now (text .entry))) ⌝ }
 {
     let mut rest = text;
-    let mut i: usize = 0;
+    let mut passed: usize = 0;
     let mut heading: usize = 0;
     while 0 < rest.len() {
         let line = text::first_line(rest);
         let ended = text::line_ends(rest);
-        let role = role_of(i, heading, line);
+        let role = role_of(passed, heading, line);
         if !passes(
             row,
             text,
@@ -301,15 +301,15 @@ fn earliest(
             line,
             ended,
         ) {
-            return RefusedLine::Line((i + 1) as u32);
+            return RefusedLine::Line((passed + 1) as u32);
         }
-        heading = heading_after(i, heading, line);
+        heading = heading_after(passed, heading, line);
         let next = text::next_lines(rest);
         rest = next;
-        i += 1;
+        passed += 1;
     }
-    if misses(i, heading) {
-        RefusedLine::Line((i + 1) as u32)
+    if misses(passed, heading) {
+        RefusedLine::Line((passed + 1) as u32)
     } else {
         RefusedLine::Nowhere
     }

@@ -35,27 +35,27 @@ array-write-sizes c = search needs
 add-t17 : tie.Need-add-t17
 add-t17 c =
     let s = c .before .before .before .before .before .before in
-    let t = own-total (s .args .b) (s .pre) in
+    let t = own-total (s .args .blocks) (s .pre) in
     omega arith
 
 returns : tie.Need-returns
 returns c =
     let s = c .before .before .before .before .before .before in
-    let n : length (s .args .b .sizes) ≡ 8 = search needs in
-    field-added (s .args .b) _ (s .pre) n (c .before .before .before .if1 .taken) (sym (c .before .before .is-field .ensures) ∙ c .before .if2 .taken)
+    let n : length (s .args .blocks .sizes) ≡ 8 = search needs in
+    field-added (s .args .blocks) _ (s .pre) n (c .before .before .before .if1 .taken) (sym (c .before .before .is-field .ensures) ∙ c .before .if2 .taken)
 
 is-field-requires-2 : tie.Need-is-field-requires-2
 is-field-requires-2 c κs = search needs
 
 -- w does not name the next field of the last block
 apart : (c : lts.Joined1 (is-field-reads.Asked, is-field-reads.Learnt) reads.Pre reads.Post)
-    → continues 0 (take (c .before .before .before .args .b .count) (c .before .before .before .args .b .sizes)) (c .before .before .before .args .w .now) ≡ false
+    → continues 0 (take (c .before .before .before .args .blocks .count) (c .before .before .before .args .blocks .sizes)) (c .before .before .before .args .name .now) ≡ false
 apart c =
     let s = c .before .before .before in
-    let n : length (s .args .b .sizes) ≡ 8 = search needs in
+    let n : length (s .args .blocks .sizes) ≡ 8 = search needs in
     ⊎-elim
-    (λ t. continues-last (s .args .b .sizes) (s .args .w .now) (s .args .b .count) (t .0 .taken) (omega (arith, s .pre .few)) ∙ sym (t .1 .ensures) ∙ t .2 .left)
-    (λ t. continues-none (s .args .b .sizes) (s .args .w .now) (s .args .b .count) (t .left))
+    (λ t. continues-last (s .args .blocks .sizes) (s .args .name .now) (s .args .blocks .count) (t .0 .taken) (omega (arith, s .pre .few)) ∙ sym (t .1 .ensures) ∙ t .2 .left)
+    (λ t. continues-none (s .args .blocks .sizes) (s .args .name .now) (s .args .blocks .count) (t .left))
     (c .if1 .came)
 
 array-write-sizes-2 : tie.Need-array-write-sizes-2
@@ -67,20 +67,20 @@ add-t22 c = search needs
 add-t23 : tie.Need-add-t23
 add-t23 c =
     let s = c .before .before .before .before .before .before in
-    let t = own-total (s .args .b) (s .pre) in
+    let t = own-total (s .args .blocks) (s .pre) in
     omega arith
 
 returns-2 : tie.Need-returns-2
 returns-2 c =
     let s = c .before .before .before .before .before .before in
-    let n : length (s .args .b .sizes) ≡ 8 = search needs in
-    block-added (s .args .b) _ (s .pre) n (apart (c .before .before .before)) (sym (c .before .before .is-field2 .ensures) ∙ c .before .if3 .taken)
+    let n : length (s .args .blocks .sizes) ≡ 8 = search needs in
+    block-added (s .args .blocks) _ (s .pre) n (apart (c .before .before .before)) (sym (c .before .before .is-field2 .ensures) ∙ c .before .if3 .taken)
 
 returns-3 : tie.Need-returns-3
 returns-3 c =
     let s = c .before .before .before .before .before in
-    let n : length (s .args .b .sizes) ≡ 8 = search needs in
-    none-added (s .args .b) _ (s .pre) n (apart (c .before .before)) (sym (c .before .is-field2 .ensures) ∙ c .if3 .left)
+    let n : length (s .args .blocks .sizes) ≡ 8 = search needs in
+    none-added (s .args .blocks) _ (s .pre) n (apart (c .before .before)) (sym (c .before .is-field2 .ensures) ∙ c .if3 .left)
 
 pub add-name-spec : {M : Type 1} → statement M
 add-name-spec =

@@ -64,8 +64,8 @@ array-write-words c = search needs
 next-lines-requires : tie.Need-next-lines-requires Inv-loop μ-loop
 next-lines-requires c κs = search needs
 
-add-n : tie.Need-add-n Inv-loop μ-loop
-add-n c = search needs
+add-place : tie.Need-add-place Inv-loop μ-loop
+add-place c = search needs
 
 loop-less : tie.Need-loop-less Inv-loop μ-loop
 loop-less c = search needs
@@ -80,26 +80,26 @@ loop-again c =
     (start .args .primitive-cycles .now) (start .args .primitive-words .now) in
     let r = l .inv .1 in
     let rb = r .codes in let ro = r .operands in let rc = r .cycles in let rs = r .words in
-    let h : l .n < 1024 = omega (arith, start .pre .0) in
-    let k : l .n < length ls = omega (arith, start .pre .1) in
+    let h : l .place < 1024 = omega (arith, start .pre .0) in
+    let k : l .place < length ls = omega (arith, start .pre .1) in
     let x = c .before .before .entry-of .result in
     let o = toZ-ofZ w32 (x .operand) (search needs) in
     let e =
     ap (λ (z : ℤ). lineOf (line (x .code) z (x .cycles) (x .words))) o
-    ∙ c .before .before .entry-of .ensures .0 ∙ ap (instructionIn p) (c .before .before .before .first-line .ensures) ∙ line-is (read p) ls (lines (l .rest .now)) (l .n) (l .inv .2) in (
+    ∙ c .before .before .entry-of .ensures .0 ∙ ap (instructionIn p) (c .before .before .before .first-line .ensures) ∙ line-is (read p) ls (lines (l .rest .now)) (l .place) (l .inv .2) in (
       omega arith,
       record { codes = rw length-set rb; operands = rw length-set ro; cycles = rw length-set rc; words = rw length-set rs },
-      line-next ls (lines (l .rest .now)) _ (l .n) (l .inv .2) (c .next-lines .ensures .0),
-      columns-more (read p) ls (l .codes) (l .operands) (l .cycles) (l .words) (l .n) _ _ _ _ r h k e (l .inv .3),
-      known-more (l .codes) (l .n) _ (omega arith) (c .before .before .entry-of .ensures .1) (l .inv .4),
+      line-next ls (lines (l .rest .now)) _ (l .place) (l .inv .2) (c .next-lines .ensures .0),
+      columns-more (read p) ls (l .codes) (l .operands) (l .cycles) (l .words) (l .place) _ _ _ _ r h k e (l .inv .3),
+      known-more (l .codes) (l .place) _ (omega arith) (c .before .before .entry-of .ensures .1) (l .inv .4),
     )
 
 returns : tie.Need-returns Inv-loop μ-loop
 returns c =
     let l = c .before .loop in
     let start = c .before .before .before .before .before .before .before .before .before in
-    let n : l .n ≡ start .args .count = omega arith in
-    (rw n at (l .inv .3 ∙ take-map _ (l .n) (lines (start .args .body .now))), rw n at (l .inv .4))
+    let n : l .place ≡ start .args .count = omega arith in
+    (rw n at (l .inv .3 ∙ take-map _ (l .place) (lines (start .args .body .now))), rw n at (l .inv .4))
 
 pub columns-of-spec : {M : Type 1} → statement M
 columns-of-spec =
@@ -118,7 +118,7 @@ columns-of-spec =
     mul-words
     array-write-words
     next-lines-requires
-    add-n
+    add-place
     loop-less
     loop-again
     returns)

@@ -11,10 +11,10 @@ use Rattle.rows.proofs.earliest.Statement.{statement}
 use Rattle.rows.proofs.earliest.Tie as tie
 
 abbrev Inv-loop : tie.InvT-loop
-Inv-loop row text kinds primitives blocks first count rest₀ i₀ heading₀ rest i heading = Scanned row text rest i heading
+Inv-loop row text kinds primitives blocks first count rest₀ passed₀ heading₀ rest passed heading = Scanned row text rest passed heading
 
 abbrev μ-loop : tie.MeasureT-loop
-μ-loop row text kinds primitives blocks first count rest₀ i₀ heading₀ rest i heading = length rest
+μ-loop row text kinds primitives blocks first count rest₀ passed₀ heading₀ rest passed heading = length rest
 
 loop-holds : tie.Need-loop-holds Inv-loop μ-loop
 loop-holds c = scanned-start _ _
@@ -29,7 +29,7 @@ role-of-requires : tie.Need-role-of-requires Inv-loop μ-loop
 role-of-requires c κs = c .before .before .before .loop .inv .heading
 
 passes-requires : tie.Need-passes-requires Inv-loop μ-loop
-passes-requires c κs = let s = c .before .before .before .before .before .before .before .before in let v = c .before .before .before .before .loop .inv in let z : c .before .before .before .before .loop .i ≤ 32768 = (let q = v .size in let r = s .pre .0 in omega arith) in (s .pre .1, subst Small (sym (c .role-of .ensures)) (role-small _ _ _ z))
+passes-requires c κs = let s = c .before .before .before .before .before .before .before .before in let v = c .before .before .before .before .loop .inv in let z : c .before .before .before .before .loop .passed ≤ 32768 = (let q = v .size in let r = s .pre .0 in omega arith) in (s .pre .1, subst Small (sym (c .role-of .ensures)) (role-small _ _ _ z))
 
 add-t18 : tie.Need-add-t18 Inv-loop μ-loop
 add-t18 c = let v = c .before .before .before .before .before .before .loop .inv .size in let r = c .before .before .before .before .before .before .before .before .before .before .pre .0 in omega arith
@@ -46,8 +46,8 @@ heading-after-requires c κs = search needs
 next-lines-requires : tie.Need-next-lines-requires Inv-loop μ-loop
 next-lines-requires c κs = search needs
 
-add-i : tie.Need-add-i Inv-loop μ-loop
-add-i c = let v = c .before .before .before .before .before .before .before .before .loop .inv .size in let r = c .before .before .before .before .before .before .before .before .before .before .before .before .pre .0 in omega arith
+add-passed : tie.Need-add-passed Inv-loop μ-loop
+add-passed c = let v = c .before .before .before .before .before .before .before .before .loop .inv .size in let r = c .before .before .before .before .before .before .before .before .before .before .before .before .pre .0 in omega arith
 
 loop-less : tie.Need-loop-less Inv-loop μ-loop
 loop-less c = let k = c .next-lines .ensures .1 in let h = c .before .before .before .before .before .before .before .loop-test .taken in omega arith
@@ -86,7 +86,7 @@ earliest-spec =
     returns
     heading-after-requires
     next-lines-requires
-    add-i
+    add-passed
     loop-less
     loop-again
     misses-requires
