@@ -2,7 +2,6 @@
 use Prim.Native.Nat.{ℕ, _+_, _*_, _%_, _≤_, _<_}
 use mathlib.Core.Path.{_≡_, refl, sym, ap, ap₂, _∙_, subst}
 use mathlib.Core.List.{List, [], _∷_, _++_}
-use mathlib.Core.Option.{Option, some}
 use native.Mathlib.Omega.{arith}
 use native.Mathlib.Nat.{mod-eq-of-lt}
 use lib.ListN.{length, getD, drop, length-append}
@@ -12,19 +11,13 @@ use Rattle.refusals.specs.declared.Refusal.{Refusal}
 use Rattle.refusals.specs.declared.Refusal.the-variants.{ReportMemory}
 use Rattle.refusals.specs.declared.Refusal.the-variants as refusals
 use Rattle.refusals.specs.Refusals.{number, place}
-use Rattle.cells.specs.Cells.{unknown}
-use Rattle.machine.specs.Machine.{jump, reblock, step}
-use Rattle.states.specs.View.{whole}
-use Rattle.bounds.specs.Tree.{Report, accepted, refused, bound, explore}
+use Rattle.bounds.specs.Tree.{Report, accepted, refused, bound}
 use Rattle.bounds.specs.Tree as bounds
 use Rattle.findings.specs.declared.Found.{Found}
-use Rattle.findings.specs.declared.Verdict.the-variants.{Accepted}
-use Rattle.findings.specs.Found.{Shows, acceptedAs, refusalOf}
+use Rattle.findings.specs.Found.{Shows, acceptedAs}
 use Rattle.runs.specs.declared.Ran.{Ran}
-use Rattle.runs.specs.declared.Verdict.the-variants.{Stopped, Stuck, Spent}
-use Rattle.runs.specs.Contract.{judged, verdictOf}
-use Rattle.explore.specs.Contract.{Ready, Explores}
-use Rattle.explore.specs.Contract as contract
+use Rattle.runs.specs.Contract.{Runnable, judged, verdictOf}
+use Rattle.explore.specs.Contract.{Explorable, Explores, Bounded}
 use Rattle.routine.specs.Routine.{readBound, readRun}
 use Rattle.routine.specs.Routine as readings
 use Rattle.routine.proofs.RowLaws.{read-passes, run-passes}
@@ -45,75 +38,59 @@ use Rattle.analyser.specs.Functions.{answerOf, routineIn, Printable, Sha
 use Rattle.analyser.specs.Promises.{SafeReport, ExactReport, WithinReport, RunAccepted}
 use Rattle.analyser.proofs.AnswerLaws.{reports-kept, reports-fit, runs-kept, bound-reports-some, run-reports-some, places-small}
 
+-- ---- a verdict is of one case
+
+passes-not : {A : Type 0} (x : Refusal) → Accepted ≡ verdicts.Refused x → A
+passes-not x e = let z : _≡_ {A = ℕ} 0 1 = cc in absurd (omega arith)
+
+same-refused : (x y : Refusal) → verdicts.Refused x ≡ verdicts.Refused y → x ≡ y
+same-refused x y e = cc
+
+-- ---- the routine that the arrays hold
+
 module _ (x : Routine) (l : Limited x) where
-  -- a routine starts at its first address
-  at-start : jump (x .first) (whole (sizes x) (x .fields) (x .start)) ≡ whole (sizes x) (x .fields) (x .start)
-  unfolding jump whole reblock
-  at-start = ap (λ a. jump a (whole (sizes x) (x .fields) (x .start))) (sym (l .placed))
+  addresses-fit : x .first + length (codes x) ≤ 65536
+  addresses-fit = let n = l .sized .few in let f = l .first in omega arith
 
-  pub ready : Ready (codes x) (sizes x) (x .first) (x .fields) (x .start) (x .first) 32 (x .budget)
-  ready = record {
-    addresses = let n = l .sized .few in let f = l .first in omega arith;
-    place-fits = let f = l .first in omega arith;
-    free = l .free;
-    budget-fits = l .budget;
-    openings-fit = omega arith;
-    fits = l .fits;
-  }
+  pub explorable : Explorable (codes x) (sizes x) (x .first) (x .fields) (x .start) 32 (x .budget)
+  explorable = record { addresses = addresses-fit; formed = l .formed; budget-fits = l .budget; openings-fit = omega arith; fits = l .fits }
 
-  pub explored-shows : (r : Found) → Explores (routineIn x .code) (sizes x) (x .fields) (x .start) (x .first) 32 (x .budget) r
+  pub runnable : Runnable (codes x) (sizes x) (x .first) (x .start) (x .fields) (x .budget)
+  runnable = record { addresses = addresses-fit; formed = l .formed; fits = l .fits; steps = l .budget }
+
+  pub explored-shows : (r : Found) → Explores (routineIn x .code) (sizes x) (x .fields) (x .start) 32 (x .budget) r
       → Shows r (bound (routineIn x .code) (routineIn x .budget) (routineIn x .start))
   unfolding bound
-  explored-shows r e = subst (λ s. Shows r (explore (step (routineIn x .code) unknown) 32 (x .budget) s)) at-start (e .shows)
+  explored-shows r e = e .shows
 
-  pub explored-shareable : (r : Found) → contract.Modest 32 (x .budget) r → Shareable r
+  pub explored-shareable : (r : Found) → Bounded 32 (x .budget) r → Shareable r
   explored-shareable r m = record { cycles = let a = m .cycles in let b = m .used in let d = l .budget in omega arith }
 
 -- ---- what the explorer's answer gives
 
-none-not : {A : Type 0} (x : Refusal) → Option.none ≡ some x → A
-none-not x e = let z : _≡_ {A = ℕ} 0 1 = cc in absurd (omega arith)
-
-same-some : (x y : Refusal) → some x ≡ some y → x ≡ y
-same-some x y e = cc
-
 module _ (text : Report → List ℕ) (r : Found) where
-  found-accepted : (v : bounds.Verdict) → Shows r v → refusalOf (r .verdict) ≡ Option.none → (q : Report) × (v ≡ accepted q) × (r ≡ acceptedAs q)
-  found-accepted (accepted q) s e = (q, refl, s)
-  found-accepted (refused x) s e = none-not x (sym e ∙ s)
-
   pub found-reported : (v : bounds.Verdict) → Shows r v → r .verdict ≡ Accepted
       → ofVerdict text v ≡ reported (text (reportOf (r .cycles) (r .words) (r .depth) (r .used) (r .path)))
-  unfolding ofVerdict refusalOf acceptedAs
-  found-reported v s e =
-      let (q, a, b) = found-accepted v s (ap refusalOf e) in
-      let p : reportOf (r .cycles) (r .words) (r .depth) (r .used) (r .path) ≡ q = ap (λ f. reportOf (f .cycles) (f .words) (f .depth) (f .used) (f .path)) b ∙ report-of q in
-      ap (ofVerdict text) a ∙ ap (λ z. reported (text z)) (sym p)
+  unfolding ofVerdict acceptedAs
+  found-reported (accepted q) s e = ap (λ z. reported (text z)) (sym (ap (λ f. reportOf (f .cycles) (f .words) (f .depth) (f .used) (f .path)) s ∙ report-of q))
+  found-reported (refused x) s e = passes-not x (sym e ∙ s)
 
-  accepted-refusal : (q : Report) → r ≡ acceptedAs q → refusalOf (r .verdict) ≡ Option.none
-  unfolding acceptedAs refusalOf
-  accepted-refusal q e = ap (λ f. refusalOf (f .verdict)) e
-
-  pub found-refused : (v : bounds.Verdict) → Shows r v → (x : Refusal) → refusalOf (r .verdict) ≡ some x → ofVerdict text v ≡ answers.refused x
-  unfolding ofVerdict
-  found-refused (accepted q) s x e = none-not x (sym (accepted-refusal q s) ∙ e)
-  found-refused (refused y) s x e = ap answers.refused (same-some y x (sym s ∙ e))
+  pub found-refused : (v : bounds.Verdict) → Shows r v → (x : Refusal) → r .verdict ≡ verdicts.Refused x → ofVerdict text v ≡ answers.refused x
+  unfolding ofVerdict acceptedAs
+  found-refused (accepted q) s x e = passes-not x (sym (ap (λ f. f .verdict) s) ∙ e)
+  found-refused (refused y) s x e = ap answers.refused (same-refused y x (sym s ∙ e))
 
 -- ---- what the run's answer gives
 
 module _ (text : Report → List ℕ) (r : Ran) (v : bounds.Verdict) (e : verdictOf r ≡ v) where
-  pub ran-reported : r .verdict ≡ Stopped → ofVerdict text v ≡ reported (text (reportOf (r .cycles) (r .words) (r .depth) (r .steps) 1))
+  pub ran-reported : r .verdict ≡ Accepted → ofVerdict text v ≡ reported (text (reportOf (r .cycles) (r .words) (r .depth) (r .steps) 1))
   unfolding verdictOf judged ofVerdict
   ran-reported s =
       ap (ofVerdict text) (sym e) ∙ ap (λ d. ofVerdict text (judged d r)) s ∙ ap (λ z. reported (text z)) (sym (report-of-run (r .cycles) (r .words) (r .depth) (r .steps)))
 
-  pub ran-stuck : (a : ℕ) → r .verdict ≡ Stuck a → ofVerdict text v ≡ answers.refused (refusals.Stuck a)
+  pub ran-refused : (x : Refusal) → r .verdict ≡ verdicts.Refused x → ofVerdict text v ≡ answers.refused x
   unfolding verdictOf judged ofVerdict
-  ran-stuck a s = ap (ofVerdict text) (sym e) ∙ ap (λ d. ofVerdict text (judged d r)) s
-
-  pub ran-spent : (a : ℕ) → r .verdict ≡ Spent a → ofVerdict text v ≡ answers.refused (refusals.Spent a)
-  unfolding verdictOf judged ofVerdict
-  ran-spent a s = ap (ofVerdict text) (sym e) ∙ ap (λ d. ofVerdict text (judged d r)) s
+  ran-refused x s = ap (ofVerdict text) (sym e) ∙ ap (λ d. ofVerdict text (judged d r)) s
 
 -- ---- the answer and the memory
 
@@ -128,19 +105,13 @@ gives-refusal a x e former = (rw e refl, rw e refl)
 
 -- ---- a text
 
-passes-not : {A : Type 0} (x : Refusal) → Accepted ≡ verdicts.Refused x → A
-passes-not x e = let z : _≡_ {A = ℕ} 0 1 = cc in absurd (omega arith)
-
-same-checked : (x y : Refusal) → verdicts.Refused x ≡ verdicts.Refused y → x ≡ y
-same-checked x y e = cc
-
 -- the routine that is held is the routine
 holds-is : (x : readings.Routine) (r : Routine) → Holds x r → routineIn r ≡ x
 holds-is x r h = λ i. record { budget = h .budget i; tick = h .tick i; code = h .code i; start = h .start i; answers = h .answered i }
 
 module _ (r : Reading) where
   pub reading-refused : (m : readings.Reading) → reader.Represents r m → (x : Refusal) → r .verdict ≡ verdicts.Refused x → m ≡ readings.refused x
-  reading-refused (readings.refused y) s x e = ap readings.refused (same-checked y x (sym (s .0) ∙ e))
+  reading-refused (readings.refused y) s x e = ap readings.refused (same-refused y x (sym (s .0) ∙ e))
   reading-refused (readings.routine y) s x e = passes-not x (sym (s .0) ∙ e)
 
   pub reading-limited : (m : readings.Reading) → reader.Represents r m → r .verdict ≡ Accepted → Limited (r .routine)

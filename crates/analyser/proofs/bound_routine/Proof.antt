@@ -1,7 +1,5 @@
 -- `analyser::bound_routine` meets its contract. Assumes nothing.
-use mathlib.Core.Path.{ap}
 use Rattle.analyser.specs.Answers.{boundRoutine}
-use Rattle.findings.specs.Found.{refusalOf}
 use Rattle.report.specs.Report.{boundText}
 use Rattle.analyser.proofs.FunctionLaws.{found-reported, found-refused, gives-report, gives-refusal}
 use borrow.Author.Needs.{needs}
@@ -21,12 +19,6 @@ put-bound-requires c κs = let p = c .before .before .before .before .before .pr
 enum-known-verdict : tie.Need-enum-known-verdict
 enum-known-verdict c = search needs
 
-enum-known-verdict-2 : tie.Need-enum-known-verdict-2
-enum-known-verdict-2 c = search needs
-
-enum-known-verdict-3 : tie.Need-enum-known-verdict-3
-enum-known-verdict-3 c = search needs
-
 same-length : tie.Need-same-length
 same-length c = search needs
 
@@ -35,16 +27,8 @@ unfolding boundRoutine
 returns c = gives-report _ _ (found-reported (boundText (c .before .before .before .before .before .before .before .before .args .x .tick)) _ _ (c .before .before .before .before .before .before .explored .ensures .0) (c .before .before .before .before .enum-told .given .1)) _ (c .before .before .put-bound .ensures .0) _ _ (c .before .before .put-bound .ensures .1)
 
 returns-2 : tie.Need-returns-2
-unfolding boundRoutine refusalOf
-returns-2 c = gives-refusal _ _ (found-refused (boundText (c .before .before .before .before .before .args .x .tick)) _ _ (c .before .before .before .explored .ensures .0) _ (ap refusalOf (c .before .verdict .given .1))) _
-
-returns-3 : tie.Need-returns-3
-unfolding boundRoutine refusalOf
-returns-3 c = gives-refusal _ _ (found-refused (boundText (c .before .before .before .before .before .args .x .tick)) _ _ (c .before .before .before .explored .ensures .0) _ (ap refusalOf (c .before .verdict2 .given .1))) _
-
-returns-4 : tie.Need-returns-4
-unfolding boundRoutine refusalOf
-returns-4 c = gives-refusal _ _ (found-refused (boundText (c .before .before .before .before .before .args .x .tick)) _ _ (c .before .before .before .explored .ensures .0) _ (ap refusalOf (c .before .verdict3 .given .1))) _
+unfolding boundRoutine
+returns-2 c = gives-refusal _ _ (found-refused (boundText (c .before .before .before .before .before .args .x .tick)) _ _ (c .before .before .before .explored .ensures .0) _ (c .before .verdict .given .1)) _
 
 pub bound-routine-spec : {M : Type 1} → statement M
 bound-routine-spec =
@@ -54,10 +38,6 @@ bound-routine-spec =
     enum-told
     put-bound-requires
     enum-known-verdict
-    enum-known-verdict-2
-    enum-known-verdict-3
     same-length
     returns
-    returns-2
-    returns-3
-    returns-4)
+    returns-2)

@@ -1,7 +1,7 @@
 -- `analyser::run_routine` meets its contract. Assumes nothing.
 use Rattle.analyser.specs.Answers.{runRoutine}
 use Rattle.report.specs.Report.{runText}
-use Rattle.analyser.proofs.FunctionLaws.{ran-reported, ran-stuck, ran-spent, gives-report, gives-refusal}
+use Rattle.analyser.proofs.FunctionLaws.{ran-reported, ran-refused, gives-report, gives-refusal}
 use borrow.Author.Needs.{needs}
 use Rattle.analyser.proofs.run_routine.Statement.{statement}
 use Rattle.analyser.proofs.run_routine.Tie as tie
@@ -19,9 +19,6 @@ put-run-requires c κs = c .before .before .before .before .before .pre .1 .fits
 enum-known-verdict : tie.Need-enum-known-verdict
 enum-known-verdict c = search needs
 
-enum-known-verdict-2 : tie.Need-enum-known-verdict-2
-enum-known-verdict-2 c = search needs
-
 same-length : tie.Need-same-length
 same-length c = search needs
 
@@ -31,11 +28,7 @@ returns c = gives-report _ _ (ran-reported runText _ _ (c .before .before .befor
 
 returns-2 : tie.Need-returns-2
 unfolding runRoutine
-returns-2 c = gives-refusal _ _ (ran-stuck runText _ _ (c .before .before .before .ran .ensures) _ (c .before .verdict .given .1)) _
-
-returns-3 : tie.Need-returns-3
-unfolding runRoutine
-returns-3 c = gives-refusal _ _ (ran-spent runText _ _ (c .before .before .before .ran .ensures) _ (c .before .verdict2 .given .1)) _
+returns-2 c = gives-refusal _ _ (ran-refused runText _ _ (c .before .before .before .ran .ensures) _ (c .before .verdict .given .1)) _
 
 pub run-routine-spec : {M : Type 1} → statement M
 run-routine-spec =
@@ -45,8 +38,6 @@ run-routine-spec =
     enum-told
     put-run-requires
     enum-known-verdict
-    enum-known-verdict-2
     same-length
     returns
-    returns-2
-    returns-3)
+    returns-2)
