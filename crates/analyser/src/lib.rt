@@ -24,76 +24,76 @@ pub enum Answer {
 }
 
 // The routine's bound.
-fn explored(x: Routine) -> Found
-    requires { ⌜ Limited x ⌝ }
-    ensures { λ r. ⌜ Shows r (bound (routineIn x .code) (routineIn x .budget) (routineIn x .start)) ⌝ }
+fn explored(routine: Routine) -> Found
+    requires { ⌜ Limited routine ⌝ }
+    ensures { λ r. ⌜ Shows r (bound (routineIn routine .code) (routineIn routine .budget) (routineIn routine .start)) ⌝ }
     ensures { λ r. ⌜ Shareable r ⌝ }
 {
-    let columns = x.columns;
+    let columns = routine.columns;
     let codes = columns.codes;
     let operands = columns.operands;
     let cycles = columns.cycles;
     let words = columns.words;
-    let sizes = x.sizes;
-    let fields = x.fields;
-    let start = x.start;
-    let count = x.count;
-    let blocks = x.blocks;
+    let sizes = routine.sizes;
+    let fields = routine.fields;
+    let start = routine.start;
+    let count = routine.count;
+    let blocks = routine.blocks;
     explore::explore(
         &codes[..count],
         &operands[..count],
         &cycles[..count],
         &words[..count],
         &sizes[..blocks],
-        x.first,
+        routine.first,
         start,
         fields,
         32,
-        x.budget,
+        routine.budget,
     )
 }
 
 // The routine's run.
-fn ran(x: Routine) -> Ran
-    requires { ⌜ Limited x ⌝ }
-    ensures { λ r. ⌜ verdictOf r ≡ run (routineIn x .code) (routineIn x .budget) (routineIn x .start) (routineIn x .answers) ⌝ }
+fn ran(routine: Routine) -> Ran
+    requires { ⌜ Limited routine ⌝ }
+    ensures { λ r. ⌜ verdictOf r ≡ run (routineIn routine .code) (routineIn routine .budget) (routineIn routine .start) (routineIn routine .answers) ⌝ }
 {
-    let columns = x.columns;
+    let columns = routine.columns;
     let codes = columns.codes;
     let operands = columns.operands;
     let cycles = columns.cycles;
     let words = columns.words;
-    let sizes = x.sizes;
-    let fields = x.fields;
-    let start = x.start;
-    let answers = x.answers;
+    let sizes = routine.sizes;
+    let fields = routine.fields;
+    let start = routine.start;
+    let answers = routine.answers;
     let values = answers.values;
     let given = answers.count;
-    let count = x.count;
-    let blocks = x.blocks;
+    let count = routine.count;
+    let blocks = routine.blocks;
     runs::run(
         &codes[..count],
         &operands[..count],
         &cycles[..count],
         &words[..count],
         &sizes[..blocks],
-        x.first,
+        routine.first,
         start,
         fields,
         &values[..given],
-        x.budget,
+        routine.budget,
     )
 }
 
 // The answer of the bound to a routine.
-fn bound_routine(x: Routine, out: &mut [u8]) -> Answer
-    requires { ⌜ Limited x ⌝ }
-    requires { ⌜ Printable (boundRoutine (routineIn x)) (x .tick) (length (now out)) ⌝ }
-    ensures { λ r. ⌜ r ≡ answerOf (boundRoutine (routineIn x)) ⌝ }
-    ensures { λ _. ⌜ now (out .exit) ≡ memory (boundRoutine (routineIn x)) (now (out .entry)) ⌝ }
+fn bound_routine(routine: Routine, out: &mut [u8]) -> Answer
+    requires { ⌜ Limited routine ⌝ }
+    requires { ⌜ Printable (boundRoutine (routineIn routine)) (routine .tick) (length (now out)) ⌝ }
+    ensures { λ r. ⌜ r ≡ answerOf (boundRoutine (routineIn routine)) ⌝ }
+    ensures { λ _. ⌜ now (out .exit) ≡ memory (boundRoutine (routineIn routine)) (now (out .entry)) ⌝ }
 {
-    let tick = x.tick;
-    let found = explored(x);
+    let tick = routine.tick;
+    let found = explored(routine);
     let steps = found.used as u64;
     let verdict = found.verdict;
     match verdict {
@@ -109,18 +109,18 @@ fn bound_routine(x: Routine, out: &mut [u8]) -> Answer
             );
             Answer::Reported(n)
         }
-        Verdict::Refused(x) => Answer::Refused(x),
+        Verdict::Refused(refusal) => Answer::Refused(refusal),
     }
 }
 
 // The answer of the run to a routine.
-fn run_routine(x: Routine, out: &mut [u8]) -> Answer
-    requires { ⌜ Limited x ⌝ }
-    requires { ⌜ Printable (runRoutine (routineIn x)) (x .tick) (length (now out)) ⌝ }
-    ensures { λ r. ⌜ r ≡ answerOf (runRoutine (routineIn x)) ⌝ }
-    ensures { λ _. ⌜ now (out .exit) ≡ memory (runRoutine (routineIn x)) (now (out .entry)) ⌝ }
+fn run_routine(routine: Routine, out: &mut [u8]) -> Answer
+    requires { ⌜ Limited routine ⌝ }
+    requires { ⌜ Printable (runRoutine (routineIn routine)) (routine .tick) (length (now out)) ⌝ }
+    ensures { λ r. ⌜ r ≡ answerOf (runRoutine (routineIn routine)) ⌝ }
+    ensures { λ _. ⌜ now (out .exit) ≡ memory (runRoutine (routineIn routine)) (now (out .entry)) ⌝ }
 {
-    let ran = ran(x);
+    let ran = ran(routine);
     let steps = ran.steps as u64;
     let depth = ran.depth as u64;
     let verdict = ran.verdict;
@@ -129,7 +129,7 @@ fn run_routine(x: Routine, out: &mut [u8]) -> Answer
             let n = report::put_run(out, ran.cycles, ran.words, depth, steps);
             Answer::Reported(n)
         }
-        Verdict::Refused(x) => Answer::Refused(x),
+        Verdict::Refused(refusal) => Answer::Refused(refusal),
     }
 }
 
@@ -148,10 +148,10 @@ pub fn bound(text: &[u8], out: &mut [u8]) -> Answer
     let verdict = reading.verdict;
     match verdict {
         Verdict::Accepted => {
-            let x = reading.routine;
-            bound_routine(x, out)
+            let routine = reading.routine;
+            bound_routine(routine, out)
         }
-        Verdict::Refused(r) => Answer::Refused(r),
+        Verdict::Refused(refusal) => Answer::Refused(refusal),
     }
 }
 
@@ -169,10 +169,10 @@ pub fn run(text: &[u8], out: &mut [u8]) -> Answer
     let verdict = reading.verdict;
     match verdict {
         Verdict::Accepted => {
-            let x = reading.routine;
-            run_routine(x, out)
+            let routine = reading.routine;
+            run_routine(routine, out)
         }
-        Verdict::Refused(r) => Answer::Refused(r),
+        Verdict::Refused(refusal) => Answer::Refused(refusal),
     }
 }
 

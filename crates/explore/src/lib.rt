@@ -34,7 +34,7 @@ pub fn explore(
     ensures exact { λ r. ⌜ ExactFor (codeOf first (now (codes .entry)) (now (operands .entry)) (now (cycles .entry)) (now (words .entry))) openings (whole (now (sizes .entry)) blocks start) r ⌝ }
     ensures { λ r. ⌜ Bounded openings budget r ⌝ }
 {
-    let mut s = start;
+    let mut state = start;
     let mut left = budget;
     let mut tally = Tally {
         cycles: 0,
@@ -44,104 +44,116 @@ pub fn explore(
     while 0 < left {
         let used = budget - left + 1;
         left = left - 1;
-        let at = s.at;
+        let at = state.at;
         let fetched = states::code::fetch(codes, operands, cycles, words, first, at);
         let Fetched::Is(line) = fetched else {
             return findings::refused(Refusal::Stuck(at), used);
         };
-        tally = findings::more(tally, line.cycles, line.words, 64 - s.free);
-        s = s.advance();
+        tally = findings::more(tally, line.cycles, line.words, 64 - state.free);
+        state = state.advance();
         if line.pushes {
-            if s.free == 0 {
+            if state.free == 0 {
                 return findings::refused(Refusal::Stuck(at), used);
             }
-            let top = s.free - 1;
-            let pushed = s.accu;
-            s.stack[top] = pushed;
-            s.free = top;
+            let top = state.free - 1;
+            let pushed = state.accu;
+            state.stack[top] = pushed;
+            state.free = top;
         }
-        let n = outcomes::index_of(line.operand);
-        let free = s.free;
-        let i = outcomes::entry_place(line.code, n, free);
-        let k = outcomes::drops_of(line.code, n);
-        let r = cells::unknown();
-        let out = outcomes::outcome_of(line.code, line.operand, r, 64 - free, s.accu, s.stack[i]);
-        match out {
+        let index = outcomes::index_of(line.operand);
+        let free = state.free;
+        let place = outcomes::entry_place(line.code, index, free);
+        let drops = outcomes::drops_of(line.code, index);
+        let answer = cells::unknown();
+        let outcome = outcomes::outcome_of(
+            line.code,
+            line.operand,
+            answer,
+            64 - free,
+            state.accu,
+            state.stack[place],
+        );
+        match outcome {
             Outcome::Gives(c) => {
-                s = s.pop(k).load(c);
+                state = state.pop(drops).load(c);
             }
             Outcome::Operates => {
-                let given = outcomes::operated(line.code, line.operand, s.accu, s.stack[i]);
+                let given = outcomes::operated(
+                    line.code,
+                    line.operand,
+                    state.accu,
+                    state.stack[place],
+                );
                 let Operand::Is(c) = given else {
                     return findings::refused(Refusal::Stuck(at), used);
                 };
-                s = s.pop(k).load(c);
+                state = state.pop(drops).load(c);
             }
             Outcome::Stores => {
-                let entry = s.free + n;
-                let stored = s.accu;
-                s.stack[entry] = stored;
+                let entry = state.free + index;
+                let stored = state.accu;
+                state.stack[entry] = stored;
                 let zero = cells::number(0);
-                s = s.load(zero);
+                state = state.load(zero);
             }
             Outcome::Sets(c) => {
-                let field = states::slot_of(sizes, s.accu, n);
+                let field = states::slot_of(sizes, state.accu, index);
                 let Slot::At(j) = field else {
                     return findings::refused(Refusal::Stuck(at), used);
                 };
                 blocks[j] = c;
                 let zero = cells::number(0);
-                s = s.pop(1).load(zero);
+                state = state.pop(1).load(zero);
             }
             Outcome::Gets => {
-                let field = states::slot_of(sizes, s.accu, n);
+                let field = states::slot_of(sizes, state.accu, index);
                 let Slot::At(j) = field else {
                     return findings::refused(Refusal::Stuck(at), used);
                 };
-                s = s.load(blocks[j]);
+                state = state.load(blocks[j]);
             }
             Outcome::Goes => {
-                s = s.jump(n);
+                state = state.jump(index);
             }
             Outcome::Opens => {
                 if openings == 0 {
                     return findings::refused(Refusal::Openings(at), used);
                 }
-                let f = explore(
+                let untaken = explore(
                     codes,
                     operands,
                     cycles,
                     words,
                     sizes,
                     first,
-                    s,
+                    state,
                     blocks,
                     openings - 1,
                     left,
                 );
-                let v = f.verdict;
-                if let Verdict::Refused(x) = v {
-                    return findings::refused(x, used + f.used);
+                let first_verdict = untaken.verdict;
+                if let Verdict::Refused(refusal) = first_verdict {
+                    return findings::refused(refusal, used + untaken.used);
                 }
-                let rest = left - f.used;
-                s = s.jump(n);
-                let g = explore(
+                let rest = left - untaken.used;
+                state = state.jump(index);
+                let taken = explore(
                     codes,
                     operands,
                     cycles,
                     words,
                     sizes,
                     first,
-                    s,
+                    state,
                     blocks,
                     openings - 1,
                     rest,
                 );
-                let w = g.verdict;
-                if let Verdict::Refused(x) = w {
-                    return findings::refused(x, used + f.used + g.used);
+                let second_verdict = taken.verdict;
+                if let Verdict::Refused(refusal) = second_verdict {
+                    return findings::refused(refusal, used + untaken.used + taken.used);
                 }
-                return findings::joined(tally, used, f, g);
+                return findings::joined(tally, used, untaken, taken);
             }
             Outcome::Halts => {
                 return findings::finished(tally, used);
@@ -151,5 +163,5 @@ pub fn explore(
             }
         }
     }
-    findings::refused(Refusal::Spent(s.at), budget)
+    findings::refused(Refusal::Spent(state.at), budget)
 }

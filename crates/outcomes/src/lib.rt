@@ -92,16 +92,16 @@ fn binary_of(code: u8) -> Binary
     }
 }
 
-// What an operation on the accumulator `a`, or on it and the entry `e`, gives, with the operand `i`.
-pub fn operated(code: u8, i: i32, a: Cell, e: Cell) -> Operand
+// What an operation on the accumulator, or on it and the entry, gives, with the operand.
+pub fn operated(code: u8, operand: i32, accu: Cell, entry: Cell) -> Operand
     requires { ⌜ (code ≤ 22) × (isOnCells (operationOf code) ≡ true) ⌝ }
-    ensures { λ r. ⌜ ofOperand r ≡ operated (operationOf code) i a e ⌝ }
+    ensures { λ r. ⌜ ofOperand r ≡ operated (operationOf code) operand accu entry ⌝ }
 {
     match code {
-        operations::OFFSET => cells::operate1(Unary::Offset, i, a),
-        operations::NEGATE => cells::operate1(Unary::Negate, i, a),
-        operations::COMPLEMENT => cells::operate1(Unary::Complement, i, a),
-        _ => cells::operate2(binary_of(code), a, e),
+        operations::OFFSET => cells::operate1(Unary::Offset, operand, accu),
+        operations::NEGATE => cells::operate1(Unary::Negate, operand, accu),
+        operations::COMPLEMENT => cells::operate1(Unary::Complement, operand, accu),
+        _ => cells::operate2(binary_of(code), accu, entry),
     }
 }
 
@@ -115,61 +115,68 @@ pub fn index_of(i: i32) -> usize
     i as usize
 }
 
-// What the operation of a code comes to, with the operand `i` and the answer `r`, on a stack of height `h`, with the accumulator `a` and
-// the entry `e` that it looks at.
-pub fn outcome_of(code: u8, i: i32, r: Cell, h: usize, a: Cell, e: Cell) -> Outcome
+// What the operation of a code comes to, with its operand and the answer that a C_CALL gets, on a stack of the height, with the accumulator
+// and the entry that it looks at.
+pub fn outcome_of(
+    code: u8,
+    operand: i32,
+    answer: Cell,
+    height: usize,
+    accu: Cell,
+    entry: Cell,
+) -> Outcome
     requires { ⌜ code ≤ 22 ⌝ }
-    ensures { λ out. ⌜ out ≡ outcome (operationOf code) i r h a e ⌝ }
+    ensures { λ r. ⌜ r ≡ outcome (operationOf code) operand answer height accu entry ⌝ }
 {
-    let n = index_of(i);
+    let index = index_of(operand);
     match code {
-        operations::NOTHING => Outcome::Gives(a),
+        operations::NOTHING => Outcome::Gives(accu),
         operations::ACCESS => {
-            if n < h {
-                Outcome::Gives(e)
+            if index < height {
+                Outcome::Gives(entry)
             } else {
                 Outcome::Stuck
             }
         }
         operations::DROP => {
-            if n <= h {
-                Outcome::Gives(a)
+            if index <= height {
+                Outcome::Gives(accu)
             } else {
                 Outcome::Stuck
             }
         }
         operations::ASSIGN => {
-            if n < h {
+            if index < height {
                 Outcome::Stores
             } else {
                 Outcome::Stuck
             }
         }
-        operations::CONSTANT => Outcome::Gives(cells::number(i)),
+        operations::CONSTANT => Outcome::Gives(cells::number(operand)),
         operations::OFFSET => Outcome::Operates,
         operations::NEGATE => Outcome::Operates,
         operations::COMPLEMENT => Outcome::Operates,
         operations::GET_FIELD => Outcome::Gets,
         operations::SET_FIELD => {
-            if 0 < h {
-                Outcome::Sets(e)
+            if 0 < height {
+                Outcome::Sets(entry)
             } else {
                 Outcome::Stuck
             }
         }
         operations::BRANCH => Outcome::Goes,
-        operations::BRANCH_IF => outcome_branching(a, false),
-        operations::BRANCH_IF_NOT => outcome_branching(a, true),
+        operations::BRANCH_IF => outcome_branching(accu, false),
+        operations::BRANCH_IF_NOT => outcome_branching(accu, true),
         operations::CALL => {
-            if n <= h {
-                Outcome::Gives(r)
+            if index <= height {
+                Outcome::Gives(answer)
             } else {
                 Outcome::Stuck
             }
         }
         operations::STOP => Outcome::Halts,
         _ => {
-            if 0 < h {
+            if 0 < height {
                 Outcome::Operates
             } else {
                 Outcome::Stuck

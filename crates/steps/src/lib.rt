@@ -74,32 +74,32 @@ pub fn step(
         }
         state = state.push();
     }
-    let n = outcomes::index_of(line.operand);
+    let index = outcomes::index_of(line.operand);
     let free = state.free;
-    let i = outcomes::entry_place(line.code, n, free);
-    let k = outcomes::drops_of(line.code, n);
+    let place = outcomes::entry_place(line.code, index, free);
+    let drops = outcomes::drops_of(line.code, index);
     let price = Price {
         cycles: line.cycles,
         words: line.words,
     };
-    let out = outcomes::outcome_of(
+    let outcome = outcomes::outcome_of(
         line.code,
         line.operand,
         answer,
         64 - free,
         state.accu,
-        state.stack[i],
+        state.stack[place],
     );
     let mut next = Next::Goes(price);
-    match out {
+    match outcome {
         Outcome::Gives(c) => {
-            state = state.pop(k).load(c).advance();
+            state = state.pop(drops).load(c).advance();
         }
         Outcome::Operates => {
-            let given = outcomes::operated(line.code, line.operand, state.accu, state.stack[i]);
+            let given = outcomes::operated(line.code, line.operand, state.accu, state.stack[place]);
             match given {
                 Operand::Is(c) => {
-                    state = state.pop(k).load(c).advance();
+                    state = state.pop(drops).load(c).advance();
                 }
                 Operand::Stuck => {
                     next = Next::Stuck;
@@ -107,10 +107,10 @@ pub fn step(
             }
         }
         Outcome::Stores => {
-            state = state.store(n).advance();
+            state = state.store(index).advance();
         }
         Outcome::Sets(c) => {
-            let field = states::slot_of(sizes, state.accu, n);
+            let field = states::slot_of(sizes, state.accu, index);
             match field {
                 Slot::At(j) => {
                     blocks[j] = c;
@@ -123,7 +123,7 @@ pub fn step(
             }
         }
         Outcome::Gets => {
-            let field = states::slot_of(sizes, state.accu, n);
+            let field = states::slot_of(sizes, state.accu, index);
             match field {
                 Slot::At(j) => {
                     state = state.load(blocks[j]).advance();
@@ -134,11 +134,11 @@ pub fn step(
             }
         }
         Outcome::Goes => {
-            state = state.jump(n);
+            state = state.jump(index);
         }
         Outcome::Opens => {
             state = state.advance();
-            next = Next::Opens(price, n, price);
+            next = Next::Opens(price, index, price);
         }
         Outcome::Halts => {
             next = Next::Stops(price);

@@ -14,7 +14,7 @@ enum-told c = search needs
 
 put-bound-requires : tie.Need-put-bound-requires
 unfolding boundRoutine
-put-bound-requires c κs = let p = c .before .before .before .before .before .pre .1 in ((p .positive, p .small, c .before .before .before .explored .ensures .1 .cycles), p .fits _ (found-reported (boundText (c .before .before .before .before .before .args .x .tick)) _ _ (c .before .before .before .explored .ensures .0) (c .before .enum-told .given .1)))
+put-bound-requires c κs = let p = c .before .before .before .before .before .pre .1 in ((p .positive, p .small, c .before .before .before .explored .ensures .1 .cycles), p .fits _ (found-reported (boundText (c .before .before .before .before .before .args .routine .tick)) _ _ (c .before .before .before .explored .ensures .0) (c .before .enum-told .given .1)))
 
 enum-known-verdict : tie.Need-enum-known-verdict
 enum-known-verdict c = search needs
@@ -24,11 +24,11 @@ same-length c = search needs
 
 returns : tie.Need-returns
 unfolding boundRoutine
-returns c = gives-report _ _ (found-reported (boundText (c .before .before .before .before .before .before .before .before .args .x .tick)) _ _ (c .before .before .before .before .before .before .explored .ensures .0) (c .before .before .before .before .enum-told .given .1)) _ (c .before .before .put-bound .ensures .0) _ _ (c .before .before .put-bound .ensures .1)
+returns c = gives-report _ _ (found-reported (boundText (c .before .before .before .before .before .before .before .before .args .routine .tick)) _ _ (c .before .before .before .before .before .before .explored .ensures .0) (c .before .before .before .before .enum-told .given .1)) _ (c .before .before .put-bound .ensures .0) _ _ (c .before .before .put-bound .ensures .1)
 
 returns-2 : tie.Need-returns-2
 unfolding boundRoutine
-returns-2 c = gives-refusal _ _ (found-refused (boundText (c .before .before .before .before .before .args .x .tick)) _ _ (c .before .before .before .explored .ensures .0) _ (c .before .verdict .given .1)) _
+returns-2 c = gives-refusal _ _ (found-refused (boundText (c .before .before .before .before .before .args .routine .tick)) _ _ (c .before .before .before .explored .ensures .0) _ (c .before .verdict .given .1)) _
 
 pub bound-routine-spec : {M : Type 1} → statement M
 bound-routine-spec =

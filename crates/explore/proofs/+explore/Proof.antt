@@ -67,11 +67,11 @@ abbrev explore-below : ℕ → In 5 explore-kinds.ps
 explore-below t = and 5 explore-kinds.ps (falls 5 explore-kinds.ps _<_ μ-explore t) explore.Pre
 
 abbrev Inv-loop : explore-lts.InvT-loop
-Inv-loop codes operands cycles words sizes first openings budget blocks₀ s₀ left₀ tally₀ blocks s left tally =
-    Turn first codes operands cycles words sizes openings budget blocks₀ s₀ blocks s left tally
+Inv-loop codes operands cycles words sizes first openings budget blocks₀ state₀ left₀ tally₀ blocks state left tally =
+    Turn first codes operands cycles words sizes openings budget blocks₀ state₀ blocks state left tally
 
 abbrev μ-loop : explore-lts.MeasureT-loop
-μ-loop codes operands cycles words sizes first openings budget blocks₀ s₀ left₀ tally₀ blocks s left tally = left
+μ-loop codes operands cycles words sizes first openings budget blocks₀ state₀ left₀ tally₀ blocks state left tally = left
 
 abbrev claims : ℕ → explore-lts.Claims
 claims t = (
@@ -146,7 +146,7 @@ abbrev lined : {t : ℕ} → Acted t → Lined t
 lined a = a .before .before .before .before .before .before .before .before .before .before .before .before
 
 module _ (t : ℕ) (k : Lined t) where
-  found : done (lineOf (line k)) ≡ fetch (codeOf (entry (body k) .args .first) (entry (body k) .args .codes .now) (entry (body k) .args .operands .now) (entry (body k) .args .cycles .now) (entry (body k) .args .words .now)) (body k .before .loop .s .at)
+  found : done (lineOf (line k)) ≡ fetch (codeOf (entry (body k) .args .first) (entry (body k) .args .codes .now) (entry (body k) .args .operands .now) (entry (body k) .args .cycles .now) (entry (body k) .args .words .now)) (body k .before .loop .state .at)
   found = ap ofFetched (sym (k .before .fetched .given .1)) ∙ k .before .before .before .fetch .ensures .0
 
   known : line k .code ≤ 22
@@ -156,18 +156,18 @@ module _ (t : ℕ) (k : Lined t) where
   small = search needs
 
   -- the code's address is low
-  low : body k .before .loop .s .at < 65536
+  low : body k .before .loop .state .at < 65536
   low =
       let e : Entry t = entry (body k) in
-      omega (arith, fetch-within (e .args .first) (e .args .codes .now) (e .args .operands .now) (e .args .cycles .now) (e .args .words .now) (body k .before .loop .s .at) (lineOf (line k)) (sym found), e .pre .1 .1 .addresses)
+      omega (arith, fetch-within (e .args .first) (e .args .codes .now) (e .args .operands .now) (e .args .cycles .now) (e .args .words .now) (body k .before .loop .state .at) (lineOf (line k)) (sym found), e .pre .1 .1 .addresses)
 
 module _ (t : ℕ) (j : Joined t) where
   -- the states before and after the push
   abbrev s : State
-  s = body (j .before .before .before) .before .loop .s
+  s = body (j .before .before .before) .before .loop .state
 
   abbrev u : State
-  u = j .if1 .s
+  u = j .if1 .state
 
   prepared : Prepared (entry (body (j .before .before .before)) .args .sizes .now) (body (j .before .before .before) .before .loop .blocks) (line (j .before .before .before)) s u
   prepared =
@@ -223,15 +223,15 @@ module _ (t : ℕ) (b : Body t) where
   keeps-at = Kept (entry b .args .first) (entry b .args .codes .now) (entry b .args .operands .now) (entry b .args .cycles .now) (entry b .args .words .now) (entry b .args .sizes .now) (entry b .args .openings) (entry b .args .budget) (entry b .args .t8) (entry b .args .start)
 
   stuck-kept : act (entry b .args .first) (entry b .args .codes .now) (entry b .args .operands .now) (entry b .args .cycles .now) (entry b .args .words .now) (entry b .args .sizes .now) (entry b .args .openings) (entry b .args .budget) (entry b .args .t8) (entry b .args .start)
-      (whole (entry b .args .sizes .now) (b .before .loop .blocks) (b .before .loop .s)) ≡ stuck →
-      (r : Found) → r ≡ refusedAs (refusals.Stuck (b .before .loop .s .at)) (entry b .args .budget - b .before .loop .left + 1) → keeps-at r
+      (whole (entry b .args .sizes .now) (b .before .loop .blocks) (b .before .loop .state)) ≡ stuck →
+      (r : Found) → r ≡ refusedAs (refusals.Stuck (b .before .loop .state .at)) (entry b .args .budget - b .before .loop .left + 1) → keeps-at r
   stuck-kept e r f = stuck-out (b .before .loop .inv) (b .loop-test .taken) e r f
 
-  outside-kept : stuck ≡ fetch (codeOf (entry b .args .first) (entry b .args .codes .now) (entry b .args .operands .now) (entry b .args .cycles .now) (entry b .args .words .now)) (b .before .loop .s .at) →
-      (r : Found) → r ≡ refusedAs (refusals.Stuck (b .before .loop .s .at)) (entry b .args .budget - b .before .loop .left + 1) → keeps-at r
+  outside-kept : stuck ≡ fetch (codeOf (entry b .args .first) (entry b .args .codes .now) (entry b .args .operands .now) (entry b .args .cycles .now) (entry b .args .words .now)) (b .before .loop .state .at) →
+      (r : Found) → r ≡ refusedAs (refusals.Stuck (b .before .loop .state .at)) (entry b .args .budget - b .before .loop .left + 1) → keeps-at r
   outside-kept e =
       stuck-kept (outside (entry b .args .first) (entry b .args .codes .now) (entry b .args .operands .now) (entry b .args .cycles .now) (entry b .args .words .now) (entry b .args .sizes .now) (entry b .args .openings) (entry b .args .budget) (entry b .args .t8) (entry b .args .start)
-      (b .before .loop .blocks) (b .before .loop .s) e)
+      (b .before .loop .blocks) (b .before .loop .state) e)
 
 -- ---- the needs, in the order of the code
 
@@ -284,7 +284,7 @@ returns-2 : (t : ℕ) → explore-lts.Need-returns-2 (claims t) (explore-at t) e
 returns-2 t c =
     let l : Lined t = c .before .before .before .before .before in
     let b : Body t = body l in
-    let s = b .before .loop .s in
+    let s = b .before .loop .state in
     let v = c .before .before .before .advance in
     let k = stuck-kept t b (overflows _ _ _ _ _ _ (entry b .args .openings) (entry b .args .budget) (entry b .args .t8) (entry b .args .start) (b .before .loop .blocks) s (line l) (found t l) (c .before .before .if1 .taken) (b .before .loop .inv .formed) (sym (same-free (entry b .args .sizes .now) (b .before .loop .blocks) (line l) s s (v .result) (v .ensures .0) (v .ensures .1) (b .before .loop .inv .formed)) ∙ c .before .if2 .taken)) _ (c .refused2 .ensures) in
     (k .explored, (k .safe, (k .exact, k .bounded)))
@@ -322,11 +322,11 @@ element-copy-out-outcome-of t c = search needs
 outcome-of-requires : (t : ℕ) → explore-lts.Need-outcome-of-requires (claims t) (explore-at t) explore.Post Inv-loop μ-loop
 outcome-of-requires t c κs = known t (c .before .before .before .before .before .before .before .before .before .before .before)
 
-enum-known-out : (t : ℕ) → explore-lts.Need-enum-known-out (claims t) (explore-at t) explore.Post Inv-loop μ-loop
-enum-known-out t c = search needs
+enum-known-outcome : (t : ℕ) → explore-lts.Need-enum-known-outcome (claims t) (explore-at t) explore.Post Inv-loop μ-loop
+enum-known-outcome t c = search needs
 
 pop-requires : (t : ℕ) → explore-lts.Need-pop-requires (claims t) (explore-at t) explore.Post Inv-loop μ-loop
-pop-requires t c κs = let a : Acted t = c .before .before .before in (prepared t (joined a) .formed, arms.drop-room (arm t a .arm) _ _ (c .before .out .given .1) (a .before .before .before .before .before .drops-of .ensures))
+pop-requires t c κs = let a : Acted t = c .before .before .before in (prepared t (joined a) .formed, arms.drop-room (arm t a .arm) _ _ (c .before .outcome .given .1) (a .before .before .before .before .before .drops-of .ensures))
 
 load-requires : (t : ℕ) → explore-lts.Need-load-requires (claims t) (explore-at t) explore.Post Inv-loop μ-loop
 load-requires t c κs = c .pop .ensures .1
@@ -338,7 +338,7 @@ loop-again : (t : ℕ) → explore-lts.Need-loop-again (claims t) (explore-at t)
 loop-again t c =
     let a : Acted t = c .before .before .before .before .before in
     again (arm t a) _ (c .load .result)
-    (arms.gives (arm t a .arm) _ _ (c .before .pop .result) (c .load .result) (a .before .before .before .before .before .drops-of .ensures) (c .before .pop .ensures .0) (c .load .ensures .0) (c .before .before .before .out .given .1))
+    (arms.gives (arm t a .arm) _ _ (c .before .pop .result) (c .load .result) (a .before .before .before .before .before .drops-of .ensures) (c .before .pop .ensures .0) (c .load .ensures .0) (c .before .before .before .outcome .given .1))
     (c .load .ensures .1) (arm t a .turn .fits) refl
 
 enum-told-2 : (t : ℕ) → explore-lts.Need-enum-told-2 (claims t) (explore-at t) explore.Post Inv-loop μ-loop
@@ -413,8 +413,8 @@ loop-again-3 t c =
     (stored-is (a .before .before .before .before .before .before .before .index-of .result) (u t (joined a)) (c .load3 .result) (prepared t (joined a) .formed) (arms.store-room (arm t a .arm) (c .before .before .before .enum-told4 .given .1)) (c .before .number .result) (c .before .number .ensures) (c .load3 .ensures .0)))
     (c .load3 .ensures .1) (arm t a .turn .fits) refl
 
-enum-known-out-2 : (t : ℕ) → explore-lts.Need-enum-known-out-2 (claims t) (explore-at t) explore.Post Inv-loop μ-loop
-enum-known-out-2 t c = search needs
+enum-known-outcome-2 : (t : ℕ) → explore-lts.Need-enum-known-outcome-2 (claims t) (explore-at t) explore.Post Inv-loop μ-loop
+enum-known-outcome-2 t c = search needs
 
 slot-of-requires : (t : ℕ) → explore-lts.Need-slot-of-requires (claims t) (explore-at t) explore.Post Inv-loop μ-loop
 slot-of-requires t c κs = search needs
@@ -431,7 +431,7 @@ refused-requires-4 t c κs = search needs
 returns-4 : (t : ℕ) → explore-lts.Need-returns-4 (claims t) (explore-at t) explore.Post Inv-loop μ-loop
 returns-4 t c =
     let a : Acted t = c .before .before .before .before .before .before .before .before in
-    let k = stuck-kept t (body (lined a)) (arms.sets-nothing (arm t a .arm) _ (c .before .before .before .before .before .before .out2 .given .1) (ap ofSlot (sym (c .before .enum-told5 .given .1)) ∙ c .before .before .before .slot-of .ensures)) _ (c .refused4 .ensures) in
+    let k = stuck-kept t (body (lined a)) (arms.sets-nothing (arm t a .arm) _ (c .before .before .before .before .before .before .outcome2 .given .1) (ap ofSlot (sym (c .before .enum-told5 .given .1)) ∙ c .before .before .before .slot-of .ensures)) _ (c .refused4 .ensures) in
     (k .explored, (k .safe, (k .exact, k .bounded)))
 
 mul-blocks : (t : ℕ) → explore-lts.Need-mul-blocks (claims t) (explore-at t) explore.Post Inv-loop μ-loop
@@ -444,7 +444,7 @@ number-requires-2 : (t : ℕ) → explore-lts.Need-number-requires-2 (claims t) 
 number-requires-2 t c κs = search needs
 
 pop-requires-3 : (t : ℕ) → explore-lts.Need-pop-requires-3 (claims t) (explore-at t) explore.Post Inv-loop μ-loop
-pop-requires-3 t c κs = let a : Acted t = c .before .before .before .before .before .before .before .before .before in (prepared t (joined a) .formed, arms.set-room (arm t a .arm) _ (c .before .before .before .before .before .before .before .out2 .given .1))
+pop-requires-3 t c κs = let a : Acted t = c .before .before .before .before .before .before .before .before .before in (prepared t (joined a) .formed, arms.set-room (arm t a .arm) _ (c .before .before .before .before .before .before .before .outcome2 .given .1))
 
 load-requires-4 : (t : ℕ) → explore-lts.Need-load-requires-4 (claims t) (explore-at t) explore.Post Inv-loop μ-loop
 load-requires-4 t c κs = c .pop3 .ensures .1
@@ -456,7 +456,7 @@ loop-again-4 : (t : ℕ) → explore-lts.Need-loop-again-4 (claims t) (explore-a
 loop-again-4 t c =
     let a : Acted t = c .before .before .before .before .before .before .before .before .before .before .before in
     again (arm t a) _ (c .load4 .result)
-    (arms.sets (arm t a .arm) _ _ (c .before .pop3 .result) (c .load4 .result) (c .before .before .before .before .before .before .before .before .before .out2 .given .1) (ap ofSlot (sym (c .before .before .before .before .field .given .1)) ∙ c .before .before .before .before .before .before .slot-of .ensures) (c .before .pop3 .ensures .0) (c .load4 .ensures .0 ∙ ap (λ z. load z (view (c .before .pop3 .result))) (c .before .before .number2 .ensures)))
+    (arms.sets (arm t a .arm) _ _ (c .before .pop3 .result) (c .load4 .result) (c .before .before .before .before .before .before .before .before .before .outcome2 .given .1) (ap ofSlot (sym (c .before .before .before .before .field .given .1)) ∙ c .before .before .before .before .before .before .slot-of .ensures) (c .before .pop3 .ensures .0) (c .load4 .ensures .0 ∙ ap (λ z. load z (view (c .before .pop3 .result))) (c .before .before .number2 .ensures)))
     (c .load4 .ensures .1) (record { few = arm t a .turn .fits .few; room = simp length-set (arm t a .turn .fits .room) }) (length-set (body (lined a) .before .loop .blocks) _ _)
 
 enum-told-6 : (t : ℕ) → explore-lts.Need-enum-told-6 (claims t) (explore-at t) explore.Post Inv-loop μ-loop
@@ -534,8 +534,8 @@ explore-requires t c κs =
     let b : Body t = body (lined a) in
     (omega (arith, c .if3 .left, entry b .pre .0), (entry b .pre .1 .0, record { addresses = entry b .pre .1 .1 .addresses; formed = prepared t (joined a) .formed; budget-fits = omega (arith, entry b .pre .1 .1 .budget-fits, b .before .loop .inv .inv .within); openings-fit = omega (arith, entry b .pre .1 .1 .openings-fit); fits = b .before .loop .inv .fits }))
 
-enum-known-v : (t : ℕ) → explore-lts.Need-enum-known-v (claims t) (explore-at t) explore.Post Inv-loop μ-loop
-enum-known-v t c = search needs
+enum-known-first-verdict : (t : ℕ) → explore-lts.Need-enum-known-first-verdict (claims t) (explore-at t) explore.Post Inv-loop μ-loop
+enum-known-first-verdict t c = search needs
 
 add-refused : (t : ℕ) → explore-lts.Need-add-refused (claims t) (explore-at t) explore.Post Inv-loop μ-loop
 add-refused t c =
@@ -549,7 +549,7 @@ refused-requires-7 t c κs = search needs
 returns-7 : (t : ℕ) → explore-lts.Need-returns-7 (claims t) (explore-at t) explore.Post Inv-loop μ-loop
 returns-7 t c =
     let a : Acted t = c .before .before .before .before .before .before .before .before .before in
-    let k = first-out (arm t a) (c .before .before .before .before .before .before .before .enum-told9 .given .1) (omega (arith, c .before .before .before .before .before .before .if3 .left)) (c .before .before .before .before .before .explore .result) (c .before .before .before .before .before .explore .ensures .0) (c .before .before .before .before .before .explore .ensures .1 .1 .1) _ (c .before .before .before .v .given .1) _ (c .refused7 .ensures) in
+    let k = first-out (arm t a) (c .before .before .before .before .before .before .before .enum-told9 .given .1) (omega (arith, c .before .before .before .before .before .before .if3 .left)) (c .before .before .before .before .before .explore .result) (c .before .before .before .before .before .explore .ensures .0) (c .before .before .before .before .before .explore .ensures .1 .1 .1) _ (c .before .before .before .first-verdict .given .1) _ (c .refused7 .ensures) in
     (k .explored, (k .safe, (k .exact, k .bounded)))
 
 enum-told-10 : (t : ℕ) → explore-lts.Need-enum-told-10 (claims t) (explore-at t) explore.Post Inv-loop μ-loop
@@ -570,8 +570,8 @@ explore-requires-2 t c κs =
     let b : Body t = body (lined a) in
     (omega (arith, c .before .before .before .before .before .if3 .left, entry b .pre .0), (entry b .pre .1 .0, record { addresses = entry b .pre .1 .1 .addresses; formed = c .jump2 .ensures .1; budget-fits = omega (arith, entry b .pre .1 .1 .budget-fits, b .before .loop .inv .inv .within); openings-fit = omega (arith, entry b .pre .1 .1 .openings-fit); fits = b .before .loop .inv .fits }))
 
-enum-known-w : (t : ℕ) → explore-lts.Need-enum-known-w (claims t) (explore-at t) explore.Post Inv-loop μ-loop
-enum-known-w t c = search needs
+enum-known-second-verdict : (t : ℕ) → explore-lts.Need-enum-known-second-verdict (claims t) (explore-at t) explore.Post Inv-loop μ-loop
+enum-known-second-verdict t c = search needs
 
 add-refused-2 : (t : ℕ) → explore-lts.Need-add-refused-2 (claims t) (explore-at t) explore.Post Inv-loop μ-loop
 add-refused-2 t c =
@@ -591,7 +591,7 @@ refused-requires-8 t c κs = search needs
 returns-8 : (t : ℕ) → explore-lts.Need-returns-8 (claims t) (explore-at t) explore.Post Inv-loop μ-loop
 returns-8 t c =
     let a : Acted t = c .before .before .before .before .before .before .before .before .before .before .before .before .before .before .before in
-    let k = second-out (arm t a) (c .before .before .before .before .before .before .before .before .before .before .before .before .before .enum-told9 .given .1) (omega (arith, c .before .before .before .before .before .before .before .before .before .before .before .before .if3 .left)) (c .before .before .before .before .before .before .before .before .before .before .before .explore .result) (c .before .before .before .before .before .before .before .before .before .before .before .explore .ensures .0) (c .before .before .before .before .before .before .before .before .before .before .before .explore .ensures .1 .1 .1) (c .before .before .before .before .before .before .before .before .before .enum-told10 .given .1) (c .before .before .before .before .before .before .before .jump2 .result) (c .before .before .before .before .before .before .before .jump2 .ensures .0) (c .before .before .before .before .before .before .explore2 .result) (c .before .before .before .before .before .before .explore2 .ensures .0) (c .before .before .before .before .before .before .explore2 .ensures .1 .1 .1) _ (c .before .before .before .before .w .given .1) _ (c .refused8 .ensures) in
+    let k = second-out (arm t a) (c .before .before .before .before .before .before .before .before .before .before .before .before .before .enum-told9 .given .1) (omega (arith, c .before .before .before .before .before .before .before .before .before .before .before .before .if3 .left)) (c .before .before .before .before .before .before .before .before .before .before .before .explore .result) (c .before .before .before .before .before .before .before .before .before .before .before .explore .ensures .0) (c .before .before .before .before .before .before .before .before .before .before .before .explore .ensures .1 .1 .1) (c .before .before .before .before .before .before .before .before .before .enum-told10 .given .1) (c .before .before .before .before .before .before .before .jump2 .result) (c .before .before .before .before .before .before .before .jump2 .ensures .0) (c .before .before .before .before .before .before .explore2 .result) (c .before .before .before .before .before .before .explore2 .ensures .0) (c .before .before .before .before .before .before .explore2 .ensures .1 .1 .1) _ (c .before .before .before .before .second-verdict .given .1) _ (c .refused8 .ensures) in
     (k .explored, (k .safe, (k .exact, k .bounded)))
 
 enum-told-11 : (t : ℕ) → explore-lts.Need-enum-told-11 (claims t) (explore-at t) explore.Post Inv-loop μ-loop
@@ -670,7 +670,7 @@ pub +explore-spec : {M : Type 1} → statement M
     (mul-outcome-of t)
     (element-copy-out-outcome-of t)
     (outcome-of-requires t)
-    (enum-known-out t)
+    (enum-known-outcome t)
     (pop-requires t)
     (load-requires t)
     (loop-less t)
@@ -695,7 +695,7 @@ pub +explore-spec : {M : Type 1} → statement M
     (load-requires-3 t)
     (loop-less-3 t)
     (loop-again-3 t)
-    (enum-known-out-2 t)
+    (enum-known-outcome-2 t)
     (slot-of-requires t)
     (enum-known-field t)
     (enum-told-5 t)
@@ -728,7 +728,7 @@ pub +explore-spec : {M : Type 1} → statement M
     (returns-6 t)
     (sub-explore t)
     (explore-requires t)
-    (enum-known-v t)
+    (enum-known-first-verdict t)
     (add-refused t)
     (refused-requires-7 t)
     (returns-7 t)
@@ -737,7 +737,7 @@ pub +explore-spec : {M : Type 1} → statement M
     (jump-requires-2 t)
     (sub-explore-2 t)
     (explore-requires-2 t)
-    (enum-known-w t)
+    (enum-known-second-verdict t)
     (add-refused-2 t)
     (add-refused-3 t)
     (refused-requires-8 t)

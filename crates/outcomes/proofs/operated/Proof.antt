@@ -14,8 +14,8 @@ use Rattle.outcomes.proofs.operated.Statement.{statement}
 use Rattle.outcomes.proofs.operated.Tie as tie
 
 -- the operand as the code reads it
-same : (c : tie.Start) → read w32 (c .args .i) ≡ c .args .i
-same c = toZ-ofZ w32 (c .args .i) (c .fits .i)
+same : (c : tie.Start) → read w32 (c .args .operand) ≡ c .args .operand
+same c = toZ-ofZ w32 (c .args .operand) (c .fits .operand)
 
 operate1-requires : tie.Need-operate1-requires
 operate1-requires c κs = search needs
@@ -36,15 +36,15 @@ operate2-requires c κs = search needs
 
 returns : tie.Need-returns
 unfolding operations operationOf operated
-returns c = let start = c .before .before in rw (c .before .match .keys1) (c .operate1 .ensures ∙ ap (λ i. operate₁ Offset i (start .args .a)) (same start))
+returns c = let start = c .before .before in rw (c .before .match .keys1) (c .operate1 .ensures ∙ ap (λ i. operate₁ Offset i (start .args .accu)) (same start))
 
 returns-2 : tie.Need-returns-2
 unfolding operations operationOf operated
-returns-2 c = let start = c .before .before in rw (c .before .match .keys2) (c .operate12 .ensures ∙ ap (λ i. operate₁ Negate i (start .args .a)) (same start))
+returns-2 c = let start = c .before .before in rw (c .before .match .keys2) (c .operate12 .ensures ∙ ap (λ i. operate₁ Negate i (start .args .accu)) (same start))
 
 returns-3 : tie.Need-returns-3
 unfolding operations operationOf operated
-returns-3 c = let start = c .before .before in rw (c .before .match .keys3) (c .operate13 .ensures ∙ ap (λ i. operate₁ Complement i (start .args .a)) (same start))
+returns-3 c = let start = c .before .before in rw (c .before .match .keys3) (c .operate13 .ensures ∙ ap (λ i. operate₁ Complement i (start .args .accu)) (same start))
 
 returns-4 : tie.Need-returns-4
 unfolding operated

@@ -15,10 +15,10 @@ use Rattle.outcomes.proofs.outcome_of.Statement.{statement}
 use Rattle.outcomes.proofs.outcome_of.Tie as tie
 
 -- the operand as the code reads it
-same : (c : tie.Start) → read w32 (c .args .i) ≡ c .args .i
-same c = toZ-ofZ w32 (c .args .i) (c .fits .i)
+same : (c : tie.Start) → read w32 (c .args .operand) ≡ c .args .operand
+same c = toZ-ofZ w32 (c .args .operand) (c .fits .operand)
 
-found : (c : tie.After-index-of) → c .index-of .result ≡ index (c .before .args .i)
+found : (c : tie.After-index-of) → c .index-of .result ≡ index (c .before .args .operand)
 found c = c .index-of .ensures .0 ∙ ap index (same (c .before))
 
 index-of-requires : tie.Need-index-of-requires

@@ -159,13 +159,13 @@ element-copy-out-outcome-of c = search needs
 outcome-of-requires : tie.Need-outcome-of-requires
 outcome-of-requires c κs = known (c .before .before .before .before .before .before .before .before)
 
-enum-known-out : tie.Need-enum-known-out
-enum-known-out c = search needs
+enum-known-outcome : tie.Need-enum-known-outcome
+enum-known-outcome c = search needs
 
 -- ---- the accumulator becomes a cell
 
 pop-requires : tie.Need-pop-requires
-pop-requires c κs = let a = c .before .before .before in (prepared a .formed, arms.drop-room (arm a) _ _ (c .before .out .given .1) (a .before .before .before .before .drops-of .ensures))
+pop-requires c κs = let a = c .before .before .before in (prepared a .formed, arms.drop-room (arm a) _ _ (c .before .outcome .given .1) (a .before .before .before .before .drops-of .ensures))
 
 load-requires : tie.Need-load-requires
 load-requires c κs = search needs
@@ -186,8 +186,8 @@ returns-3 c =
     let a = c .before .before .before .before .before .before in
     let v = c .before .before .pop .result in
     kept a _
-    (arms.gives (arm a) (c .before .before .before .before .out .given .0 .0) (a .before .before .before .before .drops-of .result) (next v) (c .advance .result) (a .before .before .before .before .drops-of .ensures) (popped-next (t a) v _ (c .before .before .pop .ensures .0))
-    (loaded-next v (c .before .load .result) (c .advance .result) _ (c .before .load .ensures .0) (c .advance .ensures .0)) (c .before .before .before .before .out .given .1))
+    (arms.gives (arm a) (c .before .before .before .before .outcome .given .0 .0) (a .before .before .before .before .drops-of .result) (next v) (c .advance .result) (a .before .before .before .before .drops-of .ensures) (popped-next (t a) v _ (c .before .before .pop .ensures .0))
+    (loaded-next v (c .before .load .result) (c .advance .result) _ (c .before .load .ensures .0) (c .advance .ensures .0)) (c .before .before .before .before .outcome .given .1))
     (s a .args .t9) (c .advance .result) (c .advance .ensures .1) (s a .pre .3)
 
 -- ---- an operation on cells
@@ -261,8 +261,8 @@ returns-6 c =
 
 -- ---- a field is set
 
-enum-known-out-2 : tie.Need-enum-known-out-2
-enum-known-out-2 c = search needs
+enum-known-outcome-2 : tie.Need-enum-known-outcome-2
+enum-known-outcome-2 c = search needs
 
 slot-of-requires : tie.Need-slot-of-requires
 slot-of-requires c κs = search needs
@@ -287,7 +287,7 @@ number-requires : tie.Need-number-requires
 number-requires c κs = search needs
 
 pop-requires-3 : tie.Need-pop-requires-3
-pop-requires-3 c κs = let a = c .before .before .before .before .before .before .before .before .before in (prepared a .formed, arms.set-room (arm a) _ (c .before .before .before .before .before .before .before .out2 .given .1))
+pop-requires-3 c κs = let a = c .before .before .before .before .before .before .before .before .before in (prepared a .formed, arms.set-room (arm a) _ (c .before .before .before .before .before .before .before .outcome2 .given .1))
 
 load-requires-3 : tie.Need-load-requires-3
 load-requires-3 c κs = search needs
@@ -303,7 +303,7 @@ returns-7 c =
     let a = c .before .before .before .before .before .before .before .before .before .before .before .before in
     let v = c .before .before .pop3 .result in
     kept a _
-    (arms.sets (arm a) (c .before .before .before .before .before .before .before .before .before .before .out2 .given .0 .0) (c .before .before .before .before .before .field .given .0 .0) (next v) (c .advance4 .result) (c .before .before .before .before .before .before .before .before .before .before .out2 .given .1) (set-slot (c .before .before .before .before) ∙ c .before .before .before .before .before .before .before .slot-of .ensures) (popped-next (t a) v _ (c .before .before .pop3 .ensures .0))
+    (arms.sets (arm a) (c .before .before .before .before .before .before .before .before .before .before .outcome2 .given .0 .0) (c .before .before .before .before .before .field .given .0 .0) (next v) (c .advance4 .result) (c .before .before .before .before .before .before .before .before .before .before .outcome2 .given .1) (set-slot (c .before .before .before .before) ∙ c .before .before .before .before .before .before .before .slot-of .ensures) (popped-next (t a) v _ (c .before .before .pop3 .ensures .0))
     (loaded-next v (c .before .load3 .result) (c .advance4 .result) _ (c .before .load3 .ensures .0) (c .advance4 .ensures .0) ∙ ap (λ z. load z (view (next v))) (c .before .before .before .number .ensures)))
     _ (c .advance4 .result) (c .advance4 .ensures .1) (record { few = s a .pre .3 .few; room = simp length-set (s a .pre .3 .room) })
 
@@ -314,7 +314,7 @@ returns-8 : tie.Need-returns-8
 unfolding ofNext
 returns-8 c =
     let a = c .before .before .before .before .before .before .before in
-    kept a _ (arms.sets-nothing (arm a) _ (c .before .before .before .before .before .out2 .given .1) (ap ofSlot (sym (c .enum-told5 .given .1)) ∙ c .before .before .slot-of .ensures)) (s a .args .t9) (t a) (prepared a .formed) (s a .pre .3)
+    kept a _ (arms.sets-nothing (arm a) _ (c .before .before .before .before .before .outcome2 .given .1) (ap ofSlot (sym (c .enum-told5 .given .1)) ∙ c .before .before .slot-of .ensures)) (s a .args .t9) (t a) (prepared a .formed) (s a .pre .3)
 
 -- ---- the accumulator becomes a field
 
@@ -420,7 +420,7 @@ step-spec =
     mul-outcome-of
     element-copy-out-outcome-of
     outcome-of-requires
-    enum-known-out
+    enum-known-outcome
     pop-requires
     load-requires
     advance-requires
@@ -436,7 +436,7 @@ step-spec =
     enum-told-4
     store-requires
     advance-requires-3
-    enum-known-out-2
+    enum-known-outcome-2
     slot-of-requires
     enum-known-field
     mul-blocks
