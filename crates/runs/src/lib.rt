@@ -10,7 +10,7 @@ ghost use Prim.Native.Nat.{ℕ, suc, _<_, _≤_};
 ghost use lib.IntN.{ℤ};
 ghost use lib.ListN.{drop};
 ghost use Rattle.states.specs.Columns.{codeOf, Sized};
-ghost use Rattle.states.specs.View.{whole};
+ghost use Rattle.states.specs.View.{WellFormed, Fits, whole};
 ghost use Rattle.bounds.specs.Run.{begin, answer, remaining, after, judgeRun, run};
 ghost use Rattle.runs.specs.Progress.{ofProgress};
 ghost use Rattle.runs.specs.Contract.{Runnable, verdictOf, SafeFrom, WithinBound};
@@ -71,6 +71,7 @@ pub fn after(
     requires { ⌜ Runnable (now codes) (now sizes) first start fields n ⌝ }
     ensures { λ r. ⌜ ofProgress (now (sizes .entry)) (now (answers .entry)) r ≡ after (codeOf first (now (codes .entry)) (now (operands .entry)) (now (cycles .entry)) (now (words .entry))) n (begin (whole (now (sizes .entry)) fields start) (now (answers .entry))) ⌝ }
     ensures safe { λ r. ⌜ SafeFrom (codeOf first (now (codes .entry)) (now (operands .entry)) (now (cycles .entry)) (now (words .entry))) (whole (now (sizes .entry)) fields start) (now (answers .entry)) n (ofProgress (now (sizes .entry)) (now (answers .entry)) r) ⌝ }
+    ensures { λ r. ⌜ WellFormed (r .state) × Fits (now (sizes .entry)) (r .blocks) ⌝ }
 {
     let mut state = start;
     let mut blocks = fields;

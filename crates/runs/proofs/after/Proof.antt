@@ -86,9 +86,10 @@ returns : tie.Need-returns Inv-loop μ-loop
 returns c =
     let x = c .before .before .before .before .before .before .step in
     let took = c .before .before .taken-after in
-    let e = stops-out _ _ _ _ _ _ (c .before .before .before .before .before .before .before .before .before .loop .inv) (x .result .next) (x .result .state) (x .result .blocks) (x .result .calls) _ (c .before .before .before .before .before .before .before .answer-at .ensures) (x .ensures .0) (x .ensures .1 .0)
+    let i = c .before .before .before .before .before .before .before .before .before .loop .inv in
+    let e = stops-out _ _ _ _ _ _ i (x .result .next) (x .result .state) (x .result .blocks) (x .result .calls) _ (c .before .before .before .before .before .before .before .answer-at .ensures) (x .ensures .0) (x .ensures .1 .0)
     (c .before .before .before .before .next .given .0 .0) (took .result) (record { drops = took .ensures .0; few = took .ensures .1 }) (stops-small (c .before .before .before)) (c .before .before .before .before .next .given .1) (c .before .before .before .before .before .before .before .before .loop-test .taken) in
-    (e, safe-from _ _ _ _ _ e)
+    (e, (safe-from _ _ _ _ _ e, (i .formed, i .fits)))
 
 enum-known-next-2 : tie.Need-enum-known-next-2 Inv-loop μ-loop
 enum-known-next-2 c = search needs
@@ -96,8 +97,9 @@ enum-known-next-2 c = search needs
 returns-2 : tie.Need-returns-2 Inv-loop μ-loop
 returns-2 c =
     let x = c .before .before .step in
-    let e = stays-out _ _ _ _ _ _ (c .before .before .before .before .before .loop .inv) (x .result .next) (x .result .state) (x .result .blocks) (x .result .calls) _ (c .before .before .before .answer-at .ensures) (x .ensures .0) (x .ensures .1 .0) (no-stop _ (c .before .match .keys2)) (no-way _ (c .match2 .keys2)) in
-    (e, safe-from _ _ _ _ _ e)
+    let i = c .before .before .before .before .before .loop .inv in
+    let e = stays-out _ _ _ _ _ _ i (x .result .next) (x .result .state) (x .result .blocks) (x .result .calls) _ (c .before .before .before .answer-at .ensures) (x .ensures .0) (x .ensures .1 .0) (no-stop _ (c .before .match .keys2)) (no-way _ (c .match2 .keys2)) in
+    (e, (safe-from _ _ _ _ _ e, (i .formed, i .fits)))
 
 taken-after-requires-2 : tie.Need-taken-after-requires-2 Inv-loop μ-loop
 taken-after-requires-2 c κs = let i = c .before .before .before .before .before .before .before .loop .inv in omega (arith, i .taken, c .before .before .before .before .before .before .loop-test .taken, c .before .before .before .before .before .before .before .before .before .before .before .before .before .pre .1 .steps)
@@ -136,8 +138,9 @@ loop-again c =
 
 returns-3 : tie.Need-returns-3 Inv-loop μ-loop
 returns-3 c =
-    let e = ends _ _ _ _ _ _ (c .before .loop .inv) (c .loop-test .left) in
-    (e, safe-from _ _ _ _ _ e)
+    let i = c .before .loop .inv in
+    let e = ends _ _ _ _ _ _ i (c .loop-test .left) in
+    (e, (safe-from _ _ _ _ _ e, (i .formed, i .fits)))
 
 pub after-spec : {M : Type 1} → statement M
 after-spec =
