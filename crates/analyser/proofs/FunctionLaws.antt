@@ -40,10 +40,10 @@ use Rattle.analyser.proofs.AnswerLaws.{reports-kept, reports-fit, runs-
 
 -- ---- a verdict is of one case
 
-passes-not : {A : Type 0} (x : Refusal) → Accepted ≡ verdicts.Refused x → A
+pub passes-not : {A : Type 0} (x : Refusal) → Accepted ≡ verdicts.Refused x → A
 passes-not x e = let z : _≡_ {A = ℕ} 0 1 = cc in absurd (omega arith)
 
-same-refused : (x y : Refusal) → verdicts.Refused x ≡ verdicts.Refused y → x ≡ y
+pub same-refused : (x y : Refusal) → verdicts.Refused x ≡ verdicts.Refused y → x ≡ y
 same-refused x y e = cc
 
 -- ---- the routine that the arrays hold

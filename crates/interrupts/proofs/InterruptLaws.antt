@@ -1,0 +1,144 @@
+-- A run that is interrupted and bounded afresh, apart from its code. Assumes nothing.
+use Prim.Native.Nat.{ℕ, _+_, _≤_, _<_}
+use mathlib.Core.Path.{_≡_, refl, sym, ap, _∙_}
+use mathlib.Core.Bool.{Bool, true, false, cond}
+use mathlib.Core.List.{List, [], _∷_, _++_}
+use native.Mathlib.Omega.{arith}
+use lib.IntN.{ℤ}
+use lib.ListN.{length, getD, take, drop, set}
+use lib.Seq.{take-length}
+use borrow.Author.Tests.{lt-ltb, le-ltb}
+use Rattle.refusals.specs.declared.Refusal.{Refusal}
+use Rattle.refusals.specs.declared.Refusal.the-variants.{ReportMemory}
+use Rattle.refusals.specs.declared.Verdict.the-variants.{Accepted, Refused}
+use Rattle.refusals.specs.Refusals.{number, place}
+use Rattle.text.specs.Memory.{over}
+use Rattle.text.proofs.MemoryLaws.{over-next}
+use Rattle.machine.specs.Machine.{State, Code, reblock}
+use Rattle.bounds.specs.Tree.{Verdict, accepted, refused, bound}
+use Rattle.bounds.specs.Run.{Run, begin, after, boundedAfresh}
+use Rattle.states.specs.declared.State as states
+use Rattle.states.specs.View.{WellFormed, Fits, whole}
+use Rattle.cells.specs.declared.Cell.{Cell}
+use Rattle.findings.specs.declared.Found.{Found}
+use Rattle.findings.specs.Found.{encode, Shows, acceptedAs, finishedOf}
+use Rattle.runs.specs.declared.Progress.{Progress}
+use Rattle.runs.specs.Progress.{ofProgress}
+use Rattle.runs.specs.Contract.{Runnable}
+use Rattle.explore.specs.Contract.{Explorable, Explores}
+use Rattle.routine.specs.Routine.{readRun}
+use Rattle.routine.specs.Routine as readings
+use Rattle.reader.specs.declared.Routine.{Routine}
+use Rattle.reader.specs.Reader.{codes, sizes, Limited}
+use Rattle.analyser.specs.Answers.{Answer, reported, ofReading, memory}
+use Rattle.analyser.specs.Answers as answers
+use Rattle.analyser.specs.Functions.{routineIn}
+use Rattle.analyser.proofs.FunctionLaws.{passes-not, same-refused, runnable}
+use Rattle.interrupts.specs.Interrupts.{numbersOfRun, numbersOfVerdict, numbersOf, stepsOf, interrupted, interruptAnswer, numberOf, Numbered}
+
+-- ---- bounded afresh
+
+-- after STOP
+pub afresh-stopped : (M : State → Verdict) (s : State) (stopped : Bool) → stopped ≡ true → Shows (finishedOf (record { cycles = 0; words = 0; depth = 0 }) 0) (boundedAfresh M stopped s)
+unfolding boundedAfresh finishedOf acceptedAs encode
+afresh-stopped M s stopped e = rw e refl
+
+-- before it
+pub afresh-going : (c : Code) (ns : List ℕ) (fs : List Cell) (s : states.State) (budget : ℕ) (stopped : Bool) → stopped ≡ false → (r : Found) → Explores c ns fs s 32 budget r → Shows r (boundedAfresh (bound c budget) stopped (whole ns fs s))
+unfolding boundedAfresh bound
+afresh-going c ns fs s budget stopped e r x = rw e (x .shows)
+
+-- ---- the numbers
+
+-- the numbers of r, with the first as given, before others
+abbrev pub first-numbers : ℕ → Progress → List ℕ → List ℕ
+first-numbers stopped r ns = stopped ∷ r .state .at ∷ r .cycles ∷ r .words ∷ r .depth ∷ r .steps ∷ ns
+
+-- the numbers of an accepted answer
+abbrev pub accepted-numbers : Found → List ℕ
+accepted-numbers f = 0 ∷ 0 ∷ f .cycles ∷ f .words ∷ f .depth ∷ f .used ∷ f .path ∷ []
+
+-- and of a refusal
+abbrev pub refused-numbers : ℕ → ℕ → List ℕ
+refused-numbers n p = n ∷ p ∷ 0 ∷ 0 ∷ 0 ∷ 0 ∷ 0 ∷ []
+
+module _ (r : Progress) (f : Found) (stopped : ℕ) (e : stopped ≡ cond (r .stopped) 1 0) where
+  pub numbered-accepted : f .verdict ≡ Accepted → Numbered r f (first-numbers stopped r (accepted-numbers f))
+  unfolding numbersOfRun numbersOfVerdict ofProgress acceptedAs whole reblock
+  numbered-accepted a ns xs (accepted q) s = ap (λ d. first-numbers d r (accepted-numbers f)) e ∙ ap (λ g. first-numbers (cond (r .stopped) 1 0) r (accepted-numbers g)) s
+  numbered-accepted a ns xs (refused x) s = passes-not x (sym a ∙ s)
+
+  pub numbered-refused : (x : Refusal) → f .verdict ≡ Refused x → (n p : ℕ) → n ≡ number x → p ≡ place x → Numbered r f (first-numbers stopped r (refused-numbers n p))
+  unfolding numbersOfRun numbersOfVerdict ofProgress acceptedAs whole reblock
+  numbered-refused x a n p h k ns xs (accepted q) s = passes-not x (sym (ap (λ g. g .verdict) s) ∙ a)
+  numbered-refused x a n p h k ns xs (refused y) s = let z = same-refused x y (sym a ∙ s) in rw (e, h, k, z) refl
+
+-- of the run that r stands for
+pub numbers-are : (c : Code) (budget : ℕ) (ns : List ℕ) (xs : List ℤ) (r : Progress) (f : Found) (numbers : List ℕ) → Numbered r f numbers →
+    Shows f (boundedAfresh (bound c budget) (r .stopped) (whole ns (r .blocks) (r .state))) → (q : Run) → ofProgress ns xs r ≡ q → numbers ≡ numbersOf c budget q
+unfolding numbersOf ofProgress
+numbers-are c budget ns xs r f numbers n s q e = n ns xs _ s ∙ ap (numbersOf c budget) e
+
+-- ---- the numbers t written over the memory d, one by one
+
+module _ (d t : List ℕ) (i : ℕ) where
+  pub put-next : length t ≤ length d → i < length t → (o : List ℕ) → o ≡ over d 0 (take i t) → set o i (getD t i 0) ≡ over d 0 (take (i + 1) t)
+  put-next k h o e =
+      let z : i ≡ 0 + i = omega arith in
+      ap (λ (l : List ℕ). set l i (getD t i 0)) e ∙ ap (λ (j : ℕ). set (over d 0 (take i t)) j (getD t i 0)) z ∙ over-next d 0 t i (omega arith) h
+
+  pub put-all : i ≡ length t → (o : List ℕ) → o ≡ over d 0 (take i t) → o ≡ t ++ drop (length t) d
+  put-all h o e =
+      let z : 0 + length t ≡ length t = omega arith in
+      e ∙ ap (λ (j : ℕ). over d 0 (take j t)) h ∙ ap (over d 0) (take-length t) ∙ ap (λ (j : ℕ). t ++ drop j d) z
+
+-- ---- what is asked
+
+pub reached-explorable : (bs ns : List ℕ) (first : ℕ) (start : states.State) (fields : List Cell) (n budget : ℕ) → Runnable bs ns first start fields n → budget ≤ 1000000 →
+    (t : states.State) (fs : List Cell) → WellFormed t × Fits ns fs → Explorable bs ns first fs t 32 budget
+reached-explorable bs ns first start fields n budget a h t fs l =
+    record { addresses = a .addresses; formed = l .0; budget-fits = h; openings-fit = omega arith; fits = l .1 }
+
+pub interruptible : (x : Routine) → Limited x → (n : ℕ) → n ≤ 1000000 → Runnable (codes x) (sizes x) (x .first) (x .start) (x .fields) n
+interruptible x l n h = let a = runnable x l in record { addresses = a .addresses; formed = a .formed; fits = a .fits; steps = h }
+
+-- ---- a routine
+
+pub interrupted-is : (x : Routine) (n steps : ℕ) → steps ≡ stepsOf n → (ns : List ℕ) →
+    ns ≡ numbersOf (routineIn x .code) (routineIn x .budget) (after (routineIn x .code) steps (begin (routineIn x .start) (routineIn x .answers))) → ns ≡ interrupted (routineIn x) n
+unfolding interrupted
+interrupted-is x n steps h ns e = e ∙ ap (λ k. numbersOf (routineIn x .code) (routineIn x .budget) (after (routineIn x .code) k (begin (routineIn x .start) (routineIn x .answers)))) h
+
+-- ---- a text
+
+module _ (n : ℕ) where
+  pub steps-all : n < 1000000 → n ≡ stepsOf n
+  unfolding stepsOf
+  steps-all h = rw (lt-ltb n 1000000 h) refl
+
+  pub steps-most : 1000000 ≤ n → 1000000 ≡ stepsOf n
+  unfolding stepsOf
+  steps-most h = rw (le-ltb n 1000000 h) refl
+
+module _ (text : List ℕ) (n lent : ℕ) where
+  pub answer-short : lent < 13 → interruptAnswer text n lent ≡ answers.refused ReportMemory
+  unfolding interruptAnswer
+  answer-short h = rw (lt-ltb lent 13 h) refl
+
+  pub answer-refused : 13 ≤ lent → (x : Refusal) → readRun text ≡ readings.refused x → interruptAnswer text n lent ≡ answers.refused x
+  unfolding interruptAnswer ofReading
+  answer-refused h x e = rw (le-ltb lent 13 h, e) refl
+
+  pub answer-passed : 13 ≤ lent → (x : readings.Routine) → readRun text ≡ readings.routine x → interruptAnswer text n lent ≡ reported (interrupted x n)
+  unfolding interruptAnswer ofReading
+  answer-passed h x e = rw (le-ltb lent 13 h, e) refl
+
+-- the number told and the memory, of a refusal and of numbers
+module _ (a : Answer) (former : List ℕ) where
+  pub tells-refusal : (x : Refusal) → a ≡ answers.refused x → (k : ℕ) → k ≡ number x → (k ≡ numberOf a) × (former ≡ memory a former)
+  unfolding numberOf memory
+  tells-refusal x e k h = (rw (e, h) refl, rw e refl)
+
+  pub tells-numbers : (ns : List ℕ) → a ≡ reported ns → (out : List ℕ) → out ≡ ns ++ drop (length ns) former → (0 ≡ numberOf a) × (out ≡ memory a former)
+  unfolding numberOf memory
+  tells-numbers ns e out h = (rw e refl, rw e h)

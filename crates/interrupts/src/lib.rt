@@ -1,0 +1,241 @@
+// For the comparison in tests/ only: a run of a routine file, interrupted after a number of steps and bounded afresh. The meaning is in specs/.
+use cells::Cell;
+use findings::Found;
+use findings::Tally;
+use reader::Routine;
+use refusals::Refusal;
+use refusals::Verdict;
+use rows::Reader;
+use runs::Progress;
+use states::State;
+ghost use mathlib.Core.Path.{_≡_};
+ghost use mathlib.Core.List.{_++_};
+ghost use Prim.Native.Nat.{_≤_};
+ghost use lib.ListN.{length, drop};
+ghost use Rattle.states.specs.Columns.{codeOf, Sized};
+ghost use Rattle.states.specs.View.{whole};
+ghost use Rattle.bounds.specs.Tree.{bound};
+ghost use Rattle.bounds.specs.Run.{begin, after, boundedAfresh};
+ghost use Rattle.findings.specs.Found.{Shows};
+ghost use Rattle.runs.specs.Contract.{Runnable};
+ghost use Rattle.explore.specs.Contract.{Explorable};
+ghost use Rattle.reader.specs.Reader.{Limited};
+ghost use Rattle.analyser.specs.Answers.{memory};
+ghost use Rattle.analyser.specs.Functions.{routineIn};
+ghost use Rattle.interrupts.specs.Interrupts.{Numbered, numbersOf, stepsOf, interrupted, interruptAnswer, numberOf};
+
+// The state that a run has reached, bounded afresh.
+fn afresh(
+    codes: &[u8],
+    operands: &[i32],
+    cycles: &[u32],
+    words: &[u32],
+    sizes: &[u8],
+    first: usize,
+    stopped: bool,
+    state: State,
+    blocks: [Cell; 128],
+    budget: usize,
+) -> Found
+    requires { ⌜ Sized (now codes) (now operands) (now cycles) (now words) ⌝ }
+    requires { ⌜ Explorable (now codes) (now sizes) first blocks state 32 budget ⌝ }
+    ensures { λ r. ⌜ Shows r (boundedAfresh (bound (codeOf first (now (codes .entry)) (now (operands .entry)) (now (cycles .entry)) (now (words .entry))) budget) stopped (whole (now (sizes .entry)) blocks state)) ⌝ }
+{
+    if stopped {
+        let nothing = Tally {
+            cycles: 0,
+            words: 0,
+            depth: 0,
+        };
+        return findings::finished(nothing, 0);
+    }
+    explore::explore(
+        codes,
+        operands,
+        cycles,
+        words,
+        sizes,
+        first,
+        state,
+        blocks,
+        32,
+        budget,
+    )
+}
+
+// The numbers of a run so far and of what it was found to come to.
+fn numbers_of(r: Progress, found: Found) -> [u64; 13]
+    ensures { λ ns. ⌜ Numbered r found ns ⌝ }
+{
+    let state = r.state;
+    let at = state.at as u64;
+    let depth = r.depth as u64;
+    let steps = r.steps as u64;
+    let used = found.used as u64;
+    let stopped = if r.stopped { 1 } else { 0 };
+    let verdict = found.verdict;
+    match verdict {
+        Verdict::Accepted => {
+            return [
+                stopped,
+                at,
+                r.cycles,
+                r.words,
+                depth,
+                steps,
+                0,
+                0,
+                found.cycles,
+                found.words,
+                found.depth,
+                used,
+                found.path,
+            ];
+        }
+        Verdict::Refused(x) => {
+            let number = refusals::number(x);
+            let place = refusals::place(x);
+            return [
+                stopped,
+                at,
+                r.cycles,
+                r.words,
+                depth,
+                steps,
+                number,
+                place,
+                0,
+                0,
+                0,
+                0,
+                0,
+            ];
+        }
+    }
+}
+
+// The run of `n` steps, and its state bounded afresh.
+fn interrupt(
+    codes: &[u8],
+    operands: &[i32],
+    cycles: &[u32],
+    words: &[u32],
+    sizes: &[u8],
+    first: usize,
+    start: State,
+    fields: [Cell; 128],
+    answers: &[i32],
+    n: usize,
+    budget: usize,
+) -> [u64; 13]
+    requires { ⌜ Sized (now codes) (now operands) (now cycles) (now words) ⌝ }
+    requires { ⌜ Runnable (now codes) (now sizes) first start fields n × (budget ≤ 1000000) ⌝ }
+    ensures { λ r. ⌜ r ≡ numbersOf (codeOf first (now (codes .entry)) (now (operands .entry)) (now (cycles .entry)) (now (words .entry))) budget (after (codeOf first (now (codes .entry)) (now (operands .entry)) (now (cycles .entry)) (now (words .entry))) n (begin (whole (now (sizes .entry)) fields start) (now (answers .entry)))) ⌝ }
+{
+    let r = runs::after(
+        codes,
+        operands,
+        cycles,
+        words,
+        sizes,
+        first,
+        start,
+        fields,
+        answers,
+        n,
+    );
+    let state = r.state;
+    let blocks = r.blocks;
+    let found = afresh(
+        codes,
+        operands,
+        cycles,
+        words,
+        sizes,
+        first,
+        r.stopped,
+        state,
+        blocks,
+        budget,
+    );
+    numbers_of(r, found)
+}
+
+// The steps made of `n` that are asked for.
+fn steps_of(n: u64) -> usize
+    ensures { λ r. ⌜ r ≡ stepsOf n ⌝ }
+    ensures { λ r. ⌜ r ≤ 1000000 ⌝ }
+{
+    if n < 1000000 {
+        return n as usize;
+    }
+    1000000
+}
+
+// A routine, interrupted.
+fn interrupted(x: Routine, n: u64) -> [u64; 13]
+    requires { ⌜ Limited x ⌝ }
+    ensures { λ r. ⌜ r ≡ interrupted (routineIn x) n ⌝ }
+{
+    let columns = x.columns;
+    let codes = columns.codes;
+    let operands = columns.operands;
+    let cycles = columns.cycles;
+    let words = columns.words;
+    let sizes = x.sizes;
+    let fields = x.fields;
+    let start = x.start;
+    let answers = x.answers;
+    let values = answers.values;
+    let given = answers.count;
+    let count = x.count;
+    let blocks = x.blocks;
+    let steps = steps_of(n);
+    interrupt(
+        &codes[..count],
+        &operands[..count],
+        &cycles[..count],
+        &words[..count],
+        &sizes[..blocks],
+        x.first,
+        start,
+        fields,
+        &values[..given],
+        steps,
+        x.budget,
+    )
+}
+
+// Puts the numbers at the start of out.
+fn put_numbers(out: &mut [u64], numbers: [u64; 13])
+    requires { ⌜ 13 ≤ length (now out) ⌝ }
+    ensures { λ _. ⌜ now (out .exit) ≡ numbers ++ drop (length numbers) (now (out .entry)) ⌝ }
+{
+    let mut i = 0;
+    while i < 13 {
+        out[i] = numbers[i];
+        i += 1;
+    }
+}
+
+// A run of a routine file, interrupted after `n` steps and bounded afresh: its numbers in the lent memory, and 0 or the number of a refusal.
+#[no_mangle]
+pub extern "C" fn tickbound_test_after(text: &[u8], n: u64, out: &mut [u64]) -> u64
+    ensures { λ r. ⌜ r ≡ numberOf (interruptAnswer (now (text .entry)) n (length (now (out .entry)))) ⌝ }
+    ensures { λ _. ⌜ now (out .exit) ≡ memory (interruptAnswer (now (text .entry)) n (length (now (out .entry)))) (now (out .entry)) ⌝ }
+{
+    if out.len() < 13 {
+        return refusals::number(Refusal::ReportMemory);
+    }
+    let reading = reader::read(Reader::Run, text);
+    let verdict = reading.verdict;
+    match verdict {
+        Verdict::Accepted => {
+            let x = reading.routine;
+            let numbers = interrupted(x, n);
+            put_numbers(out, numbers);
+            0
+        }
+        Verdict::Refused(r) => refusals::number(r),
+    }
+}
