@@ -1,18 +1,24 @@
-//! The cases that document 01 gives with their answers: the independent implementation must give these too.
+//! The cases on the edges and the small examples of document 01, with the answers given there; and the files that the programs of
+//! `crates/` are run with, which are made of them.
+use crate::change::Base::{File, Named};
+use crate::change::Change::{FirstBytes, Nothing};
+use crate::change::Told::{Refusal, Report};
+use crate::change::{append, lines, made, refused, word, Base, Entry, Text};
+use crate::report::MEMORY;
+use crate::routine::TEXT_LIMIT;
 
-/// A text, whether it is for the run, and what is printed. The number is the document's; 0 is an example of its refusal table.
-pub struct Case {
-    pub number: usize,
-    pub text: String,
-    pub run: bool,
-    pub printed: &'static str,
+/// The published file.
+pub fn published() -> String {
+    include_str!("../../examples/published.txt").to_string()
 }
 
-const BOUND: &str = "CYCLES WORDS DEPTH STEPS SHARE PATH\n";
-
-const PUBLISHED: &str =
-    "BUDGET TICK\n1000 1000\nC_CALL1 BRANCHIF CONST2 ADDINT STOP\n10 5 2 7 1\n0 0 0 0 0\nREAD\n40\n4\n\
-ACCU S0\n0 ?\n-\n-\nAT OP ARG\n0 C_CALL1 READ\n1 BRANCHIF 4\n2 CONST2 -\n3 ADDINT -\n4 STOP -\n";
+const PUBLISHED: Base = File(published);
+/// With a number for its `?`.
+const PUBLISHED_KNOWN: Base = File(|| published().replace("0 ?", "0 0"));
+/// With BRANCH in the place of BRANCHIF.
+const PUBLISHED_BRANCH: Base = File(|| published().replace("BRANCHIF", "BRANCH"));
+const FIGURE_4: Base = File(|| include_str!("../../examples/figure4.txt").to_string());
+const STOP: Base = File(|| file(1000, "STOP", "1", "ACCU", "0", "0 STOP -\n"));
 
 /// A file from its budget, kinds with cycles, cells and code; TICK is 1000, words are 0.
 fn file(budget: u32, kinds: &str, cycles: &str, names: &str, cells: &str, code: &str) -> String {
@@ -22,62 +28,129 @@ fn file(budget: u32, kinds: &str, cycles: &str, names: &str, cells: &str, code: 
     )
 }
 
-/// The lines of `count` instructions of a kind, then STOP.
-fn repeated(count: usize, line: &str) -> String {
-    let lines: String = (0..count).map(|i| format!("{i} {line}\n")).collect();
-    format!("{lines}{count} STOP -\n")
+/// As many BRANCHIF, each to STOP behind them, with an unknown accumulator.
+fn branches(count: usize) -> String {
+    let code: String = (0..count).map(|i| format!("{i} BRANCHIF {count}\n")).collect();
+    file(1000, "BRANCHIF STOP", "5 1", "ACCU", "?", &format!("{code}{count} STOP -\n"))
 }
 
-pub fn cases() -> Vec<Case> {
-    let mut cases = Vec::new();
-    let mut case = |number, text, printed| cases.push(Case { number, text, run: false, printed });
-    case(1, PUBLISHED.to_string(), "65 4 1 6 65 N");
-    case(1, PUBLISHED.replace("1000 1000", "1000 2000"), "65 4 1 6 33 N");
-    for (budget, printed) in [(2, "REFUSED 9 1"), (3, "6 0 0 3 6 T")] {
-        case(2, file(budget, "BRANCHIF STOP", "5 1", "ACCU", "?", "0 BRANCHIF 1\n1 STOP -\n"), printed);
-    }
-    case(3, file(1, "STOP", "0", "ACCU", "0", "0 STOP -\n"), "0 0 0 1 0 -");
-    let two_ways = "0 BRANCHIF 3\n1 C_CALL1 A\n2 STOP -\n3 C_CALL1 B\n4 STOP -\n";
-    let text =
-        file(9, "BRANCHIF C_CALL1 STOP", "1 1 1", "ACCU", "?", two_ways).replacen("-\n-\n-", "A B\n10 4\n1 9", 1);
-    case(4, text, "13 9 0 5 13 N");
-    // each with a branch that tells the number
-    for (first, then) in [("CONSTINT 2147483647", "OFFSETINT 1"), ("CONSTINT -2147483648", "NEGINT -")] {
-        let code = format!(
-            "0 {first}\n1 {then}\n2 PUSH -\n3 CONSTINT -2147483648\n4 EQ -\n5 BRANCHIF 7\n6 ACC0 -\n7 STOP -\n"
-        );
-        let kinds = "CONSTINT OFFSETINT NEGINT PUSH EQ BRANCHIF ACC0 STOP";
-        case(5, file(99, kinds, "1 1 1 1 1 1 1 1", "ACCU", "0", &code), "7 0 1 7 7 -");
-    }
-    case(6, file(9, "ADDINT ACC0 STOP", "1 1 1", "ACCU S0", "? 5", "0 ADDINT -\n1 ACC0 -\n2 STOP -\n"), "REFUSED 7 1");
-    case(8, file(99, "BRANCHIF STOP", "0 0", "ACCU", "?", &repeated(32, "BRANCHIF 32")), "0 0 0 65 0 T");
-    case(8, file(99, "BRANCHIF STOP", "0 0", "ACCU", "?", &repeated(33, "BRANCHIF 33")), "REFUSED 8 32");
-    case(9, file(99, "PUSH STOP", "0 0", "ACCU", "0", &repeated(64, "PUSH -")), "0 0 64 65 0 -");
-    case(9, file(99, "PUSH STOP", "0 0", "ACCU", "0", &repeated(65, "PUSH -")), "REFUSED 7 64");
-    case(10, include_str!("../../examples/figure4.txt").to_string(), "2121 0 6 27 212 N");
-    // the table's small examples
-    case(0, String::new(), "REFUSED 2 1");
-    case(0, "\n".repeat(32_769), "REFUSED 1 0");
-    case(0, PUBLISHED.replace("1000 1000", "0 1000"), "REFUSED 3 2");
-    case(0, PUBLISHED.replace("0 ?\n-\n-", "0 #1\nB0.0\n5"), "REFUSED 4 10");
-    case(0, PUBLISHED.replace("ADDINT STOP\n", "ADDINT EQ\n"), "REFUSED 5 18");
-    case(0, PUBLISHED.replace("BRANCHIF 4", "BRANCHIF 5"), "REFUSED 6 15");
-    case(0, file(9, "PUSH", "1", "ACCU", "0", "0 PUSH -\n"), "REFUSED 7 1");
-    case(0, file(9, "BRANCH", "1", "ACCU", "0", "0 BRANCH 0\n"), "REFUSED 9 0");
-    let text = PUBLISHED.replace("0 ?", "0 0") + "ANSWER\n7\n";
-    cases.push(Case { number: 7, text, run: true, printed: "56 4 1 3" });
-    cases.push(Case { number: 0, text: PUBLISHED.to_string(), run: true, printed: "REFUSED 11 10" });
-    cases
+/// As many PUSH, then STOP.
+fn pushes(count: usize) -> String {
+    let code: String = (0..count).map(|i| format!("{i} PUSH -\n")).collect();
+    file(1000, "PUSH STOP", "1 1", "ACCU", "0", &format!("{code}{count} STOP -\n"))
 }
 
-impl Case {
-    /// The lines that are printed.
-    pub fn lines(&self) -> String {
-        let names = match (self.printed.starts_with("REFUSED"), self.run) {
-            (true, _) => "",
-            (false, true) => "CYCLES WORDS DEPTH STEPS\n",
-            (false, false) => BOUND,
-        };
-        format!("{names}{}\n", self.printed)
+/// Two lines of code, then a branch that tells whether the accumulator is the lowest number.
+fn gives_the_lowest(first: &str, then: &str) -> String {
+    let kinds = "CONSTINT OFFSETINT NEGINT PUSH EQ BRANCHIF ACC0 STOP";
+    let compared = "2 PUSH -\n3 CONSTINT -2147483648\n4 EQ -\n5 BRANCHIF 7\n6 ACC0 -\n7 STOP -\n";
+    file(99, kinds, "1 1 1 1 1 1 1 1", "ACCU", "0", &format!("0 {first}\n1 {then}\n{compared}"))
+}
+
+/// What `crates/cases` is run with: the published example (case 1, run: case 7), the cases that are not starred, each row's example.
+pub fn cases() -> Vec<Text> {
+    let mut texts = made([published_example(), not_starred(), refusal_table()].into_iter().flatten().collect());
+    // the program lends a byte less for it
+    texts.iter_mut().find(|text| text.name == "lent_127").unwrap().lent = MEMORY - 1;
+    texts
+}
+
+fn published_example() -> Vec<Entry> {
+    vec![
+        ("published", PUBLISHED, Nothing, [Report("65 4 1 6 65 N"), Refusal(11, 10)]),
+        ("published_tick_2000", PUBLISHED, word(2, 2, "2000"), [Report("65 4 1 6 33 N"), Refusal(11, 10)]),
+        ("published_run", PUBLISHED_KNOWN, append("ANSWER\n7\n"), [Report("65 4 1 6 65 N"), Report("56 4 1 3")]),
+    ]
+}
+
+/// Cases 8, 9 and 10.
+fn not_starred() -> Vec<Entry> {
+    let last_way_taken = Report("161 0 0 65 161 NNNNNNNNNNNNNNNNNNNNNNNNNNNNNNNT");
+    vec![
+        ("openings_32", File(|| branches(32)), Nothing, [last_way_taken, Refusal(11, 10)]),
+        ("openings_33", File(|| branches(33)), Nothing, [Refusal(8, 32), Refusal(11, 10)]),
+        (
+            "openings_33_all_known",
+            Named("openings_33"),
+            word(10, 1, "0"),
+            [Report("166 0 0 34 166 -"), Report("166 0 0 34")],
+        ),
+        ("push_64", File(|| pushes(64)), Nothing, [Report("65 0 64 65 65 -"), Report("65 0 64 65")]),
+        ("push_65", File(|| pushes(65)), Nothing, refused(7, 64)),
+        ("figure_4", FIGURE_4, Nothing, [Report("2121 0 6 27 212 N"), Refusal(11, 10)]),
+        (
+            "figure_4_run",
+            FIGURE_4,
+            lines(10, 12, "0 #0 1\nB0.0 B0.1\n0 0"),
+            [Report("2121 0 6 16 212 -"), Report("2121 0 6 16")],
+        ),
+    ]
+}
+
+/// The small examples of the refusal table; beside two of them the nearest text that this row does not refuse.
+fn refusal_table() -> Vec<Entry> {
+    let too_long = "A".repeat(TEXT_LIMIT + 1 - published().len());
+    let stop_unpriced = "C_CALL1 BRANCHIF CONST2 ADDINT\n10 5 2 7\n0 0 0 0";
+    let push: Base = File(|| file(1000, "PUSH", "1", "ACCU", "0", "0 PUSH -\n"));
+    let for_ever: Base = File(|| file(1000, "BRANCH", "1", "ACCU", "0", "0 BRANCH 0\n"));
+    let opens_for_ever: Base = File(|| file(1000, "BRANCHIF STOP", "5 1", "ACCU", "?", "0 BRANCHIF 0\n1 STOP -\n"));
+    vec![
+        ("lent_127", PUBLISHED, Nothing, refused(10, 0)),
+        ("bytes_32769", PUBLISHED, append(too_long), refused(1, 0)),
+        ("empty", PUBLISHED, FirstBytes(0), refused(2, 1)),
+        ("budget_0", PUBLISHED, word(2, 1, "0"), refused(3, 2)),
+        ("absent_block", PUBLISHED, lines(10, 12, "0 #1\nB0.0\n0"), refused(4, 10)),
+        ("present_block", PUBLISHED, lines(10, 12, "0 #0\nB0.0\n0"), refused(7, 3)),
+        ("stop_without_a_price", PUBLISHED, lines(3, 5, stop_unpriced), refused(5, 18)),
+        ("branch_5_in_0_to_4", PUBLISHED_BRANCH, word(15, 3, "5"), refused(6, 15)),
+        ("branch_4_in_0_to_4", PUBLISHED_BRANCH, Nothing, [Report("56 4 1 3 56 -"), Refusal(11, 10)]),
+        ("unknown_accumulator_in_a_run", STOP, word(10, 1, "?"), [Report("1 0 0 1 1 -"), Refusal(11, 10)]),
+        ("unknown_field_in_a_run", STOP, lines(11, 12, "B0.0\n?"), [Report("1 0 0 1 1 -"), Refusal(11, 12)]),
+        ("push_as_the_whole_code", push, Nothing, refused(7, 1)),
+        ("thirty_third_opening", opens_for_ever, Nothing, [Refusal(8, 0), Refusal(11, 10)]),
+        ("branch_0_at_0", for_ever, Nothing, refused(9, 0)),
+    ]
+}
+
+/// The other starred cases, 2 to 6, which `analyser` proves: the independent implementation must give these too.
+pub fn starred() -> Vec<Text> {
+    let one_branch: Base = File(|| file(2, "BRANCHIF STOP", "5 1", "ACCU", "?", "0 BRANCHIF 1\n1 STOP -\n"));
+    let two_calls: Base = File(|| {
+        let code = "0 BRANCHIF 3\n1 C_CALL1 A\n2 STOP -\n3 C_CALL1 B\n4 STOP -\n";
+        file(9, "BRANCHIF C_CALL1 STOP", "1 1 1", "ACCU", "?", code).replacen("-\n-\n-", "A B\n10 4\n1 9", 1)
+    });
+    let plus_1: Base = File(|| gives_the_lowest("CONSTINT 2147483647", "OFFSETINT 1"));
+    let negated: Base = File(|| gives_the_lowest("CONSTINT -2147483648", "NEGINT -"));
+    let pops: Base =
+        File(|| file(9, "ADDINT ACC0 STOP", "1 1 1", "ACCU S0", "? 5", "0 ADDINT -\n1 ACC0 -\n2 STOP -\n"));
+    made(vec![
+        ("case_2_budget_2", one_branch, Nothing, [Refusal(9, 1), Refusal(11, 10)]),
+        ("case_2_budget_3", one_branch, word(2, 1, "3"), [Report("6 0 0 3 6 T"), Refusal(11, 10)]),
+        ("case_3", STOP, word(4, 1, "0"), [Report("0 0 0 1 0 -"), Report("0 0 0 1")]),
+        ("case_4", two_calls, Nothing, [Report("13 9 0 5 13 N"), Refusal(11, 10)]),
+        ("case_5_plus_1", plus_1, Nothing, [Report("7 0 1 7 7 -"), Report("7 0 1 7")]),
+        ("case_5_negated", negated, Nothing, [Report("7 0 1 7 7 -"), Report("7 0 1 7")]),
+        ("case_6", pops, Nothing, [Refusal(7, 1), Refusal(11, 10)]),
+    ])
+}
+
+/// What the programs of `crates/` read and must print: paths from the root, and bytes. `cases` reads each text behind a line with its
+/// name and length.
+pub fn program_files() -> Vec<(&'static str, Vec<u8>)> {
+    let cases = cases();
+    let named = |name| cases.iter().find(|text| text.name == name).unwrap();
+    let (bound, run) = (named("published"), named("published_run"));
+    let (mut stdin, mut stdout) = (Vec::new(), Vec::new());
+    for text in &cases {
+        stdin.extend([format!("{} {}\n", text.name, text.bytes.len()).as_bytes(), &text.bytes, b"\n"].concat());
+        stdout.extend(format!("{}\n{}", text.name, text.printed().concat()).into_bytes());
     }
+    vec![
+        ("crates/bound/stdin", bound.bytes.clone()),
+        ("crates/bound/stdout", bound.printed()[0].clone().into_bytes()),
+        ("crates/run/stdin", run.bytes.clone()),
+        ("crates/run/stdout", run.printed()[1].clone().into_bytes()),
+        ("crates/cases/stdin", stdin),
+        ("crates/cases/stdout", stdout),
+    ]
 }

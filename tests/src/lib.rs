@@ -3,6 +3,7 @@
 pub mod analyser;
 pub mod bound;
 pub mod cases;
+pub mod change;
 pub mod damage;
 pub mod draft;
 pub mod generate;
@@ -11,4 +12,5 @@ pub mod random;
 pub mod report;
 pub mod routine;
 pub mod run;
+pub mod texts;
 pub mod writer;

@@ -1,15 +1,18 @@
-//! The analyser's C functions and programs compared with the independent implementation: on the cases of document 01, and on files
-//! from a seed.
+//! The analyser's C functions and programs compared with the independent implementation: on the cases of document 01 and on texts
+//! with the answers that it gives them, and on files from a seed.
 mod compare;
+mod pinned;
 
-use compare::{by_programs, compare, file, shown};
+use compare::{by_programs, file};
 use independent::analyser;
-use independent::cases::cases;
+use independent::cases::{cases, program_files, starred};
 use independent::damage::damaged;
 use independent::generate::draft;
 use independent::random::Random;
-use independent::report::{bound_answer, printed, run_answer, told, Answer, MEMORY};
+use independent::report::{bound_answer, told, Answer, MEMORY};
 use independent::routine::KINDS;
+use independent::texts::{texts, TEXTS};
+use pinned::pinned;
 use std::collections::{BTreeMap, BTreeSet};
 use std::path::Path;
 
@@ -53,17 +56,24 @@ impl Tally {
     }
 }
 
-/// The cases of the document, which have their answers there: both implementations must give these.
-fn compare_cases(tally: &mut Tally, programs: &Path, random: &mut Random) {
-    for case in cases() {
-        let text = case.text.as_bytes();
-        let own = if case.run { run_answer(text, MEMORY) } else { bound_answer(text, MEMORY) };
-        let found = if printed(&own) != case.lines().as_bytes() {
-            Err(format!("the independent implementation prints {}", shown(&own)))
-        } else {
-            compare(random, text).and_then(|answers| by_programs(programs, text, &answers))
-        };
-        tally.count(&format!("case {} of the document, which prints {:?}", case.number, case.printed), text, found);
+/// The cases of the document and the texts, and that none was lost.
+fn compare_pinned(tally: &mut Tally, programs: &Path, random: &mut Random) {
+    let texts = texts();
+    let count = if texts.len() == TEXTS { Ok(()) } else { Err(format!("{}, not {TEXTS}", texts.len())) };
+    tally.count("the count of the texts", &[], count);
+    for text in cases().iter().chain(&starred()).chain(&texts) {
+        let found = pinned(programs, random, text);
+        tally.count(&format!("the text {}", text.name), &text.bytes, found);
+    }
+}
+
+/// The files that the programs of `crates/` are run with stand as they are made.
+fn compare_program_files(tally: &mut Tally) {
+    for (path, made) in program_files() {
+        let as_made = std::fs::read(path).is_ok_and(|bytes| bytes == made);
+        let found =
+            if as_made { Ok(()) } else { Err("not as target/tests/release/program-files writes it".to_string()) };
+        tally.count(path, &made, found);
     }
 }
 
@@ -83,7 +93,7 @@ fn covers(tally: &Tally) -> Result<(), String> {
 /// The stack that the header asks for is enough at 32 openings: a call that needs more ends this program.
 fn small_stack(tally: &mut Tally) {
     const STACK: usize = 256 * 1024;
-    let deepest = cases().into_iter().find(|case| case.number == 8).unwrap().text.into_bytes();
+    let deepest = cases().into_iter().find(|text| text.name == "openings_32").unwrap().bytes;
     let text = deepest.clone();
     let call = move || analyser::bound(&text, &mut [0; MEMORY]);
     let answer = std::thread::Builder::new().stack_size(STACK).spawn(call).unwrap().join().unwrap();
@@ -104,7 +114,8 @@ fn main() {
 
     let mut tally = Tally::default();
     small_stack(&mut tally);
-    compare_cases(&mut tally, programs, &mut Random::new(seed));
+    compare_program_files(&mut tally);
+    compare_pinned(&mut tally, programs, &mut Random::new(seed));
     for number in 0..count {
         let mut random = Random::new(seed.wrapping_mul(1_000_003).wrapping_add(number));
         let mut parts = draft(&mut random);
