@@ -474,7 +474,7 @@ fn unknowns() -> Vec<Entry> {
     ]
 }
 
-/// "Checked in the order of the rows, each over the whole file": a lower row on an earlier line, or on the same list.
+/// "Checked in the order of the rows, each over the whole file": faults of two rows on two lines, mostly the later row's on the earlier line.
 fn rows_in_order() -> Vec<Entry> {
     vec![
         ("range_then_spelling", Named("budget_0"), word(18, 1, "04"), refused(2, 18)),
