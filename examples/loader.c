@@ -1,19 +1,23 @@
-/* A loader: reads a routine file, asks for its bound and prints the figures, or the refusal.
+/* A loader: reads a routine file, asks for its bound and decides whether the routine is loaded. It prints the figures
+ * of a routine that is, and otherwise why it is not.
  *
- *   rt staticlib analyser
- *   cc -I include -o target/loader examples/loader.c target/staticlib/libanalyser.a
- *   target/loader FILE
+ *   ./tickbound install PREFIX
+ *   cc -I PREFIX/include -o loader examples/loader.c -L PREFIX/lib -ltickbound
+ *   ./loader FILE
  *
- * Exit status: 0 a report, 1 a refusal, 2 anything else. */
+ * Exit status: 0 loaded, 1 refused, 4 over its tick (CYCLES is more than TICK), 2 anything else. */
+#include <inttypes.h>
 #include <stdio.h>
 
 #include "tickbound.h"
 
+enum { LOADED = 0, REFUSED = 1, FAILED = 2, OVER_ITS_TICK = 4 };
+
 /* What the place of a refusal is. */
 static const char *place_of(unsigned number) {
     switch (number) {
-    case TICKBOUND_MEMORY:
-    case TICKBOUND_TEXT_LENGTH:
+    case TICKBOUND_LENT_TOO_LITTLE:
+    case TICKBOUND_TEXT_TOO_LONG:
         return "place";
     case TICKBOUND_STUCK:
     case TICKBOUND_OPENINGS:
@@ -30,36 +34,40 @@ static uint8_t text[TICKBOUND_TEXT_LIMIT + 1];
 int main(int argc, char **argv) {
     if (argc != 2) {
         fprintf(stderr, "usage: loader FILE\n");
-        return 2;
+        return FAILED;
     }
     FILE *file = fopen(argv[1], "rb");
     if (file == NULL) {
         perror(argv[1]);
-        return 2;
+        return FAILED;
     }
     size_t length = fread(text, 1, sizeof text, file);
     if (ferror(file)) {
         perror(argv[1]);
         fclose(file);
-        return 2;
+        return FAILED;
     }
     fclose(file);
 
-    uint8_t report[TICKBOUND_REPORT_MEMORY + 1];
-    uint64_t answer = tickbound_bound(text, length, report, TICKBOUND_REPORT_MEMORY);
+    uint8_t bytes[TICKBOUND_REPORT_MEMORY];
+    uint64_t answer = tickbound_bound(text, length, bytes, sizeof bytes);
     if (tickbound_is_refused(answer)) {
         unsigned number = tickbound_number(answer);
-        printf("not loaded: refusal %u at %s %lu\n", number, place_of(number), (unsigned long)tickbound_place(answer));
-        return 1;
+        printf("not loaded: refusal %u at %s %" PRIu32 "\n", number, place_of(number), tickbound_place(answer));
+        return REFUSED;
     }
-    report[tickbound_report_length(answer)] = 0;
-
-    unsigned long long cycles, words, depth, steps, share;
-    char path[33];
-    if (sscanf((const char *)report, "CYCLES WORDS DEPTH STEPS SHARE PATH %llu %llu %llu %llu %llu %32s", &cycles, &words, &depth, &steps, &share, path) != 6) {
+    struct tickbound_report report;
+    uint64_t tick = tickbound_tick(text, length);
+    if (!tickbound_read_report(bytes, tickbound_report_length(answer), &report) || tick == 0) {
         fprintf(stderr, "loader: not a report\n");
-        return 2;
+        return FAILED;
     }
-    printf("cycles %llu, %llu thousandths of a tick\nwords %llu\ndepth %llu\nsteps %llu\npath %s\n", cycles, share, words, depth, steps, path);
-    return 0;
+    if (report.cycles > tick) {
+        printf("not loaded: %" PRIu64 " cycles are more than the %" PRIu64 " of a tick\n", report.cycles, tick);
+        return OVER_ITS_TICK;
+    }
+    printf("cycles %" PRIu64 " of %" PRIu64 ", %" PRIu64 " thousandths of a tick\n", report.cycles, tick, report.share);
+    printf("words %" PRIu64 "\ndepth %" PRIu64 "\nsteps %" PRIu64 "\n", report.words, report.depth, report.steps);
+    printf("path %s\n", report.path[0] != 0 ? report.path : "-");
+    return LOADED;
 }

@@ -1,6 +1,8 @@
 /* The bound of a routine and the run of a routine, for a loader in C.
  *
- * Link with target/staticlib/libanalyser.a (`rt staticlib analyser` writes it, x86-64 Linux).
+ * `tickbound install PREFIX` puts this header into PREFIX/include and the library to link with into PREFIX/lib:
+ * `cc -I PREFIX/include .. -L PREFIX/lib -ltickbound`, on x86-64 Linux. In the repository `rt staticlib analyser`
+ * writes the same library to target/staticlib/libanalyser.a.
  *
  * Both functions read a routine file of `text_length` bytes at `text`, and write a report into the
  * `report_length` bytes lent at `report`.
@@ -23,13 +25,18 @@
  *
  * So no answer is 0. A routine that costs nothing has a report (`0 0 0 1 0 -`), and its answer is that
  * report's length; a refused routine has no figures at all. Ask `tickbound_is_refused` before anything is
- * read from the report's memory. */
+ * read from the report's memory.
+ *
+ * `tickbound_read_report` and `tickbound_read_run_report` read the figures of a report as numbers, and
+ * `tickbound_tick` the TICK of a routine file. They stand in this header whole and need no library. A routine is
+ * loaded only where its `cycles` are at most TICK: `share` is rounded and does not decide. */
 #ifndef TICKBOUND_H
 #define TICKBOUND_H
 
 #include <stdbool.h>
 #include <stddef.h>
 #include <stdint.h>
+#include <string.h>
 
 #ifdef __cplusplus
 extern "C" {
@@ -41,10 +48,13 @@ extern "C" {
 /* The longest text that is not refused by 1. */
 #define TICKBOUND_TEXT_LIMIT 32768
 
+/* The most letters that a path has. */
+#define TICKBOUND_PATH_LIMIT 32
+
 /* The numbers of the refusals. The place is 0 for 10 and 1, a line of the text for 2 to 6 and 11, and an
  * address of the code for 7, 8 and 9. */
 enum {
-    TICKBOUND_TEXT_LENGTH = 1,
+    TICKBOUND_TEXT_TOO_LONG = 1,
     TICKBOUND_LAYOUT = 2,
     TICKBOUND_OUT_OF_RANGE = 3,
     TICKBOUND_BAD_NAME = 4,
@@ -53,7 +63,7 @@ enum {
     TICKBOUND_STUCK = 7,
     TICKBOUND_OPENINGS = 8,
     TICKBOUND_SPENT = 9,
-    TICKBOUND_MEMORY = 10,
+    TICKBOUND_LENT_TOO_LITTLE = 10,
     TICKBOUND_UNKNOWN_CELL = 11
 };
 
@@ -78,9 +88,121 @@ static inline unsigned tickbound_number(uint64_t answer) {
     return tickbound_is_refused(answer) ? (unsigned)(answer >> 32 & 0xffff) : 0;
 }
 
-/* The place of a refusal. */
+/* The place of a refusal; 0 where the answer is a report. (0 is the place of refusals 10 and 1 too.) */
 static inline uint32_t tickbound_place(uint64_t answer) {
-    return (uint32_t)(answer & 0xffffffff);
+    return tickbound_is_refused(answer) ? (uint32_t)(answer & 0xffffffff) : 0;
+}
+
+/* The figures of a bound. `path` is the letters of the decisions, N or T, ended by a 0; where there is none, it is
+ * empty (the report has `-` there). */
+struct tickbound_report {
+    uint64_t cycles, words, depth, steps, share;
+    char path[TICKBOUND_PATH_LIMIT + 1];
+};
+
+/* The figures of a run. */
+struct tickbound_run_report {
+    uint64_t cycles, words, depth, steps;
+};
+
+/* Bytes that are still to be read. The functions up to `tickbound_take_path` are for those below them: each passes over
+ * what it reads and says true, or says false. */
+struct tickbound_bytes {
+    const uint8_t *next;
+    size_t count;
+};
+
+/* The bytes of a string. */
+static inline bool tickbound_take_string(struct tickbound_bytes *bytes, const char *string) {
+    size_t length = strlen(string);
+    if (bytes->count < length || memcmp(bytes->next, string, length) != 0) {
+        return false;
+    }
+    bytes->next += length;
+    bytes->count -= length;
+    return true;
+}
+
+/* One of the bytes from `low` to `high`. */
+static inline bool tickbound_take_byte(struct tickbound_bytes *bytes, char low, char high, uint8_t *byte) {
+    if (bytes->count == 0 || *bytes->next < (uint8_t)low || *bytes->next > (uint8_t)high) {
+        return false;
+    }
+    *byte = *bytes->next++;
+    bytes->count--;
+    return true;
+}
+
+/* A decimal number without leading zeros that 64 bits hold, and the string that ends it. */
+static inline bool tickbound_take_number(struct tickbound_bytes *bytes, const char *ending, uint64_t *number) {
+    uint8_t digit;
+    if (!tickbound_take_byte(bytes, '0', '9', &digit)) {
+        return false;
+    }
+    uint64_t value = (uint64_t)(digit - '0');
+    while (value != 0 && tickbound_take_byte(bytes, '0', '9', &digit)) {
+        if (value > (UINT64_MAX - (uint64_t)(digit - '0')) / 10) {
+            return false;
+        }
+        value = 10 * value + (uint64_t)(digit - '0');
+    }
+    *number = value;
+    return tickbound_take_string(bytes, ending);
+}
+
+/* The decisions of a path, or `-` for none, and a line feed. */
+static inline bool tickbound_take_path(struct tickbound_bytes *bytes, char *path) {
+    size_t length = 0;
+    uint8_t letter;
+    while (length < TICKBOUND_PATH_LIMIT &&
+           (tickbound_take_byte(bytes, 'N', 'N', &letter) || tickbound_take_byte(bytes, 'T', 'T', &letter))) {
+        path[length++] = (char)letter;
+    }
+    path[length] = 0;
+    return tickbound_take_string(bytes, length == 0 ? "-\n" : "\n");
+}
+
+/* Reads the report of a bound. False, with `report` unchanged, where the bytes are not exactly a report: its line of
+ * names, then five numbers and a path, parted by one space, and a line feed. */
+static inline bool tickbound_read_report(const uint8_t *bytes, size_t length, struct tickbound_report *report) {
+    struct tickbound_bytes left = {bytes, length};
+    struct tickbound_report read;
+    memset(&read, 0, sizeof read);
+    if (!tickbound_take_string(&left, "CYCLES WORDS DEPTH STEPS SHARE PATH\n") ||
+        !tickbound_take_number(&left, " ", &read.cycles) || !tickbound_take_number(&left, " ", &read.words) ||
+        !tickbound_take_number(&left, " ", &read.depth) || !tickbound_take_number(&left, " ", &read.steps) ||
+        !tickbound_take_number(&left, " ", &read.share) || !tickbound_take_path(&left, read.path) || left.count != 0) {
+        return false;
+    }
+    *report = read;
+    return true;
+}
+
+/* Reads the report of a run. False, with `report` unchanged, where the bytes are not exactly a run's report: its line
+ * of names, then four numbers, parted by one space, and a line feed. */
+static inline bool tickbound_read_run_report(const uint8_t *bytes, size_t length, struct tickbound_run_report *report) {
+    struct tickbound_bytes left = {bytes, length};
+    struct tickbound_run_report read;
+    if (!tickbound_take_string(&left, "CYCLES WORDS DEPTH STEPS\n") ||
+        !tickbound_take_number(&left, " ", &read.cycles) || !tickbound_take_number(&left, " ", &read.words) ||
+        !tickbound_take_number(&left, " ", &read.depth) || !tickbound_take_number(&left, "\n", &read.steps) ||
+        left.count != 0) {
+        return false;
+    }
+    *report = read;
+    return true;
+}
+
+/* TICK, the second number on line 2 of a routine file; 0, which is no TICK, where the text does not begin as a routine
+ * file does. Every text that has a report has a TICK. */
+static inline uint64_t tickbound_tick(const uint8_t *text, size_t text_length) {
+    struct tickbound_bytes left = {text, text_length};
+    uint64_t budget, tick;
+    if (!tickbound_take_string(&left, "BUDGET TICK\n") || !tickbound_take_number(&left, " ", &budget) ||
+        !tickbound_take_number(&left, "\n", &tick)) {
+        return 0;
+    }
+    return tick;
 }
 
 #ifdef __cplusplus

@@ -1,0 +1,235 @@
+/* What include/tickbound.h reads: reports, damaged reports, the TICK of a file, and answers taken apart.
+ *
+ *   cc -I include -o target/report tests/report.c
+ *   target/report
+ *
+ * Prints each case that is not as it must be. The last line is `N passed, M failed`; the exit status is 0 only if
+ * nothing failed. */
+#include <inttypes.h>
+#include <stdio.h>
+
+#include "tickbound.h"
+
+#define NAMES "CYCLES WORDS DEPTH STEPS SHARE PATH\n"
+#define RUN_NAMES "CYCLES WORDS DEPTH STEPS\n"
+#define N32 "NNNNNNNNNNNNNNNNNNNNNNNNNNNNNNNN"
+#define MOST "18446744073709551615"
+
+static unsigned passed, failed;
+
+static void check(bool is_right, const char *what) {
+    if (is_right) {
+        passed++;
+    } else {
+        failed++;
+        printf("not as it must be: %s\n", what);
+    }
+}
+
+/* Figures that no report has, to show that refused bytes leave them. */
+static const struct tickbound_report former = {1, 2, 3, 4, 5, "TNT"};
+static const struct tickbound_run_report former_run = {1, 2, 3, 4};
+
+static bool same(const struct tickbound_report *a, const struct tickbound_report *b) {
+    return a->cycles == b->cycles && a->words == b->words && a->depth == b->depth && a->steps == b->steps && a->share == b->share &&
+           strcmp(a->path, b->path) == 0;
+}
+
+static bool same_run(const struct tickbound_run_report *a, const struct tickbound_run_report *b) {
+    return a->cycles == b->cycles && a->words == b->words && a->depth == b->depth && a->steps == b->steps;
+}
+
+/* The bytes are a report with these figures. */
+static void reads(const char *bytes, uint64_t cycles, uint64_t words, uint64_t depth, uint64_t steps, uint64_t share, const char *path) {
+    struct tickbound_report got = former, wanted = {cycles, words, depth, steps, share, ""};
+    strcpy(wanted.path, path);
+    check(tickbound_read_report((const uint8_t *)bytes, strlen(bytes), &got) && same(&got, &wanted), bytes);
+}
+
+static void reads_run(const char *bytes, uint64_t cycles, uint64_t words, uint64_t depth, uint64_t steps) {
+    struct tickbound_run_report got = former_run, wanted = {cycles, words, depth, steps};
+    check(tickbound_read_run_report((const uint8_t *)bytes, strlen(bytes), &got) && same_run(&got, &wanted), bytes);
+}
+
+static bool is_refused(const uint8_t *bytes, size_t length) {
+    struct tickbound_report got = former;
+    return !tickbound_read_report(bytes, length, &got) && same(&got, &former);
+}
+
+static bool is_refused_run(const uint8_t *bytes, size_t length) {
+    struct tickbound_run_report got = former_run;
+    return !tickbound_read_run_report(bytes, length, &got) && same_run(&got, &former_run);
+}
+
+/* The bytes are no report, and the figures stay as they are. */
+static void refuses(const char *bytes) {
+    check(is_refused((const uint8_t *)bytes, strlen(bytes)), bytes);
+}
+
+static void refuses_run(const char *bytes) {
+    check(is_refused_run((const uint8_t *)bytes, strlen(bytes)), bytes);
+}
+
+/* Every byte of a report exchanged for every byte: so many of these are reports, and each prints as it was read. */
+static void changed_bytes(const char *report, unsigned wanted) {
+    size_t length = strlen(report);
+    unsigned found = 0;
+    bool is_right = true;
+    for (size_t at = 0; at < length; at++) {
+        for (unsigned byte = 0; byte < 256; byte++) {
+            uint8_t bytes[TICKBOUND_REPORT_MEMORY];
+            char again[2 * TICKBOUND_REPORT_MEMORY];
+            struct tickbound_report got;
+            memcpy(bytes, report, length);
+            bytes[at] = (uint8_t)byte;
+            if (!tickbound_read_report(bytes, length, &got)) {
+                is_right = is_right && is_refused(bytes, length);
+                continue;
+            }
+            found++;
+            int printed = snprintf(again, sizeof again, NAMES "%" PRIu64 " %" PRIu64 " %" PRIu64 " %" PRIu64 " %" PRIu64 " %s\n", got.cycles,
+                                   got.words, got.depth, got.steps, got.share, got.path[0] != 0 ? got.path : "-");
+            is_right = is_right && (size_t)printed == length && memcmp(again, bytes, length) == 0;
+        }
+    }
+    if (found != wanted) {
+        printf("%u changed reports are reports, not %u\n", found, wanted);
+    }
+    check(is_right && found == wanted, report);
+}
+
+/* No report with bytes left off at its end or at its start is a report. */
+static void cut_off(const char *report) {
+    size_t length = strlen(report);
+    bool is_right = true;
+    for (size_t n = 0; n < length; n++) {
+        is_right = is_right && is_refused((const uint8_t *)report, n);
+        is_right = is_right && (n == 0 || is_refused((const uint8_t *)report + n, length - n));
+    }
+    check(is_right, "a report cut off");
+}
+
+static void tick_is(const char *text, uint64_t wanted) {
+    check(tickbound_tick((const uint8_t *)text, strlen(text)) == wanted, text);
+}
+
+static void answer_is(uint64_t answer, bool refused, size_t length, unsigned number, uint32_t place) {
+    check(tickbound_is_refused(answer) == refused && tickbound_report_length(answer) == length && tickbound_number(answer) == number &&
+              tickbound_place(answer) == place,
+          "an answer taken apart");
+}
+
+int main(void) {
+    reads(NAMES "65 4 1 6 65 N\n", 65, 4, 1, 6, 65, "N");
+    reads(NAMES "0 0 0 1 0 -\n", 0, 0, 0, 1, 0, "");
+    reads(NAMES "8233 17 4 99 206 NNNN\n", 8233, 17, 4, 99, 206, "NNNN");
+    reads(NAMES "6 0 0 3 6 T\n", 6, 0, 0, 3, 6, "T");
+    reads(NAMES "10 100 64 1000000 1000 NTTN\n", 10, 100, 64, 1000000, 1000, "NTTN");
+    reads(NAMES "1 1 1 1 1 " N32 "\n", 1, 1, 1, 1, 1, N32);
+    reads(NAMES MOST " 1 2 3 4 -\n", UINT64_MAX, 1, 2, 3, 4, "");
+    reads(NAMES "1 18446744073709551609 2 3 4 -\n", 1, 18446744073709551609u, 2, 3, 4, "");
+    reads(NAMES "1 2 3 4 " MOST " T\n", 1, 2, 3, 4, UINT64_MAX, "T");
+
+    check(is_refused(NULL, 0), "no bytes");
+    check(is_refused((const uint8_t *)NAMES "65 4 1 6 65 N\n\0", sizeof NAMES "65 4 1 6 65 N\n"), "a 0 after a report");
+    check(is_refused((const uint8_t *)NAMES "65 4 1 6 65 N\0\n", sizeof NAMES "65 4 1 6 65 N\n"), "a 0 in a report");
+    refuses("REFUSED 8 1\n");
+    refuses(NAMES);
+    refuses("65 4 1 6 65 N\n");
+    refuses(RUN_NAMES "65 4 1 6\n");
+    refuses(NAMES "65 4 1 6\n");
+    refuses(NAMES "65 4 1 6 65\n");
+    refuses(NAMES "65 4 1 6 65 \n");
+    refuses(NAMES "65 4 1 6 65 N");
+    refuses(NAMES "65 4 1 6 65 N\n\n");
+    refuses(NAMES "65 4 1 6 65 N\nx");
+    refuses(NAMES "65 4 1 6 65 N \n");
+    refuses(NAMES "65 4 1 6 65 N\r\n");
+    refuses(NAMES "65 4 1 6 65  N\n");
+    refuses(NAMES "65  4 1 6 65 N\n");
+    refuses(NAMES " 65 4 1 6 65 N\n");
+    refuses(NAMES "65\t4 1 6 65 N\n");
+    refuses(NAMES "65 4 1 6 65 7 N\n");
+    refuses(NAMES "065 4 1 6 65 N\n");
+    refuses(NAMES "65 00 1 6 65 N\n");
+    refuses(NAMES "65 4 01 6 65 N\n");
+    refuses(NAMES "65 4 1 06 65 N\n");
+    refuses(NAMES "65 4 1 6 00065 N\n");
+    refuses(NAMES "-65 4 1 6 65 N\n");
+    refuses(NAMES "-0 4 1 6 65 N\n");
+    refuses(NAMES "+65 4 1 6 65 N\n");
+    refuses(NAMES "6x5 4 1 6 65 N\n");
+    refuses(NAMES "0x41 4 1 6 65 N\n");
+    refuses(NAMES "65 ? 1 6 65 N\n");
+    refuses(NAMES "65  1 6 65 N\n");
+    refuses(NAMES "18446744073709551616 4 1 6 65 N\n");
+    refuses(NAMES "65 18446744073709551620 1 6 65 N\n");
+    refuses(NAMES "65 4 99999999999999999999 6 65 N\n");
+    refuses(NAMES "65 4 1 184467440737095516150 65 N\n");
+    refuses(NAMES "65 4 1 6 100000000000000000000000000000 N\n");
+    refuses(NAMES "65 4 1 6 65 n\n");
+    refuses(NAMES "65 4 1 6 65 X\n");
+    refuses(NAMES "65 4 1 6 65 NTX\n");
+    refuses(NAMES "65 4 1 6 65 N-\n");
+    refuses(NAMES "65 4 1 6 65 -N\n");
+    refuses(NAMES "65 4 1 6 65 --\n");
+    refuses(NAMES "65 4 1 6 65 N N\n");
+    refuses(NAMES "65 4 1 6 65 " N32 "T\n");
+    refuses("CYCLES WORDS DEPTH STEPS PATH SHARE\n65 4 1 6 65 N\n");
+    refuses("cycles WORDS DEPTH STEPS SHARE PATH\n65 4 1 6 65 N\n");
+    refuses("CYCLES WORDS DEPTH STEPS SHARE PATH \n65 4 1 6 65 N\n");
+    refuses("CYCLES WORDS DEPTH STEPS SHARE PATH\r\n65 4 1 6 65 N\n");
+    refuses("CYCLES WORDS DEPTH STEPS SHARE PATH 65 4 1 6 65 N\n");
+    refuses("\n" NAMES "65 4 1 6 65 N\n");
+    cut_off(NAMES "65 4 1 6 65 N\n");
+    cut_off(NAMES "8233 17 4 99 206 NNNN\n");
+    cut_off(NAMES "0 0 0 1 0 -\n");
+    /* 36 names bytes and 6 parting ones stay; a first digit of two can be 9 digits, another digit 10, a path 3 letters */
+    changed_bytes(NAMES "65 4 1 6 65 N\n", 36 + 6 + 9 + 10 + 10 + 10 + 10 + 9 + 10 + 3);
+    changed_bytes(NAMES "0 0 0 1 0 -\n", 36 + 6 + 5 * 10 + 3);
+    /* here a digit between two can be a space in no place, since a figure more is no report */
+    changed_bytes(NAMES "123 4 1 6 65 NT\n", 36 + 6 + 9 + 10 + 10 + 10 + 10 + 10 + 9 + 10 + 2 + 2);
+
+    reads_run(RUN_NAMES "56 4 1 3\n", 56, 4, 1, 3);
+    reads_run(RUN_NAMES "0 0 0 1\n", 0, 0, 0, 1);
+    reads_run(RUN_NAMES "8233 17 4 33\n", 8233, 17, 4, 33);
+    reads_run(RUN_NAMES "0 1 2 " MOST "\n", 0, 1, 2, UINT64_MAX);
+    check(is_refused_run(NULL, 0), "no bytes");
+    check(is_refused_run((const uint8_t *)RUN_NAMES "56 4 1 3\n", sizeof RUN_NAMES "56 4 1 3\n"), "a 0 after a run's report");
+    refuses_run("REFUSED 11 10\n");
+    refuses_run(RUN_NAMES);
+    refuses_run(NAMES "65 4 1 6 65 N\n");
+    refuses_run(RUN_NAMES "65 4 1 6 65 N\n");
+    refuses_run(RUN_NAMES "56 4 1\n");
+    refuses_run(RUN_NAMES "56 4 1 3 \n");
+    refuses_run(RUN_NAMES "56 4 1 3");
+    refuses_run(RUN_NAMES "56 4 1 3\n\n");
+    refuses_run(RUN_NAMES "56 4 1 03\n");
+    refuses_run(RUN_NAMES "56 4 1 -\n");
+    refuses_run(RUN_NAMES "56 4 1 18446744073709551616\n");
+
+    tick_is("BUDGET TICK\n1000 1000\nSTOP\n", 1000);
+    tick_is("BUDGET TICK\n1 4000000000\n", 4000000000u);
+    tick_is("BUDGET TICK\n1000000 1\n", 1);
+    tick_is("", 0);
+    tick_is("BUDGET TICK\n", 0);
+    tick_is("BUDGET TICK\n1000 1000", 0);
+    tick_is("BUDGET TICK\n1000 1000 1000\n", 0);
+    tick_is("BUDGET TICK\n1000\n", 0);
+    tick_is("BUDGET TICK\n1000 0100\n", 0);
+    tick_is("BUDGET TICK\n1000 -1\n", 0);
+    tick_is("TICK BUDGET\n1000 1000\n", 0);
+    check(tickbound_tick(NULL, 0) == 0, "the TICK of no text");
+
+    answer_is(1, false, 1, 0, 0);
+    answer_is(50, false, 50, 0, 0);
+    answer_is(TICKBOUND_REPORT_MEMORY, false, 128, 0, 0);
+    answer_is(0x800000020000000e, true, 0, TICKBOUND_LAYOUT, 14);
+    answer_is(0x8000000a00000000, true, 0, 10, 0);
+    answer_is(0x800000070000f230, true, 0, 7, 62000);
+    /* no function gives this one: without bit 63 there is no refusal to take a number or a place from */
+    answer_is(0x0000000700000005, false, (size_t)0x700000005, 0, 0);
+
+    printf("%u passed, %u failed\n", passed, failed);
+    return failed == 0 ? 0 : 1;
+}
