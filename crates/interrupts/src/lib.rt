@@ -144,8 +144,8 @@ fn interrupt(
         answers,
         n,
     );
-    let state = r.state;
-    let blocks = r.blocks;
+    let reached = r.state;
+    let written = r.blocks;
     let found = afresh(
         codes,
         operands,
@@ -154,8 +154,8 @@ fn interrupt(
         sizes,
         first,
         r.stopped,
-        state,
-        blocks,
+        reached,
+        written,
         budget,
     );
     numbers_of(r, found)

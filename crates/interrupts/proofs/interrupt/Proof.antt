@@ -10,7 +10,7 @@ after-requires c κs = let s = c .before .before .before .before in (s .pre .0, 
 afresh-requires : tie.Need-afresh-requires
 afresh-requires c κs =
     let s = c .before .before .before .before .before .before .before in
-    (s .pre .0, reached-explorable _ _ _ _ _ _ _ (s .pre .1 .0) (s .pre .1 .1) _ _ (c .before .before .after .ensures .1 .1))
+    (s .pre .0, reached-explorable _ _ _ _ _ _ _ (s .pre .1 .0) (s .pre .1 .1) _ _ (search (s .pre .1 .0, c .before .before .after .ensures .1 .1)))
 
 numbers-of-requires : tie.Need-numbers-of-requires
 numbers-of-requires c κs = search needs
