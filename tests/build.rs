@@ -1,6 +1,8 @@
-//! Where the static library of the analyser is.
+//! Where the static libraries are: of the analyser, and of the functions for tests.
 fn main() {
     let root = std::path::Path::new(env!("CARGO_MANIFEST_DIR")).join("../target/staticlib");
     println!("cargo:rustc-link-search=native={}", root.display());
-    println!("cargo:rerun-if-changed={}", root.join("libanalyser.a").display());
+    for library in ["libanalyser.a", "libinterrupts.a"] {
+        println!("cargo:rerun-if-changed={}", root.join(library).display());
+    }
 }

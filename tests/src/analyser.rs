@@ -5,6 +5,14 @@ extern "C" {
     fn tickbound_run(text: *const u8, text_length: usize, report: *mut u8, report_length: usize) -> u64;
 }
 
+#[link(name = "interrupts", kind = "static")]
+extern "C" {
+    fn tickbound_test_after(text: *const u8, text_length: usize, n: u64, out: *mut u64, out_length: usize) -> u64;
+}
+
+/// The numbers of a run that is interrupted: where it has come to, and its state bounded afresh.
+pub const NUMBERS: usize = 13;
+
 /// A function of the analyser over a text and lent report memory; it gives the number told.
 pub type Function = fn(&[u8], &mut [u8]) -> u64;
 
@@ -16,6 +24,16 @@ pub fn bound(text: &[u8], report: &mut [u8]) -> u64 {
 pub fn run(text: &[u8], report: &mut [u8]) -> u64 {
     // SAFETY: as above.
     unsafe { tickbound_run(start(text), text.len(), start_mut(report), report.len()) }
+}
+
+/// The run of a file, interrupted after `n` steps and bounded afresh; or the number of its refusal.
+pub fn after(text: &[u8], n: u64) -> Result<[u64; NUMBERS], u64> {
+    let mut numbers = [0; NUMBERS];
+    // SAFETY: as above.
+    match unsafe { tickbound_test_after(start(text), text.len(), n, numbers.as_mut_ptr(), NUMBERS) } {
+        0 => Ok(numbers),
+        refusal => Err(refusal),
+    }
 }
 
 fn start(memory: &[u8]) -> *const u8 {

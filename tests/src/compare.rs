@@ -1,10 +1,10 @@
 //! What is compared on one text.
-use independent::analyser::{self, Function};
-use independent::bound::{bound, Figures};
-use independent::machine::{Cell, State};
+use independent::analyser::{self, Function, NUMBERS};
+use independent::bound::{bound, Figures, Path as Decisions};
+use independent::machine::State;
 use independent::random::Random;
 use independent::report::{bound_answer, printed, run_answer, told, Answer, MEMORY};
-use independent::routine::{read, TEXT_LIMIT};
+use independent::routine::{read, Routine, TEXT_LIMIT};
 use independent::run::Run;
 use std::io::Write;
 use std::path::Path;
@@ -109,40 +109,72 @@ fn runs_within(random: &mut Random, text: &[u8], report: &[u8]) -> Result<(), St
     Ok(())
 }
 
-/// Demand 3, of the independent implementation: runs of an accepted file, interrupted anywhere.
-fn interrupted(random: &mut Random, text: &[u8]) -> Result<(), String> {
+/// Nothing is left of a run that has made its STOP.
+const NOTHING: Figures = Figures { cycles: 0, words: 0, depth: 0, steps: 0, path: Decisions { taken: 0, length: 0 } };
+
+/// A run of an accepted file, interrupted after `n` steps, and its state bounded afresh.
+fn interrupt(routine: &Routine, start: State, answers: &[i32], n: usize) -> Result<(Run, Figures), String> {
+    let mut run = Run::new(start, answers);
+    for _ in 0..n {
+        run.step(routine).ok_or("a run of an accepted file is stuck")?;
+    }
+    if run.stopped {
+        return Ok((run, NOTHING));
+    }
+    let afresh = bound(routine, run.state.clone()).map_err(|r| format!("afresh: REFUSED {} {}", r.number, r.place))?;
+    Ok((run, afresh))
+}
+
+/// Whether what was spent and what is left are within a report.
+fn within(run: &Run, afresh: &Figures, most: &Figures) -> bool {
+    run.cycles + afresh.cycles <= most.cycles
+        && run.words + afresh.words <= most.words
+        && run.depth <= most.depth
+        && run.steps <= most.steps
+}
+
+/// The numbers that the analyser's function for tests gives of them; the address after STOP, which the document leaves open, counts 0.
+fn numbers(run: &Run, afresh: &Figures) -> [u64; NUMBERS] {
+    let path = 1 << afresh.path.length | afresh.path.taken;
+    let left = [0, 0, afresh.cycles, afresh.words, afresh.depth as u64, afresh.steps, path];
+    let at = if run.stopped { 0 } else { run.state.at as u64 };
+    let so_far = [run.stopped as u64, at, run.cycles, run.words, run.depth as u64, run.steps];
+    let mut both = so_far.into_iter().chain(left);
+    std::array::from_fn(|_| both.next().unwrap())
+}
+
+/// Demand 3: runs of an accepted file, interrupted anywhere, 0 steps and beyond STOP included. What the analyser's run and its bound
+/// from the state reached come to is compared; a list of answers longer than a file's is tried on the independent side alone. Gives the
+/// number of interruptions compared.
+fn interrupted(random: &mut Random, text: &[u8]) -> Result<u64, String> {
     let routine = read(text, false).unwrap();
     let most: Figures = bound(&routine, routine.start.clone()).unwrap();
+    let mut compared = 0;
     for _ in 0..3 {
-        let mut start: State = routine.start.clone();
-        let height = start.height;
-        let cells = start.stack[..height].iter_mut().chain(start.fields.iter_mut()).chain(Some(&mut start.accumulator));
-        for cell in cells {
-            if *cell == Cell::Unknown {
-                *cell = Cell::Number(random.number());
-            }
+        let file = filled(random, text);
+        if file.len() > TEXT_LIMIT {
+            continue;
         }
-        let answers: Vec<i32> = (0..*random.pick(&[0, 2, 100])).map(|_| random.number()).collect();
-        let mut run = Run::new(start, &answers);
-        for _ in 0..random.below(most.steps as usize + 2) {
-            run.step(&routine).ok_or("a run of an accepted file is stuck")?;
+        let filled = read(&file, true).unwrap();
+        let n = random.below(most.steps as usize + 2);
+        let (run, afresh) = interrupt(&filled, filled.start.clone(), &filled.answers, n)?;
+        let mut found = analyser::after(&file, n as u64);
+        if let Ok([1, at, ..]) = &mut found {
+            *at = 0;
         }
-        let (cycles, words) = if run.stopped {
-            (0, 0)
-        } else {
-            let afresh =
-                bound(&routine, run.state.clone()).map_err(|r| format!("afresh: REFUSED {} {}", r.number, r.place))?;
-            (afresh.cycles, afresh.words)
-        };
-        if run.cycles + cycles > most.cycles
-            || run.words + words > most.words
-            || run.depth > most.depth
-            || run.steps > most.steps
-        {
-            return Err("an interrupted run is not within the report".to_string());
+        if found != Ok(numbers(&run, &afresh)) {
+            let wanted = numbers(&run, &afresh);
+            let file = String::from_utf8_lossy(&file).into_owned();
+            return Err(format!("interrupted after {n} steps: {found:?}, not {wanted:?}; its file:\n{file}"));
         }
+        let longer: Vec<i32> = (0..100).map(|_| random.number()).collect();
+        let (other, left) = interrupt(&filled, filled.start.clone(), &longer, n)?;
+        if !within(&run, &afresh, &most) || !within(&other, &left, &most) {
+            return Err(format!("a run interrupted after {n} steps is not within the report"));
+        }
+        compared += 1;
     }
-    Ok(())
+    Ok(compared)
 }
 
 /// What the programs print for a text, compared: the report or the line of the refusal, and nothing else.
@@ -168,12 +200,13 @@ pub fn by_programs(programs: &Path, text: &[u8], answers: &(Answer, Answer)) -> 
     Ok(())
 }
 
-/// All comparisons on one file; gives the answers of the bound and the run.
-pub fn file(random: &mut Random, text: &[u8]) -> Result<(Answer, Answer), String> {
+/// All comparisons on one file; gives the answers of the bound and the run, and the number of interruptions compared.
+pub fn file(random: &mut Random, text: &[u8]) -> Result<((Answer, Answer), u64), String> {
     let answers = compare(random, text)?;
+    let mut interruptions = 0;
     if let Ok(report) = &answers.0 {
         runs_within(random, text, report)?;
-        interrupted(random, text)?;
+        interruptions = interrupted(random, text)?;
     }
-    Ok(answers)
+    Ok((answers, interruptions))
 }

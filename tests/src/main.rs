@@ -25,6 +25,8 @@ struct Tally {
     passed: u64,
     failed: u64,
     given_to_programs: u64,
+    /// runs interrupted and bounded afresh by both
+    interruptions: u64,
     /// kinds in the code of accepted files
     kinds: BTreeSet<Vec<u8>>,
     /// answers of the bound and of the run, by the number of the refusal; 0 for a report
@@ -83,10 +85,13 @@ const MANY: u64 = 5_000;
 /// Whether the files that were compared had all kinds in accepted code, reports, and each refusal of a text.
 fn covers(tally: &Tally) -> Result<(), String> {
     let missing: Vec<u32> = (0..=11).filter(|n| *n != 10 && !tally.answers.contains_key(n)).collect();
-    if tally.kinds.len() == KINDS.len() && missing.is_empty() {
+    if tally.kinds.len() == KINDS.len() && missing.is_empty() && tally.interruptions >= MANY / 2 {
         Ok(())
     } else {
-        Err(format!("{} kinds came up, and no answer of the numbers {missing:?}", tally.kinds.len()))
+        let (kinds, interruptions) = (tally.kinds.len(), tally.interruptions);
+        Err(format!(
+            "{kinds} kinds and {interruptions} interruptions came up, and no answer of the numbers {missing:?}"
+        ))
     }
 }
 
@@ -120,7 +125,8 @@ fn main() {
         let mut random = Random::new(seed.wrapping_mul(1_000_003).wrapping_add(number));
         let mut parts = draft(&mut random);
         let text = if random.one_in(2) { damaged(&mut random, &mut parts) } else { parts.text().into_bytes() };
-        let found = file(&mut random, &text).and_then(|answers| {
+        let found = file(&mut random, &text).and_then(|(answers, interruptions)| {
+            tally.interruptions += interruptions;
             tally.note(&text, &answers);
             if random.one_in(50) {
                 tally.given_to_programs += 1;
@@ -144,6 +150,7 @@ fn main() {
     }
     println!("kinds in the code of accepted files: {}", tally.kinds.len());
     println!("files given to the programs too: {}", tally.given_to_programs);
+    println!("runs interrupted and bounded afresh: {}", tally.interruptions);
     println!("{} passed, {} failed", tally.passed, tally.failed);
     std::process::exit((tally.failed > 0) as i32);
 }
