@@ -25,9 +25,7 @@ use Rattle.routine.proofs.RangeLaws.{tick-positive, tick-small}
 use Rattle.refusals.specs.declared.Verdict.the-variants as verdicts
 use Rattle.refusals.specs.declared.Verdict.the-variants.{Accepted}
 use Rattle.reader.specs.declared.Routine.{Routine}
-use Rattle.reader.specs.declared.Reading.{Reading}
 use Rattle.reader.specs.Reader.{codes, sizes, Holds, Limited}
-use Rattle.reader.specs.Reader as reader
 use Rattle.report.specs.Decode.{reportOf}
 use Rattle.report.proofs.DecodeLaws.{report-of, report-of-run}
 use Rattle.analyser.specs.Answers.{Answer, reported, ofVerdict, ofReading, boundRoutine, runRoutine, boundAnswer, runAnswer, memory}
@@ -109,18 +107,8 @@ gives-refusal a x e former = (rw e refl, rw e refl)
 holds-is : (x : readings.Routine) (r : Routine) → Holds x r → routineIn r ≡ x
 holds-is x r h = λ i. record { budget = h .budget i; tick = h .tick i; code = h .code i; start = h .start i; answers = h .answered i }
 
-module _ (r : Reading) where
-  pub reading-refused : (m : readings.Reading) → reader.Represents r m → (x : Refusal) → r .verdict ≡ verdicts.Refused x → m ≡ readings.refused x
-  reading-refused (readings.refused y) s x e = ap readings.refused (same-refused y x (sym (s .0) ∙ e))
-  reading-refused (readings.routine y) s x e = passes-not x (sym (s .0) ∙ e)
-
-  pub reading-limited : (m : readings.Reading) → reader.Represents r m → r .verdict ≡ Accepted → Limited (r .routine)
-  reading-limited (readings.refused y) s e = passes-not y (sym e ∙ s .0)
-  reading-limited (readings.routine y) s e = s .2
-
-  pub reading-routine : (m : readings.Reading) → reader.Represents r m → r .verdict ≡ Accepted → m ≡ readings.routine (routineIn (r .routine))
-  reading-routine (readings.refused y) s e = passes-not y (sym e ∙ s .0)
-  reading-routine (readings.routine y) s e = ap readings.routine (sym (holds-is y (r .routine) (s .1)))
+pub held-routine : (x : readings.Routine) (r : Routine) → Holds x r → (m : readings.Reading) → m ≡ readings.routine x → m ≡ readings.routine (routineIn r)
+held-routine x r h m e = e ∙ ap readings.routine (sym (holds-is x r h))
 
 module _ (text : List ℕ) (n : ℕ) where
   -- too little memory

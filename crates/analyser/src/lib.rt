@@ -144,11 +144,10 @@ pub fn bound(text: &[u8], out: &mut [u8]) -> Answer
     if lent < 128 {
         return Answer::Refused(Refusal::ReportMemory); // the first row, before the text is read
     }
-    let reading = reader::read(Reader::Bound, text);
-    let verdict = reading.verdict;
+    let verdict = rows::check(Reader::Bound, text);
     match verdict {
         Verdict::Accepted => {
-            let routine = reading.routine;
+            let routine = reader::routine_of(text);
             bound_routine(routine, out)
         }
         Verdict::Refused(refusal) => Answer::Refused(refusal),
@@ -165,11 +164,10 @@ pub fn run(text: &[u8], out: &mut [u8]) -> Answer
     if out.len() < 128 {
         return Answer::Refused(Refusal::ReportMemory);
     }
-    let reading = reader::read(Reader::Run, text);
-    let verdict = reading.verdict;
+    let verdict = rows::check(Reader::Run, text);
     match verdict {
         Verdict::Accepted => {
-            let routine = reading.routine;
+            let routine = reader::routine_of(text);
             run_routine(routine, out)
         }
         Verdict::Refused(refusal) => Answer::Refused(refusal),

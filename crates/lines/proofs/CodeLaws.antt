@@ -95,14 +95,6 @@ pub near-at-range : (k : ℕ) → Near (atRange k)
 near-at-range zero = record { low = omega arith; high = omega arith }
 near-at-range (suc k) = record { low = omega arith; high = omega arith }
 
-pub at-first : (k : ℕ) → k ≡ 0 → range 0 60000 ≡ atRange k
-at-first zero e = refl
-at-first (suc k) e = absurd (omega arith)
-
-pub at-later : (k : ℕ) → (k ≡ 0 → ⊥) → range 0 62000 ≡ atRange k
-at-later zero e = absurd (e refl)
-at-later (suc k) e = refl
-
 -- ---- addresses counted from the first
 
 -- a sum as the machine makes it

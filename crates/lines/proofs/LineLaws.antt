@@ -1,6 +1,6 @@
 -- Laws of tests joined by `&&`, of a match, and of a loop over words. Assumes nothing.
 use Prim.Native.Nat.{ℕ, suc, _<_, _≤_}
-use mathlib.Core.Path.{_≡_, refl, sym, ap, ap₂, _∙_}
+use mathlib.Core.Path.{_≡_, refl, sym, ap, ap₂, subst, _∙_}
 use mathlib.Core.Bool.{Bool, true, false, not, _&&_, and-true as and-right}
 use mathlib.Core.List.{List, [], _∷_}
 use native.Mathlib.Omega.{arith}
@@ -8,9 +8,13 @@ use lib.Dec.{ltb}
 use lib.ListN.{length, take}
 use borrow.Author.Tests.{lt-ltb}
 use Rattle.text.specs.Text.{isEmpty, words, among, find, all}
+use Rattle.text.specs.Decimal.{most}
 use Rattle.text.proofs.ScanLaws.{firstLength, past}
 use Rattle.text.proofs.PieceLaws.{words-more, words-last, among-find}
+use Rattle.numbers.specs.declared.Range.{Range}
+use Rattle.numbers.specs.Numbers.{range}
 use Rattle.instructions.specs.Kinds.{kinds, kindNames}
+use Rattle.values.specs.Values.{Near}
 
 -- ---- tests
 
@@ -69,3 +73,8 @@ module _ (t : List ℕ → Bool) (l : List ℕ) (n : ℕ) (q : n ≡ firstLength
 pub kind-among : (w : List ℕ) → ltb (find w kindNames) 61 ≡ among w kindNames
 unfolding kinds kindNames
 kind-among w = sym (among-find w kindNames)
+
+-- ---- a range by its name
+
+pub near-range : (low high : ℕ) → low < most → high < most → {r : Range} → r ≡ range low high → Near r
+near-range low high a b e = subst Near (sym e) (record { low = a; high = b })

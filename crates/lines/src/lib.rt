@@ -3,18 +3,17 @@ use instructions::Argument;
 use numbers::Range;
 use routine::Column;
 use routine::Section;
+use routine::layout;
 ghost use mathlib.Core.Bool.{true, _&&_};
-ghost use mathlib.Core.List.{[]};
 ghost use mathlib.Core.Path.{_≡_};
 ghost use Prim.Native.Nat.{_≤_};
-ghost use lib.ListN.{length, getD};
 ghost use Rattle.text.specs.Text.{words, find, among, all};
 ghost use Rattle.numbers.specs.Numbers.{within};
 ghost use Rattle.instructions.specs.Kinds.{kindNames};
 ghost use Rattle.instructions.specs.declared.Argument.the-variants.{Target};
 ghost use Rattle.routine.specs.declared.Column.the-variants.{Limit};
 ghost use Rattle.routine.specs.Layout.{list};
-ghost use Rattle.routine.specs.Rows.{cellPresent, isKnown, op, arg, onArgument, argumentLaidOut, argumentInRange, argumentNamed, argumentReaches, firstAddresses, atRange, columnInRange, columnLaidOut, onCells, namesLaidOut, valuesLaidOut, codeLaidOut, answerLaidOut, codeInRange, answerInRange, codeNamed, codeReaches};
+ghost use Rattle.routine.specs.Rows.{cellPresent, isKnown, op, arg, onArgument, argumentLaidOut, argumentInRange, argumentNamed, argumentReaches, firstAddresses, columnInRange, columnLaidOut, onCells, namesLaidOut, valuesLaidOut, codeLaidOut, answerLaidOut, codeInRange, answerInRange, codeNamed, codeReaches};
 ghost use Rattle.lines.specs.Lines.{wordTest};
 
 // The number of kinds.
@@ -43,14 +42,8 @@ fn word_passes(t: WordTest, w: &[u8]) -> bool
     match t {
         WordTest::Filled => 0 < w.len(),
         WordTest::Numeral => values::is_numeral(w),
-        WordTest::Cycles => values::is_within(
-            Range {
-                low: 0,
-                high: 65535,
-            },
-            w,
-        ),
-        WordTest::Words => values::is_within(Range { low: 0, high: 255 }, w),
+        WordTest::Cycles => values::is_within(layout::cycle_counts(), w),
+        WordTest::Words => values::is_within(layout::word_counts(), w),
         WordTest::Cell => values::is_cell(w),
         WordTest::CellRange => values::cell_in_range(w),
         WordTest::Present(n) => values::cell_present(n as usize, w),
@@ -86,36 +79,6 @@ pub fn all_listed(t: WordTest, line: &[u8]) -> bool
     all_words(t, line)
 }
 
-// The number of words listed on a line.
-pub fn count_listed(line: &[u8]) -> usize
-    ensures { λ r. ⌜ r ≡ length (list (now (line .entry))) ⌝ }
-{
-    if text::same(line, b"-") {
-        return 0;
-    }
-    text::count_words(line)
-}
-
-// Word k listed on a line, counted from 0; no bytes where it lists fewer.
-pub fn listed_at(line: &[u8], k: usize) -> &[u8]
-    ensures { λ r. ⌜ now r ≡ getD (list (now (line .entry))) k [] ⌝ }
-{
-    if text::same(line, b"-") {
-        return &line[..0];
-    }
-    text::word_at(line, k)
-}
-
-// Whether w is one of the words listed on a line.
-pub fn is_listed(w: &[u8], line: &[u8]) -> bool
-    ensures { λ r. ⌜ r ≡ among (now (w .entry)) (list (now (line .entry))) ⌝ }
-{
-    if text::same(line, b"-") {
-        return false;
-    }
-    text::is_among(w, line)
-}
-
 // ---- lines of names
 
 // Row 2 on a line of names.
@@ -125,8 +88,8 @@ pub fn names_laid_out(s: Section, line: &[u8]) -> bool
     match s {
         Section::Limits => text::same(line, b"BUDGET TICK"),
         Section::Kinds => true,
-        Section::Primitives => count_listed(line) <= 32,
-        Section::Cells => 0 < count_listed(line),
+        Section::Primitives => layout::count_listed(line) <= 32,
+        Section::Cells => 0 < layout::count_listed(line),
         Section::Fields => true,
         Section::Instructions => text::same(line, b"AT OP ARG"),
         Section::Answers => text::same(line, b"ANSWER"),
@@ -150,7 +113,7 @@ fn column_laid_out(c: Column, line: &[u8]) -> bool
 pub fn values_laid_out(c: Column, names: &[u8], line: &[u8]) -> bool
     ensures { λ r. ⌜ r ≡ valuesLaidOut c (list (now (names .entry))) (list (now (line .entry))) ⌝ }
 {
-    if count_listed(line) == count_listed(names) {
+    if layout::count_listed(line) == layout::count_listed(names) {
         return column_laid_out(c, line);
     }
     false
@@ -160,22 +123,10 @@ pub fn values_laid_out(c: Column, names: &[u8], line: &[u8]) -> bool
 fn limits_in_range(line: &[u8]) -> bool
     ensures { λ r. ⌜ r ≡ columnInRange Limit (list (now (line .entry))) ⌝ }
 {
-    let budget = listed_at(line, 0);
-    let tick = listed_at(line, 1);
-    if values::is_within(
-        Range {
-            low: 1,
-            high: 1000000,
-        },
-        budget,
-    ) {
-        return values::is_within(
-            Range {
-                low: 1,
-                high: 4000000000,
-            },
-            tick,
-        );
+    let budget = layout::listed_at(line, 0);
+    let tick = layout::listed_at(line, 1);
+    if values::is_within(layout::budgets(), budget) {
+        return values::is_within(layout::ticks(), tick);
     }
     false
 }
@@ -274,28 +225,12 @@ fn argument_in_range(line: &[u8]) -> bool
     }
 }
 
-// "AT starts anywhere from 0 to 60,000"; "a later AT outside 0 to 62,000 is refusal 3"
-fn at_range(k: usize) -> Range
-    ensures { λ r. ⌜ r ≡ atRange k ⌝ }
-{
-    if k == 0 {
-        return Range {
-            low: 0,
-            high: 60000,
-        };
-    }
-    Range {
-        low: 0,
-        high: 62000,
-    }
-}
-
 // Row 3 on code line k.
 pub fn code_in_range(k: usize, line: &[u8]) -> bool
     ensures { λ r. ⌜ r ≡ codeInRange k (now (line .entry)) ⌝ }
 {
     let at = text::word_at(line, 0);
-    if values::is_within(at_range(k), at) {
+    if values::is_within(layout::at_range(k), at) {
         return argument_in_range(line);
     }
     false
@@ -313,7 +248,7 @@ fn argument_named(primitives: &[u8], line: &[u8]) -> bool
     match instructions::argument_at(k) {
         Argument::Absent => true,
         Argument::Target => true,
-        Argument::Primitive => is_listed(w, primitives),
+        Argument::Primitive => layout::is_listed(w, primitives),
         Argument::Within(_) => true,
     }
 }
@@ -343,7 +278,7 @@ pub fn code_priced(kinds: &[u8], line: &[u8]) -> bool
     ensures { λ r. ⌜ r ≡ among (op (now (line .entry))) (list (now (kinds .entry))) ⌝ }
 {
     let op = text::word_at(line, 1);
-    is_listed(op, kinds)
+    layout::is_listed(op, kinds)
 }
 
 // Whether w is one of the n addresses from `first` on.

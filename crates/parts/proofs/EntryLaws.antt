@@ -28,7 +28,8 @@ use Rattle.routine.specs.Layout.{list}
 use Rattle.routine.specs.Rows.{op, arg, value, cycleCounts, wordCounts}
 use Rattle.routine.specs.Routine.{inside, argumentValue}
 use Rattle.routine.proofs.RangeLaws.{natural-inside}
-use Rattle.parts.specs.Parts.{naturalAt, PriceLines, pricesIn, instructionAs, instructionIn, Coded}
+use Rattle.values.specs.Values.{NaturalRange}
+use Rattle.parts.specs.Parts.{naturalAt, PriceRange, PriceLines, pricesIn, instructionAs, instructionIn, Coded}
 
 -- past the table's end stands its last kind
 pub kind-past : (k : ℕ) → 61 ≤ k → kindAt 60 ≡ kindAt k
@@ -111,8 +112,12 @@ coded k {n} {x} {y} {p} {c} e p-is x-is c-is y-is =
 
 -- a price, with the primitive's or without
 
-pub natural-small : (high : ℕ) (line : List ℕ) (i : ℕ) {n : ℕ} → n ≡ naturalAt (range 0 high) line i → n ≤ high
-natural-small high line i e = omega (arith, e, natural-inside 0 high (value (getD (list line) i [])) .below)
+module _ (r : Range) (p : PriceRange r) where
+  pub price-natural : NaturalRange r
+  price-natural = record { least = 0; greatest = p .greatest; is = p .is; small = let h = p .small in (omega arith, omega arith) }
+
+  pub natural-small : (line : List ℕ) (i : ℕ) {n : ℕ} → n ≡ naturalAt r line i → n ≤ p .greatest
+  natural-small line i e = omega (arith, e ∙ ap (λ q. naturalAt q line i) (p .is), natural-inside 0 (p .greatest) (value (getD (list line) i [])) .below)
 
 pub with-primitive : {b : Bool} {x y m n : ℕ} → b ≡ true → m ≡ x → n ≡ y → m + n ≡ x + cond b y 0
 with-primitive {b} {x} {y} e p q = ap₂ _+_ p (q ∙ sym (ap (λ (t : Bool). cond t y 0) e))
@@ -120,9 +125,9 @@ with-primitive {b} {x} {y} e p q = ap₂ _+_ p (q ∙ sym (ap (λ (t : Bool). co
 pub without-primitive : {b : Bool} {x m : ℕ} (y : ℕ) → b ≡ false → m ≡ x → m ≡ x + cond b y 0
 without-primitive {b} {x} {m} y e p = let q : cond b y 0 ≡ 0 = ap (λ (t : Bool). cond t y 0) e in omega arith
 
-pub same-price : (r : Range) (ks ps : List ℕ) {i i′ j j′ : ℕ} {b b′ : Bool} {n : ℕ} → i ≡ i′ → b ≡ b′ → j ≡ j′
-    → n ≡ naturalAt r ks i + cond b (naturalAt r ps j) 0 → n ≡ naturalAt r ks i′ + cond b′ (naturalAt r ps j′) 0
-same-price r ks ps p t q e = e ∙ (λ x. naturalAt r ks (p x) + cond (t x) (naturalAt r ps (q x)) 0)
+pub same-price : (ks ps : List ℕ) {r r′ : Range} {i i′ j j′ : ℕ} {b b′ : Bool} {n : ℕ} → r ≡ r′ → i ≡ i′ → b ≡ b′ → j ≡ j′
+    → n ≡ naturalAt r ks i + cond b (naturalAt r ps j) 0 → n ≡ naturalAt r′ ks i′ + cond b′ (naturalAt r′ ps j′) 0
+same-price ks ps s p t q e = e ∙ (λ x. naturalAt (s x) ks (p x) + cond (t x) (naturalAt (s x) ps (q x)) 0)
 
 -- the operand by the argument that the kind takes
 module _ (k : Kind) (ps : List (List ℕ)) (w : List ℕ) where

@@ -1,4 +1,3 @@
-pub mod ListLaws
 pub mod FillLaws
 pub mod WordLaws
 pub mod EntryLaws

@@ -17,7 +17,7 @@ use Rattle.routine.specs.Layout.{layout, body, codeLines, textAt, listed}
 use Rattle.routine.specs.Rows.{value, blockSizes}
 use Rattle.routine.specs.Routine.{inside, limitAt, priceAt, prices, instructionOf, codeIn, cellsOf, startOf, routineOf, blocksInLine}
 use Rattle.parts.specs.Parts.{naturalAt, PriceLines, priceLines, pricesIn, instructionAs, instructionIn, cellsIn, startIn}
-use Rattle.parts.proofs.ListLaws.{code-take, answer-drop}
+use Rattle.routine.proofs.CodeLineLaws.{code-take, answer-drop}
 
 -- the six lines of prices of a file
 abbrev pub linesOfPrices : List Line → PriceLines

@@ -1,6 +1,6 @@
 -- The parts of a routine by the texts of the lines that hold them, as the code reads them. `routineOf` has the same parts of a whole
 -- file (proofs/PartLaws).
-use Prim.Native.Nat.{ℕ, _%_}
+use Prim.Native.Nat.{ℕ, _%_, _≤_}
 use mathlib.Core.Path.{_≡_}
 use mathlib.Core.List.{List, [], map}
 use lib.Dec.{leb}
@@ -8,6 +8,7 @@ use lib.IntN.{pos}
 use lib.ListN.{getD, drop}
 use Rattle.text.specs.Text.{find}
 use Rattle.numbers.specs.declared.Range.{Range}
+use Rattle.numbers.specs.Numbers.{range}
 use Rattle.cells.specs.declared.Cell.{Cell}
 use Rattle.cells.specs.Cells.{number}
 use Rattle.instructions.specs.Kinds.{Kind, kindNames, calls}
@@ -24,6 +25,12 @@ naturalAt r line i = naturalIn r (getD (list line) i [])
 -- the price at place i of a line of cycles and of a line of words
 abbrev pub priceIn : List ℕ → List ℕ → ℕ → Price
 priceIn cycles words i = record { cycles = naturalAt cycleCounts cycles i; words = naturalAt wordCounts words i }
+
+-- a range of prices: two of them are a number of 32 bits
+pub record PriceRange (r : Range) : Type 0 where
+  pub greatest : ℕ
+  pub is : r ≡ range 0 greatest
+  pub small : greatest ≤ 65535
 
 -- the six lines of prices
 pub record PriceLines : Type 0 where

@@ -2,6 +2,7 @@
 use cells::Cell;
 use instructions::Argument;
 use numbers::Range;
+use routine::layout;
 use states::State;
 ghost use mathlib.Core.Path.{_≡_};
 ghost use mathlib.Core.Bool.{cond};
@@ -9,49 +10,34 @@ ghost use mathlib.Core.List.{List, map};
 ghost use Prim.Native.Nat.{ℕ, _+_, _%_, _≤_, _<_};
 ghost use lib.IntN.{pos};
 ghost use lib.ListN.{length, getD, take, drop};
-ghost use Rattle.text.specs.Text.{bytes, equals, find, lines};
-ghost use Rattle.numbers.specs.Numbers.{IsNumber, range, numbers};
+ghost use Rattle.text.specs.Text.{lines};
+ghost use Rattle.numbers.specs.Numbers.{IsNumber, numbers};
 ghost use Rattle.cells.specs.Cells.{number};
 ghost use Rattle.instructions.specs.Kinds.{operand};
 ghost use Rattle.instructions.specs.Columns.{kindAt};
 ghost use Rattle.states.specs.Columns.{line, lineOf, instructionsOf};
 ghost use Rattle.states.specs.View.{view, WellFormed, blocksOf};
-ghost use Rattle.routine.specs.Layout.{list, codeLines};
+ghost use Rattle.routine.specs.Layout.{list};
 ghost use Rattle.routine.specs.Rows.{value, total};
 ghost use Rattle.routine.specs.Routine.{inside, argumentValue, blocksInLine};
-ghost use Rattle.parts.specs.Parts.{naturalAt, priceLines, instructionIn, Coded, cellsIn, startIn};
+ghost use Rattle.values.specs.Values.{NaturalRange};
+ghost use Rattle.parts.specs.Parts.{naturalAt, PriceRange, priceLines, instructionIn, Coded, cellsIn, startIn};
 
 // ---- the words of a line
 
-// Whether a line lists nothing.
-fn lists_nothing(line: &[u8]) -> bool
-    ensures { λ r. ⌜ r ≡ equals (now (line .entry)) (bytes "-") ⌝ }
-{
-    text::same(line, b"-")
-}
-
-// Where a word stands among those that a line lists, counted from 0; their number where it is none of them.
-pub fn place_listed(names: &[u8], w: &[u8]) -> usize
-    ensures { λ r. ⌜ r ≡ find (now (w .entry)) (list (now (names .entry))) ⌝ }
-{
-    if lists_nothing(names) {
-        return 0;
-    }
-    text::find(w, names)
-}
-
 // The number at place i of a line: a limit or a price.
-pub fn natural_at(low: u32, high: u32, values: &[u8], i: usize) -> u32
-    ensures { λ r. ⌜ r ≡ naturalAt (range low high) (now (values .entry)) i ⌝ }
+pub fn natural_at(range: Range, values: &[u8], i: usize) -> u32
+    requires { ⌜ NaturalRange range ⌝ }
+    ensures { λ r. ⌜ r ≡ naturalAt range (now (values .entry)) i ⌝ }
 {
-    values::natural_in(low, high, lines::listed_at(values, i))
+    values::natural_of(range, layout::listed_at(values, i))
 }
 
 // The cell at place i of a line; 0 where it lists fewer.
 fn cell_at(values: &[u8], i: usize) -> Cell
     ensures { λ r. ⌜ r ≡ getD (cellsIn (now (values .entry))) i (number (pos 0)) ⌝ }
 {
-    values::cell_of(lines::listed_at(values, i))
+    values::cell_of(layout::listed_at(values, i))
 }
 
 // The 32-bit number of a range that a word spells; one outside it counts 0.
@@ -64,27 +50,6 @@ fn number_of(range: Range, w: &[u8]) -> i32
 }
 
 // ---- code and answers
-
-// The number of code lines: the first line, and those up to a line ANSWER.
-pub fn count_code(body: &[u8]) -> usize
-    ensures { λ r. ⌜ r ≡ length (codeLines (lines (now (body .entry)))) ⌝ }
-{
-    if body.len() == 0 {
-        return 0;
-    }
-    let mut rest = text::next_lines(body);
-    let mut n = 1;
-    while 0 < rest.len() {
-        let line = text::first_line(rest);
-        if text::same(line, b"ANSWER") {
-            return n;
-        }
-        let next = text::next_lines(rest);
-        rest = next;
-        n += 1;
-    }
-    n
-}
 
 // The first `count` of `values` are the answers.
 pub struct Answers {
@@ -126,7 +91,7 @@ pub fn start_of(values: &[u8], first: usize) -> State
     let accu = cell_at(values, 0);
     let zero = cells::number(0);
     let mut stack = [zero; 64];
-    let count = lines::count_listed(values);
+    let count = layout::count_listed(values);
     let n = if count == 0 { 0 } else { count - 1 };
     let free = 64 - n;
     let mut i = 0;
@@ -186,13 +151,13 @@ fn operand_of(k: usize, w: &[u8]) -> i32
 }
 
 // The price at place i of a line of the kinds' prices, and where the kind calls, that at place j of a line of the primitives'.
-fn price_of(high: u32, kinds: &[u8], i: usize, called: bool, primitives: &[u8], j: usize) -> u32
-    requires { ⌜ high ≤ 65535 ⌝ }
-    ensures { λ r. ⌜ r ≡ naturalAt (range 0 high) (now (kinds .entry)) i + cond called (naturalAt (range 0 high) (now (primitives .entry)) j) 0 ⌝ }
+fn price_of(range: Range, kinds: &[u8], i: usize, called: bool, primitives: &[u8], j: usize) -> u32
+    requires { ⌜ PriceRange range ⌝ }
+    ensures { λ r. ⌜ r ≡ naturalAt range (now (kinds .entry)) i + cond called (naturalAt range (now (primitives .entry)) j) 0 ⌝ }
 {
-    let price = natural_at(0, high, kinds, i);
+    let price = natural_at(range, kinds, i);
     if called {
-        price + natural_at(0, high, primitives, j)
+        price + natural_at(range, primitives, j)
     } else {
         price
     }
@@ -221,14 +186,28 @@ pub fn entry_of(
 {
     let op = text::word_at(text, 1);
     let arg = text::word_at(text, 2);
-    let k = table_place(lines::kind_of(text));
+    let k = table_place(instructions::kind_named(op));
     let called = instructions::calls_at(k);
-    let i = place_listed(kinds, op);
-    let j = place_listed(primitives, arg);
+    let i = layout::place_listed(kinds, op);
+    let j = layout::place_listed(primitives, arg);
     let code = code_of(k);
     let operand = operand_of(k, arg);
-    let cycles = price_of(65535, kind_cycles, i, called, primitive_cycles, j);
-    let words = price_of(255, kind_words, i, called, primitive_words, j);
+    let cycles = price_of(
+        layout::cycle_counts(),
+        kind_cycles,
+        i,
+        called,
+        primitive_cycles,
+        j,
+    );
+    let words = price_of(
+        layout::word_counts(),
+        kind_words,
+        i,
+        called,
+        primitive_words,
+        j,
+    );
     Entry {
         code: code,
         operand: operand,

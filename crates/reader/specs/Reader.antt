@@ -1,20 +1,16 @@
--- What the reader's answer holds: the refusal of a text, or its routine.
+-- What the code's routine holds.
 use Prim.Native.Nat.{ℕ, _%_, _≤_}
 use mathlib.Core.Path.{_≡_}
 use mathlib.Core.List.{List}
-use lib.IntN.{ℤ, pos, natAbs}
-use lib.ListN.{length, getD, take, replicate}
+use lib.IntN.{ℤ}
+use lib.ListN.{length, getD, take}
 use Rattle.text.specs.Text.{Line}
-use Rattle.cells.specs.Cells.{number}
 use Rattle.states.specs.Columns.{instructionsOf, codeOf, Sized}
 use Rattle.states.specs.View.{WellFormed, Fits, whole}
 use Rattle.routine.specs.Layout.{body, codeLines}
-use Rattle.routine.specs.Rows.{firstAddresses, firstAt}
 use Rattle.routine.specs.Routine as readings
-use Rattle.refusals.specs.declared.Verdict.the-variants.{Accepted, Refused}
 use Rattle.parts.specs.declared.Columns.{Columns}
 use Rattle.reader.specs.declared.Routine.{Routine}
-use Rattle.reader.specs.declared.Reading.{Reading}
 
 -- the columns of the code, a routine's block sizes and its answers, without the places that are not used
 
@@ -65,26 +61,6 @@ pub record Limited (held : Routine) : Type 0 where
   pub answered : held .answers .count ≤ 64
   pub places : length (held .answers .values) ≡ 64
 
--- the routine beside a refusal
-abbrev pub blank : Routine
-blank = record {
-  budget = 0;
-  tick = 0;
-  first = 0;
-  count = 0;
-  columns = record { codes = replicate 1024 0; operands = replicate 1024 (pos 0); cycles = replicate 1024 0; words = replicate 1024 0 };
-  start = record { at = 0; accu = number (pos 0); free = 64; stack = replicate 64 (number (pos 0)) };
-  fields = replicate 128 (number (pos 0));
-  sizes = replicate 8 0;
-  blocks = 0;
-  answers = record { values = replicate 64 (pos 0); count = 0 };
-}
-
--- the answer r shows a reading: its refusal, or its routine
-abbrev pub Represents : Reading → readings.Reading → Type 0
-Represents r (readings.refused x) = (r .verdict ≡ Refused x) × (r .routine ≡ blank)
-Represents r (readings.routine x) = (r .verdict ≡ Accepted) × Holds x (r .routine) × Limited (r .routine)
-
 -- ---- the parts of the reader
 
 -- the lines ms are those after the layout of ls, and count of them are code
@@ -97,7 +73,3 @@ pub record BodyLines (ls ms : List Line) (count : ℕ) : Type 0 where
 pub record HoldsCode (ls : List Line) (count : ℕ) (c : Columns) : Type 0 where
   pub instructions : instructionsOf (take count (c .codes)) (take count (c .operands)) (take count (c .cycles)) (take count (c .words)) ≡ readings.codeIn ls .instructions
   pub known : (j : ℕ) → getD (take count (c .codes)) j 0 % 32 ≤ 22
-
--- the first address, by the lines after the layout
-abbrev pub firstIn : List Line → ℕ
-firstIn ms = natAbs (readings.inside firstAddresses (firstAt ms))

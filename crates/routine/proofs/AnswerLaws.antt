@@ -4,12 +4,11 @@ use Prim.Native.Nat.{ℕ}
 use mathlib.Core.Path.{_≡_, refl, sym, ap, _∙_}
 use mathlib.Core.Bool.{cond}
 use mathlib.Core.List.{List, [], _∷_}
-use lib.Dec.{eqb}
 use lib.ListN.{length, take}
 use Rattle.text.specs.Text.{Line}
 use Rattle.routine.specs.declared.Section.{Section}
 use Rattle.routine.specs.declared.Role.{Role}
-use Rattle.routine.specs.Layout.{layout, body, codeLines, list, tag, textAt, listed}
+use Rattle.routine.specs.Layout.{layout, body, codeLines, list, isRole, textAt, listed}
 use Rattle.numbers.specs.declared.Range.{Range}
 use Rattle.routine.specs.Rows.{budgets, ticks, firstAt}
 use Rattle.routine.specs.Routine.{Routine, limitAt, priceAt, prices, instructionOf, codeIn, cellsOf, startOf, routineOf}
@@ -23,7 +22,7 @@ text-among : (r : Role) (rs : List Role) (ls : List Line) → textAt r rs (take 
 unfolding textAt
 text-among r [] ls = refl
 text-among r (x ∷ xs) [] = refl
-text-among r (x ∷ xs) (l ∷ ls) = ap (cond (eqb (tag r) (tag x)) (l .text)) (text-among r xs ls)
+text-among r (x ∷ xs) (l ∷ ls) = ap (cond (isRole r x) (l .text)) (text-among r xs ls)
 
 -- the first address is that of the first code line
 first-code : (ls : List Line) → firstAt (codeLines ls) ≡ firstAt ls

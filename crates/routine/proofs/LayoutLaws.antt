@@ -1,42 +1,66 @@
--- Where the lines of the layout stand, and what a line lists. Assumes nothing.
-use Prim.Native.Nat.{ℕ, suc, _<_, _≤_}
-use mathlib.Core.Path.{_≡_, refl}
-use mathlib.Core.Bool.{Bool, true, false, cond}
+-- Which line of the layout holds a role, what a line lists, and the range of AT. Assumes nothing.
+use Prim.Native.Nat.{ℕ, zero, suc, _+_, _<_}
+use mathlib.Core.Path.{_≡_, refl, sym, ap, ap₂, _∙_}
+use mathlib.Core.Bool.{true, false, cond}
 use mathlib.Core.List.{List, [], _∷_}
 use native.Mathlib.Omega.{arith}
+use native.Mathlib.Numerals.{add-one}
 use lib.Dec.{eqb}
-use lib.ListN.{length, getD}
+use lib.ListN.{length, getD, drop}
+use lib.Seq.{drop-cons}
+use borrow.Author.Tests.{eq-eqb, ne-eqb}
 use Rattle.text.specs.Text.{bytes, equals, words, Line, noLine}
+use Rattle.instructions.specs.Kinds.{addresses}
+use Rattle.routine.specs.declared.Section.{Section}
+use Rattle.routine.specs.declared.Column.{Column}
 use Rattle.routine.specs.declared.Role.{Role}
-use Rattle.routine.specs.Layout.{list, tag, textAt}
+use Rattle.routine.specs.declared.Role.the-variants.{Values as values, Code as code}
+use Rattle.routine.specs.Layout.{layout, list, sectionPlace, columnPlace, isValues, isRole, textAt}
+use Rattle.routine.specs.Rows.{firstAddresses, atRange}
 
--- the place of the first role with the tag of r, counted from 0; the number of roles where none has it
-abbrev pub placeOf : Role → List Role → ℕ
-placeOf r [] = 0
-placeOf r (x ∷ xs) = cond (eqb (tag r) (tag x)) 0 (suc (placeOf r xs))
+-- ---- roles compared
 
--- the text of a role's line is that of the line at its place
-pub text-at : (r : Role) (rs : List Role) (ls : List Line) → placeOf r rs < length rs → textAt r rs ls ≡ getD ls (placeOf r rs) noLine .text
-unfolding textAt
-text-at r [] ls h = absurd (omega arith)
-text-at r (x ∷ xs) [] h = refl
-text-at r (x ∷ xs) (l ∷ ls) h = go (eqb (tag r) (tag x)) h (text-at r xs ls)
-  where
-    go : (b : Bool) → cond b 0 (suc (placeOf r xs)) < suc (length xs) → (placeOf r xs < length xs → textAt r xs ls ≡ getD ls (placeOf r xs) noLine .text)
-        → cond b (l .text) (textAt r xs ls) ≡ getD (l ∷ ls) (cond b 0 (suc (placeOf r xs))) noLine .text
-    go true k ih = refl
-    go false k ih = ih (omega arith)
+module _ (s t : Section) (c d : Column) {a b : ℕ} (p : a ≡ sectionPlace s) (q : b ≡ sectionPlace t) where
+  pub same-section : {x y : ℕ} → a ≡ b → x ≡ columnPlace c → y ≡ columnPlace d → eqb x y ≡ isValues s c (values t d)
+  same-section e u v = rw (eq-eqb (sectionPlace s) (sectionPlace t) (sym p ∙ e ∙ q)) (ap₂ eqb u v)
 
--- a role that has no place has no line
-pub text-none : (r : Role) (rs : List Role) (ls : List Line) → length rs ≤ placeOf r rs → textAt r rs ls ≡ []
-unfolding textAt
-text-none r [] ls h = refl
-text-none r (x ∷ xs) [] h = refl
-text-none r (x ∷ xs) (l ∷ ls) h = go (eqb (tag r) (tag x)) h (text-none r xs ls)
-  where
-    go : (b : Bool) → suc (length xs) ≤ cond b 0 (suc (placeOf r xs)) → (length xs ≤ placeOf r xs → textAt r xs ls ≡ []) → cond b (l .text) (textAt r xs ls) ≡ []
-    go true k ih = absurd (omega arith)
-    go false k ih = ih (omega arith)
+  pub other-section : (a ≡ b → ⊥) → false ≡ isValues s c (values t d)
+  other-section f = rw (ne-eqb (sectionPlace s) (sectionPlace t) (λ e. f (p ∙ e ∙ sym q))) refl
+
+-- ---- the line of a role
+
+module _ (r : Role) where
+  no-text : (rs : List Role) → textAt r rs [] ≡ []
+  unfolding textAt
+  no-text [] = refl
+  no-text (x ∷ rs) = refl
+
+  text-first : (x : Role) (rs : List Role) (ls : List Line) → isRole r x ≡ true → textAt r (x ∷ rs) ls ≡ getD ls 0 noLine .text
+  unfolding textAt
+  text-first x rs [] e = refl
+  text-first x rs (l ∷ ls) e = ap (λ b. cond b (l .text) (textAt r rs ls)) e
+
+  text-later : (x : Role) (rs : List Role) (ls : List Line) → isRole r x ≡ false → textAt r (x ∷ rs) ls ≡ textAt r rs (drop 1 ls)
+  unfolding textAt
+  text-later x rs [] e = no-text (x ∷ rs) ∙ sym (no-text rs)
+  text-later x rs (l ∷ ls) e = ap (λ b. cond b (l .text) (textAt r rs ls)) e
+
+  -- of the lines from i on: it is the first of them, or is sought among the others
+  module _ (i : ℕ) (h : i < length layout) (ls : List Line) where
+    from-here : textAt r (drop i layout) ls ≡ textAt r (getD layout i (code 0) ∷ drop (suc i) layout) ls
+    from-here = ap (λ rs. textAt r rs ls) (drop-cons layout i (code 0) h)
+
+    pub text-here : isRole r (getD layout i (code 0)) ≡ true → textAt r (drop i layout) ls ≡ getD ls 0 noLine .text
+    text-here e = from-here ∙ text-first (getD layout i (code 0)) (drop (suc i) layout) ls e
+
+    pub text-next : isRole r (getD layout i (code 0)) ≡ false → textAt r (drop i layout) ls ≡ textAt r (drop (i + 1) layout) (drop 1 ls)
+    text-next e = rw (add-one i) (from-here ∙ text-later (getD layout i (code 0)) (drop (suc i) layout) ls e)
+
+  pub text-none : (ls : List Line) → textAt r [] ls ≡ []
+  unfolding textAt
+  text-none ls = refl
+
+-- ---- lists
 
 -- a line that lists nothing, and one that lists its words
 
@@ -47,3 +71,13 @@ list-none s e = rw e refl
 pub list-words : (s : List ℕ) → equals s (bytes "-") ≡ false → list s ≡ words s
 unfolding list
 list-words s e = rw e refl
+
+-- ---- the first AT and the later ones
+
+pub at-first : (k : ℕ) → k ≡ 0 → firstAddresses ≡ atRange k
+at-first zero e = refl
+at-first (suc k) e = absurd (omega arith)
+
+pub at-later : (k : ℕ) → (k ≡ 0 → ⊥) → addresses ≡ atRange k
+at-later zero e = absurd (e refl)
+at-later (suc k) e = refl

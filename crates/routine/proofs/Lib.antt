@@ -5,5 +5,6 @@ pub mod AnswerLaws
 pub mod RangeLaws
 pub mod SpellingLaws
 pub mod LayoutLaws
+pub mod CodeLineLaws
 pub mod PassingLaws
 pub mod PlaceLaws

@@ -5,7 +5,7 @@ use mathlib.Core.Path.{_≡_, refl, sym, ap₂, _∙_}
 use mathlib.Core.Bool.{Bool, true, false, cond, not, _&&_, false≢true}
 use mathlib.Core.List.{List, [], _∷_, _++_}
 use native.Mathlib.Omega.{arith}
-use lib.Dec.{ltb, eqb}
+use lib.Dec.{ltb}
 use lib.ListN.{length, length-append, length-drop}
 use borrow.Author.Tests.{ltb-false, lt-ltb, le-ltb}
 use Rattle.refusals.specs.declared.Refusal.{Refusal}
@@ -15,7 +15,7 @@ use Rattle.text.proofs.TextLaws.{Every, none, more, and-left, and-right, equals
 use Rattle.routine.specs.declared.Section.the-variants.{Answers as answers}
 use Rattle.routine.specs.declared.Role.{Role}
 use Rattle.routine.specs.declared.Role.the-variants.{Names as names, Code as code}
-use Rattle.routine.specs.Layout.{layout, isAnswer, body, answerRoles, codeRoles, bodyRoles, roles, tag, textAt}
+use Rattle.routine.specs.Layout.{layout, isAnswer, body, answerRoles, codeRoles, bodyRoles, roles, isRole, textAt}
 use Rattle.routine.specs.declared.Row.{Row}
 use Rattle.routine.specs.declared.Row.the-variants.{Layout as layout-row, Range as range-row, Name as name-row, Known as known-row}
 use Rattle.routine.specs.declared.RefusedLine.{RefusedLine}
@@ -202,17 +202,17 @@ pub held-lines : (row row′ : Row) (ls : List Line) → refusedLine row ls ≡ 
     → {P : Line → Type 0} → ((r : Role) (l : Line) → test row ls r l ≡ true → test row′ ls r l ≡ true → P l) → Every P ls
 held-lines row row′ ls e e′ f = every-line f (roles ls) ls (roles-enough ls) (row-covered row ls e) (row-covered row′ ls e′)
 
--- that r stands in a list, and no role with its tag before it: `refl` shows it of each role of the layout
+-- that r stands in a list, and no such role before it: `refl` shows it of each role of the layout
 abbrev pub First : Role → List Role → Type 0
 First r [] = ⊥
-First r (x ∷ xs) = cond (eqb (tag r) (tag x)) (r ≡ x) (First r xs)
+First r (x ∷ xs) = cond (isRole r x) (r ≡ x) (First r xs)
 
 -- what a passed test gives of a line's text holds of the text of the line that has the role r
 held : {t : Role → Line → Bool} (r : Role) (P : List ℕ → Type 0) → ((l : Line) → t r l ≡ true → P (l .text))
     → (rs bs : List Role) {ls : List Line} → First r rs → Covered t (rs ++ bs) ls → P (textAt r rs ls)
 unfolding textAt
 held r P f [] bs s c = absurd s
-held {t} r P f (x ∷ rs) bs s (passed {l} {ls} p c) = go (eqb (tag r) (tag x)) s (λ q. held r P f rs bs q c)
+held {t} r P f (x ∷ rs) bs s (passed {l} {ls} p c) = go (isRole r x) s (λ q. held r P f rs bs q c)
   where
     go : (b : Bool) → cond b (r ≡ x) (First r rs) → (First r rs → P (textAt r rs ls)) → P (cond b (l .text) (textAt r rs ls))
     go true q ih = f l (rw q p)

@@ -1,6 +1,6 @@
 -- What each line of a routine file holds. (document 01, The routine file, the table)
-use Prim.Native.Nat.{ℕ, zero, suc, _+_, _*_}
-use mathlib.Core.Bool.{Bool, cond}
+use Prim.Native.Nat.{ℕ, zero, suc}
+use mathlib.Core.Bool.{Bool, false, cond, _&&_}
 use mathlib.Core.List.{List, [], _∷_, _++_, map}
 use lib.Dec.{eqb}
 use lib.ListN.{length, drop}
@@ -78,35 +78,49 @@ roles ls = layout ++ bodyRoles (body ls)
 unfoldable pub list : List ℕ → List (List ℕ)
 list text = cond (equals text (bytes "-")) [] (words text)
 
--- a number for each section
-abbrev pub sectionTag : Section → ℕ
-sectionTag limits = 0
-sectionTag kinds = 1
-sectionTag primitives = 2
-sectionTag cells = 3
-sectionTag fields = 4
-sectionTag instructions = 5
-sectionTag answers = 6
+-- the place of a section in the file
+abbrev pub sectionPlace : Section → ℕ
+sectionPlace limits = 0
+sectionPlace kinds = 1
+sectionPlace primitives = 2
+sectionPlace cells = 3
+sectionPlace fields = 4
+sectionPlace instructions = 5
+sectionPlace answers = 6
 
--- of a column
-abbrev pub columnTag : Column → ℕ
-columnTag limit = 1
-columnTag cycles = 2
-columnTag words-column = 3
-columnTag cell = 4
+-- the place of a column among the four
+abbrev pub columnPlace : Column → ℕ
+columnPlace limit = 0
+columnPlace cycles = 1
+columnPlace words-column = 2
+columnPlace cell = 3
 
--- of a role; two roles of the layout have one number only if they are one role
-abbrev pub tag : Role → ℕ
-tag (names s) = 8 * sectionTag s
-tag (values s c) = 8 * sectionTag s + columnTag c
-tag (code k) = 100
-tag (answer k) = 101
+-- whether a line holds the names of s
+abbrev pub isNames : Section → Role → Bool
+isNames s (names t) = eqb (sectionPlace s) (sectionPlace t)
+isNames s (values t d) = false
+isNames s (code k) = false
+isNames s (answer k) = false
+
+-- whether it holds column c of s
+abbrev pub isValues : Section → Column → Role → Bool
+isValues s c (names t) = false
+isValues s c (values t d) = eqb (sectionPlace s) (sectionPlace t) && eqb (columnPlace c) (columnPlace d)
+isValues s c (code k) = false
+isValues s c (answer k) = false
+
+-- whether a line of the layout is the one that holds r
+abbrev pub isRole : Role → Role → Bool
+isRole (names s) x = isNames s x
+isRole (values s c) x = isValues s c x
+isRole (code k) x = false
+isRole (answer k) x = false
 
 -- the text of the line that holds r; empty where there is no such line
 unfoldable pub textAt : Role → List Role → List Line → List ℕ
 textAt r [] ls = []
 textAt r (x ∷ xs) [] = []
-textAt r (x ∷ xs) (l ∷ ls) = cond (eqb (tag r) (tag x)) (l .text) (textAt r xs ls)
+textAt r (x ∷ xs) (l ∷ ls) = cond (isRole r x) (l .text) (textAt r xs ls)
 
 -- the words listed on the line that holds r
 unfoldable pub listed : Role → List Line → List (List ℕ)

@@ -83,9 +83,13 @@ instructionOf ls text =
     let v = argumentValue (listed (names primitives) ls) (arg text) (k .argument) in
     instruction k v (priceOf (prices ls) (k .argument) (find (op text) (listed (names kinds) ls)) v)
 
--- "AT starts anywhere from 0 to 60,000"
+-- "AT starts anywhere from 0 to 60,000": the first address, by the lines after the layout
+abbrev pub firstAddress : List Line → ℕ
+firstAddress ls = natAbs (inside firstAddresses (firstAt ls))
+
+-- the code of a file
 unfoldable pub codeIn : List Line → Code
-codeIn ls = record { first = natAbs (inside firstAddresses (firstAt (body ls))); instructions = map (λ l. instructionOf ls (l .text)) (codeLines (body ls)) }
+codeIn ls = record { first = firstAddress (body ls); instructions = map (λ l. instructionOf ls (l .text)) (codeLines (body ls)) }
 
 -- ---- cells
 

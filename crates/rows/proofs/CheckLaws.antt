@@ -1,10 +1,11 @@
 -- A text is refused by its length or by the first row that refuses a line, and passes where no row does. Assumes nothing.
 use Prim.Native.Nat.{ℕ, _<_, _≤_}
-use mathlib.Core.Path.{_≡_, refl}
+use mathlib.Core.Path.{_≡_, refl, ap, _∙_}
 use mathlib.Core.List.{List, [], _∷_, _++_}
 use native.Mathlib.Omega.{arith}
 use lib.ListN.{length}
 use borrow.Author.Tests.{le-ltb}
+use Rattle.refusals.specs.declared.Refusal.{Refusal}
 use Rattle.refusals.specs.declared.Refusal.the-variants.{TextLength, Layout, OutOfRange, BadName, Unpriced, NoTarget, UnknownCell}
 use Rattle.text.specs.Text.{Line, lines}
 use Rattle.text.proofs.TextLaws.{none, more}
@@ -12,8 +13,8 @@ use Rattle.routine.specs.declared.Row.{Row}
 use Rattle.routine.specs.declared.Row.the-variants.{Layout as layout-row, Range as range-row, Name as name-row, Price as price-row, Target as target-row, Known as known-row}
 use Rattle.routine.specs.declared.RefusedLine.the-variants.{Nowhere as nowhere, Line as line}
 use Rattle.routine.specs.Rows.{refusedLine, Passes}
-use Rattle.routine.specs.Routine.{Check, check, boundChecks, runChecks, checked, orElse, limited, readRun}
-use Rattle.routine.proofs.RowLaws.{Unrefused, passes-read, bound-order, run-order, too-long}
+use Rattle.routine.specs.Routine.{Routine, routineOf, Reading, refused, routine, Check, check, boundChecks, runChecks, checked, orElse, limited, readRun}
+use Rattle.routine.proofs.RowLaws.{Unrefused, read-passes, run-passes, passes-read, bound-order, run-order, too-long}
 use Rattle.rows.specs.Checks.{readBy, checkOf, knownChecks, Due}
 use Rattle.refusals.specs.declared.Verdict.the-variants.{Accepted, Refused}
 use Rattle.rows.specs.declared.Reader.{Reader}
@@ -91,3 +92,29 @@ known-fails ls n e = rw e refl
 pub known-passes : (ls : List Line) → refusedLine known-row ls ≡ nowhere → Accepted ≡ checkOf (checked knownChecks ls)
 unfolding checkOf checked orElse
 known-passes ls e = rw e refl
+
+-- what a check says of a reading
+
+refused-not : {A : Type 0} (x : Refusal) → checkOf (refused x) ≡ Accepted → A
+unfolding checkOf
+refused-not x e = let z : _≡_ {A = ℕ} 0 1 = cc in absurd (omega arith)
+
+pub refused-reading : (m : Reading) (x : Refusal) → checkOf m ≡ Refused x → m ≡ refused x
+unfolding checkOf
+refused-reading (refused y) x e = let f : y ≡ x = cc in ap refused f
+refused-reading (routine y) x e = let z : _≡_ {A = ℕ} 0 1 = cc in absurd (omega arith)
+
+-- a text that is not refused passes, and its reading is its routine
+
+module _ (text : List ℕ) where
+  read-is : (r : Reader) (x : Routine) → readBy r text ≡ routine x → Passes (lines text) × (x ≡ routineOf (lines text))
+  unfolding readBy
+  read-is Bound x e = let p = read-passes text x e in (p .0, p .1)
+  read-is Run x e = let p = run-passes text x e in (p .0, p .2)
+
+  pub accepted-reading : (r : Reader) → checkOf (readBy r text) ≡ Accepted → Passes (lines text) × (readBy r text ≡ routine (routineOf (lines text)))
+  accepted-reading r e = go (readBy r text) refl e
+    where
+      go : (m : Reading) → readBy r text ≡ m → checkOf m ≡ Accepted → Passes (lines text) × (readBy r text ≡ routine (routineOf (lines text)))
+      go (refused x) h k = refused-not x k
+      go (routine x) h k = let p = read-is r x h in (p .0, h ∙ ap routine (p .1))

@@ -27,9 +27,9 @@ layout-small = more tt (more tt (more tt (more tt (more tt (more tt (more tt (mo
 
 pub role-small : (i m : ℕ) (text : List ℕ) → i ≤ 32768 → Small (roleOf i m text)
 unfolding roleOf
-role-small i m text h = go (ltb i 13) (ltb 0 m) (isHeading i text)
+role-small i m text h = go (ltb i (length layout)) (ltb 0 m) (isHeading i text)
   where
-    go : (a b d : Bool) → Small (cond a (getD layout i (code 0)) (cond b (answer (i - m - 1)) (cond d (names answers) (code (i - 13)))))
+    go : (a b d : Bool) → Small (cond a (getD layout i (code 0)) (cond b (answer (i - m - 1)) (cond d (names answers) (code (i - (length layout))))))
     go true b d = every-getD {P = Small} layout-small (omega arith) i
     go false true d = tt
     go false false true = tt

@@ -6,10 +6,10 @@ use mathlib.Core.List.{List, [], _∷_, _++_}
 use mathlib.Core.Logic.{_⊎_, inl, inr, ⊎-elim}
 use native.Mathlib.Nat.{eq-or-lt-of-le}
 use native.Mathlib.Omega.{arith}
-use lib.Dec.{ltb, eqb}
-use lib.ListN.{getD, drop}
+use lib.Dec.{leb, ltb, eqb}
+use lib.ListN.{length, getD, drop}
 use lib.Seq.{drop-cons}
-use borrow.Author.Tests.{lt-ltb, le-ltb, eq-eqb, ne-eqb, ltb-true, ltb-false}
+use borrow.Author.Tests.{le-leb, lt-leb, lt-ltb, le-ltb, eq-eqb, ne-eqb, ltb-true, ltb-false}
 use Rattle.text.specs.Text.{bytes, equals, Line}
 use Rattle.routine.specs.declared.Section.the-variants.{Answers as answers}
 use Rattle.routine.specs.declared.Role.{Role}
@@ -22,7 +22,7 @@ use Rattle.rows.specs.Scan.{HeadingBefore, isHeading, roleOf, headingAft
 -- the roles that are left before line i, where the lines that are left are ls
 unfoldable pub remaining : ℕ → ℕ → List Line → List Role
 remaining i m ls =
-    cond (ltb i 13) (drop i layout ++ bodyRoles (drop (13 - i) ls)) (cond (ltb 0 m) (answerRoles (i - m - 1) ls) (cond (ltb 13 i) (codeRoles (i - 13) ls) (bodyRoles ls)))
+    cond (ltb i (length layout)) (drop i layout ++ bodyRoles (drop (length layout - i) ls)) (cond (ltb 0 m) (answerRoles (i - m - 1) ls) (cond (ltb (length layout) i) (codeRoles (i - (length layout)) ls) (bodyRoles ls)))
 
 -- at the start all of them are
 pub remaining-all : (ls : List Line) → remaining 0 0 ls ≡ roles ls
@@ -31,21 +31,21 @@ remaining-all ls = refl
 
 -- in the layout, at the first code line, at a later one, at an answer
 
-in-layout : (i m : ℕ) (ls : List Line) → i < 13 → remaining i m ls ≡ drop i layout ++ bodyRoles (drop (13 - i) ls)
+in-layout : (i m : ℕ) (ls : List Line) → i < length layout → remaining i m ls ≡ drop i layout ++ bodyRoles (drop (length layout - i) ls)
 unfolding remaining
-in-layout i m ls h = rw (lt-ltb i 13 h) refl
+in-layout i m ls h = rw (lt-ltb i (length layout) h) refl
 
-at-first : (ls : List Line) → remaining 13 0 ls ≡ bodyRoles ls
+at-first : (ls : List Line) → remaining (length layout) 0 ls ≡ bodyRoles ls
 unfolding remaining
 at-first ls = refl
 
-at-code : (i : ℕ) (ls : List Line) → 13 < i → remaining i 0 ls ≡ codeRoles (i - 13) ls
+at-code : (i : ℕ) (ls : List Line) → length layout < i → remaining i 0 ls ≡ codeRoles (i - (length layout)) ls
 unfolding remaining
-at-code i ls h = rw (le-ltb i 13 (omega arith), lt-ltb 13 i h) refl
+at-code i ls h = rw (le-ltb i (length layout) (omega arith), lt-ltb (length layout) i h) refl
 
-at-answer : (i m : ℕ) (ls : List Line) → 13 < m → m < i → remaining i m ls ≡ answerRoles (i - m - 1) ls
+at-answer : (i m : ℕ) (ls : List Line) → length layout < m → m < i → remaining i m ls ≡ answerRoles (i - m - 1) ls
 unfolding remaining
-at-answer i m ls h k = rw (le-ltb i 13 (omega arith), lt-ltb 0 m (omega arith)) refl
+at-answer i m ls h k = rw (le-ltb i (length layout) (omega arith), lt-ltb 0 m (omega arith)) refl
 
 answer-more : (k : ℕ) (l : Line) (ls : List Line) → answerRoles k (l ∷ ls) ≡ answer k ∷ answerRoles (suc k) ls
 unfolding answerRoles
@@ -54,59 +54,58 @@ answer-more (suc k) l ls = refl
 
 -- a line has the first of them, and the others are left after it
 
-layout-rest : (i : ℕ) (ls : List Line) → (suc i ≡ 13) ⊎ (suc i < 13) → drop (suc i) layout ++ bodyRoles (drop (12 - i) ls) ≡ remaining (i + 1) 0 ls
-layout-rest i ls (inl e) = let f : i ≡ 12 = omega arith in rw f (sym (at-first ls))
+layout-rest : (i : ℕ) (ls : List Line) → (suc i ≡ length layout) ⊎ (suc i < length layout) → drop (suc i) layout ++ bodyRoles (drop (length layout - suc i) ls) ≡ remaining (i + 1) 0 ls
+layout-rest i ls (inl e) = let f : i ≡ length layout - 1 = omega arith in rw f (sym (at-first ls))
 layout-rest i ls (inr k) =
     let a : i + 1 ≡ suc i = omega arith in
-    let b : 12 - i ≡ 13 - suc i = omega arith in
-    rw (a, b) (sym (in-layout (suc i) 0 ls k))
+    rw a (sym (in-layout (suc i) 0 ls k))
 
-layout-more : (i : ℕ) (l : Line) (ls : List Line) → i < 13 → remaining i 0 (l ∷ ls) ≡ roleOf i 0 (l .text) ∷ remaining (i + 1) (headingAfter i 0 (l .text)) ls
+layout-more : (i : ℕ) (l : Line) (ls : List Line) → i < length layout → remaining i 0 (l ∷ ls) ≡ roleOf i 0 (l .text) ∷ remaining (i + 1) (headingAfter i 0 (l .text)) ls
 unfolding roleOf headingAfter isHeading
 layout-more i l ls h =
     let d : drop i layout ≡ getD layout i (code 0) ∷ drop (suc i) layout = drop-cons layout i (code 0) h in
-    let e : 13 - i ≡ suc (12 - i) = omega arith in
-    let f : drop (13 - i) (l ∷ ls) ≡ drop (12 - i) ls = ap (λ n. drop n (l ∷ ls)) e in
-    rw (lt-ltb i 13 h, le-ltb 13 i (omega arith))
+    let e : length layout - i ≡ suc (length layout - suc i) = omega arith in
+    let f : drop (length layout - i) (l ∷ ls) ≡ drop (length layout - suc i) ls = ap (λ n. drop n (l ∷ ls)) e in
+    rw (lt-ltb i (length layout) h, le-ltb (length layout) i (omega arith))
     (in-layout i 0 (l ∷ ls) h ∙ ap₂ (λ rs ms. rs ++ bodyRoles ms) d f ∙ ap (λ rs. getD layout i (code 0) ∷ rs) (layout-rest i ls (eq-or-lt-of-le h)))
 
-first-more : (l : Line) (ls : List Line) → remaining 13 0 (l ∷ ls) ≡ roleOf 13 0 (l .text) ∷ remaining (13 + 1) (headingAfter 13 0 (l .text)) ls
+first-more : (l : Line) (ls : List Line) → remaining (length layout) 0 (l ∷ ls) ≡ roleOf (length layout) 0 (l .text) ∷ remaining ((length layout) + 1) (headingAfter (length layout) 0 (l .text)) ls
 unfolding roleOf headingAfter isHeading bodyRoles
 first-more l ls = at-first (l ∷ ls) ∙ ap (λ rs. code 0 ∷ rs) (sym (at-code 14 ls (omega arith)))
 
-code-more : (i : ℕ) (l : Line) (ls : List Line) → 13 < i → remaining i 0 (l ∷ ls) ≡ roleOf i 0 (l .text) ∷ remaining (i + 1) (headingAfter i 0 (l .text)) ls
+code-more : (i : ℕ) (l : Line) (ls : List Line) → length layout < i → remaining i 0 (l ∷ ls) ≡ roleOf i 0 (l .text) ∷ remaining (i + 1) (headingAfter i 0 (l .text)) ls
 unfolding roleOf headingAfter isHeading codeRoles isAnswer
-code-more i l ls h = rw (at-code i (l ∷ ls) h, le-ltb i 13 (omega arith), lt-ltb 13 i h) (go (equals (l .text) (bytes "ANSWER")))
+code-more i l ls h = rw (at-code i (l ∷ ls) h, le-ltb i (length layout) (omega arith), lt-ltb (length layout) i h) (go (equals (l .text) (bytes "ANSWER")))
   where
-    go : (b : Bool) → cond b (names answers ∷ answerRoles 0 ls) (code (i - 13) ∷ codeRoles (suc (i - 13)) ls) ≡ cond b (names answers) (code (i - 13)) ∷ remaining (i + 1) (cond b i 0) ls
+    go : (b : Bool) → cond b (names answers ∷ answerRoles 0 ls) (code (i - (length layout)) ∷ codeRoles (suc (i - (length layout))) ls) ≡ cond b (names answers) (code (i - (length layout))) ∷ remaining (i + 1) (cond b i 0) ls
     go true = let e : i + 1 - i - 1 ≡ 0 = omega arith in rw (at-answer (i + 1) i ls h (omega arith), e) refl
-    go false = let e : suc (i - 13) ≡ i + 1 - 13 = omega arith in rw (at-code (i + 1) ls (omega arith), e) refl
+    go false = let e : suc (i - (length layout)) ≡ i + 1 - (length layout) = omega arith in rw (at-code (i + 1) ls (omega arith), e) refl
 
-answered-more : (i m : ℕ) (l : Line) (ls : List Line) → 13 < m → m < i → remaining i m (l ∷ ls) ≡ roleOf i m (l .text) ∷ remaining (i + 1) (headingAfter i m (l .text)) ls
+answered-more : (i m : ℕ) (l : Line) (ls : List Line) → length layout < m → m < i → remaining i m (l ∷ ls) ≡ roleOf i m (l .text) ∷ remaining (i + 1) (headingAfter i m (l .text)) ls
 unfolding roleOf headingAfter
 answered-more i m l ls h k =
     let e : suc (i - m - 1) ≡ i + 1 - m - 1 = omega arith in
-    rw (at-answer i m (l ∷ ls) h k, le-ltb i 13 (omega arith), lt-ltb 0 m (omega arith), answer-more, at-answer (i + 1) m ls h (omega arith), e) refl
+    rw (at-answer i m (l ∷ ls) h k, le-ltb i (length layout) (omega arith), lt-ltb 0 m (omega arith), answer-more, at-answer (i + 1) m ls h (omega arith), e) refl
 
 remaining-more : (i m : ℕ) → HeadingBefore i m → (l : Line) (ls : List Line) → remaining i m (l ∷ ls) ≡ roleOf i m (l .text) ∷ remaining (i + 1) (headingAfter i m (l .text)) ls
 remaining-more i m k l ls =
     ⊎-elim
-    (λ (e : m ≡ 0). rw e (go (ltb i 13) refl))
-    (λ (h : (13 < m) × (m < i)). answered-more i m l ls (h .0) (h .1))
+    (λ (e : m ≡ 0). rw e (go (ltb i (length layout)) refl))
+    (λ (h : (length layout < m) × (m < i)). answered-more i m l ls (h .0) (h .1))
     (k .heading)
   where
-    past : (13 ≡ i) ⊎ (13 < i) → remaining i 0 (l ∷ ls) ≡ roleOf i 0 (l .text) ∷ remaining (i + 1) (headingAfter i 0 (l .text)) ls
+    past : (length layout ≡ i) ⊎ (length layout < i) → remaining i 0 (l ∷ ls) ≡ roleOf i 0 (l .text) ∷ remaining (i + 1) (headingAfter i 0 (l .text)) ls
     past (inl e) = rw (← e) (first-more l ls)
     past (inr h) = code-more i l ls h
 
-    go : (b : Bool) → ltb i 13 ≡ b → remaining i 0 (l ∷ ls) ≡ roleOf i 0 (l .text) ∷ remaining (i + 1) (headingAfter i 0 (l .text)) ls
-    go true e = layout-more i l ls (ltb-true i 13 e)
-    go false e = past (eq-or-lt-of-le (ltb-false i 13 e))
+    go : (b : Bool) → ltb i (length layout) ≡ b → remaining i 0 (l ∷ ls) ≡ roleOf i 0 (l .text) ∷ remaining (i + 1) (headingAfter i 0 (l .text)) ls
+    go true e = layout-more i l ls (ltb-true i (length layout) e)
+    go false e = past (eq-or-lt-of-le (ltb-false i (length layout) e))
 
 -- the line ANSWER stands before, and goes on to do so after another line
 
 pub heading-before : (i m : ℕ) → HeadingBefore i m → 0 < m → m < i
-heading-before i m k h = ⊎-elim (λ (e : m ≡ 0). absurd (omega arith)) (λ (p : (13 < m) × (m < i)). p .1) (k .heading)
+heading-before i m k h = ⊎-elim (λ (e : m ≡ 0). absurd (omega arith)) (λ (p : (length layout < m) × (m < i)). p .1) (k .heading)
 
 pub heading-start : HeadingBefore 0 0
 heading-start = record { heading = inl refl }
@@ -115,12 +114,12 @@ pub heading-next : (i m : ℕ) (text : List ℕ) → HeadingBefore i m → Headi
 unfolding headingAfter isHeading
 heading-next i m text k =
     ⊎-elim
-    (λ (e : m ≡ 0). rw e (go (ltb 13 i) refl (equals text (bytes "ANSWER"))))
-    (λ (p : (13 < m) × (m < i)). rw (lt-ltb 0 m (omega arith)) (record { heading = inr (p .0, omega arith) }))
+    (λ (e : m ≡ 0). rw e (go (ltb (length layout) i) refl (equals text (bytes "ANSWER"))))
+    (λ (p : (length layout < m) × (m < i)). rw (lt-ltb 0 m (omega arith)) (record { heading = inr (p .0, omega arith) }))
     (k .heading)
   where
-    go : (a : Bool) → ltb 13 i ≡ a → (b : Bool) → HeadingBefore (i + 1) (cond (a && b) i 0)
-    go true e true = record { heading = inr (ltb-true 13 i e, omega arith) }
+    go : (a : Bool) → ltb (length layout) i ≡ a → (b : Bool) → HeadingBefore (i + 1) (cond (a && b) i 0)
+    go true e true = record { heading = inr (ltb-true (length layout) i e, omega arith) }
     go true e false = record { heading = inl refl }
     go false e b = record { heading = inl refl }
 
@@ -135,16 +134,16 @@ module _ (t : Role → Line → Bool) where
   unfolding earliest
   no-role n = refl
 
-  layout-ends : (n i m : ℕ) → i < 13 → earliest t n (remaining i m []) [] ≡ line n
+  layout-ends : (n i m : ℕ) → i < length layout → earliest t n (remaining i m []) [] ≡ line n
   layout-ends n i m h =
       let d : drop i layout ≡ getD layout i (code 0) ∷ drop (suc i) layout = drop-cons layout i (code 0) h in
-      ap (λ rs. earliest t n rs []) (in-layout i m [] h ∙ ap (λ rs. rs ++ bodyRoles (drop (13 - i) [])) d) ∙ no-line n _ _
+      ap (λ rs. earliest t n rs []) (in-layout i m [] h ∙ ap (λ rs. rs ++ bodyRoles (drop (length layout - i) [])) d) ∙ no-line n _ _
 
-  first-ends : (n : ℕ) → earliest t n (remaining 13 0 []) [] ≡ line n
+  first-ends : (n : ℕ) → earliest t n (remaining (length layout) 0 []) [] ≡ line n
   unfolding bodyRoles
   first-ends n = ap (λ rs. earliest t n rs []) (at-first []) ∙ no-line n (code 0) []
 
-  code-ends : (n i : ℕ) → 13 < i → earliest t n (remaining i 0 []) [] ≡ nowhere
+  code-ends : (n i : ℕ) → length layout < i → earliest t n (remaining i 0 []) [] ≡ nowhere
   unfolding codeRoles
   code-ends n i h = ap (λ rs. earliest t n rs []) (at-code i [] h) ∙ no-role n
 
@@ -156,7 +155,7 @@ module _ (t : Role → Line → Bool) where
   unfolding answerRoles
   answer-some n j = no-role n
 
-  answers-end : (n i m : ℕ) → 13 < m → m < i → earliest t n (remaining i m []) [] ≡ cond (eqb i (m + 1)) (line n) nowhere
+  answers-end : (n i m : ℕ) → length layout < m → m < i → earliest t n (remaining i m []) [] ≡ cond (eqb i (m + 1)) (line n) nowhere
   answers-end n i m h k =
       let b : m + 1 ≤ i = omega arith in
       ap (λ rs. earliest t n rs []) (at-answer i m [] h k) ∙
@@ -170,16 +169,16 @@ module _ (t : Role → Line → Bool) where
   pub scan-ends : (n i m : ℕ) → HeadingBefore i m → earliest t n (remaining i m []) [] ≡ cond (missing i m) (line n) nowhere
   unfolding missing
   scan-ends n i m k =
-      ⊎-elim (λ (e : m ≡ 0). rw e (go (ltb i 13) refl))
-      (λ (p : (13 < m) × (m < i)). rw (le-ltb i 14 (omega arith), lt-ltb 0 m (omega arith)) (answers-end n i m (p .0) (p .1))) (k .heading)
+      ⊎-elim (λ (e : m ≡ 0). rw e (go (ltb i (length layout)) refl))
+      (λ (p : (length layout < m) × (m < i)). rw (lt-leb i (length layout) (omega arith), lt-ltb 0 m (omega arith)) (answers-end n i m (p .0) (p .1))) (k .heading)
     where
-      past : (13 ≡ i) ⊎ (13 < i) → earliest t n (remaining i 0 []) [] ≡ cond (cond (ltb i 14) true false) (line n) nowhere
+      past : (length layout ≡ i) ⊎ (length layout < i) → earliest t n (remaining i 0 []) [] ≡ cond (cond (leb i (length layout)) true false) (line n) nowhere
       past (inl e) = rw (← e) (first-ends n)
-      past (inr h) = rw (le-ltb i 14 (omega arith)) (code-ends n i h)
+      past (inr h) = rw (lt-leb i (length layout) (omega arith)) (code-ends n i h)
 
-      go : (b : Bool) → ltb i 13 ≡ b → earliest t n (remaining i 0 []) [] ≡ cond (cond (ltb i 14) true false) (line n) nowhere
-      go true e = let h = ltb-true i 13 e in rw (lt-ltb i 14 (omega arith)) (layout-ends n i 0 h)
-      go false e = past (eq-or-lt-of-le (ltb-false i 13 e))
+      go : (b : Bool) → ltb i (length layout) ≡ b → earliest t n (remaining i 0 []) [] ≡ cond (cond (leb i (length layout)) true false) (line n) nowhere
+      go true e = let h = ltb-true i (length layout) e in rw (le-leb i (length layout) (omega arith)) (layout-ends n i 0 h)
+      go false e = past (eq-or-lt-of-le (ltb-false i (length layout) e))
 
   -- a line that passes is followed by the others, and one that fails is the earliest
 

@@ -2,17 +2,17 @@
 use lines::WordTest;
 use refusals::Refusal;
 use refusals::Verdict;
-use routine::Column;
 use routine::RefusedLine;
 use routine::Role;
 use routine::Row;
 use routine::Section;
+use routine::layout;
 ghost use mathlib.Core.Path.{_≡_};
 ghost use mathlib.Core.Bool.{true};
-ghost use Prim.Native.Nat.{_<_, _≤_};
-ghost use lib.ListN.{length, getD};
+ghost use Prim.Native.Nat.{_≤_};
+ghost use lib.ListN.{length};
 ghost use Rattle.text.specs.Text.{lines};
-ghost use Rattle.routine.specs.declared.Role.the-variants.{Names, Code};
+ghost use Rattle.routine.specs.declared.Role.the-variants.{Names};
 ghost use Rattle.routine.specs.declared.Section.the-variants.{Kinds};
 ghost use Rattle.routine.specs.declared.Row.the-variants.{Layout};
 ghost use Rattle.routine.specs.Layout.{layout, list, textAt};
@@ -27,50 +27,17 @@ pub enum Reader {
     Run,
 }
 
-// The role of line i of the layout, counted from 0.
-fn role_at(i: usize) -> Role
-    requires { ⌜ i < 13 ⌝ }
-    ensures { λ r. ⌜ r ≡ getD layout i (Code 0) ⌝ }
-{
-    match i {
-        0 => Role::Names(Section::Limits),
-        1 => Role::Values(Section::Limits, Column::Limit),
-        2 => Role::Names(Section::Kinds),
-        3 => Role::Values(Section::Kinds, Column::Cycles),
-        4 => Role::Values(Section::Kinds, Column::Words),
-        5 => Role::Names(Section::Primitives),
-        6 => Role::Values(Section::Primitives, Column::Cycles),
-        7 => Role::Values(Section::Primitives, Column::Words),
-        8 => Role::Names(Section::Cells),
-        9 => Role::Values(Section::Cells, Column::Cell),
-        10 => Role::Names(Section::Fields),
-        11 => Role::Values(Section::Fields, Column::Cell),
-        _ => Role::Names(Section::Instructions),
-    }
-}
-
-// The line of a section's names.
-fn names_line(text: &[u8], s: Section) -> &[u8]
-    ensures { λ r. ⌜ now r ≡ textAt (Names s) layout (lines (now (text .entry))) ⌝ }
-{
-    match s {
-        Section::Limits => text::line_at(text, 0),
-        Section::Kinds => text::line_at(text, 2),
-        Section::Primitives => text::line_at(text, 5),
-        Section::Cells => text::line_at(text, 8),
-        Section::Fields => text::line_at(text, 10),
-        Section::Instructions => text::line_at(text, 12),
-        Section::Answers => &text[..0],
-    }
-}
-
 // Row 2 on a line.
 fn laid_out(text: &[u8], role: Role, line: &[u8]) -> bool
     ensures { λ r. ⌜ r ≡ laidOut (lines (now (text .entry))) role (now (line .entry)) ⌝ }
 {
     match role {
         Role::Names(s) => lines::names_laid_out(s, line),
-        Role::Values(s, c) => lines::values_laid_out(c, names_line(text, s), line),
+        Role::Values(s, c) => lines::values_laid_out(
+            c,
+            layout::text_of(text, Role::Names(s)),
+            line,
+        ),
         Role::Code(k) => lines::code_laid_out(k, line),
         Role::Answer(k) => lines::answer_laid_out(k, line),
     }
@@ -206,7 +173,8 @@ fn passes(
     line: &[u8],
     ended: bool,
 ) -> bool
-    requires { ⌜ Context row (lines (now text)) (now kinds) (now primitives) blocks first count ⌝ }
+    requires { ⌜ Context (lines (now text)) (now kinds) (now primitives) blocks first count ⌝ }
+    requires { ⌜ Due row (lines (now text)) ⌝ }
     requires { ⌜ Small role ⌝ }
     ensures { λ r. ⌜ r ≡ test row (lines (now (text .entry))) role (lineWith (now (line .entry)) ended) ⌝ }
 {
@@ -224,7 +192,7 @@ fn passes(
 fn is_heading(i: usize, line: &[u8]) -> bool
     ensures { λ r. ⌜ r ≡ isHeading i (now (line .entry)) ⌝ }
 {
-    if 13 < i {
+    if layout::LINES < i {
         return text::same(line, b"ANSWER");
     }
     false
@@ -235,8 +203,8 @@ fn role_of(i: usize, heading: usize, line: &[u8]) -> Role
     requires { ⌜ HeadingBefore i heading ⌝ }
     ensures { λ r. ⌜ r ≡ roleOf i heading (now (line .entry)) ⌝ }
 {
-    if i < 13 {
-        return role_at(i);
+    if i < layout::LINES {
+        return layout::role_at(i);
     }
     if 0 < heading {
         return Role::Answer(i - heading - 1);
@@ -244,7 +212,7 @@ fn role_of(i: usize, heading: usize, line: &[u8]) -> Role
     if is_heading(i, line) {
         return Role::Names(Section::Answers);
     }
-    Role::Code(i - 13)
+    Role::Code(i - layout::LINES)
 }
 
 // The heading after line i.
@@ -262,7 +230,7 @@ fn misses(i: usize, heading: usize) -> bool
     requires { ⌜ HeadingBefore i heading ⌝ }
     ensures { λ r. ⌜ r ≡ missing i heading ⌝ }
 {
-    if i < 14 {
+    if i <= layout::LINES {
         return true;
     }
     if 0 < heading { i == heading + 1 } else { false }
@@ -279,7 +247,8 @@ fn earliest(
     count: usize,
 ) -> RefusedLine
     requires { ⌜ length (now text) ≤ 32768 ⌝ }
-    requires { ⌜ Context row (lines (now text)) (now kinds) (now primitives) blocks first count ⌝ }
+    requires { ⌜ Context (lines (now text)) (now kinds) (now primitives) blocks first count ⌝ }
+    requires { ⌜ Due row (lines (now text)) ⌝ }
     ensures { λ r. ⌜ r ≡ refusedLine row (lines (now (text .entry))) ⌝ }
 {
     let mut rest = text;
@@ -315,66 +284,80 @@ fn earliest(
     }
 }
 
-// The earliest line of a text that a row refuses.
-fn refused_line(row: Row, text: &[u8]) -> RefusedLine
-    requires { ⌜ length (now text) ≤ 32768 ⌝ }
-    requires { ⌜ Due row (lines (now text)) ⌝ }
-    ensures { λ r. ⌜ r ≡ refusedLine row (lines (now (text .entry))) ⌝ }
-{
-    let kinds = names_line(text, Section::Kinds);
-    let primitives = names_line(text, Section::Primitives);
-    let fields = names_line(text, Section::Fields);
-    let named = names::blocks_named(fields);
-    let blocks = named.count;
-    let body = text::after_lines(text, 13);
-    let line = text::first_line(body);
-    let word = text::word_at(line, 0);
-    let first = values::natural_in(0, 60000, word) as usize;
-    let count = parts::count_code(body);
-    earliest(row, text, kinds, primitives, blocks, first, count)
-}
-
 // Row 11.
-fn check_known(text: &[u8]) -> Verdict
+fn check_known(
+    text: &[u8],
+    kinds: &[u8],
+    primitives: &[u8],
+    blocks: usize,
+    first: usize,
+    count: usize,
+) -> Verdict
     requires { ⌜ length (now text) ≤ 32768 ⌝ }
+    requires { ⌜ Context (lines (now text)) (now kinds) (now primitives) blocks first count ⌝ }
     ensures { λ r. ⌜ r ≡ checkOf (checked knownChecks (lines (now (text .entry)))) ⌝ }
 {
-    let known = refused_line(Row::Known, text);
+    let known = earliest(Row::Known, text, kinds, primitives, blocks, first, count);
     if let RefusedLine::Line(n) = known {
         return Verdict::Refused(Refusal::UnknownCell(n));
     }
     Verdict::Accepted
 }
 
-// The refusal of a text by the rows in their order, each over the whole text, as the bound or the run reads it.
+// The rows in their order, each over the whole text.
+fn check_rows(
+    reader: Reader,
+    text: &[u8],
+    kinds: &[u8],
+    primitives: &[u8],
+    blocks: usize,
+    first: usize,
+    count: usize,
+) -> Verdict
+    requires { ⌜ length (now text) ≤ 32768 ⌝ }
+    requires { ⌜ Context (lines (now text)) (now kinds) (now primitives) blocks first count ⌝ }
+    ensures { λ r. ⌜ r ≡ checkOf (readBy reader (now (text .entry))) ⌝ }
+{
+    let layout = earliest(Row::Layout, text, kinds, primitives, blocks, first, count);
+    if let RefusedLine::Line(n) = layout {
+        return Verdict::Refused(Refusal::Layout(n));
+    }
+    let range = earliest(Row::Range, text, kinds, primitives, blocks, first, count);
+    if let RefusedLine::Line(n) = range {
+        return Verdict::Refused(Refusal::OutOfRange(n));
+    }
+    let name = earliest(Row::Name, text, kinds, primitives, blocks, first, count);
+    if let RefusedLine::Line(n) = name {
+        return Verdict::Refused(Refusal::BadName(n));
+    }
+    let price = earliest(Row::Price, text, kinds, primitives, blocks, first, count);
+    if let RefusedLine::Line(n) = price {
+        return Verdict::Refused(Refusal::Unpriced(n));
+    }
+    let target = earliest(Row::Target, text, kinds, primitives, blocks, first, count);
+    if let RefusedLine::Line(n) = target {
+        return Verdict::Refused(Refusal::NoTarget(n));
+    }
+    match reader {
+        Reader::Bound => Verdict::Accepted,
+        Reader::Run => check_known(text, kinds, primitives, blocks, first, count),
+    }
+}
+
+// The refusal of a text, as the bound or the run reads it. What the rows look at beside a line is found once.
 pub fn check(reader: Reader, text: &[u8]) -> Verdict
     ensures { λ r. ⌜ r ≡ checkOf (readBy reader (now (text .entry))) ⌝ }
 {
     if 32768 < text.len() {
         return Verdict::Refused(Refusal::TextLength);
     }
-    let layout = refused_line(Row::Layout, text);
-    if let RefusedLine::Line(n) = layout {
-        return Verdict::Refused(Refusal::Layout(n));
-    }
-    let range = refused_line(Row::Range, text);
-    if let RefusedLine::Line(n) = range {
-        return Verdict::Refused(Refusal::OutOfRange(n));
-    }
-    let name = refused_line(Row::Name, text);
-    if let RefusedLine::Line(n) = name {
-        return Verdict::Refused(Refusal::BadName(n));
-    }
-    let price = refused_line(Row::Price, text);
-    if let RefusedLine::Line(n) = price {
-        return Verdict::Refused(Refusal::Unpriced(n));
-    }
-    let target = refused_line(Row::Target, text);
-    if let RefusedLine::Line(n) = target {
-        return Verdict::Refused(Refusal::NoTarget(n));
-    }
-    match reader {
-        Reader::Bound => Verdict::Accepted,
-        Reader::Run => check_known(text),
-    }
+    let kinds = layout::text_of(text, Role::Names(Section::Kinds));
+    let primitives = layout::text_of(text, Role::Names(Section::Primitives));
+    let fields = layout::text_of(text, Role::Names(Section::Fields));
+    let named = names::blocks_named(fields);
+    let blocks = named.count;
+    let body = layout::body_of(text);
+    let first = values::first_address(body);
+    let count = layout::count_code(body);
+    check_rows(reader, text, kinds, primitives, blocks, first, count)
 }

@@ -13,7 +13,7 @@ use mir.Syntax.{w32}
 use mir.Val.{SFits}
 use borrow.Author.Tests.{leb-true, ltb-true, le-ltb, eq-eqb, ne-eqb}
 use Rattle.text.proofs.TextLaws.{ltb-suc}
-use Rattle.text.specs.Text.{equals, bytes}
+use Rattle.text.specs.Text.{equals, bytes, split, words, Line, noLine}
 use Rattle.text.specs.Decimal.{numeral, most, clamp, clamped}
 use Rattle.text.specs.declared.Numeral.{Numeral}
 use Rattle.text.specs.declared.Numeral.the-variants.{Misspelt, Number}
@@ -23,10 +23,10 @@ use Rattle.numbers.specs.Numbers.{half, IsNumber, within, numbers}
 use Rattle.cells.specs.Cells.{number, handle}
 use Rattle.routine.specs.declared.CellWord.{CellWord}
 use Rattle.routine.specs.declared.CellWord.the-variants.{Wrong, Unknown, Known, Block}
-use Rattle.routine.specs.Rows.{isNumeral, valueOf, knownOf, blockOf, hashed, cellWord, isCell, handles, cellInRange, cellPresent, isKnown}
+use Rattle.routine.specs.Rows.{isNumeral, value, valueOf, knownOf, blockOf, hashed, cellWord, isCell, handles, cellInRange, cellPresent, isKnown, firstAt}
 use Rattle.routine.specs.Routine.{inside, cellOf}
-use Rattle.routine.proofs.RangeLaws.{within-low, within-high, Natural, inside-keeps}
-use Rattle.values.specs.Values.{Near, clampedCell}
+use Rattle.routine.proofs.RangeLaws.{within-low, within-high, Natural, natural-inside, inside-keeps}
+use Rattle.values.specs.Values.{Near, NaturalRange, clampedCell}
 
 -- ---- numbers
 
@@ -187,3 +187,18 @@ nearer-neg a (suc n) = ltb-suc a n
 pub nearer-below : (k : ℤ) (n : ℕ) → ltZ k (pos 0) ≡ true → ltZ (pos 0 -ℤ pos n) k ≡ ltb (natAbs k) n
 nearer-below (pos a) n e = below-zero a e
 nearer-below (negsuc a) n e = ap (λ z. ltZ z (negsuc a)) (+ℤ-idl (negℤ (pos n))) ∙ nearer-neg a n
+
+-- ---- natural numbers
+
+module _ (r : Range) (n : NaturalRange r) where
+  pub natural-near : Near r
+  natural-near = rw (n .is) (record { low = omega (arith, n .small .0); high = omega (arith, n .small .1) })
+
+  pub natural-held : (z : ℤ) → Natural (n .greatest) (inside r z)
+  natural-held z = rw (n .is) (natural-inside (n .least) (n .greatest) z)
+
+-- the first address stands at the start of the first code line
+pub first-spelt : (ls : List Line) → value (getD (words (getD ls 0 noLine .text)) 0 []) ≡ firstAt ls
+unfolding firstAt words split value valueOf numeral
+first-spelt [] = refl
+first-spelt (l ∷ ls) = refl

@@ -1,8 +1,10 @@
 -- What the code holds of a word.
-use Prim.Native.Nat.{_<_}
+use Prim.Native.Nat.{ℕ, _<_, _≤_}
+use mathlib.Core.Path.{_≡_}
 use lib.Signed.{mag}
 use Rattle.text.specs.Decimal.{most, clamp}
 use Rattle.numbers.specs.declared.Range.{Range}
+use Rattle.numbers.specs.Numbers.{range}
 use Rattle.routine.specs.declared.CellWord.{CellWord}
 use Rattle.routine.specs.declared.CellWord.the-variants.{Wrong, Unknown, Known, Block}
 
@@ -10,6 +12,13 @@ use Rattle.routine.specs.declared.CellWord.the-variants.{Wrong, Unknown, Known,
 pub record Near (r : Range) : Type 0 where
   pub low : mag (r .low) < most
   pub high : mag (r .high) < most
+
+-- a range of natural numbers of 32 bits
+pub record NaturalRange (r : Range) : Type 0 where
+  pub least : ℕ
+  pub greatest : ℕ
+  pub is : r ≡ range least greatest
+  pub small : (least ≤ 4294967295) × (greatest ≤ 4294967295)
 
 -- a cell word with its number clamped
 unfoldable pub clampedCell : CellWord → CellWord

@@ -2,17 +2,19 @@
 use cells::Cell;
 use numbers::Range;
 use routine::CellWord;
+use routine::layout;
 use text::Numeral;
 ghost use mathlib.Core.Path.{_≡_};
 ghost use Prim.Native.Nat.{_≤_};
 ghost use lib.Dec.{ltb};
 ghost use lib.IntN.{natAbs};
+ghost use Rattle.text.specs.Text.{lines};
 ghost use Rattle.text.specs.Decimal.{numeral, most, clamp};
 ghost use Rattle.numbers.specs.Numbers.{range, within, numbers};
 ghost use Rattle.cells.specs.Cells.{number, handle};
 ghost use Rattle.routine.specs.Rows.{isNumeral, value, knownOf, blockOf, cellWord, isCell, handles, cellInRange, cellPresent, isKnown};
-ghost use Rattle.routine.specs.Routine.{inside, naturalIn, cellOf};
-ghost use Rattle.values.specs.Values.{Near, clampedCell};
+ghost use Rattle.routine.specs.Routine.{inside, naturalIn, firstAddress, cellOf};
+ghost use Rattle.values.specs.Values.{Near, NaturalRange, clampedCell};
 
 // ---- numbers
 
@@ -59,17 +61,34 @@ pub fn number_in(range: Range, w: &[u8]) -> i64
 }
 
 // A natural number of a range.
+pub fn natural_of(range: Range, w: &[u8]) -> u32
+    requires { ⌜ NaturalRange range ⌝ }
+    ensures { λ r. ⌜ r ≡ naturalIn range (now (w .entry)) ⌝ }
+{
+    let z = number_in(range, w);
+    z as u32
+}
+
+// The same, by the ends of the range.
 pub fn natural_in(low: u32, high: u32, w: &[u8]) -> u32
     ensures { λ r. ⌜ r ≡ naturalIn (range low high) (now (w .entry)) ⌝ }
 {
-    let z = number_in(
+    natural_of(
         Range {
             low: low as i64,
             high: high as i64,
         },
         w,
-    );
-    z as u32
+    )
+}
+
+// The first address, that "of the first AT line", where `body` has the lines after the layout.
+pub fn first_address(body: &[u8]) -> usize
+    ensures { λ r. ⌜ r ≡ firstAddress (lines (now (body .entry))) ⌝ }
+{
+    let line = text::first_line(body);
+    let at = text::word_at(line, 0);
+    natural_of(layout::first_addresses(), at) as usize
 }
 
 // ---- cells
@@ -140,13 +159,6 @@ pub fn number_range() -> Range
     }
 }
 
-// "`#k` with k outside 0 to 7 is 3"
-fn handle_range() -> Range
-    ensures { λ r. ⌜ r ≡ handles ⌝ }
-{
-    Range { low: 0, high: 7 }
-}
-
 pub fn cell_in_range(w: &[u8]) -> bool
     ensures { λ r. ⌜ r ≡ cellInRange (cellWord (now (w .entry))) ⌝ }
 {
@@ -154,7 +166,7 @@ pub fn cell_in_range(w: &[u8]) -> bool
         CellWord::Wrong => true,
         CellWord::Unknown => true,
         CellWord::Known(z) => numbers::within(number_range(), z),
-        CellWord::Block(k) => numbers::within(handle_range(), k),
+        CellWord::Block(k) => numbers::within(layout::handles(), k),
     }
 }
 
@@ -190,7 +202,7 @@ fn number_cell(z: i64) -> Cell
 fn handle_cell(k: i64) -> Cell
     ensures { λ r. ⌜ r ≡ handle (natAbs (inside handles k)) ⌝ }
 {
-    let n = inside(handle_range(), k);
+    let n = inside(layout::handles(), k);
     cells::handle(n as u8)
 }
 

@@ -1,34 +1,40 @@
 -- `analyser::bound` meets its contract. Assumes nothing.
-use Rattle.routine.specs.Routine.{readBound}
-use Rattle.analyser.specs.Functions.{answerOf}
-use Rattle.analyser.specs.Answers.{memory}
-use Rattle.rows.specs.Checks.{readBy}
 use mathlib.Core.Path.{sym, ap, _∙_}
 use lib.ListN.{length}
-use denote.Ref.{now}
-use Rattle.analyser.proofs.FunctionLaws.{gives-refusal, reading-refused, reading-limited, reading-routine, bound-short, bound-refused, bound-passed, bound-printable, bound-keeps}
+use Rattle.text.specs.Text.{lines}
+use Rattle.routine.specs.Routine.{routineOf, readBound}
+use Rattle.rows.specs.Checks.{readBy}
+use Rattle.rows.specs.declared.Reader.the-variants.{Bound}
+use Rattle.rows.proofs.CheckLaws.{refused-reading, accepted-reading}
+use Rattle.analyser.specs.Functions.{answerOf}
+use Rattle.analyser.specs.Answers.{memory}
+use Rattle.analyser.proofs.FunctionLaws.{gives-refusal, held-routine, bound-short, bound-refused, bound-passed, bound-printable, bound-keeps}
 use borrow.Author.Needs.{needs}
 use Rattle.analyser.proofs.bound.Statement.{statement}
 use Rattle.analyser.proofs.bound.Tie as tie
 
 returns : tie.Need-returns
 returns c =
-    let g = gives-refusal _ _ (bound-short (now (c .before .before .before .args .text)) (length (now (c .before .before .before .args .out))) (c .if1 .taken)) _ in
-    bound-keeps _ _ _ _ _ g
+    let start = c .before .before .before in
+    bound-keeps _ _ _ _ _ (gives-refusal _ _ (bound-short (start .args .text .now) (length (start .args .out .now)) (c .if1 .taken)) _)
 
-read-requires : tie.Need-read-requires
-read-requires c κs = search needs
+check-requires : tie.Need-check-requires
+check-requires c κs = search needs
 
 enum-told : tie.Need-enum-told
 enum-told c = search needs
 
+routine-of-requires : tie.Need-routine-of-requires
+routine-of-requires c κs = accepted-reading _ Bound (sym (c .before .before .check .ensures) ∙ c .enum-told .given .1) .0
+
 bound-routine-requires : tie.Need-bound-routine-requires
 unfolding readBy
 bound-routine-requires c κs =
-    let r = c .before .before .before .before .read .result in
-    let p = c .before .before .enum-told .given .1 in
-    let e = reading-routine r _ (c .before .before .before .before .read .ensures) p in
-    (reading-limited r (readBound (now (c .before .before .before .before .before .before .before .before .args .text))) (c .before .before .before .before .read .ensures) p, bound-printable (now (c .before .before .before .before .before .before .before .before .args .text)) (length (now (c .before .before .before .before .before .before .before .before .args .out))) (c .before .before .before .before .before .if1 .left) _ e)
+    let start = c .before .before .before .before .before .before .before .before in
+    let text = start .args .text .now in
+    let a = accepted-reading text Bound (sym (c .before .before .before .before .check .ensures) ∙ c .before .before .enum-told .given .1) in
+    let e = held-routine (routineOf (lines text)) (c .before .routine-of .result) (c .before .routine-of .ensures .0) (readBound text) (a .1) in
+    (c .before .routine-of .ensures .1, bound-printable text (length (start .args .out .now)) (c .before .before .before .before .before .if1 .left) _ e)
 
 enum-known-verdict : tie.Need-enum-known-verdict
 enum-known-verdict c = search needs
@@ -39,26 +45,31 @@ same-length c = search needs
 returns-2 : tie.Need-returns-2
 unfolding readBy
 returns-2 c =
-    let r = c .before .before .before .before .before .before .before .read .result in
-    let e = reading-routine r _ (c .before .before .before .before .before .before .before .read .ensures) (c .before .before .before .before .before .enum-told .given .1) in
-    let q = sym (bound-passed (now (c .before .before .before .before .before .before .before .before .before .before .before .args .text)) (length (now (c .before .before .before .before .before .before .before .before .before .before .before .args .out))) (c .before .before .before .before .before .before .before .before .if1 .left) _ e) in
-    bound-keeps _ _ _ _ _ (c .before .before .bound-routine .ensures .0 ∙ ap answerOf q, c .before .before .bound-routine .ensures .1 ∙ ap (λ a. memory a (now (c .before .before .before .before .before .before .before .before .before .before .before .args .out))) q)
+    let start = c .before .before .before .before .before .before .before .before .before .before .before in
+    let text = start .args .text .now in
+    let out = start .args .out .now in
+    let held = c .before .before .before .before .routine-of in
+    let a = accepted-reading text Bound (sym (c .before .before .before .before .before .before .before .check .ensures) ∙ c .before .before .before .before .before .enum-told .given .1) in
+    let e = held-routine (routineOf (lines text)) (held .result) (held .ensures .0) (readBound text) (a .1) in
+    let q = sym (bound-passed text (length out) (c .before .before .before .before .before .before .before .before .if1 .left) _ e) in
+    bound-keeps _ _ _ _ _ (c .before .before .bound-routine .ensures .0 ∙ ap answerOf q, c .before .before .bound-routine .ensures .1 ∙ ap (λ a. memory a out) q)
 
 returns-3 : tie.Need-returns-3
 unfolding readBy
 returns-3 c =
-    let r = c .before .before .before .read .result in
-    let e = reading-refused r _ (c .before .before .before .read .ensures) _ (c .before .verdict .given .1) in
-    let g = gives-refusal _ _ (bound-refused (now (c .before .before .before .before .before .before .before .args .text)) (length (now (c .before .before .before .before .before .before .before .args .out))) (c .before .before .before .before .if1 .left) _ e) _ in
-    bound-keeps _ _ _ _ _ g
+    let start = c .before .before .before .before .before .before .before in
+    let text = start .args .text .now in
+    let e = refused-reading (readBound text) _ (sym (c .before .before .before .check .ensures) ∙ c .before .verdict .given .1) in
+    bound-keeps _ _ _ _ _ (gives-refusal _ _ (bound-refused text (length (start .args .out .now)) (c .before .before .before .before .if1 .left) _ e) _)
 
 pub bound-spec : {M : Type 1} → statement M
 bound-spec =
     tie.close
     (tie.spec
     returns
-    read-requires
+    check-requires
     enum-told
+    routine-of-requires
     bound-routine-requires
     enum-known-verdict
     same-length

@@ -1,11 +1,12 @@
 -- `lines::limits_in_range` meets its contract. Assumes nothing.
-use mathlib.Core.Path.{sym, ap, _∙_}
+use mathlib.Core.Path.{sym, ap₂, _∙_}
 use mathlib.Core.List.{[]}
+use native.Mathlib.Omega.{arith}
 use lib.ListN.{getD}
 use Rattle.numbers.specs.Numbers.{within}
 use Rattle.routine.specs.Layout.{list}
-use Rattle.routine.specs.Rows.{value, budgets, ticks, columnInRange}
-use Rattle.lines.proofs.LineLaws.{and-true, and-false}
+use Rattle.routine.specs.Rows.{value, ticks, columnInRange}
+use Rattle.lines.proofs.LineLaws.{and-true, and-false, near-range}
 use borrow.Author.Needs.{needs}
 use Rattle.lines.proofs.limits_in_range.Statement.{statement}
 use Rattle.lines.proofs.limits_in_range.Tie as tie
@@ -16,23 +17,29 @@ listed-at-requires c κs = search needs
 listed-at-requires-2 : tie.Need-listed-at-requires-2
 listed-at-requires-2 c κs = search needs
 
+budgets-requires : tie.Need-budgets-requires
+budgets-requires c κs = search needs
+
 is-within-requires : tie.Need-is-within-requires
-is-within-requires c κs = search needs
+is-within-requires c κs = near-range 1 1000000 (omega arith) (omega arith) (c .budgets .ensures)
+
+ticks-requires : tie.Need-ticks-requires
+ticks-requires c κs = search needs
 
 is-within-requires-2 : tie.Need-is-within-requires-2
-is-within-requires-2 c κs = search needs
+is-within-requires-2 c κs = near-range 1 4000000000 (omega arith) (omega arith) (c .ticks .ensures)
 
 returns : tie.Need-returns
 unfolding columnInRange
 returns c =
-    and-true (sym (c .before .before .is-within .ensures ∙ ap (λ w. within budgets (value w)) (c .before .before .before .before .listed-at .ensures)) ∙ c .before .if1 .taken)
-    (c .is-within2 .ensures ∙ ap (λ w. within ticks (value w)) (c .before .before .before .listed-at2 .ensures))
+    and-true (sym (c .before .before .before .is-within .ensures ∙ ap₂ (λ r w. within r (value w)) (c .before .before .before .before .budgets .ensures) (c .before .before .before .before .before .before .listed-at .ensures)) ∙ c .before .before .if1 .taken)
+    (c .is-within2 .ensures ∙ ap₂ (λ r w. within r (value w)) (c .before .ticks .ensures) (c .before .before .before .before .before .listed-at2 .ensures))
 
 returns-2 : tie.Need-returns-2
 unfolding columnInRange
 returns-2 c =
-    and-false (within ticks (value (getD (list (c .before .before .before .before .before .args .line .now)) 1 [])))
-    (sym (c .before .is-within .ensures ∙ ap (λ w. within budgets (value w)) (c .before .before .before .listed-at .ensures)) ∙ c .if1 .left)
+    and-false (within ticks (value (getD (list (c .before .before .before .before .before .before .args .line .now)) 1 [])))
+    (sym (c .before .is-within .ensures ∙ ap₂ (λ r w. within r (value w)) (c .before .before .budgets .ensures) (c .before .before .before .before .listed-at .ensures)) ∙ c .if1 .left)
 
 pub limits-in-range-spec : {M : Type 1} → statement M
 limits-in-range-spec =
@@ -40,7 +47,9 @@ limits-in-range-spec =
     (tie.spec
     listed-at-requires
     listed-at-requires-2
+    budgets-requires
     is-within-requires
+    ticks-requires
     is-within-requires-2
     returns
     returns-2)

@@ -1,8 +1,11 @@
 -- `lines::word_passes` meets its contract. Assumes nothing.
 use mathlib.Core.Path.{ap, _∙_}
+use native.Mathlib.Omega.{arith}
 use lib.Dec.{ltb}
+use Rattle.numbers.specs.Numbers.{within}
+use Rattle.routine.specs.Rows.{value}
 use Rattle.lines.specs.Lines.{wordTest}
-use Rattle.lines.proofs.LineLaws.{arm, filled, kind-among}
+use Rattle.lines.proofs.LineLaws.{arm, filled, kind-among, near-range}
 use borrow.Author.Needs.{needs}
 use Rattle.lines.proofs.word_passes.Statement.{statement}
 use Rattle.lines.proofs.word_passes.Tie as tie
@@ -19,14 +22,20 @@ is-numeral-requires c κs = search needs
 enum-told-3 : tie.Need-enum-told-3
 enum-told-3 c = search needs
 
+cycle-counts-requires : tie.Need-cycle-counts-requires
+cycle-counts-requires c κs = search needs
+
 is-within-requires : tie.Need-is-within-requires
-is-within-requires c κs = search needs
+is-within-requires c κs = near-range 0 65535 (omega arith) (omega arith) (c .cycle-counts .ensures)
 
 enum-told-4 : tie.Need-enum-told-4
 enum-told-4 c = search needs
 
+word-counts-requires : tie.Need-word-counts-requires
+word-counts-requires c κs = search needs
+
 is-within-requires-2 : tie.Need-is-within-requires-2
-is-within-requires-2 c κs = search needs
+is-within-requires-2 c κs = near-range 0 255 (omega arith) (omega arith) (c .word-counts .ensures)
 
 enum-told-5 : tie.Need-enum-told-5
 enum-told-5 c = search needs
@@ -80,12 +89,12 @@ returns-2 c =
 returns-3 : tie.Need-returns-3
 unfolding wordTest
 returns-3 c =
-    arm (λ t. wordTest t (c .before .before .before .before .args .w .now)) (c .before .enum-told3 .given .1) (c .is-within .ensures)
+    arm (λ t. wordTest t (c .before .before .before .before .before .args .w .now)) (c .before .before .enum-told3 .given .1) (c .is-within .ensures ∙ ap (λ r. within r (value (c .before .before .before .before .before .args .w .now))) (c .before .cycle-counts .ensures))
 
 returns-4 : tie.Need-returns-4
 unfolding wordTest
 returns-4 c =
-    arm (λ t. wordTest t (c .before .before .before .before .args .w .now)) (c .before .enum-told4 .given .1) (c .is-within2 .ensures)
+    arm (λ t. wordTest t (c .before .before .before .before .before .args .w .now)) (c .before .before .enum-told4 .given .1) (c .is-within2 .ensures ∙ ap (λ r. within r (value (c .before .before .before .before .before .args .w .now))) (c .before .word-counts .ensures))
 
 returns-5 : tie.Need-returns-5
 unfolding wordTest
@@ -125,8 +134,10 @@ word-passes-spec =
     enum-told-2
     is-numeral-requires
     enum-told-3
+    cycle-counts-requires
     is-within-requires
     enum-told-4
+    word-counts-requires
     is-within-requires-2
     enum-told-5
     is-cell-requires

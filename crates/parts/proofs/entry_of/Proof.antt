@@ -6,10 +6,9 @@ use native.Mathlib.Omega.{arith}
 use mir.Syntax.{w32}
 use mir.ValLaws.{toZ-ofZ}
 use Rattle.text.specs.Text.{find}
-use Rattle.instructions.specs.Kinds.{operand}
+use Rattle.instructions.specs.Kinds.{kindNames, operand}
 use Rattle.instructions.specs.Columns.{kindAt}
 use Rattle.routine.specs.Layout.{list}
-use Rattle.routine.specs.Rows.{cycleCounts, wordCounts}
 use Rattle.routine.specs.Routine.{argumentValue}
 use Rattle.parts.specs.Parts.{priceLines}
 use Rattle.parts.proofs.EntryLaws.{Read, entry-is, code-small, same-price}
@@ -23,8 +22,8 @@ word-at-requires c κs = search needs
 word-at-requires-2 : tie.Need-word-at-requires-2
 word-at-requires-2 c κs = search needs
 
-kind-of-requires : tie.Need-kind-of-requires
-kind-of-requires c κs = search needs
+kind-named-requires : tie.Need-kind-named-requires
+kind-named-requires c κs = search needs
 
 table-place-requires : tie.Need-table-place-requires
 table-place-requires c κs = search needs
@@ -44,16 +43,22 @@ code-of-requires c κs = c .before .before .before .table-place .ensures .1
 operand-of-requires : tie.Need-operand-of-requires
 operand-of-requires c κs = c .before .before .before .before .table-place .ensures .1
 
+cycle-counts-requires : tie.Need-cycle-counts-requires
+cycle-counts-requires c κs = search needs
+
 price-of-requires : tie.Need-price-of-requires
-price-of-requires c κs = omega arith
+price-of-requires c κs = record { greatest = 65535; is = c .cycle-counts .ensures; small = omega arith }
+
+word-counts-requires : tie.Need-word-counts-requires
+word-counts-requires c κs = search needs
 
 price-of-requires-2 : tie.Need-price-of-requires-2
-price-of-requires-2 c κs = omega arith
+price-of-requires-2 c κs = record { greatest = 255; is = c .word-counts .ensures; small = omega arith }
 
 returns : tie.Need-returns
 returns c =
-    let start = c .before .before .before .before .before .before .before .before .before .before .before .before .before .before .before .before .before .before in
-    let kind = c .before .before .before .before .before .before .before in
+    let start = c .before .before .before .before .before .before .before .before .before .before .before .before .before .before .before .before .before .before .before .before in
+    let kind = c .before .before .before .before .before .before .before .before .before in
     let k = kind .table-place .result in
     let text = start .args .text .now in
     let p =
@@ -61,17 +66,17 @@ returns c =
     (start .args .primitive-cycles .now) (start .args .primitive-words .now) in
     let o = kind .before .before .before .word-at .ensures in
     let a = kind .before .before .word-at2 .ensures in
-    let i = c .before .before .before .before .before .place-listed .ensures ∙ ap (λ (w : List ℕ). find w (list (p .kinds))) o in
-    let j = c .before .before .before .before .place-listed2 .ensures ∙ ap (λ (w : List ℕ). find w (list (p .primitives))) a in
-    let t = c .before .before .before .before .before .before .calls-at .ensures in
+    let i = c .before .before .before .before .before .before .before .place-listed .ensures ∙ ap (λ (w : List ℕ). find w (list (p .kinds))) o in
+    let j = c .before .before .before .before .before .before .place-listed2 .ensures ∙ ap (λ (w : List ℕ). find w (list (p .primitives))) a in
+    let t = c .before .before .before .before .before .before .before .before .calls-at .ensures in
     let r : Read p text k _ _ _ _ =
     record {
-      coded = c .before .before .before .code-of .ensures;
-      operand = λ ps. toZ-ofZ w32 (c .before .before .operand-of .result) (search needs) ∙ c .before .before .operand-of .ensures ps ∙ ap (λ (w : List ℕ). operand (kindAt k) (argumentValue ps w (kindAt k .argument))) a;
-      cycles = same-price cycleCounts (p .kindCycles) (p .primitiveCycles) i t j (c .before .price-of .ensures);
-      words = same-price wordCounts (p .kindWords) (p .primitiveWords) i t j (c .price-of2 .ensures);
+      coded = c .before .before .before .before .before .code-of .ensures;
+      operand = λ ps. toZ-ofZ w32 (c .before .before .before .before .operand-of .result) (search needs) ∙ c .before .before .before .before .operand-of .ensures ps ∙ ap (λ (w : List ℕ). operand (kindAt k) (argumentValue ps w (kindAt k .argument))) a;
+      cycles = same-price (p .kindCycles) (p .primitiveCycles) (c .before .before .before .cycle-counts .ensures) i t j (c .before .before .price-of .ensures);
+      words = same-price (p .kindWords) (p .primitiveWords) (c .before .word-counts .ensures) i t j (c .price-of2 .ensures);
     } in
-    (entry-is p text k _ _ _ _ r (kind .table-place .ensures .0 ∙ ap kindAt (kind .before .kind-of .ensures)), code-small p text k _ _ _ _ r)
+    (entry-is p text k _ _ _ _ r (kind .table-place .ensures .0 ∙ ap kindAt (kind .before .kind-named .ensures ∙ ap (λ (w : List ℕ). find w kindNames) o)), code-small p text k _ _ _ _ r)
 
 pub entry-of-spec : {M : Type 1} → statement M
 entry-of-spec =
@@ -79,13 +84,15 @@ entry-of-spec =
     (tie.spec
     word-at-requires
     word-at-requires-2
-    kind-of-requires
+    kind-named-requires
     table-place-requires
     calls-at-requires
     place-listed-requires
     place-listed-requires-2
     code-of-requires
     operand-of-requires
+    cycle-counts-requires
     price-of-requires
+    word-counts-requires
     price-of-requires-2
     returns)

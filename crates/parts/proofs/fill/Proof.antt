@@ -9,7 +9,7 @@ use lib.Seq.{take-set-le}
 use Rattle.cells.specs.Cells.{number}
 use Rattle.states.proofs.Stack.{length-images}
 use Rattle.parts.specs.Parts.{cellsIn}
-use Rattle.parts.proofs.ListLaws.{list-length}
+use Rattle.routine.proofs.CodeLineLaws.{list-length}
 use Rattle.parts.proofs.FillLaws.{fill-past}
 use Rattle.parts.proofs.WordLaws.{cells-length}
 use borrow.Author.Needs.{needs}

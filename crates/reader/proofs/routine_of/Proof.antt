@@ -8,59 +8,65 @@ use borrow.Author.Needs.{needs}
 use Rattle.reader.proofs.routine_of.Statement.{statement}
 use Rattle.reader.proofs.routine_of.Tie as tie
 
-line-at-requires : tie.Need-line-at-requires
-line-at-requires c κs = search needs
+text-of-requires : tie.Need-text-of-requires
+text-of-requires c κs = search needs
+
+budgets-requires : tie.Need-budgets-requires
+budgets-requires c κs = search needs
 
 natural-at-requires : tie.Need-natural-at-requires
-natural-at-requires c κs = search needs
+natural-at-requires c κs = record { least = 1; greatest = 1000000; is = c .budgets .ensures; small = (omega arith, omega arith) }
 
 cast-budget : tie.Need-cast-budget
 cast-budget c = search needs
 
+ticks-requires : tie.Need-ticks-requires
+ticks-requires c κs = search needs
+
 natural-at-requires-2 : tie.Need-natural-at-requires-2
-natural-at-requires-2 c κs = search needs
+natural-at-requires-2 c κs = record { least = 1; greatest = 4000000000; is = c .ticks .ensures; small = (omega arith, omega arith) }
 
 cast-tick : tie.Need-cast-tick
 cast-tick c = search needs
 
-line-at-requires-2 : tie.Need-line-at-requires-2
-line-at-requires-2 c κs = search needs
+text-of-requires-2 : tie.Need-text-of-requires-2
+text-of-requires-2 c κs = search needs
 
 blocks-named-requires : tie.Need-blocks-named-requires
 blocks-named-requires c κs = search needs
 
-line-at-requires-3 : tie.Need-line-at-requires-3
-line-at-requires-3 c κs = search needs
+text-of-requires-3 : tie.Need-text-of-requires-3
+text-of-requires-3 c κs = search needs
 
 fields-of-requires : tie.Need-fields-of-requires
-fields-of-requires c κs = fields-ready _ (c .before .before .before .before .before .before .before .before .pre) _ _ _ (c .before .before .before .line-at2 .ensures) (c .line-at3 .ensures) refl _ (c .before .before .blocks-named .ensures)
+fields-of-requires c κs = fields-ready _ (c .before .before .before .before .before .before .before .before .before .before .pre) _ _ _ (c .before .before .before .text-of2 .ensures) (c .text-of3 .ensures) refl _ (c .before .before .blocks-named .ensures)
 
-after-lines-requires : tie.Need-after-lines-requires
-after-lines-requires c κs = search needs
+body-of-requires : tie.Need-body-of-requires
+body-of-requires c κs = search needs
 
-first-in-requires : tie.Need-first-in-requires
-first-in-requires c κs = search needs
+first-address-requires : tie.Need-first-address-requires
+first-address-requires c κs = search needs
 
 count-code-requires : tie.Need-count-code-requires
 count-code-requires c κs = search needs
 
 columns-in-requires : tie.Need-columns-in-requires
-columns-in-requires c κs = counted _ (c .before .before .before .before .before .before .before .before .before .before .before .before .pre) _ (c .before .before .after-lines .ensures .0) _ (c .count-code .ensures)
+columns-in-requires c κs = counted _ (c .before .before .before .before .before .before .before .before .before .before .before .before .before .before .pre) _ (c .before .before .body-of .ensures) _ (c .count-code .ensures)
 
-line-at-requires-4 : tie.Need-line-at-requires-4
-line-at-requires-4 c κs = search needs
+text-of-requires-4 : tie.Need-text-of-requires-4
+text-of-requires-4 c κs = search needs
 
 start-of-requires : tie.Need-start-of-requires
-start-of-requires c κs = cells-ready _ (c .before .before .before .before .before .before .before .before .before .before .before .before .before .before .pre) _ _ _ (c .before .before .before .before .before .before .before .before .before .line-at2 .ensures) (c .before .before .before .before .before .before .line-at3 .ensures) (c .line-at4 .ensures) _ (c .before .before .before .before .before .before .before .before .blocks-named .ensures)
+start-of-requires c κs = cells-ready _ (c .before .before .before .before .before .before .before .before .before .before .before .before .before .before .before .before .pre) _ _ _ (c .before .before .before .before .before .before .before .before .before .text-of2 .ensures) (c .before .before .before .before .before .before .text-of3 .ensures) (c .text-of4 .ensures) _ (c .before .before .before .before .before .before .before .before .blocks-named .ensures)
 
 add-after-lines : tie.Need-add-after-lines
-add-after-lines c = let k = counted _ (c .before .before .before .before .before .before .before .before .before .before .before .before .before .before .before .pre) _ (c .before .before .before .before .before .after-lines .ensures .0) _ (c .before .before .before .count-code .ensures) in let h = k .few in omega arith
+add-after-lines c = let k = counted _ (c .before .before .before .before .before .before .before .before .before .before .before .before .before .before .before .before .before .pre) _ (c .before .before .before .before .before .body-of .ensures) _ (c .before .before .before .count-code .ensures) in let h = k .few in omega arith
 
-after-lines-requires-2 : tie.Need-after-lines-requires-2
-after-lines-requires-2 c κs = search needs
+after-lines-requires : tie.Need-after-lines-requires
+after-lines-requires c κs = search needs
 
 answers-of-requires : tie.Need-answers-of-requires
-answers-of-requires c κs = answers-small _ (c .before .before .before .before .before .before .before .before .before .before .before .before .before .before .before .before .pre) _ (c .before .before .before .before .before .before .after-lines .ensures .0) _ (c .before .before .before .before .count-code .ensures) _ (c .after-lines2 .ensures .0)
+answers-of-requires c κs = answers-small _ (c .before .before .before .before .before .before .before .before .before .before .before .before .before .before .before .before .before .before .pre) _ (c .before .before .before .before .before .before .body-of .ensures) _ (c .before .before .before .before .count-code .ensures) _ (c .after-lines .ensures .0)
 
 returns : tie.Need-returns
 returns c =
@@ -70,25 +76,25 @@ returns c =
     let e : length (c .before .before .before .before .columns-in .result .words) ≡ 1024 = search (c .before .before .before .before .columns-in .ok, needs, length-images) in
     let f : length (c .before .before .before .before .before .before .before .before .fields-of .result) ≡ 128 = search (c .before .before .before .before .before .before .before .before .fields-of .ok, needs, length-images) in
     let g : length (c .answers-of .result .values) ≡ 64 = search (c .answers-of .ok, needs, length-images) in
-    let k = counted _ (c .before .before .before .before .before .before .before .before .before .before .before .before .before .before .before .before .before .pre) _ (c .before .before .before .before .before .before .before .after-lines .ensures .0) _ (c .before .before .before .before .before .count-code .ensures) in
-    let first = first-is _ (c .before .before .before .before .before .before .before .before .before .before .before .before .before .before .before .before .before .pre) _ (c .before .before .before .before .before .before .before .after-lines .ensures .0) _ (c .before .before .before .before .before .count-code .ensures) _ (c .before .before .before .before .before .before .first-in .ensures) in (
+    let k = counted _ (c .before .before .before .before .before .before .before .before .before .before .before .before .before .before .before .before .before .before .before .pre) _ (c .before .before .before .before .before .before .before .body-of .ensures) _ (c .before .before .before .before .before .count-code .ensures) in
+    let first = first-is _ (c .before .before .before .before .before .before .before .before .before .before .before .before .before .before .before .before .before .before .before .pre) _ (c .before .before .before .before .before .before .before .body-of .ensures) _ (c .before .before .before .before .before .count-code .ensures) _ (c .before .before .before .before .before .before .first-address .ensures) in (
       record {
-        budget = budget-held _ _ (c .before .before .before .before .before .before .before .before .before .before .before .before .before .before .before .line-at .ensures) _ (c .before .before .before .before .before .before .before .before .before .before .before .before .before .before .natural-at .ensures);
-        tick = tick-held _ _ (c .before .before .before .before .before .before .before .before .before .before .before .before .before .before .before .line-at .ensures) _ (c .before .before .before .before .before .before .before .before .before .before .before .before .before .natural-at2 .ensures);
-        code = code-is _ (c .before .before .before .before .before .before .before .before .before .before .before .before .before .before .before .before .before .pre) _ (c .before .before .before .before .before .before .before .after-lines .ensures .0) _ (c .before .before .before .before .before .count-code .ensures) _ (c .before .before .before .before .before .before .first-in .ensures) _ _ _ _ (c .before .before .before .before .columns-in .ensures .instructions);
-        start = start-held _ (c .before .before .before .before .before .before .before .before .before .before .before .before .before .before .before .before .before .pre) _ _ _ (c .before .before .before .before .before .before .before .before .before .before .before .before .line-at2 .ensures) (c .before .before .before .before .before .before .before .before .before .line-at3 .ensures) (c .before .before .before .line-at4 .ensures) _ (c .before .before .before .before .before .before .before .before .before .before .before .blocks-named .ensures) _ first _ (c .before .before .start-of .ensures .0) _ (c .before .before .before .before .before .before .before .before .fields-of .ensures);
-        answered = answers-held _ (c .before .before .before .before .before .before .before .before .before .before .before .before .before .before .before .before .before .pre) _ (c .before .before .before .before .before .before .before .after-lines .ensures .0) _ (c .before .before .before .before .before .count-code .ensures) _ (c .before .after-lines2 .ensures .0) _ (c .answers-of .ensures .0);
+        budget = budget-held _ _ (c .before .before .before .before .before .before .before .before .before .before .before .before .before .before .before .before .before .text-of .ensures) _ _ (c .before .before .before .before .before .before .before .before .before .before .before .before .before .before .before .before .budgets .ensures) (c .before .before .before .before .before .before .before .before .before .before .before .before .before .before .before .natural-at .ensures);
+        tick = tick-held _ _ (c .before .before .before .before .before .before .before .before .before .before .before .before .before .before .before .before .before .text-of .ensures) _ _ (c .before .before .before .before .before .before .before .before .before .before .before .before .before .before .ticks .ensures) (c .before .before .before .before .before .before .before .before .before .before .before .before .before .natural-at2 .ensures);
+        code = code-is _ (c .before .before .before .before .before .before .before .before .before .before .before .before .before .before .before .before .before .before .before .pre) _ (c .before .before .before .before .before .before .before .body-of .ensures) _ (c .before .before .before .before .before .count-code .ensures) _ (c .before .before .before .before .before .before .first-address .ensures) _ _ _ _ (c .before .before .before .before .columns-in .ensures .instructions);
+        start = start-held _ (c .before .before .before .before .before .before .before .before .before .before .before .before .before .before .before .before .before .before .before .pre) _ _ _ (c .before .before .before .before .before .before .before .before .before .before .before .before .text-of2 .ensures) (c .before .before .before .before .before .before .before .before .before .text-of3 .ensures) (c .before .before .before .text-of4 .ensures) _ (c .before .before .before .before .before .before .before .before .before .before .before .blocks-named .ensures) _ first _ (c .before .before .start-of .ensures .0) _ (c .before .before .before .before .before .before .before .before .fields-of .ensures);
+        answered = answers-held _ (c .before .before .before .before .before .before .before .before .before .before .before .before .before .before .before .before .before .before .before .pre) _ (c .before .before .before .before .before .before .before .body-of .ensures) _ (c .before .before .before .before .before .count-code .ensures) _ (c .before .after-lines .ensures .0) _ (c .answers-of .ensures .0);
       },
       record {
-        budget = budget-limited _ _ (c .before .before .before .before .before .before .before .before .before .before .before .before .before .before .before .line-at .ensures) (c .before .before .before .before .before .before .before .before .before .before .before .before .before .before .before .before .before .pre) _ (c .before .before .before .before .before .before .before .before .before .before .before .before .before .before .natural-at .ensures);
-        first = first-low _ _ (c .before .before .before .before .before .before .first-in .ensures);
+        budget = budget-limited _ _ (c .before .before .before .before .before .before .before .before .before .before .before .before .before .before .before .before .before .text-of .ensures) _ _ (c .before .before .before .before .before .before .before .before .before .before .before .before .before .before .before .before .before .before .before .pre) (c .before .before .before .before .before .before .before .before .before .before .before .before .before .before .before .before .budgets .ensures) (c .before .before .before .before .before .before .before .before .before .before .before .before .before .before .before .natural-at .ensures);
+        first = first-low _ _ (c .before .before .before .before .before .before .first-address .ensures);
         few = k .few;
         full = record { codes = a; operands = b; cycles = d; words = e };
         sized = columns-sized _ (c .before .before .before .before .columns-in .result) (k .few) a b d e (c .before .before .before .before .columns-in .ensures .known);
         placed = start-at _ _ (c .before .before .start-of .result) (c .before .before .start-of .ensures .0);
         formed = c .before .before .start-of .ensures .1;
         present = c .before .before .before .before .before .before .before .before .before .before .before .blocks-named .ensures .few;
-        fits = blocks-fit _ (c .before .before .before .before .before .before .before .before .before .before .before .before .before .before .before .before .before .pre) _ _ _ (c .before .before .before .before .before .before .before .before .before .before .before .before .line-at2 .ensures) (c .before .before .before .before .before .before .before .before .before .line-at3 .ensures) (c .before .before .before .line-at4 .ensures) _ (c .before .before .before .before .before .before .before .before .before .before .before .blocks-named .ensures) _ f;
+        fits = blocks-fit _ (c .before .before .before .before .before .before .before .before .before .before .before .before .before .before .before .before .before .before .before .pre) _ _ _ (c .before .before .before .before .before .before .before .before .before .before .before .before .text-of2 .ensures) (c .before .before .before .before .before .before .before .before .before .text-of3 .ensures) (c .before .before .before .text-of4 .ensures) _ (c .before .before .before .before .before .before .before .before .before .before .before .blocks-named .ensures) _ f;
         answered = c .answers-of .ensures .1;
         places = g;
       },
@@ -98,22 +104,24 @@ pub routine-of-spec : {M : Type 1} → statement M
 routine-of-spec =
     tie.close
     (tie.spec
-    line-at-requires
+    text-of-requires
+    budgets-requires
     natural-at-requires
     cast-budget
+    ticks-requires
     natural-at-requires-2
     cast-tick
-    line-at-requires-2
+    text-of-requires-2
     blocks-named-requires
-    line-at-requires-3
+    text-of-requires-3
     fields-of-requires
-    after-lines-requires
-    first-in-requires
+    body-of-requires
+    first-address-requires
     count-code-requires
     columns-in-requires
-    line-at-requires-4
+    text-of-requires-4
     start-of-requires
     add-after-lines
-    after-lines-requires-2
+    after-lines-requires
     answers-of-requires
     returns)

@@ -5,21 +5,21 @@ use borrow.Author.Needs.{needs}
 use Rattle.rows.proofs.check_known.Statement.{statement}
 use Rattle.rows.proofs.check_known.Tie as tie
 
-refused-line-requires : tie.Need-refused-line-requires
-refused-line-requires c κs = (c .before .pre, due-known _)
+earliest-requires : tie.Need-earliest-requires
+earliest-requires c κs = let p = c .before .before .before .pre in (p .0, (p .1, due-known _))
 
 enum-known-known : tie.Need-enum-known-known
 enum-known-known c = search needs
 
 returns : tie.Need-returns
-returns c = known-fails _ _ (sym (c .before .before .before .refused-line .ensures) ∙ c .before .known .given .1)
+returns c = known-fails _ _ (sym (c .before .before .before .earliest .ensures) ∙ c .before .known .given .1)
 
 enum-told : tie.Need-enum-told
 enum-told c = search needs
 
 returns-2 : tie.Need-returns-2
-returns-2 c = known-passes _ (sym (c .before .before .refused-line .ensures) ∙ c .enum-told .given .1)
+returns-2 c = known-passes _ (sym (c .before .before .earliest .ensures) ∙ c .enum-told .given .1)
 
 pub check-known-spec : {M : Type 1} → statement M
 check-known-spec =
-    tie.close (tie.spec refused-line-requires enum-known-known returns enum-told returns-2)
+    tie.close (tie.spec earliest-requires enum-known-known returns enum-told returns-2)

@@ -29,7 +29,7 @@ role-of-requires : tie.Need-role-of-requires Inv-loop μ-loop
 role-of-requires c κs = c .before .before .before .loop .inv .heading
 
 passes-requires : tie.Need-passes-requires Inv-loop μ-loop
-passes-requires c κs = let s = c .before .before .before .before .before .before .before .before in let v = c .before .before .before .before .loop .inv in let z : c .before .before .before .before .loop .passed ≤ 32768 = (let q = v .size in let r = s .pre .0 in omega arith) in (s .pre .1, subst Small (sym (c .role-of .ensures)) (role-small _ _ _ z))
+passes-requires c κs = let s = c .before .before .before .before .before .before .before .before in let v = c .before .before .before .before .loop .inv in let z : c .before .before .before .before .loop .passed ≤ 32768 = (let q = v .size in let r = s .pre .0 in omega arith) in (s .pre .1 .0, (s .pre .1 .1, subst Small (sym (c .role-of .ensures)) (role-small _ _ _ z)))
 
 add-t18 : tie.Need-add-t18 Inv-loop μ-loop
 add-t18 c = let v = c .before .before .before .before .before .before .loop .inv .size in let r = c .before .before .before .before .before .before .before .before .before .before .pre .0 in omega arith

@@ -1,5 +1,7 @@
 -- `rows::is_heading` meets its contract. Assumes nothing.
+use lib.ListN.{length}
 use borrow.Author.Tests.{lt-ltb, le-ltb}
+use Rattle.routine.specs.Layout.{layout}
 use Rattle.rows.specs.Scan.{isHeading}
 use borrow.Author.Needs.{needs}
 use Rattle.rows.proofs.is_heading.Statement.{statement}
@@ -13,11 +15,11 @@ same-requires c κs = search needs
 
 returns : tie.Need-returns
 unfolding isHeading
-returns c = rw (lt-ltb 13 (c .before .before .before .before .args .i) (c .before .before .if1 .taken)) (c .same .ensures)
+returns c = rw (lt-ltb (length layout) (c .before .before .before .before .args .i) (c .before .before .if1 .taken)) (c .same .ensures)
 
 returns-2 : tie.Need-returns-2
 unfolding isHeading
-returns-2 c = rw (le-ltb 13 (c .before .before .args .i) (c .if1 .left))
+returns-2 c = rw (le-ltb (length layout) (c .before .before .args .i) (c .if1 .left))
 
 pub is-heading-spec : {M : Type 1} → statement M
 is-heading-spec = tie.close (tie.spec slice-aggregate-same same-requires returns returns-2)

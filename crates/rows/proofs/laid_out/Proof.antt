@@ -17,8 +17,8 @@ names-laid-out-requires c κs = search needs
 enum-known-role-2 : tie.Need-enum-known-role-2
 enum-known-role-2 c = search needs
 
-names-line-requires : tie.Need-names-line-requires
-names-line-requires c κs = search needs
+text-of-requires : tie.Need-text-of-requires
+text-of-requires c κs = search needs
 
 values-laid-out-requires : tie.Need-values-laid-out-requires
 values-laid-out-requires c κs = search needs
@@ -40,7 +40,7 @@ unfolding laidOut
 returns c = arm (λ o. laidOut (lines (now (c .before .before .before .before .before .before .args .text))) o (now (c .before .before .before .before .before .before .args .line))) (c .before .before .role .given .1) (c .names-laid-out .ensures)
 
 returns-2 : tie.Need-returns-2
-returns-2 c = arm (λ o. laidOut (lines (now (c .before .before .before .before .before .before .before .args .text))) o (now (c .before .before .before .before .before .before .before .args .line))) (c .before .before .before .role2 .given .1) (laid-values (lines (now (c .before .before .before .before .before .before .before .args .text))) (now (c .before .before .before .before .before .before .before .args .line)) _ _ _ _ (c .before .names-line .ensures) (c .values-laid-out .ensures))
+returns-2 c = arm (λ o. laidOut (lines (now (c .before .before .before .before .before .before .before .args .text))) o (now (c .before .before .before .before .before .before .before .args .line))) (c .before .before .before .role2 .given .1) (laid-values (lines (now (c .before .before .before .before .before .before .before .args .text))) (now (c .before .before .before .before .before .before .before .args .line)) _ _ _ _ (c .before .text-of .ensures) (c .values-laid-out .ensures))
 
 returns-3 : tie.Need-returns-3
 unfolding laidOut
@@ -57,7 +57,7 @@ laid-out-spec =
     enum-known-role
     names-laid-out-requires
     enum-known-role-2
-    names-line-requires
+    text-of-requires
     values-laid-out-requires
     enum-known-role-3
     code-laid-out-requires

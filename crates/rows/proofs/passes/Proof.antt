@@ -3,6 +3,7 @@ use Rattle.rows.specs.Scan.{lineWith}
 use Rattle.routine.specs.Rows.{test}
 use Rattle.text.specs.Text.{lines}
 use denote.Ref.{now}
+use Rattle.rows.proofs.FoundLaws.{name-context, target-context}
 use Rattle.lines.proofs.LineLaws.{arm}
 use borrow.Author.Needs.{needs}
 use Rattle.rows.proofs.passes.Statement.{statement}
@@ -24,19 +25,19 @@ enum-told-3 : tie.Need-enum-told-3
 enum-told-3 c = search needs
 
 named-requires : tie.Need-named-requires
-named-requires c κs = (c .before .before .before .before .before .before .pre .0 .names-row (c .enum-told3 .given .1), c .before .before .before .before .before .before .pre .1)
+named-requires c κs = let p = c .before .before .before .before .before .before .pre in (name-context (p .0) (p .1 .0 .names-row (c .enum-told3 .given .1)), p .1 .1)
 
 enum-told-4 : tie.Need-enum-told-4
 enum-told-4 c = search needs
 
 priced-requires : tie.Need-priced-requires
-priced-requires c κs = c .before .before .before .before .before .before .pre .0 .prices-row (c .enum-told4 .given .1)
+priced-requires c κs = c .before .before .before .before .before .before .pre .0 .kinds-line
 
 enum-told-5 : tie.Need-enum-told-5
 enum-told-5 c = search needs
 
 reaches-requires : tie.Need-reaches-requires
-reaches-requires c κs = c .before .before .before .before .before .before .pre .0 .targets-row (c .enum-told5 .given .1)
+reaches-requires c κs = let p = c .before .before .before .before .before .before .pre in target-context (p .0) (p .1 .0 .targets-row (c .enum-told5 .given .1))
 
 enum-told-6 : tie.Need-enum-told-6
 enum-told-6 c = search needs

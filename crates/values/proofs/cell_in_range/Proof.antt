@@ -31,8 +31,8 @@ within-requires c κs = search needs
 enum-known-k : tie.Need-enum-known-k
 enum-known-k c = search needs
 
-handle-range-requires : tie.Need-handle-range-requires
-handle-range-requires c κs = search needs
+handles-requires : tie.Need-handles-requires
+handles-requires c κs = search needs
 
 within-requires-2 : tie.Need-within-requires-2
 within-requires-2 c κs = search needs
@@ -57,7 +57,7 @@ returns-4 : tie.Need-returns-4
 unfolding cellInRange
 returns-4 c =
     tested cellInRange clampedCell in-range-clamped (cellWord (c .before .before .before .before .before .before .before .args .w .now)) (c .before .before .before .before .before .cell-word .ensures) (c .before .before .before .k .given .1)
-    (c .within2 .ensures ∙ ap₂ within (c .before .handle-range .ensures) (toZ-ofZ w64 (c .before .before .before .k .given .0 .0) (search needs)))
+    (c .within2 .ensures ∙ ap₂ within (c .before .handles .ensures) (toZ-ofZ w64 (c .before .before .before .k .given .0 .0) (search needs)))
 
 pub cell-in-range-spec : {M : Type 1} → statement M
 cell-in-range-spec =
@@ -70,7 +70,7 @@ cell-in-range-spec =
     number-range-requires
     within-requires
     enum-known-k
-    handle-range-requires
+    handles-requires
     within-requires-2
     returns
     returns-2

@@ -17,10 +17,10 @@ use Rattle.values.proofs.handle_cell.Statement.{statement}
 use Rattle.values.proofs.handle_cell.Tie as tie
 
 held : (c : tie.After-inside) → toZ w64 (ofZ w64 (c .inside .result)) ≡ inside handles (c .before .before .args .k)
-held c = toZ-ofZ w64 _ (search needs) ∙ c .inside .ensures ∙ ap₂ inside (c .before .handle-range .ensures) (toZ-ofZ w64 (c .before .before .args .k) (c .before .before .fits .k))
+held c = toZ-ofZ w64 _ (search needs) ∙ c .inside .ensures ∙ ap₂ inside (c .before .handles .ensures) (toZ-ofZ w64 (c .before .before .args .k) (c .before .before .fits .k))
 
-handle-range-requires : tie.Need-handle-range-requires
-handle-range-requires c κs = search needs
+handles-requires : tie.Need-handles-requires
+handles-requires c κs = search needs
 
 inside-requires : tie.Need-inside-requires
 inside-requires c κs = search needs
@@ -37,4 +37,4 @@ returns : tie.Need-returns
 returns c = c .handle .ensures ∙ ap (λ z. handle (natAbs z)) (held (c .before))
 
 pub handle-cell-spec : {M : Type 1} → statement M
-handle-cell-spec = tie.close (tie.spec handle-range-requires inside-requires cast-handle handle-requires returns)
+handle-cell-spec = tie.close (tie.spec handles-requires inside-requires cast-handle handle-requires returns)

@@ -1,11 +1,11 @@
--- `lines::listed_at` meets its contract. Assumes nothing.
+-- `routine::layout::listed_at` meets its contract. Assumes nothing.
 use mathlib.Core.Path.{sym, ap, _∙_}
 use mathlib.Core.List.{[]}
 use lib.ListN.{getD}
 use Rattle.routine.proofs.LayoutLaws.{list-none, list-words}
 use borrow.Author.Needs.{needs}
-use Rattle.lines.proofs.listed_at.Statement.{statement}
-use Rattle.lines.proofs.listed_at.Tie as tie
+use Rattle.routine.proofs.layout.listed_at.Statement.{statement}
+use Rattle.routine.proofs.layout.listed_at.Tie as tie
 
 slice-aggregate-same : tie.Need-slice-aggregate-same
 slice-aggregate-same c = search needs

@@ -1,10 +1,10 @@
--- `lines::is_listed` meets its contract. Assumes nothing.
+-- `routine::layout::is_listed` meets its contract. Assumes nothing.
 use mathlib.Core.Path.{sym, ap, _∙_}
 use Rattle.text.specs.Text.{among}
 use Rattle.routine.proofs.LayoutLaws.{list-none, list-words}
 use borrow.Author.Needs.{needs}
-use Rattle.lines.proofs.is_listed.Statement.{statement}
-use Rattle.lines.proofs.is_listed.Tie as tie
+use Rattle.routine.proofs.layout.is_listed.Statement.{statement}
+use Rattle.routine.proofs.layout.is_listed.Tie as tie
 
 slice-aggregate-same : tie.Need-slice-aggregate-same
 slice-aggregate-same c = search needs

@@ -1,10 +1,10 @@
--- `lines::count_listed` meets its contract. Assumes nothing.
+-- `routine::layout::count_listed` meets its contract. Assumes nothing.
 use mathlib.Core.Path.{sym, ap, _∙_}
 use lib.ListN.{length}
 use Rattle.routine.proofs.LayoutLaws.{list-none, list-words}
 use borrow.Author.Needs.{needs}
-use Rattle.lines.proofs.count_listed.Statement.{statement}
-use Rattle.lines.proofs.count_listed.Tie as tie
+use Rattle.routine.proofs.layout.count_listed.Statement.{statement}
+use Rattle.routine.proofs.layout.count_listed.Tie as tie
 
 slice-aggregate-same : tie.Need-slice-aggregate-same
 slice-aggregate-same c = search needs

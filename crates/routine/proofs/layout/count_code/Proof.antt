@@ -1,4 +1,4 @@
--- `parts::count_code` meets its contract. The loop's invariant: the code lines of the body are the n lines passed and those of what is
+-- `routine::layout::count_code` meets its contract. The loop's invariant: the code lines of the body are the n lines passed and those of what is
 -- left up to a line ANSWER. The measure is the length of what is left. Assumes nothing.
 use Prim.Native.Nat.{_+_, _<_, _≤_}
 use mathlib.Core.Path.{_≡_, refl, sym, _∙_}
@@ -6,10 +6,10 @@ use native.Mathlib.Omega.{arith}
 use lib.ListN.{length}
 use borrow.Author.Needs.{needs}
 use Rattle.text.specs.Text.{lines}
 use Rattle.routine.specs.Layout.{upToAnswer, codeLines}
-use Rattle.parts.proofs.ListLaws.{code-none, code-first, code-answer, code-next, code-end}
-use Rattle.parts.proofs.count_code.Statement.{statement}
-use Rattle.parts.proofs.count_code.Tie as tie
+use Rattle.routine.proofs.CodeLineLaws.{code-none, code-first, code-answer, code-next, code-end}
+use Rattle.routine.proofs.layout.count_code.Statement.{statement}
+use Rattle.routine.proofs.layout.count_code.Tie as tie
 
 abbrev Inv-loop : tie.InvT-loop
 Inv-loop body rest₀ n₀ t6 rest n = (n + length rest ≤ length body) × (length (codeLines (lines body)) ≡ n + length (upToAnswer (lines rest)))

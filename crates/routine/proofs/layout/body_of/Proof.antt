@@ -1,0 +1,15 @@
+-- `routine::layout::body_of` meets its contract. Assumes nothing.
+use Rattle.routine.specs.Layout.{body}
+use borrow.Author.Needs.{needs}
+use Rattle.routine.proofs.layout.body_of.Statement.{statement}
+use Rattle.routine.proofs.layout.body_of.Tie as tie
+
+after-lines-requires : tie.Need-after-lines-requires
+after-lines-requires c κs = search needs
+
+returns : tie.Need-returns
+unfolding body
+returns c = c .after-lines .ensures .0
+
+pub body-of-spec : {M : Type 1} → statement M
+body-of-spec = tie.close (tie.spec after-lines-requires returns)

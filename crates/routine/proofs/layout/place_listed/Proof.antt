@@ -1,0 +1,27 @@
+-- `routine::layout::place_listed` meets its contract. Assumes nothing.
+use mathlib.Core.Path.{sym, ap, _∙_}
+use Rattle.text.specs.Text.{find}
+use Rattle.routine.proofs.LayoutLaws.{list-none, list-words}
+use borrow.Author.Needs.{needs}
+use Rattle.routine.proofs.layout.place_listed.Statement.{statement}
+use Rattle.routine.proofs.layout.place_listed.Tie as tie
+
+slice-aggregate-same : tie.Need-slice-aggregate-same
+slice-aggregate-same c = search needs
+
+same-requires : tie.Need-same-requires
+same-requires c κs = search needs
+
+returns : tie.Need-returns
+unfolding find
+returns c = sym (ap (find _) (list-none _ (sym (c .before .same .ensures) ∙ c .if1 .taken)))
+
+find-requires : tie.Need-find-requires
+find-requires c κs = search needs
+
+returns-2 : tie.Need-returns-2
+returns-2 c = c .find .ensures ∙ sym (ap (find _) (list-words _ (sym (c .before .before .same .ensures) ∙ c .before .if1 .left)))
+
+pub place-listed-spec : {M : Type 1} → statement M
+place-listed-spec =
+    tie.close (tie.spec slice-aggregate-same same-requires returns find-requires returns-2)

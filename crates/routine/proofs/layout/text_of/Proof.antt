@@ -1,0 +1,81 @@
+-- `routine::layout::text_of` meets its contract. The loop's invariant: the line sought is the one that the roles from i on and the lines
+-- left show. The measure is the number of roles left. Assumes nothing.
+use Prim.Native.Nat.{_+_, _-_, _≤_}
+use mathlib.Core.Path.{_≡_, refl, sym, ap, _∙_}
+use native.Mathlib.Omega.{arith}
+use lib.ListN.{length, drop}
+use Rattle.text.specs.Text.{lines}
+use Rattle.routine.specs.Layout.{layout, isRole, textAt}
+use Rattle.routine.proofs.LayoutLaws.{text-here, text-next, text-none}
+use borrow.Author.Needs.{needs}
+use Rattle.routine.proofs.layout.text_of.Statement.{statement}
+use Rattle.routine.proofs.layout.text_of.Tie as tie
+
+abbrev Inv-loop : tie.InvT-loop
+Inv-loop text role rest₀ i₀ rest i = (i ≤ length layout) × (textAt role layout (lines text) ≡ textAt role (drop i layout) (lines rest))
+
+abbrev μ-loop : tie.MeasureT-loop
+μ-loop text role rest₀ i₀ rest i = length layout - i
+
+loop-holds : tie.Need-loop-holds Inv-loop μ-loop
+loop-holds c = (omega arith, refl)
+
+role-at-requires : tie.Need-role-at-requires Inv-loop μ-loop
+role-at-requires c κs = search needs
+
+is-role-requires : tie.Need-is-role-requires Inv-loop μ-loop
+is-role-requires c κs = search needs
+
+first-line-requires : tie.Need-first-line-requires Inv-loop μ-loop
+first-line-requires c κs = search needs
+
+returns : tie.Need-returns Inv-loop μ-loop
+returns c =
+    let r = c .before .before .before .before .before .before .before .args .role in
+    let l = c .before .before .before .before .before .loop in
+    let e = sym (ap (isRole r) (c .before .before .before .role-at .ensures)) ∙ sym (c .before .before .is-role .ensures) ∙ c .before .if1 .taken in
+    c .first-line .ensures ∙ sym (l .inv .1 ∙ text-here r (l .i) (c .before .before .before .before .loop-test .taken) (lines (l .rest .now)) e)
+
+next-lines-requires : tie.Need-next-lines-requires Inv-loop μ-loop
+next-lines-requires c κs = search needs
+
+add-i : tie.Need-add-i Inv-loop μ-loop
+add-i c = search needs
+
+loop-less : tie.Need-loop-less Inv-loop μ-loop
+loop-less c = search needs
+
+loop-again : tie.Need-loop-again Inv-loop μ-loop
+loop-again c =
+    let r = c .before .before .before .before .before .before .before .args .role in
+    let l = c .before .before .before .before .before .loop in
+    let e = sym (ap (isRole r) (c .before .before .before .role-at .ensures)) ∙ sym (c .before .before .is-role .ensures) ∙ c .before .if1 .left in
+    (omega arith, l .inv .1 ∙ text-next r (l .i) (c .before .before .before .before .loop-test .taken) (lines (l .rest .now)) e ∙ ap (textAt r (drop (l .i + 1) layout)) (sym (c .next-lines .ensures .0)))
+
+slice-aggregate-result : tie.Need-slice-aggregate-result Inv-loop μ-loop
+slice-aggregate-result c = search needs
+
+returns-2 : tie.Need-returns-2 Inv-loop μ-loop
+returns-2 c =
+    let r = c .before .before .before .before .args .role in
+    let l = c .before .before .loop in
+    let e : l .i ≡ length layout = omega arith in
+    sym (l .inv .1 ∙ ap (λ k. textAt r (drop k layout) (lines (l .rest .now))) e ∙ text-none r (lines (l .rest .now)))
+
+pub text-of-spec : {M : Type 1} → statement M
+text-of-spec =
+    tie.close
+    (tie.spec
+    Inv-loop
+    μ-loop
+    loop-holds
+    role-at-requires
+    is-role-requires
+    first-line-requires
+    returns
+    next-lines-requires
+    add-i
+    loop-less
+    loop-again
+    slice-aggregate-result
+    returns-2)

@@ -1,0 +1,45 @@
+-- `values::first_address` meets its contract. Assumes nothing.
+use mathlib.Core.Path.{ap, ap₂, _∙_}
+use mathlib.Core.List.{[]}
+use lib.IntN.{natAbs}
+use lib.ListN.{getD}
+use Rattle.text.specs.Text.{words, lines}
+use Rattle.routine.specs.Rows.{firstAddresses}
+use Rattle.routine.specs.Routine.{inside, naturalIn}
+use Rattle.values.proofs.ValueLaws.{first-spelt}
+use borrow.Author.Needs.{needs}
+use Rattle.values.proofs.first_address.Statement.{statement}
+use Rattle.values.proofs.first_address.Tie as tie
+
+first-line-requires : tie.Need-first-line-requires
+first-line-requires c κs = search needs
+
+word-at-requires : tie.Need-word-at-requires
+word-at-requires c κs = search needs
+
+first-addresses-requires : tie.Need-first-addresses-requires
+first-addresses-requires c κs = search needs
+
+natural-of-requires : tie.Need-natural-of-requires
+natural-of-requires c κs = search needs
+
+cast-result : tie.Need-cast-result
+cast-result c = search needs
+
+returns : tie.Need-returns
+returns c =
+    let body = c .before .before .before .before .before .args .body .now in
+    c .natural-of .ensures
+    ∙ ap₂ naturalIn (c .before .first-addresses .ensures) (c .before .before .word-at .ensures ∙ ap (λ t. getD (words t) 0 []) (c .before .before .before .first-line .ensures))
+    ∙ ap (λ z. natAbs (inside firstAddresses z)) (first-spelt (lines body))
+
+pub first-address-spec : {M : Type 1} → statement M
+first-address-spec =
+    tie.close
+    (tie.spec
+    first-line-requires
+    word-at-requires
+    first-addresses-requires
+    natural-of-requires
+    cast-result
+    returns)
