@@ -32,7 +32,8 @@ use Rattle.analyser.specs.Answers.{Answer, reported, ofVerdict, ofReadin
 use Rattle.analyser.specs.Answers as answers
 use Rattle.analyser.specs.declared.Answer as code
 use Rattle.analyser.specs.declared.Answer.the-variants.{Reported, Refused}
-use Rattle.analyser.specs.Functions.{answerOf, routineIn, Printable, Shareable, reportLength, Delivers, toldLength, wordOf, Tells, AnswersTold}
+use Rattle.analyser.specs.Held.{routineIn, Printable, Shareable}
+use Rattle.analyser.specs.Functions.{answerOf, reportLength, Delivers, toldLength, wordOf, Tells, AnswersTold}
 use Rattle.analyser.specs.Promises.{SafeReport, ExactReport, WithinReport, RunAccepted}
 use Rattle.analyser.proofs.AnswerLaws.{reports-kept, reports-fit, runs-kept, bound-reports-some, run-reports-some, places-small}
 

@@ -8,12 +8,6 @@ use lib.Dec.{ltb}
 use lib.ListN.{length, take}
 use Rattle.refusals.specs.declared.Refusal.{Refusal}
 use Rattle.refusals.specs.Refusals.{number, place}
-use Rattle.states.specs.Columns.{codeOf}
-use Rattle.states.specs.View.{whole}
-use Rattle.routine.specs.Routine as readings
-use Rattle.reader.specs.declared.Routine.{Routine}
-use Rattle.reader.specs.Reader.{codes, operands, cycles, words, sizes, answers}
-use Rattle.findings.specs.declared.Found.{Found}
 use Rattle.analyser.specs.Answers.{Answer, reported, refused, boundAnswer, runAnswer}
 use Rattle.analyser.specs.declared.Answer as code
 use Rattle.analyser.specs.declared.Answer.the-variants.{Reported, Refused}
@@ -22,26 +16,6 @@ use Rattle.analyser.specs.declared.Answer.the-variants.{Reported, Refuse
 unfoldable pub answerOf : Answer → code.Answer
 answerOf (reported bs) = Reported (length bs)
 answerOf (refused r) = Refused r
-
--- the routine that the code's arrays hold
-abbrev pub routineIn : Routine → readings.Routine
-routineIn x = record {
-  budget = x .budget;
-  tick = x .tick;
-  code = codeOf (x .first) (codes x) (operands x) (cycles x) (words x);
-  start = whole (sizes x) (x .fields) (x .start);
-  answers = answers x;
-}
-
--- a report, if it is one, can be printed into n bytes
-pub record Printable (a : Answer) (tick n : ℕ) : Type 0 where
-  pub positive : 1 ≤ tick
-  pub small : tick ≤ 4000000000
-  pub fits : (bs : List ℕ) → a ≡ reported bs → length bs ≤ n
-
--- CYCLES is small enough for the numbers that SHARE is computed with
-pub record Shareable (found : Found) : Type 0 where
-  pub cycles : found .cycles ≤ 4294967296000000
 
 -- ---- what an answer says of the lent memory
 

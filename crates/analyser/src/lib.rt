@@ -13,7 +13,8 @@ ghost use Rattle.findings.specs.Found.{Shows};
 ghost use Rattle.runs.specs.Contract.{verdictOf};
 ghost use Rattle.reader.specs.Reader.{Limited};
 ghost use Rattle.analyser.specs.Answers.{boundRoutine, runRoutine, boundAnswer, runAnswer, memory};
-ghost use Rattle.analyser.specs.Functions.{answerOf, routineIn, Shareable, Printable, reportLength, Delivers, wordOf, toldLength, Tells};
+ghost use Rattle.analyser.specs.Functions.{answerOf, reportLength, Delivers, wordOf, toldLength, Tells};
+ghost use Rattle.analyser.specs.Held.{routineIn, Printable, Shareable};
 ghost use Rattle.analyser.specs.declared.Answer.the-variants.{Refused};
 ghost use Rattle.analyser.specs.Promises.{SafeReport, ExactReport, WithinReport, RunAccepted};
 
