@@ -32,7 +32,7 @@ use Rattle.reader.specs.declared.Routine.{Routine}
 use Rattle.reader.specs.Reader.{codes, sizes, Limited}
 use Rattle.analyser.specs.Answers.{Answer, reported, ofReading, memory}
 use Rattle.analyser.specs.Answers as answers
-use Rattle.analyser.specs.Functions.{routineIn}
+use Rattle.analyser.specs.Held.{routineIn}
 use Rattle.analyser.proofs.FunctionLaws.{passes-not, same-refused, runnable}
 use Rattle.interrupts.specs.Interrupts.{numbersOfRun, numbersOfVerdict, numbersOf, stepsOf, interrupted, interruptAnswer, numberOf, Numbered}
 

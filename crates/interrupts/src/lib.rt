@@ -21,7 +21,7 @@ ghost use Rattle.runs.specs.Contract.{Runnable};
 ghost use Rattle.explore.specs.Contract.{Explorable};
 ghost use Rattle.reader.specs.Reader.{Limited};
 ghost use Rattle.analyser.specs.Answers.{memory};
-ghost use Rattle.analyser.specs.Functions.{routineIn};
+ghost use Rattle.analyser.specs.Held.{routineIn};
 ghost use Rattle.interrupts.specs.Interrupts.{Numbered, numbersOf, stepsOf, interrupted, interruptAnswer, numberOf};
 
 // The state that a run has reached, bounded afresh.
@@ -227,11 +227,10 @@ pub extern "C" fn tickbound_test_after(text: &[u8], n: u64, out: &mut [u64]) -> 
     if out.len() < 13 {
         return refusals::number(Refusal::ReportMemory);
     }
-    let reading = reader::read(Reader::Run, text);
-    let verdict = reading.verdict;
+    let verdict = rows::check(Reader::Run, text);
     match verdict {
         Verdict::Accepted => {
-            let x = reading.routine;
+            let x = reader::routine_of(text);
             let numbers = interrupted(x, n);
             put_numbers(out, numbers);
             0

@@ -2,10 +2,13 @@
 use mathlib.Core.Path.{sym, ap, _∙_}
 use lib.ListN.{length}
 use denote.Ref.{now}
-use Rattle.routine.specs.Routine.{readRun}
+use Rattle.text.specs.Text.{lines}
+use Rattle.routine.specs.Routine.{routineOf, readRun}
 use Rattle.rows.specs.Checks.{readBy}
+use Rattle.rows.specs.declared.Reader.the-variants.{Run}
+use Rattle.rows.proofs.CheckLaws.{refused-reading, accepted-reading}
 use Rattle.analyser.specs.Answers.{reported}
-use Rattle.analyser.proofs.FunctionLaws.{reading-refused, reading-limited, reading-routine}
+use Rattle.analyser.proofs.FunctionLaws.{held-routine}
 use borrow.Author.Needs.{needs}
 use Rattle.interrupts.proofs.InterruptLaws.{answer-short, answer-refused, answer-passed, tells-refusal, tells-numbers}
 use Rattle.interrupts.proofs.tickbound_test_after.Statement.{statement}
@@ -19,17 +22,17 @@ returns c =
     let a = c .before .before .before .before .args in
     tells-refusal _ (now (a .out)) _ (answer-short (now (a .text)) (a .n) (length (now (a .out))) (c .before .if1 .taken)) _ (c .number .ensures)
 
-read-requires : tie.Need-read-requires
-read-requires c κs = search needs
+check-requires : tie.Need-check-requires
+check-requires c κs = search needs
 
 enum-told : tie.Need-enum-told
 enum-told c = search needs
 
+routine-of-requires : tie.Need-routine-of-requires
+routine-of-requires c κs = accepted-reading _ Run (sym (c .before .before .check .ensures) ∙ c .enum-told .given .1) .0
+
 interrupted-requires : tie.Need-interrupted-requires
-unfolding readBy
-interrupted-requires c κs =
-    let r = c .before .before .before .read in
-    reading-limited (r .result) (readRun (now (c .before .before .before .before .before .before .before .args .text))) (r .ensures) (c .before .enum-told .given .1)
+interrupted-requires c κs = c .routine-of .ensures .1
 
 put-numbers-requires : tie.Need-put-numbers-requires
 put-numbers-requires c κs = search needs
@@ -47,8 +50,10 @@ returns-2 : tie.Need-returns-2
 unfolding readBy
 returns-2 c =
     let a = c .before .before .before .before .before .before .before .before .before .before .before .before .args in
-    let r = c .before .before .before .before .before .before .before .before .read in
-    let e = reading-routine (r .result) _ (r .ensures) (c .before .before .before .before .before .before .enum-told .given .1) in
+    let text = a .text .now in
+    let held = c .before .before .before .before .before .routine-of in
+    let r = accepted-reading text Run (sym (c .before .before .before .before .before .before .before .before .check .ensures) ∙ c .before .before .before .before .before .before .enum-told .given .1) in
+    let e = held-routine (routineOf (lines text)) (held .result) (held .ensures .0) (readRun text) (r .1) in
     let p = answer-passed (now (a .text)) (a .n) (length (now (a .out))) (c .before .before .before .before .before .before .before .before .before .if1 .left) _ e in
     tells-numbers _ (now (a .out)) _ (p ∙ ap reported (sym (c .before .before .before .before .interrupted .ensures))) _ (c .before .before .put-numbers .ensures)
 
@@ -56,8 +61,7 @@ returns-3 : tie.Need-returns-3
 unfolding readBy
 returns-3 c =
     let a = c .before .before .before .before .before .before .before .before .args in
-    let r = c .before .before .before .before .read in
-    let e = reading-refused (r .result) _ (r .ensures) _ (c .before .before .verdict .given .1) in
+    let e = refused-reading (readRun (now (a .text))) _ (sym (c .before .before .before .before .check .ensures) ∙ c .before .before .verdict .given .1) in
     tells-refusal _ (now (a .out)) _ (answer-refused (now (a .text)) (a .n) (length (now (a .out))) (c .before .before .before .before .before .if1 .left) _ e) _ (c .number2 .ensures)
 
 pub tickbound-test-after-spec : {M : Type 1} → statement M
@@ -66,8 +70,9 @@ tickbound-test-after-spec =
     (tie.spec
     number-requires
     returns
-    read-requires
+    check-requires
     enum-told
+    routine-of-requires
     interrupted-requires
     put-numbers-requires
     enum-known-verdict
