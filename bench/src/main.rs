@@ -1,10 +1,10 @@
-//! The speed of the analyser's bound, as a ratio against the independent implementation in the same run.
+//! The speed of the analyser's bound and run, as a ratio against the independent implementation in the same run.
 mod clock;
 mod files;
 
 use clock::now;
-use independent::analyser;
-use independent::report::{bound_answer, printed, told, MEMORY};
+use independent::analyser::{self, Function};
+use independent::report::{bound_answer, printed, run_answer, told, Answer, MEMORY};
 use independent::routine::TEXT_LIMIT;
 use std::hint::black_box;
 use std::time::Duration;
@@ -13,17 +13,28 @@ use std::time::Duration;
 const PASSES: usize = 5;
 const REPEATS: usize = 3;
 
+/// What is measured: the analyser's function, and the independent one.
+#[derive(Clone, Copy)]
+struct Pair {
+    proved: Function,
+    independent: fn(&[u8], usize) -> Answer,
+}
+
+const BOUND: Pair = Pair { proved: analyser::bound, independent: bound_answer };
+const RUN: Pair = Pair { proved: analyser::run, independent: run_answer };
+
 /// A file, and the best times of one call of both.
 struct Measured {
     name: &'static str,
     text: Vec<u8>,
+    pair: Pair,
     proved: Duration,
     independent: Duration,
 }
 
 impl Measured {
-    fn new(name: &'static str, text: Vec<u8>) -> Measured {
-        Measured { name, text, proved: Duration::MAX, independent: Duration::MAX }
+    fn new(name: &'static str, text: Vec<u8>, pair: Pair) -> Measured {
+        Measured { name, text, pair, proved: Duration::MAX, independent: Duration::MAX }
     }
 
     /// Calls both in turn, and keeps the best times.
@@ -31,8 +42,8 @@ impl Measured {
         let mut memory = [0; MEMORY];
         let mut both = || {
             let text = black_box(&self.text[..]);
-            self.proved = self.proved.min(time(|| analyser::bound(text, &mut memory)));
-            self.independent = self.independent.min(time(|| bound_answer(text, MEMORY)));
+            self.proved = self.proved.min(time(|| (self.pair.proved)(text, &mut memory)));
+            self.independent = self.independent.min(time(|| (self.pair.independent)(text, MEMORY)));
         };
         for _ in 0..REPEATS {
             below::<16>(&mut both);
@@ -59,10 +70,10 @@ fn below<const SPACE: usize>(f: &mut dyn FnMut()) {
 }
 
 /// What both answer, as it is printed; they must agree.
-fn answer(text: &[u8]) -> String {
+fn answer(pair: Pair, text: &[u8]) -> String {
     let mut memory = [0; MEMORY];
-    let answer = bound_answer(text, MEMORY);
-    assert_eq!(analyser::bound(text, &mut memory), told(&answer));
+    let answer = (pair.independent)(text, MEMORY);
+    assert_eq!((pair.proved)(text, &mut memory), told(&answer));
     let bytes = answer.as_ref().map_or(&[][..], |report| report);
     assert!(memory.starts_with(bytes));
     String::from_utf8(printed(&answer)).unwrap().lines().last().unwrap().to_string()
@@ -76,12 +87,12 @@ fn milliseconds(time: Duration) -> f64 {
 fn row(file: &Measured, first: Duration, second: Duration) {
     let ratio = first.as_secs_f64() / second.as_secs_f64();
     let (first, second) = (milliseconds(first), milliseconds(second));
-    let (name, bytes, answer) = (file.name, file.text.len(), answer(&file.text));
+    let (name, bytes, answer) = (file.name, file.text.len(), answer(file.pair, &file.text));
     println!("{name:<48} {bytes:>6} {first:>9.3} {second:>9.3} {ratio:>6.2}  {answer}");
 }
 
 fn head(name: &str, second: &str) {
-    println!("{name:<48} {:>6} {:>9} {second:>9} {:>6}  answer", "bytes", "bound, ms", "ratio");
+    println!("{name:<48} {:>6} {:>9} {second:>9} {:>6}  answer", "bytes", "ours, ms", "ratio");
 }
 
 fn main() {
@@ -94,12 +105,13 @@ fn main() {
         ("1,024 lines that call the last of 32 primitives", files::long_calls),
     ];
     let mut explored = vec![
-        Measured::new("a straight path of 1,000,000 steps", files::straight_path()),
-        Measured::new("a full tree of 18 openings, narrow", files::tree(false)),
-        Measured::new("a full tree of 18 openings, wide", files::tree(true)),
-        Measured::new("a file of 32,768 bytes", files::long_code(TEXT_LIMIT)),
+        Measured::new("a straight path of 1,000,000 steps", files::straight_path(), BOUND),
+        Measured::new("the run of that path", files::straight_path(), RUN),
+        Measured::new("a full tree of 18 openings, narrow", files::tree(false), BOUND),
+        Measured::new("a full tree of 18 openings, wide", files::tree(true), BOUND),
+        Measured::new("a file of 32,768 bytes", files::long_code(TEXT_LIMIT), BOUND),
     ];
-    let of_length = |bytes| scanned.map(|(name, text)| Measured::new(name, text(bytes)));
+    let of_length = |bytes| scanned.map(|(name, text)| Measured::new(name, text(bytes), BOUND));
     let (mut whole, mut half) = (of_length(TEXT_LIMIT), of_length(TEXT_LIMIT / 2));
     for _ in 0..PASSES {
         explored.iter_mut().chain(&mut whole).chain(&mut half).for_each(Measured::measure);
