@@ -4,7 +4,7 @@ use independent::bound::{bound, Figures, Path as Decisions};
 use independent::machine::State;
 use independent::random::Random;
 use independent::report::{bound_answer, printed, run_answer, told, Answer, MEMORY};
-use independent::routine::{read, Routine, TEXT_LIMIT};
+use independent::routine::{read, Refusal, Routine, TEXT_LIMIT};
 use independent::run::Run;
 use std::io::Write;
 use std::path::Path;
@@ -134,13 +134,57 @@ fn within(run: &Run, afresh: &Figures, most: &Figures) -> bool {
 }
 
 /// The numbers that the analyser's function for tests gives of them; the address after STOP, which the document leaves open, counts 0.
-fn numbers(run: &Run, afresh: &Figures) -> [u64; NUMBERS] {
-    let path = 1 << afresh.path.length | afresh.path.taken;
-    let left = [0, 0, afresh.cycles, afresh.words, afresh.depth as u64, afresh.steps, path];
+fn numbers(run: &Run, afresh: &Result<Figures, Refusal>) -> [u64; NUMBERS] {
+    let left = match afresh {
+        Ok(f) => [0, 0, f.cycles, f.words, f.depth as u64, f.steps, 1 << f.path.length | f.path.taken],
+        Err(r) => [r.number as u64, r.place as u64, 0, 0, 0, 0, 0],
+    };
     let at = if run.stopped { 0 } else { run.state.at as u64 };
     let so_far = [run.stopped as u64, at, run.cycles, run.words, run.depth as u64, run.steps];
     let mut both = so_far.into_iter().chain(left);
     std::array::from_fn(|_| both.next().unwrap())
+}
+
+/// Compares what the analyser's function for tests gives of a text and `n` steps with the numbers, or the refusal, wanted.
+fn compare_after(text: &[u8], n: u64, wanted: Result<[u64; NUMBERS], u64>) -> Result<(), String> {
+    let mut found = analyser::after(text, n);
+    if let Ok([1, at, ..]) = &mut found {
+        *at = 0;
+    }
+    if found == wanted {
+        return Ok(());
+    }
+    let file = String::from_utf8_lossy(text).into_owned();
+    Err(format!("interrupted after {n} steps: {found:?}, not {wanted:?}; its file:\n{file}"))
+}
+
+/// The run of a routine after `n` steps. A stuck step is not made, and what it has begun to write is not kept.
+fn after(routine: &Routine, n: u64) -> Run {
+    let mut run = Run::new(routine.start.clone(), &routine.answers);
+    while run.steps < n && !run.stopped {
+        if run.step(routine).is_none() {
+            return after(routine, run.steps);
+        }
+    }
+    run
+}
+
+/// A text as it stands, interrupted: it may be refused, its run stuck, and the bound afresh refused by 7, 8 or 9. More than 1,000,000
+/// steps count as so many. Gives the number of interruptions compared.
+fn interrupted_as_it_stands(random: &mut Random, text: &[u8]) -> Result<u64, String> {
+    let most = 1_000_000;
+    let n = if random.one_in(10) {
+        *random.pick(&[0, most - 1, most, most + 1, u64::MAX])
+    } else {
+        random.below(40) as u64
+    };
+    let wanted = read(text, true).map_err(|r| r.number as u64).map(|routine| {
+        let run = after(&routine, n.min(most));
+        let afresh = if run.stopped { Ok(NOTHING) } else { bound(&routine, run.state.clone()) };
+        numbers(&run, &afresh)
+    });
+    compare_after(text, n, wanted)?;
+    Ok(wanted.is_ok() as u64)
 }
 
 /// Demand 3: runs of an accepted file, interrupted anywhere, 0 steps and beyond STOP included. What the analyser's run and its bound
@@ -158,15 +202,7 @@ fn interrupted(random: &mut Random, text: &[u8]) -> Result<u64, String> {
         let filled = read(&file, true).unwrap();
         let n = random.below(most.steps as usize + 2);
         let (run, afresh) = interrupt(&filled, filled.start.clone(), &filled.answers, n)?;
-        let mut found = analyser::after(&file, n as u64);
-        if let Ok([1, at, ..]) = &mut found {
-            *at = 0;
-        }
-        if found != Ok(numbers(&run, &afresh)) {
-            let wanted = numbers(&run, &afresh);
-            let file = String::from_utf8_lossy(&file).into_owned();
-            return Err(format!("interrupted after {n} steps: {found:?}, not {wanted:?}; its file:\n{file}"));
-        }
+        compare_after(&file, n as u64, Ok(numbers(&run, &Ok(afresh))))?;
         let longer: Vec<i32> = (0..100).map(|_| random.number()).collect();
         let (other, left) = interrupt(&filled, filled.start.clone(), &longer, n)?;
         if !within(&run, &afresh, &most) || !within(&other, &left, &most) {
@@ -203,10 +239,10 @@ pub fn by_programs(programs: &Path, text: &[u8], answers: &(Answer, Answer)) -> 
 /// All comparisons on one file; gives the answers of the bound and the run, and the number of interruptions compared.
 pub fn file(random: &mut Random, text: &[u8]) -> Result<((Answer, Answer), u64), String> {
     let answers = compare(random, text)?;
-    let mut interruptions = 0;
+    let mut interruptions = interrupted_as_it_stands(random, text)?;
     if let Ok(report) = &answers.0 {
         runs_within(random, text, report)?;
-        interruptions = interrupted(random, text)?;
+        interruptions += interrupted(random, text)?;
     }
     Ok((answers, interruptions))
 }
