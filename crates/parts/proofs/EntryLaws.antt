@@ -24,12 +24,11 @@ use Rattle.instructions.specs.Kinds.{Kind, kinds, kindNames, operand, calls, ad
 use Rattle.instructions.specs.Columns.{kindAt, operationCode, unaryCode, binaryCode, comparisonCode, operations, operationOf}
 use Rattle.machine.specs.Machine.{Price, Instruction, instruction, priceOf}
 use Rattle.states.specs.Columns.{line, lineOf, instructionsOf}
-use Rattle.routine.specs.Layout.{list}
 use Rattle.routine.specs.Rows.{op, arg, value, cycleCounts, wordCounts}
-use Rattle.routine.specs.Routine.{inside, argumentValue}
+use Rattle.routine.specs.Routine.{inside, naturalAt, PriceList, prices, argumentValue, instructionOf}
 use Rattle.routine.proofs.RangeLaws.{natural-inside}
 use Rattle.values.specs.Values.{NaturalRange}
-use Rattle.parts.specs.Parts.{naturalAt, PriceRange, PriceLines, pricesIn, instructionAs, instructionIn, Coded}
+use Rattle.parts.specs.Parts.{PriceRange, Coded}
 
 -- past the table's end stands its last kind
 pub kind-past : (k : ℕ) → 61 ≤ k → kindAt 60 ≡ kindAt k
@@ -116,8 +115,8 @@ module _ (r : Range) (p : PriceRange r) where
   pub price-natural : NaturalRange r
   price-natural = record { least = 0; greatest = p .greatest; is = p .is; small = let h = p .small in (omega arith, omega arith) }
 
-  pub natural-small : (line : List ℕ) (i : ℕ) {n : ℕ} → n ≡ naturalAt r line i → n ≤ p .greatest
-  natural-small line i e = omega (arith, e ∙ ap (λ q. naturalAt q line i) (p .is), natural-inside 0 (p .greatest) (value (getD (list line) i [])) .below)
+  pub natural-small : (ws : List (List ℕ)) (i : ℕ) {n : ℕ} → n ≡ naturalAt r ws i → n ≤ p .greatest
+  natural-small ws i e = omega (arith, e ∙ ap (λ q. naturalAt q ws i) (p .is), natural-inside 0 (p .greatest) (value (getD ws i [])) .below)
 
 pub with-primitive : {b : Bool} {x y m n : ℕ} → b ≡ true → m ≡ x → n ≡ y → m + n ≡ x + cond b y 0
 with-primitive {b} {x} {y} e p q = ap₂ _+_ p (q ∙ sym (ap (λ (t : Bool). cond t y 0) e))
@@ -125,7 +124,7 @@ with-primitive {b} {x} {y} e p q = ap₂ _+_ p (q ∙ sym (ap (λ (t : Bool). co
 pub without-primitive : {b : Bool} {x m : ℕ} (y : ℕ) → b ≡ false → m ≡ x → m ≡ x + cond b y 0
 without-primitive {b} {x} {m} y e p = let q : cond b y 0 ≡ 0 = ap (λ (t : Bool). cond t y 0) e in omega arith
 
-pub same-price : (ks ps : List ℕ) {r r′ : Range} {i i′ j j′ : ℕ} {b b′ : Bool} {n : ℕ} → r ≡ r′ → i ≡ i′ → b ≡ b′ → j ≡ j′
+pub same-price : (ks ps : List (List ℕ)) {r r′ : Range} {i i′ j j′ : ℕ} {b b′ : Bool} {n : ℕ} → r ≡ r′ → i ≡ i′ → b ≡ b′ → j ≡ j′
     → n ≡ naturalAt r ks i + cond b (naturalAt r ps j) 0 → n ≡ naturalAt r′ ks i′ + cond b′ (naturalAt r′ ps j′) 0
 same-price ks ps s p t q e = e ∙ (λ x. naturalAt (s x) ks (p x) + cond (t x) (naturalAt (s x) ps (q x)) 0)
 
@@ -153,42 +152,39 @@ alone c w =
     let f : w + 0 ≡ w = omega arith in
     λ j. record { cycles = e j; words = f j }
 
--- the price of a line whose kind stands at i on its line of names, with the primitive w
-priced : (p : PriceLines) (a : Argument) (i : ℕ) (w : List ℕ) → _≡_ {A = Price}
+-- the price of a line whose kind stands at i in ks, with the primitive w
+priced : (ks ps : PriceList) (a : Argument) (i : ℕ) (w : List ℕ) → _≡_ {A = Price}
     (record {
-      cycles = naturalAt cycleCounts (p .kindCycles) i + cond (calls a) (naturalAt cycleCounts (p .primitiveCycles) (find w (list (p .primitives)))) 0;
-      words = naturalAt wordCounts (p .kindWords) i + cond (calls a) (naturalAt wordCounts (p .primitiveWords) (find w (list (p .primitives)))) 0;
+      cycles = naturalAt cycleCounts (ks .cycles) i + cond (calls a) (naturalAt cycleCounts (ps .cycles) (find w (ps .names))) 0;
+      words = naturalAt wordCounts (ks .words) i + cond (calls a) (naturalAt wordCounts (ps .words) (find w (ps .names))) 0;
     })
-    (priceOf (pricesIn p) a i (argumentValue (list (p .primitives)) w a))
-unfolding priceOf pricesIn argumentValue
-priced p Absent i w = alone (naturalAt cycleCounts (p .kindCycles) i) (naturalAt wordCounts (p .kindWords) i)
-priced p Target i w = alone (naturalAt cycleCounts (p .kindCycles) i) (naturalAt wordCounts (p .kindWords) i)
-priced p Primitive i w = refl
-priced p (Within r) i w = alone (naturalAt cycleCounts (p .kindCycles) i) (naturalAt wordCounts (p .kindWords) i)
+    (priceOf (prices ks ps) a i (argumentValue (ps .names) w a))
+unfolding priceOf argumentValue
+priced ks ps Absent i w = alone (naturalAt cycleCounts (ks .cycles) i) (naturalAt wordCounts (ks .words) i)
+priced ks ps Target i w = alone (naturalAt cycleCounts (ks .cycles) i) (naturalAt wordCounts (ks .words) i)
+priced ks ps Primitive i w = refl
+priced ks ps (Within r) i w = alone (naturalAt cycleCounts (ks .cycles) i) (naturalAt wordCounts (ks .words) i)
 
-module _ (p : PriceLines) (text : List ℕ) (k : ℕ) (b : ℕ) (i : ℤ) (c w : ℕ) where
+-- what the entries of a line say of its kind k
+module _ (ks ps : PriceList) (text : List ℕ) (k : Kind) (b : ℕ) (i : ℤ) (c w : ℕ) where
   pub record Read : Type 0 where
-    pub coded : Coded (kindAt k) b
-    pub operand : (ps : List (List ℕ)) → i ≡ operand (kindAt k) (argumentValue ps (arg text) (kindAt k .argument))
-    pub cycles : c ≡ naturalAt cycleCounts (p .kindCycles) (find (op text) (list (p .kinds)))
-        + cond (calls (kindAt k .argument)) (naturalAt cycleCounts (p .primitiveCycles) (find (arg text) (list (p .primitives)))) 0
-    pub words : w ≡ naturalAt wordCounts (p .kindWords) (find (op text) (list (p .kinds)))
-        + cond (calls (kindAt k .argument)) (naturalAt wordCounts (p .primitiveWords) (find (arg text) (list (p .primitives)))) 0
+    pub coded : Coded k b
+    pub operand : (ns : List (List ℕ)) → i ≡ operand k (argumentValue ns (arg text) (k .argument))
+    pub cycles : c ≡ naturalAt cycleCounts (ks .cycles) (find (op text) (ks .names)) + cond (calls (k .argument)) (naturalAt cycleCounts (ps .cycles) (find (arg text) (ps .names))) 0
+    pub words : w ≡ naturalAt wordCounts (ks .words) (find (op text) (ks .names)) + cond (calls (k .argument)) (naturalAt wordCounts (ps .words) (find (arg text) (ps .names))) 0
 
-  entry-as : Read → lineOf (line b i c w) ≡ instructionAs (kindAt k) p text
-  unfolding instructionAs instruction
-  entry-as r =
-      let o : operationOf (b % 32) ≡ kindAt k .operation = ap operationOf (r .coded .code) ∙ operation-is (kindAt k .operation) in
-      let s : _≡_ {A = Price} (record { cycles = c; words = w }) (priceOf (pricesIn p) (kindAt k .argument) (find (op text) (list (p .kinds))) (argumentValue (list (p .primitives)) (arg text) (kindAt k .argument))) =
-      (λ j. record { cycles = r .cycles j; words = r .words j }) ∙ priced p (kindAt k .argument) (find (op text) (list (p .kinds))) (arg text) in
-      λ j. record { pushes = r .coded .pushes j; operation = o j; operand = r .operand (list (p .primitives)) j; calls = r .coded .calls j; price = s j }
-
-  pub entry-is : Read → kindAt k ≡ kindAt (find (op text) kindNames) → lineOf (line b i c w) ≡ instructionIn p text
-  unfolding instructionIn
-  entry-is r e = entry-as r ∙ ap (λ (x : Kind). instructionAs x p text) e
+  pub entry-is : Read → k ≡ kindAt (find (op text) kindNames) → lineOf (line b i c w) ≡ instructionOf ks ps text
+  unfolding instructionOf instruction
+  entry-is r e =
+      let o : operationOf (b % 32) ≡ k .operation = ap operationOf (r .coded .code) ∙ operation-is (k .operation) in
+      let s : _≡_ {A = Price} (record { cycles = c; words = w }) (priceOf (prices ks ps) (k .argument) (find (op text) (ks .names)) (argumentValue (ps .names) (arg text) (k .argument))) =
+      (λ j. record { cycles = r .cycles j; words = r .words j }) ∙ priced ks ps (k .argument) (find (op text) (ks .names)) (arg text) in
+      let l : lineOf (line b i c w) ≡ instruction k (argumentValue (ps .names) (arg text) (k .argument)) _ =
+      λ j. record { pushes = r .coded .pushes j; operation = o j; operand = r .operand (ps .names) j; calls = r .coded .calls j; price = s j } in
+      l ∙ ap (λ (x : Kind). let v = argumentValue (ps .names) (arg text) (x .argument) in instruction x v (priceOf (prices ks ps) (x .argument) (find (op text) (ks .names)) v)) e
 
   pub code-small : Read → b % 32 ≤ 22
-  code-small r = let e = r .coded .code in omega (arith, operation-small (kindAt k .operation))
+  code-small r = let e = r .coded .code in omega (arith, operation-small (k .operation))
 
 -- columns of equal lengths with one more line
 

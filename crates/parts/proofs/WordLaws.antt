@@ -13,11 +13,9 @@ use Rattle.cells.specs.declared.Cell.{Cell}
 use Rattle.cells.specs.Cells.{number}
 use Rattle.instructions.specs.Kinds.{addresses}
 use Rattle.machine.specs.Machine.{State}
-use Rattle.routine.specs.Layout.{list}
 use Rattle.routine.specs.Rows.{cellWord, hashed}
-use Rattle.routine.specs.Routine.{cellOf}
+use Rattle.routine.specs.Routine.{cellOf, cellsOf, startOf}
 use Rattle.values.specs.Values.{Near}
-use Rattle.parts.specs.Parts.{cellsIn, startIn}
 
 -- a range of numbers
 
@@ -32,21 +30,21 @@ addresses-fit r e = rw e (record { fits = lit< tt }, record { fits = lit< tt })
 
 -- the cells of a line
 
-pub cells-length : (line : List ℕ) → length (cellsIn line) ≡ length (list line)
-unfolding cellsIn
-cells-length line = length-map (list line) (λ w. cellOf (cellWord w))
+pub cells-length : (ws : List (List ℕ)) → length (cellsOf ws) ≡ length ws
+unfolding cellsOf
+cells-length ws = length-map ws (λ w. cellOf (cellWord w))
 
 no-word : cellOf (cellWord []) ≡ number (pos 0)
 unfolding cellOf cellWord hashed equals
 no-word = refl
 
-pub cell-is : (line w : List ℕ) (i : ℕ) → w ≡ getD (list line) i [] → cellOf (cellWord w) ≡ getD (cellsIn line) i (number (pos 0))
-unfolding cellsIn
-cell-is line w i e =
-    ap (λ (v : List ℕ). cellOf (cellWord v)) e ∙ sym (List·getD-map (λ (v : List ℕ). cellOf (cellWord v)) (list line) i [])
-    ∙ ap (λ (d : Cell). getD (cellsIn line) i d) no-word
+pub cell-is : (ws : List (List ℕ)) (w : List ℕ) (i : ℕ) → w ≡ getD ws i [] → cellOf (cellWord w) ≡ getD (cellsOf ws) i (number (pos 0))
+unfolding cellsOf
+cell-is ws w i e =
+    ap (λ (v : List ℕ). cellOf (cellWord v)) e ∙ sym (List·getD-map (λ (v : List ℕ). cellOf (cellWord v)) ws i [])
+    ∙ ap (λ (d : Cell). getD (cellsOf ws) i d) no-word
 
 pub start-is : (first : ℕ) (cs : List Cell) (accu : Cell) (stack : List Cell) → accu ≡ getD cs 0 (number (pos 0)) → stack ≡ drop 1 cs
-    → _≡_ {A = State} (record { at = first; accu = accu; stack = stack; blocks = [] }) (startIn first cs)
-unfolding startIn
+    → _≡_ {A = State} (record { at = first; accu = accu; stack = stack; blocks = [] }) (startOf first cs [])
+unfolding startOf
 start-is first cs accu stack e q = λ i. record { at = first; accu = e i; stack = q i; blocks = [] }

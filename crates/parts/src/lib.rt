@@ -6,7 +6,7 @@ use routine::layout;
 use states::State;
 ghost use mathlib.Core.Path.{_≡_};
 ghost use mathlib.Core.Bool.{cond};
-ghost use mathlib.Core.List.{List, map};
+ghost use mathlib.Core.List.{List, [], map};
 ghost use Prim.Native.Nat.{ℕ, _+_, _%_, _≤_, _<_};
 ghost use lib.IntN.{pos};
 ghost use lib.ListN.{length, getD, take, drop};
@@ -19,23 +19,23 @@ ghost use Rattle.states.specs.Columns.{line, lineOf, instructionsOf};
 ghost use Rattle.states.specs.View.{view, WellFormed, blocksOf};
 ghost use Rattle.routine.specs.Layout.{list};
 ghost use Rattle.routine.specs.Rows.{value, total};
-ghost use Rattle.routine.specs.Routine.{inside, argumentValue, blocksInLine};
+ghost use Rattle.routine.specs.Routine.{inside, naturalAt, argumentValue, instructionOf, cellsOf, blocksInLine, startOf};
 ghost use Rattle.values.specs.Values.{NaturalRange};
-ghost use Rattle.parts.specs.Parts.{naturalAt, PriceRange, priceLines, instructionIn, Coded, cellsIn, startIn};
+ghost use Rattle.parts.specs.Parts.{PriceRange, pricesOn, Coded};
 
 // ---- the words of a line
 
 // The number at place i of a line: a limit or a price.
 pub fn natural_at(range: Range, values: &[u8], i: usize) -> u32
     requires { ⌜ NaturalRange range ⌝ }
-    ensures { λ r. ⌜ r ≡ naturalAt range (now (values .entry)) i ⌝ }
+    ensures { λ r. ⌜ r ≡ naturalAt range (list (now (values .entry))) i ⌝ }
 {
     values::natural_of(range, layout::listed_at(values, i))
 }
 
 // The cell at place i of a line; 0 where it lists fewer.
 fn cell_at(values: &[u8], i: usize) -> Cell
-    ensures { λ r. ⌜ r ≡ getD (cellsIn (now (values .entry))) i (number (pos 0)) ⌝ }
+    ensures { λ r. ⌜ r ≡ getD (cellsOf (list (now (values .entry)))) i (number (pos 0)) ⌝ }
 {
     values::cell_of(layout::listed_at(values, i))
 }
@@ -85,7 +85,7 @@ pub fn answers_of(text: &[u8]) -> Answers
 // The state at the start, at the address `first`: the first cell of a line is ACCU, the others are the stack, the top first.
 pub fn start_of(values: &[u8], first: usize) -> State
     requires { ⌜ length (list (now values)) ≤ 33 ⌝ }
-    ensures start { λ r. ⌜ view r ≡ startIn first (cellsIn (now (values .entry))) ⌝ }
+    ensures start { λ r. ⌜ view r ≡ startOf first (cellsOf (list (now (values .entry)))) [] ⌝ }
     ensures formed { λ r. ⌜ WellFormed r ⌝ }
 {
     let accu = cell_at(values, 0);
@@ -153,7 +153,7 @@ fn operand_of(k: usize, w: &[u8]) -> i32
 // The price at place i of a line of the kinds' prices, and where the kind calls, that at place j of a line of the primitives'.
 fn price_of(range: Range, kinds: &[u8], i: usize, called: bool, primitives: &[u8], j: usize) -> u32
     requires { ⌜ PriceRange range ⌝ }
-    ensures { λ r. ⌜ r ≡ naturalAt range (now (kinds .entry)) i + cond called (naturalAt range (now (primitives .entry)) j) 0 ⌝ }
+    ensures { λ r. ⌜ r ≡ naturalAt range (list (now (kinds .entry))) i + cond called (naturalAt range (list (now (primitives .entry))) j) 0 ⌝ }
 {
     let price = natural_at(range, kinds, i);
     if called {
@@ -181,7 +181,7 @@ pub fn entry_of(
     primitive_words: &[u8],
     text: &[u8],
 ) -> Entry
-    ensures instruction { λ r. ⌜ lineOf (line (r .code) (r .operand) (r .cycles) (r .words)) ≡ instructionIn (priceLines (now (kinds .entry)) (now («kind_cycles» .entry)) (now («kind_words» .entry)) (now (primitives .entry)) (now («primitive_cycles» .entry)) (now («primitive_words» .entry))) (now (text .entry)) ⌝ }
+    ensures instruction { λ r. ⌜ lineOf (line (r .code) (r .operand) (r .cycles) (r .words)) ≡ instructionOf (pricesOn (now (kinds .entry)) (now («kind_cycles» .entry)) (now («kind_words» .entry))) (pricesOn (now (primitives .entry)) (now («primitive_cycles» .entry)) (now («primitive_words» .entry))) (now (text .entry)) ⌝ }
     ensures known { λ r. ⌜ r .code % 32 ≤ 22 ⌝ }
 {
     let op = text::word_at(text, 1);
@@ -236,7 +236,7 @@ pub fn columns_of(
     count: usize,
 ) -> Columns
     requires { ⌜ (count ≤ 1024) × (count ≤ length (lines (now body))) ⌝ }
-    ensures instructions { λ r. ⌜ instructionsOf (take count (r .codes)) (take count (r .operands)) (take count (r .cycles)) (take count (r .words)) ≡ map (λ l. instructionIn (priceLines (now (kinds .entry)) (now («kind_cycles» .entry)) (now («kind_words» .entry)) (now (primitives .entry)) (now («primitive_cycles» .entry)) (now («primitive_words» .entry))) (l .text)) (take count (lines (now (body .entry)))) ⌝ }
+    ensures instructions { λ r. ⌜ instructionsOf (take count (r .codes)) (take count (r .operands)) (take count (r .cycles)) (take count (r .words)) ≡ map (λ l. instructionOf (pricesOn (now (kinds .entry)) (now («kind_cycles» .entry)) (now («kind_words» .entry))) (pricesOn (now (primitives .entry)) (now («primitive_cycles» .entry)) (now («primitive_words» .entry))) (l .text)) (take count (lines (now (body .entry)))) ⌝ }
     ensures known { λ r. ⌜ ((j : ℕ) → getD (take count (r .codes)) j 0 % 32 ≤ 22) ⌝ }
 {
     let mut codes = [0u8; 1024];
@@ -279,7 +279,7 @@ pub fn columns_of(
 fn fill(values: &[u8], from: usize, fields: [Cell; 128], start: usize, size: usize) -> [Cell; 128]
     requires { ⌜ (start + size ≤ 128) × (from + size ≤ length (list (now values))) ⌝ }
     ensures kept { λ r. ⌜ take start r ≡ take start fields ⌝ }
-    ensures filled { λ r. ⌜ take size (drop start r) ≡ take size (drop from (cellsIn (now (values .entry)))) ⌝ }
+    ensures filled { λ r. ⌜ take size (drop start r) ≡ take size (drop from (cellsOf (list (now (values .entry))))) ⌝ }
 {
     let mut filled = fields;
     let mut i = 0;
@@ -295,7 +295,7 @@ fn fill(values: &[u8], from: usize, fields: [Cell; 128], start: usize, size: usi
 // The cells of a line, block after block, in sixteen places for each block.
 pub fn fields_of(values: &[u8], sizes: [u8; 8], count: usize) -> [Cell; 128]
     requires { ⌜ (count ≤ 8) × ((k : ℕ) → getD (take count sizes) k 0 ≤ 16) × (total (take count sizes) ≡ length (list (now values))) ⌝ }
-    ensures { λ r. ⌜ blocksOf (take count sizes) r ≡ blocksInLine (take count sizes) (cellsIn (now (values .entry))) ⌝ }
+    ensures { λ r. ⌜ blocksOf (take count sizes) r ≡ blocksInLine (take count sizes) (cellsOf (list (now (values .entry)))) ⌝ }
 {
     let zero = cells::number(0);
     let mut fields = [zero; 128];

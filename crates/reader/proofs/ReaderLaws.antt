@@ -19,7 +19,7 @@ use Rattle.routine.specs.declared.Column.the-variants.{Limit as limit, Cycles a
 use Rattle.routine.specs.declared.Role.the-variants.{Names as names, Values as values}
 use Rattle.routine.specs.Layout.{layout, body, codeLines, list, textAt, listed}
 use Rattle.routine.specs.Rows.{Passes, value, blockSizes, total, firstAt, budgets, ticks}
-use Rattle.routine.specs.Routine.{inside, firstAddress, routineOf}
+use Rattle.routine.specs.Routine.{inside, naturalAt, priceList, instructionOf, firstAddress, cellsOf, startOf, routineOf}
 use Rattle.routine.specs.Routine as readings
 use Rattle.routine.proofs.RangeLaws.{budget-small}
 use Rattle.routine.proofs.PassingLaws.{code-among, first-small, answers-few, cells-small, fields-total}
@@ -27,9 +27,9 @@ use Rattle.routine.proofs.PassingLaws as passing
 use Rattle.names.specs.declared.Blocks.{Blocks}
 use Rattle.names.specs.Names.{BlocksOf}
 use Rattle.parts.specs.declared.Columns.{Columns}
-use Rattle.parts.specs.Parts.{naturalAt, priceLines, instructionIn, cellsIn, startIn}
+use Rattle.parts.specs.Parts.{pricesOn}
 use Rattle.routine.proofs.CodeLineLaws.{answer-drop}
-use Rattle.parts.proofs.PartLaws.{linesOfPrices, limit-in, instructions-in, answers-in, start-whole}
+use Rattle.parts.proofs.PartLaws.{instructions-in, answers-in, start-whole}
 use Rattle.reader.specs.Reader.{BodyLines, HoldsCode}
 
 -- ---- the first address
@@ -45,16 +45,21 @@ module _ (ls ms : List Line) (count : ℕ) (x : BodyLines ls ms count) where
 
   module _ (ks kc kw ps pc pw : List ℕ) (a : ks ≡ textAt (names kinds) layout ls) (b : kc ≡ textAt (values kinds cycles) layout ls) (c : kw ≡ textAt (values kinds words-column) layout ls)
       (d : ps ≡ textAt (names primitives) layout ls) (e : pc ≡ textAt (values primitives cycles) layout ls) (f : pw ≡ textAt (values primitives words-column) layout ls) where
-    at-lines : priceLines ks kc kw ps pc pw ≡ linesOfPrices ls
-    at-lines = rw (a, b, c, d, e, f) refl
+    kinds-at : pricesOn ks kc kw ≡ priceList kinds ls
+    unfolding priceList listed
+    kinds-at = rw (a, b, c) refl
+
+    primitives-at : pricesOn ps pc pw ≡ priceList primitives ls
+    unfolding priceList listed
+    primitives-at = rw (d, e, f) refl
 
     pub code-held : (r : Columns)
-        → instructionsOf (take count (r .codes)) (take count (r .operands)) (take count (r .cycles)) (take count (r .words)) ≡ map (λ l. instructionIn (priceLines ks kc kw ps pc pw) (l .text)) (take count ms)
+        → instructionsOf (take count (r .codes)) (take count (r .operands)) (take count (r .cycles)) (take count (r .words)) ≡ map (λ l. instructionOf (pricesOn ks kc kw) (pricesOn ps pc pw) (l .text)) (take count ms)
         → ((j : ℕ) → getD (take count (r .codes)) j 0 % 32 ≤ 22) → HoldsCode ls count r
     code-held r h k = record {
       instructions =
-          h ∙ ap (λ q. map (λ (l : Line). instructionIn q (l .text)) (take count ms)) at-lines
-          ∙ ap₂ (λ n (xs : List Line). map (λ (l : Line). instructionIn (linesOfPrices ls) (l .text)) (take n xs)) (x .counted) (x .after) ∙ sym (instructions-in ls);
+          h ∙ ap₂ (λ q s. map (λ (l : Line). instructionOf q s (l .text)) (take count ms)) kinds-at primitives-at
+          ∙ ap₂ (λ n (xs : List Line). map (λ (l : Line). instructionOf (priceList kinds ls) (priceList primitives ls) (l .text)) (take n xs)) (x .counted) (x .after) ∙ sym (instructions-in ls);
       known = k;
     }
 
@@ -94,16 +99,16 @@ module _ (ls : List Line) (p : Passes ls) (ms : List Line) (after : ms ≡ body 
 -- ---- the limits
 
 module _ (ls : List Line) (line : List ℕ) (e : line ≡ textAt (values limits limit) layout ls) (r : Range) (n : ℕ) where
-  pub budget-held : r ≡ budgets → n ≡ naturalAt r line 0 → n ≡ routineOf ls .budget
-  unfolding routineOf
-  budget-held q h = h ∙ ap₂ (λ x t. naturalAt x t 0) q e ∙ sym (limit-in budgets 0 ls)
+  pub budget-held : r ≡ budgets → n ≡ naturalAt r (list line) 0 → n ≡ routineOf ls .budget
+  unfolding routineOf listed
+  budget-held q h = h ∙ ap₂ (λ x t. naturalAt x (list t) 0) q e
 
-  pub budget-limited : Passes ls → r ≡ budgets → n ≡ naturalAt r line 0 → n ≤ 1000000
+  pub budget-limited : Passes ls → r ≡ budgets → n ≡ naturalAt r (list line) 0 → n ≤ 1000000
   budget-limited p q h = rw (budget-held q h) (budget-small p)
 
-  pub tick-held : r ≡ ticks → n ≡ naturalAt r line 1 → n ≡ routineOf ls .tick
-  unfolding routineOf
-  tick-held q h = h ∙ ap₂ (λ x t. naturalAt x t 1) q e ∙ sym (limit-in ticks 1 ls)
+  pub tick-held : r ≡ ticks → n ≡ naturalAt r (list line) 1 → n ≡ routineOf ls .tick
+  unfolding routineOf listed
+  tick-held q h = h ∙ ap₂ (λ x t. naturalAt x (list t) 1) q e
 
 -- ---- the start
 
@@ -130,13 +135,13 @@ module _ (ls : List Line) (p : Passes ls) (ns-line fs-line cs-line : List ℕ) (
   unfolding listed
   cells-ready = rw cells-at (cells-small p)
 
-  pub start-held : (first : ℕ) → first ≡ readings.codeIn ls .first → (s : code.State) → view s ≡ startIn first (cellsIn cs-line)
-      → (fs : List Cell) → view-of.blocksOf (take (bs .count) (bs .sizes)) fs ≡ readings.blocksInLine (take (bs .count) (bs .sizes)) (cellsIn fs-line)
+  pub start-held : (first : ℕ) → first ≡ readings.codeIn ls .first → (s : code.State) → view s ≡ startOf first (cellsOf (list cs-line)) []
+      → (fs : List Cell) → view-of.blocksOf (take (bs .count) (bs .sizes)) fs ≡ readings.blocksInLine (take (bs .count) (bs .sizes)) (cellsOf (list fs-line))
       → whole (take (bs .count) (bs .sizes)) fs s ≡ routineOf ls .start
-  unfolding routineOf
+  unfolding routineOf listed
   start-held first f s v fs h =
-      start-whole ls s (take (bs .count) (bs .sizes)) fs (v ∙ ap₂ (λ n t. startIn n (cellsIn t)) f cells-at) sizes-are
-      (h ∙ ap (λ t. readings.blocksInLine (take (bs .count) (bs .sizes)) (cellsIn t)) fields-at)
+      start-whole first s (take (bs .count) (bs .sizes)) (cellsOf (list cs-line)) fs (cellsOf (list fs-line)) v h
+      ∙ (λ i. startOf (f i) (cellsOf (list (cells-at i))) (readings.blocksInLine (sizes-are i) (cellsOf (list (fields-at i)))))
 
   pub blocks-fit : (fs : List Cell) → length fs ≡ 128 → Fits (take (bs .count) (bs .sizes)) fs
   blocks-fit fs e = record {
@@ -147,8 +152,8 @@ module _ (ls : List Line) (p : Passes ls) (ns-line fs-line cs-line : List ℕ) (
         omega arith;
   }
 
-pub start-at : (first : ℕ) (cs : List Cell) (s : code.State) → view s ≡ startIn first cs → s .at ≡ first
-unfolding startIn
+pub start-at : (first : ℕ) (cs : List Cell) (s : code.State) → view s ≡ startOf first cs [] → s .at ≡ first
+unfolding startOf
 start-at first cs s e = ap (λ v. v .at) e
 
 -- ---- the columns

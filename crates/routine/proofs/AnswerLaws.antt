@@ -1,6 +1,5 @@
 -- "Once a file passes 1 to 6, the bound does not depend on ANSWER.": the routine but for its answers is read off the lines of the
 -- layout and the code lines alone. Assumes nothing.
-use Prim.Native.Nat.{ℕ}
 use mathlib.Core.Path.{_≡_, refl, sym, ap, _∙_}
 use mathlib.Core.Bool.{cond}
 use mathlib.Core.List.{List, [], _∷_}
@@ -9,9 +8,8 @@ use Rattle.text.specs.Text.{Line}
 use Rattle.routine.specs.declared.Section.{Section}
 use Rattle.routine.specs.declared.Role.{Role}
 use Rattle.routine.specs.Layout.{layout, body, codeLines, list, isRole, textAt, listed}
-use Rattle.numbers.specs.declared.Range.{Range}
-use Rattle.routine.specs.Rows.{budgets, ticks, firstAt}
-use Rattle.routine.specs.Routine.{Routine, limitAt, priceAt, prices, instructionOf, codeIn, cellsOf, startOf, routineOf}
+use Rattle.routine.specs.Rows.{firstAt}
+use Rattle.routine.specs.Routine.{Routine, priceList, codeIn, routineOf}
 
 -- the two routines differ in their answers at most
 abbrev pub SameButAnswers : Routine → Routine → Type 0
@@ -35,37 +33,17 @@ module _ (ls ms : List Line) (e : take (length layout) ls ≡ take (length layou
   unfolding listed
   same-listed r = ap list (sym (text-among r layout ls) ∙ ap (textAt r layout) e ∙ text-among r layout ms)
 
-  same-limit : (r : Range) (i : ℕ) → limitAt r i ls ≡ limitAt r i ms
-  unfolding limitAt
-  same-limit r i = rw same-listed refl
-
-  same-price : (s : Section) (i : ℕ) → priceAt s ls i ≡ priceAt s ms i
-  unfolding priceAt
-  same-price s i = simp same-listed
-
-  same-prices : prices ls ≡ prices ms
-  unfolding prices
-  same-prices = simp same-price
-
-  same-instruction : (text : List ℕ) → instructionOf ls text ≡ instructionOf ms text
-  unfolding instructionOf
-  same-instruction text = simp (same-listed, same-prices)
+  same-prices : (s : Section) → priceList s ls ≡ priceList s ms
+  unfolding priceList
+  same-prices s = simp same-listed
 
   same-first : firstAt (body ls) ≡ firstAt (body ms)
   same-first = sym (first-code (body ls)) ∙ ap firstAt c ∙ first-code (body ms)
 
   same-code : codeIn ls ≡ codeIn ms
   unfolding codeIn
-  same-code = simp (same-first, same-instruction, c)
-
-  same-cells : (s : Section) → cellsOf s ls ≡ cellsOf s ms
-  unfolding cellsOf
-  same-cells s = rw same-listed refl
-
-  same-start : startOf ls ≡ startOf ms
-  unfolding startOf
-  same-start = simp (same-code, same-cells, same-listed)
+  same-code = simp (same-first, same-prices, c)
 
   pub same-but-answers : SameButAnswers (routineOf ls) (routineOf ms)
   unfolding routineOf
-  same-but-answers = (same-limit budgets 0, same-limit ticks 1, same-code, same-start)
+  same-but-answers = (simp same-listed, simp same-listed, same-code, simp (same-code, same-listed))

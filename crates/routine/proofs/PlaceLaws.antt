@@ -20,14 +20,12 @@ use Rattle.instructions.specs.declared.Argument.the-variants.{Absent, Target, P
 use Rattle.machine.specs.Machine.{index, instruction}
 use Rattle.machine.proofs.LeadLaws.{branches, target}
 use Rattle.machine.proofs.AddressLaws.{Confined}
-use Rattle.routine.specs.declared.Section.the-variants.{Primitives as primitives}
 use Rattle.routine.specs.declared.Role.{Role}
-use Rattle.routine.specs.declared.Role.the-variants.{Names as names}
 use Rattle.routine.specs.declared.RefusedLine.{RefusedLine}
 use Rattle.routine.specs.declared.RefusedLine.the-variants.{Nowhere as nowhere, Line as line}
-use Rattle.routine.specs.Layout.{body, codeLines, roles, listed}
+use Rattle.routine.specs.Layout.{body, codeLines, roles}
 use Rattle.routine.specs.Rows.{Passes, value, op, arg, firstAt, test, earliest, refusedLine}
-use Rattle.routine.specs.Routine.{inside, argumentValue, instructionOf, codeIn, startOf, routineOf, refused, orElse, Check, boundChecks, runChecks, checked, textLimit, limited, readBound, readRun}
+use Rattle.routine.specs.Routine.{inside, argumentValue, PriceList, instructionOf, codeIn, startOf, routineOf, refused, orElse, Check, boundChecks, runChecks, checked, textLimit, limited, readBound, readRun}
 use Rattle.routine.proofs.RangeLaws.{natural-inside, every-mapped}
 use Rattle.routine.proofs.PassingLaws.{first-small, lines-count, code-few}
 
@@ -115,18 +113,18 @@ target-small ps w k e = go (branches (k .operation)) (k .argument) refl e
     go true Primitive q e = absurd (false≢true e)
     go true (Within r) q e = absurd (false≢true e)
 
-instruction-target : (ls : List Line) (text : List ℕ) → target (instructionOf ls text .operation) (instructionOf ls text .operand) ≤ 62000
+instruction-target : (ks ps : PriceList) (text : List ℕ) → target (instructionOf ks ps text .operation) (instructionOf ks ps text .operand) ≤ 62000
 unfolding instructionOf instruction
-instruction-target ls text =
+instruction-target ks ps text =
     let i = find (op text) kindNames in
-    target-small (listed (names primitives) ls) (arg text) (kindAt i) (kinds-targeted i)
+    target-small (ps .names) (arg text) (kindAt i) (kinds-targeted i)
 
 module _ (ls : List Line) (passes : Passes ls) where
   pub confined : Confined 62000 (routineOf ls .code)
   unfolding routineOf codeIn
   confined = record {
     past = simp length-map (omega (arith, first-small (firstAt (body ls)), code-few ls (passes .layout)));
-    targets = every-mapped (λ l. instructionOf ls (l .text)) (λ l. instruction-target ls (l .text)) (codeLines (body ls));
+    targets = every-mapped (λ l. instructionOf _ _ (l .text)) (λ l. instruction-target _ _ (l .text)) (codeLines (body ls));
   }
 
   pub start-small : routineOf ls .start .at ≤ 62000

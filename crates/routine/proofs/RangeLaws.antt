@@ -18,13 +18,13 @@ use Rattle.instructions.specs.declared.Argument.the-variants.{Absent, Target, P
 use Rattle.machine.specs.Machine.{instruction, Prices, priceOf}
 use Rattle.machine.proofs.PriceLaws.{AtMost}
 use Rattle.routine.specs.declared.Section.{Section}
-use Rattle.routine.specs.declared.Section.the-variants.{Limits as limits, Kinds as kinds, Primitives as primitives, Cells as cells}
+use Rattle.routine.specs.declared.Section.the-variants.{Limits as limits, Cells as cells}
 use Rattle.routine.specs.declared.Column.{Column}
-use Rattle.routine.specs.declared.Column.the-variants.{Limit as limit, Cycles as cycles, Words as words-column, Cell as cell}
+use Rattle.routine.specs.declared.Column.the-variants.{Limit as limit, Cell as cell}
 use Rattle.routine.specs.declared.Role.the-variants.{Names as names, Values as values}
 use Rattle.routine.specs.Layout.{layout, body, codeLines, listed}
 use Rattle.routine.specs.Rows.{budgets, ticks, valuesLaidOut, cellWord, value, cellNames, stackNames, columnInRange, columnLaidOut, inRange, laidOut, named, wellNamed, Passes}
-use Rattle.routine.specs.Routine.{inside, naturalIn, limitAt, priceAt, prices, instructionOf, codeIn, cellOf, cellsOf, startOf, routineOf}
+use Rattle.routine.specs.Routine.{inside, naturalIn, PriceList, priceAt, prices, instructionOf, codeIn, cellOf, cellsOf, startOf, routineOf}
 use Rattle.routine.proofs.RowLaws.{First, passes-range, passes-laid-out, passes-named, lists-path}
 
 -- ---- numbers of a range
@@ -78,17 +78,17 @@ module _ {ls : List Line} (p : Passes ls) where
   limits-within = passes-range p (values limits limit) refl
 
   pub budget-small : routineOf ls .budget ≤ 1000000
-  unfolding routineOf limitAt
+  unfolding routineOf
   budget-small = natural-inside 1 1000000 (value (getD (listed (values limits limit) ls) 0 [])) .below
 
   pub tick-positive : 1 ≤ routineOf ls .tick
-  unfolding routineOf limitAt columnInRange
+  unfolding routineOf columnInRange
   tick-positive =
       let ws = listed (values limits limit) ls in
       limit-ends 1 4000000000 (getD ws 1 []) (and-right (within budgets (value (getD ws 0 []))) (within ticks (value (getD ws 1 []))) limits-within)
 
   pub tick-small : routineOf ls .tick ≤ 4000000000
-  unfolding routineOf limitAt
+  unfolding routineOf
   tick-small = natural-inside 1 4000000000 (value (getD (listed (values limits limit) ls) 1 [])) .below
 
 -- ---- prices
@@ -102,16 +102,15 @@ price-of-small c w ps f g Target k v = let h = f k in omega arith
 price-of-small c w ps f g Primitive k v = let h = f k in let i = g (natAbs v) in omega arith
 price-of-small c w ps f g (Within r) k v = let h = f k in omega arith
 
-price-small : (s : Section) (ls : List Line) (i : ℕ) → AtMost 65535 255 (priceAt s ls i)
-unfolding priceAt
-price-small s ls i = record {
-  cycles = natural-inside 0 65535 (value (getD (listed (values s cycles) ls) i [])) .below;
-  words = natural-inside 0 255 (value (getD (listed (values s words-column) ls) i [])) .below;
+price-small : (p : PriceList) (i : ℕ) → AtMost 65535 255 (priceAt p i)
+price-small p i = record {
+  cycles = natural-inside 0 65535 (value (getD (p .cycles) i [])) .below;
+  words = natural-inside 0 255 (value (getD (p .words) i [])) .below;
 }
 
-instruction-small : (ls : List Line) (text : List ℕ) → AtMost 131070 510 (instructionOf ls text .price)
-unfolding instructionOf instruction prices
-instruction-small ls text = price-of-small 65535 255 (prices ls) (price-small kinds ls) (price-small primitives ls) _ _ _
+instruction-small : (ks ps : PriceList) (text : List ℕ) → AtMost 131070 510 (instructionOf ks ps text .price)
+unfolding instructionOf instruction
+instruction-small ks ps text = price-of-small 65535 255 (prices ks ps) (price-small ks) (price-small ps) _ _ _
 
 pub every-mapped : {A B : Type 0} {P : B → Type 0} (f : A → B) → ((x : A) → P (f x)) → (xs : List A) → Every P (map f xs)
 every-mapped f h [] = Every.none
@@ -120,7 +119,7 @@ every-mapped f h (x ∷ xs) = more (h x) (every-mapped f h xs)
 -- whatever the text says, no price is larger
 pub prices-small : (ls : List Line) → Every (λ i. AtMost 131070 510 (i .price)) (routineOf ls .code .instructions)
 unfolding routineOf codeIn
-prices-small ls = every-mapped (λ l. instructionOf ls (l .text)) (λ l. instruction-small ls (l .text)) (codeLines (body ls))
+prices-small ls = every-mapped (λ l. instructionOf _ _ (l .text)) (λ l. instruction-small _ _ (l .text)) (codeLines (body ls))
 
 -- ---- the start
 
@@ -140,7 +139,7 @@ values-counted {ls} p s c f =
     let n = length (listed (names s) ls) in
     eqb-true (length ws) n (and-left (eqb (length ws) n) (columnLaidOut c ws) (passes-laid-out p (values s c) f))
 
-cells-counted : {ls : List Line} → Passes ls → length (cellsOf cells ls) ≡ length (listed (names cells) ls)
+cells-counted : {ls : List Line} → Passes ls → length (cellsOf (listed (values cells cell) ls)) ≡ length (listed (names cells) ls)
 unfolding cellsOf
 cells-counted {ls} p = length-map (listed (values cells cell) ls) (λ w. cellOf (cellWord w)) ∙ values-counted p cells cell refl
 

@@ -48,24 +48,29 @@ inside r z = cond (within r z) z (pos 0)
 abbrev pub naturalIn : Range → List ℕ → ℕ
 naturalIn r w = natAbs (inside r (value w))
 
--- ---- the limits
-
--- BUDGET is at place 0 of line 2, TICK at place 1
-unfoldable pub limitAt : Range → ℕ → List Line → ℕ
-limitAt r i ls = naturalIn r (getD (listed (values limits limit) ls) i [])
+-- the number at place i of a line that lists ws
+abbrev pub naturalAt : Range → List (List ℕ) → ℕ → ℕ
+naturalAt r ws i = naturalIn r (getD ws i [])
 
 -- ---- prices
 
--- the price at place i of a section: entry i of its cycles and of its words
-unfoldable pub priceAt : Section → List Line → ℕ → Price
-priceAt s ls i = record {
-  cycles = naturalIn cycleCounts (getD (listed (values s cycles) ls) i []);
-  words = naturalIn wordCounts (getD (listed (values s words-column) ls) i []);
-}
+-- what the lines of a section with prices list: the names, their cycles, their words
+pub record PriceList : Type 0 where
+  pub names : List (List ℕ)
+  pub cycles : List (List ℕ)
+  pub words : List (List ℕ)
 
--- by the places of the names on lines 3 and 6
-unfoldable pub prices : List Line → Prices
-prices ls = record { kinds = λ i. priceAt kinds ls i; primitives = λ i. priceAt primitives ls i }
+-- "Lines .. 3 to 5 · 6 to 8": the prices of the kinds, or of the primitives
+unfoldable pub priceList : Section → List Line → PriceList
+priceList s ls = record { names = listed (names s) ls; cycles = listed (values s cycles) ls; words = listed (values s words-column) ls }
+
+-- the price of the name at place i
+abbrev pub priceAt : PriceList → ℕ → Price
+priceAt p i = record { cycles = naturalAt cycleCounts (p .cycles) i; words = naturalAt wordCounts (p .words) i }
+
+-- of the kinds and of the primitives, by place
+abbrev pub prices : PriceList → PriceList → Prices
+prices ks ps = record { kinds = priceAt ks; primitives = priceAt ps }
 
 -- ---- code
 
@@ -76,12 +81,12 @@ argumentValue ps w Target = inside addresses (value w)
 argumentValue ps w Primitive = pos (find w ps)
 argumentValue ps w (Within r) = inside numbers (value w)
 
--- the instruction of a code line, at the price of its kind and of its primitive
-unfoldable pub instructionOf : List Line → List ℕ → Instruction
-instructionOf ls text =
+-- the instruction of a code line, at the price of its kind (in ks) and of its primitive (in ps)
+unfoldable pub instructionOf : PriceList → PriceList → List ℕ → Instruction
+instructionOf ks ps text =
     let k = kindAt (find (op text) kindNames) in
-    let v = argumentValue (listed (names primitives) ls) (arg text) (k .argument) in
-    instruction k v (priceOf (prices ls) (k .argument) (find (op text) (listed (names kinds) ls)) v)
+    let v = argumentValue (ps .names) (arg text) (k .argument) in
+    instruction k v (priceOf (prices ks ps) (k .argument) (find (op text) (ks .names)) v)
 
 -- "AT starts anywhere from 0 to 60,000": the first address, by the lines after the layout
 abbrev pub firstAddress : List Line → ℕ
@@ -89,7 +94,10 @@ firstAddress ls = natAbs (inside firstAddresses (firstAt ls))
 
 -- the code of a file
 unfoldable pub codeIn : List Line → Code
-codeIn ls = record { first = firstAddress (body ls); instructions = map (λ l. instructionOf ls (l .text)) (codeLines (body ls)) }
+codeIn ls = record {
+  first = firstAddress (body ls);
+  instructions = map (λ l. instructionOf (priceList kinds ls) (priceList primitives ls) (l .text)) (codeLines (body ls));
+}
 
 -- ---- cells
 
@@ -100,33 +108,28 @@ cellOf unknown = cells-of.unknown
 cellOf (known z) = number (inside numbers z)
 cellOf (block k) = handle (natAbs (inside handles k))
 
--- the cells on line 10 or 12
-unfoldable pub cellsOf : Section → List Line → List Cell
-cellsOf s ls = map (λ w. cellOf (cellWord w)) (listed (values s cell) ls)
+-- the cells that a line lists
+unfoldable pub cellsOf : List (List ℕ) → List Cell
+cellsOf ws = map (λ w. cellOf (cellWord w)) ws
 
 -- the fields, "block after block"
 unfoldable pub blocksInLine : List ℕ → List Cell → List (List Cell)
 blocksInLine [] cs = []
 blocksInLine (n ∷ ns) cs = take n cs ∷ blocksInLine ns (drop n cs)
 
--- "The start address is that of the first AT line."; ACCU first, then S0, the top, and on
-unfoldable pub startOf : List Line → State
-startOf ls =
-    let cs = cellsOf cells ls in
-    record {
-      at = codeIn ls .first;
-      accu = getD cs 0 (number (pos 0));
-      stack = drop 1 cs;
-      blocks = blocksInLine (blockSizes (listed (names fields) ls)) (cellsOf fields ls);
-    }
+-- "ACCU, then S0 on": the start at an address, by the cells of line 10 and the blocks of line 12
+unfoldable pub startOf : ℕ → List Cell → List (List Cell) → State
+startOf first cs bs = record { at = first; accu = getD cs 0 (number (pos 0)); stack = drop 1 cs; blocks = bs }
 
--- the routine that the lines of a file hold
+-- the routine that the lines of a file hold; "The start address is that of the first AT line."
 unfoldable pub routineOf : List Line → Routine
 routineOf ls = record {
-  budget = limitAt budgets 0 ls;
-  tick = limitAt ticks 1 ls;
+  budget = naturalAt budgets (listed (values limits limit) ls) 0;
+  tick = naturalAt ticks (listed (values limits limit) ls) 1;
   code = codeIn ls;
-  start = startOf ls;
+  start =
+      startOf (codeIn ls .first) (cellsOf (listed (values cells cell) ls))
+      (blocksInLine (blockSizes (listed (names fields) ls)) (cellsOf (listed (values fields cell) ls)));
   answers = map (λ l. inside numbers (value (l .text))) (answerLines (body ls));
 }
 

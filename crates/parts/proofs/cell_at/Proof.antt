@@ -1,5 +1,6 @@
 -- `parts::cell_at` meets its contract. Assumes nothing.
 use mathlib.Core.Path.{_∙_}
+use Rattle.routine.specs.Layout.{list}
 use Rattle.parts.proofs.WordLaws.{cell-is}
 use borrow.Author.Needs.{needs}
 use Rattle.parts.proofs.cell_at.Statement.{statement}
@@ -12,7 +13,7 @@ cell-of-requires : tie.Need-cell-of-requires
 cell-of-requires c κs = search needs
 
 returns : tie.Need-returns
-returns c = c .cell-of .ensures ∙ cell-is (c .before .before .before .args .values .now) (c .before .listed-at .result .now) (c .before .before .before .args .i) (c .before .listed-at .ensures)
+returns c = c .cell-of .ensures ∙ cell-is (list (c .before .before .before .args .values .now)) (c .before .listed-at .result .now) (c .before .before .before .args .i) (c .before .listed-at .ensures)
 
 pub cell-at-spec : {M : Type 1} → statement M
 cell-at-spec = tie.close (tie.spec listed-at-requires cell-of-requires returns)

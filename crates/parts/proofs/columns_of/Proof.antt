@@ -11,20 +11,21 @@ use mir.Syntax.{w32}
 use mir.ValLaws.{toZ-ofZ}
 use lib.IntN.{ℤ}
 use Rattle.states.specs.Columns.{line, lineOf, instructionsOf}
-use Rattle.parts.specs.Parts.{PriceLines, priceLines, instructionIn}
+use Rattle.routine.specs.Routine.{PriceList, instructionOf}
+use Rattle.parts.specs.Parts.{pricesOn}
 use Rattle.parts.proofs.FillLaws.{take-map, line-next, line-is}
 use Rattle.parts.proofs.EntryLaws.{Room, firstLines, columns-more, known-more}
 use borrow.Author.Needs.{needs}
 use Rattle.parts.proofs.columns_of.Statement.{statement}
 use Rattle.parts.proofs.columns_of.Tie as tie
 
-abbrev read : PriceLines → Line → Instruction
-read p l = instructionIn p (l .text)
+abbrev read : PriceList → PriceList → Line → Instruction
+read ks ps l = instructionOf ks ps (l .text)
 
 abbrev Inv-loop : tie.InvT-loop
 Inv-loop kinds kind-cycles kind-words primitives primitive-cycles primitive-words body count codes₀ operands₀ cycles₀ words₀ rest₀ n₀ codes operands cycles words rest n =
     (n ≤ count) × Room codes operands cycles words × (lines rest ≡ drop n (lines body))
-    × (firstLines codes operands cycles words n ≡ take n (map (read (priceLines kinds kind-cycles kind-words primitives primitive-cycles primitive-words)) (lines body)))
+    × (firstLines codes operands cycles words n ≡ take n (map (read (pricesOn kinds kind-cycles kind-words) (pricesOn primitives primitive-cycles primitive-words)) (lines body)))
     × ((j : ℕ) → getD (take n codes) j 0 % 32 ≤ 22)
 
 abbrev μ-loop : tie.MeasureT-loop
@@ -75,9 +76,8 @@ loop-again c =
     let l = c .before .before .before .before .before .loop in
     let start = c .before .before .before .before .before .before .before .before .before .before .before .before .before in
     let ls = lines (start .args .body .now) in
-    let p =
-    priceLines (start .args .kinds .now) (start .args .kind-cycles .now) (start .args .kind-words .now) (start .args .primitives .now)
-    (start .args .primitive-cycles .now) (start .args .primitive-words .now) in
+    let ks = pricesOn (start .args .kinds .now) (start .args .kind-cycles .now) (start .args .kind-words .now) in
+    let ps = pricesOn (start .args .primitives .now) (start .args .primitive-cycles .now) (start .args .primitive-words .now) in
     let r = l .inv .1 in
     let rb = r .codes in let ro = r .operands in let rc = r .cycles in let rs = r .words in
     let h : l .place < 1024 = omega (arith, start .pre .0) in
@@ -86,11 +86,11 @@ loop-again c =
     let o = toZ-ofZ w32 (x .operand) (search needs) in
     let e =
     ap (λ (z : ℤ). lineOf (line (x .code) z (x .cycles) (x .words))) o
-    ∙ c .before .before .entry-of .ensures .0 ∙ ap (instructionIn p) (c .before .before .before .first-line .ensures) ∙ line-is (read p) ls (lines (l .rest .now)) (l .place) (l .inv .2) in (
+    ∙ c .before .before .entry-of .ensures .0 ∙ ap (instructionOf ks ps) (c .before .before .before .first-line .ensures) ∙ line-is (read ks ps) ls (lines (l .rest .now)) (l .place) (l .inv .2) in (
       omega arith,
       record { codes = rw length-set rb; operands = rw length-set ro; cycles = rw length-set rc; words = rw length-set rs },
       line-next ls (lines (l .rest .now)) _ (l .place) (l .inv .2) (c .next-lines .ensures .0),
-      columns-more (read p) ls (l .codes) (l .operands) (l .cycles) (l .words) (l .place) _ _ _ _ r h k e (l .inv .3),
+      columns-more (read ks ps) ls (l .codes) (l .operands) (l .cycles) (l .words) (l .place) _ _ _ _ r h k e (l .inv .3),
       known-more (l .codes) (l .place) _ (omega arith) (c .before .before .entry-of .ensures .1) (l .inv .4),
     )
 

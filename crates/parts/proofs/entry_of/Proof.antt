@@ -8,9 +8,8 @@ use mir.ValLaws.{toZ-ofZ}
 use Rattle.text.specs.Text.{find}
 use Rattle.instructions.specs.Kinds.{kindNames, operand}
 use Rattle.instructions.specs.Columns.{kindAt}
-use Rattle.routine.specs.Layout.{list}
 use Rattle.routine.specs.Routine.{argumentValue}
-use Rattle.parts.specs.Parts.{priceLines}
+use Rattle.parts.specs.Parts.{pricesOn}
 use Rattle.parts.proofs.EntryLaws.{Read, entry-is, code-small, same-price}
 use borrow.Author.Needs.{needs}
 use Rattle.parts.proofs.entry_of.Statement.{statement}
@@ -61,22 +60,21 @@ returns c =
     let kind = c .before .before .before .before .before .before .before .before .before in
     let k = kind .table-place .result in
     let text = start .args .text .now in
-    let p =
-    priceLines (start .args .kinds .now) (start .args .kind-cycles .now) (start .args .kind-words .now) (start .args .primitives .now)
-    (start .args .primitive-cycles .now) (start .args .primitive-words .now) in
+    let ks = pricesOn (start .args .kinds .now) (start .args .kind-cycles .now) (start .args .kind-words .now) in
+    let ps = pricesOn (start .args .primitives .now) (start .args .primitive-cycles .now) (start .args .primitive-words .now) in
     let o = kind .before .before .before .word-at .ensures in
     let a = kind .before .before .word-at2 .ensures in
-    let i = c .before .before .before .before .before .before .before .place-listed .ensures ∙ ap (λ (w : List ℕ). find w (list (p .kinds))) o in
-    let j = c .before .before .before .before .before .before .place-listed2 .ensures ∙ ap (λ (w : List ℕ). find w (list (p .primitives))) a in
+    let i = c .before .before .before .before .before .before .before .place-listed .ensures ∙ ap (λ (w : List ℕ). find w (ks .names)) o in
+    let j = c .before .before .before .before .before .before .place-listed2 .ensures ∙ ap (λ (w : List ℕ). find w (ps .names)) a in
     let t = c .before .before .before .before .before .before .before .before .calls-at .ensures in
-    let r : Read p text k _ _ _ _ =
+    let r : Read ks ps text (kindAt k) _ _ _ _ =
     record {
       coded = c .before .before .before .before .before .code-of .ensures;
-      operand = λ ps. toZ-ofZ w32 (c .before .before .before .before .operand-of .result) (search needs) ∙ c .before .before .before .before .operand-of .ensures ps ∙ ap (λ (w : List ℕ). operand (kindAt k) (argumentValue ps w (kindAt k .argument))) a;
-      cycles = same-price (p .kindCycles) (p .primitiveCycles) (c .before .before .before .cycle-counts .ensures) i t j (c .before .before .price-of .ensures);
-      words = same-price (p .kindWords) (p .primitiveWords) (c .before .word-counts .ensures) i t j (c .price-of2 .ensures);
+      operand = λ ns. toZ-ofZ w32 (c .before .before .before .before .operand-of .result) (search needs) ∙ c .before .before .before .before .operand-of .ensures ns ∙ ap (λ (w : List ℕ). operand (kindAt k) (argumentValue ns w (kindAt k .argument))) a;
+      cycles = same-price (ks .cycles) (ps .cycles) (c .before .before .before .cycle-counts .ensures) i t j (c .before .before .price-of .ensures);
+      words = same-price (ks .words) (ps .words) (c .before .word-counts .ensures) i t j (c .price-of2 .ensures);
     } in
-    (entry-is p text k _ _ _ _ r (kind .table-place .ensures .0 ∙ ap kindAt (kind .before .kind-named .ensures ∙ ap (λ (w : List ℕ). find w kindNames) o)), code-small p text k _ _ _ _ r)
+    (entry-is ks ps text (kindAt k) _ _ _ _ r (kind .table-place .ensures .0 ∙ ap kindAt (kind .before .kind-named .ensures ∙ ap (λ (w : List ℕ). find w kindNames) o)), code-small ks ps text (kindAt k) _ _ _ _ r)
 
 pub entry-of-spec : {M : Type 1} → statement M
 entry-of-spec =

@@ -6,8 +6,8 @@ use native.Mathlib.Omega.{arith}
 use lib.ListN.{length, getD, take, drop}
 use Rattle.states.specs.View.{blocksOf}
 use Rattle.routine.specs.Rows.{total}
-use Rattle.routine.specs.Routine.{blocksInLine}
-use Rattle.parts.specs.Parts.{cellsIn}
+use Rattle.routine.specs.Layout.{list}
+use Rattle.routine.specs.Routine.{cellsOf, blocksInLine}
 use Rattle.parts.proofs.BlockLaws.{passed-more, passed-within, passed-few, block-few, blocks-more}
 use borrow.Author.Needs.{needs}
 use Rattle.parts.proofs.fields_of.Statement.{statement}
@@ -15,7 +15,7 @@ use Rattle.parts.proofs.fields_of.Tie as tie
 
 abbrev Inv-loop : tie.InvT-loop
 Inv-loop values count sizes fields₀ from₀ k₀ fields from k =
-    (k ≤ count) × (from ≡ total (take k sizes)) × (blocksOf (take k sizes) fields ≡ blocksInLine (take k sizes) (cellsIn values))
+    (k ≤ count) × (from ≡ total (take k sizes)) × (blocksOf (take k sizes) fields ≡ blocksInLine (take k sizes) (cellsOf (list values)))
 
 abbrev μ-loop : tie.MeasureT-loop
 μ-loop values count sizes fields₀ from₀ k₀ fields from k = count - k
@@ -79,7 +79,7 @@ loop-again c =
     let t = c .before .loop-test .taken in
     let r = room start (l .k) t in
     let sizes = start .args .t2 in
-    let cs = cellsIn (start .args .values .now) in
+    let cs = cellsOf (list (start .args .values .now)) in
     let e = l .inv .1 in
     let g = passed-more sizes (start .args .count) (start .pre .1) (l .k) t r in
     let d = c .fill .ensures .1 ∙ ap (λ (m : ℕ). take (getD sizes (l .k) 0) (drop m cs)) e in

@@ -8,7 +8,8 @@ use lib.ListN.{length, take, drop, length-set}
 use lib.Seq.{take-set-le}
 use Rattle.cells.specs.Cells.{number}
 use Rattle.states.proofs.Stack.{length-images}
-use Rattle.parts.specs.Parts.{cellsIn}
+use Rattle.routine.specs.Layout.{list}
+use Rattle.routine.specs.Routine.{cellsOf}
 use Rattle.routine.proofs.CodeLineLaws.{list-length}
 use Rattle.parts.proofs.FillLaws.{fill-past}
 use Rattle.parts.proofs.WordLaws.{cells-length}
@@ -18,7 +19,7 @@ use Rattle.parts.proofs.fill.Tie as tie
 
 abbrev Inv-loop : tie.InvT-loop
 Inv-loop values from start size filled₀ i₀ filled i =
-    (i ≤ size) × (length filled ≡ 128) × (take start filled ≡ take start filled₀) × (take i (drop start filled) ≡ take i (drop from (cellsIn values)))
+    (i ≤ size) × (length filled ≡ 128) × (take start filled ≡ take start filled₀) × (take i (drop start filled) ≡ take i (drop from (cellsOf (list values))))
 
 abbrev μ-loop : tie.MeasureT-loop
 μ-loop values from start size filled₀ i₀ filled i = size - i
@@ -51,8 +52,8 @@ loop-again : tie.Need-loop-again Inv-loop μ-loop
 loop-again c =
     let l = c .before .before .loop in
     let start = c .before .before .before .before in
-    let cs = cellsIn (start .args .values .now) in
-    let e = cells-length (start .args .values .now) in (
+    let cs = cellsOf (list (start .args .values .now)) in
+    let e = cells-length (list (start .args .values .now)) in (
       omega arith,
       rw length-set (l .inv .1),
       take-set-le (start .args .start) (l .filled) _ _ (omega arith) ∙ l .inv .2,

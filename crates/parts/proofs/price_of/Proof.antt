@@ -1,5 +1,6 @@
 -- `parts::price_of` meets its contract. Assumes nothing.
 use native.Mathlib.Omega.{arith}
+use Rattle.routine.specs.Layout.{list}
 use Rattle.parts.proofs.EntryLaws.{price-natural, natural-small, with-primitive, without-primitive}
 use borrow.Author.Needs.{needs}
 use Rattle.parts.proofs.price_of.Statement.{statement}
@@ -14,9 +15,9 @@ natural-at-requires-2 c κs = price-natural _ (c .before .before .before .before
 add-result : tie.Need-add-result
 add-result c =
     let start = c .before .before .before .before .before in
-    let a = natural-small (start .args .range) (start .pre) (start .args .kinds .now) (start .args .i) (c .before .before .natural-at .ensures) in
+    let a = natural-small (start .args .range) (start .pre) (list (start .args .kinds .now)) (start .args .i) (c .before .before .natural-at .ensures) in
     let h = start .pre .small in
-    let b = natural-small (start .args .range) (start .pre) (start .args .primitives .now) (start .args .j) (c .natural-at2 .ensures) in
+    let b = natural-small (start .args .range) (start .pre) (list (start .args .primitives .now)) (start .args .j) (c .natural-at2 .ensures) in
     omega arith
 
 returns : tie.Need-returns

@@ -7,7 +7,8 @@ use native.Mathlib.Omega.{arith}
 use lib.IntN.{pos}
 use lib.ListN.{length, getD, take, drop, length-set, length-drop}
 use Rattle.cells.specs.Cells.{number}
-use Rattle.parts.specs.Parts.{cellsIn}
+use Rattle.routine.specs.Layout.{list}
+use Rattle.routine.specs.Routine.{cellsOf}
 use Rattle.parts.proofs.FillLaws.{fill-past, fill-all}
 use Rattle.parts.proofs.WordLaws.{cells-length, start-is}
 use borrow.Author.Needs.{needs}
@@ -16,7 +17,7 @@ use Rattle.parts.proofs.start_of.Tie as tie
 
 abbrev Inv-loop : tie.InvT-loop
 Inv-loop values first accu stack₀ count n free i₀ stack i =
-    (i ≤ n) × (length stack ≡ 64) × (n ≡ length (cellsIn values) - 1) × (free + n ≡ 64) × (take i (drop free stack) ≡ take i (drop 1 (cellsIn values)))
+    (i ≤ n) × (length stack ≡ 64) × (n ≡ length (cellsOf (list values)) - 1) × (free + n ≡ 64) × (take i (drop free stack) ≡ take i (drop 1 (cellsOf (list values))))
 
 abbrev μ-loop : tie.MeasureT-loop
 μ-loop values first accu stack₀ count n free i₀ stack i = n - i
@@ -39,7 +40,7 @@ sub-free c = ⊎-elim (λ w. omega arith) (λ w. omega arith) (c .before .if1 .c
 loop-holds : tie.Need-loop-holds Inv-loop μ-loop
 loop-holds c =
     let values = c .before .before .before .before .before .before .args .values .now in
-    let e = cells-length values in
+    let e = cells-length (list values) in
     let q = c .before .before .count-listed .ensures in
     ⊎-elim (λ w. (omega arith, refl, omega arith, omega arith, refl)) (λ w. (omega arith, refl, omega arith, omega arith, refl)) (c .before .if1 .came)
 
@@ -67,7 +68,7 @@ loop-less c = search needs
 loop-again : tie.Need-loop-again Inv-loop μ-loop
 loop-again c =
     let l = c .before .before .loop in
-    let cs = cellsIn (c .before .before .before .before .before .before .before .before .before .args .values .now) in
+    let cs = cellsOf (list (c .before .before .before .before .before .before .before .before .before .args .values .now)) in
     let f = 64 - c .before .before .before .before .if1 .n in
     let e : l .i + 1 ≡ 1 + l .i = omega arith in (
       omega arith,
@@ -81,7 +82,7 @@ returns : tie.Need-returns Inv-loop μ-loop
 returns c =
     let l = c .before .loop in
     let start = c .before .before .before .before .before .before .before .before in
-    let cs = cellsIn (start .args .values .now) in
+    let cs = cellsOf (list (start .args .values .now)) in
     let h = l .inv .2 in (
       start-is (start .args .first) cs _ _ (c .before .before .before .before .before .before .cell-at .ensures)
           (fill-all _ (drop 1 cs) (l .i) (rw length-drop (omega arith)) (rw length-drop (omega arith)) (l .inv .4)),
