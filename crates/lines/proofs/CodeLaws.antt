@@ -11,6 +11,8 @@ use lib.Dec.{eqb, leb, ltb}
 use lib.IntN.{ℤ, pos, negsuc, natAbs, _+ℤ_}
 use lib.ListN.{length, getElem?}
 use lib.Signed.{mag, leZ, ltZ}
+use types.Run.{OneOf, miss}
+use denote.Enum.Declared.{tagOf}
 use mir.Syntax.{w64}
 use mir.Val.{SFits, ofZ, toZ}
 use mir.ValLaws.{toZ-ofZ, toZ-pos}
@@ -20,11 +22,12 @@ use Rattle.text.specs.Decimal.{most}
 use Rattle.numbers.specs.declared.Range.{Range}
 use Rattle.numbers.specs.Numbers.{range, within, same}
 use Rattle.instructions.specs.declared.Argument.{Argument}
-use Rattle.instructions.specs.declared.Argument.the-variants.{Within}
+use Rattle.instructions.specs.declared.Argument.the-variants.{Absent, Target, Primitive, Within}
+use Rattle.instructions.proofs.Argument.{the-type}
 use Rattle.instructions.specs.Kinds.{Kind, kinds, kindNames}
 use Rattle.instructions.specs.Columns.{kindAt, rangeOf}
 use Rattle.instructions.proofs.ColumnLaws.{column-at}
-use Rattle.routine.specs.Rows.{kindNamed, argumentOf, op, onArgument, firstAddresses, atRange, value}
+use Rattle.routine.specs.Rows.{kindNamed, argumentOf, op, onArgument, argumentInRange, argumentReaches, firstAddresses, atRange, value}
 use Rattle.text.proofs.TextLaws.{and-left, and-right}
 use Rattle.values.specs.Values.{Near}
 use Rattle.routine.proofs.RangeLaws.{Natural, natural-within}
@@ -59,15 +62,35 @@ module _ (t : Argument → Bool) (line : List ℕ) {k : ℕ} (q : k ≡ find (op
       ∙ ap (λ j. t (kindAt j .argument)) (sym q)
       ∙ ap t (sym p)
 
-  -- and x is the test's answer for d, which a is
+  -- and x is the test's answer for it
+  pub on-taken : {a : Argument} {x : Bool} → k < 61 → a ≡ kindAt k .argument → x ≡ t a → x ≡ onArgument t line
+  on-taken h p e = e ∙ sym (on-known h p)
+
+  -- or for d, which it is
   pub on-argument : {a d : Argument} {x : Bool} → k < 61 → a ≡ kindAt k .argument → a ≡ d → x ≡ t d → x ≡ onArgument t line
-  on-argument h p r e = e ∙ ap t (sym r) ∙ sym (on-known h p)
+  on-argument h p r e = on-taken h p (e ∙ ap t (sym r))
 
   pub op-known : k < 61 → among (op line) kindNames ≡ true
   op-known h = sym (kind-among (op line)) ∙ lt-ltb (find (op line) kindNames) 61 (omega arith)
 
   pub op-unknown : 61 ≤ k → among (op line) kindNames ≡ false
   op-unknown h = sym (kind-among (op line)) ∙ le-ltb (find (op line) kindNames) 61 (omega arith)
+
+-- the arm of all other arguments knows by the variants' numbers which they are
+
+pub no-number : (w : List ℕ) (a : Argument) → OneOf (0 ∷ 2 ∷ []) (tagOf the-type a) → true ≡ argumentInRange w a
+unfolding argumentInRange
+no-number w Absent o = refl
+no-number w Target o = absurd (miss (0 ∷ 2 ∷ []) 1 tt o)
+no-number w Primitive o = refl
+no-number w (Within r) o = absurd (miss (0 ∷ 2 ∷ []) 3 tt o)
+
+pub no-target : (first : ℤ) (n : ℕ) (w : List ℕ) (a : Argument) → OneOf (0 ∷ 2 ∷ 3 ∷ []) (tagOf the-type a) → true ≡ argumentReaches first n w a
+unfolding argumentReaches
+no-target first n w Absent o = refl
+no-target first n w Target o = absurd (miss (0 ∷ 2 ∷ 3 ∷ []) 1 tt o)
+no-target first n w Primitive o = refl
+no-target first n w (Within r) o = refl
 
 -- ---- the ranges of the table
 

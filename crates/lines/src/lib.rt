@@ -2,6 +2,7 @@
 use instructions::Argument;
 use numbers::Range;
 use routine::Column;
+use routine::Role;
 use routine::Section;
 use routine::layout;
 ghost use mathlib.Core.Bool.{true, _&&_};
@@ -13,7 +14,7 @@ ghost use Rattle.instructions.specs.Kinds.{kindNames};
 ghost use Rattle.instructions.specs.declared.Argument.the-variants.{Target};
 ghost use Rattle.routine.specs.declared.Column.the-variants.{Limit};
 ghost use Rattle.routine.specs.Layout.{list};
-ghost use Rattle.routine.specs.Rows.{cellPresent, isKnown, op, arg, onArgument, argumentLaidOut, argumentInRange, argumentNamed, argumentReaches, firstAddresses, columnInRange, columnLaidOut, onCells, namesLaidOut, valuesLaidOut, codeLaidOut, answerLaidOut, codeInRange, answerInRange, codeNamed, codeReaches};
+ghost use Rattle.routine.specs.Rows.{op, arg, onArgument, argumentLaidOut, argumentInRange, argumentNamed, argumentReaches, firstAddresses, columnInRange, columnLaidOut, onCells, namesLaidOut, valuesLaidOut, codeLaidOut, answerLaidOut, codeInRange, answerInRange, codeNamed, codeReaches};
 ghost use Rattle.lines.specs.Lines.{wordTest};
 
 // The number of kinds.
@@ -101,12 +102,10 @@ pub fn names_laid_out(s: Section, line: &[u8]) -> bool
 fn column_laid_out(c: Column, line: &[u8]) -> bool
     ensures { λ r. ⌜ r ≡ columnLaidOut c (list (now (line .entry))) ⌝ }
 {
-    match c {
-        Column::Limit => all_listed(WordTest::Numeral, line),
-        Column::Cycles => all_listed(WordTest::Numeral, line),
-        Column::Words => all_listed(WordTest::Numeral, line),
-        Column::Cell => all_listed(WordTest::Cell, line),
+    if let Column::Cell = c {
+        return all_listed(WordTest::Cell, line);
     }
+    all_listed(WordTest::Numeral, line)
 }
 
 // Row 2 on a line of values, where `names` is the line of their names.
@@ -143,29 +142,14 @@ pub fn values_in_range(c: Column, line: &[u8]) -> bool
     }
 }
 
-// Row 4 on a line of values, where n blocks are present.
-pub fn values_present(c: Column, n: usize, line: &[u8]) -> bool
-    requires { ⌜ n ≤ 8 ⌝ }
-    ensures { λ r. ⌜ r ≡ onCells c (cellPresent n) (list (now (line .entry))) ⌝ }
+// A test of each word on a line of cells; any other line passes.
+pub fn cells_pass(t: WordTest, role: Role, line: &[u8]) -> bool
+    ensures { λ r. ⌜ r ≡ onCells (wordTest t) role (now (line .entry)) ⌝ }
 {
-    match c {
-        Column::Limit => true,
-        Column::Cycles => true,
-        Column::Words => true,
-        Column::Cell => all_listed(WordTest::Present(n as u8), line),
+    if layout::holds_cells(role) {
+        return all_listed(t, line);
     }
-}
-
-// Row 11 on a line of values.
-pub fn values_known(c: Column, line: &[u8]) -> bool
-    ensures { λ r. ⌜ r ≡ onCells c isKnown (list (now (line .entry))) ⌝ }
-{
-    match c {
-        Column::Limit => true,
-        Column::Cycles => true,
-        Column::Words => true,
-        Column::Cell => all_listed(WordTest::Known, line),
-    }
+    true
 }
 
 // ---- code lines
@@ -218,10 +202,9 @@ fn argument_in_range(line: &[u8]) -> bool
     }
     let w = text::word_at(line, 2);
     match instructions::argument_at(k) {
-        Argument::Absent => true,
         Argument::Target => values::is_within(instructions::range_at(k), w),
-        Argument::Primitive => true,
         Argument::Within(r) => values::is_within(r, w),
+        _ => true,
     }
 }
 
@@ -245,12 +228,10 @@ fn argument_named(primitives: &[u8], line: &[u8]) -> bool
         return false;
     }
     let w = text::word_at(line, 2);
-    match instructions::argument_at(k) {
-        Argument::Absent => true,
-        Argument::Target => true,
-        Argument::Primitive => layout::is_listed(w, primitives),
-        Argument::Within(_) => true,
+    if instructions::calls_at(k) {
+        return layout::is_listed(w, primitives);
     }
+    true
 }
 
 // Row 4 on code line k, where the first address is `first` and `primitives` is the line of their names.
@@ -310,13 +291,10 @@ pub fn code_reaches(first: i64, n: usize, line: &[u8]) -> bool
     if KINDS <= k {
         return true;
     }
-    let w = text::word_at(line, 2);
-    match instructions::argument_at(k) {
-        Argument::Absent => true,
-        Argument::Target => is_reached(first, n, w),
-        Argument::Primitive => true,
-        Argument::Within(_) => true,
-    }
+    let Argument::Target = instructions::argument_at(k) else {
+        return true;
+    };
+    is_reached(first, n, text::word_at(line, 2))
 }
 
 // ---- answers

@@ -1,22 +1,25 @@
 -- Which line of the layout holds a role, what a line lists, and the range of AT. Assumes nothing.
 use Prim.Native.Nat.{ℕ, zero, suc, _+_, _<_}
 use mathlib.Core.Path.{_≡_, refl, sym, ap, ap₂, _∙_}
-use mathlib.Core.Bool.{true, false, cond}
+use mathlib.Core.Bool.{Bool, true, false, cond, _||_}
 use mathlib.Core.List.{List, [], _∷_}
 use native.Mathlib.Omega.{arith}
 use native.Mathlib.Numerals.{add-one}
 use lib.Dec.{eqb}
 use lib.ListN.{length, getD, drop}
 use lib.Seq.{drop-cons}
+use types.Run.{OneOf, miss}
+use denote.Enum.Declared.{tagOf}
 use borrow.Author.Tests.{eq-eqb, ne-eqb}
 use Rattle.text.specs.Text.{bytes, equals, words, Line, noLine}
 use Rattle.instructions.specs.Kinds.{addresses}
 use Rattle.routine.specs.declared.Section.{Section}
 use Rattle.routine.specs.declared.Column.{Column}
 use Rattle.routine.specs.declared.Role.{Role}
-use Rattle.routine.specs.declared.Role.the-variants.{Values as values, Code as code}
-use Rattle.routine.specs.Layout.{layout, list, sectionPlace, columnPlace, isValues, isRole, textAt}
-use Rattle.routine.specs.Rows.{firstAddresses, atRange}
+use Rattle.routine.specs.declared.Role.the-variants.{Names as names, Values as values, Code as code, Answer as answer}
+use Rattle.routine.specs.Layout.{layout, list, sectionPlace, columnPlace, isNames, isValues, isRole, textAt}
+use Rattle.routine.specs.Rows.{firstAddresses, atRange, onCode}
+use Rattle.routine.proofs.Role.{the-type}
 
 -- ---- roles compared
 
@@ -26,6 +29,41 @@ module _ (s t : Section) (c d : Column) {a b : ℕ} (p : a ≡ sectionPlace s) (
 
   pub other-section : (a ≡ b → ⊥) → false ≡ isValues s c (values t d)
   other-section f = rw (ne-eqb (sectionPlace s) (sectionPlace t) (λ e. f (p ∙ e ∙ sym q))) refl
+
+-- a line of cells
+
+pub or-true : {a : Bool} (b : Bool) → a ≡ true → true ≡ a || b
+or-true b e = sym (ap (λ x. x || b) e)
+
+pub or-false : {a b r : Bool} → a ≡ false → r ≡ b → r ≡ a || b
+or-false {b = b} e q = q ∙ sym (ap (λ x. x || b) e)
+
+-- an `else` knows by the variants' numbers which variant a role is not
+
+pub not-names : (s : Section) (r : Role) → OneOf (1 ∷ 2 ∷ 3 ∷ []) (tagOf the-type r) → false ≡ isNames s r
+not-names s (names t) o = absurd (miss (1 ∷ 2 ∷ 3 ∷ []) 0 tt o)
+not-names s (values t d) o = refl
+not-names s (code k) o = refl
+not-names s (answer k) o = refl
+
+pub not-values : (s : Section) (c : Column) (r : Role) → OneOf (0 ∷ 2 ∷ 3 ∷ []) (tagOf the-type r) → false ≡ isValues s c r
+not-values s c (names t) o = refl
+not-values s c (values t d) o = absurd (miss (0 ∷ 2 ∷ 3 ∷ []) 1 tt o)
+not-values s c (code k) o = refl
+not-values s c (answer k) o = refl
+
+pub not-laid : (r x : Role) → OneOf (1 ∷ 2 ∷ 3 ∷ []) (tagOf the-type r) → OneOf (0 ∷ 2 ∷ 3 ∷ []) (tagOf the-type r) → false ≡ isRole r x
+not-laid (names s) x o p = absurd (miss (1 ∷ 2 ∷ 3 ∷ []) 0 tt o)
+not-laid (values s c) x o p = absurd (miss (0 ∷ 2 ∷ 3 ∷ []) 1 tt p)
+not-laid (code k) x o p = refl
+not-laid (answer k) x o p = refl
+
+pub not-code : (t : List ℕ → Bool) (r : Role) (text : List ℕ) → OneOf (0 ∷ 1 ∷ 3 ∷ []) (tagOf the-type r) → true ≡ onCode t r text
+unfolding onCode
+not-code t (names s) text o = refl
+not-code t (values s c) text o = refl
+not-code t (code k) text o = absurd (miss (0 ∷ 1 ∷ 3 ∷ []) 2 tt o)
+not-code t (answer k) text o = refl
 
 -- ---- the line of a role
 

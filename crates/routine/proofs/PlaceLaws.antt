@@ -24,7 +24,7 @@ use Rattle.routine.specs.declared.Role.{Role}
 use Rattle.routine.specs.declared.RefusedLine.{RefusedLine}
 use Rattle.routine.specs.declared.RefusedLine.the-variants.{Nowhere as nowhere, Line as line}
 use Rattle.routine.specs.Layout.{body, codeLines, roles}
-use Rattle.routine.specs.Rows.{Passes, value, op, arg, firstAt, test, earliest, refusedLine}
+use Rattle.routine.specs.Rows.{Passes, value, op, arg, isTarget, firstAt, test, earliest, refusedLine}
 use Rattle.routine.specs.Routine.{inside, argumentValue, PriceList, instructionOf, codeIn, startOf, routineOf, refused, orElse, Check, boundChecks, runChecks, checked, textLimit, limited, readBound, readRun}
 use Rattle.routine.proofs.RangeLaws.{natural-inside, every-mapped}
 use Rattle.routine.proofs.PassingLaws.{first-small, lines-count, code-few}
@@ -88,14 +88,8 @@ index-small (pos m) n h = h
 index-small (negsuc m) n h = omega arith
 
 -- a kind that branches takes a target
-abbrev takesTarget : Argument → Bool
-takesTarget Absent = false
-takesTarget Target = true
-takesTarget Primitive = false
-takesTarget (Within r) = false
-
 abbrev targeted : Kind → Bool
-targeted k = cond (branches (k .operation)) (takesTarget (k .argument)) true
+targeted k = cond (branches (k .operation)) (isTarget (k .argument)) true
 
 kinds-targeted : (i : ℕ) → targeted (kindAt i) ≡ true
 unfolding kinds kindAt all
@@ -106,7 +100,7 @@ target-small : (ps : List (List ℕ)) (w : List ℕ) (k : Kind) → targeted k �
 unfolding operand argumentValue
 target-small ps w k e = go (branches (k .operation)) (k .argument) refl e
   where
-    go : (b : Bool) (a : Argument) → k .argument ≡ a → cond b (takesTarget a) true ≡ true → cond b (index (operand k (argumentValue ps w (k .argument)))) 0 ≤ 62000
+    go : (b : Bool) (a : Argument) → k .argument ≡ a → cond b (isTarget a) true ≡ true → cond b (index (operand k (argumentValue ps w (k .argument)))) 0 ≤ 62000
     go false a q e = omega arith
     go true Absent q e = absurd (false≢true e)
     go true Target q e = rw q (index-small (inside addresses (value w)) 62000 (natural-inside 0 62000 (value w) .below))

@@ -1,6 +1,6 @@
 -- What each line of a routine file holds. (document 01, The routine file, the table)
 use Prim.Native.Nat.{ℕ, zero, suc}
-use mathlib.Core.Bool.{Bool, false, cond, _&&_}
+use mathlib.Core.Bool.{Bool, false, cond, _&&_, _||_}
 use mathlib.Core.List.{List, [], _∷_, _++_, map}
 use lib.Dec.{eqb}
 use lib.ListN.{length, drop}
@@ -115,6 +115,10 @@ isRole (names s) x = isNames s x
 isRole (values s c) x = isValues s c x
 isRole (code k) x = false
 isRole (answer k) x = false
+
+-- whether a line lists cells, as lines 10 and 12 do
+abbrev pub holdsCells : Role → Bool
+holdsCells r = isValues cells cell r || isValues fields cell r
 
 -- the text of the line that holds r; empty where there is no such line
 unfoldable pub textAt : Role → List Role → List Line → List ℕ

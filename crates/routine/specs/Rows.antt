@@ -15,7 +15,7 @@ use Rattle.text.specs.declared.Numeral.the-variants.{Misspelt as misspelt, Numb
 use Rattle.text.specs.Decimal.{numeral, isDigit, decimal}
 use Rattle.numbers.specs.declared.Range.{Range}
 use Rattle.numbers.specs.Numbers.{range, within, numbers, same}
-use Rattle.instructions.specs.Kinds.{addresses, Kind, kindNames}
+use Rattle.instructions.specs.Kinds.{addresses, calls, Kind, kindNames}
 use Rattle.instructions.specs.declared.Argument.{Argument}
 use Rattle.instructions.specs.declared.Argument.the-variants.{Absent, Target, Primitive, Within}
 use Rattle.instructions.specs.Kinds as table
@@ -31,7 +31,7 @@ use Rattle.routine.specs.declared.Row.{Row}
 use Rattle.routine.specs.declared.Row.the-variants.{Layout as layout-row, Range as range-row, Name as name-row, Price as price-row, Target as target-row, Known as known-row}
 use Rattle.routine.specs.declared.RefusedLine.{RefusedLine}
 use Rattle.routine.specs.declared.RefusedLine.the-variants.{Nowhere as nowhere, Line as line}
-use Rattle.routine.specs.Layout.{body, codeLines, roles, list, listed}
+use Rattle.routine.specs.Layout.{body, codeLines, roles, list, holdsCells, listed}
 
 -- ---- words
 
@@ -193,17 +193,18 @@ argumentInRange w (Within r) = within r (value w)
 
 -- a primitive is one of those named on line 6
 unfoldable pub argumentNamed : List (List ℕ) → List ℕ → Argument → Bool
-argumentNamed ps w Absent = true
-argumentNamed ps w Target = true
-argumentNamed ps w Primitive = among w ps
-argumentNamed ps w (Within r) = true
+argumentNamed ps w a = cond (calls a) (among w ps) true
 
--- a target among the n addresses from `first` on
+-- whether an argument is a target
+abbrev pub isTarget : Argument → Bool
+isTarget Absent = false
+isTarget Target = true
+isTarget Primitive = false
+isTarget (Within r) = false
+
+-- a target is one of the n addresses from `first` on
 unfoldable pub argumentReaches : ℤ → ℕ → List ℕ → Argument → Bool
-argumentReaches first n w Absent = true
-argumentReaches first n w Target = leZ first (value w) && ltZ (value w) (first +ℤ pos n)
-argumentReaches first n w Primitive = true
-argumentReaches first n w (Within r) = true
+argumentReaches first n w a = cond (isTarget a) (leZ first (value w) && ltZ (value w) (first +ℤ pos n)) true
 
 -- ---- ranges and counts of the table
 
@@ -246,14 +247,18 @@ columnLaidOut cycles ws = all (λ w. isNumeral (numeral w)) ws
 columnLaidOut words-column ws = all (λ w. isNumeral (numeral w)) ws
 columnLaidOut cell ws = all (λ w. isCell (cellWord w)) ws
 
--- a test of each word on a line of cells
-unfoldable pub onCells : Column → (CellWord → Bool) → List (List ℕ) → Bool
-onCells limit t ws = true
-onCells cycles t ws = true
-onCells words-column t ws = true
-onCells cell t ws = all (λ w. t (cellWord w)) ws
-
 -- ---- the rows
+
+-- a test of each word on a line of cells; any other line passes
+unfoldable pub onCells : (List ℕ → Bool) → Role → List ℕ → Bool
+onCells t r text = cond (holdsCells r) (all t (list text)) true
+
+-- a test of a code line; any other line passes
+unfoldable pub onCode : (List ℕ → Bool) → Role → List ℕ → Bool
+onCode t (names s) text = true
+onCode t (values s c) text = true
+onCode t (code k) text = t text
+onCode t (answer k) text = true
 
 -- row 2 on a line of names: "a wrong fixed word (BUDGET TICK, AT OP ARG, ANSWER), an empty list on line 9, a 33rd primitive"
 unfoldable pub namesLaidOut : Section → List ℕ → Bool
@@ -322,16 +327,13 @@ codeNamed first ps k text =
 -- row 4: also "handle to an absent block"
 unfoldable pub named : List Line → Role → List ℕ → Bool
 named ls (names s) text = wellNamed s (list text)
-named ls (values s c) text = onCells c (cellPresent (length (blockSizes (listed (names fields) ls)))) (list text)
+named ls (values s c) text = onCells (λ w. cellPresent (length (blockSizes (listed (names fields) ls))) (cellWord w)) (values s c) text
 named ls (code k) text = codeNamed (firstAt (body ls)) (listed (names primitives) ls) k text
 named ls (answer k) text = true
 
 -- row 5: "kind in the code without a price"
 unfoldable pub priced : List Line → Role → List ℕ → Bool
-priced ls (names s) text = true
-priced ls (values s c) text = true
-priced ls (code k) text = among (op text) (listed (names kinds) ls)
-priced ls (answer k) text = true
+priced ls r text = onCode (λ t. among (op t) (listed (names kinds) ls)) r text
 
 -- row 6 on a code line, where the code has n addresses from `first` on
 unfoldable pub codeReaches : ℤ → ℕ → List ℕ → Bool
@@ -339,17 +341,11 @@ codeReaches first n text = onArgument (argumentReaches first n (arg text)) text
 
 -- row 6: "target not an address of the code"
 unfoldable pub reaches : List Line → Role → List ℕ → Bool
-reaches ls (names s) text = true
-reaches ls (values s c) text = true
-reaches ls (code k) text = codeReaches (firstAt (body ls)) (length (codeLines (body ls))) text
-reaches ls (answer k) text = true
+reaches ls r text = onCode (codeReaches (firstAt (body ls)) (length (codeLines (body ls)))) r text
 
 -- row 11: "run only: a `?` on line 10, then 12"
 unfoldable pub allKnown : Role → List ℕ → Bool
-allKnown (names s) text = true
-allKnown (values s c) text = onCells c isKnown (list text)
-allKnown (code k) text = true
-allKnown (answer k) text = true
+allKnown r text = onCells (λ w. isKnown (cellWord w)) r text
 
 -- the test of a row on one line; in row 2 also "Each line ends in a line feed" and "words are parted by one space"
 unfoldable pub test : Row → List Line → Role → Line → Bool

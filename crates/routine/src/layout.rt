@@ -11,7 +11,7 @@ ghost use lib.ListN.{length, getD};
 ghost use Rattle.text.specs.Text.{lines, find, among};
 ghost use Rattle.instructions.specs.Kinds.{addresses};
 ghost use Rattle.routine.specs.declared.Role.the-variants.{Code};
-ghost use Rattle.routine.specs.Layout.{layout, body, codeLines, list, sectionPlace, columnPlace, isNames, isValues, isRole, textAt};
+ghost use Rattle.routine.specs.Layout.{layout, body, codeLines, list, sectionPlace, columnPlace, isNames, isValues, isRole, holdsCells, textAt};
 ghost use Rattle.routine.specs.Rows.{handles, firstAddresses, atRange, budgets, ticks, cycleCounts, wordCounts};
 
 // ---- the lines
@@ -73,42 +73,46 @@ fn column_place(c: Column) -> u8
 fn is_names(s: Section, role: Role) -> bool
     ensures { λ r. ⌜ r ≡ isNames s role ⌝ }
 {
-    match role {
-        Role::Names(t) => section_place(s) == section_place(t),
-        Role::Values(_, _) => false,
-        Role::Code(_) => false,
-        Role::Answer(_) => false,
-    }
+    let Role::Names(t) = role else {
+        return false;
+    };
+    section_place(s) == section_place(t)
 }
 
 // Whether it holds a column of values.
 fn is_values(s: Section, c: Column, role: Role) -> bool
     ensures { λ r. ⌜ r ≡ isValues s c role ⌝ }
 {
-    match role {
-        Role::Names(_) => false,
-        Role::Values(t, d) => {
-            if section_place(s) == section_place(t) {
-                column_place(c) == column_place(d)
-            } else {
-                false
-            }
-        }
-        Role::Code(_) => false,
-        Role::Answer(_) => false,
+    let Role::Values(t, d) = role else {
+        return false;
+    };
+    if section_place(s) == section_place(t) {
+        return column_place(c) == column_place(d);
     }
+    false
 }
 
 // Whether a line of the layout is the one that holds a role.
 fn is_role(role: Role, other: Role) -> bool
     ensures { λ r. ⌜ r ≡ isRole role other ⌝ }
 {
-    match role {
-        Role::Names(s) => is_names(s, other),
-        Role::Values(s, c) => is_values(s, c, other),
-        Role::Code(_) => false,
-        Role::Answer(_) => false,
+    if let Role::Names(s) = role {
+        return is_names(s, other);
     }
+    let Role::Values(s, c) = role else {
+        return false;
+    };
+    is_values(s, c, other)
+}
+
+// Whether a line lists cells.
+pub fn holds_cells(role: Role) -> bool
+    ensures { λ r. ⌜ r ≡ holdsCells role ⌝ }
+{
+    if is_values(Section::Cells, Column::Cell, role) {
+        return true;
+    }
+    is_values(Section::Fields, Column::Cell, role)
 }
 
 // The text of the line of the layout that holds a role; no bytes where there is no such line.

@@ -2,9 +2,11 @@
 use Prim.Native.Nat.{ℕ, _≤_}
 use mathlib.Core.Path.{_≡_, refl, sym, ap, ap₂, subst, _∙_}
 use mathlib.Core.Bool.{Bool, true, false, not}
-use mathlib.Core.List.{List}
+use mathlib.Core.List.{List, [], _∷_}
 use native.Mathlib.Omega.{arith}
 use lib.IntN.{ℤ, pos}
+use types.Run.{OneOf, miss}
+use denote.Enum.Declared.{tagOf}
 use borrow.Author.Tests.{le-leb}
 use lib.Dec.{eqb}
 use lib.ListN.{length}
@@ -17,12 +19,13 @@ use Rattle.routine.specs.declared.Role.{Role}
 use Rattle.routine.specs.declared.Role.the-variants.{Names as names, Values as values, Code as code}
 use Rattle.routine.specs.declared.Row.the-variants.{Layout as layout-row}
 use Rattle.routine.specs.Layout.{layout, body, list, textAt, listed}
-use Rattle.routine.specs.Rows.{equalLists, blockSizes, total, wellNamed, test, valuesLaidOut, laidOut, onCells, cellPresent, codeNamed, named, op, priced, codeReaches, reaches, firstAddresses, firstAt}
+use Rattle.routine.specs.Rows.{equalLists, blockSizes, total, wellNamed, test, valuesLaidOut, laidOut, onCells, onCode, codeNamed, named, op, priced, codeReaches, reaches, firstAddresses, firstAt}
 use Rattle.names.specs.declared.Blocks.{Blocks}
 use Rattle.names.specs.Names.{BlocksOf}
 use Rattle.lines.specs.Lines.{wordTest}
-use Rattle.lines.specs.declared.WordTest.the-variants.{Filled, Kind, Primitive}
+use Rattle.lines.specs.declared.WordTest.the-variants.{Filled, Present, Kind, Primitive}
 use Rattle.lines.proofs.LineLaws.{and-true, and-false, and-through, and-stop}
+use Rattle.routine.proofs.Section.{the-type}
 use Rattle.routine.proofs.LayoutLaws.{list-none, list-words}
 use Rattle.rows.specs.Scan.{NameContext, TargetContext, Small, lineWith}
 use Rattle.rows.proofs.ArmLaws.{not-true, not-false}
@@ -36,20 +39,20 @@ module _ (ls : List Line) (text : List ℕ) (r : Bool) where
   unfolding laidOut listed
   laid-values s c ns e h = h ∙ ap (λ t. valuesLaidOut c (list t) (list text)) e
 
-  pub named-values : {ps : List ℕ} {b f : ℕ} → NameContext ls ps b f → (s : Section) (c : Column) → r ≡ onCells c (cellPresent b) (list text) → r ≡ named ls (values s c) text
-  unfolding named
-  named-values x s c h = h ∙ ap (λ n. onCells c (cellPresent n) (list text)) (x .blocks-named)
+  pub named-values : {ps : List ℕ} {b f : ℕ} → NameContext ls ps b f → (s : Section) (c : Column) → r ≡ onCells (wordTest (Present b)) (values s c) text → r ≡ named ls (values s c) text
+  unfolding named wordTest
+  named-values x s c h = h ∙ ap (λ n. onCells (wordTest (Present n)) (values s c) text) (x .blocks-named)
 
   pub named-code : {ps : List ℕ} {b f : ℕ} → NameContext ls ps b f → (z : ℤ) → z ≡ pos f → (k : ℕ) → r ≡ codeNamed z (list ps) k text → r ≡ named ls (code k) text
   unfolding named listed
   named-code {ps} x z e k h = h ∙ ap (λ w. codeNamed w (list ps) k text) (e ∙ x .first-address) ∙ ap (λ t. codeNamed (firstAt (body ls)) (list t) k text) (x .primitives-line)
 
   pub priced-code : (ks : List ℕ) → ks ≡ textAt (names kinds) layout ls → (k : ℕ) → r ≡ among (op text) (list ks) → r ≡ priced ls (code k) text
-  unfolding priced listed
+  unfolding priced onCode listed
   priced-code ks e k h = h ∙ ap (λ t. among (op text) (list t)) e
 
   pub reaches-code : {f n : ℕ} → TargetContext ls f n → (z : ℤ) → z ≡ pos f → (k : ℕ) → r ≡ codeReaches z n text → r ≡ reaches ls (code k) text
-  unfolding reaches
+  unfolding reaches onCode
   reaches-code {f} {n} x z e k h = h ∙ ap (λ w. codeReaches w n text) (e ∙ x .first-address) ∙ ap (λ m. codeReaches (firstAt (body ls)) m text) (x .code-lines)
 
 pub small-code : (o : Role) (k : ℕ) → o ≡ code k → Small o → k ≤ 32768
@@ -89,6 +92,17 @@ module _ (text : List ℕ) where
 
   pub named-words : (s : Section) (r : Bool) → equals text (bytes "-") ≡ false → r ≡ wellNamed s (words text) → r ≡ wellNamed s (list text)
   named-words s r e h = rw (list-words text e) h
+
+  -- the sections whose words row 2 looks at, by the variants' numbers
+  pub named-fixed : (s : Section) → OneOf (0 ∷ 5 ∷ 6 ∷ []) (tagOf the-type s) → true ≡ wellNamed s (list text)
+  unfolding wellNamed
+  named-fixed limits o = refl
+  named-fixed kinds o = absurd (miss (0 ∷ 5 ∷ 6 ∷ []) 1 tt o)
+  named-fixed primitives o = absurd (miss (0 ∷ 5 ∷ 6 ∷ []) 2 tt o)
+  named-fixed cells o = absurd (miss (0 ∷ 5 ∷ 6 ∷ []) 3 tt o)
+  named-fixed fields o = absurd (miss (0 ∷ 5 ∷ 6 ∷ []) 4 tt o)
+  named-fixed instructions o = refl
+  named-fixed answers o = refl
 
   pub named-kinds : {a r : Bool} → a ≡ all (wordTest Kind) (words text) → a ≡ true → r ≡ distinct (words text) → r ≡ wellNamed kinds (words text)
   unfolding wellNamed wordTest

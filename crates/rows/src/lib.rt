@@ -63,7 +63,6 @@ fn well_named(s: Section, line: &[u8]) -> bool
         return true;
     }
     match s {
-        Section::Limits => true,
         Section::Kinds => {
             if lines::all_words(WordTest::Kind, line) {
                 names::distinct(line)
@@ -83,8 +82,7 @@ fn well_named(s: Section, line: &[u8]) -> bool
             let named = names::blocks_named(line);
             named.total == text::count_words(line)
         }
-        Section::Instructions => true,
-        Section::Answers => true,
+        _ => true,
     }
 }
 
@@ -103,7 +101,7 @@ fn named(
 {
     match role {
         Role::Names(s) => well_named(s, line),
-        Role::Values(_, c) => lines::values_present(c, blocks, line),
+        Role::Values(_, _) => lines::cells_pass(WordTest::Present(blocks as u8), role, line),
         Role::Code(k) => lines::code_named(first as i64, primitives, k, line),
         Role::Answer(_) => true,
     }
@@ -114,12 +112,10 @@ fn priced(text: &[u8], kinds: &[u8], role: Role, line: &[u8]) -> bool
     requires { ⌜ now kinds ≡ textAt (Names Kinds) layout (lines (now text)) ⌝ }
     ensures { λ r. ⌜ r ≡ priced (lines (now (text .entry))) role (now (line .entry)) ⌝ }
 {
-    match role {
-        Role::Names(_) => true,
-        Role::Values(_, _) => true,
-        Role::Code(_) => lines::code_priced(kinds, line),
-        Role::Answer(_) => true,
-    }
+    let Role::Code(_) = role else {
+        return true;
+    };
+    lines::code_priced(kinds, line)
 }
 
 // Row 6 on a line.
@@ -127,24 +123,17 @@ fn reaches(text: &[u8], first: usize, count: usize, role: Role, line: &[u8]) -> 
     requires { ⌜ TargetContext (lines (now text)) first count ⌝ }
     ensures { λ r. ⌜ r ≡ reaches (lines (now (text .entry))) role (now (line .entry)) ⌝ }
 {
-    match role {
-        Role::Names(_) => true,
-        Role::Values(_, _) => true,
-        Role::Code(_) => lines::code_reaches(first as i64, count, line),
-        Role::Answer(_) => true,
-    }
+    let Role::Code(_) = role else {
+        return true;
+    };
+    lines::code_reaches(first as i64, count, line)
 }
 
 // Row 11 on a line.
 fn all_known(role: Role, line: &[u8]) -> bool
     ensures { λ r. ⌜ r ≡ allKnown role (now (line .entry)) ⌝ }
 {
-    match role {
-        Role::Names(_) => true,
-        Role::Values(_, c) => lines::values_known(c, line),
-        Role::Code(_) => true,
-        Role::Answer(_) => true,
-    }
+    lines::cells_pass(WordTest::Known, role, line)
 }
 
 // Row 2 on a line that a line feed ends or not.

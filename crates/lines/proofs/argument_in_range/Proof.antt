@@ -1,10 +1,10 @@
 -- `lines::argument_in_range` meets its contract. Assumes nothing.
-use mathlib.Core.Path.{refl, sym, ap, ap₂, _∙_}
+use mathlib.Core.Path.{sym, ap, ap₂, _∙_}
 use native.Mathlib.Omega.{arith}
 use Rattle.numbers.specs.Numbers.{within}
 use Rattle.instructions.proofs.ColumnLaws.{target-range}
 use Rattle.routine.specs.Rows.{value, arg, argumentInRange}
-use Rattle.lines.proofs.CodeLaws.{on-unknown, on-argument, near-at, near-within}
+use Rattle.lines.proofs.CodeLaws.{on-unknown, on-taken, on-argument, no-number, near-at, near-within}
 use borrow.Author.Needs.{needs}
 use Rattle.lines.proofs.argument_in_range.Statement.{statement}
 use Rattle.lines.proofs.argument_in_range.Tie as tie
@@ -26,52 +26,43 @@ argument-at-requires c κs = search needs
 enum-told : tie.Need-enum-told
 enum-told c = search needs
 
-enum-told-2 : tie.Need-enum-told-2
-enum-told-2 c = search needs
-
 range-at-requires : tie.Need-range-at-requires
 range-at-requires c κs = search needs
 
 is-within-requires : tie.Need-is-within-requires
-is-within-requires c κs = near-at (c .before .before .before .before .before .before .kind-of .result) (c .before .before .before .before .before .if1 .left) (c .range-at .ensures)
-
-enum-told-3 : tie.Need-enum-told-3
-enum-told-3 c = search needs
+is-within-requires c κs =
+    let m = c .before .before .before in near-at (m .before .before .before .kind-of .result) (m .before .before .if1 .left) (c .range-at .ensures)
 
 enum-known-r : tie.Need-enum-known-r
 enum-known-r c = search needs
 
 is-within-requires-2 : tie.Need-is-within-requires-2
 is-within-requires-2 c κs =
-    near-within (c .before .before .before .before .before .before .kind-of .result) (c .before .before .before .before .before .if1 .left) (c .before .before .before .argument-at .ensures) (c .before .r .given .1)
+    let m = c .before .before .before in near-within (m .before .before .before .kind-of .result) (m .before .before .if1 .left) (m .argument-at .ensures) (c .before .r .given .1)
 
 returns-2 : tie.Need-returns-2
 unfolding argumentInRange
 returns-2 c =
-    let line = c .before .before .before .before .before .before .before .args .line .now in
-    on-argument (argumentInRange (arg line)) line (c .before .before .before .before .before .kind-of .ensures) (c .before .before .before .before .if1 .left) (c .before .before .argument-at .ensures) (c .enum-told .given .1) refl
+    let m = c .before .before .before .before in
+    let line = m .before .before .before .before .before .args .line .now in
+    let told = c .before .before .enum-told .given .1 in
+    on-argument (argumentInRange (arg line)) line (m .before .before .before .kind-of .ensures) (m .before .before .if1 .left) (m .argument-at .ensures) told
+    (c .is-within .ensures ∙ ap₂ (λ r w. within r (value w)) (target-range (c .before .range-at .ensures) (m .argument-at .ensures) told) (m .before .word-at .ensures))
 
 returns-3 : tie.Need-returns-3
 unfolding argumentInRange
 returns-3 c =
-    let line = c .before .before .before .before .before .before .before .before .before .args .line .now in
-    let m = c .before .before in
-    let r = target-range (c .before .range-at .ensures) (m .before .before .argument-at .ensures) (m .enum-told2 .given .1) in
-    on-argument (argumentInRange (arg line)) line (m .before .before .before .before .before .kind-of .ensures) (m .before .before .before .before .if1 .left) (m .before .before .argument-at .ensures) (m .enum-told2 .given .1)
-    (c .is-within .ensures ∙ ap₂ (λ r w. within r (value w)) r (m .before .before .before .word-at .ensures))
+    let m = c .before .before .before .before in
+    let line = m .before .before .before .before .before .args .line .now in
+    let r = c .before .before .r .given in
+    on-argument (argumentInRange (arg line)) line (m .before .before .before .kind-of .ensures) (m .before .before .if1 .left) (m .argument-at .ensures) (r .1)
+    (c .is-within2 .ensures ∙ ap (λ w. within (r .0 .0) (value w)) (m .before .word-at .ensures))
 
 returns-4 : tie.Need-returns-4
-unfolding argumentInRange
 returns-4 c =
-    let line = c .before .before .before .before .before .before .before .args .line .now in
-    on-argument (argumentInRange (arg line)) line (c .before .before .before .before .before .kind-of .ensures) (c .before .before .before .before .if1 .left) (c .before .before .argument-at .ensures) (c .enum-told3 .given .1) refl
-
-returns-5 : tie.Need-returns-5
-unfolding argumentInRange
-returns-5 c =
-    let line = c .before .before .before .before .before .before .before .before .before .args .line .now in
-    on-argument (argumentInRange (arg line)) line (c .before .before .before .before .before .before .before .kind-of .ensures) (c .before .before .before .before .before .before .if1 .left) (c .before .before .before .before .argument-at .ensures) (c .before .before .r .given .1)
-    (c .is-within2 .ensures ∙ ap (λ w. within (c .before .before .r .given .0 .0) (value w)) (c .before .before .before .before .before .word-at .ensures))
+    let m = c .before in
+    let line = m .before .before .before .before .before .args .line .now in
+    on-taken (argumentInRange (arg line)) line (m .before .before .before .kind-of .ensures) (m .before .before .if1 .left) (m .argument-at .ensures) (no-number (arg line) (m .argument-at .result) (c .match .keys3))
 
 pub argument-in-range-spec : {M : Type 1} → statement M
 argument-in-range-spec =
@@ -82,13 +73,10 @@ argument-in-range-spec =
     word-at-requires
     argument-at-requires
     enum-told
-    enum-told-2
     range-at-requires
     is-within-requires
-    enum-told-3
     enum-known-r
     is-within-requires-2
     returns-2
     returns-3
-    returns-4
-    returns-5)
+    returns-4)

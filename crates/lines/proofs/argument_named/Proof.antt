@@ -1,11 +1,12 @@
 -- `lines::argument_named` meets its contract. Assumes nothing.
-use mathlib.Core.Path.{refl, ap, _∙_}
+use mathlib.Core.Path.{refl, sym, ap, _∙_}
+use mathlib.Core.Bool.{true, cond}
 use native.Mathlib.Omega.{arith}
 use Rattle.text.specs.Text.{among}
 use Rattle.routine.specs.Layout.{list}
 use Rattle.routine.specs.Rows.{arg, onArgument, argumentNamed}
-use Rattle.lines.proofs.LineLaws.{and-true, and-false}
-use Rattle.lines.proofs.CodeLaws.{on-argument, op-known, op-unknown}
+use Rattle.lines.proofs.LineLaws.{and-true, and-false, arm}
+use Rattle.lines.proofs.CodeLaws.{on-taken, op-known, op-unknown}
 use borrow.Author.Needs.{needs}
 use Rattle.lines.proofs.argument_named.Statement.{statement}
 use Rattle.lines.proofs.argument_named.Tie as tie
@@ -23,59 +24,36 @@ returns c =
 word-at-requires : tie.Need-word-at-requires
 word-at-requires c κs = search needs
 
-argument-at-requires : tie.Need-argument-at-requires
-argument-at-requires c κs = search needs
-
-enum-told : tie.Need-enum-told
-enum-told c = search needs
-
-enum-told-2 : tie.Need-enum-told-2
-enum-told-2 c = search needs
-
-enum-told-3 : tie.Need-enum-told-3
-enum-told-3 c = search needs
+calls-at-requires : tie.Need-calls-at-requires
+calls-at-requires c κs = search needs
 
 is-listed-requires : tie.Need-is-listed-requires
 is-listed-requires c κs = search needs
-
-enum-told-4 : tie.Need-enum-told-4
-enum-told-4 c = search needs
 
 returns-2 : tie.Need-returns-2
 unfolding argumentNamed
 returns-2 c =
     let start = c .before .before .before .before .before .before .before .before in
     let line = start .args .line .now in
-    let test = argumentNamed (list (start .args .primitives .now)) (arg line) in
-    and-true (op-known test line (c .before .before .before .before .before .kind-of .ensures) (c .before .before .before .before .if1 .left))
-    (on-argument test line (c .before .before .before .before .before .kind-of .ensures) (c .before .before .before .before .if1 .left) (c .before .before .argument-at .ensures) (c .enum-told .given .1) refl)
+    let ps = list (start .args .primitives .now) in
+    let k = c .before .before .before .before .before .kind-of in
+    let h = c .before .before .before .before .if1 .left in
+    and-true (op-known (argumentNamed ps (arg line)) line (k .ensures) h)
+    (on-taken (argumentNamed ps (arg line)) line (k .ensures) h refl
+    (arm (λ b. cond b (among (arg line) ps) true) (sym (c .before .before .calls-at .ensures) ∙ c .before .if2 .taken)
+    (c .is-listed .ensures ∙ ap (λ w. among w ps) (c .before .before .before .word-at .ensures))))
 
 returns-3 : tie.Need-returns-3
 unfolding argumentNamed
 returns-3 c =
-    let start = c .before .before .before .before .before .before .before .before in
+    let start = c .before .before .before .before .before .before .before in
     let line = start .args .line .now in
-    let test = argumentNamed (list (start .args .primitives .now)) (arg line) in
-    and-true (op-known test line (c .before .before .before .before .before .kind-of .ensures) (c .before .before .before .before .if1 .left))
-    (on-argument test line (c .before .before .before .before .before .kind-of .ensures) (c .before .before .before .before .if1 .left) (c .before .before .argument-at .ensures) (c .enum-told2 .given .1) refl)
-
-returns-4 : tie.Need-returns-4
-unfolding argumentNamed
-returns-4 c =
-    let start = c .before .before .before .before .before .before .before .before .before in
-    let line = start .args .line .now in
-    let test = argumentNamed (list (start .args .primitives .now)) (arg line) in
-    and-true (op-known test line (c .before .before .before .before .before .before .kind-of .ensures) (c .before .before .before .before .before .if1 .left))
-    (on-argument test line (c .before .before .before .before .before .before .kind-of .ensures) (c .before .before .before .before .before .if1 .left) (c .before .before .before .argument-at .ensures) (c .before .enum-told3 .given .1) (c .is-listed .ensures ∙ ap (λ w. among w (list (start .args .primitives .now))) (c .before .before .before .before .word-at .ensures)))
-
-returns-5 : tie.Need-returns-5
-unfolding argumentNamed
-returns-5 c =
-    let start = c .before .before .before .before .before .before .before .before in
-    let line = start .args .line .now in
-    let test = argumentNamed (list (start .args .primitives .now)) (arg line) in
-    and-true (op-known test line (c .before .before .before .before .before .kind-of .ensures) (c .before .before .before .before .if1 .left))
-    (on-argument test line (c .before .before .before .before .before .kind-of .ensures) (c .before .before .before .before .if1 .left) (c .before .before .argument-at .ensures) (c .enum-told4 .given .1) refl)
+    let ps = list (start .args .primitives .now) in
+    let k = c .before .before .before .before .kind-of in
+    let h = c .before .before .before .if1 .left in
+    and-true (op-known (argumentNamed ps (arg line)) line (k .ensures) h)
+    (on-taken (argumentNamed ps (arg line)) line (k .ensures) h refl
+    (arm (λ b. cond b (among (arg line) ps) true) (sym (c .before .calls-at .ensures) ∙ c .if2 .left) refl))
 
 pub argument-named-spec : {M : Type 1} → statement M
 argument-named-spec =
@@ -84,13 +62,7 @@ argument-named-spec =
     kind-of-requires
     returns
     word-at-requires
-    argument-at-requires
-    enum-told
-    enum-told-2
-    enum-told-3
+    calls-at-requires
     is-listed-requires
-    enum-told-4
     returns-2
-    returns-3
-    returns-4
-    returns-5)
+    returns-3)

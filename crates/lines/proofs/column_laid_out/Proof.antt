@@ -1,11 +1,29 @@
 -- `lines::column_laid_out` meets its contract. Assumes nothing.
+use Prim.Native.Nat.{ℕ}
+use mathlib.Core.Path.{_≡_, refl, _∙_}
+use mathlib.Core.List.{List, [], _∷_}
+use types.Run.{OneOf, miss}
+use denote.Enum.Declared.{tagOf}
+use Rattle.text.specs.Text.{all}
+use Rattle.text.specs.Decimal.{numeral}
+use Rattle.routine.specs.declared.Column.{Column}
+use Rattle.routine.specs.declared.Column.the-variants.{Limit, Cycles, Words, Cell}
 use Rattle.routine.specs.Layout.{list}
-use Rattle.routine.specs.Rows.{columnLaidOut}
+use Rattle.routine.specs.Rows.{isNumeral, columnLaidOut}
+use Rattle.routine.proofs.Column.{the-type}
 use Rattle.lines.specs.Lines.{wordTest}
 use Rattle.lines.proofs.LineLaws.{arm}
 use borrow.Author.Needs.{needs}
 use Rattle.lines.proofs.column_laid_out.Statement.{statement}
 use Rattle.lines.proofs.column_laid_out.Tie as tie
+
+-- the columns of numbers, by the variants' numbers
+not-cells : (c : Column) (ws : List (List ℕ)) → OneOf (0 ∷ 1 ∷ 2 ∷ []) (tagOf the-type c) → all (λ w. isNumeral (numeral w)) ws ≡ columnLaidOut c ws
+unfolding columnLaidOut
+not-cells Limit ws o = refl
+not-cells Cycles ws o = refl
+not-cells Words ws o = refl
+not-cells Cell ws o = absurd (miss (0 ∷ 1 ∷ 2 ∷ []) 3 tt o)
 
 enum-told : tie.Need-enum-told
 enum-told c = search needs
@@ -13,57 +31,18 @@ enum-told c = search needs
 all-listed-requires : tie.Need-all-listed-requires
 all-listed-requires c κs = search needs
 
-enum-told-2 : tie.Need-enum-told-2
-enum-told-2 c = search needs
-
-all-listed-requires-2 : tie.Need-all-listed-requires-2
-all-listed-requires-2 c κs = search needs
-
-enum-told-3 : tie.Need-enum-told-3
-enum-told-3 c = search needs
-
-all-listed-requires-3 : tie.Need-all-listed-requires-3
-all-listed-requires-3 c κs = search needs
-
-enum-told-4 : tie.Need-enum-told-4
-enum-told-4 c = search needs
-
-all-listed-requires-4 : tie.Need-all-listed-requires-4
-all-listed-requires-4 c κs = search needs
-
 returns : tie.Need-returns
 unfolding columnLaidOut wordTest
 returns c =
     arm (λ k. columnLaidOut k (list (c .before .before .before .before .args .line .now))) (c .before .enum-told .given .1) (c .all-listed .ensures)
 
+all-listed-requires-2 : tie.Need-all-listed-requires-2
+all-listed-requires-2 c κs = search needs
+
 returns-2 : tie.Need-returns-2
-unfolding columnLaidOut wordTest
-returns-2 c =
-    arm (λ k. columnLaidOut k (list (c .before .before .before .before .args .line .now))) (c .before .enum-told2 .given .1) (c .all-listed2 .ensures)
-
-returns-3 : tie.Need-returns-3
-unfolding columnLaidOut wordTest
-returns-3 c =
-    arm (λ k. columnLaidOut k (list (c .before .before .before .before .args .line .now))) (c .before .enum-told3 .given .1) (c .all-listed3 .ensures)
-
-returns-4 : tie.Need-returns-4
-unfolding columnLaidOut wordTest
-returns-4 c =
-    arm (λ k. columnLaidOut k (list (c .before .before .before .before .args .line .now))) (c .before .enum-told4 .given .1) (c .all-listed4 .ensures)
+unfolding wordTest
+returns-2 c = let a = c .before .before .before .args in c .all-listed2 .ensures ∙ not-cells (a .c) (list (a .line .now)) (c .before .match .keys2)
 
 pub column-laid-out-spec : {M : Type 1} → statement M
 column-laid-out-spec =
-    tie.close
-    (tie.spec
-    enum-told
-    all-listed-requires
-    enum-told-2
-    all-listed-requires-2
-    enum-told-3
-    all-listed-requires-3
-    enum-told-4
-    all-listed-requires-4
-    returns
-    returns-2
-    returns-3
-    returns-4)
+    tie.close (tie.spec enum-told all-listed-requires returns all-listed-requires-2 returns-2)

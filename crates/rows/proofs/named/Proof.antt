@@ -1,10 +1,12 @@
 -- `rows::named` meets its contract. Assumes nothing.
+use mathlib.Core.Path.{ap, _∙_}
 use Rattle.rows.proofs.ContextLaws.{small-code, named-values, named-code, first-within}
 use mir.ValLaws.{toZ-ofZ}
 use mir.Syntax.{w64}
 use Rattle.text.specs.Text.{lines}
-use Rattle.routine.specs.Rows.{named}
-use denote.Ref.{now}
+use Rattle.routine.specs.Rows.{onCells, named}
+use Rattle.lines.specs.declared.WordTest.the-variants.{Present}
+use Rattle.lines.specs.Lines.{wordTest}
 use Rattle.lines.proofs.LineLaws.{arm}
 use borrow.Author.Needs.{needs}
 use Rattle.rows.proofs.named.Statement.{statement}
@@ -16,33 +18,47 @@ enum-known-role c = search needs
 well-named-requires : tie.Need-well-named-requires
 well-named-requires c κs = search needs
 
+enum-told : tie.Need-enum-told
+enum-told c = search needs
+
+cast-t10 : tie.Need-cast-t10
+cast-t10 c = search needs
+
+cells-pass-requires : tie.Need-cells-pass-requires
+cells-pass-requires c κs = search needs
+
 enum-known-role-2 : tie.Need-enum-known-role-2
 enum-known-role-2 c = search needs
-
-values-present-requires : tie.Need-values-present-requires
-values-present-requires c κs = search needs
-
-enum-known-role-3 : tie.Need-enum-known-role-3
-enum-known-role-3 c = search needs
 
 cast-code-named : tie.Need-cast-code-named
 cast-code-named c = search needs
 
 code-named-requires : tie.Need-code-named-requires
-code-named-requires c κs = let s = c .before .before .before .before .before .before in (rw (toZ-ofZ w64 _ (cast-code-named c)) (first-within (s .args .first) (s .pre .0 .low)), small-code (s .args .role) _ (c .before .role3 .given .1) (s .pre .1))
+code-named-requires c κs = let s = c .before .before .before .before .before .before in (rw (toZ-ofZ w64 _ (cast-code-named c)) (first-within (s .args .first) (s .pre .0 .low)), small-code (s .args .role) _ (c .before .role2 .given .1) (s .pre .1))
 
-enum-told : tie.Need-enum-told
-enum-told c = search needs
+enum-told-2 : tie.Need-enum-told-2
+enum-told-2 c = search needs
 
 returns : tie.Need-returns
 unfolding named
-returns c = arm (λ o. named (lines (now (c .before .before .before .before .before .before .before .args .text))) o (now (c .before .before .before .before .before .before .before .args .line))) (c .before .before .role .given .1) (c .well-named .ensures)
+returns c =
+    let a = c .before .before .before .before .before .before .before .args in
+    arm (λ o. named (lines (a .text .now)) o (a .line .now)) (c .before .before .role .given .1) (c .well-named .ensures)
 
 returns-2 : tie.Need-returns-2
-returns-2 c = arm (λ o. named (lines (now (c .before .before .before .before .before .before .before .args .text))) o (now (c .before .before .before .before .before .before .before .args .line))) (c .before .before .role2 .given .1) (named-values (lines (now (c .before .before .before .before .before .before .before .args .text))) (now (c .before .before .before .before .before .before .before .args .line)) _ (c .before .before .before .before .before .before .before .pre .0) _ _ (c .values-present .ensures))
+returns-2 c =
+    let start = c .before .before .before .before .before .before in
+    let ls = lines (start .args .text .now) in
+    let line = start .args .line .now in
+    let e = c .before .enum-told .given .1 in
+    arm (λ o. named ls o line) e (named-values ls line _ (start .pre .0) _ _ (c .cells-pass .ensures ∙ ap (λ o. onCells (wordTest (Present (start .args .blocks))) o line) e))
 
 returns-3 : tie.Need-returns-3
-returns-3 c = arm (λ o. named (lines (now (c .before .before .before .before .before .before .before .args .text))) o (now (c .before .before .before .before .before .before .before .args .line))) (c .before .before .role3 .given .1) (named-code (lines (now (c .before .before .before .before .before .before .before .args .text))) (now (c .before .before .before .before .before .before .before .args .line)) _ (c .before .before .before .before .before .before .before .pre .0) _ (toZ-ofZ w64 _ (cast-code-named (c .before))) _ (c .code-named .ensures))
+returns-3 c =
+    let start = c .before .before .before .before .before .before .before in
+    let ls = lines (start .args .text .now) in
+    let line = start .args .line .now in
+    arm (λ o. named ls o line) (c .before .before .role2 .given .1) (named-code ls line _ (start .pre .0) _ (toZ-ofZ w64 _ (cast-code-named (c .before))) _ (c .code-named .ensures))
 
 returns-4 : tie.Need-returns-4
 unfolding named
@@ -54,12 +70,13 @@ named-spec =
     (tie.spec
     enum-known-role
     well-named-requires
+    enum-told
+    cast-t10
+    cells-pass-requires
     enum-known-role-2
-    values-present-requires
-    enum-known-role-3
     cast-code-named
     code-named-requires
-    enum-told
+    enum-told-2
     returns
     returns-2
     returns-3

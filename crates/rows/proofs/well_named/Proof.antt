@@ -1,10 +1,9 @@
 -- `rows::well_named` meets its contract. Assumes nothing.
-use mathlib.Core.Path.{refl, sym, _∙_}
+use mathlib.Core.Path.{sym, _∙_}
 use Rattle.routine.specs.Rows.{wellNamed}
 use Rattle.routine.specs.Layout.{list}
-use Rattle.rows.proofs.ContextLaws.{named-none, named-words, named-kinds, unnamed-kinds, named-primitives, unnamed-primitives, named-fields}
-use Rattle.routine.specs.declared.Section.the-variants.{Limits, Kinds, Primitives, Cells, Fields, Instructions, Answers}
-use denote.Ref.{now}
+use Rattle.rows.proofs.ContextLaws.{named-none, named-words, named-fixed, named-kinds, unnamed-kinds, named-primitives, unnamed-primitives, named-fields}
+use Rattle.routine.specs.declared.Section.the-variants.{Kinds, Primitives, Cells, Fields}
 use Rattle.lines.proofs.LineLaws.{arm}
 use borrow.Author.Needs.{needs}
 use Rattle.rows.proofs.well_named.Statement.{statement}
@@ -17,13 +16,10 @@ same-requires : tie.Need-same-requires
 same-requires c κs = search needs
 
 returns : tie.Need-returns
-returns c = named-none (now (c .before .before .before .before .args .line)) _ (sym (c .before .same .ensures) ∙ c .if1 .taken)
+returns c = named-none (c .before .before .before .before .args .line .now) _ (sym (c .before .same .ensures) ∙ c .if1 .taken)
 
 enum-told : tie.Need-enum-told
 enum-told c = search needs
-
-enum-told-2 : tie.Need-enum-told-2
-enum-told-2 c = search needs
 
 all-words-requires : tie.Need-all-words-requires
 all-words-requires c κs = search needs
@@ -31,8 +27,8 @@ all-words-requires c κs = search needs
 distinct-requires : tie.Need-distinct-requires
 distinct-requires c κs = search needs
 
-enum-told-3 : tie.Need-enum-told-3
-enum-told-3 c = search needs
+enum-told-2 : tie.Need-enum-told-2
+enum-told-2 c = search needs
 
 all-words-requires-2 : tie.Need-all-words-requires-2
 all-words-requires-2 c κs = search needs
@@ -40,14 +36,14 @@ all-words-requires-2 c κs = search needs
 distinct-requires-2 : tie.Need-distinct-requires-2
 distinct-requires-2 c κs = search needs
 
-enum-told-4 : tie.Need-enum-told-4
-enum-told-4 c = search needs
+enum-told-3 : tie.Need-enum-told-3
+enum-told-3 c = search needs
 
 cells-named-requires : tie.Need-cells-named-requires
 cells-named-requires c κs = search needs
 
-enum-told-5 : tie.Need-enum-told-5
-enum-told-5 c = search needs
+enum-told-4 : tie.Need-enum-told-4
+enum-told-4 c = search needs
 
 blocks-named-requires : tie.Need-blocks-named-requires
 blocks-named-requires c κs = search needs
@@ -55,42 +51,45 @@ blocks-named-requires c κs = search needs
 count-words-requires : tie.Need-count-words-requires
 count-words-requires c κs = search needs
 
-enum-told-6 : tie.Need-enum-told-6
-enum-told-6 c = search needs
-
-enum-told-7 : tie.Need-enum-told-7
-enum-told-7 c = search needs
-
 returns-2 : tie.Need-returns-2
-unfolding wellNamed
-returns-2 c = arm (λ s. wellNamed s (list (now (c .before .before .before .before .before .before .args .line)))) (c .enum-told .given .1) (named-words (now (c .before .before .before .before .before .before .args .line)) Limits _ (sym (c .before .before .before .same .ensures) ∙ c .before .before .if1 .left) (refl))
+returns-2 c =
+    let line = c .before .before .before .before .before .before .before .before .before .args .line .now in
+    let dash = sym (c .before .before .before .before .before .before .same .ensures) ∙ c .before .before .before .before .before .if1 .left in
+    arm (λ s. wellNamed s (list line)) (c .before .before .before .enum-told .given .1) (named-words line Kinds _ dash (named-kinds line (c .before .before .all-words .ensures) (c .before .if2 .taken) (c .distinct .ensures)))
 
 returns-3 : tie.Need-returns-3
-returns-3 c = arm (λ s. wellNamed s (list (now (c .before .before .before .before .before .before .before .before .before .args .line)))) (c .before .before .before .enum-told2 .given .1) (named-words (now (c .before .before .before .before .before .before .before .before .before .args .line)) Kinds _ (sym (c .before .before .before .before .before .before .same .ensures) ∙ c .before .before .before .before .before .if1 .left) (named-kinds (now (c .before .before .before .before .before .before .before .before .before .args .line)) (c .before .before .all-words .ensures) (c .before .if2 .taken) (c .distinct .ensures)))
+returns-3 c =
+    let line = c .before .before .before .before .before .before .before .before .args .line .now in
+    let dash = sym (c .before .before .before .before .before .same .ensures) ∙ c .before .before .before .before .if1 .left in
+    arm (λ s. wellNamed s (list line)) (c .before .before .enum-told .given .1) (named-words line Kinds _ dash (unnamed-kinds line (c .before .all-words .ensures) (c .if2 .left)))
 
 returns-4 : tie.Need-returns-4
-returns-4 c = arm (λ s. wellNamed s (list (now (c .before .before .before .before .before .before .before .before .args .line)))) (c .before .before .enum-told2 .given .1) (named-words (now (c .before .before .before .before .before .before .before .before .args .line)) Kinds _ (sym (c .before .before .before .before .before .same .ensures) ∙ c .before .before .before .before .if1 .left) (unnamed-kinds (now (c .before .before .before .before .before .before .before .before .args .line)) (c .before .all-words .ensures) (c .if2 .left)))
+returns-4 c =
+    let line = c .before .before .before .before .before .before .before .before .before .args .line .now in
+    let dash = sym (c .before .before .before .before .before .before .same .ensures) ∙ c .before .before .before .before .before .if1 .left in
+    arm (λ s. wellNamed s (list line)) (c .before .before .before .enum-told2 .given .1) (named-words line Primitives _ dash (named-primitives line (c .before .before .all-words2 .ensures) (c .before .if3 .taken) (c .distinct2 .ensures)))
 
 returns-5 : tie.Need-returns-5
-returns-5 c = arm (λ s. wellNamed s (list (now (c .before .before .before .before .before .before .before .before .before .args .line)))) (c .before .before .before .enum-told3 .given .1) (named-words (now (c .before .before .before .before .before .before .before .before .before .args .line)) Primitives _ (sym (c .before .before .before .before .before .before .same .ensures) ∙ c .before .before .before .before .before .if1 .left) (named-primitives (now (c .before .before .before .before .before .before .before .before .before .args .line)) (c .before .before .all-words2 .ensures) (c .before .if3 .taken) (c .distinct2 .ensures)))
+returns-5 c =
+    let line = c .before .before .before .before .before .before .before .before .args .line .now in
+    let dash = sym (c .before .before .before .before .before .same .ensures) ∙ c .before .before .before .before .if1 .left in
+    arm (λ s. wellNamed s (list line)) (c .before .before .enum-told2 .given .1) (named-words line Primitives _ dash (unnamed-primitives line (c .before .all-words2 .ensures) (c .if3 .left)))
 
 returns-6 : tie.Need-returns-6
-returns-6 c = arm (λ s. wellNamed s (list (now (c .before .before .before .before .before .before .before .before .args .line)))) (c .before .before .enum-told3 .given .1) (named-words (now (c .before .before .before .before .before .before .before .before .args .line)) Primitives _ (sym (c .before .before .before .before .before .same .ensures) ∙ c .before .before .before .before .if1 .left) (unnamed-primitives (now (c .before .before .before .before .before .before .before .before .args .line)) (c .before .all-words2 .ensures) (c .if3 .left)))
+unfolding wellNamed
+returns-6 c =
+    let line = c .before .before .before .before .before .before .before .args .line .now in
+    let dash = sym (c .before .before .before .before .same .ensures) ∙ c .before .before .before .if1 .left in
+    arm (λ s. wellNamed s (list line)) (c .before .enum-told3 .given .1) (named-words line Cells _ dash (c .cells-named .ensures))
 
 returns-7 : tie.Need-returns-7
-unfolding wellNamed
-returns-7 c = arm (λ s. wellNamed s (list (now (c .before .before .before .before .before .before .before .args .line)))) (c .before .enum-told4 .given .1) (named-words (now (c .before .before .before .before .before .before .before .args .line)) Cells _ (sym (c .before .before .before .before .same .ensures) ∙ c .before .before .before .if1 .left) (c .cells-named .ensures))
+returns-7 c =
+    let line = c .before .before .before .before .before .before .before .before .before .args .line .now in
+    let dash = sym (c .before .before .before .before .before .before .same .ensures) ∙ c .before .before .before .before .before .if1 .left in
+    arm (λ s. wellNamed s (list line)) (c .before .before .before .enum-told4 .given .1) (named-words line Fields _ dash (named-fields line dash _ (c .before .before .blocks-named .ensures) _ (c .before .count-words .ensures)))
 
 returns-8 : tie.Need-returns-8
-returns-8 c = arm (λ s. wellNamed s (list (now (c .before .before .before .before .before .before .before .before .before .args .line)))) (c .before .before .before .enum-told5 .given .1) (named-words (now (c .before .before .before .before .before .before .before .before .before .args .line)) Fields _ (sym (c .before .before .before .before .before .before .same .ensures) ∙ c .before .before .before .before .before .if1 .left) (named-fields (now (c .before .before .before .before .before .before .before .before .before .args .line)) (sym (c .before .before .before .before .before .before .same .ensures) ∙ c .before .before .before .before .before .if1 .left) _ (c .before .before .blocks-named .ensures) _ (c .before .count-words .ensures)))
-
-returns-9 : tie.Need-returns-9
-unfolding wellNamed
-returns-9 c = arm (λ s. wellNamed s (list (now (c .before .before .before .before .before .before .args .line)))) (c .enum-told6 .given .1) (named-words (now (c .before .before .before .before .before .before .args .line)) Instructions _ (sym (c .before .before .before .same .ensures) ∙ c .before .before .if1 .left) (refl))
-
-returns-10 : tie.Need-returns-10
-unfolding wellNamed
-returns-10 c = arm (λ s. wellNamed s (list (now (c .before .before .before .before .before .before .args .line)))) (c .enum-told7 .given .1) (named-words (now (c .before .before .before .before .before .before .args .line)) Answers _ (sym (c .before .before .before .same .ensures) ∙ c .before .before .if1 .left) (refl))
+returns-8 c = let a = c .before .before .before .before .before .args in named-fixed (a .line .now) (a .s) (c .match .keys5)
 
 pub well-named-spec : {M : Type 1} → statement M
 well-named-spec =
@@ -100,25 +99,20 @@ well-named-spec =
     same-requires
     returns
     enum-told
-    enum-told-2
     all-words-requires
     distinct-requires
-    enum-told-3
+    enum-told-2
     all-words-requires-2
     distinct-requires-2
-    enum-told-4
+    enum-told-3
     cells-named-requires
-    enum-told-5
+    enum-told-4
     blocks-named-requires
     count-words-requires
-    enum-told-6
-    enum-told-7
     returns-2
     returns-3
     returns-4
     returns-5
     returns-6
     returns-7
-    returns-8
-    returns-9
-    returns-10)
+    returns-8)

@@ -1,6 +1,7 @@
 -- `routine::layout::is_role` meets its contract. Assumes nothing.
 use mathlib.Core.Path.{sym, ap, _∙_}
 use Rattle.routine.specs.Layout.{isRole}
+use Rattle.routine.proofs.LayoutLaws.{not-laid}
 use borrow.Author.Needs.{needs}
 use Rattle.routine.proofs.layout.is_role.Statement.{statement}
 use Rattle.routine.proofs.layout.is_role.Tie as tie
@@ -11,29 +12,20 @@ enum-known-role c = search needs
 is-names-requires : tie.Need-is-names-requires
 is-names-requires c κs = search needs
 
+returns : tie.Need-returns
+returns c = c .is-names .ensures ∙ sym (ap (λ r. isRole r (c .before .before .before .before .args .other)) (c .before .before .role .given .1))
+
 enum-known-role-2 : tie.Need-enum-known-role-2
 enum-known-role-2 c = search needs
+
+returns-2 : tie.Need-returns-2
+returns-2 c = not-laid (c .before .before .args .role) _ (c .before .match .keys2) (c .match2 .keys2)
 
 is-values-requires : tie.Need-is-values-requires
 is-values-requires c κs = search needs
 
-enum-told : tie.Need-enum-told
-enum-told c = search needs
-
-enum-told-2 : tie.Need-enum-told-2
-enum-told-2 c = search needs
-
-returns : tie.Need-returns
-returns c = c .is-names .ensures ∙ sym (ap (λ r. isRole r (c .before .before .before .before .args .other)) (c .before .before .role .given .1))
-
-returns-2 : tie.Need-returns-2
-returns-2 c = c .is-values .ensures ∙ sym (ap (λ r. isRole r (c .before .before .before .before .args .other)) (c .before .before .role2 .given .1))
-
 returns-3 : tie.Need-returns-3
-returns-3 c = search needs
-
-returns-4 : tie.Need-returns-4
-returns-4 c = search needs
+returns-3 c = c .is-values .ensures ∙ sym (ap (λ r. isRole r (c .before .before .before .before .before .args .other)) (c .before .before .role2 .given .1))
 
 pub is-role-spec : {M : Type 1} → statement M
 is-role-spec =
@@ -41,11 +33,8 @@ is-role-spec =
     (tie.spec
     enum-known-role
     is-names-requires
-    enum-known-role-2
-    is-values-requires
-    enum-told
-    enum-told-2
     returns
+    enum-known-role-2
     returns-2
-    returns-3
-    returns-4)
+    is-values-requires
+    returns-3)

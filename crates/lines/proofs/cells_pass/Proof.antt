@@ -1,0 +1,32 @@
+-- `lines::cells_pass` meets its contract. Assumes nothing.
+use mathlib.Core.Path.{refl, sym, _∙_}
+use mathlib.Core.Bool.{true, cond}
+use Rattle.text.specs.Text.{all}
+use Rattle.routine.specs.Layout.{list}
+use Rattle.routine.specs.Rows.{onCells}
+use Rattle.lines.specs.Lines.{wordTest}
+use Rattle.lines.proofs.LineLaws.{arm}
+use borrow.Author.Needs.{needs}
+use Rattle.lines.proofs.cells_pass.Statement.{statement}
+use Rattle.lines.proofs.cells_pass.Tie as tie
+
+holds-cells-requires : tie.Need-holds-cells-requires
+holds-cells-requires c κs = search needs
+
+all-listed-requires : tie.Need-all-listed-requires
+all-listed-requires c κs = search needs
+
+returns : tie.Need-returns
+unfolding onCells
+returns c =
+    let a = c .before .before .before .before .args in
+    arm (λ b. cond b (all (wordTest (a .t)) (list (a .line .now))) true) (sym (c .before .before .holds-cells .ensures) ∙ c .before .if1 .taken) (c .all-listed .ensures)
+
+returns-2 : tie.Need-returns-2
+unfolding onCells
+returns-2 c =
+    let a = c .before .before .before .args in
+    arm (λ b. cond b (all (wordTest (a .t)) (list (a .line .now))) true) (sym (c .before .holds-cells .ensures) ∙ c .if1 .left) refl
+
+pub cells-pass-spec : {M : Type 1} → statement M
+cells-pass-spec = tie.close (tie.spec holds-cells-requires all-listed-requires returns returns-2)

@@ -1,0 +1,24 @@
+-- `routine::layout::holds_cells` meets its contract. Assumes nothing.
+use mathlib.Core.Path.{sym, _∙_}
+use Rattle.routine.specs.declared.Section.the-variants.{Fields}
+use Rattle.routine.specs.declared.Column.the-variants.{Cell}
+use Rattle.routine.specs.Layout.{isValues}
+use Rattle.routine.proofs.LayoutLaws.{or-true, or-false}
+use borrow.Author.Needs.{needs}
+use Rattle.routine.proofs.layout.holds_cells.Statement.{statement}
+use Rattle.routine.proofs.layout.holds_cells.Tie as tie
+
+is-values-requires : tie.Need-is-values-requires
+is-values-requires c κs = search needs
+
+returns : tie.Need-returns
+returns c = or-true (isValues Fields Cell (c .before .before .args .role)) (sym (c .before .is-values .ensures) ∙ c .if1 .taken)
+
+is-values-requires-2 : tie.Need-is-values-requires-2
+is-values-requires-2 c κs = search needs
+
+returns-2 : tie.Need-returns-2
+returns-2 c = or-false (sym (c .before .before .is-values .ensures) ∙ c .before .if1 .left) (c .is-values2 .ensures)
+
+pub holds-cells-spec : {M : Type 1} → statement M
+holds-cells-spec = tie.close (tie.spec is-values-requires returns is-values-requires-2 returns-2)
