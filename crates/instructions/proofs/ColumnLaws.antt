@@ -12,10 +12,13 @@ use lib.IntN.{ℤ, pos}
 use lib.ListN.{length, getD, List·getD-map}
 use mir.Syntax.{Width}
 use mir.Val.{ofZ, toZ}
+use Rattle.text.specs.Text.{place, find}
+use Rattle.text.specs.declared.Place.the-variants.{At}
+use Rattle.text.proofs.TextLaws.{place-below, find-below}
 use Rattle.numbers.specs.declared.Range.{Range}
 use Rattle.instructions.specs.declared.Argument.{Argument}
 use Rattle.instructions.specs.declared.Argument.the-variants.{Absent, Target, Primitive, Within}
-use Rattle.instructions.specs.Kinds.{addresses, Kind, kinds}
+use Rattle.instructions.specs.Kinds.{addresses, Kind, kinds, kindNames}
 use Rattle.instructions.specs.Columns.{kindAt, argumentCode, rangeOf}
 
 -- within a list the default does not matter
@@ -24,10 +27,22 @@ getD-any [] k d e h = absurd (not-suc-le-zero h)
 getD-any (x ∷ xs) zero d e h = refl
 getD-any (x ∷ xs) (suc k) d e h = getD-any xs k d e (le-of-suc-le-suc h)
 
+names-count : length kindNames ≡ 61
+unfolding kinds kindNames
+names-count = refl
+
 pub column-at : {A B : Type 0} (h : Kind → A) (g : A → B) (f : Kind → B) (d : A) → map g (map h kinds) ≡ map f kinds → (k : ℕ) → k < 61 → g (getD (map h kinds) k d) ≡ f (kindAt k)
 unfolding kinds kindAt
 column-at h g f d e k l =
     sym (List·getD-map g (map h kinds) k d) ∙ ap (λ xs. getD xs k (g d)) e ∙ getD-any (map f kinds) k (g d) (f (kindAt 61)) l ∙ List·getD-map f kinds k (kindAt 61)
+
+-- the place of a kind's name, as it is found and as an index
+
+pub kind-below : (w : List ℕ) {k : ℕ} → place w kindNames ≡ At k → k < 61
+kind-below w e = rw names-count at (place-below 0 w kindNames e)
+
+pub kind-small : (w : List ℕ) → find w kindNames < 61
+kind-small w = rw names-count at (find-below w kindNames (rw names-count (omega arith)))
 
 -- a column of natural numbers, and one of integers in w bits
 

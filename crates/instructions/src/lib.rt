@@ -1,12 +1,13 @@
 // The 61 instruction kinds, and their table by columns. The meaning is in specs/.
 ghost use mathlib.Core.Path.{_≡_};
 ghost use Prim.Native.Nat.{_<_};
-ghost use Rattle.text.specs.Text.{find};
+ghost use Rattle.text.specs.Text.{place, among};
 ghost use Rattle.instructions.specs.Kinds.{kindNames, calls};
 ghost use Rattle.instructions.specs.Columns.{kindAt, argumentCode, rangeOf, operationCode};
 use cells::Binary;
 use cells::Unary;
 use numbers::Range;
+use text::Place;
 
 mod arguments;
 mod columns;
@@ -118,9 +119,16 @@ pub fn fixed_at(k: usize) -> i32
     columns::FIXED[k] as i32
 }
 
-// The kind that a word names, by its place in the table; 61 where it names none.
-pub fn kind_named(w: &[u8]) -> usize
-    ensures { λ r. ⌜ r ≡ find (now (w .entry)) kindNames ⌝ }
+// The kind that a word names, by its place in the table.
+pub fn kind_named(w: &[u8]) -> Place
+    ensures { λ r. ⌜ r ≡ place (now (w .entry)) kindNames ⌝ }
 {
     text::find(w, &columns::NAMES)
+}
+
+// Whether a word names a kind.
+pub fn is_kind(w: &[u8]) -> bool
+    ensures { λ r. ⌜ r ≡ among (now (w .entry)) kindNames ⌝ }
+{
+    text::is_among(w, &columns::NAMES)
 }

@@ -3,13 +3,11 @@ use Prim.Native.Nat.{ℕ, zero, suc, _+_, _-_, _<_, _≤_}
 use mathlib.Core.Path.{_≡_, refl, sym, ap, ap₂, subst, _∙_}
 use mathlib.Core.Bool.{Bool, true, false, cond, _&&_}
 use mathlib.Core.List.{List, [], _∷_}
-use mathlib.Core.Option.{Option}
 use native.Mathlib.Omega.{arith}
-use native.Mathlib.Nat.{le-of-suc-le-suc, not-suc-le-zero, eq-or-lt-of-le}
+use native.Mathlib.Nat.{eq-or-lt-of-le}
 use mathlib.Core.Logic.{⊎-elim}
 use lib.Dec.{eqb, leb, ltb}
 use lib.IntN.{ℤ, pos, negsuc, natAbs, _+ℤ_}
-use lib.ListN.{length, getElem?}
 use lib.Signed.{mag, leZ, ltZ}
 use types.Run.{OneOf, miss}
 use denote.Enum.Declared.{tagOf}
@@ -17,7 +15,8 @@ use mir.Syntax.{w64}
 use mir.Val.{SFits, ofZ, toZ}
 use mir.ValLaws.{toZ-ofZ, toZ-pos}
 use borrow.Author.Tests.{eqb-true, eqb-false, leb-true, leb-false, le-leb, lt-leb, ltb-true, ltb-false, lt-ltb, le-ltb}
-use Rattle.text.specs.Text.{among, find}
+use Rattle.text.specs.Text.{among, place}
+use Rattle.text.specs.declared.Place.the-variants.{At, Missing}
 use Rattle.text.specs.Decimal.{most}
 use Rattle.numbers.specs.declared.Range.{Range}
 use Rattle.numbers.specs.Numbers.{range, within, same}
@@ -27,54 +26,34 @@ use Rattle.instructions.proofs.Argument.{the-type}
 use Rattle.instructions.specs.Kinds.{Kind, kinds, kindNames}
 use Rattle.instructions.specs.Columns.{kindAt, rangeOf}
 use Rattle.instructions.proofs.ColumnLaws.{column-at}
-use Rattle.routine.specs.Rows.{kindNamed, argumentOf, op, onArgument, argumentInRange, argumentReaches, firstAddresses, atRange, value}
-use Rattle.text.proofs.TextLaws.{and-left, and-right}
+use Rattle.routine.specs.Rows.{argumentOf, op, onArgument, argumentInRange, argumentReaches, firstAddresses, atRange, value}
+use Rattle.text.proofs.TextLaws.{and-left, and-right, isFound, among-place}
 use Rattle.values.specs.Values.{Near}
 use Rattle.routine.proofs.RangeLaws.{Natural, natural-within}
-use Rattle.routine.proofs.CodeLaws.{some-at}
-use Rattle.lines.proofs.LineLaws.{kind-among}
 
 -- ---- the argument that OP calls for
 
-none-at : {A : Type 0} (l : List A) (k : ℕ) → length l ≤ k → getElem? l k ≡ Option.none
-none-at [] k h = refl
-none-at (x ∷ xs) zero h = absurd (not-suc-le-zero h)
-none-at (x ∷ xs) (suc k) h = none-at xs k (le-of-suc-le-suc h)
-
-kind-count : length kinds ≡ 61
-unfolding kinds
-kind-count = refl
-
-module _ (t : Argument → Bool) (line : List ℕ) {k : ℕ} (q : k ≡ find (op line) kindNames) where
+module _ (t : Argument → Bool) (line : List ℕ) where
   -- OP is unknown
-  pub on-unknown : 61 ≤ k → onArgument t line ≡ true
-  unfolding onArgument argumentOf kindNamed
-  on-unknown h =
-      let e : length kinds ≤ find (op line) kindNames = omega (arith, kind-count) in
-      ap (argumentOf t) (none-at kinds (find (op line) kindNames) e)
+  pub on-unknown : place (op line) kindNames ≡ Missing → true ≡ onArgument t line
+  unfolding onArgument argumentOf
+  on-unknown q = sym (ap (argumentOf t) q)
 
-  -- it takes the argument a
-  on-known : {a : Argument} → k < 61 → a ≡ kindAt k .argument → onArgument t line ≡ t a
-  unfolding onArgument argumentOf kindNamed kindAt kinds
-  on-known {a} h p =
-      let e : find (op line) kindNames < length kinds = omega (arith, kind-count) in
-      ap (argumentOf t) (some-at kinds (find (op line) kindNames) (kindAt 61) e)
-      ∙ ap (λ j. t (kindAt j .argument)) (sym q)
-      ∙ ap t (sym p)
+  pub op-unknown : place (op line) kindNames ≡ Missing → among (op line) kindNames ≡ false
+  op-unknown q = among-place 0 (op line) kindNames ∙ ap isFound q
 
-  -- and x is the test's answer for it
-  pub on-taken : {a : Argument} {x : Bool} → k < 61 → a ≡ kindAt k .argument → x ≡ t a → x ≡ onArgument t line
-  on-taken h p e = e ∙ sym (on-known h p)
+  module _ {k : ℕ} (q : place (op line) kindNames ≡ At k) where
+    pub op-known : among (op line) kindNames ≡ true
+    op-known = among-place 0 (op line) kindNames ∙ ap isFound q
 
-  -- or for d, which it is
-  pub on-argument : {a d : Argument} {x : Bool} → k < 61 → a ≡ kindAt k .argument → a ≡ d → x ≡ t d → x ≡ onArgument t line
-  on-argument h p r e = on-taken h p (e ∙ ap t (sym r))
+    -- it takes the argument a, and x is the test's answer for it
+    pub on-taken : {a : Argument} {x : Bool} → a ≡ kindAt k .argument → x ≡ t a → x ≡ onArgument t line
+    unfolding onArgument argumentOf
+    on-taken p e = e ∙ ap t p ∙ sym (ap (argumentOf t) q)
 
-  pub op-known : k < 61 → among (op line) kindNames ≡ true
-  op-known h = sym (kind-among (op line)) ∙ lt-ltb (find (op line) kindNames) 61 (omega arith)
-
-  pub op-unknown : 61 ≤ k → among (op line) kindNames ≡ false
-  op-unknown h = sym (kind-among (op line)) ∙ le-ltb (find (op line) kindNames) 61 (omega arith)
+    -- or for d, which it is
+    pub on-argument : {a d : Argument} {x : Bool} → a ≡ kindAt k .argument → a ≡ d → x ≡ t d → x ≡ onArgument t line
+    on-argument p r e = on-taken p (e ∙ ap t (sym r))
 
 -- the arm of all other arguments knows by the variants' numbers which they are
 

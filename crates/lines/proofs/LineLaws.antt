@@ -7,13 +7,12 @@ use native.Mathlib.Omega.{arith}
 use lib.Dec.{ltb}
 use lib.ListN.{length, take}
 use borrow.Author.Tests.{lt-ltb}
-use Rattle.text.specs.Text.{isEmpty, words, among, find, all}
+use Rattle.text.specs.Text.{isEmpty, words, all}
 use Rattle.text.specs.Decimal.{most}
 use Rattle.text.proofs.ScanLaws.{firstLength, past}
-use Rattle.text.proofs.PieceLaws.{words-more, words-last, among-find}
+use Rattle.text.proofs.PieceLaws.{words-more, words-last}
 use Rattle.numbers.specs.declared.Range.{Range}
 use Rattle.numbers.specs.Numbers.{range}
-use Rattle.instructions.specs.Kinds.{kinds, kindNames}
 use Rattle.values.specs.Values.{Near}
 
 -- ---- tests
@@ -67,12 +66,6 @@ module _ (t : List ℕ → Bool) (l : List ℕ) (n : ℕ) (q : n ≡ firstLength
   pub all-last : length l ≤ n → all t (words l) ≡ t l
   unfolding all
   all-last h = ap (all t) (words-last l n q h) ∙ and-right (t l)
-
--- ---- the name of a kind
-
-pub kind-among : (w : List ℕ) → ltb (find w kindNames) 61 ≡ among w kindNames
-unfolding kinds kindNames
-kind-among w = sym (among-find w kindNames)
 
 -- ---- a range by its name
 

@@ -5,20 +5,20 @@ use routine::Column;
 use routine::Role;
 use routine::Section;
 use routine::layout;
+use text::Place;
 ghost use mathlib.Core.Bool.{true, _&&_};
 ghost use mathlib.Core.Path.{_≡_};
 ghost use Prim.Native.Nat.{_≤_};
-ghost use Rattle.text.specs.Text.{words, find, among, all};
-ghost use Rattle.numbers.specs.Numbers.{within};
+ghost use lib.Dec.{ltb};
+ghost use Rattle.text.specs.Text.{words, place, among, all};
+ghost use Rattle.text.specs.Decimal.{numeral};
+ghost use Rattle.numbers.specs.Numbers.{within, numbers};
 ghost use Rattle.instructions.specs.Kinds.{kindNames};
 ghost use Rattle.instructions.specs.declared.Argument.the-variants.{Target};
 ghost use Rattle.routine.specs.declared.Column.the-variants.{Limit};
 ghost use Rattle.routine.specs.Layout.{list};
-ghost use Rattle.routine.specs.Rows.{op, arg, onArgument, argumentLaidOut, argumentInRange, argumentNamed, argumentReaches, firstAddresses, columnInRange, columnLaidOut, onCells, namesLaidOut, valuesLaidOut, codeLaidOut, answerLaidOut, codeInRange, answerInRange, codeNamed, codeReaches};
+ghost use Rattle.routine.specs.Rows.{isNumeral, value, op, arg, onArgument, argumentLaidOut, argumentInRange, argumentNamed, argumentReaches, firstAddresses, columnInRange, columnLaidOut, onCells, namesLaidOut, valuesLaidOut, codeLaidOut, codeInRange, codeNamed, codeReaches};
 ghost use Rattle.lines.specs.Lines.{wordTest};
-
-// The number of kinds.
-const KINDS: usize = 61;
 
 // What a word is tested for: that it is not empty, spells a number, one of a price's cycles or words, a cell, a cell in range, a
 // handle of one of the blocks that are present, a cell that is known, the name of a kind, a name that a primitive may have.
@@ -49,7 +49,7 @@ fn word_passes(t: WordTest, w: &[u8]) -> bool
         WordTest::CellRange => values::cell_in_range(w),
         WordTest::Present(n) => values::cell_present(n as usize, w),
         WordTest::Known => values::is_known(w),
-        WordTest::Kind => instructions::kind_named(w) < KINDS,
+        WordTest::Kind => instructions::is_kind(w),
         WordTest::Primitive => names::is_name(w),
     }
 }
@@ -154,9 +154,9 @@ pub fn cells_pass(t: WordTest, role: Role, line: &[u8]) -> bool
 
 // ---- code lines
 
-// The kind that OP names, by its place in the table; 61 where it names none.
-pub fn kind_of(line: &[u8]) -> usize
-    ensures { λ r. ⌜ r ≡ find (op (now (line .entry))) kindNames ⌝ }
+// The kind that OP names, by its place in the table.
+fn kind_of(line: &[u8]) -> Place
+    ensures { λ r. ⌜ r ≡ place (op (now (line .entry))) kindNames ⌝ }
 {
     instructions::kind_named(text::word_at(line, 1))
 }
@@ -164,10 +164,9 @@ pub fn kind_of(line: &[u8]) -> usize
 fn argument_laid_out(line: &[u8]) -> bool
     ensures { λ r. ⌜ r ≡ onArgument (argumentLaidOut (arg (now (line .entry)))) (now (line .entry)) ⌝ }
 {
-    let k = kind_of(line);
-    if KINDS <= k {
+    let Place::At(k) = kind_of(line) else {
         return true;
-    }
+    };
     let w = text::word_at(line, 2);
     match instructions::argument_at(k) {
         Argument::Absent => text::same(w, b"-"),
@@ -196,10 +195,9 @@ pub fn code_laid_out(k: usize, line: &[u8]) -> bool
 fn argument_in_range(line: &[u8]) -> bool
     ensures { λ r. ⌜ r ≡ onArgument (argumentInRange (arg (now (line .entry)))) (now (line .entry)) ⌝ }
 {
-    let k = kind_of(line);
-    if KINDS <= k {
+    let Place::At(k) = kind_of(line) else {
         return true;
-    }
+    };
     let w = text::word_at(line, 2);
     match instructions::argument_at(k) {
         Argument::Target => values::is_within(instructions::range_at(k), w),
@@ -223,10 +221,9 @@ pub fn code_in_range(k: usize, line: &[u8]) -> bool
 fn argument_named(primitives: &[u8], line: &[u8]) -> bool
     ensures { λ r. ⌜ r ≡ (among (op (now (line .entry))) kindNames && onArgument (argumentNamed (list (now (primitives .entry))) (arg (now (line .entry)))) (now (line .entry))) ⌝ }
 {
-    let k = kind_of(line);
-    if KINDS <= k {
+    let Place::At(k) = kind_of(line) else {
         return false;
-    }
+    };
     let w = text::word_at(line, 2);
     if instructions::calls_at(k) {
         return layout::is_listed(w, primitives);
@@ -287,10 +284,9 @@ pub fn code_reaches(first: i64, n: usize, line: &[u8]) -> bool
     requires { ⌜ n ≤ 32768 ⌝ }
     ensures { λ r. ⌜ r ≡ codeReaches first n (now (line .entry)) ⌝ }
 {
-    let k = kind_of(line);
-    if KINDS <= k {
+    let Place::At(k) = kind_of(line) else {
         return true;
-    }
+    };
     let Argument::Target = instructions::argument_at(k) else {
         return true;
     };
@@ -301,7 +297,7 @@ pub fn code_reaches(first: i64, n: usize, line: &[u8]) -> bool
 
 // Row 2 on answer k.
 pub fn answer_laid_out(k: usize, line: &[u8]) -> bool
-    ensures { λ r. ⌜ r ≡ answerLaidOut k (now (line .entry)) ⌝ }
+    ensures { λ r. ⌜ r ≡ (ltb k 64 && isNumeral (numeral (now (line .entry)))) ⌝ }
 {
     if 64 <= k {
         return false;
@@ -311,7 +307,7 @@ pub fn answer_laid_out(k: usize, line: &[u8]) -> bool
 
 // Row 3 on an answer.
 pub fn answer_in_range(line: &[u8]) -> bool
-    ensures { λ r. ⌜ r ≡ answerInRange (now (line .entry)) ⌝ }
+    ensures { λ r. ⌜ r ≡ within numbers (value (now (line .entry))) ⌝ }
 {
     values::is_within(values::number_range(), line)
 }

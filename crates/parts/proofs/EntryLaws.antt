@@ -7,10 +7,11 @@ use native.Mathlib.Omega.{arith}
 use native.Mathlib.Numerals.{add-one}
 use lib.Dec.{leb}
 use lib.IntN.{ℤ}
-use lib.ListN.{length, getD, take, set, length-map, List·getD-eq-default}
+use lib.ListN.{length, getD, take, set, length-map}
 use lib.Seq.{take-suc, take-suc-set, length-take-le}
 use borrow.Author.Tests.{le-leb, lt-leb}
-use Rattle.text.specs.Text.{find, Line, noLine}
+use Rattle.text.specs.Text.{place, indexOf, find, Line, noLine}
+use Rattle.text.specs.declared.Place.{Place}
 use Rattle.numbers.specs.declared.Comparison.the-variants.{Equal, Unequal, Less, AtMost, Greater, AtLeast}
 use Rattle.numbers.specs.declared.Range.{Range}
 use Rattle.numbers.specs.Numbers.{numbers, range}
@@ -20,7 +21,7 @@ use Rattle.instructions.specs.declared.Argument.{Argument}
 use Rattle.instructions.specs.declared.Argument.the-variants.{Absent, Target, Primitive, Within}
 use Rattle.instructions.specs.declared.Operation.{Operation}
 use Rattle.instructions.specs.declared.Operation.the-variants.{Nothing, Access, Drop, Assign, Constant, GetField, SetField, Branch, BranchIf, BranchIfNot, Call, Stop, Alter, Combine}
-use Rattle.instructions.specs.Kinds.{Kind, kinds, kindNames, operand, calls, addresses}
+use Rattle.instructions.specs.Kinds.{Kind, kindNames, operand, calls, addresses}
 use Rattle.instructions.specs.Columns.{kindAt, operationCode, unaryCode, binaryCode, comparisonCode, operations, operationOf}
 use Rattle.machine.specs.Machine.{Price, Instruction, instruction, priceOf}
 use Rattle.states.specs.Columns.{line, lineOf, instructionsOf}
@@ -30,10 +31,10 @@ use Rattle.routine.proofs.RangeLaws.{natural-inside}
 use Rattle.values.specs.Values.{NaturalRange}
 use Rattle.parts.specs.Parts.{PriceRange, Coded}
 
--- past the table's end stands its last kind
-pub kind-past : (k : ℕ) → 61 ≤ k → kindAt 60 ≡ kindAt k
-unfolding kindAt kinds
-kind-past k h = sym (List·getD-eq-default kinds _ h)
+-- where a word is found, as an index
+pub found : (ws : List (List ℕ)) (w v : List ℕ) (p : Place) {k : ℕ} → k ≡ indexOf p → p ≡ place w ws → w ≡ v → k ≡ find v ws
+unfolding find
+found ws w v p i e q = i ∙ ap indexOf e ∙ ap (λ u. indexOf (place u ws)) q
 
 -- an operation by its code
 

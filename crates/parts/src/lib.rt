@@ -111,14 +111,6 @@ pub fn start_of(values: &[u8], first: usize) -> State
 
 // ---- code lines
 
-// A place of the table: k, or that of the last kind where k is past the table.
-fn table_place(k: usize) -> usize
-    ensures kind { λ r. ⌜ kindAt r ≡ kindAt k ⌝ }
-    ensures place { λ r. ⌜ r < 61 ⌝ }
-{
-    if k < 61 { k } else { 60 }
-}
-
 // n where b is true, else 0.
 fn where_true(b: bool, n: u8) -> u8
     ensures { λ r. ⌜ r ≡ cond b n 0 ⌝ }
@@ -186,10 +178,10 @@ pub fn entry_of(
 {
     let op = text::word_at(text, 1);
     let arg = text::word_at(text, 2);
-    let k = table_place(instructions::kind_named(op));
+    let k = text::index_of(instructions::kind_named(op));
     let called = instructions::calls_at(k);
-    let i = layout::place_listed(kinds, op);
-    let j = layout::place_listed(primitives, arg);
+    let i = text::index_of(layout::place_listed(kinds, op));
+    let j = text::index_of(layout::place_listed(primitives, arg));
     let code = code_of(k);
     let operand = operand_of(k, arg);
     let cycles = price_of(

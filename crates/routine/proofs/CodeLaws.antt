@@ -1,26 +1,25 @@
 -- What rows 2 and 4 say of a code line, part by part, and that the kind that OP names is known. Assumes nothing.
-use Prim.Native.Nat.{ℕ, zero, suc, _<_}
-use mathlib.Core.Path.{_≡_, refl, subst}
-use mathlib.Core.Bool.{Bool, true, _&&_}
-use mathlib.Core.List.{List, [], _∷_}
-use mathlib.Core.Option.{some}
-use native.Mathlib.Omega.{arith}
+use Prim.Native.Nat.{ℕ, _<_}
+use mathlib.Core.Path.{_≡_, refl, sym, subst, _∙_}
+use mathlib.Core.Bool.{Bool, true, _&&_, false≢true}
+use mathlib.Core.List.{List}
 use lib.Dec.{eqb, ltb}
 use lib.IntN.{pos, _+ℤ_}
-use lib.ListN.{length, getD, getElem?, length-map}
+use lib.ListN.{length}
 use borrow.Author.Tests.{eqb-true, ltb-true}
-use Rattle.text.specs.Text.{words, Line, find, among}
+use Rattle.text.specs.Text.{words, Line, place, among}
+use Rattle.text.specs.declared.Place.{Place}
+use Rattle.text.specs.declared.Place.the-variants.{At, Missing}
 use Rattle.text.specs.Decimal.{numeral}
-use Rattle.text.proofs.TextLaws.{and-left, and-right, find-below}
+use Rattle.text.proofs.TextLaws.{and-left, and-right, isFound, among-place}
 use Rattle.numbers.specs.Numbers.{same}
-use Rattle.instructions.specs.Kinds.{Kind, kindNames}
+use Rattle.instructions.specs.Kinds.{kindNames}
 use Rattle.instructions.specs.declared.Argument.{Argument}
-use Rattle.instructions.specs.Kinds as table
 use Rattle.instructions.specs.Columns.{kindAt}
 use Rattle.routine.specs.declared.Section.the-variants.{Primitives as primitives}
 use Rattle.routine.specs.declared.Role.the-variants.{Names as names, Code as code}
 use Rattle.routine.specs.Layout.{body, listed}
-use Rattle.routine.specs.Rows.{codeLaidOut, codeNamed, isNumeral, value, kindNamed, argumentOf, at, op, arg, onArgument, argumentLaidOut, argumentNamed, laidOut, firstAt, named}
+use Rattle.routine.specs.Rows.{codeLaidOut, codeNamed, isNumeral, value, argumentOf, at, op, arg, onArgument, argumentLaidOut, argumentNamed, laidOut, firstAt, named}
 
 pub record CodeLaidOut (k : ℕ) (text : List ℕ) : Type 0 where
   pub few : k < 1024
@@ -57,17 +56,15 @@ code-named ls k text e =
     let e₂ = and-left (follows && kind) argument e in
     record { kind = and-right follows kind e₂; argument = and-right (follows && kind) argument e }
 
-pub some-at : {A : Type 0} (xs : List A) (i : ℕ) (d : A) → i < length xs → getElem? xs i ≡ some (getD xs i d)
-some-at [] i d h = absurd (omega arith)
-some-at (x ∷ xs) zero d h = refl
-some-at (x ∷ xs) (suc i) d h = some-at xs i d (omega arith)
+-- a kind's name has a place in the table
+pub kind-there : (w : List ℕ) → among w kindNames ≡ true → (k : ℕ) × (place w kindNames ≡ At k)
+kind-there w e = go (place w kindNames) refl (sym (among-place 0 w kindNames) ∙ e)
+  where
+    go : (p : Place) → place w kindNames ≡ p → isFound p ≡ true → (k : ℕ) × (place w kindNames ≡ At k)
+    go (At k) q f = (k, q)
+    go Missing q f = absurd (false≢true f)
 
--- a kind's name has its kind
-pub kind-there : (w : List ℕ) → among w kindNames ≡ true → (k : Kind) × (kindNamed w ≡ some k)
-unfolding kindNamed kindNames kindAt
-kind-there w e = (kindAt (find w kindNames), some-at table.kinds (find w kindNames) _ (rw length-map at (find-below w kindNames e)))
-
--- a test of the argument is one of what that kind calls for
-pub on-kind : (t : Argument → Bool) (text : List ℕ) (k : Kind) → kindNamed (op text) ≡ some k → onArgument t text ≡ true → t (k .argument) ≡ true
+-- a test of the argument is one of what the kind there calls for
+pub on-kind : (t : Argument → Bool) (text : List ℕ) (k : ℕ) → place (op text) kindNames ≡ At k → onArgument t text ≡ true → t (kindAt k .argument) ≡ true
 unfolding onArgument argumentOf
-on-kind t text k e h = subst (λ o. argumentOf t o ≡ true) e h
+on-kind t text k e h = subst (λ p. argumentOf t p ≡ true) e h

@@ -21,7 +21,7 @@ use Rattle.routine.specs.declared.Row.{Row}
 use Rattle.routine.specs.declared.Row.the-variants.{Layout as layout-row, Range as range-row}
 use Rattle.routine.specs.declared.RefusedLine.the-variants.{Nowhere as nowhere}
 use Rattle.routine.specs.Layout.{layout, isAnswer, body, upToAnswer, pastAnswer, codeLines, answerLines, answerRoles, codeRoles, bodyRoles, roles, listed}
-use Rattle.routine.specs.Rows.{value, isNumeral, at, arg, onArgument, argumentInRange, firstAddresses, answerLaidOut, laidOut, codeInRange, inRange, blockSizes, total, wellNamed, named, firstAt, test, refusedLine, Passes}
+use Rattle.routine.specs.Rows.{value, isNumeral, at, arg, onArgument, argumentInRange, firstAddresses, laidOut, codeInRange, inRange, blockSizes, total, wellNamed, named, firstAt, test, refusedLine, Passes}
 use Rattle.routine.specs.Routine.{inside}
 use Rattle.routine.proofs.RowLaws.{Covered, passed, row-covered, laid-out, passes-named}
 use Rattle.routine.proofs.RangeLaws.{natural-within, inside-is, natural-inside, cells-few, values-counted}
@@ -118,7 +118,7 @@ module _ (ls : List Line) where
   code-below k l p = code-laid-out ls k (l .text) (laid-out ls (code k) l p) .few
 
   answer-below : (k : ℕ) (l : Line) → test layout-row ls (answer k) l ≡ true → k < 64
-  unfolding laidOut answerLaidOut
+  unfolding laidOut
   answer-below k l p = ltb-true k 64 (and-left (ltb k 64) (isNumeral (numeral (l .text))) (laid-out ls (answer k) l p))
 
   -- code line k and the lines after it, up to ANSWER

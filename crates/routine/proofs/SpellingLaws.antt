@@ -15,6 +15,7 @@ use Rattle.text.specs.Decimal.{numeral, isDigit, digits, decimal}
 use Rattle.text.proofs.TextLaws.{Every, more, every-append, every-left, every-map, all-every, and-left, and-right, equals-path, among-every, split-every, lines-every}
 use Rattle.text.proofs.DecimalLaws.{digit-ascii, decimal-digits, numeral-ascii}
 use Rattle.instructions.specs.Kinds.{kindNames}
+use Rattle.instructions.specs.Columns.{kindAt}
 use Rattle.instructions.specs.declared.Argument.{Argument}
 use Rattle.instructions.specs.declared.Argument.the-variants.{Absent, Target, Primitive, Within}
 use Rattle.instructions.specs.Kinds as table
@@ -27,7 +28,7 @@ use Rattle.routine.specs.declared.Role.the-variants.{Names as names, Val
 use Rattle.routine.specs.Layout.{list, listed}
 use Rattle.routine.specs.declared.CellWord.the-variants.{Unknown as unknown}
 use Rattle.routine.specs.declared.Row.the-variants.{Layout as layout-row, Name as name-row}
-use Rattle.routine.specs.Rows.{valuesLaidOut, codeLaidOut, answerLaidOut, codeNamed, isNumeral, knownOf, blockOf, hashed, cellWord, isCell, isCapital, inName, isName, stackNames, cellNames, isField, sizesFrom, blockSizes, total, at, op, arg, argumentLaidOut, argumentNamed, columnLaidOut, namesLaidOut, laidOut, wellNamed, named, test, Passes}
+use Rattle.routine.specs.Rows.{valuesLaidOut, codeLaidOut, codeNamed, isNumeral, knownOf, blockOf, hashed, cellWord, isCell, isCapital, inName, isName, stackNames, cellNames, isField, sizesFrom, blockSizes, total, at, op, arg, argumentLaidOut, argumentNamed, columnLaidOut, namesLaidOut, laidOut, wellNamed, named, test, Passes}
 use Rattle.routine.proofs.RowLaws.{held-lines, laid-out, passes-named, lists-path}
 use Rattle.routine.proofs.CodeLaws.{CodeLaidOut, code-laid-out, CodeNamed, code-named, kind-there, on-kind}
 
@@ -206,9 +207,9 @@ three (x ∷ y ∷ z ∷ v ∷ vs) e a b c = absurd (omega arith)
 module _ (ls : List Line) (k : ℕ) (text : List ℕ) (ps : Every Ascii (listed (names primitives) ls)) (l : CodeLaidOut k text) (n : CodeNamed ls k text) where
   arg-ascii : Ascii (arg text)
   arg-ascii =
-      let (kind, e) = kind-there (op text) (n .kind) in
-      argument-ascii (listed (names primitives) ls) ps (arg text) (kind .argument)
-      (on-kind (argumentLaidOut (arg text)) text kind e (l .argument)) (on-kind (argumentNamed (listed (names primitives) ls) (arg text)) text kind e (n .argument))
+      let (k, e) = kind-there (op text) (n .kind) in
+      argument-ascii (listed (names primitives) ls) ps (arg text) (kindAt k .argument)
+      (on-kind (argumentLaidOut (arg text)) text k e (l .argument)) (on-kind (argumentNamed (listed (names primitives) ls) (arg text)) text k e (n .argument))
 
   code-ascii : Ascii text
   unfolding words
@@ -217,7 +218,7 @@ module _ (ls : List Line) (k : ℕ) (text : List ℕ) (ps : Every Ascii (listed 
       (three (words text) (l .three) (spelt-ascii (at text) (l .spelt)) (among-every (op text) kindNames (n .kind) kind-names-ascii) arg-ascii)
 
 line-ascii : (ls : List Line) → Passes ls → (r : Role) (text : List ℕ) → laidOut ls r text ≡ true → named ls r text ≡ true → Ascii text
-unfolding laidOut valuesLaidOut codeLaidOut answerLaidOut named codeNamed listed
+unfolding laidOut valuesLaidOut codeLaidOut named codeNamed listed
 line-ascii ls p (names s) text l n = names-ascii s text l n
 line-ascii ls p (values s c) text l n =
     list-ascii text (column-ascii c (list text) (and-right (eqb (length (list text)) (length (listed (names s) ls))) (columnLaidOut c (list text)) l))

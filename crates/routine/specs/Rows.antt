@@ -4,21 +4,22 @@ use Prim.Native.Nat.{ℕ, zero, suc, _+_}
 use mathlib.Core.Path.{_≡_}
 use mathlib.Core.Bool.{Bool, true, false, cond, not, _&&_}
 use mathlib.Core.List.{List, [], _∷_, _++_}
-use mathlib.Core.Option.{Option, some}
 use lib.Dec.{eqb, leb, ltb}
 use lib.IntN.{ℤ, pos, natAbs, _+ℤ_}
 use lib.Signed.{leZ, ltZ}
-use lib.ListN.{length, getD, take, getElem?}
-use Rattle.text.specs.Text.{bytes, isEmpty, equals, words, Line, find, among, all, distinct}
+use lib.ListN.{length, getD, take}
+use Rattle.text.specs.Text.{bytes, isEmpty, equals, words, Line, place, among, all, distinct}
+use Rattle.text.specs.declared.Place.{Place}
+use Rattle.text.specs.declared.Place.the-variants.{At, Missing}
 use Rattle.text.specs.declared.Numeral.{Numeral}
 use Rattle.text.specs.declared.Numeral.the-variants.{Misspelt as misspelt, Number as number}
 use Rattle.text.specs.Decimal.{numeral, isDigit, decimal}
 use Rattle.numbers.specs.declared.Range.{Range}
 use Rattle.numbers.specs.Numbers.{range, within, numbers, same}
-use Rattle.instructions.specs.Kinds.{addresses, calls, Kind, kindNames}
+use Rattle.instructions.specs.Kinds.{addresses, calls, kindNames}
+use Rattle.instructions.specs.Columns.{kindAt}
 use Rattle.instructions.specs.declared.Argument.{Argument}
 use Rattle.instructions.specs.declared.Argument.the-variants.{Absent, Target, Primitive, Within}
-use Rattle.instructions.specs.Kinds as table
 use Rattle.routine.specs.declared.Section.{Section}
 use Rattle.routine.specs.declared.Section.the-variants.{Limits as limits, Kinds as kinds, Primitives as primitives, Cells as cells, Fields as fields, Instructions as instructions, Answers as answers}
 use Rattle.routine.specs.declared.Column.{Column}
@@ -152,14 +153,10 @@ total (n ∷ ns) = n + total ns
 
 -- ---- a code line: "AT OP ARG"
 
--- the kind of a name, if it is one
-unfoldable pub kindNamed : List ℕ → Option Kind
-kindNamed w = getElem? table.kinds (find w kindNames)
-
--- "The ARG of an unknown OP is not looked at.": a test of the argument that OP calls for, passed where OP is unknown
-unfoldable pub argumentOf : (Argument → Bool) → Option Kind → Bool
-argumentOf t Option.none = true
-argumentOf t (some k) = t (k .argument)
+-- "The ARG of an unknown OP is not looked at.": a test of the argument that the kind at a place calls for, passed where OP is no kind
+unfoldable pub argumentOf : (Argument → Bool) → Place → Bool
+argumentOf t Missing = true
+argumentOf t (At k) = t (kindAt k .argument)
 
 -- AT
 abbrev pub at : List ℕ → List ℕ
@@ -175,7 +172,7 @@ arg text = getD (words text) 2 []
 
 -- the same of a code line
 unfoldable pub onArgument : (Argument → Bool) → List ℕ → Bool
-onArgument t text = argumentOf t (kindNamed (op text))
+onArgument t text = argumentOf t (place (op text) kindNames)
 
 -- "ARG is `-` where none"; a primitive's name is looked up in row 4
 unfoldable pub argumentLaidOut : List ℕ → Argument → Bool
@@ -278,31 +275,23 @@ valuesLaidOut c ns ws = eqb (length ws) (length ns) && columnLaidOut c ws
 unfoldable pub codeLaidOut : ℕ → List ℕ → Bool
 codeLaidOut k text = ltb k 1024 && eqb (length (words text)) 3 && isNumeral (numeral (at text)) && onArgument (argumentLaidOut (arg text)) text
 
--- on answer k: "a 65th answer"
-unfoldable pub answerLaidOut : ℕ → List ℕ → Bool
-answerLaidOut k text = ltb k 64 && isNumeral (numeral text)
-
--- row 2: "layout, counts, spelling of a number, an ARG missing or not called for"
+-- row 2: "layout, counts, spelling of a number, an ARG missing or not called for"; among the answers "a 65th answer"
 unfoldable pub laidOut : List Line → Role → List ℕ → Bool
 laidOut ls (names s) text = namesLaidOut s text
 laidOut ls (values s c) text = valuesLaidOut c (listed (names s) ls) (list text)
 laidOut ls (code k) text = codeLaidOut k text
-laidOut ls (answer k) text = answerLaidOut k text
+laidOut ls (answer k) text = ltb k 64 && isNumeral (numeral text)
 
 -- row 3 on code line k
 unfoldable pub codeInRange : ℕ → List ℕ → Bool
 codeInRange k text = within (atRange k) (value (at text)) && onArgument (argumentInRange (arg text)) text
 
--- on an answer, which is any 32-bit number
-unfoldable pub answerInRange : List ℕ → Bool
-answerInRange text = within numbers (value text)
-
--- row 3: "number outside its range"
+-- row 3: "number outside its range"; an answer is any 32-bit number
 unfoldable pub inRange : Role → List ℕ → Bool
 inRange (names s) text = true
 inRange (values s c) text = columnInRange c (list text)
 inRange (code k) text = codeInRange k text
-inRange (answer k) text = answerInRange text
+inRange (answer k) text = within numbers (value text)
 
 -- row 4 on a line of names: "name unknown, repeated or out of sequence"
 unfoldable pub wellNamed : Section → List (List ℕ) → Bool

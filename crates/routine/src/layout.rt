@@ -4,11 +4,12 @@ use crate::Column;
 use crate::Role;
 use crate::Section;
 use numbers::Range;
+use text::Place;
 ghost use mathlib.Core.Path.{_≡_};
 ghost use mathlib.Core.List.{[]};
 ghost use Prim.Native.Nat.{_<_};
 ghost use lib.ListN.{length, getD};
-ghost use Rattle.text.specs.Text.{lines, find, among};
+ghost use Rattle.text.specs.Text.{lines, place, among};
 ghost use Rattle.instructions.specs.Kinds.{addresses};
 ghost use Rattle.routine.specs.declared.Role.the-variants.{Code};
 ghost use Rattle.routine.specs.Layout.{layout, body, codeLines, list, sectionPlace, columnPlace, isNames, isValues, isRole, holdsCells, textAt};
@@ -192,12 +193,12 @@ pub fn is_listed(w: &[u8], line: &[u8]) -> bool
     text::is_among(w, line)
 }
 
-// Where a word stands among those listed on a line, counted from 0; their number where it is none of them.
-pub fn place_listed(line: &[u8], w: &[u8]) -> usize
-    ensures { λ r. ⌜ r ≡ find (now (w .entry)) (list (now (line .entry))) ⌝ }
+// Where a word stands among those listed on a line.
+pub fn place_listed(line: &[u8], w: &[u8]) -> Place
+    ensures { λ r. ⌜ r ≡ place (now (w .entry)) (list (now (line .entry))) ⌝ }
 {
     if text::same(line, b"-") {
-        return 0;
+        return Place::Missing;
     }
     text::find(w, line)
 }

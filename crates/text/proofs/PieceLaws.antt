@@ -7,9 +7,8 @@ use native.Mathlib.Omega.{arith}
 use lib.Dec.{eqb, ltb}
 use lib.ListN.{length, getD, take, List·getD-eq-default}
 use lib.Seq.{take-all}
-use borrow.Author.Tests.{ltb-true, ltb-false, lt-ltb}
-use Rattle.text.specs.Text.{equals, onto, split, words, find, among}
-use Rattle.text.proofs.TextLaws.{ltb-suc}
+use borrow.Author.Tests.{ltb-true, ltb-false}
+use Rattle.text.specs.Text.{onto, split, words}
 use Rattle.text.proofs.ScanLaws.{firstLength, past, onto-first, cut-more, cut-last}
 
 -- the number of pieces
@@ -89,13 +88,3 @@ pub word-here : (l : List ℕ) (n k : ℕ) → n ≡ firstLength 32 l → k ≤ 
 unfolding words
 word-here l n zero q h = first-piece 32 l n q
 word-here l n (suc k) q h = absurd (omega arith)
-
--- w is among words exactly if a search finds it before their end
-pub among-find : (w : List ℕ) (ws : List (List ℕ)) → among w ws ≡ ltb (find w ws) (length ws)
-unfolding among find
-among-find w [] = refl
-among-find w (x ∷ xs) = go (equals w x) (among-find w xs)
-  where
-    go : (b : Bool) → among w xs ≡ ltb (find w xs) (length xs) → cond b true (among w xs) ≡ ltb (cond b 0 (suc (find w xs))) (suc (length xs))
-    go true e = sym (lt-ltb 0 (suc (length xs)) (omega arith))
-    go false e = e ∙ ltb-suc (find w xs) (length xs)

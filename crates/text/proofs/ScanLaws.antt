@@ -12,7 +12,8 @@ use lib.Dec.{eqb}
 use lib.ListN.{length, getD, take, drop, length-drop, drop-of-length-le}
 use lib.Seq.{drop-cons, take-all}
 use borrow.Author.Tests.{eq-eqb, ne-eqb}
-use Rattle.text.specs.Text.{equals, onto, split, words, find}
+use Rattle.text.specs.Text.{equals, onto, split, words, placeFrom}
+use Rattle.text.specs.declared.Place.the-variants.{At, Missing}
 
 -- the length of a text's first piece
 abbrev pub firstLength : ℕ → List ℕ → ℕ
@@ -104,15 +105,15 @@ equals-end a b i h k =
 
 -- a search among the words of l, whose first word has the length n: that word is w, it is another, or it is the last
 
-pub find-here : (w l : List ℕ) (n : ℕ) → n ≡ firstLength 32 l → n < length l → equals w (take n l) ≡ true → find w (words l) ≡ 0
-unfolding find words
-find-here w l n q h e = rw (cut-more 32 l n q h, e) refl
+module _ (k : ℕ) (w l : List ℕ) (n : ℕ) (q : n ≡ firstLength 32 l) where
+  pub find-here : n < length l → equals w (take n l) ≡ true → placeFrom k w (words l) ≡ At k
+  unfolding words
+  find-here h e = rw (cut-more 32 l n q h, e) refl
 
-pub find-next : (w l : List ℕ) (n : ℕ) → n ≡ firstLength 32 l → n < length l → equals w (take n l) ≡ false
-    → find w (words l) ≡ suc (find w (words (past n l)))
-unfolding find words
-find-next w l n q h e = rw (cut-more 32 l n q h, e) refl
+  pub find-next : n < length l → equals w (take n l) ≡ false → placeFrom k w (words l) ≡ placeFrom (k + 1) w (words (past n l))
+  unfolding words
+  find-next h e = rw (cut-more 32 l n q h, e, add-one k) refl
 
-pub find-last : (w l : List ℕ) (n : ℕ) → n ≡ firstLength 32 l → length l ≤ n → find w (words l) ≡ cond (equals w l) 0 1
-unfolding find words
-find-last w l n q h = rw (cut-last 32 l n q h) refl
+  pub find-last : length l ≤ n → placeFrom k w (words l) ≡ cond (equals w l) (At k) Missing
+  unfolding words
+  find-last h = rw (cut-last 32 l n q h) refl

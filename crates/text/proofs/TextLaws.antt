@@ -3,12 +3,14 @@
 use mathlib.Core.Path.{_≡_, refl, sym, ap₂, subst, _∙_}
 use mathlib.Core.Bool.{Bool, true, false, cond, false≢true, and-eq-true-iff, _&&_}
 use mathlib.Core.List.{List, [], _∷_, _++_}
-use Prim.Native.Nat.{ℕ, zero, suc, _<_, _≤_}
+use Prim.Native.Nat.{ℕ, zero, suc, _+_, _<_, _≤_}
 use native.Mathlib.Omega.{arith}
 use lib.Dec.{eqb, leb, ltb}
 use lib.ListN.{length, getD}
 use borrow.Author.Tests.{eqb-true, ltb-true, ltb-false, lt-ltb, le-ltb, leb-true, leb-false, le-leb, lt-leb}
-use Rattle.text.specs.Text.{equals, onto, split, linesOf, lines, find, among, all}
+use Rattle.text.specs.Text.{equals, onto, split, linesOf, lines, placeFrom, place, indexOf, find, among, all}
+use Rattle.text.specs.declared.Place.{Place}
+use Rattle.text.specs.declared.Place.the-variants.{At, Missing}
 
 -- tests that hold together
 
@@ -95,14 +97,35 @@ among-every {P} w (x ∷ xs) e (more p ps) = go (equals w x) refl e (λ q. among
     go true s q ih = subst P (sym (equals-path w x s)) p
     go false s q ih = ih q
 
-pub find-below : (w : List ℕ) (ws : List (List ℕ)) → among w ws ≡ true → find w ws < length ws
-unfolding among find
-find-below w [] e = absurd (false≢true e)
-find-below w (x ∷ xs) e = go (equals w x) e (find-below w xs)
+abbrev pub isFound : Place → Bool
+isFound (At k) = true
+isFound Missing = false
+
+pub among-place : (k : ℕ) (w : List ℕ) (ws : List (List ℕ)) → among w ws ≡ isFound (placeFrom k w ws)
+unfolding among
+among-place k w [] = refl
+among-place k w (x ∷ xs) = go (equals w x) (among-place (suc k) w xs)
   where
-    go : (b : Bool) → cond b true (among w xs) ≡ true → (among w xs ≡ true → find w xs < length xs) → cond b 0 (suc (find w xs)) < suc (length xs)
-    go true q ih = omega arith
+    go : (b : Bool) → among w xs ≡ isFound (placeFrom (suc k) w xs) → cond b true (among w xs) ≡ isFound (cond b (At k) (placeFrom (suc k) w xs))
+    go true e = refl
+    go false e = e
+
+-- its place is one of theirs
+pub place-below : (k : ℕ) (w : List ℕ) (ws : List (List ℕ)) {n : ℕ} → placeFrom k w ws ≡ At n → n < k + length ws
+place-below k w [] e = let z : _≡_ {A = ℕ} 0 1 = cc in absurd (omega arith)
+place-below k w (x ∷ xs) {n} e = go (equals w x) e (place-below (suc k) w xs)
+  where
+    go : (b : Bool) → cond b (At k) (placeFrom (suc k) w xs) ≡ At n → (placeFrom (suc k) w xs ≡ At n → n < suc k + length xs) → n < k + suc (length xs)
+    go true q ih = let f : k ≡ n = cc in omega arith
     go false q ih = omega (arith, ih q)
+
+pub find-below : (w : List ℕ) (ws : List (List ℕ)) → 0 < length ws → find w ws < length ws
+unfolding find
+find-below w ws h = go (place w ws) refl
+  where
+    go : (p : Place) → place w ws ≡ p → indexOf p < length ws
+    go (At k) e = omega (arith, place-below 0 w ws e)
+    go Missing e = h
 
 -- the bytes of a text's pieces
 

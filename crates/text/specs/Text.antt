@@ -6,6 +6,8 @@ use Prim.Native.String.{String, [] as ends, _∷_ as _then_}
 use mathlib.Core.Bool.{Bool, true, false, cond, not, _&&_}
 use mathlib.Core.List.{List, [], _∷_}
 use lib.Dec.{eqb}
+use Rattle.text.specs.declared.Place.{Place}
+use Rattle.text.specs.declared.Place.the-variants.{At, Missing}
 
 -- the bytes of a quoted text, which is ASCII
 abbrev pub bytes : String → List ℕ
@@ -57,10 +59,23 @@ linesOf (p ∷ q ∷ ps) = record { text = p; ended = true } ∷ linesOf (q ∷ 
 unfoldable pub lines : List ℕ → List Line
 lines text = linesOf (split 10 text)
 
--- where the first of the given words is w, counted from 0; their number where none is
+-- where the first of the given words is w, counted from k, if it is one of them
+abbrev pub placeFrom : ℕ → List ℕ → List (List ℕ) → Place
+placeFrom k w [] = Missing
+placeFrom k w (x ∷ xs) = cond (equals w x) (At k) (placeFrom (suc k) w xs)
+
+-- counted from 0
+abbrev pub place : List ℕ → List (List ℕ) → Place
+place w ws = placeFrom 0 w ws
+
+-- a place as an index; 0 where the word is missing
+abbrev pub indexOf : Place → ℕ
+indexOf (At k) = k
+indexOf Missing = 0
+
+-- the place of w as an index
 unfoldable pub find : List ℕ → List (List ℕ) → ℕ
-find w [] = 0
-find w (x ∷ xs) = cond (equals w x) 0 (suc (find w xs))
+find w ws = indexOf (place w ws)
 
 -- whether w is one of the given words
 unfoldable pub among : List ℕ → List (List ℕ) → Bool

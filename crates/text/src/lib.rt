@@ -2,7 +2,7 @@
 ghost use lib.ListN.{length, getD, drop};
 ghost use mathlib.Core.List.{[]};
 ghost use mathlib.Core.Path.{_≡_};
-ghost use Rattle.text.specs.Text.{equals, split, words, lines, noLine, find, among};
+ghost use Rattle.text.specs.Text.{equals, split, words, lines, noLine, place, indexOf, among};
 ghost use Prim.Native.Nat.{suc, _+_, _-_, _*_, _≤_, min};
 ghost use Rattle.text.specs.Decimal.{digitsFrom, natural, negative, numeral, most, clamped, decimal};
 ghost use Rattle.text.specs.Magnitude.{held, toNumeral};
@@ -12,6 +12,12 @@ ghost use Rattle.text.specs.Memory.{over};
 pub enum Numeral {
     Misspelt,
     Number(i64),
+}
+
+// Where a word stands among others, counted from 0, or that it is none of them.
+pub enum Place {
+    At(usize),
+    Missing,
 }
 
 // What is held of a natural number while it is read.
@@ -53,22 +59,36 @@ pub fn piece_length(s: &[u8], c: u8) -> usize
     i
 }
 
-// Where the first word of text stands that is w, counted from 0; the number of words where none is.
-pub fn find(w: &[u8], text: &[u8]) -> usize
-    ensures { λ r. ⌜ r ≡ find (now (w .entry)) (words (now (text .entry))) ⌝ }
+// Where the first word of text stands that is w, counted from 0.
+pub fn find(w: &[u8], text: &[u8]) -> Place
+    ensures { λ r. ⌜ r ≡ place (now (w .entry)) (words (now (text .entry))) ⌝ }
 {
     let mut rest = text;
     let mut k = 0;
     let mut e = piece_length(rest, b' ');
     while e < rest.len() {
         if same(w, &rest[..e]) {
-            return k;
+            return Place::At(k);
         }
         rest = &rest[e + 1..];
         e = piece_length(rest, b' ');
         k += 1;
     }
-    if same(w, rest) { k } else { k + 1 }
+    if same(w, rest) {
+        Place::At(k)
+    } else {
+        Place::Missing
+    }
+}
+
+// A place as an index; 0 where the word is missing.
+pub fn index_of(p: Place) -> usize
+    ensures { λ r. ⌜ r ≡ indexOf p ⌝ }
+{
+    match p {
+        Place::At(k) => k,
+        Place::Missing => 0,
+    }
 }
 
 // The text of the first line of s, without its line feed; no bytes where s has no line.
@@ -162,8 +182,10 @@ pub fn word_at(line: &[u8], k: usize) -> &[u8]
 pub fn is_among(w: &[u8], text: &[u8]) -> bool
     ensures { λ r. ⌜ r ≡ among (now (w .entry)) (words (now (text .entry))) ⌝ }
 {
-    let k = find(w, text);
-    k < count_words(text)
+    let Place::At(_) = find(w, text) else {
+        return false;
+    };
+    true
 }
 
 fn wide(x: u8) -> u64

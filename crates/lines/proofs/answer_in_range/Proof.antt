@@ -1,7 +1,7 @@
 -- `lines::answer_in_range` meets its contract. Assumes nothing.
 use mathlib.Core.Path.{sym, ap, subst, _∙_}
 use Rattle.numbers.specs.Numbers.{within}
-use Rattle.routine.specs.Rows.{value, answerInRange}
+use Rattle.routine.specs.Rows.{value}
 use Rattle.values.specs.Values.{Near}
 use Rattle.values.proofs.ValueLaws.{near-numbers}
 use borrow.Author.Needs.{needs}
@@ -15,7 +15,6 @@ is-within-requires : tie.Need-is-within-requires
 is-within-requires c κs = subst Near (sym (c .number-range .ensures)) near-numbers
 
 returns : tie.Need-returns
-unfolding answerInRange
 returns c =
     c .is-within .ensures ∙ ap (λ r. within r (value (c .before .before .before .args .line .now))) (c .before .number-range .ensures)
 

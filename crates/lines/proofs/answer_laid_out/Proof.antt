@@ -1,14 +1,13 @@
 -- `lines::answer_laid_out` meets its contract. Assumes nothing.
 use borrow.Author.Tests.{lt-ltb, le-ltb}
 use Rattle.text.specs.Decimal.{numeral}
-use Rattle.routine.specs.Rows.{isNumeral, answerLaidOut}
+use Rattle.routine.specs.Rows.{isNumeral}
 use Rattle.lines.proofs.LineLaws.{and-true, and-false}
 use borrow.Author.Needs.{needs}
 use Rattle.lines.proofs.answer_laid_out.Statement.{statement}
 use Rattle.lines.proofs.answer_laid_out.Tie as tie
 
 returns : tie.Need-returns
-unfolding answerLaidOut
 returns c =
     and-false (isNumeral (numeral (c .before .before .args .line .now))) (le-ltb (c .before .before .args .k) 64 (c .if1 .taken))
 
@@ -16,7 +15,6 @@ is-numeral-requires : tie.Need-is-numeral-requires
 is-numeral-requires c κs = search needs
 
 returns-2 : tie.Need-returns-2
-unfolding answerLaidOut
 returns-2 c = and-true (lt-ltb (c .before .before .before .args .k) 64 (c .before .if1 .left)) (c .is-numeral .ensures)
 
 pub answer-laid-out-spec : {M : Type 1} → statement M

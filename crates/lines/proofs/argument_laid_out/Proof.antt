@@ -1,31 +1,41 @@
 -- `lines::argument_laid_out` meets its contract. Assumes nothing.
-use mathlib.Core.Path.{sym, ap, _∙_}
+use mathlib.Core.Path.{_≡_, sym, ap, _∙_}
 use mathlib.Core.Bool.{not}
-use native.Mathlib.Omega.{arith}
-use Rattle.text.specs.Text.{bytes, equals}
+use Rattle.text.specs.Text.{bytes, equals, place}
 use Rattle.text.specs.Decimal.{numeral}
-use Rattle.routine.specs.Rows.{isNumeral, arg, argumentLaidOut}
+use Rattle.text.specs.declared.Place.the-variants.{At}
+use Rattle.instructions.specs.Kinds.{kindNames}
+use Rattle.instructions.proofs.ColumnLaws.{kind-below}
+use Rattle.routine.specs.Rows.{isNumeral, op, arg, argumentLaidOut}
 use Rattle.lines.proofs.CodeLaws.{on-unknown, on-argument}
 use borrow.Author.Needs.{needs}
 use Rattle.lines.proofs.argument_laid_out.Statement.{statement}
 use Rattle.lines.proofs.argument_laid_out.Tie as tie
 
+-- OP names the kind at a place
+found : (c : tie.After-known-told) → place (op (c .before .before .before .before .before .args .line .now)) kindNames ≡ At (c .before .k .given .0 .0)
+found c = sym (c .before .before .before .kind-of .ensures) ∙ c .before .k .given .1
+
 kind-of-requires : tie.Need-kind-of-requires
 kind-of-requires c κs = search needs
 
+enum-known-k : tie.Need-enum-known-k
+enum-known-k c = search needs
+
+enum-told : tie.Need-enum-told
+enum-told c = search needs
+
 returns : tie.Need-returns
-returns c =
-    let line = c .before .before .before .args .line .now in
-    sym (on-unknown (argumentLaidOut (arg line)) line (c .before .kind-of .ensures) (omega (arith, c .if1 .taken)))
+returns c = on-unknown _ _ (sym (c .before .before .kind-of .ensures) ∙ c .enum-told .given .1)
 
 word-at-requires : tie.Need-word-at-requires
 word-at-requires c κs = search needs
 
 argument-at-requires : tie.Need-argument-at-requires
-argument-at-requires c κs = search needs
+argument-at-requires c κs = kind-below _ (found (c .before))
 
-enum-told : tie.Need-enum-told
-enum-told c = search needs
+enum-told-2 : tie.Need-enum-told-2
+enum-told-2 c = search needs
 
 slice-aggregate-same : tie.Need-slice-aggregate-same
 slice-aggregate-same c = search needs
@@ -33,14 +43,14 @@ slice-aggregate-same c = search needs
 same-requires : tie.Need-same-requires
 same-requires c κs = search needs
 
-enum-told-2 : tie.Need-enum-told-2
-enum-told-2 c = search needs
+enum-told-3 : tie.Need-enum-told-3
+enum-told-3 c = search needs
 
 is-numeral-requires : tie.Need-is-numeral-requires
 is-numeral-requires c κs = search needs
 
-enum-told-3 : tie.Need-enum-told-3
-enum-told-3 c = search needs
+enum-told-4 : tie.Need-enum-told-4
+enum-told-4 c = search needs
 
 slice-aggregate-same-2 : tie.Need-slice-aggregate-same-2
 slice-aggregate-same-2 c = search needs
@@ -48,8 +58,8 @@ slice-aggregate-same-2 c = search needs
 same-requires-2 : tie.Need-same-requires-2
 same-requires-2 c κs = search needs
 
-enum-told-4 : tie.Need-enum-told-4
-enum-told-4 c = search needs
+enum-told-5 : tie.Need-enum-told-5
+enum-told-5 c = search needs
 
 is-numeral-requires-2 : tie.Need-is-numeral-requires-2
 is-numeral-requires-2 c κs = search needs
@@ -57,48 +67,54 @@ is-numeral-requires-2 c κs = search needs
 returns-2 : tie.Need-returns-2
 unfolding argumentLaidOut
 returns-2 c =
-    let line = c .before .before .before .before .before .before .before .before .before .args .line .now in
-    on-argument (argumentLaidOut (arg line)) line (c .before .before .before .before .before .before .before .kind-of .ensures) (c .before .before .before .before .before .before .if1 .left) (c .before .before .before .before .argument-at .ensures) (c .before .before .enum-told .given .1)
-    (c .same .ensures ∙ ap (λ w. equals w (bytes "-")) (c .before .before .before .before .before .word-at .ensures))
+    let m = c .before .before .before .before in
+    let line = m .before .before .before .before .before .before .before .args .line .now in
+    on-argument (argumentLaidOut (arg line)) line (found (m .before .before)) (m .argument-at .ensures) (c .before .before .enum-told2 .given .1)
+    (c .same .ensures ∙ ap (λ w. equals w (bytes "-")) (m .before .word-at .ensures))
 
 returns-3 : tie.Need-returns-3
 unfolding argumentLaidOut
 returns-3 c =
-    let line = c .before .before .before .before .before .before .before .before .args .line .now in
-    on-argument (argumentLaidOut (arg line)) line (c .before .before .before .before .before .before .kind-of .ensures) (c .before .before .before .before .before .if1 .left) (c .before .before .before .argument-at .ensures) (c .before .enum-told2 .given .1)
-    (c .is-numeral .ensures ∙ ap (λ w. isNumeral (numeral w)) (c .before .before .before .before .word-at .ensures))
+    let m = c .before .before .before in
+    let line = m .before .before .before .before .before .before .before .args .line .now in
+    on-argument (argumentLaidOut (arg line)) line (found (m .before .before)) (m .argument-at .ensures) (c .before .enum-told3 .given .1)
+    (c .is-numeral .ensures ∙ ap (λ w. isNumeral (numeral w)) (m .before .word-at .ensures))
 
 returns-4 : tie.Need-returns-4
 unfolding argumentLaidOut
 returns-4 c =
-    let line = c .before .before .before .before .before .before .before .before .before .args .line .now in
-    on-argument (argumentLaidOut (arg line)) line (c .before .before .before .before .before .before .before .kind-of .ensures) (c .before .before .before .before .before .before .if1 .left) (c .before .before .before .before .argument-at .ensures) (c .before .before .enum-told3 .given .1)
-    (ap not (c .same2 .ensures ∙ ap (λ w. equals w (bytes "-")) (c .before .before .before .before .before .word-at .ensures)))
+    let m = c .before .before .before .before in
+    let line = m .before .before .before .before .before .before .before .args .line .now in
+    on-argument (argumentLaidOut (arg line)) line (found (m .before .before)) (m .argument-at .ensures) (c .before .before .enum-told4 .given .1)
+    (ap not (c .same2 .ensures ∙ ap (λ w. equals w (bytes "-")) (m .before .word-at .ensures)))
 
 returns-5 : tie.Need-returns-5
 unfolding argumentLaidOut
 returns-5 c =
-    let line = c .before .before .before .before .before .before .before .before .args .line .now in
-    on-argument (argumentLaidOut (arg line)) line (c .before .before .before .before .before .before .kind-of .ensures) (c .before .before .before .before .before .if1 .left) (c .before .before .before .argument-at .ensures) (c .before .enum-told4 .given .1)
-    (c .is-numeral2 .ensures ∙ ap (λ w. isNumeral (numeral w)) (c .before .before .before .before .word-at .ensures))
+    let m = c .before .before .before in
+    let line = m .before .before .before .before .before .before .before .args .line .now in
+    on-argument (argumentLaidOut (arg line)) line (found (m .before .before)) (m .argument-at .ensures) (c .before .enum-told5 .given .1)
+    (c .is-numeral2 .ensures ∙ ap (λ w. isNumeral (numeral w)) (m .before .word-at .ensures))
 
 pub argument-laid-out-spec : {M : Type 1} → statement M
 argument-laid-out-spec =
     tie.close
     (tie.spec
     kind-of-requires
+    enum-known-k
+    enum-told
     returns
     word-at-requires
     argument-at-requires
-    enum-told
+    enum-told-2
     slice-aggregate-same
     same-requires
-    enum-told-2
-    is-numeral-requires
     enum-told-3
+    is-numeral-requires
+    enum-told-4
     slice-aggregate-same-2
     same-requires-2
-    enum-told-4
+    enum-told-5
     is-numeral-requires-2
     returns-2
     returns-3

@@ -1,6 +1,6 @@
 -- `lines::kind_of` meets its contract. Assumes nothing.
 use mathlib.Core.Path.{ap, _∙_}
-use Rattle.text.specs.Text.{find}
+use Rattle.text.specs.Text.{place}
 use Rattle.instructions.specs.Kinds.{kindNames}
 use borrow.Author.Needs.{needs}
 use Rattle.lines.proofs.kind_of.Statement.{statement}
@@ -13,7 +13,7 @@ kind-named-requires : tie.Need-kind-named-requires
 kind-named-requires c κs = search needs
 
 returns : tie.Need-returns
-returns c = c .kind-named .ensures ∙ ap (λ w. find w kindNames) (c .before .word-at .ensures)
+returns c = c .kind-named .ensures ∙ ap (λ w. place w kindNames) (c .before .word-at .ensures)
 
 pub kind-of-spec : {M : Type 1} → statement M
 kind-of-spec = tie.close (tie.spec word-at-requires kind-named-requires returns)

@@ -1,11 +1,10 @@
 -- `lines::word_passes` meets its contract. Assumes nothing.
 use mathlib.Core.Path.{ap, _∙_}
 use native.Mathlib.Omega.{arith}
-use lib.Dec.{ltb}
 use Rattle.numbers.specs.Numbers.{within}
 use Rattle.routine.specs.Rows.{value}
 use Rattle.lines.specs.Lines.{wordTest}
-use Rattle.lines.proofs.LineLaws.{arm, filled, kind-among, near-range}
+use Rattle.lines.proofs.LineLaws.{arm, filled, near-range}
 use borrow.Author.Needs.{needs}
 use Rattle.lines.proofs.word_passes.Statement.{statement}
 use Rattle.lines.proofs.word_passes.Tie as tie
@@ -67,8 +66,8 @@ is-known-requires c κs = search needs
 enum-told-8 : tie.Need-enum-told-8
 enum-told-8 c = search needs
 
-kind-named-requires : tie.Need-kind-named-requires
-kind-named-requires c κs = search needs
+is-kind-requires : tie.Need-is-kind-requires
+is-kind-requires c κs = search needs
 
 enum-told-9 : tie.Need-enum-told-9
 enum-told-9 c = search needs
@@ -119,7 +118,7 @@ returns-8 c =
 returns-9 : tie.Need-returns-9
 unfolding wordTest
 returns-9 c =
-    arm (λ t. wordTest t (c .before .before .before .before .args .w .now)) (c .before .enum-told8 .given .1) (ap (λ n. ltb n 61) (c .kind-named .ensures) ∙ kind-among (c .before .before .before .before .args .w .now))
+    arm (λ t. wordTest t (c .before .before .before .before .args .w .now)) (c .before .enum-told8 .given .1) (c .is-kind .ensures)
 
 returns-10 : tie.Need-returns-10
 unfolding wordTest
@@ -149,7 +148,7 @@ word-passes-spec =
     enum-told-7
     is-known-requires
     enum-told-8
-    kind-named-requires
+    is-kind-requires
     enum-told-9
     is-name-requires
     returns

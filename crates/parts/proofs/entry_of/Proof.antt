@@ -1,6 +1,6 @@
 -- `parts::entry_of` meets its contract. Assumes nothing.
-use Prim.Native.Nat.{ℕ}
-use mathlib.Core.Path.{ap, _∙_}
+use Prim.Native.Nat.{ℕ, _<_}
+use mathlib.Core.Path.{_≡_, ap, _∙_}
 use mathlib.Core.List.{List}
 use native.Mathlib.Omega.{arith}
 use mir.Syntax.{w32}
@@ -8,12 +8,21 @@ use mir.ValLaws.{toZ-ofZ}
 use Rattle.text.specs.Text.{find}
 use Rattle.instructions.specs.Kinds.{kindNames, operand}
 use Rattle.instructions.specs.Columns.{kindAt}
+use Rattle.instructions.proofs.ColumnLaws.{kind-small}
+use Rattle.routine.specs.Rows.{op}
 use Rattle.routine.specs.Routine.{argumentValue}
 use Rattle.parts.specs.Parts.{pricesOn}
-use Rattle.parts.proofs.EntryLaws.{Read, entry-is, code-small, same-price}
+use Rattle.parts.proofs.EntryLaws.{found, Read, entry-is, code-small, same-price}
 use borrow.Author.Needs.{needs}
 use Rattle.parts.proofs.entry_of.Statement.{statement}
 use Rattle.parts.proofs.entry_of.Tie as tie
+
+-- the kind by its place in the table
+kind-is : (c : tie.After-index-of) → c .index-of .result ≡ find (op (c .before .before .before .before .before .before .before .before .before .before .before .args .text .now)) kindNames
+kind-is c = found kindNames _ _ _ (c .index-of .ensures) (c .before .kind-named .ensures) (c .before .before .before .word-at .ensures)
+
+kind-low : (c : tie.After-index-of) → c .index-of .result < 61
+kind-low c = omega (arith, kind-is c, kind-small (op (c .before .before .before .before .before .before .before .before .before .before .before .args .text .now)))
 
 word-at-requires : tie.Need-word-at-requires
 word-at-requires c κs = search needs
@@ -24,23 +33,29 @@ word-at-requires-2 c κs = search needs
 kind-named-requires : tie.Need-kind-named-requires
 kind-named-requires c κs = search needs
 
-table-place-requires : tie.Need-table-place-requires
-table-place-requires c κs = search needs
+index-of-requires : tie.Need-index-of-requires
+index-of-requires c κs = search needs
 
 calls-at-requires : tie.Need-calls-at-requires
-calls-at-requires c κs = c .table-place .ensures .1
+calls-at-requires c κs = kind-low c
 
 place-listed-requires : tie.Need-place-listed-requires
 place-listed-requires c κs = search needs
 
+index-of-requires-2 : tie.Need-index-of-requires-2
+index-of-requires-2 c κs = search needs
+
 place-listed-requires-2 : tie.Need-place-listed-requires-2
 place-listed-requires-2 c κs = search needs
 
+index-of-requires-3 : tie.Need-index-of-requires-3
+index-of-requires-3 c κs = search needs
+
 code-of-requires : tie.Need-code-of-requires
-code-of-requires c κs = c .before .before .before .table-place .ensures .1
+code-of-requires c κs = kind-low (c .before .before .before .before .before)
 
 operand-of-requires : tie.Need-operand-of-requires
-operand-of-requires c κs = c .before .before .before .before .table-place .ensures .1
+operand-of-requires c κs = kind-low (c .before .before .before .before .before .before)
 
 cycle-counts-requires : tie.Need-cycle-counts-requires
 cycle-counts-requires c κs = search needs
@@ -56,17 +71,17 @@ price-of-requires-2 c κs = record { greatest = 255; is = c .word-counts .ensure
 
 returns : tie.Need-returns
 returns c =
-    let start = c .before .before .before .before .before .before .before .before .before .before .before .before .before .before .before .before .before .before .before .before in
-    let kind = c .before .before .before .before .before .before .before .before .before in
-    let k = kind .table-place .result in
+    let kind = c .before .before .before .before .before .before .before .before .before .before .before in
+    let start = kind .before .before .before .before .before .before .before .before .before .before .before in
+    let k = kind .index-of .result in
     let text = start .args .text .now in
     let ks = pricesOn (start .args .kinds .now) (start .args .kind-cycles .now) (start .args .kind-words .now) in
     let ps = pricesOn (start .args .primitives .now) (start .args .primitive-cycles .now) (start .args .primitive-words .now) in
     let o = kind .before .before .before .word-at .ensures in
     let a = kind .before .before .word-at2 .ensures in
-    let i = c .before .before .before .before .before .before .before .place-listed .ensures ∙ ap (λ (w : List ℕ). find w (ks .names)) o in
-    let j = c .before .before .before .before .before .before .place-listed2 .ensures ∙ ap (λ (w : List ℕ). find w (ps .names)) a in
-    let t = c .before .before .before .before .before .before .before .before .calls-at .ensures in
+    let i = found (ks .names) _ _ _ (c .before .before .before .before .before .before .before .before .index-of2 .ensures) (c .before .before .before .before .before .before .before .before .before .place-listed .ensures) o in
+    let j = found (ps .names) _ _ _ (c .before .before .before .before .before .before .index-of3 .ensures) (c .before .before .before .before .before .before .before .place-listed2 .ensures) a in
+    let t = c .before .before .before .before .before .before .before .before .before .before .calls-at .ensures in
     let r : Read ks ps text (kindAt k) _ _ _ _ =
     record {
       coded = c .before .before .before .before .before .code-of .ensures;
@@ -74,7 +89,7 @@ returns c =
       cycles = same-price (ks .cycles) (ps .cycles) (c .before .before .before .cycle-counts .ensures) i t j (c .before .before .price-of .ensures);
       words = same-price (ks .words) (ps .words) (c .before .word-counts .ensures) i t j (c .price-of2 .ensures);
     } in
-    (entry-is ks ps text (kindAt k) _ _ _ _ r (kind .table-place .ensures .0 ∙ ap kindAt (kind .before .kind-named .ensures ∙ ap (λ (w : List ℕ). find w kindNames) o)), code-small ks ps text (kindAt k) _ _ _ _ r)
+    (entry-is ks ps text (kindAt k) _ _ _ _ r (ap kindAt (kind-is kind)), code-small ks ps text (kindAt k) _ _ _ _ r)
 
 pub entry-of-spec : {M : Type 1} → statement M
 entry-of-spec =
@@ -83,10 +98,12 @@ entry-of-spec =
     word-at-requires
     word-at-requires-2
     kind-named-requires
-    table-place-requires
+    index-of-requires
     calls-at-requires
     place-listed-requires
+    index-of-requires-2
     place-listed-requires-2
+    index-of-requires-3
     code-of-requires
     operand-of-requires
     cycle-counts-requires

@@ -1,20 +1,21 @@
 -- `text::find` meets its contract. The loop's invariant: e is the length of the first word of what is left, and the word sought
--- stands k places further on in the text than in what is left. The measure is the length of what is left. Assumes nothing.
+-- has the place in the text that it has in what is left, counted from k. The measure is the length of what is left. Assumes nothing.
 use Prim.Native.Nat.{_+_, _≤_}
-use mathlib.Core.Path.{_≡_, sym, ap, _∙_}
+use mathlib.Core.Path.{_≡_, refl, sym, ap, _∙_}
 use mathlib.Core.Bool.{Bool, cond}
 use native.Mathlib.Omega.{arith}
 use native.Mathlib.Nat.{le-of-lt}
 use lib.ListN.{length}
 use lib.Seq.{length-take-le}
 use borrow.Author.Needs.{needs}
-use Rattle.text.specs.Text.{words, find}
+use Rattle.text.specs.declared.Place.the-variants.{At, Missing}
+use Rattle.text.specs.Text.{words, placeFrom, place}
 use Rattle.text.proofs.ScanLaws.{firstLength, find-here, find-next, find-last}
 use Rattle.text.proofs.find.Statement.{statement}
 use Rattle.text.proofs.find.Tie as tie
 
 abbrev Inv-loop : tie.InvT-loop
-Inv-loop w text rest₀ k₀ e₀ rest k e = (e ≡ firstLength 32 rest) × (k + length rest ≤ length text) × (find w (words text) ≡ k + find w (words rest))
+Inv-loop w text rest₀ k₀ e₀ rest k e = (e ≡ firstLength 32 rest) × (k + length rest ≤ length text) × (place w (words text) ≡ placeFrom k w (words rest))
 
 abbrev μ-loop : tie.MeasureT-loop
 μ-loop w text rest₀ k₀ e₀ rest k e = length rest
@@ -23,7 +24,7 @@ piece-length-requires : tie.Need-piece-length-requires Inv-loop μ-loop
 piece-length-requires c κs = search needs
 
 loop-holds : tie.Need-loop-holds Inv-loop μ-loop
-loop-holds c = (c .piece-length .ensures, omega arith, omega arith)
+loop-holds c = (c .piece-length .ensures, omega arith, refl)
 
 slice-aggregate-same : tie.Need-slice-aggregate-same Inv-loop μ-loop
 slice-aggregate-same c = sym (length-take-le _ _ (le-of-lt (c .before .loop-test .taken)))
@@ -34,8 +35,7 @@ same-requires c κs = search needs
 returns : tie.Need-returns Inv-loop μ-loop
 returns c =
     let l = c .before .before .before .before in
-    let e = find-here _ _ _ (l .loop .inv .0) (c .before .before .before .loop-test .taken) (sym (c .before .same .ensures) ∙ c .if1 .taken) in
-    omega arith
+    sym (l .loop .inv .2 ∙ find-here (l .loop .k) _ _ _ (l .loop .inv .0) (c .before .before .before .loop-test .taken) (sym (c .before .same .ensures) ∙ c .if1 .taken))
 
 add-rest : tie.Need-add-rest Inv-loop μ-loop
 add-rest c = search needs
@@ -62,26 +62,21 @@ loop-again : tie.Need-loop-again Inv-loop μ-loop
 loop-again c =
     let j = c .before .before in
     let l = j .before .before .before .before in
-    let e = find-next _ _ _ (l .loop .inv .0) (j .before .before .before .loop-test .taken) (sym (j .before .same .ensures) ∙ j .if1 .left) in
-    (c .piece-length2 .ensures, omega arith, omega arith)
+    let e = find-next (l .loop .k) _ _ _ (l .loop .inv .0) (j .before .before .before .loop-test .taken) (sym (j .before .same .ensures) ∙ j .if1 .left) in
+    (c .piece-length2 .ensures, omega arith, l .loop .inv .2 ∙ e)
 
 same-requires-2 : tie.Need-same-requires-2 Inv-loop μ-loop
 same-requires-2 c κs = search needs
 
-add-result : tie.Need-add-result Inv-loop μ-loop
-add-result c = search needs
-
 returns-2 : tie.Need-returns-2 Inv-loop μ-loop
 returns-2 c =
     let l = c .before .before .before in
-    let e = find-last _ _ _ (l .loop .inv .0) (c .before .before .loop-test .left) ∙ ap (λ (b : Bool). cond b 0 1) (sym (c .before .same2 .ensures) ∙ c .if2 .taken) in
-    omega arith
+    sym (l .loop .inv .2 ∙ find-last (l .loop .k) _ _ _ (l .loop .inv .0) (c .before .before .loop-test .left) ∙ ap (λ (b : Bool). cond b (At (l .loop .k)) Missing) (sym (c .before .same2 .ensures) ∙ c .if2 .taken))
 
 returns-3 : tie.Need-returns-3 Inv-loop μ-loop
 returns-3 c =
     let l = c .before .before .before in
-    let e = find-last _ _ _ (l .loop .inv .0) (c .before .before .loop-test .left) ∙ ap (λ (b : Bool). cond b 0 1) (sym (c .before .same2 .ensures) ∙ c .if2 .left) in
-    omega arith
+    sym (l .loop .inv .2 ∙ find-last (l .loop .k) _ _ _ (l .loop .inv .0) (c .before .before .loop-test .left) ∙ ap (λ (b : Bool). cond b (At (l .loop .k)) Missing) (sym (c .before .same2 .ensures) ∙ c .if2 .left))
 
 pub find-spec : {M : Type 1} → statement M
 find-spec =
@@ -103,6 +98,5 @@ find-spec =
     loop-less
     loop-again
     same-requires-2
-    add-result
     returns-2
     returns-3)

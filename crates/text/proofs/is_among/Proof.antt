@@ -1,19 +1,24 @@
 -- `text::is_among` meets its contract. Assumes nothing.
-use mathlib.Core.Path.{sym, ap₂, _∙_}
-use lib.Dec.{ltb}
+use mathlib.Core.Path.{sym, ap, _∙_}
 use borrow.Author.Needs.{needs}
-use Rattle.text.proofs.PieceLaws.{among-find}
+use Rattle.text.proofs.TextLaws.{isFound, among-place}
 use Rattle.text.proofs.is_among.Statement.{statement}
 use Rattle.text.proofs.is_among.Tie as tie
 
 find-requires : tie.Need-find-requires
 find-requires c κs = search needs
 
-count-words-requires : tie.Need-count-words-requires
-count-words-requires c κs = search needs
+enum-told : tie.Need-enum-told
+enum-told c = search needs
+
+enum-told-2 : tie.Need-enum-told-2
+enum-told-2 c = search needs
 
 returns : tie.Need-returns
-returns c = sym (among-find _ _ ∙ ap₂ ltb (sym (c .before .find .ensures)) (sym (c .count-words .ensures)))
+returns c = sym (among-place 0 _ _ ∙ ap isFound (sym (c .before .before .find .ensures) ∙ c .enum-told2 .given .1))
+
+returns-2 : tie.Need-returns-2
+returns-2 c = sym (among-place 0 _ _ ∙ ap isFound (sym (c .before .before .find .ensures) ∙ c .enum-told .given .1))
 
 pub is-among-spec : {M : Type 1} → statement M
-is-among-spec = tie.close (tie.spec find-requires count-words-requires returns)
+is-among-spec = tie.close (tie.spec find-requires enum-told enum-told-2 returns returns-2)

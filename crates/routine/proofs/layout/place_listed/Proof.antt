@@ -1,6 +1,6 @@
 -- `routine::layout::place_listed` meets its contract. Assumes nothing.
 use mathlib.Core.Path.{sym, ap, _∙_}
-use Rattle.text.specs.Text.{find}
+use Rattle.text.specs.Text.{place}
 use Rattle.routine.proofs.LayoutLaws.{list-none, list-words}
 use borrow.Author.Needs.{needs}
 use Rattle.routine.proofs.layout.place_listed.Statement.{statement}
@@ -13,14 +13,13 @@ same-requires : tie.Need-same-requires
 same-requires c κs = search needs
 
 returns : tie.Need-returns
-unfolding find
-returns c = sym (ap (find _) (list-none _ (sym (c .before .same .ensures) ∙ c .if1 .taken)))
+returns c = sym (ap (place _) (list-none _ (sym (c .before .same .ensures) ∙ c .if1 .taken)))
 
 find-requires : tie.Need-find-requires
 find-requires c κs = search needs
 
 returns-2 : tie.Need-returns-2
-returns-2 c = c .find .ensures ∙ sym (ap (find _) (list-words _ (sym (c .before .before .same .ensures) ∙ c .before .if1 .left)))
+returns-2 c = c .find .ensures ∙ sym (ap (place _) (list-words _ (sym (c .before .before .same .ensures) ∙ c .before .if1 .left)))
 
 pub place-listed-spec : {M : Type 1} → statement M
 place-listed-spec =
