@@ -48,7 +48,7 @@ fn word_passes(t: WordTest, w: &[u8]) -> bool
         WordTest::Cell => values::is_cell(w),
         WordTest::CellRange => values::cell_in_range(w),
         WordTest::Present(n) => values::cell_present(n as usize, w),
-        WordTest::Known => values::is_known(w),
+        WordTest::Known => !text::same(w, b"?"),
         WordTest::Kind => instructions::is_kind(w),
         WordTest::Primitive => names::is_name(w),
     }

@@ -94,13 +94,6 @@ cellPresent n unknown = true
 cellPresent n (known z) = true
 cellPresent n (block k) = ltb (natAbs k) n
 
--- whether it is not `?`
-unfoldable pub isKnown : CellWord → Bool
-isKnown wrong = true
-isKnown unknown = false
-isKnown (known z) = true
-isKnown (block k) = true
-
 -- ---- names
 
 -- "A primitive's name has 1 to 8 characters: capitals, digits, underscore, a capital first."
@@ -334,7 +327,7 @@ reaches ls r text = onCode (codeReaches (firstAt (body ls)) (length (codeLines (
 
 -- row 11: "run only: a `?` on line 10, then 12"
 unfoldable pub allKnown : Role → List ℕ → Bool
-allKnown r text = onCells (λ w. isKnown (cellWord w)) r text
+allKnown r text = onCells (λ w. not (equals w (bytes "?"))) r text
 
 -- the test of a row on one line; in row 2 also "Each line ends in a line feed" and "words are parted by one space"
 unfoldable pub test : Row → List Line → Role → Line → Bool

@@ -12,6 +12,9 @@ use lib.Signed.{mag, nonNeg, leZ, ltZ}
 use mir.Syntax.{w32}
 use mir.Val.{SFits}
 use borrow.Author.Tests.{leb-true, ltb-true, le-ltb, eq-eqb, ne-eqb}
+use types.Run.{OneOf, miss}
+use denote.Enum.Declared.{tagOf}
+use Rattle.routine.proofs.CellWord.{the-type}
 use Rattle.text.proofs.TextLaws.{ltb-suc}
 use Rattle.text.specs.Text.{equals, bytes, split, words, Line, noLine}
 use Rattle.text.specs.Decimal.{numeral, most, clamp, clamped}
@@ -23,7 +26,7 @@ use Rattle.numbers.specs.Numbers.{half, IsNumber, within, numbers}
 use Rattle.cells.specs.Cells.{number, handle}
 use Rattle.routine.specs.declared.CellWord.{CellWord}
 use Rattle.routine.specs.declared.CellWord.the-variants.{Wrong, Unknown, Known, Block}
-use Rattle.routine.specs.Rows.{isNumeral, value, valueOf, knownOf, blockOf, hashed, cellWord, isCell, handles, cellInRange, cellPresent, isKnown, firstAt}
+use Rattle.routine.specs.Rows.{isNumeral, value, valueOf, knownOf, blockOf, hashed, cellWord, isCell, handles, cellInRange, cellPresent, firstAt}
 use Rattle.routine.specs.Routine.{inside, cellOf}
 use Rattle.routine.proofs.RangeLaws.{within-low, within-high, Natural, natural-inside, inside-keeps}
 use Rattle.values.specs.Values.{Near, NaturalRange, clampedCell}
@@ -89,13 +92,6 @@ cell-clamped Wrong = refl
 cell-clamped Unknown = refl
 cell-clamped (Known z) = refl
 cell-clamped (Block k) = refl
-
-pub is-known-clamped : (c : CellWord) → isKnown (clampedCell c) ≡ isKnown c
-unfolding isKnown clampedCell
-is-known-clamped Wrong = refl
-is-known-clamped Unknown = refl
-is-known-clamped (Known z) = refl
-is-known-clamped (Block k) = refl
 
 pub near-numbers : Near numbers
 near-numbers = record { low = lit< tt; high = lit< tt }
@@ -163,6 +159,29 @@ module _ (w : List ℕ) (q : equals w (bytes "?") ≡ false) where
   word-known h e = word-other w q ∙ hashed-known w h e
 
 -- ---- what a match on a held value says of the value
+
+-- an arm of all other words knows by the variants' numbers which they are
+
+pub not-wrong : (c : CellWord) → OneOf (1 ∷ 2 ∷ 3 ∷ []) (tagOf the-type c) → true ≡ isCell c
+unfolding isCell
+not-wrong Wrong o = absurd (miss (1 ∷ 2 ∷ 3 ∷ []) 0 tt o)
+not-wrong Unknown o = refl
+not-wrong (Known z) o = refl
+not-wrong (Block k) o = refl
+
+pub not-block : (n : ℕ) (c : CellWord) → OneOf (0 ∷ 1 ∷ 2 ∷ []) (tagOf the-type c) → true ≡ cellPresent n c
+unfolding cellPresent
+not-block n Wrong o = refl
+not-block n Unknown o = refl
+not-block n (Known z) o = refl
+not-block n (Block k) o = absurd (miss (0 ∷ 1 ∷ 2 ∷ []) 3 tt o)
+
+pub no-number : (c : CellWord) → OneOf (0 ∷ 1 ∷ []) (tagOf the-type c) → true ≡ cellInRange c
+unfolding cellInRange
+no-number Wrong o = refl
+no-number Unknown o = refl
+no-number (Known z) o = absurd (miss (0 ∷ 1 ∷ []) 2 tt o)
+no-number (Block k) o = absurd (miss (0 ∷ 1 ∷ []) 3 tt o)
 
 -- f says the same of b as of what is held of it, which is r, and the match found d
 pub tested : {B X : Type 0} (f : B → X) (held : B → B) (keeps : (b : B) → f (held b) ≡ f b) (b : B) {r d : B} {x : X} → r ≡ held b → r ≡ d → x ≡ f d → x ≡ f b

@@ -12,7 +12,7 @@ ghost use Rattle.text.specs.Text.{lines};
 ghost use Rattle.text.specs.Decimal.{numeral, most, clamp};
 ghost use Rattle.numbers.specs.Numbers.{range, within, numbers};
 ghost use Rattle.cells.specs.Cells.{number, handle};
-ghost use Rattle.routine.specs.Rows.{isNumeral, value, knownOf, blockOf, cellWord, isCell, handles, cellInRange, cellPresent, isKnown};
+ghost use Rattle.routine.specs.Rows.{isNumeral, value, knownOf, blockOf, cellWord, isCell, handles, cellInRange, cellPresent};
 ghost use Rattle.routine.specs.Routine.{inside, naturalIn, firstAddress, cellOf};
 ghost use Rattle.values.specs.Values.{Near, NaturalRange, clampedCell};
 
@@ -130,23 +130,10 @@ pub fn cell_word(w: &[u8]) -> CellWord
 pub fn is_cell(w: &[u8]) -> bool
     ensures { λ r. ⌜ r ≡ isCell (cellWord (now (w .entry))) ⌝ }
 {
-    match cell_word(w) {
-        CellWord::Wrong => false,
-        CellWord::Unknown => true,
-        CellWord::Known(_) => true,
-        CellWord::Block(_) => true,
+    if let CellWord::Wrong = cell_word(w) {
+        return false;
     }
-}
-
-pub fn is_known(w: &[u8]) -> bool
-    ensures { λ r. ⌜ r ≡ isKnown (cellWord (now (w .entry))) ⌝ }
-{
-    match cell_word(w) {
-        CellWord::Wrong => true,
-        CellWord::Unknown => false,
-        CellWord::Known(_) => true,
-        CellWord::Block(_) => true,
-    }
+    true
 }
 
 // "An i is any 32-bit number."
@@ -163,10 +150,9 @@ pub fn cell_in_range(w: &[u8]) -> bool
     ensures { λ r. ⌜ r ≡ cellInRange (cellWord (now (w .entry))) ⌝ }
 {
     match cell_word(w) {
-        CellWord::Wrong => true,
-        CellWord::Unknown => true,
         CellWord::Known(z) => numbers::within(number_range(), z),
         CellWord::Block(k) => numbers::within(layout::handles(), k),
+        _ => true,
     }
 }
 
@@ -184,12 +170,10 @@ pub fn cell_present(n: usize, w: &[u8]) -> bool
     requires { ⌜ n ≤ most ⌝ }
     ensures { λ r. ⌜ r ≡ cellPresent n (cellWord (now (w .entry))) ⌝ }
 {
-    match cell_word(w) {
-        CellWord::Wrong => true,
-        CellWord::Unknown => true,
-        CellWord::Known(_) => true,
-        CellWord::Block(k) => is_nearer(k, n),
-    }
+    let CellWord::Block(k) = cell_word(w) else {
+        return true;
+    };
+    is_nearer(k, n)
 }
 
 fn number_cell(z: i64) -> Cell

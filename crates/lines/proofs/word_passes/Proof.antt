@@ -1,5 +1,6 @@
 -- `lines::word_passes` meets its contract. Assumes nothing.
 use mathlib.Core.Path.{ap, _∙_}
+use mathlib.Core.Bool.{not}
 use native.Mathlib.Omega.{arith}
 use Rattle.numbers.specs.Numbers.{within}
 use Rattle.routine.specs.Rows.{value}
@@ -60,8 +61,11 @@ cell-present-requires c κs = search needs
 enum-told-7 : tie.Need-enum-told-7
 enum-told-7 c = search needs
 
-is-known-requires : tie.Need-is-known-requires
-is-known-requires c κs = search needs
+slice-aggregate-same : tie.Need-slice-aggregate-same
+slice-aggregate-same c = search needs
+
+same-requires : tie.Need-same-requires
+same-requires c κs = search needs
 
 enum-told-8 : tie.Need-enum-told-8
 enum-told-8 c = search needs
@@ -113,7 +117,7 @@ returns-7 c =
 returns-8 : tie.Need-returns-8
 unfolding wordTest
 returns-8 c =
-    arm (λ t. wordTest t (c .before .before .before .before .args .w .now)) (c .before .enum-told7 .given .1) (c .is-known .ensures)
+    arm (λ t. wordTest t (c .before .before .before .before .before .args .w .now)) (c .before .before .enum-told7 .given .1) (ap not (c .same .ensures))
 
 returns-9 : tie.Need-returns-9
 unfolding wordTest
@@ -146,7 +150,8 @@ word-passes-spec =
     cast-cell-present
     cell-present-requires
     enum-told-7
-    is-known-requires
+    slice-aggregate-same
+    same-requires
     enum-told-8
     is-kind-requires
     enum-told-9

@@ -5,19 +5,13 @@ use mir.ValLaws.{toZ-ofZ}
 use Rattle.numbers.specs.Numbers.{within}
 use Rattle.routine.specs.Rows.{cellWord, cellInRange}
 use Rattle.values.specs.Values.{clampedCell}
-use Rattle.values.proofs.ValueLaws.{in-range-clamped, tested}
+use Rattle.values.proofs.ValueLaws.{in-range-clamped, no-number, tested}
 use borrow.Author.Needs.{needs}
 use Rattle.values.proofs.cell_in_range.Statement.{statement}
 use Rattle.values.proofs.cell_in_range.Tie as tie
 
 cell-word-requires : tie.Need-cell-word-requires
 cell-word-requires c κs = search needs
-
-enum-told : tie.Need-enum-told
-enum-told c = search needs
-
-enum-told-2 : tie.Need-enum-told-2
-enum-told-2 c = search needs
 
 enum-known-z : tie.Need-enum-known-z
 enum-known-z c = search needs
@@ -40,32 +34,24 @@ within-requires-2 c κs = search needs
 returns : tie.Need-returns
 unfolding cellInRange
 returns c =
-    tested cellInRange clampedCell in-range-clamped (cellWord (c .before .before .before .before .args .w .now)) (c .before .before .cell-word .ensures) (c .enum-told .given .1) refl
+    tested cellInRange clampedCell in-range-clamped (cellWord (c .before .before .before .before .before .before .before .args .w .now)) (c .before .before .before .before .before .cell-word .ensures) (c .before .before .before .z .given .1)
+    (c .within .ensures ∙ ap₂ within (c .before .number-range .ensures) (toZ-ofZ w64 (c .before .before .before .z .given .0 .0) (search needs)))
 
 returns-2 : tie.Need-returns-2
 unfolding cellInRange
 returns-2 c =
-    tested cellInRange clampedCell in-range-clamped (cellWord (c .before .before .before .before .args .w .now)) (c .before .before .cell-word .ensures) (c .enum-told2 .given .1) refl
-
-returns-3 : tie.Need-returns-3
-unfolding cellInRange
-returns-3 c =
-    tested cellInRange clampedCell in-range-clamped (cellWord (c .before .before .before .before .before .before .before .args .w .now)) (c .before .before .before .before .before .cell-word .ensures) (c .before .before .before .z .given .1)
-    (c .within .ensures ∙ ap₂ within (c .before .number-range .ensures) (toZ-ofZ w64 (c .before .before .before .z .given .0 .0) (search needs)))
-
-returns-4 : tie.Need-returns-4
-unfolding cellInRange
-returns-4 c =
     tested cellInRange clampedCell in-range-clamped (cellWord (c .before .before .before .before .before .before .before .args .w .now)) (c .before .before .before .before .before .cell-word .ensures) (c .before .before .before .k .given .1)
     (c .within2 .ensures ∙ ap₂ within (c .before .handles .ensures) (toZ-ofZ w64 (c .before .before .before .k .given .0 .0) (search needs)))
+
+returns-3 : tie.Need-returns-3
+returns-3 c =
+    tested cellInRange clampedCell in-range-clamped (cellWord (c .before .before .before .args .w .now)) (c .before .cell-word .ensures) refl (no-number (c .before .cell-word .result) (c .match .keys3))
 
 pub cell-in-range-spec : {M : Type 1} → statement M
 cell-in-range-spec =
     tie.close
     (tie.spec
     cell-word-requires
-    enum-told
-    enum-told-2
     enum-known-z
     number-range-requires
     within-requires
@@ -74,5 +60,4 @@ cell-in-range-spec =
     within-requires-2
     returns
     returns-2
-    returns-3
-    returns-4)
+    returns-3)

@@ -2,7 +2,7 @@
 use mathlib.Core.Path.{refl}
 use Rattle.routine.specs.Rows.{cellWord, isCell}
 use Rattle.values.specs.Values.{clampedCell}
-use Rattle.values.proofs.ValueLaws.{cell-clamped, tested}
+use Rattle.values.proofs.ValueLaws.{cell-clamped, not-wrong, tested}
 use borrow.Author.Needs.{needs}
 use Rattle.values.proofs.is_cell.Statement.{statement}
 use Rattle.values.proofs.is_cell.Tie as tie
@@ -13,45 +13,14 @@ cell-word-requires c κs = search needs
 enum-told : tie.Need-enum-told
 enum-told c = search needs
 
-enum-told-2 : tie.Need-enum-told-2
-enum-told-2 c = search needs
-
-enum-told-3 : tie.Need-enum-told-3
-enum-told-3 c = search needs
-
-enum-told-4 : tie.Need-enum-told-4
-enum-told-4 c = search needs
-
 returns : tie.Need-returns
 unfolding isCell
 returns c =
     tested isCell clampedCell cell-clamped (cellWord (c .before .before .before .before .args .w .now)) (c .before .before .cell-word .ensures) (c .enum-told .given .1) refl
 
 returns-2 : tie.Need-returns-2
-unfolding isCell
 returns-2 c =
-    tested isCell clampedCell cell-clamped (cellWord (c .before .before .before .before .args .w .now)) (c .before .before .cell-word .ensures) (c .enum-told2 .given .1) refl
-
-returns-3 : tie.Need-returns-3
-unfolding isCell
-returns-3 c =
-    tested isCell clampedCell cell-clamped (cellWord (c .before .before .before .before .args .w .now)) (c .before .before .cell-word .ensures) (c .enum-told3 .given .1) refl
-
-returns-4 : tie.Need-returns-4
-unfolding isCell
-returns-4 c =
-    tested isCell clampedCell cell-clamped (cellWord (c .before .before .before .before .args .w .now)) (c .before .before .cell-word .ensures) (c .enum-told4 .given .1) refl
+    tested isCell clampedCell cell-clamped (cellWord (c .before .before .before .args .w .now)) (c .before .cell-word .ensures) refl (not-wrong (c .before .cell-word .result) (c .match .keys2))
 
 pub is-cell-spec : {M : Type 1} → statement M
-is-cell-spec =
-    tie.close
-    (tie.spec
-    cell-word-requires
-    enum-told
-    enum-told-2
-    enum-told-3
-    enum-told-4
-    returns
-    returns-2
-    returns-3
-    returns-4)
+is-cell-spec = tie.close (tie.spec cell-word-requires enum-told returns returns-2)
