@@ -143,7 +143,7 @@ Published =
     × (routines.readRun case7 ≡ routines.routine (holding (state 0 (pos 0) (cell (pos 0) ∷ [])) (pos 7 ∷ [])))
 
 computed : Starred × Published
-unfolding case1 case1-half case2 case2-spent case2-exact case3 case4 case6 case7 refusals.number refusals.place text.equals text.split text.words text.linesOf text.lines text.find text.among text.all text.distinct decimals.digitsFrom decimals.natural decimals.numeral decimals.digits decimals.decimal numbers.wrap numbers.holds try._>>=_ cells.calculate₁ cells.calculate₂ cells.map₁ cells.map₂ cells.operate₁ cells.operate₂ cells.conditionIn cells.condition cells.handled cells.block kinds.kinds kinds.kindNames kinds.operand lists.nth lists.put lists.without machine.height machine.priceOf machine.fetch machine.jump machine.load machine.restack machine.store machine.push machine.pop machine.getField machine.setField machine.advance machine.ahead machine.ways machine.opposite machine.perform machine.prepare machine.execute machine.step machine.takes machine.takesAnswer tree.expand tree.tree tree.address tree.steps tree.size tree.cycles tree.words tree.depth tree.worse tree.path tree.report tree.refusal tree.judge tree.verdict tree.explore tree.bound run.begin run.answer run.remaining run.moved run.leads run.once run.after run.stuckAt run.isStuck run.boundedAfresh run.judgeRun run.run layout.isAnswer layout.body layout.upToAnswer layout.pastAnswer layout.codeLines layout.answerLines layout.answerRoles layout.codeRoles layout.bodyRoles layout.roles layout.list layout.textAt layout.listed rows.isNumeral rows.valueOf rows.value rows.knownOf rows.blockOf rows.hashed rows.cellWord rows.isCell rows.cellInRange rows.cellPresent rows.isName rows.stackNames rows.cellNames rows.equalLists rows.isField rows.sizesFrom rows.blockSizes rows.total rows.argumentOf rows.onArgument rows.argumentLaidOut rows.argumentInRange rows.argumentNamed rows.argumentReaches rows.columnInRange rows.columnLaidOut rows.onCells rows.onCode rows.namesLaidOut rows.valuesLaidOut rows.codeLaidOut rows.laidOut rows.codeInRange rows.inRange rows.wellNamed rows.firstAt rows.codeNamed rows.named rows.priced rows.codeReaches rows.reaches rows.allKnown rows.test rows.earliest rows.refusedLine routines.inside routines.priceList routines.argumentValue routines.instructionOf columns.kindAt machine.instruction interrupted.code routines.codeIn routines.cellOf routines.cellsOf routines.blocksInLine routines.startOf routines.routineOf routines.orElse routines.checked routines.limited routines.readBound routines.readRun reports.share reports.pathText reports.figures reports.boundText reports.runText reports.refusalLine reports.refusalText answers.ofVerdict answers.ofReading answers.boundRoutine answers.runRoutine answers.boundAnswer answers.runAnswer answers.memory answers.printed
+unfolding case1 case1-half case2 case2-spent case2-exact case3 case4 case6 case7 refusals.number refusals.place text.equals text.split text.words text.linesOf text.lines text.find text.among text.all text.distinct decimals.digitsFrom decimals.natural decimals.numeral decimals.digits decimals.decimal numbers.wrap numbers.holds try._>>=_ cells.calculate₁ cells.calculate₂ cells.map₁ cells.map₂ cells.operate₁ cells.operate₂ cells.conditionIn cells.condition cells.handled cells.block kinds.kinds kinds.kindNames kinds.operand lists.nth lists.put lists.without machine.height machine.priceOf machine.fetch machine.jump machine.load machine.restack machine.store machine.push machine.pop machine.getField machine.setField machine.advance machine.ahead machine.ways machine.opposite machine.perform machine.prepare machine.execute machine.step machine.takes machine.takesAnswer tree.expand tree.tree tree.address tree.steps tree.size tree.cycles tree.words tree.depth tree.worse tree.path tree.report tree.refusal tree.judge tree.verdict tree.explore tree.bound run.begin run.answer run.remaining run.moved run.leads run.once run.after run.stuckAt run.isStuck run.boundedAfresh run.judgeRun run.run layout.isAnswer layout.body layout.upToAnswer layout.pastAnswer layout.codeLines layout.answerLines layout.answerRoles layout.codeRoles layout.bodyRoles layout.roles layout.list layout.textAt layout.listed rows.isNumeral rows.valueOf rows.value rows.knownOf rows.blockOf rows.hashed rows.cellWord rows.isCell rows.cellInRange rows.cellPresent rows.isName rows.stackNames rows.cellNames rows.equalLists rows.isField rows.sizesFrom rows.blockSizes rows.total rows.argumentOf rows.onArgument rows.argumentLaidOut rows.argumentInRange rows.argumentNamed rows.argumentReaches rows.columnInRange rows.columnLaidOut rows.onCells rows.onCode rows.namesLaidOut rows.valuesLaidOut rows.codeLaidOut rows.laidOut rows.codeInRange rows.inRange rows.wellNamed rows.firstAt rows.codeNamed rows.named rows.priced rows.reaches rows.allKnown rows.test rows.earliest rows.refusedLine routines.inside routines.priceList routines.argumentValue routines.instructionOf columns.kindAt machine.instruction interrupted.code routines.codeIn routines.cellOf routines.cellsOf routines.blocksInLine routines.startOf routines.routineOf routines.orElse routines.checked routines.limited routines.readBound routines.readRun reports.share reports.pathText reports.figures reports.boundText reports.runText reports.refusalLine reports.refusalText answers.ofVerdict answers.ofReading answers.boundRoutine answers.runRoutine answers.boundAnswer answers.runAnswer answers.memory answers.printed
 computed = ((refl, refl, refl, refl, refl, refl, refl, refl, refl, refl, refl), (refl, refl, refl))
 
 pub starred : Starred

@@ -14,7 +14,7 @@ use denote.Enum.Declared.{tagOf}
 use mir.Syntax.{w64}
 use mir.Val.{SFits, ofZ, toZ}
 use mir.ValLaws.{toZ-ofZ, toZ-pos}
-use borrow.Author.Tests.{eqb-true, eqb-false, leb-true, leb-false, le-leb, lt-leb, ltb-true, ltb-false, lt-ltb, le-ltb}
+use borrow.Author.Tests.{eqb-true, eqb-false, leb-true, leb-false, le-leb, lt-leb, ltb-true, ltb-false, le-ltb}
 use Rattle.text.specs.Text.{among, place}
 use Rattle.text.specs.declared.Place.the-variants.{At, Missing}
 use Rattle.text.specs.Decimal.{most}

@@ -17,7 +17,7 @@ ghost use Rattle.instructions.specs.Kinds.{kindNames};
 ghost use Rattle.instructions.specs.declared.Argument.the-variants.{Target};
 ghost use Rattle.routine.specs.declared.Column.the-variants.{Limit};
 ghost use Rattle.routine.specs.Layout.{list};
-ghost use Rattle.routine.specs.Rows.{isNumeral, value, op, arg, onArgument, argumentLaidOut, argumentInRange, argumentNamed, argumentReaches, firstAddresses, columnInRange, columnLaidOut, onCells, namesLaidOut, valuesLaidOut, codeLaidOut, codeInRange, codeNamed, codeReaches};
+ghost use Rattle.routine.specs.Rows.{isNumeral, value, op, arg, onArgument, argumentLaidOut, argumentInRange, argumentNamed, argumentReaches, firstAddresses, columnInRange, columnLaidOut, onCells, namesLaidOut, valuesLaidOut, codeLaidOut, codeInRange, codeNamed};
 ghost use Rattle.lines.specs.Lines.{wordTest};
 
 // What a word is tested for: that it is not empty, spells a number, one of a price's cycles or words, a cell, a cell in range, a
@@ -282,7 +282,7 @@ fn is_reached(first: i64, n: usize, w: &[u8]) -> bool
 pub fn code_reaches(first: i64, n: usize, line: &[u8]) -> bool
     requires { ⌜ within firstAddresses first ≡ true ⌝ }
     requires { ⌜ n ≤ 32768 ⌝ }
-    ensures { λ r. ⌜ r ≡ codeReaches first n (now (line .entry)) ⌝ }
+    ensures { λ r. ⌜ r ≡ onArgument (argumentReaches first n (arg (now (line .entry)))) (now (line .entry)) ⌝ }
 {
     let Place::At(k) = kind_of(line) else {
         return true;

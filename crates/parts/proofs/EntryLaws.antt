@@ -14,7 +14,7 @@ use Rattle.text.specs.Text.{place, indexOf, find, Line, noLine}
 use Rattle.text.specs.declared.Place.{Place}
 use Rattle.numbers.specs.declared.Comparison.the-variants.{Equal, Unequal, Less, AtMost, Greater, AtLeast}
 use Rattle.numbers.specs.declared.Range.{Range}
-use Rattle.numbers.specs.Numbers.{numbers, range}
+use Rattle.numbers.specs.Numbers.{numbers}
 use Rattle.cells.specs.declared.Unary.the-variants.{Offset, Negate, Complement}
 use Rattle.cells.specs.declared.Binary.the-variants.{Add, Subtract, Compare}
 use Rattle.instructions.specs.declared.Argument.{Argument}

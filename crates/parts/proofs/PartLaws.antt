@@ -1,6 +1,6 @@
 -- The parts of a routine by the lines that hold them. Assumes nothing.
 use Prim.Native.Nat.{ℕ, suc}
-use mathlib.Core.Path.{_≡_, ap, _∙_}
+use mathlib.Core.Path.{_≡_, ap}
 use mathlib.Core.List.{List, [], map}
 use lib.ListN.{length, take, drop}
 use Rattle.text.specs.Text.{Line}

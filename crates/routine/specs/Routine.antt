@@ -121,7 +121,7 @@ blocksInLine (n ∷ ns) cs = take n cs ∷ blocksInLine ns (drop n cs)
 unfoldable pub startOf : ℕ → List Cell → List (List Cell) → State
 startOf first cs bs = record { at = first; accu = getD cs 0 (number (pos 0)); stack = drop 1 cs; blocks = bs }
 
--- the routine that the lines of a file hold; "The start address is that of the first AT line."
+-- the routine that the lines of a file hold: on line 2 BUDGET, then TICK; "The start address is that of the first AT line."
 unfoldable pub routineOf : List Line → Routine
 routineOf ls = record {
   budget = naturalAt budgets (listed (values limits limit) ls) 0;

@@ -317,13 +317,9 @@ named ls (answer k) text = true
 unfoldable pub priced : List Line → Role → List ℕ → Bool
 priced ls r text = onCode (λ t. among (op t) (listed (names kinds) ls)) r text
 
--- row 6 on a code line, where the code has n addresses from `first` on
-unfoldable pub codeReaches : ℤ → ℕ → List ℕ → Bool
-codeReaches first n text = onArgument (argumentReaches first n (arg text)) text
-
 -- row 6: "target not an address of the code"
 unfoldable pub reaches : List Line → Role → List ℕ → Bool
-reaches ls r text = onCode (codeReaches (firstAt (body ls)) (length (codeLines (body ls)))) r text
+reaches ls r text = onCode (λ t. onArgument (argumentReaches (firstAt (body ls)) (length (codeLines (body ls))) (arg t)) t) r text
 
 -- row 11: "run only: a `?` on line 10, then 12"
 unfoldable pub allKnown : Role → List ℕ → Bool

@@ -19,7 +19,7 @@ use Rattle.routine.specs.declared.Role.{Role}
 use Rattle.routine.specs.declared.Role.the-variants.{Names as names, Values as values, Code as code}
 use Rattle.routine.specs.declared.Row.the-variants.{Layout as layout-row}
 use Rattle.routine.specs.Layout.{layout, body, list, textAt, listed}
-use Rattle.routine.specs.Rows.{equalLists, blockSizes, total, wellNamed, test, valuesLaidOut, laidOut, onCells, onCode, codeNamed, named, op, priced, codeReaches, reaches, firstAddresses, firstAt}
+use Rattle.routine.specs.Rows.{equalLists, blockSizes, total, wellNamed, test, valuesLaidOut, laidOut, onCells, onCode, codeNamed, named, op, arg, onArgument, argumentReaches, priced, reaches, firstAddresses, firstAt}
 use Rattle.names.specs.declared.Blocks.{Blocks}
 use Rattle.names.specs.Names.{BlocksOf}
 use Rattle.lines.specs.Lines.{wordTest}
@@ -51,9 +51,9 @@ module _ (ls : List Line) (text : List ℕ) (r : Bool) where
   unfolding priced onCode listed
   priced-code ks e k h = h ∙ ap (λ t. among (op text) (list t)) e
 
-  pub reaches-code : {f n : ℕ} → TargetContext ls f n → (z : ℤ) → z ≡ pos f → (k : ℕ) → r ≡ codeReaches z n text → r ≡ reaches ls (code k) text
+  pub reaches-code : {f n : ℕ} → TargetContext ls f n → (z : ℤ) → z ≡ pos f → (k : ℕ) → r ≡ onArgument (argumentReaches z n (arg text)) text → r ≡ reaches ls (code k) text
   unfolding reaches onCode
-  reaches-code {f} {n} x z e k h = h ∙ ap (λ w. codeReaches w n text) (e ∙ x .first-address) ∙ ap (λ m. codeReaches (firstAt (body ls)) m text) (x .code-lines)
+  reaches-code {f} {n} x z e k h = h ∙ ap₂ (λ w m. onArgument (argumentReaches w m (arg text)) text) (e ∙ x .first-address) (x .code-lines)
 
 pub small-code : (o : Role) (k : ℕ) → o ≡ code k → Small o → k ≤ 32768
 small-code o k e h = subst Small e h

@@ -7,7 +7,7 @@ use Rattle.text.specs.declared.Place.the-variants.{At}
 use Rattle.instructions.specs.Kinds.{kindNames}
 use Rattle.instructions.specs.declared.Argument.the-variants.{Target}
 use Rattle.instructions.proofs.ColumnLaws.{kind-below}
-use Rattle.routine.specs.Rows.{op, arg, argumentReaches, codeReaches}
+use Rattle.routine.specs.Rows.{op, arg, argumentReaches}
 use Rattle.lines.proofs.CodeLaws.{on-unknown, on-taken, on-argument, no-target}
 use borrow.Author.Needs.{needs}
 use Rattle.lines.proofs.code_reaches.Statement.{statement}
@@ -27,7 +27,6 @@ enum-told : tie.Need-enum-told
 enum-told c = search needs
 
 returns : tie.Need-returns
-unfolding codeReaches
 returns c = on-unknown _ _ (sym (c .before .before .kind-of .ensures) ∙ c .enum-told .given .1)
 
 argument-at-requires : tie.Need-argument-at-requires
@@ -37,7 +36,6 @@ enum-told-2 : tie.Need-enum-told-2
 enum-told-2 c = search needs
 
 returns-2 : tie.Need-returns-2
-unfolding codeReaches
 returns-2 c =
     let m = c .before in
     let a = m .before .before .before .before .before .before .args in
@@ -51,7 +49,6 @@ is-reached-requires : tie.Need-is-reached-requires
 is-reached-requires c κs = search needs
 
 returns-3 : tie.Need-returns-3
-unfolding codeReaches
 returns-3 c =
     let m = c .before .before .before .before in
     let start = m .before .before .before .before .before .before in
