@@ -1,20 +1,19 @@
 -- The run's loop, apart from its code: its answers, what holds at each turn, what each way out gives, and its verdict. Assumes nothing.
-use mathlib.Core.Path.{_≡_, refl, sym, ap, _∙_}
+use mathlib.Core.Path.{_≡_, refl, sym, ap, subst, _∙_}
 use mathlib.Core.Bool.{Bool, true, false}
 use mathlib.Core.List.{List, [], _∷_}
 use Prim.Native.Nat.{ℕ, zero, suc, _+_, _-_, _*_, max, _≤_, _<_}
 use native.Mathlib.Omega.{arith}
 use native.Mathlib.Numerals.{add-one}
 use lib.IntN.{ℤ, pos}
-use lib.ListN.{length, getD, drop}
+use lib.ListN.{length, getD, drop, set}
 use borrow.Author.Tests.{lt-ltb, le-ltb}
 use Rattle.refusals.specs.declared.Verdict as code
 use Rattle.refusals.specs.declared.Verdict.the-variants.{Accepted, Refused}
 use Rattle.refusals.specs.declared.Refusal.the-variants.{Stuck, Spent}
-use Rattle.cells.specs.Try.{Try, stuck, done}
 use Rattle.cells.specs.declared.Cell.{Cell}
 use Rattle.cells.specs.Cells.{number}
-use Rattle.machine.specs.Machine.{State, Next, stops, goes, opens, height, Code, reblock, step, takesAnswer}
+use Rattle.machine.specs.Machine.{State, height, Code, reblock, step, takesAnswer}
 use Rattle.states.specs.declared.State as states
 use Rattle.states.specs.View.{WellFormed, Fits, whole}
 use Rattle.states.proofs.StateLaws.{height-is}
@@ -25,11 +24,13 @@ use Rattle.bounds.proofs.PromiseLaws.{interruptible, run-within-bound}
 use Rattle.steps.specs.declared.Price.{Price}
 use Rattle.steps.specs.declared.Next as next
 use Rattle.steps.specs.declared.Next.the-variants as leads-to
-use Rattle.steps.specs.Step.{ofPrice, ofNext}
+use Rattle.steps.specs.declared.Change.{Change}
+use Rattle.steps.specs.declared.Change.the-variants.{Nothing, Field}
+use Rattle.steps.specs.Step.{ofNext, Differs}
 use Rattle.runs.specs.declared.Progress.{Progress}
 use Rattle.runs.specs.declared.Ran.{Ran}
 use Rattle.runs.specs.Progress.{ofProgress}
-use Rattle.runs.specs.Contract.{Runnable, judged, verdictOf, SafeFrom, WithinBound}
+use Rattle.runs.specs.Contract.{judged, verdictOf, SafeFrom, WithinBound}
 
 -- ---- the answers after the first k
 
@@ -164,6 +165,14 @@ module _ (c : Code) (ns : List ℕ) (answers : List ℤ) (b : Run) (n : ℕ) (r 
         still (leads-to.Stops p) f g = absurd (f p refl)
         still (leads-to.Goes p) f g = absurd (g p refl)
         still (leads-to.Opens p a q) f g = unfold moved ofNext in refl
+
+-- ---- the blocks that a step left
+
+pub set-one : (x : Change) (fs gs : List Cell) (j : ℕ) (c : Cell) → Differs x fs gs → x ≡ Field j c → (j < 128) × (gs ≡ set fs j c)
+set-one x fs gs j c d e = subst (λ y. Differs y fs gs) e d
+
+pub set-none : (x : Change) (fs gs : List Cell) → Differs x fs gs → x ≡ Nothing → gs ≡ fs
+set-none x fs gs d e = subst (λ y. Differs y fs gs) e d
 
 -- ---- the verdict
 

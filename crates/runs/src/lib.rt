@@ -3,6 +3,7 @@ use cells::Cell;
 use refusals::Refusal;
 use refusals::Verdict;
 use states::State;
+use steps::Change;
 use steps::Next;
 ghost use mathlib.Core.Path.{_≡_};
 ghost use mathlib.Core.List.{List};
@@ -122,10 +123,14 @@ pub fn after(
         spent = spent + (p.cycles as u64);
         sum = sum + (p.words as u64);
         state = stepped.state;
-        blocks = stepped.blocks;
         let h = 64 - state.free;
         if depth < h {
             depth = h;
+        }
+        // the blocks become those of the step, of which none but the field that was set is written
+        let change = stepped.change;
+        if let Change::Field(j, c) = change {
+            blocks[j] = c;
         }
         made += 1;
     }

@@ -1,9 +1,16 @@
 -- What a step by value stands for.
+use mathlib.Core.Path.{_≡_}
+use mathlib.Core.List.{List}
+use Prim.Native.Nat.{_<_}
+use lib.ListN.{set}
 use Rattle.cells.specs.Try.{Try, stuck, done}
+use Rattle.cells.specs.declared.Cell.{Cell}
 use Rattle.machine.specs.Machine.{State, Price, Next, stops, goes, opens, jump}
 use Rattle.steps.specs.declared.Price as code
 use Rattle.steps.specs.declared.Next as code-next
 use Rattle.steps.specs.declared.Next.the-variants.{Stuck, Stops, Goes, Opens}
+use Rattle.steps.specs.declared.Change.{Change}
+use Rattle.steps.specs.declared.Change.the-variants.{Nothing, Field}
 
 -- a price by its cycles and its words
 abbrev pub ofPrice : code.Price → Price
@@ -15,3 +22,8 @@ ofNext Stuck s = stuck
 ofNext (Stops p) s = done (stops (ofPrice p))
 ofNext (Goes p) s = done (goes (ofPrice p) s)
 ofNext (Opens p a q) s = done (opens (ofPrice p) s (ofPrice q) (jump a s))
+
+-- the fields gs differ from fs by the change: in nothing, or at one of the 128 places
+abbrev pub Differs : Change → List Cell → List Cell → Type 0
+Differs Nothing fs gs = gs ≡ fs
+Differs (Field j c) fs gs = (j < 128) × (gs ≡ set fs j c)

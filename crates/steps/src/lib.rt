@@ -11,7 +11,7 @@ ghost use lib.ListN.{length};
 ghost use Rattle.machine.specs.Machine.{step, takesAnswer};
 ghost use Rattle.states.specs.Columns.{codeOf, Sized};
 ghost use Rattle.states.specs.View.{WellFormed, Fits, whole};
-ghost use Rattle.steps.specs.Step.{ofNext};
+ghost use Rattle.steps.specs.Step.{ofNext, Differs};
 
 // What a way costs.
 pub struct Price {
@@ -28,10 +28,17 @@ pub enum Next {
     Opens(Price, usize, Price),
 }
 
-// What a step gives: what comes next, with the state and the blocks, and whether an answer was taken.
+// How the blocks differ from those before the step: in nothing, or in the field at the place, which has become the cell.
+pub enum Change {
+    Nothing,
+    Field(usize, Cell),
+}
+
+// What a step gives: what comes next, with the state and the blocks, whether an answer was taken, and how the blocks differ.
 pub struct Stepped {
     pub next: Next,
     pub calls: bool,
+    pub change: Change,
     pub state: State,
     pub blocks: [Cell; 128],
 }
@@ -52,12 +59,14 @@ pub fn step(
     ensures { λ r. ⌜ ofNext (r .next) (whole (now (sizes .entry)) (r .blocks) (r .state)) ≡ step (codeOf first (now (codes .entry)) (now (operands .entry)) (now (cycles .entry)) (now (words .entry))) answer (whole (now (sizes .entry)) blocks state) ⌝ }
     ensures { λ r. ⌜ r .calls ≡ takesAnswer (codeOf first (now (codes .entry)) (now (operands .entry)) (now (cycles .entry)) (now (words .entry))) (whole (now (sizes .entry)) blocks state) ⌝ }
     ensures { λ r. ⌜ WellFormed (r .state) × Fits (now (sizes .entry)) (r .blocks) ⌝ }
+    ensures { λ r. ⌜ Differs (r .change) blocks (r .blocks) ⌝ }
 {
     let fetched = states::code::fetch(codes, operands, cycles, words, first, state.at);
     let Fetched::Is(line) = fetched else {
         return Stepped {
             next: Next::Stuck,
             calls: false,
+            change: Change::Nothing,
             state: state,
             blocks: blocks,
         };
@@ -68,6 +77,7 @@ pub fn step(
             return Stepped {
                 next: Next::Stuck,
                 calls: calls,
+                change: Change::Nothing,
                 state: state,
                 blocks: blocks,
             };
@@ -91,6 +101,7 @@ pub fn step(
         state.stack[place],
     );
     let mut next = Next::Goes(price);
+    let mut change = Change::Nothing;
     match outcome {
         Outcome::Gives(c) => {
             state = state.pop(drops).load(c).advance();
@@ -114,6 +125,7 @@ pub fn step(
             match field {
                 Slot::At(j) => {
                     blocks[j] = c;
+                    change = Change::Field(j, c);
                     let zero = cells::number(0);
                     state = state.pop(1).load(zero).advance();
                 }
@@ -126,7 +138,8 @@ pub fn step(
             let field = states::slot_of(sizes, state.accu, index);
             match field {
                 Slot::At(j) => {
-                    state = state.load(blocks[j]).advance();
+                    let fields = blocks; // copied in this arm alone, and not at every step
+                    state = state.load(fields[j]).advance();
                 }
                 Slot::Lacks => {
                     next = Next::Stuck;
@@ -150,6 +163,7 @@ pub fn step(
     Stepped {
         next: next,
         calls: calls,
+        change: change,
         state: state,
         blocks: blocks,
     }

@@ -1,23 +1,22 @@
 -- `runs::after` meets its contract. The invariant: the run so far is the one that the steps made leave (`Going`). The measure is what is
 -- left of `n`. Assumes nothing.
-use mathlib.Core.Path.{_≡_, sym, subst}
+use mathlib.Core.Path.{_≡_, sym, subst, _∙_}
 use mathlib.Core.Bool.{false}
-use mathlib.Core.List.{List, _∷_, []}
+use mathlib.Core.List.{_∷_, []}
 use mathlib.Core.Logic.{⊎-elim}
-use Prim.Native.Nat.{ℕ, _-_, max, _≤_, _<_}
+use Prim.Native.Nat.{ℕ, _-_, max, _<_}
 use native.Mathlib.Omega.{arith}
 use denote.Enum.Declared.{tagOf}
 use types.Run.{OneOf}
 use borrow.Author.Needs.{needs}
 use Rattle.states.specs.Columns.{codeOf}
 use Rattle.states.specs.View.{whole}
-use Rattle.bounds.specs.Run.{begin, after}
+use Rattle.bounds.specs.Run.{begin}
 use Rattle.steps.specs.declared.Price.{Price}
 use Rattle.steps.specs.declared.Next.{Next}
 use Rattle.steps.specs.declared.Next.the-variants.{Stops, Goes}
 use Rattle.steps.proofs.Next as next
-use Rattle.runs.specs.Progress.{ofProgress}
-use Rattle.runs.proofs.RunLaws.{Going, begins, ends, goes-on, stops-out, stays-out, safe-from}
+use Rattle.runs.proofs.RunLaws.{Going, begins, ends, goes-on, stops-out, stays-out, set-one, set-none, safe-from}
 use Rattle.runs.proofs.after.Statement.{statement}
 use Rattle.runs.proofs.after.Tie as tie
 
@@ -67,20 +66,20 @@ enum-known-next c = search needs
 taken-after-requires : tie.Need-taken-after-requires Inv-loop μ-loop
 taken-after-requires c κs = let i = c .before .before .before .before .before .before .loop .inv in omega (arith, i .taken, c .before .before .before .before .before .loop-test .taken, c .before .before .before .before .before .before .before .before .before .before .before .before .pre .1 .steps)
 
-cast-t26 : tie.Need-cast-t26 Inv-loop μ-loop
-cast-t26 c = search needs
+cast-t31 : tie.Need-cast-t31 Inv-loop μ-loop
+cast-t31 c = search needs
 
-add-t27 : tie.Need-add-t27 Inv-loop μ-loop
-add-t27 c = let i = c .before .before .before .before .before .before .before .before .loop .inv in omega (arith, i .cycles, i .within, stops-small (c .before .before) .0, c .before .before .before .before .before .before .before .before .before .before .before .before .before .before .pre .1 .steps)
+add-t32 : tie.Need-add-t32 Inv-loop μ-loop
+add-t32 c = let i = c .before .before .before .before .before .before .before .before .loop .inv in omega (arith, i .cycles, i .within, stops-small (c .before .before) .0, c .before .before .before .before .before .before .before .before .before .before .before .before .before .before .pre .1 .steps)
 
-cast-t28 : tie.Need-cast-t28 Inv-loop μ-loop
-cast-t28 c = search needs
+cast-t33 : tie.Need-cast-t33 Inv-loop μ-loop
+cast-t33 c = search needs
 
-add-t29 : tie.Need-add-t29 Inv-loop μ-loop
-add-t29 c = let i = c .before .before .before .before .before .before .before .before .before .loop .inv in omega (arith, i .words, i .within, stops-small (c .before .before .before) .1, c .before .before .before .before .before .before .before .before .before .before .before .before .before .before .before .pre .1 .steps)
+add-t34 : tie.Need-add-t34 Inv-loop μ-loop
+add-t34 c = let i = c .before .before .before .before .before .before .before .before .before .loop .inv in omega (arith, i .words, i .within, stops-small (c .before .before .before) .1, c .before .before .before .before .before .before .before .before .before .before .before .before .before .before .before .pre .1 .steps)
 
-add-t30 : tie.Need-add-t30 Inv-loop μ-loop
-add-t30 c = let i = c .before .before .before .before .before .before .before .before .before .loop .inv in omega (arith, i .within, c .before .before .before .before .before .before .before .before .before .before .before .before .before .before .before .pre .1 .steps)
+add-t35 : tie.Need-add-t35 Inv-loop μ-loop
+add-t35 c = let i = c .before .before .before .before .before .before .before .before .before .loop .inv in omega (arith, i .within, c .before .before .before .before .before .before .before .before .before .before .before .before .before .before .before .pre .1 .steps)
 
 returns : tie.Need-returns Inv-loop μ-loop
 returns c =
@@ -117,14 +116,40 @@ add-sum : tie.Need-add-sum Inv-loop μ-loop
 add-sum c = let i = c .before .before .before .before .before .before .before .before .before .before .loop .inv in omega (arith, i .words, i .within, goes-small (c .before .before .before) .1, c .before .before .before .before .before .before .before .before .before .before .before .before .before .before .before .before .pre .1 .steps)
 
 sub-h : tie.Need-sub-h Inv-loop μ-loop
-sub-h c = c .before .before .before .before .before .before .before .before .before .before .step .ensures .1 .1 .0 .free
+sub-h c = c .before .before .before .before .before .before .before .before .before .step .ensures .1 .1 .0 .0 .free
+
+-- the larger of the depth so far and the height
+deepest : (c : tie.Joined1 Inv-loop μ-loop) → c .if1 .depth ≡ max (c .before .before .before .before .before .before .before .before .before .before .before .before .before .loop .depth) (64 - c .before .before .before .before .before .before .before .before .before .before .step .result .state .free)
+deepest c = ⊎-elim (λ x. omega (arith, x .0 .taken, x .1)) (λ x. omega (arith, x .0 .left, x .1)) (c .if1 .came)
+
+enum-known-change : tie.Need-enum-known-change Inv-loop μ-loop
+enum-known-change c = search needs
+
+-- the place of the field that was set
+field-within : (c : tie.After-known-told3 Inv-loop μ-loop) → c .before .change .given .0 .0 < 128
+field-within c = let x = c .before .before .before .before .before .before .before .before .before .before .before .before .before .step in set-one (x .result .change) (c .before .before .before .before .before .before .before .before .before .before .before .before .before .before .before .before .loop .blocks) (x .result .blocks) _ _ (x .ensures .1 .1 .1) (c .before .change .given .1) .0
+
+mul-blocks : tie.Need-mul-blocks Inv-loop μ-loop
+mul-blocks c = omega (arith, field-within c)
+
+array-set-from-blocks : tie.Need-array-set-from-blocks Inv-loop μ-loop
+array-set-from-blocks c = field-within c
+
+enum-told : tie.Need-enum-told Inv-loop μ-loop
+enum-told c = search needs
+
+-- the blocks are those that the step left
+handed : (c : tie.At-match3-came Inv-loop μ-loop) → c .match3 .blocks ≡ c .before .before .before .before .before .before .before .before .before .before .before .step .result .blocks
+handed c =
+    let x = c .before .before .before .before .before .before .before .before .before .before .before .step in
+    let fs = c .before .before .before .before .before .before .before .before .before .before .before .before .before .before .loop .blocks in
+    ⊎-elim
+    (λ y. y .3 ∙ sym (set-one (x .result .change) fs (x .result .blocks) _ _ (x .ensures .1 .1 .1) (y .1 .given .1) .1))
+    (λ y. y .2 ∙ sym (set-none (x .result .change) fs (x .result .blocks) (x .ensures .1 .1 .1) (y .1 .given .1)))
+    (c .match3 .came)
 
 add-made : tie.Need-add-made Inv-loop μ-loop
 add-made c = let i = c .before .before .before .before .before .before .before .before .before .before .before .before .before .before .loop .inv in omega (arith, i .within, c .before .before .before .before .before .before .before .before .before .before .before .before .before .before .before .before .before .before .before .before .pre .1 .steps)
-
--- the larger of the depth so far and the height
-deepest : (c : tie.Joined1 Inv-loop μ-loop) → c .if1 .depth ≡ max (c .before .before .before .before .before .before .before .before .before .before .before .before .before .before .loop .depth) (64 - c .before .before .before .before .before .before .before .before .before .before .before .step .result .state .free)
-deepest c = ⊎-elim (λ x. omega (arith, x .0 .taken, x .1)) (λ x. omega (arith, x .0 .left, x .1)) (c .if1 .came)
 
 loop-less : tie.Need-loop-less Inv-loop μ-loop
 loop-less c = omega (arith, c .before .before .before .before .before .before .before .before .before .before .before .before .before .loop-test .taken)
@@ -133,8 +158,8 @@ loop-again : tie.Need-loop-again Inv-loop μ-loop
 loop-again c =
     let x = c .before .before .before .before .before .before .before .before .before .before .before .step in
     let took = c .before .before .before .before .before .before .taken-after2 in
-    goes-on _ _ _ _ _ _ (c .before .before .before .before .before .before .before .before .before .before .before .before .before .before .loop .inv) (x .result .next) (x .result .state) (x .result .blocks) (x .result .calls) _ (c .before .before .before .before .before .before .before .before .before .before .before .before .answer-at .ensures) (x .ensures .0) (x .ensures .1 .0)
-    (c .before .before .before .before .before .before .before .before .next2 .given .0 .0) (took .result) (record { drops = took .ensures .0; few = took .ensures .1 }) (goes-small (c .before .before .before .before .before .before .before)) (c .before .before .before .before .before .before .before .before .next2 .given .1) (c .before .before .before .before .before .before .before .before .before .before .before .before .before .loop-test .taken) (x .ensures .1 .1 .0) (x .ensures .1 .1 .1) _ (deepest c)
+    rw (handed c) (goes-on _ _ _ _ _ _ (c .before .before .before .before .before .before .before .before .before .before .before .before .before .before .loop .inv) (x .result .next) (x .result .state) (x .result .blocks) (x .result .calls) _ (c .before .before .before .before .before .before .before .before .before .before .before .before .answer-at .ensures) (x .ensures .0) (x .ensures .1 .0)
+    (c .before .before .before .before .before .before .before .before .next2 .given .0 .0) (took .result) (record { drops = took .ensures .0; few = took .ensures .1 }) (goes-small (c .before .before .before .before .before .before .before)) (c .before .before .before .before .before .before .before .before .next2 .given .1) (c .before .before .before .before .before .before .before .before .before .before .before .before .before .loop-test .taken) (x .ensures .1 .1 .0 .0) (x .ensures .1 .1 .0 .1) _ (deepest (c .before)))
 
 returns-3 : tie.Need-returns-3 Inv-loop μ-loop
 returns-3 c =
@@ -154,11 +179,11 @@ after-spec =
     step-requires
     enum-known-next
     taken-after-requires
-    cast-t26
-    add-t27
-    cast-t28
-    add-t29
-    add-t30
+    cast-t31
+    add-t32
+    cast-t33
+    add-t34
+    add-t35
     returns
     enum-known-next-2
     returns-2
@@ -168,6 +193,10 @@ after-spec =
     cast-sum
     add-sum
     sub-h
+    enum-known-change
+    mul-blocks
+    array-set-from-blocks
+    enum-told
     add-made
     loop-less
     loop-again

@@ -2,7 +2,7 @@
 use mathlib.Core.Path.{_≡_, refl, sym, ap, subst, _∙_}
 use mathlib.Core.List.{List}
 use mathlib.Core.Logic.{⊎-elim}
-use Prim.Native.Nat.{ℕ, _+_, _-_, _≤_, _<_}
+use Prim.Native.Nat.{ℕ, _-_, _≤_, _<_}
 use native.Mathlib.Omega.{arith}
 use lib.IntN.{pos}
 use lib.ListN.{length, getD, length-set}
@@ -10,15 +10,14 @@ use mir.Syntax.{w32}
 use mir.Val.{SFits}
 use mir.ValLaws.{toZ-ofZ}
 use borrow.Author.Needs.{needs}
-use Rattle.cells.specs.Try.{Try, stuck, done}
+use Rattle.cells.specs.Try.{Try, done}
 use Rattle.cells.specs.declared.Cell.{Cell}
 use Rattle.cells.specs.declared.Value.the-variants.{Number}
-use Rattle.cells.specs.Cells.{cell, number}
+use Rattle.cells.specs.Cells.{cell}
 use Rattle.cells.specs.Answers.{ofOperand}
 use Rattle.instructions.specs.Columns.{operationOf}
 use Rattle.machine.specs.Machine.{Next, Code, fetch, index, step, load, takesAnswer}
 use Rattle.machine.proofs.ApartLaws.{pop-at, store-at}
-use Rattle.outcomes.specs.declared.Outcome.{Outcome}
 use Rattle.outcomes.specs.Outcome.{outcome, operated}
 use Rattle.outcomes.proofs.ArmLaws.{Arm}
 use Rattle.outcomes.proofs.ArmLaws as arms
@@ -28,7 +27,9 @@ use Rattle.states.specs.Columns.{codeOf, lineOf, ofFetched, Known}
 use Rattle.states.specs.View.{view, WellFormed, Fits, whole, ofSlot}
 use Rattle.states.proofs.ColumnLaws.{fetch-within}
 use Rattle.states.proofs.Stack.{length-images}
-use Rattle.steps.specs.Step.{ofNext}
+use Rattle.steps.specs.declared.Change.{Change}
+use Rattle.steps.specs.declared.Change.the-variants.{Nothing, Field}
+use Rattle.steps.specs.Step.{ofNext, Differs}
 use Rattle.steps.proofs.StepLaws.{next, popped-next, stored-next, loaded-next, jumped-next, Ready, pushes, keeps, rises, outside, overflows, calls, opened}
 use Rattle.steps.proofs.step.Statement.{statement}
 use Rattle.steps.proofs.step.Tie as tie
@@ -104,11 +105,20 @@ module _ (a : tie.After-outcome-of) where
   near : (v : ℕ) → v ≡ t .at → v < 65536
   near v e = omega (arith, e, prepared .stays, low (lined a))
 
-  -- what is promised of a step with the outcome next and the state w, once it is known what it leads to
-  module _ (x : Try Next) (e : step (code s) (s .args .answer) (whole (s .args .sizes .now) (s .args .t9) (s .args .t8)) ≡ x) (fs : List Cell) (w : State) (formed : WellFormed w) (fits : Fits (s .args .sizes .now) fs) where
-    kept : (x ≡ step (code s) (s .args .answer) (whole (s .args .sizes .now) (s .args .t9) (s .args .t8)))
-        × ((l .calls ≡ takesAnswer (code s) (whole (s .args .sizes .now) (s .args .t9) (s .args .t8))) × (WellFormed w × Fits (s .args .sizes .now) fs))
-    kept = (sym e, (calls (code s) (s .args .answer) (s .args .sizes .now) (s .args .t9) (s .args .t8) l (found (lined a)), (formed, fits)))
+  -- what is promised of a step with the state w, once it is known what it leads to
+  module _ (x : Try Next) (e : step (code s) (s .args .answer) (whole (s .args .sizes .now) (s .args .t9) (s .args .t8)) ≡ x) (w : State) (formed : WellFormed w) where
+    abbrev Promised : Change → List Cell → Type 0
+    Promised y fs =
+        (x ≡ step (code s) (s .args .answer) (whole (s .args .sizes .now) (s .args .t9) (s .args .t8)))
+        × ((l .calls ≡ takesAnswer (code s) (whole (s .args .sizes .now) (s .args .t9) (s .args .t8))) × ((WellFormed w × Fits (s .args .sizes .now) fs) × Differs y (s .args .t9) fs))
+
+    -- with the fields fs, which differ by the change y
+    changed : (y : Change) (fs : List Cell) → Fits (s .args .sizes .now) fs → Differs y (s .args .t9) fs → Promised y fs
+    changed y fs fits differs = (sym e, (calls (code s) (s .args .answer) (s .args .sizes .now) (s .args .t9) (s .args .t8) l (found (lined a)), ((formed, fits), differs)))
+
+    -- with the fields as they were
+    kept : Promised Nothing (s .args .t9)
+    kept = changed Nothing (s .args .t9) (s .pre .3) refl
 
 fetch-requires : tie.Need-fetch-requires
 fetch-requires c κs = search needs
@@ -124,7 +134,7 @@ unfolding ofNext
 returns c =
     let s = c .before .before .before .before .before .before .before in
     let o = outside (code s) (s .args .answer) (s .args .sizes .now) (s .args .t9) (s .args .t8) (ap ofFetched (sym (c .enum-told .given .1)) ∙ c .before .before .fetch .ensures .0) in
-    (o .0, (o .1, (s .pre .2, s .pre .3)))
+    (o .0, (o .1, ((s .pre .2, s .pre .3), refl)))
 
 returns-2 : tie.Need-returns-2
 unfolding ofNext
@@ -132,7 +142,7 @@ returns-2 c =
     let k = c .before .before in
     let s = start k in (
       overflows (code s) (s .args .answer) (s .args .sizes .now) (s .args .t9) (s .args .t8) (line k) (found k) (c .before .if1 .taken) (s .pre .2) (c .if2 .taken),
-      (calls (code s) (s .args .answer) (s .args .sizes .now) (s .args .t9) (s .args .t8) (line k) (found k), (s .pre .2, s .pre .3)),
+      (calls (code s) (s .args .answer) (s .args .sizes .now) (s .args .t9) (s .args .t8) (line k) (found k), ((s .pre .2, s .pre .3), refl)),
     )
 
 push-requires : tie.Need-push-requires
@@ -188,7 +198,7 @@ returns-3 c =
     kept a _
     (arms.gives (arm a) (c .before .before .before .before .outcome .given .0 .0) (a .before .before .before .before .drops-of .result) (next v) (c .advance .result) (a .before .before .before .before .drops-of .ensures) (popped-next (t a) v _ (c .before .before .pop .ensures .0))
     (loaded-next v (c .before .load .result) (c .advance .result) _ (c .before .load .ensures .0) (c .advance .ensures .0)) (c .before .before .before .before .outcome .given .1))
-    (s a .args .t9) (c .advance .result) (c .advance .ensures .1) (s a .pre .3)
+    (c .advance .result) (c .advance .ensures .1)
 
 -- ---- an operation on cells
 
@@ -230,7 +240,7 @@ returns-4 c =
     kept a _
     (arms.operates (arm a) (c .before .before .before .before .given .given .0 .0) (a .before .before .before .before .drops-of .result) (next v) (c .advance2 .result) (a .before .before .before .before .drops-of .ensures) (popped-next (t a) v _ (c .before .before .pop2 .ensures .0))
     (loaded-next v (c .before .load2 .result) (c .advance2 .result) _ (c .before .load2 .ensures .0) (c .advance2 .ensures .0)) (c .before .before .before .before .before .before .before .before .before .before .enum-told2 .given .1) (sym (given (c .before .before .before .before .before .before)) ∙ ap ofOperand (c .before .before .before .before .given .given .1)))
-    (s a .args .t9) (c .advance2 .result) (c .advance2 .ensures .1) (s a .pre .3)
+    (c .advance2 .result) (c .advance2 .ensures .1)
 
 enum-told-3 : tie.Need-enum-told-3
 enum-told-3 c = search needs
@@ -239,7 +249,7 @@ returns-5 : tie.Need-returns-5
 unfolding ofNext
 returns-5 c =
     let a = c .before .before .before .before .before .before .before .before in
-    kept a _ (arms.operates-nothing (arm a) (c .before .before .before .before .before .before .enum-told2 .given .1) (sym (given (c .before .before)) ∙ ap ofOperand (c .enum-told3 .given .1))) (s a .args .t9) (t a) (prepared a .formed) (s a .pre .3)
+    kept a _ (arms.operates-nothing (arm a) (c .before .before .before .before .before .before .enum-told2 .given .1) (sym (given (c .before .before)) ∙ ap ofOperand (c .enum-told3 .given .1))) (t a) (prepared a .formed)
 
 -- ---- an entry becomes the accumulator
 
@@ -257,7 +267,7 @@ unfolding ofNext
 returns-6 c =
     let a = c .before .before .before .before in
     kept a _ (arms.stores (arm a) (c .advance3 .result) (c .before .before .enum-told4 .given .1) (stored-next (t a) (c .before .store .result) (c .advance3 .result) _ (c .before .store .ensures .0) (c .advance3 .ensures .0)))
-    (s a .args .t9) (c .advance3 .result) (c .advance3 .ensures .1) (s a .pre .3)
+    (c .advance3 .result) (c .advance3 .ensures .1)
 
 -- ---- a field is set
 
@@ -302,10 +312,10 @@ unfolding ofNext
 returns-7 c =
     let a = c .before .before .before .before .before .before .before .before .before .before .before .before in
     let v = c .before .before .pop3 .result in
-    kept a _
+    changed a _
     (arms.sets (arm a) (c .before .before .before .before .before .before .before .before .before .before .outcome2 .given .0 .0) (c .before .before .before .before .before .field .given .0 .0) (next v) (c .advance4 .result) (c .before .before .before .before .before .before .before .before .before .before .outcome2 .given .1) (set-slot (c .before .before .before .before) ∙ c .before .before .before .before .before .before .before .slot-of .ensures) (popped-next (t a) v _ (c .before .before .pop3 .ensures .0))
     (loaded-next v (c .before .load3 .result) (c .advance4 .result) _ (c .before .load3 .ensures .0) (c .advance4 .ensures .0) ∙ ap (λ z. load z (view (next v))) (c .before .before .before .number .ensures)))
-    _ (c .advance4 .result) (c .advance4 .ensures .1) (record { few = s a .pre .3 .few; room = simp length-set (s a .pre .3 .room) })
+    (c .advance4 .result) (c .advance4 .ensures .1) (Field (c .before .before .before .before .before .field .given .0 .0) _) _ (record { few = s a .pre .3 .few; room = simp length-set (s a .pre .3 .room) }) (set-within (c .before .before .before .before), refl)
 
 enum-told-5 : tie.Need-enum-told-5
 enum-told-5 c = search needs
@@ -314,7 +324,7 @@ returns-8 : tie.Need-returns-8
 unfolding ofNext
 returns-8 c =
     let a = c .before .before .before .before .before .before .before in
-    kept a _ (arms.sets-nothing (arm a) _ (c .before .before .before .before .before .outcome2 .given .1) (ap ofSlot (sym (c .enum-told5 .given .1)) ∙ c .before .before .slot-of .ensures)) (s a .args .t9) (t a) (prepared a .formed) (s a .pre .3)
+    kept a _ (arms.sets-nothing (arm a) _ (c .before .before .before .before .before .outcome2 .given .1) (ap ofSlot (sym (c .enum-told5 .given .1)) ∙ c .before .before .slot-of .ensures)) (t a) (prepared a .formed)
 
 -- ---- the accumulator becomes a field
 
@@ -352,7 +362,7 @@ returns-9 c =
     kept a _
     (arms.gets (arm a) (c .before .before .before .before .field2 .given .0 .0) _ (c .advance5 .result) (c .before .before .before .before .before .before .before .before .enum-told6 .given .1) (get-slot (c .before .before .before) ∙ c .before .before .before .before .before .before .slot-of2 .ensures)
     (loaded-next (t a) (c .before .load4 .result) (c .advance5 .result) _ (c .before .load4 .ensures .0) (c .advance5 .ensures .0)))
-    (s a .args .t9) (c .advance5 .result) (c .advance5 .ensures .1) (s a .pre .3)
+    (c .advance5 .result) (c .advance5 .ensures .1)
 
 enum-told-7 : tie.Need-enum-told-7
 enum-told-7 c = search needs
@@ -361,7 +371,7 @@ returns-10 : tie.Need-returns-10
 unfolding ofNext
 returns-10 c =
     let a = c .before .before .before .before .before .before in
-    kept a _ (arms.gets-nothing (arm a) (c .before .before .before .before .enum-told6 .given .1) (ap ofSlot (sym (c .enum-told7 .given .1)) ∙ c .before .before .slot-of2 .ensures)) (s a .args .t9) (t a) (prepared a .formed) (s a .pre .3)
+    kept a _ (arms.gets-nothing (arm a) (c .before .before .before .before .enum-told6 .given .1) (ap ofSlot (sym (c .enum-told7 .given .1)) ∙ c .before .before .slot-of2 .ensures)) (t a) (prepared a .formed)
 
 -- ---- branches, STOP, stuck
 
@@ -375,7 +385,7 @@ returns-11 : tie.Need-returns-11
 unfolding ofNext
 returns-11 c =
     let a = c .before .before .before in
-    kept a _ (arms.jumps (arm a) (c .jump .result) (c .before .enum-told8 .given .1) (jumped-next (t a) (c .jump .result) _ (c .jump .ensures .0))) (s a .args .t9) (c .jump .result) (c .jump .ensures .1) (s a .pre .3)
+    kept a _ (arms.jumps (arm a) (c .jump .result) (c .before .enum-told8 .given .1) (jumped-next (t a) (c .jump .result) _ (c .jump .ensures .0))) (c .jump .result) (c .jump .ensures .1)
 
 enum-told-9 : tie.Need-enum-told-9
 enum-told-9 c = search needs
@@ -387,21 +397,21 @@ returns-12 : tie.Need-returns-12
 unfolding ofNext
 returns-12 c =
     let a = c .before .before .before in
-    kept a _ (opened (s a .args .sizes .now) (s a .args .t9) (t a) (c .advance6 .result) (arm a) (c .before .enum-told9 .given .1) (c .advance6 .ensures .0)) (s a .args .t9) (c .advance6 .result) (c .advance6 .ensures .1) (s a .pre .3)
+    kept a _ (opened (s a .args .sizes .now) (s a .args .t9) (t a) (c .advance6 .result) (arm a) (c .before .enum-told9 .given .1) (c .advance6 .ensures .0)) (c .advance6 .result) (c .advance6 .ensures .1)
 
 enum-told-10 : tie.Need-enum-told-10
 enum-told-10 c = search needs
 
 returns-13 : tie.Need-returns-13
 unfolding ofNext
-returns-13 c = let a = c .before .before in kept a _ (arms.halts (arm a) (c .enum-told10 .given .1)) (s a .args .t9) (t a) (prepared a .formed) (s a .pre .3)
+returns-13 c = let a = c .before .before in kept a _ (arms.halts (arm a) (c .enum-told10 .given .1)) (t a) (prepared a .formed)
 
 enum-told-11 : tie.Need-enum-told-11
 enum-told-11 c = search needs
 
 returns-14 : tie.Need-returns-14
 unfolding ofNext
-returns-14 c = let a = c .before .before in kept a _ (arms.is-stuck (arm a) (c .enum-told11 .given .1)) (s a .args .t9) (t a) (prepared a .formed) (s a .pre .3)
+returns-14 c = let a = c .before .before in kept a _ (arms.is-stuck (arm a) (c .enum-told11 .given .1)) (t a) (prepared a .formed)
 
 pub step-spec : {M : Type 1} → statement M
 step-spec =
