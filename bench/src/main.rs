@@ -9,9 +9,8 @@ use independent::routine::TEXT_LIMIT;
 use std::hint::black_box;
 use std::time::Duration;
 
-/// Passes over all files, so that a slow moment of the machine does not fall on one file alone; and calls of each in a pass.
+/// Passes over all files, so that a slow moment of the machine does not fall on one file alone; in each, twelve calls of both.
 const PASSES: usize = 5;
-const REPEATS: usize = 3;
 
 /// What is measured: the analyser's function, and the independent one.
 #[derive(Clone, Copy)]
@@ -37,7 +36,7 @@ impl Measured {
         Measured { name, text, pair, proved: Duration::MAX, independent: Duration::MAX }
     }
 
-    /// Calls both in turn, and keeps the best times.
+    /// Calls both in turn at twelve places of a page, and keeps the best times.
     fn measure(&mut self) {
         let mut memory = [0; MEMORY];
         let mut both = || {
@@ -45,12 +44,15 @@ impl Measured {
             self.proved = self.proved.min(time(|| (self.pair.proved)(text, &mut memory)));
             self.independent = self.independent.min(time(|| (self.pair.independent)(text, MEMORY)));
         };
-        for _ in 0..REPEATS {
+        let mut lines = || {
             below::<16>(&mut both);
             below::<32>(&mut both);
             below::<48>(&mut both);
             below::<64>(&mut both);
-        }
+        };
+        lines();
+        below::<1360>(&mut lines);
+        below::<2720>(&mut lines);
     }
 }
 
@@ -60,7 +62,7 @@ fn time<T>(function: impl FnOnce() -> T) -> Duration {
     now() - start
 }
 
-/// Calls `f` below `SPACE` bytes of stack: how fast cells are copied hangs on where they lie.
+/// Calls `f` below `SPACE` bytes of stack: how fast cells are copied hangs on where they lie, in a line of the cache and in a page.
 #[inline(never)]
 fn below<const SPACE: usize>(f: &mut dyn FnMut()) {
     let space = [0u8; SPACE];
