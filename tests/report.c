@@ -196,7 +196,7 @@ int main(void) {
     reads_run(RUN_NAMES "0 1 2 " MOST "\n", 0, 1, 2, UINT64_MAX);
     check(is_refused_run(NULL, 0), "no bytes");
     check(is_refused_run((const uint8_t *)RUN_NAMES "56 4 1 3\n", sizeof RUN_NAMES "56 4 1 3\n"), "a 0 after a run's report");
-    refuses_run("REFUSED 11 10\n");
+    refuses_run("REFUSED 11 11\n");
     refuses_run(RUN_NAMES);
     refuses_run(NAMES "65 4 1 6 65 N\n");
     refuses_run(RUN_NAMES "65 4 1 6 65 N\n");

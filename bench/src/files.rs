@@ -1,20 +1,21 @@
 //! The files that are measured.
 use independent::draft::{Arg, Draft};
-use independent::routine::KINDS;
+use independent::routine::{jumps_at_a_cost, KINDS};
 use std::iter::repeat_n;
 
 const BUDGET: usize = 1_000_000;
 
 type Code = Vec<(&'static str, Arg)>;
 
-/// A routine with all kinds, one primitive and prices that differ.
+/// A routine with all kinds, one primitive, prices that differ, and an extra where a kind can have one.
 fn draft(cells: &[&str], blocks: Vec<Vec<String>>, code: Code) -> Draft {
-    let kinds = KINDS.iter().enumerate().map(|(i, k)| (k.0.to_string(), 1 + i % 5, i % 3)).collect();
+    let extra = |kind: &str| if jumps_at_a_cost(kind.as_bytes()) { 2 } else { 0 };
+    let kinds = KINDS.iter().enumerate().map(|(i, k)| (k.0.to_string(), [1 + i % 5, i % 3, extra(k.0)])).collect();
     Draft {
         budget: BUDGET as u64,
         tick: 4_000_000_000,
         kinds,
-        primitives: vec![("READ".to_string(), 40, 4)],
+        primitives: vec![("READ".to_string(), [40, 4])],
         cells: cells.iter().map(|c| c.to_string()).collect(),
         blocks,
         first: 0,
@@ -114,7 +115,7 @@ pub fn long_code(bytes: usize) -> Vec<u8> {
 pub fn long_calls(bytes: usize) -> Vec<u8> {
     let mut code: Code = vec![("STOP", Arg::Nothing)];
     code.extend(repeat_n(("C_CALL5", Arg::Primitive(31)), bytes / 32 - 1));
-    let primitives = (1..=32).map(|k| (format!("LONGER{k:02}"), 1, 1)).collect();
+    let primitives = (1..=32).map(|k| (format!("LONGER{k:02}"), [1, 1])).collect();
     Draft { primitives, ..draft(&["0"], Vec::new(), code) }.text().into_bytes()
 }
 
@@ -122,16 +123,16 @@ pub fn long_calls(bytes: usize) -> Vec<u8> {
 pub fn repeated_kind(bytes: usize) -> Vec<u8> {
     let mut draft = draft(&["0"], Vec::new(), vec![("STOP", Arg::Nothing)]);
     let room = bytes - draft.text().len();
-    draft.kinds.extend(repeat_n(("EQ".to_string(), 1, 1), room / "EQ 1 1 ".len()));
+    draft.kinds.extend(repeat_n(("EQ".to_string(), [1, 1, 0]), room / "EQ 1 1 0 ".len()));
     draft.text().into_bytes()
 }
 
 /// 32 names of primitives that fill the text.
 pub fn long_names(bytes: usize) -> Vec<u8> {
     let mut draft = draft(&["0"], Vec::new(), vec![("STOP", Arg::Nothing)]);
-    draft.primitives = vec![(String::new(), 1, 1); 32];
+    draft.primitives = vec![(String::new(), [1, 1]); 32];
     let room = bytes - draft.text().len();
-    draft.primitives = vec![("A".repeat(room / 32), 1, 1); 32];
+    draft.primitives = vec![("A".repeat(room / 32), [1, 1]); 32];
     draft.text().into_bytes()
 }
 

@@ -21,19 +21,28 @@ pub struct Figures {
     pub path: Path,
 }
 
-struct Explorer<'a> {
+/// A conditional branch that jumps, in the bound.
+pub enum Jump {
+    /// on a known condition
+    Known { extra: u64 },
+    /// on an unknown one, with the cycles of both ways, the extra not counted
+    Opened { at: u32, extra: u64, not_taken: u64, taken: u64 },
+}
+
+struct Explorer<'a, F> {
     routine: &'a Routine,
     steps: u64,
+    note: F,
 }
 
 /// The bound from a state, with all of BUDGET and all openings to use.
 pub fn bound(routine: &Routine, state: State) -> Result<Figures, Refusal> {
-    explored(routine, state).0
+    explored(routine, state, |_| ()).0
 }
 
-/// The bound, and how many steps were looked at, also where it is refused.
-pub fn explored(routine: &Routine, state: State) -> (Result<Figures, Refusal>, u64) {
-    let mut explorer = Explorer { routine, steps: 0 };
+/// The bound, and how many steps were looked at, also where it is refused; `note` is told of each jump.
+pub fn explored(routine: &Routine, state: State, note: impl FnMut(Jump)) -> (Result<Figures, Refusal>, u64) {
+    let mut explorer = Explorer { routine, steps: 0, note };
     let mut answer = explorer.walk(state, OPENINGS);
     if let Ok(figures) = &mut answer {
         figures.steps = explorer.steps;
@@ -41,7 +50,7 @@ pub fn explored(routine: &Routine, state: State) -> (Result<Figures, Refusal>, u
     (answer, explorer.steps)
 }
 
-impl Explorer<'_> {
+impl<F: FnMut(Jump)> Explorer<'_, F> {
     fn walk(&mut self, mut state: State, openings: u32) -> Result<Figures, Refusal> {
         let (mut cycles, mut words, mut depth) = (0, 0, state.height);
         loop {
@@ -58,6 +67,10 @@ impl Explorer<'_> {
             match state.step(line, || Cell::Unknown) {
                 None => return refused(7, at as usize),
                 Some(Next::Goes) => depth = depth.max(state.height),
+                Some(Next::Jumps) => {
+                    cycles += line.extra;
+                    (self.note)(Jump::Known { extra: line.extra });
+                }
                 Some(Next::Stops) => {
                     return Ok(Figures { cycles, words, depth, steps: 0, path: Path { taken: 0, length: 0 } });
                 }
@@ -69,14 +82,16 @@ impl Explorer<'_> {
                     taken.at = target;
                     let n = self.walk(state, openings - 1)?;
                     let t = self.walk(taken, openings - 1)?;
-                    let worst = if n.cycles > t.cycles { &n } else { &t };
+                    (self.note)(Jump::Opened { at, extra: line.extra, not_taken: n.cycles, taken: t.cycles });
+                    let jump = line.extra + t.cycles;
+                    let worst = if n.cycles > jump { &n } else { &t };
                     return Ok(Figures {
-                        cycles: cycles + worst.cycles,
+                        cycles: cycles + n.cycles.max(jump),
                         words: words + n.words.max(t.words),
                         depth: depth.max(n.depth).max(t.depth),
                         steps: 0,
                         path: Path {
-                            taken: worst.path.taken << 1 | (n.cycles <= t.cycles) as u64,
+                            taken: worst.path.taken << 1 | (n.cycles <= jump) as u64,
                             length: worst.path.length + 1,
                         },
                     });

@@ -1,7 +1,7 @@
-//! The cases on the edges and the small examples of document 01, with the answers given there; and the files that the programs of
-//! `crates/` are run with, which are made of them.
+//! The cases on the edges and the small examples of document 01, with the answers given there and zeros on the line of extras; those of
+//! change request 1; and the files that the programs of `crates/` are run with, which are made of them.
 use crate::change::Base::{File, Named};
-use crate::change::Change::{FirstBytes, Nothing};
+use crate::change::Change::{FirstBytes, Nothing, Without};
 use crate::change::Told::{Refusal, Report};
 use crate::change::{append, lines, made, refused, word, Base, Entry, Text};
 use crate::report::MEMORY;
@@ -20,12 +20,11 @@ const PUBLISHED_BRANCH: Base = File(|| published().replace("BRANCHIF", "BRANCH")
 const FIGURE_4: Base = File(|| include_str!("../../examples/figure4.txt").to_string());
 const STOP: Base = File(|| file(1000, "STOP", "1", "ACCU", "0", "0 STOP -\n"));
 
-/// A file from its budget, kinds with cycles, cells and code; TICK is 1000, words are 0.
+/// A file from its budget, kinds with cycles, cells and code; TICK is 1000, words and extras are 0.
 fn file(budget: u32, kinds: &str, cycles: &str, names: &str, cells: &str, code: &str) -> String {
-    let words = vec!["0"; kinds.split(' ').count()].join(" ");
-    format!(
-        "BUDGET TICK\n{budget} 1000\n{kinds}\n{cycles}\n{words}\n-\n-\n-\n{names}\n{cells}\n-\n-\nAT OP ARG\n{code}"
-    )
+    let zeros = vec!["0"; kinds.split(' ').count()].join(" ");
+    let prices = format!("{kinds}\n{cycles}\n{zeros}\n{zeros}");
+    format!("BUDGET TICK\n{budget} 1000\n{prices}\n-\n-\n-\n{names}\n{cells}\n-\n-\nAT OP ARG\n{code}")
 }
 
 /// As many BRANCHIF, each to STOP behind them, with an unknown accumulator.
@@ -47,9 +46,11 @@ fn gives_the_lowest(first: &str, then: &str) -> String {
     file(99, kinds, "1 1 1 1 1 1 1 1", "ACCU", "0", &format!("0 {first}\n1 {then}\n{compared}"))
 }
 
-/// What `crates/cases` is run with: the published example (case 1, run: case 7), the cases that are not starred, each row's example.
+/// What `crates/cases` is run with: the published example (case 1, run: case 7), the cases that are not starred, each row's example, and
+/// what change request 1 adds to them.
 pub fn cases() -> Vec<Text> {
-    let mut texts = made([published_example(), not_starred(), refusal_table()].into_iter().flatten().collect());
+    let lists = [published_example(), not_starred(), refusal_table(), taken_jumps()];
+    let mut texts = made(lists.into_iter().flatten().collect());
     // the program lends a byte less for it
     texts.iter_mut().find(|text| text.name == "lent_127").unwrap().lent = MEMORY - 1;
     texts
@@ -57,8 +58,8 @@ pub fn cases() -> Vec<Text> {
 
 fn published_example() -> Vec<Entry> {
     vec![
-        ("published", PUBLISHED, Nothing, [Report("65 4 1 6 65 N"), Refusal(11, 10)]),
-        ("published_tick_2000", PUBLISHED, word(2, 2, "2000"), [Report("65 4 1 6 33 N"), Refusal(11, 10)]),
+        ("published", PUBLISHED, Nothing, [Report("65 4 1 6 65 N"), Refusal(11, 11)]),
+        ("published_tick_2000", PUBLISHED, word(2, 2, "2000"), [Report("65 4 1 6 33 N"), Refusal(11, 11)]),
         ("published_run", PUBLISHED_KNOWN, append("ANSWER\n7\n"), [Report("65 4 1 6 65 N"), Report("56 4 1 3")]),
     ]
 }
@@ -67,21 +68,21 @@ fn published_example() -> Vec<Entry> {
 fn not_starred() -> Vec<Entry> {
     let last_way_taken = Report("161 0 0 65 161 NNNNNNNNNNNNNNNNNNNNNNNNNNNNNNNT");
     vec![
-        ("openings_32", File(|| branches(32)), Nothing, [last_way_taken, Refusal(11, 10)]),
-        ("openings_33", File(|| branches(33)), Nothing, [Refusal(8, 32), Refusal(11, 10)]),
+        ("openings_32", File(|| branches(32)), Nothing, [last_way_taken, Refusal(11, 11)]),
+        ("openings_33", File(|| branches(33)), Nothing, [Refusal(8, 32), Refusal(11, 11)]),
         (
             "openings_33_all_known",
             Named("openings_33"),
-            word(10, 1, "0"),
+            word(11, 1, "0"),
             [Report("166 0 0 34 166 -"), Report("166 0 0 34")],
         ),
         ("push_64", File(|| pushes(64)), Nothing, [Report("65 0 64 65 65 -"), Report("65 0 64 65")]),
         ("push_65", File(|| pushes(65)), Nothing, refused(7, 64)),
-        ("figure_4", FIGURE_4, Nothing, [Report("2121 0 6 27 212 N"), Refusal(11, 10)]),
+        ("figure_4", FIGURE_4, Nothing, [Report("2121 0 6 27 212 N"), Refusal(11, 11)]),
         (
             "figure_4_run",
             FIGURE_4,
-            lines(10, 12, "0 #0 1\nB0.0 B0.1\n0 0"),
+            lines(11, 13, "0 #0 1\nB0.0 B0.1\n0 0"),
             [Report("2121 0 6 16 212 -"), Report("2121 0 6 16")],
         ),
     ]
@@ -90,7 +91,7 @@ fn not_starred() -> Vec<Entry> {
 /// The small examples of the refusal table; beside two of them the nearest text that this row does not refuse.
 fn refusal_table() -> Vec<Entry> {
     let too_long = "A".repeat(TEXT_LIMIT + 1 - published().len());
-    let stop_unpriced = "C_CALL1 BRANCHIF CONST2 ADDINT\n10 5 2 7\n0 0 0 0";
+    let stop_unpriced = "C_CALL1 BRANCHIF CONST2 ADDINT\n10 5 2 7\n0 0 0 0\n0 0 0 0";
     let push: Base = File(|| file(1000, "PUSH", "1", "ACCU", "0", "0 PUSH -\n"));
     let for_ever: Base = File(|| file(1000, "BRANCH", "1", "ACCU", "0", "0 BRANCH 0\n"));
     let opens_for_ever: Base = File(|| file(1000, "BRANCHIF STOP", "5 1", "ACCU", "?", "0 BRANCHIF 0\n1 STOP -\n"));
@@ -99,20 +100,33 @@ fn refusal_table() -> Vec<Entry> {
         ("bytes_32769", PUBLISHED, append(too_long), refused(1, 0)),
         ("empty", PUBLISHED, FirstBytes(0), refused(2, 1)),
         ("budget_0", PUBLISHED, word(2, 1, "0"), refused(3, 2)),
-        ("absent_block", PUBLISHED, lines(10, 12, "0 #1\nB0.0\n0"), refused(4, 10)),
-        ("present_block", PUBLISHED, lines(10, 12, "0 #0\nB0.0\n0"), refused(7, 3)),
-        ("stop_without_a_price", PUBLISHED, lines(3, 5, stop_unpriced), refused(5, 18)),
-        ("branch_5_in_0_to_4", PUBLISHED_BRANCH, word(15, 3, "5"), refused(6, 15)),
-        ("branch_4_in_0_to_4", PUBLISHED_BRANCH, Nothing, [Report("56 4 1 3 56 -"), Refusal(11, 10)]),
-        ("unknown_accumulator_in_a_run", STOP, word(10, 1, "?"), [Report("1 0 0 1 1 -"), Refusal(11, 10)]),
-        ("unknown_field_in_a_run", STOP, lines(11, 12, "B0.0\n?"), [Report("1 0 0 1 1 -"), Refusal(11, 12)]),
+        ("absent_block", PUBLISHED, lines(11, 13, "0 #1\nB0.0\n0"), refused(4, 11)),
+        ("present_block", PUBLISHED, lines(11, 13, "0 #0\nB0.0\n0"), refused(7, 3)),
+        ("stop_without_a_price", PUBLISHED, lines(3, 6, stop_unpriced), refused(5, 19)),
+        ("branch_5_in_0_to_4", PUBLISHED_BRANCH, word(16, 3, "5"), refused(6, 16)),
+        ("branch_4_in_0_to_4", PUBLISHED_BRANCH, Nothing, [Report("56 4 1 3 56 -"), Refusal(11, 11)]),
+        ("unknown_accumulator_in_a_run", STOP, word(11, 1, "?"), [Report("1 0 0 1 1 -"), Refusal(11, 11)]),
+        ("unknown_field_in_a_run", STOP, lines(12, 13, "B0.0\n?"), [Report("1 0 0 1 1 -"), Refusal(11, 13)]),
         ("push_as_the_whole_code", push, Nothing, refused(7, 1)),
-        ("thirty_third_opening", opens_for_ever, Nothing, [Refusal(8, 0), Refusal(11, 10)]),
+        ("thirty_third_opening", opens_for_ever, Nothing, [Refusal(8, 0), Refusal(11, 11)]),
         ("branch_0_at_0", for_ever, Nothing, refused(9, 0)),
     ]
 }
 
-/// The other starred cases, 2 to 6, which `analyser` proves: the independent implementation must give these too.
+/// Change request 1: the published file with an extra of BRANCHIF, with one of another kind, and without the line of extras.
+fn taken_jumps() -> Vec<Entry> {
+    vec![
+        ("extra_8", PUBLISHED, word(6, 2, "8"), [Report("65 4 1 6 65 N"), Refusal(11, 11)]),
+        ("extra_9", PUBLISHED, word(6, 2, "9"), [Report("65 4 1 6 65 T"), Refusal(11, 11)]),
+        ("extra_10", PUBLISHED, word(6, 2, "10"), [Report("66 4 1 6 66 T"), Refusal(11, 11)]),
+        ("extra_10_run", Named("published_run"), word(6, 2, "10"), [Report("66 4 1 6 66 T"), Report("66 4 1 3")]),
+        ("extra_of_stop", PUBLISHED, word(6, 5, "1"), refused(3, 6)),
+        ("former_format", PUBLISHED, Without(6), refused(2, 6)),
+    ]
+}
+
+/// The other starred cases, 2 to 6, and those of change request 1, which `analyser` proves: the independent implementation must give
+/// these too.
 pub fn starred() -> Vec<Text> {
     let one_branch: Base = File(|| file(2, "BRANCHIF STOP", "5 1", "ACCU", "?", "0 BRANCHIF 1\n1 STOP -\n"));
     let two_calls: Base = File(|| {
@@ -124,13 +138,29 @@ pub fn starred() -> Vec<Text> {
     let pops: Base =
         File(|| file(9, "ADDINT ACC0 STOP", "1 1 1", "ACCU S0", "? 5", "0 ADDINT -\n1 ACC0 -\n2 STOP -\n"));
     made(vec![
-        ("case_2_budget_2", one_branch, Nothing, [Refusal(9, 1), Refusal(11, 10)]),
-        ("case_2_budget_3", one_branch, word(2, 1, "3"), [Report("6 0 0 3 6 T"), Refusal(11, 10)]),
+        ("case_2_budget_2", one_branch, Nothing, [Refusal(9, 1), Refusal(11, 11)]),
+        ("case_2_budget_3", one_branch, word(2, 1, "3"), [Report("6 0 0 3 6 T"), Refusal(11, 11)]),
+        ("case_2_extra_3", Named("case_2_budget_3"), word(6, 1, "3"), [Report("9 0 0 3 9 T"), Refusal(11, 11)]),
+        (
+            "case_2_extra_3_accu_1",
+            Named("case_2_extra_3"),
+            word(11, 1, "1"),
+            [Report("9 0 0 2 9 -"), Report("9 0 0 2")],
+        ),
+        (
+            "case_2_extra_3_accu_0",
+            Named("case_2_extra_3"),
+            word(11, 1, "0"),
+            [Report("6 0 0 2 6 -"), Report("6 0 0 2")],
+        ),
         ("case_3", STOP, word(4, 1, "0"), [Report("0 0 0 1 0 -"), Report("0 0 0 1")]),
-        ("case_4", two_calls, Nothing, [Report("13 9 0 5 13 N"), Refusal(11, 10)]),
+        ("case_4", two_calls, Nothing, [Report("13 9 0 5 13 N"), Refusal(11, 11)]),
+        ("case_4_extra_5", two_calls, word(6, 1, "5"), [Report("13 9 0 5 13 N"), Refusal(11, 11)]),
+        ("case_4_extra_6", two_calls, word(6, 1, "6"), [Report("13 9 0 5 13 T"), Refusal(11, 11)]),
+        ("case_4_extra_7", two_calls, word(6, 1, "7"), [Report("14 9 0 5 14 T"), Refusal(11, 11)]),
         ("case_5_plus_1", plus_1, Nothing, [Report("7 0 1 7 7 -"), Report("7 0 1 7")]),
         ("case_5_negated", negated, Nothing, [Report("7 0 1 7 7 -"), Report("7 0 1 7")]),
-        ("case_6", pops, Nothing, [Refusal(7, 1), Refusal(11, 10)]),
+        ("case_6", pops, Nothing, [Refusal(7, 1), Refusal(11, 11)]),
     ])
 }
 

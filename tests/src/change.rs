@@ -1,4 +1,4 @@
-//! Texts made from a base by one change each, with the answers that document 01 gives them.
+//! Texts made from a base by one change each, with the answers that document 01 and the change requests give them.
 use crate::report::MEMORY;
 
 /// What a text is made from: a file, or one of the list before it, by its name.

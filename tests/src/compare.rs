@@ -4,7 +4,7 @@ use independent::bound::{bound, Figures, Path as Decisions};
 use independent::machine::State;
 use independent::random::Random;
 use independent::report::{bound_answer, printed, run_answer, told, Answer, MEMORY};
-use independent::routine::{read, Refusal, Routine, TEXT_LIMIT};
+use independent::routine::{line, read, Refusal, Routine, TEXT_LIMIT};
 use independent::run::Run;
 use std::io::Write;
 use std::path::Path;
@@ -72,11 +72,14 @@ fn figures(report: &[u8]) -> Vec<u64> {
 /// An accepted file with numbers for each `?` and other answers.
 fn filled(random: &mut Random, text: &[u8]) -> Vec<u8> {
     let text = std::str::from_utf8(text).unwrap();
-    let mut lines: Vec<String> = text.lines().take_while(|l| *l != "ANSWER").map(str::to_string).collect();
-    for n in [9, 11] {
+    // a primitive may be named ANSWER: the heading is looked for after the first line of code
+    let heading = text.lines().skip(line::CODE).position(|l| l == "ANSWER").map(|at| at + line::CODE);
+    let mut lines: Vec<String> = text.lines().take(heading.unwrap_or(usize::MAX)).map(str::to_string).collect();
+    for n in [line::CELLS, line::FIELDS] {
+        let held = &mut lines[n - 1];
         let words: Vec<String> =
-            lines[n].split(' ').map(|w| if w == "?" { random.number().to_string() } else { w.to_string() }).collect();
-        lines[n] = words.join(" ");
+            held.split(' ').map(|w| if w == "?" { random.number().to_string() } else { w.to_string() }).collect();
+        *held = words.join(" ");
     }
     let answers = *random.pick(&[0, 1, 3, 64]);
     if answers > 0 {

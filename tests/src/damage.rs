@@ -1,7 +1,7 @@
 //! Faults put into a routine file.
 use crate::draft::{Arg, Draft};
 use crate::random::Random;
-use crate::routine::{Argument, KINDS, TEXT_LIMIT};
+use crate::routine::{line as at, Argument, KINDS, TEXT_LIMIT};
 
 #[rustfmt::skip]
 const WORDS: &[&str] = &[
@@ -25,10 +25,10 @@ fn text(lines: &Lines) -> Vec<u8> {
     lines.iter().flat_map(|l| (l.join(" ") + "\n").into_bytes()).collect()
 }
 
-/// A line, the first thirteen as often as all others.
+/// A line, those before the code as often as all.
 fn line(random: &mut Random, lines: &Lines) -> usize {
     if random.one_in(2) {
-        random.below(lines.len().min(13))
+        random.below(lines.len().min(at::CODE - 1))
     } else {
         random.below(lines.len())
     }
@@ -79,6 +79,29 @@ fn among_words(random: &mut Random, lines: &mut Lines) {
     }
 }
 
+/// One fault of the line of extras: it is missing, as in a file of the former format, it is another line of values, it has a word more
+/// or fewer, or it is empty.
+fn among_extras(random: &mut Random, lines: &mut Lines) {
+    let n = at::KIND_EXTRAS - 1;
+    if lines.len() <= n {
+        return;
+    }
+    match random.below(6) {
+        0 | 1 => {
+            lines.remove(n);
+        }
+        2 => {
+            let other = *random.pick(&[at::KIND_CYCLES, at::KIND_WORDS]) - 1;
+            lines[n] = lines[other].clone();
+        }
+        3 => lines[n].push(random.pick(&["0", "1", "-"]).to_string()),
+        4 if lines[n].len() > 1 => {
+            lines[n].pop();
+        }
+        _ => lines[n] = vec!["-".to_string()],
+    }
+}
+
 /// One fault among the bytes.
 fn among_bytes(random: &mut Random, text: &mut Vec<u8>) {
     if text.is_empty() {
@@ -109,7 +132,7 @@ fn among_bytes(random: &mut Random, text: &mut Vec<u8>) {
 fn among_parts(random: &mut Random, draft: &mut Draft) {
     let lines = draft.code.len();
     let code = random.below(lines);
-    match random.below(18) {
+    match random.below(20) {
         0 if draft.kinds.len() > 1 => {
             // 5
             let n = random.below(draft.kinds.len());
@@ -133,12 +156,12 @@ fn among_parts(random: &mut Random, draft: &mut Draft) {
         7 => {
             let name = random.pick(WORDS).to_string();
             let n = random.below(draft.primitives.len() + 1);
-            draft.primitives.insert(n, (name, 1, 1));
+            draft.primitives.insert(n, (name, [1, 1]));
         }
         8 => {
             // 2
             let more = random.within(31, 34);
-            draft.primitives = (0..more).map(|i| (format!("Z{i}"), i, i)).collect();
+            draft.primitives = (0..more).map(|i| (format!("Z{i}"), [i, i])).collect();
         }
         9 => draft.answers = vec![7; random.within(63, 66)],
         10 => {
@@ -152,8 +175,21 @@ fn among_parts(random: &mut Random, draft: &mut Draft) {
         12 if !draft.kinds.is_empty() => {
             // 3
             let n = random.below(draft.kinds.len());
-            draft.kinds[n].1 += *random.pick(&[0, 65_536]);
-            draft.kinds[n].2 += *random.pick(&[0, 256]);
+            draft.kinds[n].1[0] += *random.pick(&[0, 65_536]);
+            draft.kinds[n].1[1] += *random.pick(&[0, 256]);
+        }
+        17 if !draft.kinds.is_empty() => {
+            // an extra of any kind, of BRANCH and of a name that is no kind
+            let n = random.below(draft.kinds.len());
+            let name = random.pick(&[&draft.kinds[n].0, "BRANCH", "BRANCHIFS"]).to_string();
+            draft.kinds[n] = (name, [1, 1, *random.pick(&[1, 7, 65_535])]);
+        }
+        18 => {
+            // an extra at an end of its range, or just beyond
+            let name = *random.pick(&["BRANCHIF", "BRANCHIFNOT"]);
+            draft.price(name);
+            let kind = draft.kinds.iter_mut().find(|k| k.0 == name).unwrap();
+            kind.1[2] = *random.pick(&[0, 65_535, 65_536]);
         }
         13 => {
             let n = random.below(draft.cells.len());
@@ -165,9 +201,7 @@ fn among_parts(random: &mut Random, draft: &mut Draft) {
             let (name, argument) = **random.pick(&ranged);
             if let Argument::Number(low, high) = argument {
                 draft.code[code] = (name, Arg::Number(*random.pick(&[low - 1, low, high, high + 1])));
-                if draft.kinds.iter().all(|k| k.0 != name) {
-                    draft.kinds.push((name.to_string(), 3, 1));
-                }
+                draft.price(name);
             }
         }
         14 => draft.first = *random.pick(&[60_001, 61_990, 62_000, 62_001]),
@@ -190,9 +224,7 @@ fn near_limit(random: &mut Random, draft: &mut Draft) -> Vec<u8> {
     draft.code = vec![("CONSTINT", Arg::Number(i32::MIN as i64)); 1023];
     draft.code.push(("STOP", Arg::Nothing));
     for name in ["CONSTINT", "PUSHCONSTINT", "STOP"] {
-        if draft.kinds.iter().all(|k| k.0 != name) {
-            draft.kinds.push((name.to_string(), 3, 1));
-        }
+        draft.price(name);
     }
     draft.answers = vec![i32::MIN; 64];
     draft.budget = 1023 + random.below(4) as u64;
@@ -217,13 +249,16 @@ pub fn damaged(random: &mut Random, draft: &mut Draft) -> Vec<u8> {
         return near_limit(random, draft);
     }
     let faults = if random.one_in(2) { 1 } else { random.within(2, 3) };
-    let kinds: Vec<usize> = (0..faults).map(|_| random.below(8)).collect();
+    let kinds: Vec<usize> = (0..faults).map(|_| random.below(9)).collect();
     for _ in kinds.iter().filter(|k| **k < 4) {
         among_parts(random, draft);
     }
     let mut words = lines(&draft.text());
     for _ in kinds.iter().filter(|k| (4..7).contains(*k)) {
         among_words(random, &mut words);
+    }
+    for _ in kinds.iter().filter(|k| **k == 8) {
+        among_extras(random, &mut words);
     }
     let mut bytes = text(&words);
     for _ in kinds.iter().filter(|k| **k == 7) {

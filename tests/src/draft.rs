@@ -4,9 +4,10 @@
 pub struct Draft {
     pub budget: u64,
     pub tick: u64,
+    /// names with cycles, words and extra cycles of a jump
+    pub kinds: Vec<(String, [usize; 3])>,
     /// names with cycles and words
-    pub kinds: Vec<(String, usize, usize)>,
-    pub primitives: Vec<(String, usize, usize)>,
+    pub primitives: Vec<(String, [usize; 2])>,
     /// the accumulator, then the stack from the top
     pub cells: Vec<String>,
     /// the fields of each block
@@ -25,15 +26,33 @@ pub enum Arg {
     Primitive(usize),
 }
 
+fn list(words: Vec<String>) -> String {
+    if words.is_empty() {
+        "-".to_string()
+    } else {
+        words.join(" ")
+    }
+}
+
+/// The line of names and the lines of values of a price section.
+fn section<const N: usize>(prices: &[(String, [usize; N])]) -> impl Iterator<Item = String> + '_ {
+    let names = list(prices.iter().map(|p| p.0.clone()).collect());
+    let values = (0..N).map(|i| list(prices.iter().map(|p| p.1[i].to_string()).collect()));
+    std::iter::once(names).chain(values)
+}
+
 impl Draft {
-    pub fn text(&self) -> String {
-        let list = |words: Vec<String>| if words.is_empty() { "-".to_string() } else { words.join(" ") };
-        let mut lines = vec!["BUDGET TICK".to_string(), format!("{} {}", self.budget, self.tick)];
-        for prices in [&self.kinds, &self.primitives] {
-            lines.push(list(prices.iter().map(|p| p.0.clone()).collect()));
-            lines.push(list(prices.iter().map(|p| p.1.to_string()).collect()));
-            lines.push(list(prices.iter().map(|p| p.2.to_string()).collect()));
+    /// A price for a kind that has none.
+    pub fn price(&mut self, kind: &str) {
+        if self.kinds.iter().all(|k| k.0 != kind) {
+            self.kinds.push((kind.to_string(), [3, 1, 0]));
         }
+    }
+
+    pub fn text(&self) -> String {
+        let mut lines = vec!["BUDGET TICK".to_string(), format!("{} {}", self.budget, self.tick)];
+        lines.extend(section(&self.kinds));
+        lines.extend(section(&self.primitives));
         let stack = (0..self.cells.len() - 1).map(|i| format!("S{i}"));
         lines.push(list(std::iter::once("ACCU".to_string()).chain(stack).collect()));
         lines.push(list(self.cells.clone()));

@@ -1,8 +1,8 @@
 //! Routine files from a seed: spelt right, and mostly with code that does not get stuck.
-use crate::bound::explored;
+use crate::bound::{explored, Jump};
 use crate::draft::{Arg, Draft};
 use crate::random::Random;
-use crate::routine::{read, KINDS};
+use crate::routine::{jumps_at_a_cost, read, KINDS};
 use crate::writer::{Shape, Shapes, Writer};
 
 fn price(random: &mut Random, most: usize, style: usize) -> usize {
@@ -11,6 +11,20 @@ fn price(random: &mut Random, most: usize, style: usize) -> usize {
         1 => random.below(most + 1),
         2 => most,
         _ => random.below(20),
+    }
+}
+
+/// The extra of a kind, mostly of the size of the prices.
+fn extra(random: &mut Random, kind: &str, style: usize) -> usize {
+    if !jumps_at_a_cost(kind.as_bytes()) {
+        return 0;
+    }
+    match random.below(8) {
+        0 => 0,
+        1 => 65_535 - random.below(2),
+        2 => random.below(65_536),
+        3 | 4 => random.below(4),
+        _ => price(random, 65_535, style),
     }
 }
 
@@ -57,7 +71,7 @@ pub fn draft(random: &mut Random) -> Draft {
                 2 if i < 3 => ["READ", "STOP", "A"][i].to_string(),
                 _ => format!("Q{i}"),
             };
-            (name, price(random, 65_535, style), price(random, 255, style))
+            (name, [price(random, 65_535, style), price(random, 255, style)])
         })
         .collect();
 
@@ -131,13 +145,16 @@ pub fn draft(random: &mut Random) -> Draft {
         _ => 0,
     };
     let all = random.one_in(4);
-    let mut kinds: Vec<(String, usize, usize)> = KINDS
+    let mut kinds: Vec<(String, [usize; 3])> = KINDS
         .iter()
         .filter(|k| all || code.iter().any(|c| c.0 == k.0) || random.one_in(10))
         .map(|k| k.0.to_string())
         .collect::<Vec<_>>()
         .into_iter()
-        .map(|name| (name, price(random, 65_535, style), price(random, 255, style)))
+        .map(|name| {
+            let prices = [price(random, 65_535, style), price(random, 255, style), extra(random, &name, style)];
+            (name, prices)
+        })
         .collect();
     for i in (1..kinds.len()).rev() {
         kinds.swap(i, random.below(i + 1));
@@ -157,8 +174,31 @@ pub fn draft(random: &mut Random) -> Draft {
         _ => 1 + random.next() % 4_000_000_000,
     };
     let mut draft = Draft { budget: 1, tick, kinds, primitives, cells, blocks, first, code, answers };
+    if random.one_in(3) {
+        tie(random, &mut draft);
+    }
     draft.budget = budget(random, &draft);
     draft
+}
+
+/// Puts the extra of a kind to what the other way of one of its branches costs more, if there is such a branch.
+fn tie(random: &mut Random, draft: &mut Draft) {
+    let Ok(mut routine) = read(draft.text().as_bytes(), false) else {
+        return;
+    };
+    routine.budget = 3000;
+    let mut ties = Vec::new();
+    let _ = explored(&routine, routine.start.clone(), |jump| match jump {
+        Jump::Opened { at, not_taken, taken, .. } if (taken + 1..=taken + 65_535).contains(&not_taken) => {
+            ties.push((at, not_taken - taken));
+        }
+        _ => {}
+    });
+    if !ties.is_empty() {
+        let (at, more) = *random.pick(&ties);
+        let kind = draft.code[at as usize - draft.first].0;
+        draft.kinds.iter_mut().find(|k| k.0 == kind).unwrap().1[2] = more as usize;
+    }
 }
 
 /// A budget, mostly near the number of steps that are looked at.
@@ -168,7 +208,7 @@ fn budget(random: &mut Random, draft: &Draft) -> u64 {
         return most;
     };
     routine.budget = most;
-    let (answer, steps) = explored(&routine, routine.start.clone());
+    let (answer, steps) = explored(&routine, routine.start.clone(), |_| ());
     if answer.is_err_and(|refusal| refusal.number == 9) {
         return 1 + random.below(most as usize) as u64;
     }

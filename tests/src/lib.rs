@@ -1,5 +1,5 @@
-//! Document 01 implemented a second time, from its text alone, in plain Rust; a generator of routine files; and the analyser's C
-//! functions, to be compared.
+//! Document 01 and the change requests that have landed (`docs/CHANGES.md`), implemented a second time from their text alone, in plain
+//! Rust; a generator of routine files; and the analyser's C functions, to be compared.
 pub mod analyser;
 pub mod bound;
 pub mod cases;

@@ -62,7 +62,9 @@ pub struct State {
 pub enum Next {
     /// the state as it now is
     Goes,
-    /// the state as it now is, or the same at this target
+    /// the state as it now is, after a conditional branch that has jumped
+    Jumps,
+    /// the state as it now is, or the same after a jump to this target
     Opens(u32),
     Stops,
 }
@@ -167,12 +169,11 @@ impl State {
 
     fn branch(&mut self, target: u32, on_non_zero: bool) -> Option<Next> {
         match self.accumulator {
-            Cell::Number(v) => {
-                if (v != 0) == on_non_zero {
-                    self.at = target;
-                }
-                Some(Next::Goes)
+            Cell::Number(v) if (v != 0) == on_non_zero => {
+                self.at = target;
+                Some(Next::Jumps)
             }
+            Cell::Number(_) => Some(Next::Goes),
             Cell::Unknown => Some(Next::Opens(target)),
             Cell::Handle(_) => None,
         }

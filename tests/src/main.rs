@@ -1,16 +1,18 @@
-//! The analyser's C functions and programs compared with the independent implementation: on the cases of document 01 and on texts
-//! with the answers that it gives them, and on files from a seed.
+//! The analyser's C functions and programs compared with the independent implementation: on the cases of document 01 and of the change
+//! requests and on texts, with the answers that these papers give them, and on files from a seed.
 mod compare;
+mod extras;
 mod pinned;
 
 use compare::{by_programs, file};
+use extras::Extras;
 use independent::analyser;
 use independent::cases::{cases, program_files, starred};
 use independent::damage::damaged;
 use independent::generate::draft;
 use independent::random::Random;
 use independent::report::{bound_answer, told, Answer, MEMORY};
-use independent::routine::KINDS;
+use independent::routine::{line, KINDS};
 use independent::texts::{texts, TEXTS};
 use pinned::pinned;
 use std::collections::{BTreeMap, BTreeSet};
@@ -31,6 +33,7 @@ struct Tally {
     kinds: BTreeSet<Vec<u8>>,
     /// answers of the bound and of the run, by the number of the refusal; 0 for a report
     answers: BTreeMap<u32, [u64; 2]>,
+    extras: Extras,
 }
 
 impl Tally {
@@ -49,12 +52,13 @@ impl Tally {
 
     fn note(&mut self, text: &[u8], (bound, run): &(Answer, Answer)) {
         if bound.is_ok() {
-            let code = text.split(|b| *b == b'\n').skip(13);
+            let code = text.split(|b| *b == b'\n').skip(line::CODE - 1);
             self.kinds.extend(code.filter_map(|l| l.split(|b| *b == b' ').nth(1)).map(Vec::from));
         }
         for (i, answer) in [bound, run].into_iter().enumerate() {
             self.answers.entry(answer.as_ref().err().map_or(0, |r| r.number)).or_default()[i] += 1;
         }
+        self.extras.note(text, bound, run);
     }
 }
 
@@ -79,18 +83,19 @@ fn compare_program_files(tally: &mut Tally) {
     }
 }
 
-/// Files enough that every kind and every refusal of a text must come up.
+/// Files enough that every kind, every refusal of a text and every use of an extra must come up.
 const MANY: u64 = 5_000;
 
-/// Whether the files that were compared had all kinds in accepted code, reports, and each refusal of a text.
+/// Whether the files that were compared had all kinds in accepted code, reports, each refusal of a text, and extras wherever they count.
 fn covers(tally: &Tally) -> Result<(), String> {
     let missing: Vec<u32> = (0..=11).filter(|n| *n != 10 && !tally.answers.contains_key(n)).collect();
-    if tally.kinds.len() == KINDS.len() && missing.is_empty() && tally.interruptions >= MANY / 2 {
+    let rare: Vec<_> = tally.extras.counts().into_iter().filter(|(_, count)| *count < MANY / 200).collect();
+    if tally.kinds.len() == KINDS.len() && missing.is_empty() && rare.is_empty() && tally.interruptions >= MANY / 2 {
         Ok(())
     } else {
         let (kinds, interruptions) = (tally.kinds.len(), tally.interruptions);
         Err(format!(
-            "{kinds} kinds and {interruptions} interruptions came up, and no answer of the numbers {missing:?}"
+            "{kinds} kinds and {interruptions} interruptions came up, no answer of the numbers {missing:?}, and too few of {rare:?}"
         ))
     }
 }
@@ -149,6 +154,9 @@ fn main() {
         println!("{name:<10} {bound:>7} {run:>7}");
     }
     println!("kinds in the code of accepted files: {}", tally.kinds.len());
+    for (what, count) in tally.extras.counts() {
+        println!("files with {what}: {count}");
+    }
     println!("files given to the programs too: {}", tally.given_to_programs);
     println!("runs interrupted and bounded afresh: {}", tally.interruptions);
     println!("{} passed, {} failed", tally.passed, tally.failed);

@@ -1,4 +1,5 @@
-//! Texts whose answers are read from document 01: the C functions, the independent implementation and the programs must give these.
+//! Texts whose answers are read from document 01 and the change requests: the C functions, the independent implementation and the
+//! programs must give these.
 use crate::compare::{by_programs, compare, shown};
 use independent::analyser::{self, Function};
 use independent::change::Text;

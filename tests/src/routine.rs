@@ -3,6 +3,26 @@ use crate::machine::{Cell, Instruction, Operator, State, FIELDS};
 
 pub const TEXT_LIMIT: usize = 32_768;
 
+/// The numbers of the lines up to the code.
+pub mod line {
+    pub const LIMIT_NAMES: usize = 1;
+    pub const LIMITS: usize = 2;
+    pub const KINDS: usize = 3;
+    pub const KIND_CYCLES: usize = 4;
+    pub const KIND_WORDS: usize = 5;
+    pub const KIND_EXTRAS: usize = 6;
+    pub const PRIMITIVES: usize = 7;
+    pub const PRIMITIVE_CYCLES: usize = 8;
+    pub const PRIMITIVE_WORDS: usize = 9;
+    pub const CELL_NAMES: usize = 10;
+    pub const CELLS: usize = 11;
+    pub const FIELD_NAMES: usize = 12;
+    pub const FIELDS: usize = 13;
+    pub const CODE_NAMES: usize = 14;
+    /// the first line of code
+    pub const CODE: usize = 15;
+}
+
 /// A refusal's number and place.
 #[derive(Clone, Copy, PartialEq, Eq, Debug)]
 pub struct Refusal {
@@ -95,14 +115,22 @@ pub fn argument(kind: &[u8]) -> Option<Argument> {
     KINDS.iter().find(|k| k.0.as_bytes() == kind).map(|k| k.1)
 }
 
+/// Whether a kind may cost extra cycles when it jumps; BRANCH, which always jumps, may not.
+pub fn jumps_at_a_cost(kind: &[u8]) -> bool {
+    kind == b"BRANCHIF" || kind == b"BRANCHIFNOT"
+}
+
 /// A line of code with all that its step costs.
 #[derive(Clone, Copy)]
 pub struct Line {
     pub instruction: Instruction,
     pub cycles: u64,
     pub words: u64,
+    /// cycles more where a conditional branch jumps
+    pub extra: u64,
 }
 
+#[derive(Clone)]
 pub struct Routine {
     pub budget: u64,
     pub tick: u64,
@@ -173,7 +201,7 @@ impl<'a> Layout<'a> {
 
     /// The numbers of the lines of code.
     fn code(&self) -> std::ops::Range<usize> {
-        14..self.code_end
+        line::CODE..self.code_end
     }
 
     /// The numbers of the lines of answers.
@@ -219,23 +247,23 @@ fn layout(text: &[u8]) -> Result<Layout<'_>, Refusal> {
             }
         };
         let good = match n {
-            1 => words == [&b"BUDGET"[..], b"TICK"],
-            2 => values(1, is_number),
-            3 | 11 => true,
-            4 | 5 => values(3, is_number),
-            6 => entries(&words).len() <= 32,
-            7 | 8 => values(6, is_number),
-            9 => words != [b"-"],
-            10 => values(9, is_cell),
-            12 => values(11, is_cell),
-            13 => words == [&b"AT"[..], b"OP", b"ARG"],
+            line::LIMIT_NAMES => words == [&b"BUDGET"[..], b"TICK"],
+            line::LIMITS => values(line::LIMIT_NAMES, is_number),
+            line::KINDS | line::FIELD_NAMES => true,
+            line::KIND_CYCLES | line::KIND_WORDS | line::KIND_EXTRAS => values(line::KINDS, is_number),
+            line::PRIMITIVES => entries(&words).len() <= 32,
+            line::PRIMITIVE_CYCLES | line::PRIMITIVE_WORDS => values(line::PRIMITIVES, is_number),
+            line::CELL_NAMES => words != [b"-"],
+            line::CELLS => values(line::CELL_NAMES, is_cell),
+            line::FIELDS => values(line::FIELD_NAMES, is_cell),
+            line::CODE_NAMES => words == [&b"AT"[..], b"OP", b"ARG"],
             _ => match answer_line {
                 Some(at) => n - at <= 64 && words.len() == 1 && is_number(words[0]),
-                None if n > 14 && words == [b"ANSWER"] => {
+                None if n > line::CODE && words == [b"ANSWER"] => {
                     answer_line = Some(n);
                     true
                 }
-                None => n < 14 + 1024 && code_line(&words),
+                None => n < line::CODE + 1024 && code_line(&words),
             },
         };
         if !good {
@@ -244,7 +272,7 @@ fn layout(text: &[u8]) -> Result<Layout<'_>, Refusal> {
         lines.push(words);
     }
     let n = lines.len() + 1;
-    if n <= 14 || answer_line == Some(n - 1) {
+    if n <= line::CODE || answer_line == Some(n - 1) {
         return refused(2, n);
     }
     Ok(Layout { lines, code_end: answer_line.unwrap_or(n) })
@@ -266,19 +294,25 @@ fn code_line(words: &[&[u8]]) -> bool {
 
 /// Row 3.
 fn ranges(file: &Layout) -> Result<(), Refusal> {
-    for n in 2..=file.lines.len() {
+    for n in line::LIMITS..=file.lines.len() {
         let all = |low: i64, high: i64| file.list(n).iter().all(|w| (low..=high).contains(&number(w).unwrap()));
         let good = match n {
-            2 => (1..=1_000_000).contains(&file.number(2, 0)) && (1..=4_000_000_000).contains(&file.number(2, 1)),
-            4 | 7 => all(0, 65_535),
-            5 | 8 => all(0, 255),
-            10 | 12 => file.list(n).iter().all(|w| match cell(w).unwrap() {
+            line::LIMITS => {
+                (1..=1_000_000).contains(&file.number(n, 0)) && (1..=4_000_000_000).contains(&file.number(n, 1))
+            }
+            line::KIND_CYCLES | line::PRIMITIVE_CYCLES => all(0, 65_535),
+            line::KIND_WORDS | line::PRIMITIVE_WORDS => all(0, 255),
+            line::KIND_EXTRAS => file.list(line::KINDS).iter().zip(file.list(n)).all(|(kind, w)| {
+                let most = if jumps_at_a_cost(kind) { 65_535 } else { 0 };
+                (0..=most).contains(&number(w).unwrap())
+            }),
+            line::CELLS | line::FIELDS => file.list(n).iter().all(|w| match cell(w).unwrap() {
                 Spelt::Number(v) => i32::try_from(v).is_ok(),
                 Spelt::Unknown => true,
                 Spelt::Handle(k) => (0..=7).contains(&k),
             }),
             _ if file.code().contains(&n) => {
-                let last = if n == 14 { 60_000 } else { 62_000 };
+                let last = if n == line::CODE { 60_000 } else { 62_000 };
                 (0..=last).contains(&file.number(n, 0))
                     && match argument(file.line(n)[1]) {
                         Some(Number(low, high)) => (low..=high).contains(&file.number(n, 2)),
@@ -308,7 +342,7 @@ fn primitive_name(word: &[u8]) -> bool {
         && word.iter().all(|&b| b.is_ascii_uppercase() || b.is_ascii_digit() || b == b'_')
 }
 
-/// The number of fields of each block that the names of line 11 make before one is out of sequence, and how many names that
+/// The number of fields of each block that the names of fields make before one is out of sequence, and how many names that
 /// are.
 fn blocks(names: &[&[u8]]) -> (Vec<usize>, usize) {
     let mut sizes: Vec<usize> = Vec::new();
@@ -329,8 +363,8 @@ fn blocks(names: &[&[u8]]) -> (Vec<usize>, usize) {
 
 /// Row 4.
 fn names(file: &Layout) -> Result<(), Refusal> {
-    let (sizes, made) = blocks(file.list(11));
-    for n in 3..file.code_end {
+    let (sizes, made) = blocks(file.list(line::FIELD_NAMES));
+    for n in line::KINDS..file.code_end {
         let present = || {
             file.list(n).iter().all(|w| match cell(w) {
                 Some(Spelt::Handle(k)) => (k as usize) < sizes.len(),
@@ -339,20 +373,20 @@ fn names(file: &Layout) -> Result<(), Refusal> {
         };
         let list = file.list(n);
         let good = match n {
-            3 => list.iter().all(|w| argument(w).is_some()) && !repeated(list),
-            6 => list.iter().all(|w| primitive_name(w)) && !repeated(list),
-            9 => {
+            line::KINDS => list.iter().all(|w| argument(w).is_some()) && !repeated(list),
+            line::PRIMITIVES => list.iter().all(|w| primitive_name(w)) && !repeated(list),
+            line::CELL_NAMES => {
                 list[0] == b"ACCU"
                     && list.len() <= 33
                     && list[1..].iter().enumerate().all(|(i, w)| format!("S{i}").as_bytes() == *w)
             }
-            10 | 12 => present(),
-            11 => made == list.len(),
-            _ if n >= 14 => {
+            line::CELLS | line::FIELDS => present(),
+            line::FIELD_NAMES => made == list.len(),
+            _ if n >= line::CODE => {
                 let kind = argument(file.line(n)[1]);
                 kind.is_some()
-                    && (n == 14 || file.number(n, 0) == file.number(n - 1, 0) + 1)
-                    && (kind != Some(Primitive) || file.list(6).contains(&file.line(n)[2]))
+                    && (n == line::CODE || file.number(n, 0) == file.number(n - 1, 0) + 1)
+                    && (kind != Some(Primitive) || file.list(line::PRIMITIVES).contains(&file.line(n)[2]))
             }
             _ => true,
         };
@@ -366,11 +400,11 @@ fn names(file: &Layout) -> Result<(), Refusal> {
 /// Rows 5 and 6.
 fn prices_and_targets(file: &Layout) -> Result<(), Refusal> {
     for n in file.code() {
-        if !file.list(3).contains(&file.line(n)[1]) {
+        if !file.list(line::KINDS).contains(&file.line(n)[1]) {
             return refused(5, n);
         }
     }
-    let first = file.number(14, 0);
+    let first = file.number(line::CODE, 0);
     let addresses = first..first + file.code().len() as i64;
     for n in file.code() {
         if argument(file.line(n)[1]) == Some(Target) && !addresses.contains(&file.number(n, 2)) {
@@ -390,7 +424,7 @@ pub fn read(text: &[u8], run: bool) -> Result<Routine, Refusal> {
     names(&file)?;
     prices_and_targets(&file)?;
     if run {
-        for n in [10, 12] {
+        for n in [line::CELLS, line::FIELDS] {
             if file.list(n).contains(&&b"?"[..]) {
                 return refused(11, n);
             }
@@ -411,40 +445,40 @@ fn routine(file: &Layout) -> Routine {
             })
             .collect()
     };
-    let first = file.number(14, 0) as u32;
-    let held = cells(10);
+    let first = file.number(line::CODE, 0) as u32;
+    let held = cells(line::CELLS);
     let mut start = State::new(first, held[0]);
     for (entry, value) in held[1..].iter().rev().enumerate() {
         start.stack[entry] = *value;
     }
     start.height = held.len() - 1;
-    let mut fields = cells(12).into_iter();
-    for (block, size) in blocks(file.list(11)).0.into_iter().enumerate() {
+    let mut fields = cells(line::FIELDS).into_iter();
+    for (block, size) in blocks(file.list(line::FIELD_NAMES)).0.into_iter().enumerate() {
         start.sizes[block] = size as u8;
         for field in 0..size {
             start.fields[block * FIELDS + field] = fields.next().unwrap();
         }
     }
-    let price = |names: usize, word: &[u8]| {
-        let i = file.list(names).iter().position(|w| *w == word).unwrap();
-        (file.number(names + 1, i) as u64, file.number(names + 2, i) as u64)
-    };
+    let place = |names: usize, word: &[u8]| file.list(names).iter().position(|w| *w == word).unwrap();
+    let value = |n: usize, place: usize| file.number(n, place) as u64;
     let code = file
         .code()
         .map(|n| {
             let (op, arg) = (file.line(n)[1], file.line(n)[2]);
-            let (mut cycles, mut words) = price(3, op);
+            let kind = place(line::KINDS, op);
+            let (mut cycles, mut words) = (value(line::KIND_CYCLES, kind), value(line::KIND_WORDS, kind));
             if argument(op) == Some(Primitive) {
-                let more = price(6, arg);
-                cycles += more.0;
-                words += more.1;
+                let primitive = place(line::PRIMITIVES, arg);
+                cycles += value(line::PRIMITIVE_CYCLES, primitive);
+                words += value(line::PRIMITIVE_WORDS, primitive);
             }
-            Line { instruction: instruction(op, number(arg).unwrap_or(0)), cycles, words }
+            let extra = value(line::KIND_EXTRAS, kind);
+            Line { instruction: instruction(op, number(arg).unwrap_or(0)), cycles, words, extra }
         })
         .collect();
     Routine {
-        budget: file.number(2, 0) as u64,
-        tick: file.number(2, 1) as u64,
+        budget: value(line::LIMITS, 0),
+        tick: value(line::LIMITS, 1),
         first,
         code,
         start,

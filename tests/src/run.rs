@@ -28,6 +28,7 @@ impl Run {
         let answers = &mut self.answers;
         match self.state.step(line, || Cell::Number(answers.pop_front().unwrap_or(0)))? {
             Next::Goes => self.depth = self.depth.max(self.state.height),
+            Next::Jumps => self.cycles += line.extra,
             Next::Stops => self.stopped = true,
             Next::Opens(_) => unreachable!("a run has no unknown cell"),
         }

@@ -16,7 +16,7 @@ use Rattle.cells.specs.Try.{done}
 use Rattle.machine.specs.Machine.{height, Instruction, fetch}
 use Rattle.machine.proofs.FetchLaws.{fetch-every}
 use Rattle.machine.proofs.HeightLaws.{Low}
-use Rattle.machine.proofs.PriceLaws.{AtMost}
+use Rattle.machine.proofs.PriceLaws.{AtMost, Both}
 use Rattle.bounds.specs.Tree.{Report, Verdict, openingLimit, bound}
 use Rattle.bounds.specs.Tree as verdicts
 use Rattle.bounds.specs.Run.{run}
@@ -134,7 +134,7 @@ passing-is-ascii text x e = every-all text (accepted-ascii text (read-passes tex
 -- ---- 128 bytes
 
 module _ (text : List ℕ) (x : Routine) (passes : Passes (lines text)) (is : x ≡ routineOf (lines text)) where
-  priced : (a : ℕ) (i : Instruction) → fetch (x .code) a ≡ done i → AtMost 131070 510 (i .price)
+  priced : (a : ℕ) (i : Instruction) → fetch (x .code) a ≡ done i → Both (AtMost 196605 510) (i .price) (i .extra)
   priced a i e = fetch-every (x .code) a i e (rw (← is) at (prices-small (lines text)))
 
   low : Low (x .start)
@@ -147,7 +147,7 @@ module _ (text : List ℕ) (x : Routine) (passes : Passes (lines text)) (is : x 
   ticks : 1 ≤ x .tick
   ticks = rw (← is) at (tick-positive passes)
 
-bound-small : (tick budget : ℕ) (q : Report) → 1 ≤ tick → budget ≤ 1000000 → Bounded 131070 510 budget q → Small tick q
+bound-small : (tick budget : ℕ) (q : Report) → 1 ≤ tick → budget ≤ 1000000 → Bounded 196605 510 budget q → Small tick q
 bound-small tick budget q t h b = record {
   cycles = omega (arith, b .cycles, b .steps);
   words = omega (arith, b .words, b .steps);
@@ -167,7 +167,7 @@ reports-fit = (λ text n bs e. of-bound text n bs e, λ text n bs e. of-run text
         let x = a .routine in
         let v = from-verdict (boundText (x .tick)) (bound (x .code) (x .budget) (x .start)) bs (a .gives) in
         let p = read-passes text x (a .reads) in
-        let b = bound-bounded 131070 510 (x .code) (priced text x (p .0) (p .1)) (x .budget) (x .start) (low text x (p .0) (p .1)) (v .report) (v .accepts) in
+        let b = bound-bounded 196605 510 (x .code) (priced text x (p .0) (p .1)) (x .budget) (x .start) (low text x (p .0) (p .1)) (v .report) (v .accepts) in
         let s = bound-small (x .tick) (x .budget) (v .report) (ticks text x (p .0) (p .1)) (within text x (p .0) (p .1)) b in
         (rw (← v .prints) (bound-fits (x .tick) (v .report) s), a .lent)
 
@@ -177,7 +177,7 @@ reports-fit = (λ text n bs e. of-bound text n bs e, λ text n bs e. of-run text
         let x = a .routine in
         let v = from-verdict runText (run (x .code) (x .budget) (x .start) (x .answers)) bs (a .gives) in
         let p = run-passes text x (a .reads) in
-        let b = run-bounded 131070 510 (x .code) (priced text x (p .0) (p .2)) (x .budget) (x .start) (low text x (p .0) (p .2)) (x .answers) (v .report) (v .accepts) in
+        let b = run-bounded 196605 510 (x .code) (priced text x (p .0) (p .2)) (x .budget) (x .start) (low text x (p .0) (p .2)) (x .answers) (v .report) (v .accepts) in
         let s = bound-small (x .tick) (x .budget) (v .report) (ticks text x (p .0) (p .2)) (within text x (p .0) (p .2)) b in
         (rw (← v .prints) (run-fits (v .report) (s .cycles) (s .words) (s .depth) (s .steps)), a .lent)
 

@@ -1,5 +1,5 @@
--- The starred cases of document 01, "Cases on the edges": one table of files and what is printed for them, and one proof.
--- Assumes nothing.
+-- The starred cases of document 01, "Cases on the edges", with a line of zeros for the extras, and those of document 02: one table of files
+-- and what is printed for them, and one proof. Assumes nothing.
 use mathlib.Core.Path.{_≡_, refl}
 use mathlib.Core.List.{List, [], _∷_, _++_}
 use Prim.Native.Nat.{ℕ}
@@ -42,16 +42,31 @@ abbrev published : String → String → List String → List ℕ
 published limits start answered =
     file
     ("BUDGET TICK" ∷ limits ∷
-    "C_CALL1 BRANCHIF CONST2 ADDINT STOP" ∷ "10 5 2 7 1" ∷ "0 0 0 0 0" ∷
+    "C_CALL1 BRANCHIF CONST2 ADDINT STOP" ∷ "10 5 2 7 1" ∷ "0 0 0 0 0" ∷ "0 0 0 0 0" ∷
     "READ" ∷ "40" ∷ "4" ∷
     "ACCU S0" ∷ start ∷
     "-" ∷ "-" ∷
     "AT OP ARG" ∷ "0 C_CALL1 READ" ∷ "1 BRANCHIF 4" ∷ "2 CONST2 -" ∷ "3 ADDINT -" ∷ "4 STOP -" ∷ answered)
 
--- a file with no primitive and no block: the limits, the kinds with their cycles and words, the cells, the code
-abbrev small : String → String → String → String → String → String → List String → List ℕ
-small limits kinds cycles words names cells code =
-    file ("BUDGET TICK" ∷ limits ∷ kinds ∷ cycles ∷ words ∷ "-" ∷ "-" ∷ "-" ∷ names ∷ cells ∷ "-" ∷ "-" ∷ "AT OP ARG" ∷ code)
+-- a file with no primitive and no block: the limits, the kinds with their cycles, words and extras, the cells, the code
+abbrev small : String → String → String → String → String → String → String → List String → List ℕ
+small limits kinds cycles words extras names cells code =
+    file ("BUDGET TICK" ∷ limits ∷ kinds ∷ cycles ∷ words ∷ extras ∷ "-" ∷ "-" ∷ "-" ∷ names ∷ cells ∷ "-" ∷ "-" ∷ "AT OP ARG" ∷ code)
+
+-- case 2, with its limits, its extras and its accumulator
+abbrev one-branch : String → String → String → List ℕ
+one-branch limits extras accu = small limits "BRANCHIF STOP" "5 1" "0 0" extras "ACCU" accu ("0 BRANCHIF 1" ∷ "1 STOP -" ∷ [])
+
+-- case 4, with its extras
+abbrev two-calls : String → List ℕ
+two-calls extras =
+    file
+    ("BUDGET TICK" ∷ "1000 1000" ∷
+    "BRANCHIF C_CALL1 STOP" ∷ "1 1 1" ∷ "0 0 0" ∷ extras ∷
+    "A B" ∷ "10 4" ∷ "1 9" ∷
+    "ACCU" ∷ "?" ∷
+    "-" ∷ "-" ∷
+    "AT OP ARG" ∷ "0 BRANCHIF 3" ∷ "1 C_CALL1 A" ∷ "2 STOP -" ∷ "3 C_CALL1 B" ∷ "4 STOP -" ∷ [])
 
 pub case1 : List ℕ
 case1 = published "1000 1000" "0 ?" []
@@ -60,32 +75,45 @@ pub case1-half : List ℕ
 case1-half = published "1000 2000" "0 ?" []
 
 pub case2 : List ℕ
-case2 = small "1000 1000" "BRANCHIF STOP" "5 1" "0 0" "ACCU" "?" ("0 BRANCHIF 1" ∷ "1 STOP -" ∷ [])
+case2 = one-branch "1000 1000" "0 0" "?"
 
 pub case2-spent : List ℕ
-case2-spent = small "2 1000" "BRANCHIF STOP" "5 1" "0 0" "ACCU" "?" ("0 BRANCHIF 1" ∷ "1 STOP -" ∷ [])
+case2-spent = one-branch "2 1000" "0 0" "?"
 
 pub case2-exact : List ℕ
-case2-exact = small "3 1000" "BRANCHIF STOP" "5 1" "0 0" "ACCU" "?" ("0 BRANCHIF 1" ∷ "1 STOP -" ∷ [])
+case2-exact = one-branch "3 1000" "0 0" "?"
 
 pub case3 : List ℕ
-case3 = small "1000 1000" "STOP" "0" "0" "ACCU" "0" ("0 STOP -" ∷ [])
+case3 = small "1000 1000" "STOP" "0" "0" "0" "ACCU" "0" ("0 STOP -" ∷ [])
 
 pub case4 : List ℕ
-case4 =
-    file
-    ("BUDGET TICK" ∷ "1000 1000" ∷
-    "BRANCHIF C_CALL1 STOP" ∷ "1 1 1" ∷ "0 0 0" ∷
-    "A B" ∷ "10 4" ∷ "1 9" ∷
-    "ACCU" ∷ "?" ∷
-    "-" ∷ "-" ∷
-    "AT OP ARG" ∷ "0 BRANCHIF 3" ∷ "1 C_CALL1 A" ∷ "2 STOP -" ∷ "3 C_CALL1 B" ∷ "4 STOP -" ∷ [])
+case4 = two-calls "0 0 0"
 
 pub case6 : List ℕ
-case6 = small "1000 1000" "ADDINT ACC0 STOP" "1 1 1" "0 0 0" "ACCU S0" "? 5" ("0 ADDINT -" ∷ "1 ACC0 -" ∷ "2 STOP -" ∷ [])
+case6 = small "1000 1000" "ADDINT ACC0 STOP" "1 1 1" "0 0 0" "0 0 0" "ACCU S0" "? 5" ("0 ADDINT -" ∷ "1 ACC0 -" ∷ "2 STOP -" ∷ [])
 
 pub case7 : List ℕ
 case7 = published "1000 1000" "0 0" ("ANSWER" ∷ "7" ∷ [])
+
+-- document 02 §1: case 2 with an extra of 3, and its runs; case 4 with an extra of 5, of 6 (a tie) and of 7
+
+pub jump-bound : List ℕ
+jump-bound = one-branch "1000 1000" "3 0" "?"
+
+pub jump-taken : List ℕ
+jump-taken = one-branch "1000 1000" "3 0" "1"
+
+pub jump-not-taken : List ℕ
+jump-not-taken = one-branch "1000 1000" "3 0" "0"
+
+pub jump-below : List ℕ
+jump-below = two-calls "5 0 0"
+
+pub jump-tie : List ℕ
+jump-tie = two-calls "6 0 0"
+
+pub jump-above : List ℕ
+jump-above = two-calls "7 0 0"
 
 -- what the bound or the run prints for a file with 128 lent bytes
 abbrev Bounds : List ℕ → List String → Type 0
@@ -96,6 +124,9 @@ Runs text expected = answers.printed (answers.runAnswer text 128) ≡ file expec
 
 abbrev report : String → List String
 report values = "CYCLES WORDS DEPTH STEPS SHARE PATH" ∷ values ∷ []
+
+abbrev run-report : String → List String
+run-report values = "CYCLES WORDS DEPTH STEPS" ∷ values ∷ []
 
 -- the cell with a number that stands as it is
 abbrev cell : ℤ → Cell
@@ -108,7 +139,7 @@ state at accu stack = record { at = at; accu = cell accu; stack = stack; blocks 
 abbrev Gives : String → ℤ → List Cell → ℤ → Type 0
 Gives kind accu stack expected =
     let price : machine.Price = record { cycles = 1; words = 0 } in
-    let code : machine.Code = record { first = 0; instructions = machine.instruction (columns.kindAt (text.find (text.bytes kind) kinds.kindNames)) (pos 0) price ∷ [] } in
+    let code : machine.Code = record { first = 0; instructions = machine.instruction (columns.kindAt (text.find (text.bytes kind) kinds.kindNames)) (pos 0) price 0 ∷ [] } in
     machine.step code cells.unknown (state 0 accu stack) ≡ try.done (machine.goes price (state 1 expected []))
 
 abbrev Starred : Type 0
@@ -124,7 +155,13 @@ Starred =
     × Gives "ADDINT" (pos 2147483647) (cell (pos 1) ∷ []) (negsuc 2147483647)
     × Gives "NEGINT" (negsuc 2147483647) [] (negsuc 2147483647)
     × Bounds case6 ("REFUSED 7 1" ∷ [])
-    × Runs case7 ("CYCLES WORDS DEPTH STEPS" ∷ "56 4 1 3" ∷ [])
+    × Runs case7 (run-report "56 4 1 3")
+    × Bounds jump-bound (report "9 0 0 3 9 T")
+    × Runs jump-taken (run-report "9 0 0 2")
+    × Runs jump-not-taken (run-report "6 0 0 2")
+    × Bounds jump-below (report "13 9 0 5 13 N")
+    × Bounds jump-tie (report "13 9 0 5 13 T")
+    × Bounds jump-above (report "14 9 0 5 14 T")
 
 -- ---- demand 3 of a file: case 1, and its file with S0 known and one answer (case 7)
 
@@ -143,8 +180,8 @@ Published =
     × (routines.readRun case7 ≡ routines.routine (holding (state 0 (pos 0) (cell (pos 0) ∷ [])) (pos 7 ∷ [])))
 
 computed : Starred × Published
-unfolding case1 case1-half case2 case2-spent case2-exact case3 case4 case6 case7 refusals.number refusals.place text.equals text.split text.words text.linesOf text.lines text.find text.among text.all text.distinct decimals.digitsFrom decimals.natural decimals.numeral decimals.digits decimals.decimal numbers.wrap numbers.holds try._>>=_ cells.calculate₁ cells.calculate₂ cells.map₁ cells.map₂ cells.operate₁ cells.operate₂ cells.conditionIn cells.condition cells.handled cells.block kinds.kinds kinds.kindNames kinds.operand lists.nth lists.put lists.without machine.height machine.priceOf machine.fetch machine.jump machine.load machine.restack machine.store machine.push machine.pop machine.getField machine.setField machine.advance machine.ahead machine.ways machine.opposite machine.perform machine.prepare machine.execute machine.step machine.takes machine.takesAnswer tree.expand tree.tree tree.address tree.steps tree.size tree.cycles tree.words tree.depth tree.worse tree.path tree.report tree.refusal tree.judge tree.verdict tree.explore tree.bound run.begin run.answer run.remaining run.moved run.leads run.once run.after run.stuckAt run.isStuck run.boundedAfresh run.judgeRun run.run layout.isAnswer layout.body layout.upToAnswer layout.pastAnswer layout.codeLines layout.answerLines layout.answerRoles layout.codeRoles layout.bodyRoles layout.roles layout.list layout.textAt layout.listed rows.isNumeral rows.valueOf rows.value rows.knownOf rows.blockOf rows.hashed rows.cellWord rows.isCell rows.cellInRange rows.cellPresent rows.isName rows.stackNames rows.cellNames rows.equalLists rows.isField rows.sizesFrom rows.blockSizes rows.total rows.argumentOf rows.onArgument rows.argumentLaidOut rows.argumentInRange rows.argumentNamed rows.argumentReaches rows.columnInRange rows.columnLaidOut rows.onCells rows.onCode rows.namesLaidOut rows.valuesLaidOut rows.codeLaidOut rows.laidOut rows.codeInRange rows.inRange rows.wellNamed rows.firstAt rows.codeNamed rows.named rows.priced rows.reaches rows.allKnown rows.test rows.earliest rows.refusedLine routines.inside routines.priceList routines.argumentValue routines.instructionOf columns.kindAt machine.instruction interrupted.code routines.codeIn routines.cellOf routines.cellsOf routines.blocksInLine routines.startOf routines.routineOf routines.orElse routines.checked routines.limited routines.readBound routines.readRun reports.share reports.pathText reports.figures reports.boundText reports.runText reports.refusalLine reports.refusalText answers.ofVerdict answers.ofReading answers.boundRoutine answers.runRoutine answers.boundAnswer answers.runAnswer answers.memory answers.printed
-computed = ((refl, refl, refl, refl, refl, refl, refl, refl, refl, refl, refl), (refl, refl, refl))
+unfolding case1 case1-half case2 case2-spent case2-exact case3 case4 case6 case7 jump-bound jump-taken jump-not-taken jump-below jump-tie jump-above refusals.number refusals.place text.equals text.split text.words text.linesOf text.lines text.find text.among text.all text.distinct decimals.digitsFrom decimals.natural decimals.numeral decimals.digits decimals.decimal numbers.wrap numbers.holds try._>>=_ cells.calculate₁ cells.calculate₂ cells.map₁ cells.map₂ cells.operate₁ cells.operate₂ cells.conditionIn cells.condition cells.handled cells.block kinds.kinds kinds.kindNames kinds.operand lists.nth lists.put lists.without machine.height machine.priceOf machine.fetch machine.jump machine.load machine.restack machine.store machine.push machine.pop machine.getField machine.setField machine.advance machine.ahead machine.withExtra machine.ways machine.opposite machine.perform machine.prepare machine.execute machine.step machine.takes machine.takesAnswer tree.expand tree.tree tree.address tree.steps tree.size tree.cycles tree.words tree.depth tree.worse tree.path tree.report tree.refusal tree.judge tree.verdict tree.explore tree.bound run.begin run.answer run.remaining run.moved run.leads run.once run.after run.stuckAt run.isStuck run.boundedAfresh run.judgeRun run.run layout.isAnswer layout.body layout.upToAnswer layout.pastAnswer layout.codeLines layout.answerLines layout.answerRoles layout.codeRoles layout.bodyRoles layout.roles layout.list layout.textAt layout.listed rows.isNumeral rows.valueOf rows.value rows.knownOf rows.blockOf rows.hashed rows.cellWord rows.isCell rows.cellInRange rows.cellPresent rows.isName rows.stackNames rows.cellNames rows.equalLists rows.isField rows.sizesFrom rows.blockSizes rows.total rows.argumentOf rows.onArgument rows.argumentLaidOut rows.argumentInRange rows.argumentNamed rows.argumentReaches rows.extraRange rows.extrasInRange rows.columnInRange rows.columnLaidOut rows.onCells rows.onCode rows.namesLaidOut rows.valuesLaidOut rows.codeLaidOut rows.laidOut rows.codeInRange rows.inRange rows.wellNamed rows.firstAt rows.codeNamed rows.named rows.priced rows.reaches rows.allKnown rows.test rows.earliest rows.refusedLine routines.inside routines.priceList routines.argumentValue routines.instructionOf columns.kindAt machine.instruction interrupted.code routines.codeIn routines.cellOf routines.cellsOf routines.blocksInLine routines.startOf routines.routineOf routines.orElse routines.checked routines.limited routines.readBound routines.readRun reports.share reports.pathText reports.figures reports.boundText reports.runText reports.refusalLine reports.refusalText answers.ofVerdict answers.ofReading answers.boundRoutine answers.runRoutine answers.boundAnswer answers.runAnswer answers.memory answers.printed
+computed = ((refl, refl, refl, refl, refl, refl, refl, refl, refl, refl, refl, refl, refl, refl, refl, refl, refl), (refl, refl, refl))
 
 pub starred : Starred
 starred = computed .0

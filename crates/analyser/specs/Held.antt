@@ -7,7 +7,7 @@ use Rattle.states.specs.Columns.{codeOf}
 use Rattle.states.specs.View.{whole}
 use Rattle.routine.specs.Routine as readings
 use Rattle.reader.specs.declared.Routine.{Routine}
-use Rattle.reader.specs.Reader.{codes, operands, cycles, words, sizes, answers}
+use Rattle.reader.specs.Reader.{codes, operands, cycles, words, extras, sizes, answers}
 use Rattle.findings.specs.declared.Found.{Found}
 use Rattle.analyser.specs.Answers.{Answer, reported}
 
@@ -16,7 +16,7 @@ abbrev pub routineIn : Routine → readings.Routine
 routineIn x = record {
   budget = x .budget;
   tick = x .tick;
-  code = codeOf (x .first) (codes x) (operands x) (cycles x) (words x);
+  code = codeOf (x .first) (codes x) (operands x) (cycles x) (words x) (extras x);
   start = whole (sizes x) (x .fields) (x .start);
   answers = answers x;
 }
@@ -29,4 +29,4 @@ pub record Printable (a : Answer) (tick n : ℕ) : Type 0 where
 
 -- CYCLES is small enough for the numbers that SHARE is computed with
 pub record Shareable (found : Found) : Type 0 where
-  pub cycles : found .cycles ≤ 4294967296000000
+  pub cycles : found .cycles ≤ 8589934592000000

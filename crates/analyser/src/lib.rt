@@ -35,6 +35,7 @@ fn explored(routine: Routine) -> Found
     let operands = columns.operands;
     let cycles = columns.cycles;
     let words = columns.words;
+    let extras = columns.extras;
     let sizes = routine.sizes;
     let fields = routine.fields;
     let start = routine.start;
@@ -45,6 +46,7 @@ fn explored(routine: Routine) -> Found
         &operands[..count],
         &cycles[..count],
         &words[..count],
+        &extras[..count],
         &sizes[..blocks],
         routine.first,
         start,
@@ -64,6 +66,7 @@ fn ran(routine: Routine) -> Ran
     let operands = columns.operands;
     let cycles = columns.cycles;
     let words = columns.words;
+    let extras = columns.extras;
     let sizes = routine.sizes;
     let fields = routine.fields;
     let start = routine.start;
@@ -77,6 +80,7 @@ fn ran(routine: Routine) -> Ran
         &operands[..count],
         &cycles[..count],
         &words[..count],
+        &extras[..count],
         &sizes[..blocks],
         routine.first,
         start,

@@ -11,7 +11,7 @@ use Rattle.cells.specs.Try.{Try, stuck, done}
 use Rattle.cells.specs.declared.Cell.{Cell}
 use Rattle.cells.specs.Cells.{unknown}
 use Rattle.machine.specs.Machine.{State, Instruction, Code, fetch, Next, stops, goes, opens, stackLimit, height, step}
-use Rattle.machine.proofs.PriceLaws.{AtMost, OnePrice, is-stuck, stops-at, goes-at, opens-at, step-price}
+use Rattle.machine.proofs.PriceLaws.{AtMost, Both, Priced, is-stuck, stops-at, goes-at, opens-at, step-price}
 use Rattle.machine.proofs.LeadLaws.{Leads, goes-to, opens-to}
 use Rattle.machine.proofs.HeightLaws.{Low, step-low}
 use Rattle.bounds.specs.Tree.{Tree, expand, tree, cycles, words, depth, size, path, worse, Decision, Report, report, accepted, openingLimit, explore, bound, verdict}
@@ -23,15 +23,15 @@ module _ (C W : ℕ) where
     pub cycles : cycles t ≤ C * size t
     pub words : words t ≤ W * size t
 
-  module _ (act : State → Try Next) (cheap : (s : State) → OnePrice (AtMost C W) (act s)) where
+  module _ (act : State → Try Next) (cheap : (s : State) → Priced (AtMost C W) (act s)) where
     expand-figures : (below : ℕ → State → Tree) (ih : (o : ℕ) (s : State) → Figures (below o s))
-        (o : ℕ) (s : State) {m : Try Next} → OnePrice (AtMost C W) m → Figures (expand below o s m)
+        (o : ℕ) (s : State) {m : Try Next} → Priced (AtMost C W) m → Figures (expand below o s m)
     unfolding expand cycles words size
     expand-figures below ih o s is-stuck = omega arith
     expand-figures below ih o s (stops-at h) = omega (arith, h)
     expand-figures below ih o s (goes-at {t} h) = omega (arith, h, ih o t)
-    expand-figures below ih zero s (opens-at h) = omega arith
-    expand-figures below ih (suc o) s (opens-at {t} {u} h) = omega (arith, h, ih o t, ih o u)
+    expand-figures below ih zero s (opens-at x e h k) = omega arith
+    expand-figures below ih (suc o) s (opens-at {t} {u} x e h k) = omega (arith, h, k, ih o t, ih o u)
 
     pub tree-figures : (f o : ℕ) (s : State) → Figures (tree act f o s)
     unfolding tree cycles words size
@@ -90,7 +90,7 @@ pub record Bounded (C W budget : ℕ) (q : Report) : Type 0 where
   pub steps : q .steps ≤ budget
   pub path : length (q .path) ≤ openingLimit
 
-module _ (C W : ℕ) (c : Code) (cheap : (a : ℕ) (i : Instruction) → fetch c a ≡ done i → AtMost C W (i .price)) where
+module _ (C W : ℕ) (c : Code) (cheap : (a : ℕ) (i : Instruction) → fetch c a ≡ done i → Both (AtMost C W) (i .price) (i .extra)) where
   pub bound-bounded : (budget : ℕ) (s : State) → Low s → (q : Report) → bound c budget s ≡ accepted q → Bounded C W budget q
   unfolding bound explore verdict report
   bound-bounded budget s h q a =
@@ -116,7 +116,7 @@ module _ (C W : ℕ) (c : Code) (cheap : (a : ℕ) (i : Instruction) → fetch c
   longer : (n : ℕ) (r : Run) → Running n r → Running (suc n) r
   longer n r k = record { low = k .low; cycles = k .cycles; words = k .words; depth = k .depth; steps = omega (arith, k .steps) }
 
-  moved-running : (n : ℕ) (r : Run) (rest : List ℤ) (b : Bool) {m : Try Next} → OnePrice (AtMost C W) m → ((x : Next) → m ≡ done x → Leads Low x) → Running n r → Running (suc n) (moved r rest b m)
+  moved-running : (n : ℕ) (r : Run) (rest : List ℤ) (b : Bool) {m : Try Next} → Priced (AtMost C W) m → ((x : Next) → m ≡ done x → Leads Low x) → Running n r → Running (suc n) (moved r rest b m)
   unfolding moved
   moved-running n r rest true p l k = longer n r k
   moved-running n r rest false is-stuck l k = longer n r k
@@ -127,7 +127,7 @@ module _ (C W : ℕ) (c : Code) (cheap : (a : ℕ) (i : Instruction) → fetch c
       go : Leads Low (goes p t) → Running (suc n) (moved r rest false (done (goes p t)))
       go (goes-to g) =
           record { low = g; cycles = omega (arith, h, k .cycles); words = omega (arith, h, k .words); depth = omega (arith, g .low, k .depth); steps = omega (arith, k .steps) }
-  moved-running n r rest false (opens-at h) l k = longer n r k
+  moved-running n r rest false (opens-at x e h g) l k = longer n r k
 
   after-running : (n : ℕ) (r : Run) → Running 0 r → Running n (after c n r)
   unfolding after once leads

@@ -14,7 +14,7 @@ use Rattle.cells.proofs.CellLaws.{number-allowed}
 use Rattle.instructions.specs.Kinds.{kinds, kindNames, operand}
 use Rattle.instructions.specs.Columns.{kindAt}
 use Rattle.machine.specs.Lists.{nth, without}
-use Rattle.machine.specs.Machine.{instruction, State, Instruction, Code, fetch, height, jump, load, restack, push, pop, advance, ahead, ways, perform, prepare, execute, step, takes, takesAnswer}
+use Rattle.machine.specs.Machine.{instruction, State, Instruction, Code, fetch, height, jump, load, restack, push, pop, advance, ahead, withExtra, ways, perform, prepare, execute, step, takes, takesAnswer}
 use Rattle.machine.specs.Order.{Cellwise}
 use Rattle.bounds.specs.Tree.{expand, tree, steps, size, cycles, words, depth, N, worse, path, Report, report, accepted, judge, verdict, explore, openingLimit, bound}
 use Rattle.bounds.specs.Run.{begin, answer, remaining, moved, leads, once, after}
@@ -22,7 +22,7 @@ use Rattle.bounds.specs.Promises.{Safe}
 use Rattle.bounds.proofs.PromiseLaws.{interruptible}
 
 abbrev line : List ℕ → ℕ → ℕ → ℕ → Instruction
-line name a c w = instruction (kindAt (find name kindNames)) (pos a) (record { cycles = c; words = w })
+line name a c w = instruction (kindAt (find name kindNames)) (pos a) (record { cycles = c; words = w }) 0
 
 unfoldable pub code : Code
 code = record {
@@ -47,7 +47,7 @@ abbrev pub reported : Report
 reported = record { cycles = 65; words = 4; depth = 1; steps = 6; path = N ∷ [] }
 
 is-bounded : bound code 1000 bounded ≡ accepted reported
-unfolding code equals find wrap holds _>>=_ calculate₂ map₂ operate₂ conditionIn condition kinds kindNames operand kindAt instruction nth without fetch height jump load restack push pop advance ahead ways perform prepare execute step expand tree steps size cycles words depth worse path report judge verdict explore bound
+unfolding code equals find wrap holds _>>=_ calculate₂ map₂ operate₂ conditionIn condition kinds kindNames operand kindAt instruction nth without fetch height jump load restack push pop advance ahead withExtra ways perform prepare execute step expand tree steps size cycles words depth worse path report judge verdict explore bound
 is-bounded = refl
 
 is-allowed : Cellwise Allowed plain bounded
@@ -58,7 +58,7 @@ unfolding bound
 is-safe n = interruptible code openingLimit 1000 bounded reported is-bounded plain is-allowed (pos 7 ∷ []) n
 
 stops-third : (after code 3 (begin plain (pos 7 ∷ [])) .stopped ≡ true) × (after code 3 (begin plain (pos 7 ∷ [])) .cycles ≡ 56)
-unfolding code equals find wrap _>>=_ conditionIn condition kinds kindNames operand kindAt instruction nth without fetch height jump load restack pop advance ahead ways perform prepare execute step takes takesAnswer begin answer remaining moved leads once after
+unfolding code equals find wrap _>>=_ conditionIn condition kinds kindNames operand kindAt instruction nth without fetch height jump load restack pop advance ahead withExtra ways perform prepare execute step takes takesAnswer begin answer remaining moved leads once after
 stops-third = (refl, refl)
 
 pub interrupted :

@@ -20,7 +20,7 @@ use Rattle.bounds.specs.Run.{begin, after, run}
 use Rattle.bounds.specs.Promises.{NoGreater, Exact, Interruptible, Monotone, BoundExact, StepsListed, OneMaximum, AcceptedWhere, RefusedWhere, FuelIrrelevant, RunWithinBound}
 use Rattle.bounds.proofs.TreeLaws.{Complete, tree-law, tree-root, steps-size, accepted-complete, complete-accepted}
 use Rattle.bounds.proofs.FuelLaws.{verdict-fuel}
-use Rattle.bounds.proofs.MaxLaws.{OpensAlike, cost-unique, run-unique, tree-worst}
+use Rattle.bounds.proofs.MaxLaws.{OpensWithExtra, cost-unique, run-unique, tree-worst}
 use Rattle.bounds.proofs.PathLaws.{tree-costliest, tree-wordiest, tree-height}
 use Rattle.bounds.proofs.ListedLaws.{accepted-finite, finite-accepted, refused-listed, listed-refused}
 use Rattle.bounds.proofs.RunLaws.{Leaves, Ways, stopping, going, opening, Stepwise, stepwise-interruptible, stopped-verdict}
@@ -96,22 +96,22 @@ module _ (c : Code) (limit budget : ℕ) where
   interruptible = stepwise-interruptible c (explore (acts c) limit budget) stepwise
 
   -- CYCLES is the maximum cost
-  alike : OpensAlike (acts c)
-  alike s t u p q e = opening-price c unknown s e
+  extra : OpensWithExtra (acts c)
+  extra s t u p q e = opening-price c unknown s e
 
   pub worst : (s : State) (q : Report) → explore (acts c) limit budget s ≡ accepted q → CostMax (acts c) s (q .cycles)
   unfolding whole report
   worst s q a =
       let (w, le, eq) = complete-of s q a in
       let h = ap (λ r. r .cycles) eq in
-      rw h at (tree-worst (acts c) alike budget limit s w .most)
+      rw h at (tree-worst (acts c) extra budget limit s w .most)
 
 -- demand 2
 pub exact : (c : Code) (openings budget : ℕ) (s : State) (q : Report) → explore (acts c) openings budget s ≡ accepted q → Exact c openings s q
 unfolding whole report
 exact c openings budget s q a =
     let (w, le, eq) = complete-of c openings budget s q a in
-    let k = tree-worst (acts c) (alike c openings budget) budget openings s w in
+    let k = tree-worst (acts c) (extra c openings budget) budget openings s w in
     let (f, fits) = accepted-finite (acts c) budget openings s q a in
     rw (← eq) (record {
       cycles = k .most;

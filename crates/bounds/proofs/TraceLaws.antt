@@ -13,7 +13,7 @@ use Rattle.cells.specs.Order.{Refines}
 use Rattle.cells.proofs.Covering.{Covered, by-stuck, both}
 use Rattle.cells.proofs.CellLaws.{allowed-refines, refines-lawful}
 use Rattle.machine.specs.Lists.{nth}
-use Rattle.machine.specs.Machine.{State, Price, Next, stops, goes, opens, Code, step, takesAnswer}
+use Rattle.machine.specs.Machine.{State, Price, Next, stops, goes, opens, Code, step, takesAnswer, withExtra}
 use Rattle.machine.specs.Order.{Cellwise}
 use Rattle.machine.proofs.NextCovering.{NextCovered, stops-too, goes-too, opens-too, goes-not-taken, goes-taken}
 use Rattle.machine.proofs.StepLaws.{step-law}
@@ -125,10 +125,10 @@ module _ (c : Code) where
   CostBy (done (opens p t q u)) k = (l : ℕ) × (m : ℕ) × CostMax (step c unknown) t l × CostMax (step c unknown) u m × (p .cycles + l ≤ k) × (q .cycles + m ≤ k)
 
   cost-by : {t : State} {k : ℕ} → CostMax (step c unknown) t k → CostBy (step c unknown t) k
-  unfolding CostBy
+  unfolding CostBy withExtra
   cost-by (CostMax.stop e) = rw e refl
   cost-by (CostMax.next {k = l} e d) = rw e (l, d, refl)
-  cost-by (CostMax.fork {k = l} {k′ = m} e d d′) = rw e (l, m, d, d′, omega arith, omega arith)
+  cost-by (CostMax.fork {k = l} {k′ = m} x e d d′) = rw e (l, m, d, d′, omega arith, omega arith)
 
   -- a trace of cost n, by what its first step leads to: the rest is within every maximum cost from an erasure of where it starts
   TraceBy : Try Next → ℕ → Type 0

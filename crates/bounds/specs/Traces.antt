@@ -6,7 +6,7 @@ use Prim.Native.Nat.{ℕ, suc, _+_, max, _≤_, _<_}
 use Rattle.refusals.specs.declared.Refusal.{Refusal}
 use Rattle.refusals.specs.declared.Refusal.the-variants.{Stuck, Openings, Spent}
 use Rattle.cells.specs.Try.{Try, stuck, done}
-use Rattle.machine.specs.Machine.{State, Price, Next, stops, goes, opens}
+use Rattle.machine.specs.Machine.{State, Price, Next, stops, goes, opens, withExtra}
 use Rattle.bounds.specs.Tree.{Decision, N, T}
 
 -- an element of a trace: the state, what the step from it costs, the decision if it is an unknown branch
@@ -51,20 +51,21 @@ module _ (act : State → Try Next) where
     stop : {s : State} {p : Price} → act s ≡ done (stops p) → Path s (move s p [] ∷ [])
     step : {s t : State} {m : Move} {ms : List Move} → Transition s m t → Path t ms → Path s (m ∷ ms)
 
-  -- Definition 5, rule by rule; an unknown branch has one price, c
+  -- Definition 5, rule by rule, "with the extra on the taken way" (document 02 §1): an unknown branch costs c, and x more if it jumps
   pub data CostMax : State → ℕ → Type 0 where
     stop : {s : State} {c : Price} → act s ≡ done (stops c) → CostMax s (c .cycles)
     next : {s t : State} {c : Price} {k : ℕ} → act s ≡ done (goes c t) → CostMax t k → CostMax s (c .cycles + k)
-    fork : {s t u : State} {c : Price} {k k′ : ℕ} → act s ≡ done (opens c t c u) → CostMax t k → CostMax u k′ → CostMax s (c .cycles + max k k′)
+    fork : {s t u : State} {c : Price} {k k′ : ℕ} (x : ℕ) → act s ≡ done (opens c t (withExtra x c) u) → CostMax t k → CostMax u k′ →
+        CostMax s (c .cycles + max k (x + k′))
 
-  -- Definition 11, rule by rule
+  -- Definition 11, rule by rule, with the same extra
   pub data RunMax : State → List Move → Type 0 where
     stop : {s : State} {c : Price} → act s ≡ done (stops c) → RunMax s (move s c [] ∷ [])
     next : {s t : State} {c : Price} {ms : List Move} → act s ≡ done (goes c t) → RunMax t ms → RunMax s (move s c [] ∷ ms)
-    taken : {s t u : State} {c : Price} {ms ms′ : List Move} → act s ≡ done (opens c t c u) → RunMax t ms → RunMax u ms′ →
-        cost ms ≤ cost ms′ → RunMax s (move s c (T ∷ []) ∷ ms′)
-    not-taken : {s t u : State} {c : Price} {ms ms′ : List Move} → act s ≡ done (opens c t c u) → RunMax t ms → RunMax u ms′ →
-        cost ms′ < cost ms → RunMax s (move s c (N ∷ []) ∷ ms)
+    taken : {s t u : State} {c : Price} {ms ms′ : List Move} (x : ℕ) → act s ≡ done (opens c t (withExtra x c) u) → RunMax t ms → RunMax u ms′ →
+        cost ms ≤ x + cost ms′ → RunMax s (move s (withExtra x c) (T ∷ []) ∷ ms′)
+    not-taken : {s t u : State} {c : Price} {ms ms′ : List Move} (x : ℕ) → act s ≡ done (opens c t (withExtra x c) u) → RunMax t ms → RunMax u ms′ →
+        x + cost ms′ < cost ms → RunMax s (move s c (N ∷ []) ∷ ms)
 
   -- with o openings on a path, the tree from s is finite, every step of it is made, and it has n steps
   pub data Finite : ℕ → State → ℕ → Type 0 where

@@ -1,5 +1,5 @@
--- The explorer's loop, apart from its code: what holds at each turn, and what each way out of a turn shows. Over any action on states
--- whose openings have one price. Assumes nothing.
+-- The explorer's loop, apart from its code: what holds at each turn, and what each way out of a turn shows. Over any action on states.
+-- Assumes nothing.
 use mathlib.Core.Path.{_≡_, refl, sym, subst, _∙_, ap}
 use mathlib.Core.Bool.{Bool, true, false, cond}
 use mathlib.Core.List.{List}
@@ -9,7 +9,7 @@ use lib.Dec.{leb}
 use borrow.Author.Tests.{leb-true, leb-false, le-leb, lt-leb}
 use Rattle.refusals.specs.declared.Refusal.{Refusal}
 use Rattle.cells.specs.Try.{Try, stuck, done}
-use Rattle.machine.specs.Machine.{State, height, Price, Next, stops, goes, opens}
+use Rattle.machine.specs.Machine.{State, height, Price, Next, stops, goes, opens, withExtra}
 use Rattle.bounds.specs.Tree.{Decision, worse, Report, accepted, refused, explore}
 use Rattle.bounds.specs.Tree as bounds
 use Rattle.bounds.proofs.ExploreLaws.{before, join, joined, both-ways, explore-spent, explore-stuck, explore-stops, explore-goes, explore-over, explore-opens}
@@ -17,7 +17,7 @@ use Rattle.refusals.specs.declared.Refusal.the-variants.{Stuck, Openings, Spent
 use Rattle.refusals.specs.declared.Verdict.the-variants.{Accepted, Refused}
 use Rattle.findings.specs.declared.Found.{Found}
 use Rattle.findings.specs.declared.Tally.{Tally}
-use Rattle.findings.specs.Found.{encode, acceptedAs, Shows, moreOf, decidedOf, joinedOf, finishedOf, refusedAs}
+use Rattle.findings.specs.Found.{encode, acceptedAs, Shows, moreOf, jumpedOf, decidedOf, joinedOf, finishedOf, refusedAs}
 use Rattle.explore.proofs.UsedLaws.{used, used-spent, used-stuck, used-stops, used-goes, used-over, used-first, used-both}
 
 -- n steps of a tally before what follows
@@ -51,38 +51,44 @@ shift-refused : (t : Tally) (n : ℕ) (x : Refusal) (v : bounds.Verdict) → v �
 unfolding shift
 shift-refused t n x v e r f = subst (Shows r) (sym e) f
 
--- the larger cost, with one price before both
+-- the larger cost
 worse-path : (b : Bool) (ns ts : List Decision) → encode (worse b ns ts) ≡ cond b (2 * encode ts + 1) (2 * encode ns)
 unfolding encode worse
 worse-path true ns ts = refl
 worse-path false ns ts = refl
 
-leb-after : (p k l : ℕ) → leb k l ≡ leb (p + k) (p + l)
-leb-after p k l = go (leb k l) refl
+-- the same after one price p, with the extra x on the second
+leb-after : (p x k l : ℕ) → leb k (x + l) ≡ leb (p + k) (p + x + l)
+leb-after p x k l = go (leb k (x + l)) refl
   where
-    go : (b : Bool) → leb k l ≡ b → leb k l ≡ leb (p + k) (p + l)
-    go true e = let h = leb-true k l e in e ∙ sym (le-leb (p + k) (p + l) (omega arith))
-    go false e = let h = leb-false k l e in e ∙ sym (lt-leb (p + k) (p + l) (omega arith))
+    go : (b : Bool) → leb k (x + l) ≡ b → leb k (x + l) ≡ leb (p + k) (p + x + l)
+    go true e = let h = leb-true k (x + l) e in e ∙ sym (le-leb (p + k) (p + x + l) (omega arith))
+    go false e = let h = leb-false k (x + l) e in e ∙ sym (lt-leb (p + k) (p + x + l) (omega arith))
 
 found-equal : (f g : Found) → f .verdict ≡ g .verdict → f .used ≡ g .used → f .cycles ≡ g .cycles → f .words ≡ g .words → f .depth ≡ g .depth → f .path ≡ g .path → f ≡ g
 found-equal f g v u c w d p = λ i. record { verdict = v i; used = u i; cycles = c i; words = w i; depth = d i; path = p i }
 
 -- the two ways of a branch, both accepted, after n steps of a tally
-joined-found : (t : Tally) (n : ℕ) (s : State) (p : Price) (r r′ : Report) (f g : Found) → f ≡ acceptedAs r → g ≡ acceptedAs r′ →
-    joinedOf (moreOf t p (height s)) (n + 1) f g
+joined-found : (t : Tally) (n : ℕ) (s : State) (p : Price) (x : ℕ) (r r′ : Report) (f g : Found) → f ≡ acceptedAs r → g ≡ acceptedAs r′ →
+    joinedOf (moreOf t p (height s)) (n + 1) f x g
     ≡ acceptedAs (record {
-      cycles = t .cycles + joined s p r p r′ .cycles;
-      words = t .words + joined s p r p r′ .words;
-      depth = max (t .depth) (joined s p r p r′ .depth);
-      steps = n + joined s p r p r′ .steps;
-      path = joined s p r p r′ .path;
+      cycles = t .cycles + joined s p r (withExtra x p) r′ .cycles;
+      words = t .words + joined s p r (withExtra x p) r′ .words;
+      depth = max (t .depth) (joined s p r (withExtra x p) r′ .depth);
+      steps = n + joined s p r (withExtra x p) r′ .steps;
+      path = joined s p r (withExtra x p) r′ .path;
     })
-unfolding joinedOf moreOf acceptedAs joined decidedOf
-joined-found t n s p r r′ f g e d =
+unfolding joinedOf moreOf acceptedAs joined decidedOf withExtra
+joined-found t n s p x r r′ f g e d =
     rw (e, d)
     (found-equal _ _ refl (omega arith) (omega arith) (omega arith) (omega arith)
-    (ap (λ b. cond b (2 * encode (r′ .path) + 1) (2 * encode (r .path))) (leb-after (p .cycles) (r .cycles) (r′ .cycles))
-    ∙ sym (worse-path (leb (p .cycles + r .cycles) (p .cycles + r′ .cycles)) (r .path) (r′ .path))))
+    (ap (λ b. cond b (2 * encode (r′ .path) + 1) (2 * encode (r .path))) (leb-after (p .cycles) x (r .cycles) (r′ .cycles))
+    ∙ sym (worse-path (leb (p .cycles + r .cycles) (p .cycles + x + r′ .cycles)) (r .path) (r′ .path))))
+
+-- a step at a price, and then the extra
+pub jumped-more : (t : Tally) (p : Price) (x h : ℕ) → jumpedOf (moreOf t p h) x ≡ moreOf t (withExtra x p) h
+unfolding jumpedOf moreOf withExtra
+jumped-more t p x h = let e : t .cycles + p .cycles + x ≡ t .cycles + (p .cycles + x) = omega arith in rw e
 
 -- an answer that is accepted shows a report, and one that is not a refusal
 
@@ -207,17 +213,17 @@ module _ (act : State → Try Next) (o budget : ℕ) (start : State) where
                 counts = omega (arith, used-second);
               }
 
-          pub both-done : p ≡ q → g .verdict ≡ Accepted → Shown (joinedOf (moreOf t p (height s)) (budget - left + 1) f g)
+          pub both-done : (x : ℕ) → withExtra x p ≡ q → g .verdict ≡ Accepted → Shown (joinedOf (moreOf t p (height s)) (budget - left + 1) f x g)
           unfolding join
-          both-done same done-second =
+          both-done x same done-second =
               let (r′, w, d) = accepted-shows g (explore act o′ (left - 1 - f .used) v) shows′ done-second in
               record {
                 shows =
-                    shift-accepted t (budget - left) (joined s p (first .0) p r′) (explore act o budget start)
+                    shift-accepted t (budget - left) (joined s p (first .0) (withExtra x p) r′) (explore act o budget start)
                     (verdict-from (opened-second ∙ ap (join s p (first .0) q) w ∙ ap (λ q. accepted (joined s p (first .0) q r′)) (sym same))) _
-                    (joined-found t (budget - left) s p (first .0) r′ f g (first .2) d);
+                    (joined-found t (budget - left) s p x (first .0) r′ f g (first .2) d);
                 counts = counted;
               }
             where
-              counted : joinedOf (moreOf t p (height s)) (budget - left + 1) f g .used ≡ used act o budget start
+              counted : joinedOf (moreOf t p (height s)) (budget - left + 1) f x g .used ≡ used act o budget start
               counted = unfold joinedOf in omega (arith, used-second)

@@ -36,7 +36,7 @@ pub refused-bounded : (o budget n : ℕ) (x : Refusal) (r : Found) → r ≡ ref
 unfolding refusedAs
 refused-bounded o budget n x r e h = rw e (record { used = h; cycles = omega arith; words = omega arith; path = one-path o })
 
-pub finished-bounded : (o budget n : ℕ) (t : Tally) (r : Found) → r ≡ finishedOf t n → n ≤ budget → t .cycles ≤ 4294967296 * n → t .words ≤ 4294967296 * n → Bounded o budget r
+pub finished-bounded : (o budget n : ℕ) (t : Tally) (r : Found) → r ≡ finishedOf t n → n ≤ budget → t .cycles ≤ 8589934592 * n → t .words ≤ 4294967296 * n → Bounded o budget r
 unfolding finishedOf
 finished-bounded o budget n t r e h c w = rw e (record { used = h; cycles = c; words = w; path = one-path o })
 
@@ -48,16 +48,16 @@ decided-fits m k l p q h g = go (leb k l)
     go true = omega arith
     go false = omega arith
 
-pub joined-bounded : (o budget n left : ℕ) (t : Tally) (f g r : Found) → r ≡ joinedOf t n f g → 0 < o → n + left ≤ budget → t .cycles ≤ 4294967296 * n → t .words ≤ 4294967296 * n →
+pub joined-bounded : (o budget n left : ℕ) (t : Tally) (x : ℕ) (f g r : Found) → r ≡ joinedOf t n f x g → 0 < o → n + left ≤ budget → t .cycles + x ≤ 8589934592 * n → t .words ≤ 4294967296 * n →
     Bounded (o - 1) left f → Bounded (o - 1) (left - f .used) g → Bounded o budget r
 unfolding joinedOf
-joined-bounded o budget n left t f g r e z h c w mf mg =
+joined-bounded o budget n left t x f g r e z h c w mf mg =
     let d : 2 * 2 ^ (o - 1 + 1) ≡ 2 ^ (o + 1) = ap (λ k. 2 * 2 ^ k) (small o z) ∙ sym (pow-succ' 2 o) ∙ ap (λ k. 2 ^ k) (sym (add-one o)) in
     rw e (record {
       used = omega (arith, mf .used, mg .used);
       cycles = omega (arith, mf .cycles, mg .cycles);
       words = omega (arith, mf .words, mg .words);
-      path = subst (λ k. decidedOf (f .cycles) (g .cycles) (f .path) (g .path) < k) d (decided-fits (2 ^ (o - 1 + 1)) (f .cycles) (g .cycles) (f .path) (g .path) (mf .path) (mg .path));
+      path = subst (λ k. decidedOf (f .cycles) (x + g .cycles) (f .path) (g .path) < k) d (decided-fits (2 ^ (o - 1 + 1)) (f .cycles) (x + g .cycles) (f .path) (g .path) (mf .path) (mg .path));
     })
   where
     small : (o : ℕ) → 0 < o → o - 1 + 1 ≡ o

@@ -56,9 +56,9 @@ pub stored-is : (n : ℕ) (u w : State) → WellFormed u → u .free + n < 64 �
 unfolding load
 stored-is n u w formed h z e g = ap done (g ∙ ap (λ c. load c (view (record { at = u .at; accu = u .accu; free = u .free; stack = stored n u .stack }))) e) ∙ store-is u formed n h
 
-module _ (first : ℕ) (bs : List ℕ) (is : List ℤ) (cs ws ns : List ℕ) (o budget : ℕ) (fs₀ : List Cell) (s₀ : State) where
+module _ (first : ℕ) (bs : List ℕ) (is : List ℤ) (cs ws xs ns : List ℕ) (o budget : ℕ) (fs₀ : List Cell) (s₀ : State) where
   abbrev pub act : machine.State → Try Next
-  act = step (codeOf first bs is cs ws) unknown
+  act = step (codeOf first bs is cs ws xs) unknown
 
   -- what holds whenever the loop's test is reached
   pub record Turn (fs : List Cell) (s : State) (left : ℕ) (t : Tally) : Type 0 where
@@ -66,7 +66,7 @@ module _ (first : ℕ) (bs : List ℕ) (is : List ℤ) (cs ws ns : List ℕ) (o 
     pub formed : WellFormed s
     pub fits : Fits ns fs
     pub size : length fs ≡ length fs₀
-    pub cycles : t .cycles ≤ 4294967296 * (budget - left)
+    pub cycles : t .cycles ≤ 8589934592 * (budget - left)
     pub words : t .words ≤ 4294967296 * (budget - left)
 
   pub starts : WellFormed s₀ → Fits ns fs₀ → Turn fs₀ s₀ budget loop.zeroTally
@@ -78,26 +78,26 @@ module _ (first : ℕ) (bs : List ℕ) (is : List ℤ) (cs ws ns : List ℕ) (o 
   whole-height fs s formed = height-is s formed
 
   -- a full stack, where the instruction pushes first
-  pub overflows : (fs : List Cell) (s : State) (l : Line) → done (lineOf l) ≡ fetch (codeOf first bs is cs ws) (s .at) → l .pushes ≡ true → WellFormed s → s .free ≡ 0 →
+  pub overflows : (fs : List Cell) (s : State) (l : Line) → done (lineOf l) ≡ fetch (codeOf first bs is cs ws xs) (s .at) → l .pushes ≡ true → WellFormed s → s .free ≡ 0 →
       act (whole ns fs s) ≡ stuck
   unfolding step execute _>>=_ whole reblock
   overflows fs s l found pushes formed none =
       let h : prepare true (whole ns fs s) ≡ stuck = turn.full ns fs s (omega (arith, height-is s formed)) in
       rw (sym found, pushes, h) refl
 
-  pub outside : (fs : List Cell) (s : State) → stuck ≡ fetch (codeOf first bs is cs ws) (s .at) → act (whole ns fs s) ≡ stuck
+  pub outside : (fs : List Cell) (s : State) → stuck ≡ fetch (codeOf first bs is cs ws xs) (s .at) → act (whole ns fs s) ≡ stuck
   unfolding step _>>=_ whole reblock
   outside fs s e = rw (sym e) refl
 
   -- ---- the next turn
 
-  module _ (fs : List Cell) (s : State) (left : ℕ) (t : Tally) (i : Turn fs s left t) (h : 0 < left) (p : Price) (small : (p .cycles < 4294967296) × (p .words < 4294967296)) (t′ : Tally)
+  module _ (fs : List Cell) (s : State) (left : ℕ) (t : Tally) (i : Turn fs s left t) (h : 0 < left) (p : Price) (small : (p .cycles < 8589934592) × (p .words < 4294967296)) (t′ : Tally)
       (grown : t′ ≡ moreOf t p (64 - s .free)) where
     pub more-is : t′ ≡ moreOf t p (height (whole ns fs s))
     more-is = grown ∙ ap (moreOf t p) (sym (whole-height fs s (i .formed)))
 
     -- the tally stays within what the code's numbers hold
-    pub costs : (t′ .cycles ≤ 4294967296 * (budget - (left - 1))) × (t′ .words ≤ 4294967296 * (budget - (left - 1)))
+    pub costs : (t′ .cycles ≤ 8589934592 * (budget - (left - 1))) × (t′ .words ≤ 4294967296 * (budget - (left - 1)))
     unfolding moreOf
     costs =
         let a : t′ .cycles ≡ t .cycles + p .cycles = ap (λ x. x .cycles) grown in

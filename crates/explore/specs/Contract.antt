@@ -43,6 +43,6 @@ ExactFor c openings t r = (q : Report) → r ≡ acceptedAs q → Exact c openin
 -- the answer's numbers are within what the code's numbers hold
 pub record Bounded (openings budget : ℕ) (r : Found) : Type 0 where
   pub used : r .used ≤ budget
-  pub cycles : r .cycles ≤ 4294967296 * r .used
+  pub cycles : r .cycles ≤ 8589934592 * r .used
   pub words : r .words ≤ 4294967296 * r .used
   pub path : r .path < 2 ^ (openings + 1)

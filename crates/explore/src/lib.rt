@@ -20,6 +20,7 @@ pub fn explore(
     operands: &[i32],
     cycles: &[u32],
     words: &[u32],
+    extras: &[u32],
     sizes: &[u8],
     first: usize,
     start: State,
@@ -27,11 +28,11 @@ pub fn explore(
     openings: usize,
     budget: usize,
 ) -> Found
-    requires { ⌜ Sized (now codes) (now operands) (now cycles) (now words) ⌝ }
+    requires { ⌜ Sized (now codes) (now operands) (now cycles) (now words) (now extras) ⌝ }
     requires { ⌜ Explorable (now codes) (now sizes) first blocks start openings budget ⌝ }
-    ensures { λ r. ⌜ Explores (codeOf first (now (codes .entry)) (now (operands .entry)) (now (cycles .entry)) (now (words .entry))) (now (sizes .entry)) blocks start openings budget r ⌝ }
-    ensures safe { λ r. ⌜ SafeUnder (codeOf first (now (codes .entry)) (now (operands .entry)) (now (cycles .entry)) (now (words .entry))) openings budget (whole (now (sizes .entry)) blocks start) r ⌝ }
-    ensures exact { λ r. ⌜ ExactFor (codeOf first (now (codes .entry)) (now (operands .entry)) (now (cycles .entry)) (now (words .entry))) openings (whole (now (sizes .entry)) blocks start) r ⌝ }
+    ensures { λ r. ⌜ Explores (codeOf first (now (codes .entry)) (now (operands .entry)) (now (cycles .entry)) (now (words .entry)) (now (extras .entry))) (now (sizes .entry)) blocks start openings budget r ⌝ }
+    ensures safe { λ r. ⌜ SafeUnder (codeOf first (now (codes .entry)) (now (operands .entry)) (now (cycles .entry)) (now (words .entry)) (now (extras .entry))) openings budget (whole (now (sizes .entry)) blocks start) r ⌝ }
+    ensures exact { λ r. ⌜ ExactFor (codeOf first (now (codes .entry)) (now (operands .entry)) (now (cycles .entry)) (now (words .entry)) (now (extras .entry))) openings (whole (now (sizes .entry)) blocks start) r ⌝ }
     ensures { λ r. ⌜ Bounded openings budget r ⌝ }
 {
     let mut state = start;
@@ -45,7 +46,7 @@ pub fn explore(
         let used = budget - left + 1;
         left = left - 1;
         let at = state.at;
-        let fetched = states::code::fetch(codes, operands, cycles, words, first, at);
+        let fetched = states::code::fetch(codes, operands, cycles, words, extras, first, at);
         let Fetched::Is(line) = fetched else {
             return findings::refused(Refusal::Stuck(at), used);
         };
@@ -115,6 +116,10 @@ pub fn explore(
             Outcome::Goes => {
                 state = state.jump(index);
             }
+            Outcome::Jumps => {
+                tally = findings::jumped(tally, line.extra);
+                state = state.jump(index);
+            }
             Outcome::Opens => {
                 if openings == 0 {
                     return findings::refused(Refusal::Openings(at), used);
@@ -124,6 +129,7 @@ pub fn explore(
                     operands,
                     cycles,
                     words,
+                    extras,
                     sizes,
                     first,
                     state,
@@ -142,6 +148,7 @@ pub fn explore(
                     operands,
                     cycles,
                     words,
+                    extras,
                     sizes,
                     first,
                     state,
@@ -153,7 +160,7 @@ pub fn explore(
                 if let Verdict::Refused(refusal) = second_verdict {
                     return findings::refused(refusal, used + untaken.used + taken.used);
                 }
-                return findings::joined(tally, used, untaken, taken);
+                return findings::joined(tally, used, untaken, line.extra, taken);
             }
             Outcome::Halts => {
                 return findings::finished(tally, used);

@@ -39,19 +39,23 @@ walked (suc b) (not-made r a ∷ xs) = 1
 unfoldable pub moreOf : Tally → Price → ℕ → Tally
 moreOf t p h = record { cycles = t .cycles + p .cycles; words = t .words + p .words; depth = max (t .depth) h }
 
+-- the same where its last step is a branch that jumps, and the extra x is paid
+unfoldable pub jumpedOf : Tally → ℕ → Tally
+jumpedOf t x = record { cycles = t .cycles + x; words = t .words; depth = t .depth }
+
 -- the larger of two costs decides: "T where both ways cost the same cycles"
 unfoldable pub decidedOf : ℕ → ℕ → ℕ → ℕ → ℕ
 decidedOf k l p q = cond (leb k l) (2 * q + 1) (2 * p)
 
--- n steps of a tally, and then the two ways of a branch
-unfoldable pub joinedOf : Tally → ℕ → Found → Found → Found
-joinedOf t n f g = record {
+-- n steps of a tally, and then the two ways of a branch, with the extra x on the taken one
+unfoldable pub joinedOf : Tally → ℕ → Found → ℕ → Found → Found
+joinedOf t n f x g = record {
   verdict = Accepted;
   used = n + f .used + g .used;
-  cycles = t .cycles + max (f .cycles) (g .cycles);
+  cycles = t .cycles + max (f .cycles) (x + g .cycles);
   words = t .words + max (f .words) (g .words);
   depth = max (t .depth) (max (f .depth) (g .depth));
-  path = decidedOf (f .cycles) (g .cycles) (f .path) (g .path);
+  path = decidedOf (f .cycles) (x + g .cycles) (f .path) (g .path);
 }
 
 -- n steps of a tally, the last of them STOP
@@ -69,7 +73,7 @@ price c w = record { cycles = c; words = w }
 -- no sum of the two ways is too large for the code's numbers
 pub record Summable (t : Tally) (n : ℕ) (f g : Found) : Type 0 where
   pub steps : n + f .used + g .used ≤ 1000000
-  pub tally : (t .cycles ≤ 4294967296000000) × (t .words ≤ 4294967296000000)
-  pub first : (f .cycles ≤ 4294967296000000) × (f .words ≤ 4294967296000000)
-  pub second : (g .cycles ≤ 4294967296000000) × (g .words ≤ 4294967296000000)
+  pub tally : (t .cycles ≤ 8589934592000000) × (t .words ≤ 4294967296000000)
+  pub first : (f .cycles ≤ 8589934592000000) × (f .words ≤ 4294967296000000)
+  pub second : (g .cycles ≤ 8589934592000000) × (g .words ≤ 4294967296000000)
   pub paths : (f .path ≤ 4294967296) × (g .path ≤ 4294967296)

@@ -3,7 +3,7 @@ use refusals::Refusal;
 use refusals::Verdict;
 ghost use mathlib.Core.Path.{_≡_};
 ghost use Prim.Native.Nat.{_≤_, max};
-ghost use Rattle.findings.specs.Found.{price, moreOf, decidedOf, joinedOf, finishedOf, refusedAs, Summable};
+ghost use Rattle.findings.specs.Found.{price, moreOf, jumpedOf, decidedOf, joinedOf, finishedOf, refusedAs, Summable};
 
 // What exploring comes to: the verdict, the steps walked, and where it is accepted the figures of the report.
 // `path` has a bit for each decision, the first one lowest, 1 for taken, with a 1 above the last.
@@ -39,7 +39,7 @@ fn decided(k: u64, l: u64, p: u64, q: u64) -> u64
 
 // One step more, from a state of height `h`.
 pub fn more(t: Tally, cycles: u32, words: u32, h: usize) -> Tally
-    requires { ⌜ (t .cycles ≤ 4294967296000000) × (t .words ≤ 4294967296000000) ⌝ }
+    requires { ⌜ (t .cycles ≤ 8589934592000000) × (t .words ≤ 4294967296000000) ⌝ }
     ensures { λ r. ⌜ r ≡ moreOf t (price cycles words) h ⌝ }
 {
     let c = t.cycles + (cycles as u64);
@@ -49,6 +49,19 @@ pub fn more(t: Tally, cycles: u32, words: u32, h: usize) -> Tally
         cycles: c,
         words: w,
         depth: depth,
+    }
+}
+
+// The last step is a conditional branch that jumps, and its extra is paid.
+pub fn jumped(t: Tally, extra: u32) -> Tally
+    requires { ⌜ t .cycles ≤ 8589934592000000 ⌝ }
+    ensures { λ r. ⌜ r ≡ jumpedOf t extra ⌝ }
+{
+    let c = t.cycles + (extra as u64);
+    Tally {
+        cycles: c,
+        words: t.words,
+        depth: t.depth,
     }
 }
 
@@ -80,15 +93,16 @@ pub fn refused(x: Refusal, walked: usize) -> Found
     }
 }
 
-// `n` steps, and then the two ways of a branch.
-pub fn joined(t: Tally, n: usize, f: Found, g: Found) -> Found
+// `n` steps, and then the two ways of a branch, with the extra on the taken one.
+pub fn joined(t: Tally, n: usize, f: Found, extra: u32, g: Found) -> Found
     requires { ⌜ Summable t n f g ⌝ }
-    ensures { λ r. ⌜ r ≡ joinedOf t n f g ⌝ }
+    ensures { λ r. ⌜ r ≡ joinedOf t n f extra g ⌝ }
 {
-    let cycles = t.cycles + larger(f.cycles, g.cycles);
+    let taken = (extra as u64) + g.cycles;
+    let cycles = t.cycles + larger(f.cycles, taken);
     let words = t.words + larger(f.words, g.words);
     let depth = larger(t.depth, larger(f.depth, g.depth));
-    let path = decided(f.cycles, g.cycles, f.path, g.path);
+    let path = decided(f.cycles, taken, f.path, g.path);
     Found {
         verdict: Verdict::Accepted,
         used: n + f.used + g.used,

@@ -30,6 +30,7 @@ fn afresh(
     operands: &[i32],
     cycles: &[u32],
     words: &[u32],
+    extras: &[u32],
     sizes: &[u8],
     first: usize,
     stopped: bool,
@@ -37,9 +38,9 @@ fn afresh(
     blocks: [Cell; 128],
     budget: usize,
 ) -> Found
-    requires { ⌜ Sized (now codes) (now operands) (now cycles) (now words) ⌝ }
+    requires { ⌜ Sized (now codes) (now operands) (now cycles) (now words) (now extras) ⌝ }
     requires { ⌜ Explorable (now codes) (now sizes) first blocks state 32 budget ⌝ }
-    ensures { λ r. ⌜ Shows r (boundedAfresh (bound (codeOf first (now (codes .entry)) (now (operands .entry)) (now (cycles .entry)) (now (words .entry))) budget) stopped (whole (now (sizes .entry)) blocks state)) ⌝ }
+    ensures { λ r. ⌜ Shows r (boundedAfresh (bound (codeOf first (now (codes .entry)) (now (operands .entry)) (now (cycles .entry)) (now (words .entry)) (now (extras .entry))) budget) stopped (whole (now (sizes .entry)) blocks state)) ⌝ }
 {
     if stopped {
         let nothing = Tally {
@@ -54,6 +55,7 @@ fn afresh(
         operands,
         cycles,
         words,
+        extras,
         sizes,
         first,
         state,
@@ -120,6 +122,7 @@ fn interrupt(
     operands: &[i32],
     cycles: &[u32],
     words: &[u32],
+    extras: &[u32],
     sizes: &[u8],
     first: usize,
     start: State,
@@ -128,15 +131,16 @@ fn interrupt(
     n: usize,
     budget: usize,
 ) -> [u64; 13]
-    requires { ⌜ Sized (now codes) (now operands) (now cycles) (now words) ⌝ }
+    requires { ⌜ Sized (now codes) (now operands) (now cycles) (now words) (now extras) ⌝ }
     requires { ⌜ Runnable (now codes) (now sizes) first start fields n × (budget ≤ 1000000) ⌝ }
-    ensures { λ r. ⌜ r ≡ numbersOf (codeOf first (now (codes .entry)) (now (operands .entry)) (now (cycles .entry)) (now (words .entry))) budget (after (codeOf first (now (codes .entry)) (now (operands .entry)) (now (cycles .entry)) (now (words .entry))) n (begin (whole (now (sizes .entry)) fields start) (now (answers .entry)))) ⌝ }
+    ensures { λ r. ⌜ r ≡ numbersOf (codeOf first (now (codes .entry)) (now (operands .entry)) (now (cycles .entry)) (now (words .entry)) (now (extras .entry))) budget (after (codeOf first (now (codes .entry)) (now (operands .entry)) (now (cycles .entry)) (now (words .entry)) (now (extras .entry))) n (begin (whole (now (sizes .entry)) fields start) (now (answers .entry)))) ⌝ }
 {
     let r = runs::after(
         codes,
         operands,
         cycles,
         words,
+        extras,
         sizes,
         first,
         start,
@@ -151,6 +155,7 @@ fn interrupt(
         operands,
         cycles,
         words,
+        extras,
         sizes,
         first,
         r.stopped,
@@ -182,6 +187,7 @@ fn interrupted(x: Routine, n: u64) -> [u64; 13]
     let operands = columns.operands;
     let cycles = columns.cycles;
     let words = columns.words;
+    let extras = columns.extras;
     let sizes = x.sizes;
     let fields = x.fields;
     let start = x.start;
@@ -196,6 +202,7 @@ fn interrupted(x: Routine, n: u64) -> [u64; 13]
         &operands[..count],
         &cycles[..count],
         &words[..count],
+        &extras[..count],
         &sizes[..blocks],
         x.first,
         start,

@@ -8,7 +8,9 @@ use routine::layout;
 use text::Place;
 ghost use mathlib.Core.Bool.{true, _&&_};
 ghost use mathlib.Core.Path.{_≡_};
-ghost use Prim.Native.Nat.{_≤_};
+ghost use Prim.Native.Nat.{ℕ, _≤_};
+ghost use mathlib.Core.List.{List, []};
+ghost use lib.ListN.{drop};
 ghost use lib.Dec.{ltb};
 ghost use Rattle.text.specs.Text.{words, place, among, all};
 ghost use Rattle.text.specs.Decimal.{numeral};
@@ -17,7 +19,7 @@ ghost use Rattle.instructions.specs.Kinds.{kindNames};
 ghost use Rattle.instructions.specs.declared.Argument.the-variants.{Target};
 ghost use Rattle.routine.specs.declared.Column.the-variants.{Limit};
 ghost use Rattle.routine.specs.Layout.{list};
-ghost use Rattle.routine.specs.Rows.{isNumeral, value, op, arg, onArgument, argumentLaidOut, argumentInRange, argumentNamed, argumentReaches, firstAddresses, columnInRange, columnLaidOut, onCells, namesLaidOut, valuesLaidOut, codeLaidOut, codeInRange, codeNamed};
+ghost use Rattle.routine.specs.Rows.{isNumeral, value, op, arg, onArgument, argumentLaidOut, argumentInRange, argumentNamed, argumentReaches, firstAddresses, extraRange, extrasInRange, columnInRange, columnLaidOut, onCells, namesLaidOut, valuesLaidOut, codeLaidOut, codeInRange, codeNamed};
 ghost use Rattle.lines.specs.Lines.{wordTest};
 
 // What a word is tested for: that it is not empty, spells a number, one of a price's cycles or words, a cell, a cell in range, a
@@ -120,7 +122,7 @@ pub fn values_laid_out(c: Column, names: &[u8], line: &[u8]) -> bool
 
 // BUDGET, then TICK.
 fn limits_in_range(line: &[u8]) -> bool
-    ensures { λ r. ⌜ r ≡ columnInRange Limit (list (now (line .entry))) ⌝ }
+    ensures { λ r. ⌜ r ≡ columnInRange Limit [] (list (now (line .entry))) ⌝ }
 {
     let budget = layout::listed_at(line, 0);
     let tick = layout::listed_at(line, 1);
@@ -130,14 +132,69 @@ fn limits_in_range(line: &[u8]) -> bool
     false
 }
 
-// Row 3 on a line of values.
-pub fn values_in_range(c: Column, line: &[u8]) -> bool
-    ensures { λ r. ⌜ r ≡ columnInRange c (list (now (line .entry))) ⌝ }
+// Whether the extra w under a name is in its range.
+fn extra_in_range(name: &[u8], w: &[u8]) -> bool
+    ensures { λ r. ⌜ r ≡ within (extraRange (now (name .entry))) (value (now (w .entry))) ⌝ }
+{
+    if text::same(name, b"BRANCHIF") {
+        return values::is_within(layout::extra_counts(), w);
+    }
+    if text::same(name, b"BRANCHIFNOT") {
+        return values::is_within(layout::extra_counts(), w);
+    }
+    values::is_within(layout::no_extra(), w)
+}
+
+// What follows the first of a line's words; no bytes where nothing does, which stand for names that no kind has.
+fn next_names(names: &[u8]) -> &[u8]
+    ensures { λ r. ⌜ ((ws : List (List ℕ)) → extrasInRange (words (now r)) ws ≡ extrasInRange (drop 1 (words (now (names .entry)))) ws) ⌝ }
+{
+    let e = text::piece_length(names, b' ');
+    if e < names.len() {
+        return &names[e + 1..];
+    }
+    &names[..0]
+}
+
+// Whether each word of a line is in the range of the name at its place: one scan of both lines.
+fn extras_in_range(names: &[u8], line: &[u8]) -> bool
+    ensures { λ r. ⌜ r ≡ extrasInRange (words (now (names .entry))) (words (now (line .entry))) ⌝ }
+{
+    let mut above = names;
+    let mut rest = line;
+    let mut e = text::piece_length(rest, b' ');
+    while e < rest.len() {
+        let name = text::word_at(above, 0);
+        if !extra_in_range(name, &rest[..e]) {
+            return false;
+        }
+        let next = next_names(above);
+        above = next;
+        rest = &rest[e + 1..];
+        e = text::piece_length(rest, b' ');
+    }
+    extra_in_range(text::word_at(above, 0), rest)
+}
+
+// The same of what the two lines list: `-` lists nothing, and as a name it is of no kind.
+fn extras_listed(names: &[u8], line: &[u8]) -> bool
+    ensures { λ r. ⌜ r ≡ extrasInRange (list (now (names .entry))) (list (now (line .entry))) ⌝ }
+{
+    if text::same(line, b"-") {
+        return true;
+    }
+    extras_in_range(names, line)
+}
+
+// Row 3 on a line of values, where `names` is the line of their names.
+pub fn values_in_range(c: Column, names: &[u8], line: &[u8]) -> bool
+    ensures { λ r. ⌜ r ≡ columnInRange c (list (now (names .entry))) (list (now (line .entry))) ⌝ }
 {
     match c {
         Column::Limit => limits_in_range(line),
         Column::Cycles => all_listed(WordTest::Cycles, line),
         Column::Words => all_listed(WordTest::Words, line),
+        Column::Extra => extras_listed(names, line),
         Column::Cell => all_listed(WordTest::CellRange, line),
     }
 }

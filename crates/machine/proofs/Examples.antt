@@ -11,14 +11,17 @@ use Rattle.cells.specs.Cells.{number, unknown, handle, calculate₁, calculate�
 use Rattle.instructions.specs.Kinds.{kinds, kindNames, operand}
 use Rattle.instructions.specs.Columns.{kindAt}
 use Rattle.machine.specs.Lists.{nth, put, without}
-use Rattle.machine.specs.Machine.{instruction, State, Price, Code, fetch, goes, opens, height, jump, load, restack, reblock, push, pop, store, getField, setField, advance, ahead, ways, opposite, perform, prepare, execute, step}
+use Rattle.machine.specs.Machine.{instruction, State, Price, Code, fetch, goes, opens, height, jump, load, restack, reblock, push, pop, store, getField, setField, advance, ahead, withExtra, ways, opposite, perform, prepare, execute, step}
 
--- one instruction of the kind that is named, with its argument, at address 5 and at the price of 3 cycles
+-- one instruction of the kind that is named, with its argument, at address 5 and at the price of 3 cycles, and 4 more if it jumps
 abbrev price : Price
 price = record { cycles = 3; words = 1 }
 
+abbrev jumping : Price
+jumping = record { cycles = 7; words = 1 }
+
 abbrev one : List ℕ → ℤ → Code
-one name a = record { first = 5; instructions = instruction (kindAt (find name kindNames)) a price ∷ [] }
+one name a = record { first = 5; instructions = instruction (kindAt (find name kindNames)) a price 4 ∷ [] }
 
 abbrev state : ℕ → Cell → List Cell → State
 state a c cs = record { at = a; accu = c; stack = cs; blocks = (number (pos 8) ∷ unknown ∷ []) ∷ [] }
@@ -36,11 +39,15 @@ pub examples :
     -- "one fewer popped than the digit", and the answer
     × (step (one (bytes "C_CALL2") (pos 0)) (number (pos 9)) (state 5 (number (pos 3)) (number (pos 4) ∷ [])) ≡ done (goes price (state 6 (number (pos 9)) [])))
     -- "not taken (N) first, then taken (T)"
-    × (step (one (bytes "BRANCHIFNOT") (pos 9)) unknown (state 5 unknown []) ≡ done (opens price (state 6 unknown []) price (state 9 unknown [])))
-    × (step (one (bytes "BRANCHIFNOT") (pos 9)) unknown (state 5 (number (pos 0)) []) ≡ done (goes price (state 9 (number (pos 0)) [])))
+    × (step (one (bytes "BRANCHIFNOT") (pos 9)) unknown (state 5 unknown []) ≡ done (opens price (state 6 unknown []) jumping (state 9 unknown [])))
+    -- "extra cycles when BRANCHIF or BRANCHIFNOT jumps": on a known condition too, and not where it does not jump; none for BRANCH
+    × (step (one (bytes "BRANCHIFNOT") (pos 9)) unknown (state 5 (number (pos 0)) []) ≡ done (goes jumping (state 9 (number (pos 0)) [])))
+    × (step (one (bytes "BRANCHIFNOT") (pos 9)) unknown (state 5 (number (pos 1)) []) ≡ done (goes price (state 6 (number (pos 1)) [])))
+    × (step (one (bytes "BRANCHIF") (pos 9)) unknown (state 5 (number (pos 1)) []) ≡ done (goes jumping (state 9 (number (pos 1)) [])))
+    × (step (one (bytes "BRANCH") (pos 9)) unknown (state 5 unknown []) ≡ done (goes price (state 9 unknown [])))
     -- "Stuck: address outside the code", below it too; "a field the block lacks"; "a handle in arithmetic"
     × (step (one (bytes "STOP") (pos 0)) unknown (state 4 unknown []) ≡ stuck)
     × (step (one (bytes "GETFIELD2") (pos 0)) unknown (state 5 (handle 0) []) ≡ stuck)
     × (step (one (bytes "ADDINT") (pos 0)) unknown (state 5 (handle 0) (unknown ∷ [])) ≡ stuck)
-unfolding equals find kindNames wrap holds _>>=_ calculate₁ calculate₂ map₁ map₂ operate₁ operate₂ conditionIn condition handled block kinds operand kindAt instruction nth put without fetch height jump load restack reblock push pop store getField setField advance ahead ways opposite perform prepare execute step
-examples = (refl, refl, refl, refl, refl, refl, refl, refl, refl, refl, refl, refl)
+unfolding equals find kindNames wrap holds _>>=_ calculate₁ calculate₂ map₁ map₂ operate₁ operate₂ conditionIn condition handled block kinds operand kindAt instruction nth put without fetch height jump load restack reblock push pop store getField setField advance ahead withExtra ways opposite perform prepare execute step
+examples = (refl, refl, refl, refl, refl, refl, refl, refl, refl, refl, refl, refl, refl, refl, refl)

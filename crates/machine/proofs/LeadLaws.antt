@@ -108,39 +108,39 @@ module _ {P Q : State → Type 0} {T : ℕ → Type 0} (keeps : Keeps P Q T) whe
   unfolding ahead
   ahead-leads p g = bind g (λ s h. given (goes-to (keeps .advances s h)))
 
-  ways-lead : (p : Price) (a : ℕ) (s : State) (x : Condition) → T a → P s → Leads Q (ways p a s x)
+  ways-lead : (p : Price) (n a : ℕ) (s : State) (x : Condition) → T a → P s → Leads Q (ways p n a s x)
   unfolding ways
-  ways-lead p a s IsZero t h = goes-to (keeps .advances s h)
-  ways-lead p a s IsNonzero t h = goes-to (keeps .jumps a s t h)
-  ways-lead p a s IsUnknown t h = opens-to (keeps .advances s h) (keeps .jumps a s t h)
+  ways-lead p n a s IsZero t h = goes-to (keeps .advances s h)
+  ways-lead p n a s IsNonzero t h = goes-to (keeps .jumps a s t h)
+  ways-lead p n a s IsUnknown t h = opens-to (keeps .advances s h) (keeps .jumps a s t h)
 
-  perform-leads : (p : Price) (r : Cell) (o : Operation) (i : ℤ) (s : State) → T (target o i) → P s → Gives (Leads Q) (perform p r o i s)
+  perform-leads : (p : Price) (n : ℕ) (r : Cell) (o : Operation) (i : ℤ) (s : State) → T (target o i) → P s → Gives (Leads Q) (perform p n r o i s)
   unfolding perform store height
-  perform-leads p r Nothing i s t h = ahead-leads p (given h)
-  perform-leads p r Access i s t h = ahead-leads p (bind (itself (nth (index i) (s .stack))) (λ c u. given (keeps .loads c s h)))
-  perform-leads p r Drop i s t h = ahead-leads p (pop-keeps (index i) s h)
-  perform-leads p r Assign i s t h =
+  perform-leads p n r Nothing i s t h = ahead-leads p (given h)
+  perform-leads p n r Access i s t h = ahead-leads p (bind (itself (nth (index i) (s .stack))) (λ c u. given (keeps .loads c s h)))
+  perform-leads p n r Drop i s t h = ahead-leads p (pop-keeps (index i) s h)
+  perform-leads p n r Assign i s t h =
       ahead-leads p (bind (put-length (index i) (s .accu) (s .stack)) (λ cs e. given (keeps .loads _ (restack cs s) (keeps .restacks cs s (omega arith) h))))
-  perform-leads p r Constant i s t h = ahead-leads p (given (keeps .loads _ s h))
-  perform-leads p r (Alter u) i s t h = ahead-leads p (bind (itself (operate₁ u i (s .accu))) (λ c v. given (keeps .loads c s h)))
-  perform-leads p r (Combine b) i s t h =
+  perform-leads p n r Constant i s t h = ahead-leads p (given (keeps .loads _ s h))
+  perform-leads p n r (Alter u) i s t h = ahead-leads p (bind (itself (operate₁ u i (s .accu))) (λ c v. given (keeps .loads c s h)))
+  perform-leads p n r (Combine b) i s t h =
       ahead-leads p
       (bind (itself (nth 0 (s .stack))) (λ c u.
       bind (itself (operate₂ b (s .accu) c)) (λ d v.
       bind (pop-keeps 1 s h) (λ t l.
       given (keeps .loads d t l)))))
-  perform-leads p r GetField i s t h = ahead-leads p (bind (itself (getField (index i) s)) (λ c u. given (keeps .loads c s h)))
-  perform-leads p r SetField i s t h =
+  perform-leads p n r GetField i s t h = ahead-leads p (bind (itself (getField (index i) s)) (λ c u. given (keeps .loads c s h)))
+  perform-leads p n r SetField i s t h =
       ahead-leads p
       (bind (itself (nth 0 (s .stack))) (λ c u.
       bind (pop-keeps 1 s h) (λ t l.
       bind (setField-keeps (index i) c t l) (λ v m.
       given (keeps .loads _ v m)))))
-  perform-leads p r Branch i s t h = given (goes-to (keeps .jumps (index i) s t h))
-  perform-leads p r BranchIf i s t h = bind (itself (condition (s .accu))) (λ x u. given (ways-lead p (index i) s x t h))
-  perform-leads p r BranchIfNot i s t h = bind (itself (condition (s .accu))) (λ x u. given (ways-lead p (index i) s (opposite x) t h))
-  perform-leads p r Call i s t h = ahead-leads p (bind (pop-keeps (index i) s h) (λ t l. given (keeps .loads r t l)))
-  perform-leads p r Stop i s t h = given stops-there
+  perform-leads p n r Branch i s t h = given (goes-to (keeps .jumps (index i) s t h))
+  perform-leads p n r BranchIf i s t h = bind (itself (condition (s .accu))) (λ x u. given (ways-lead p n (index i) s x t h))
+  perform-leads p n r BranchIfNot i s t h = bind (itself (condition (s .accu))) (λ x u. given (ways-lead p n (index i) s (opposite x) t h))
+  perform-leads p n r Call i s t h = ahead-leads p (bind (pop-keeps (index i) s h) (λ t l. given (keeps .loads r t l)))
+  perform-leads p n r Stop i s t h = given stops-there
 
   prepare-keeps : (b : Bool) (s : State) → P s → Gives P (prepare b s)
   unfolding prepare
@@ -152,7 +152,7 @@ module _ {P Q : State → Type 0} {T : ℕ → Type 0} (keeps : Keeps P Q T) whe
   step-gives c r s h =
       bind (itself (fetch c (s .at))) (λ i e.
       bind (prepare-keeps (i .pushes) s (h i e .0)) (λ t l.
-      perform-leads (i .price) r (i .operation) (i .operand) t (h i e .1) l))
+      perform-leads (i .price) (i .extra) r (i .operation) (i .operand) t (h i e .1) l))
 
   -- where P holds of a state that is not outside the code, and T of what its instruction jumps to
   pub step-leads : (c : Code) (r : Cell) (s : State) (n : Next) → step c r s ≡ done n → ((i : Instruction) → fetch c (s .at) ≡ done i → P s × T (target (i .operation) (i .operand))) → Leads Q n

@@ -38,13 +38,13 @@ module _ {R : Cell → Cell → Type 0} {two : Type 0} (L : Lawful R two) where
   unfolding ahead
   ahead-law p h = bind h (λ s t e. both (goes-too (advance-law e)))
 
-  ways-law : (p : Price) (a : ℕ) {s t : State} {x y : Condition} → Cellwise R s t → Narrower two x y → NextCovered (Cellwise R) two (ways p a s x) (ways p a t y)
+  ways-law : (p : Price) (n a : ℕ) {s t : State} {x y : Condition} → Cellwise R s t → Narrower two x y → NextCovered (Cellwise R) two (ways p n a s x) (ways p n a t y)
   unfolding ways
-  ways-law p a e zeros = goes-too (advance-law e)
-  ways-law p a e nonzeros = goes-too (jump-law a e)
-  ways-law p a e zero-unknown = goes-not-taken (advance-law e)
-  ways-law p a e nonzero-unknown = goes-taken (jump-law a e)
-  ways-law p a e (unknowns h) = opens-too h (advance-law e) (jump-law a e)
+  ways-law p n a e zeros = goes-too (advance-law e)
+  ways-law p n a e nonzeros = goes-too (jump-law a e)
+  ways-law p n a e zero-unknown = goes-not-taken (advance-law e)
+  ways-law p n a e nonzero-unknown = goes-taken (jump-law a e)
+  ways-law p n a e (unknowns h) = opens-too h (advance-law e) (jump-law a e)
 
   opposite-law : {x y : Condition} → Narrower two x y → Narrower two (opposite x) (opposite y)
   unfolding opposite
@@ -54,33 +54,33 @@ module _ {R : Cell → Cell → Type 0} {two : Type 0} (L : Lawful R two) where
   opposite-law nonzero-unknown = zero-unknown
   opposite-law (unknowns h) = unknowns h
 
-  perform-law : (p : Price) {r r′ : Cell} (o : Operation) (i : ℤ) {s t : State} → R r r′ → Cellwise R s t →
-      Covered (NextCovered (Cellwise R) two) (perform p r o i s) (perform p r′ o i t)
+  perform-law : (p : Price) (n : ℕ) {r r′ : Cell} (o : Operation) (i : ℤ) {s t : State} → R r r′ → Cellwise R s t →
+      Covered (NextCovered (Cellwise R) two) (perform p n r o i s) (perform p n r′ o i t)
   unfolding perform store
-  perform-law p Nothing i k e = ahead-law p (both e)
-  perform-law p Access i k e = ahead-law p (bind (nth-law refl (e .stack)) (λ c d h. both (load-law e h)))
-  perform-law p Drop i k e = ahead-law p (pop-law (index i) e)
-  perform-law p Assign i k e = ahead-law p (bind (put-law refl (e .stack) (e .accu)) (λ c d h. both (load-law (restack-law e h) (L .numbers (pos 0)))))
-  perform-law p Constant i k e = ahead-law p (both (load-law e (L .numbers i)))
-  perform-law p (Alter u) i k e = ahead-law p (bind (L .operates₁ u i (e .accu)) (λ c d h. both (load-law e h)))
-  perform-law p (Combine b) i k e =
+  perform-law p n Nothing i k e = ahead-law p (both e)
+  perform-law p n Access i k e = ahead-law p (bind (nth-law refl (e .stack)) (λ c d h. both (load-law e h)))
+  perform-law p n Drop i k e = ahead-law p (pop-law (index i) e)
+  perform-law p n Assign i k e = ahead-law p (bind (put-law refl (e .stack) (e .accu)) (λ c d h. both (load-law (restack-law e h) (L .numbers (pos 0)))))
+  perform-law p n Constant i k e = ahead-law p (both (load-law e (L .numbers i)))
+  perform-law p n (Alter u) i k e = ahead-law p (bind (L .operates₁ u i (e .accu)) (λ c d h. both (load-law e h)))
+  perform-law p n (Combine b) i k e =
       ahead-law p
       (bind (nth-law refl (e .stack)) (λ c c′ h.
       bind (L .operates₂ b (e .accu) h) (λ d d′ g.
       bind (pop-law 1 e) (λ s t f.
       both (load-law f g)))))
-  perform-law p GetField i k e = ahead-law p (bind (getField-law (index i) e) (λ c d h. both (load-law e h)))
-  perform-law p SetField i k e =
+  perform-law p n GetField i k e = ahead-law p (bind (getField-law (index i) e) (λ c d h. both (load-law e h)))
+  perform-law p n SetField i k e =
       ahead-law p
       (bind (nth-law refl (e .stack)) (λ c c′ h.
       bind (pop-law 1 e) (λ s t f.
       bind (setField-law (index i) f h) (λ u u′ g.
       both (load-law g (L .numbers (pos 0)))))))
-  perform-law p Branch i k e = both (goes-too (jump-law (index i) e))
-  perform-law p BranchIf i k e = bind (L .conditions (e .accu)) (λ x y h. both (ways-law p (index i) e h))
-  perform-law p BranchIfNot i k e = bind (L .conditions (e .accu)) (λ x y h. both (ways-law p (index i) e (opposite-law h)))
-  perform-law p Call i k e = ahead-law p (bind (pop-law (index i) e) (λ s t h. both (load-law h k)))
-  perform-law p Stop i k e = both stops-too
+  perform-law p n Branch i k e = both (goes-too (jump-law (index i) e))
+  perform-law p n BranchIf i k e = bind (L .conditions (e .accu)) (λ x y h. both (ways-law p n (index i) e h))
+  perform-law p n BranchIfNot i k e = bind (L .conditions (e .accu)) (λ x y h. both (ways-law p n (index i) e (opposite-law h)))
+  perform-law p n Call i k e = ahead-law p (bind (pop-law (index i) e) (λ s t h. both (load-law h k)))
+  perform-law p n Stop i k e = both stops-too
 
   prepare-law : (b : Bool) {s t : State} → Cellwise R s t → Covered (Cellwise R) (prepare b s) (prepare b t)
   unfolding prepare
@@ -89,7 +89,7 @@ module _ {R : Cell → Cell → Type 0} {two : Type 0} (L : Lawful R two) where
 
   execute-law : {r r′ : Cell} (i : Instruction) {s t : State} → R r r′ → Cellwise R s t → Covered (NextCovered (Cellwise R) two) (execute r i s) (execute r′ i t)
   unfolding execute
-  execute-law i h e = bind (prepare-law (i .pushes) e) (λ s t f. perform-law (i .price) (i .operation) (i .operand) h f)
+  execute-law i h e = bind (prepare-law (i .pushes) e) (λ s t f. perform-law (i .price) (i .extra) (i .operation) (i .operand) h f)
 
   pub step-law : (c : Code) {r r′ : Cell} {s t : State} → R r r′ → Cellwise R s t → Covered (NextCovered (Cellwise R) two) (step c r s) (step c r′ t)
   unfolding step

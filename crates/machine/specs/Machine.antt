@@ -39,17 +39,18 @@ pub record Price : Type 0 where
   pub words : ℕ
 
 -- an instruction of the code, as its kind and its argument say: whether it pushes first, its operation and operand, whether it calls a
--- primitive and so takes an answer, what it costs
+-- primitive and so takes an answer, what it costs, and the "extra cycles when BRANCHIF or BRANCHIFNOT jumps" (document 02 §1)
 pub record Instruction : Type 0 where
   pub pushes : Bool
   pub operation : Operation
   pub operand : ℤ
   pub calls : Bool
   pub price : Price
+  pub extra : ℕ
 
--- the instruction of kind k with the argument a, at the price p
-unfoldable pub instruction : Kind → ℤ → Price → Instruction
-instruction k a p = record { pushes = k .pushes; operation = k .operation; operand = operand k a; calls = calls (k .argument); price = p }
+-- the instruction of kind k with the argument a, at the price p, with the extra x
+unfoldable pub instruction : Kind → ℤ → Price → ℕ → Instruction
+instruction k a p x = record { pushes = k .pushes; operation = k .operation; operand = operand k a; calls = calls (k .argument); price = p; extra = x }
 
 -- prices by place: of the kinds and of the primitives, each on its line of names
 pub record Prices : Type 0 where
@@ -139,11 +140,15 @@ advance s = jump (suc (s .at)) s
 unfoldable pub ahead : Price → Try State → Try Next
 ahead p m = m >>= λ s. done (goes p (advance s))
 
--- a conditional branch to a that jumps on non-zero: "on an unknown opens two ways: not taken (N) first, then taken (T)"
-unfoldable pub ways : Price → ℕ → State → Condition → Next
-ways p a s IsZero = goes p (advance s)
-ways p a s IsNonzero = goes p (jump a s)
-ways p a s IsUnknown = opens p (advance s) p (jump a s)
+-- "A jump that is taken costs more": x cycles, and no word (document 02 §1)
+unfoldable pub withExtra : ℕ → Price → Price
+withExtra x p = record { cycles = p .cycles + x; words = p .words }
+
+-- a conditional branch to a, with the extra x, that jumps on non-zero: "on an unknown opens two ways: not taken (N) first, then taken (T)"
+unfoldable pub ways : Price → ℕ → ℕ → State → Condition → Next
+ways p x a s IsZero = goes p (advance s)
+ways p x a s IsNonzero = goes (withExtra x p) (jump a s)
+ways p x a s IsUnknown = opens p (advance s) (withExtra x p) (jump a s)
 
 -- "BRANCHIFNOT a on zero"
 unfoldable pub opposite : Condition → Condition
@@ -151,26 +156,26 @@ opposite IsZero = IsNonzero
 opposite IsNonzero = IsZero
 opposite IsUnknown = IsUnknown
 
--- what an operation with operand i does, at the price p; r is the answer that a C_CALL gets
-unfoldable pub perform : Price → Cell → Operation → ℤ → State → Try Next
-perform p r Nothing i s = ahead p (done s)
+-- what an operation with operand i does, at the price p, with the extra x; r is the answer that a C_CALL gets
+unfoldable pub perform : Price → ℕ → Cell → Operation → ℤ → State → Try Next
+perform p x r Nothing i s = ahead p (done s)
 -- "accumulator becomes entry n"
-perform p r Access i s = ahead p (nth (index i) (s .stack) >>= λ c. done (load c s))
-perform p r Drop i s = ahead p (pop (index i) s)
-perform p r Assign i s = ahead p (store (index i) s)
-perform p r Constant i s = ahead p (done (load (number i) s))
-perform p r (Alter u) i s = ahead p (operate₁ u i (s .accu) >>= λ c. done (load c s))
+perform p x r Access i s = ahead p (nth (index i) (s .stack) >>= λ c. done (load c s))
+perform p x r Drop i s = ahead p (pop (index i) s)
+perform p x r Assign i s = ahead p (store (index i) s)
+perform p x r Constant i s = ahead p (done (load (number i) s))
+perform p x r (Alter u) i s = ahead p (operate₁ u i (s .accu) >>= λ c. done (load c s))
 -- "accumulator on the left, popped entry on the right"
-perform p r (Combine b) i s = ahead p (nth 0 (s .stack) >>= λ c. operate₂ b (s .accu) c >>= λ d. pop 1 s >>= λ t. done (load d t))
-perform p r GetField i s = ahead p (getField (index i) s >>= λ c. done (load c s))
+perform p x r (Combine b) i s = ahead p (nth 0 (s .stack) >>= λ c. operate₂ b (s .accu) c >>= λ d. pop 1 s >>= λ t. done (load d t))
+perform p x r GetField i s = ahead p (getField (index i) s >>= λ c. done (load c s))
 -- "field n becomes the popped entry, accumulator 0"
-perform p r SetField i s = ahead p (nth 0 (s .stack) >>= λ c. pop 1 s >>= λ t. setField (index i) c t >>= λ u. done (load (number (pos 0)) u))
-perform p r Branch i s = done (goes p (jump (index i) s))
-perform p r BranchIf i s = condition (s .accu) >>= λ x. done (ways p (index i) s x)
-perform p r BranchIfNot i s = condition (s .accu) >>= λ x. done (ways p (index i) s (opposite x))
+perform p x r SetField i s = ahead p (nth 0 (s .stack) >>= λ c. pop 1 s >>= λ t. setField (index i) c t >>= λ u. done (load (number (pos 0)) u))
+perform p x r Branch i s = done (goes p (jump (index i) s))
+perform p x r BranchIf i s = condition (s .accu) >>= λ c. done (ways p x (index i) s c)
+perform p x r BranchIfNot i s = condition (s .accu) >>= λ c. done (ways p x (index i) s (opposite c))
 -- "one fewer popped than the digit; blocks untouched"
-perform p r Call i s = ahead p (pop (index i) s >>= λ t. done (load r t))
-perform p r Stop i s = done (stops p)
+perform p x r Call i s = ahead p (pop (index i) s >>= λ t. done (load r t))
+perform p x r Stop i s = done (stops p)
 
 -- "push, then ACC n on the longer stack"; "PUSHCONST0 to 3, PUSHCONSTINT i push first"
 unfoldable pub prepare : Bool → State → Try State
@@ -179,7 +184,7 @@ prepare false s = done s
 
 -- an instruction, where a C_CALL gets the answer r
 unfoldable pub execute : Cell → Instruction → State → Try Next
-execute r i s = prepare (i .pushes) s >>= λ t. perform (i .price) r (i .operation) (i .operand) t
+execute r i s = prepare (i .pushes) s >>= λ t. perform (i .price) (i .extra) r (i .operation) (i .operand) t
 
 -- one step from s, where a C_CALL gets the answer r: unknown in the bound, a number in a run
 unfoldable pub step : Code → Cell → State → Try Next

@@ -17,8 +17,8 @@ use Rattle.cells.specs.Cells.{number, condition}
 use Rattle.instructions.specs.declared.Operation.{Operation}
 use Rattle.instructions.specs.declared.Operation.the-variants.{Nothing, Access, Drop, Assign, Constant, GetField, SetField, Branch, BranchIf, BranchIfNot, Call, Stop, Alter, Combine}
 use Rattle.outcomes.specs.declared.Outcome.{Outcome}
-use Rattle.outcomes.specs.declared.Outcome.the-variants.{Gives, Operates, Stores, Sets, Gets, Goes, Opens, Halts, Stuck}
-use Rattle.machine.specs.Machine.{State, stackLimit, height, Price, Instruction, Code, fetch, Next, goes, opens, stops, index, jump, load, reblock, push, pop, store, getField, setField, advance, prepare, execute, step}
+use Rattle.outcomes.specs.declared.Outcome.the-variants.{Gives, Operates, Stores, Sets, Gets, Goes, Jumps, Opens, Halts, Stuck}
+use Rattle.machine.specs.Machine.{State, stackLimit, height, Price, Instruction, Code, fetch, Next, goes, opens, stops, withExtra, index, jump, load, reblock, push, pop, store, getField, setField, advance, prepare, execute, step}
 use Rattle.machine.proofs.ApartLaws.{push-advance, pop-accu}
 use Rattle.outcomes.specs.Outcome.{entryOf, drops, isOnCells, operated, branching, outcome, resume, Room}
 use Rattle.outcomes.proofs.OutcomeLaws.{perform-resumes}
@@ -63,37 +63,37 @@ room (Combine b) i r h a e = under-test (Combine b) (index i) h (ltb 0 h) Operat
 
 -- the entry does not matter where there is none
 
-at-no-entry : (p : Price) (s : State) (o : Operation) (i : ℤ) (b : Bool) (x : Outcome) (e e′ : Cell) → resume p o i s e x ≡ resume p o i s e′ x → resume p o i s e (cond b x Stuck) ≡ resume p o i s e′ (cond b x Stuck)
+at-no-entry : (p : Price) (y : ℕ) (s : State) (o : Operation) (i : ℤ) (b : Bool) (x : Outcome) (e e′ : Cell) → resume p y o i s e x ≡ resume p y o i s e′ x → resume p y o i s e (cond b x Stuck) ≡ resume p y o i s e′ (cond b x Stuck)
 unfolding resume
-at-no-entry p s o i true x e e′ g = g
-at-no-entry p s o i false x e e′ g = refl
+at-no-entry p y s o i true x e e′ g = g
+at-no-entry p y s o i false x e e′ g = refl
 
-branches-no-entry : (p : Price) (s : State) (o : Operation) (i : ℤ) (z : Bool) (a : Cell) (m : Try Condition) (e e′ : Cell) → resume p o i s e (branching z a m) ≡ resume p o i s e′ (branching z a m)
+branches-no-entry : (p : Price) (y : ℕ) (s : State) (o : Operation) (i : ℤ) (z : Bool) (a : Cell) (m : Try Condition) (e e′ : Cell) → resume p y o i s e (branching z a m) ≡ resume p y o i s e′ (branching z a m)
 unfolding resume branching
-branches-no-entry p s o i z a stuck e e′ = refl
-branches-no-entry p s o i true a (done IsZero) e e′ = refl
-branches-no-entry p s o i false a (done IsZero) e e′ = refl
-branches-no-entry p s o i true a (done IsNonzero) e e′ = refl
-branches-no-entry p s o i false a (done IsNonzero) e e′ = refl
-branches-no-entry p s o i z a (done IsUnknown) e e′ = refl
+branches-no-entry p y s o i z a stuck e e′ = refl
+branches-no-entry p y s o i true a (done IsZero) e e′ = refl
+branches-no-entry p y s o i false a (done IsZero) e e′ = refl
+branches-no-entry p y s o i true a (done IsNonzero) e e′ = refl
+branches-no-entry p y s o i false a (done IsNonzero) e e′ = refl
+branches-no-entry p y s o i z a (done IsUnknown) e e′ = refl
 
-no-entry : (p : Price) (s : State) (o : Operation) (i : ℤ) (r : Cell) (h : ℕ) (a e e′ : Cell) → h ≤ entryOf o (index i) →
-    resume p o i s e (outcome o i r h a e) ≡ resume p o i s e′ (outcome o i r h a e′)
+no-entry : (p : Price) (y : ℕ) (s : State) (o : Operation) (i : ℤ) (r : Cell) (h : ℕ) (a e e′ : Cell) → h ≤ entryOf o (index i) →
+    resume p y o i s e (outcome o i r h a e) ≡ resume p y o i s e′ (outcome o i r h a e′)
 unfolding outcome entryOf resume operated
-no-entry p s Nothing i r h a e e′ l = refl
-no-entry p s Access i r h a e e′ l = rw (le-ltb (index i) h l) refl
-no-entry p s Drop i r h a e e′ l = at-no-entry p s Drop i (leb (index i) h) (Gives a) e e′ refl
-no-entry p s Assign i r h a e e′ l = at-no-entry p s Assign i (ltb (index i) h) Stores e e′ refl
-no-entry p s Constant i r h a e e′ l = refl
-no-entry p s GetField i r h a e e′ l = refl
-no-entry p s SetField i r h a e e′ l = rw (le-ltb 0 h l) refl
-no-entry p s Branch i r h a e e′ l = refl
-no-entry p s BranchIf i r h a e e′ l = branches-no-entry p s BranchIf i false a (condition a) e e′
-no-entry p s BranchIfNot i r h a e e′ l = branches-no-entry p s BranchIfNot i true a (condition a) e e′
-no-entry p s Call i r h a e e′ l = at-no-entry p s Call i (leb (index i) h) (Gives r) e e′ refl
-no-entry p s Stop i r h a e e′ l = refl
-no-entry p s (Alter u) i r h a e e′ l = refl
-no-entry p s (Combine b) i r h a e e′ l = rw (le-ltb 0 h l) refl
+no-entry p y s Nothing i r h a e e′ l = refl
+no-entry p y s Access i r h a e e′ l = rw (le-ltb (index i) h l) refl
+no-entry p y s Drop i r h a e e′ l = at-no-entry p y s Drop i (leb (index i) h) (Gives a) e e′ refl
+no-entry p y s Assign i r h a e e′ l = at-no-entry p y s Assign i (ltb (index i) h) Stores e e′ refl
+no-entry p y s Constant i r h a e e′ l = refl
+no-entry p y s GetField i r h a e e′ l = refl
+no-entry p y s SetField i r h a e e′ l = rw (le-ltb 0 h l) refl
+no-entry p y s Branch i r h a e e′ l = refl
+no-entry p y s BranchIf i r h a e e′ l = branches-no-entry p y s BranchIf i false a (condition a) e e′
+no-entry p y s BranchIfNot i r h a e e′ l = branches-no-entry p y s BranchIfNot i true a (condition a) e e′
+no-entry p y s Call i r h a e e′ l = at-no-entry p y s Call i (leb (index i) h) (Gives r) e e′ refl
+no-entry p y s Stop i r h a e e′ l = refl
+no-entry p y s (Alter u) i r h a e e′ l = refl
+no-entry p y s (Combine b) i r h a e e′ l = rw (le-ltb 0 h l) refl
 
 -- ---- a turn
 
@@ -130,29 +130,29 @@ module _ (ns : List ℕ) (fs : List Cell) where
   -- the step, resumed from the state u after the address has risen and the push is made
   module _ (c : Code) (r : Cell) (s u : code.State) (i : Instruction) (f : fetch c (s .at) ≡ done i) (p : prepare (i .pushes) (advance (whole ns fs s)) ≡ done (whole ns fs u)) where
     pub turns : (h : ℕ) (e : Cell) → h ≡ length (view u .stack) → (entryOf (i .operation) (index (i .operand)) < h → e ≡ getD (view u .stack) (entryOf (i .operation) (index (i .operand))) e) →
-        step c r (whole ns fs s) ≡ resume (i .price) (i .operation) (i .operand) (whole ns fs u) e (outcome (i .operation) (i .operand) r h (u .accu) e)
+        step c r (whole ns fs s) ≡ resume (i .price) (i .extra) (i .operation) (i .operand) (whole ns fs u) e (outcome (i .operation) (i .operand) r h (u .accu) e)
     unfolding step execute _>>=_ advance jump height whole reblock
     turns h e g k =
         let (t, q, m) = prepare-before (i .pushes) (whole ns fs s) (whole ns fs u) p in
-        rw (f, q) (perform-resumes (i .price) r (i .operand) t e (i .operation) ∙ ap from m ∙ seen (ltb (entryOf (i .operation) (index (i .operand))) h) refl)
+        rw (f, q) (perform-resumes (i .price) (i .extra) r (i .operand) t e (i .operation) ∙ ap from m ∙ seen (ltb (entryOf (i .operation) (index (i .operand))) h) refl)
       where
         -- the outcome from a state, by its own entry
         from : State → Try Next
         from v =
-            resume (i .price) (i .operation) (i .operand) v (getD (v .stack) (entryOf (i .operation) (index (i .operand))) e)
+            resume (i .price) (i .extra) (i .operation) (i .operand) v (getD (v .stack) (entryOf (i .operation) (index (i .operand))) e)
             (outcome (i .operation) (i .operand) r (height v) (v .accu) (getD (v .stack) (entryOf (i .operation) (index (i .operand))) e))
 
         seen : (b : Bool) → ltb (entryOf (i .operation) (index (i .operand))) h ≡ b →
-            from (whole ns fs u) ≡ resume (i .price) (i .operation) (i .operand) (whole ns fs u) e (outcome (i .operation) (i .operand) r h (u .accu) e)
+            from (whole ns fs u) ≡ resume (i .price) (i .extra) (i .operation) (i .operand) (whole ns fs u) e (outcome (i .operation) (i .operand) r h (u .accu) e)
         seen true l =
-            ap (λ d. resume (i .price) (i .operation) (i .operand) (whole ns fs u) d (outcome (i .operation) (i .operand) r (length (view u .stack)) (u .accu) d)) (sym (k (ltb-true _ h l)))
-            ∙ ap (λ h. resume (i .price) (i .operation) (i .operand) (whole ns fs u) e (outcome (i .operation) (i .operand) r h (u .accu) e)) (sym g)
+            ap (λ d. resume (i .price) (i .extra) (i .operation) (i .operand) (whole ns fs u) d (outcome (i .operation) (i .operand) r (length (view u .stack)) (u .accu) d)) (sym (k (ltb-true _ h l)))
+            ∙ ap (λ h. resume (i .price) (i .extra) (i .operation) (i .operand) (whole ns fs u) e (outcome (i .operation) (i .operand) r h (u .accu) e)) (sym g)
         seen false l =
-            ap (λ h. resume (i .price) (i .operation) (i .operand) (whole ns fs u) (getD (view u .stack) (entryOf (i .operation) (index (i .operand))) e) (outcome (i .operation) (i .operand) r h (u .accu) (getD (view u .stack) (entryOf (i .operation) (index (i .operand))) e))) (sym g)
-            ∙ no-entry (i .price) (whole ns fs u) (i .operation) (i .operand) r h (u .accu) _ e (ltb-false _ h l)
+            ap (λ h. resume (i .price) (i .extra) (i .operation) (i .operand) (whole ns fs u) (getD (view u .stack) (entryOf (i .operation) (index (i .operand))) e) (outcome (i .operation) (i .operand) r h (u .accu) (getD (view u .stack) (entryOf (i .operation) (index (i .operand))) e))) (sym g)
+            ∙ no-entry (i .price) (i .extra) (whole ns fs u) (i .operation) (i .operand) r h (u .accu) _ e (ltb-false _ h l)
 
-  -- the state after each outcome of an operation o with operand i, at the price p
-  module _ (p : Price) (o : Operation) (i : ℤ) (u : code.State) (e : Cell) where
+  -- the state after each outcome of an operation o with operand i, at the price p, with the extra y
+  module _ (p : Price) (y : ℕ) (o : Operation) (i : ℤ) (u : code.State) (e : Cell) where
     module _ (c : Cell) (k : ℕ) (v w : code.State) (some : k ≡ drops o (index i)) (popped : done (view v) ≡ pop k (view u)) (loaded : view w ≡ load c (view v)) where
       dropped : (pop (drops o (index i)) (whole ns fs u) >>= λ t. done (goes p (load c t))) ≡ done (goes p (whole ns fs w))
       unfolding _>>=_
@@ -161,52 +161,57 @@ module _ (ns : List ℕ) (fs : List Cell) where
           ∙ ap (λ m. m >>= λ t. done (goes p (load c t))) (pop-whole ns fs u v k popped)
           ∙ ap (λ s. done (goes p s)) (sym (load-whole ns fs v w c loaded))
 
-      pub gives-goes : resume p o i (whole ns fs u) e (Gives c) ≡ done (goes p (whole ns fs w))
+      pub gives-goes : resume p y o i (whole ns fs u) e (Gives c) ≡ done (goes p (whole ns fs w))
       unfolding resume
       gives-goes = dropped
 
-      pub operates-goes : operated o i (u .accu) e ≡ done c → resume p o i (whole ns fs u) e Operates ≡ done (goes p (whole ns fs w))
+      pub operates-goes : operated o i (u .accu) e ≡ done c → resume p y o i (whole ns fs u) e Operates ≡ done (goes p (whole ns fs w))
       unfolding resume _>>=_ whole reblock
       operates-goes g = rw g dropped
 
-    pub operates-stuck : operated o i (u .accu) e ≡ stuck → resume p o i (whole ns fs u) e Operates ≡ stuck
+    pub operates-stuck : operated o i (u .accu) e ≡ stuck → resume p y o i (whole ns fs u) e Operates ≡ stuck
     unfolding resume _>>=_ whole reblock
     operates-stuck g = rw g refl
 
-    pub stores-goes : (w : code.State) → done (view w) ≡ store (index i) (view u) → resume p o i (whole ns fs u) e Stores ≡ done (goes p (whole ns fs w))
+    pub stores-goes : (w : code.State) → done (view w) ≡ store (index i) (view u) → resume p y o i (whole ns fs u) e Stores ≡ done (goes p (whole ns fs w))
     unfolding resume _>>=_
     stores-goes w g = ap (λ m. m >>= λ t. done (goes p t)) (store-whole ns fs u w (index i) g)
 
-    pub jumps-goes : (w : code.State) → view w ≡ jump (index i) (view u) → resume p o i (whole ns fs u) e Goes ≡ done (goes p (whole ns fs w))
-    unfolding resume
-    jumps-goes w g = ap (λ s. done (goes p s)) (sym (jump-whole ns fs u w (index i) g))
+    module _ (w : code.State) (jumped : view w ≡ jump (index i) (view u)) where
+      pub branches-goes : resume p y o i (whole ns fs u) e Goes ≡ done (goes p (whole ns fs w))
+      unfolding resume
+      branches-goes = ap (λ s. done (goes p s)) (sym (jump-whole ns fs u w (index i) jumped))
 
-    pub opens-both : (w : code.State) → view w ≡ jump (index i) (view u) → resume p o i (whole ns fs u) e Opens ≡ done (opens p (whole ns fs u) p (whole ns fs w))
-    unfolding resume
-    opens-both w g = ap (λ s. done (opens p (whole ns fs u) p s)) (sym (jump-whole ns fs u w (index i) g))
+      pub jumps-goes : resume p y o i (whole ns fs u) e Jumps ≡ done (goes (withExtra y p) (whole ns fs w))
+      unfolding resume
+      jumps-goes = ap (λ s. done (goes (withExtra y p) s)) (sym (jump-whole ns fs u w (index i) jumped))
 
-    pub halts : resume p o i (whole ns fs u) e Halts ≡ done (stops p)
+      pub opens-both : resume p y o i (whole ns fs u) e Opens ≡ done (opens p (whole ns fs u) (withExtra y p) (whole ns fs w))
+      unfolding resume
+      opens-both = ap (λ s. done (opens p (whole ns fs u) (withExtra y p) s)) (sym (jump-whole ns fs u w (index i) jumped))
+
+    pub halts : resume p y o i (whole ns fs u) e Halts ≡ done (stops p)
     unfolding resume
     halts = refl
 
-    pub is-stuck : resume p o i (whole ns fs u) e Stuck ≡ stuck
+    pub is-stuck : resume p y o i (whole ns fs u) e Stuck ≡ stuck
     unfolding resume
     is-stuck = refl
 
     module _ (fits : Fits ns fs) where
       pub gets-goes : (j : ℕ) (d : Cell) (w : code.State) → slot ns (u .accu) (index i) ≡ done j → view w ≡ load (getD fs j d) (view u) →
-          resume p o i (whole ns fs u) e Gets ≡ done (goes p (whole ns fs w))
+          resume p y o i (whole ns fs u) e Gets ≡ done (goes p (whole ns fs w))
       unfolding resume _>>=_ whole reblock
       gets-goes j d w at loaded =
           rw (getField-slot ns fs fits (whole ns fs u) refl (index i) d, at) (ap (λ s. done (goes p s)) (sym (load-whole ns fs u w (getD fs j d) loaded)))
 
-      pub gets-stuck : slot ns (u .accu) (index i) ≡ stuck → resume p o i (whole ns fs u) e Gets ≡ stuck
+      pub gets-stuck : slot ns (u .accu) (index i) ≡ stuck → resume p y o i (whole ns fs u) e Gets ≡ stuck
       unfolding resume _>>=_ whole reblock
       gets-stuck at = rw (getField-slot ns fs fits (whole ns fs u) refl (index i) (u .accu), at) refl
 
       module _ (c : Cell) (v : code.State) (popped : done (view v) ≡ pop 1 (view u)) where
         -- the field is set after the pop
-        set-after : resume p o i (whole ns fs u) e (Sets c) ≡ (slot ns (u .accu) (index i) >>= λ j. done (goes p (load (number (pos 0)) (whole ns (set fs j c) v))))
+        set-after : resume p y o i (whole ns fs u) e (Sets c) ≡ (slot ns (u .accu) (index i) >>= λ j. done (goes p (load (number (pos 0)) (whole ns (set fs j c) v))))
         unfolding resume _>>=_ whole reblock
         set-after =
             let kept : v .accu ≡ u .accu = pop-accu 1 (view u) (view v) popped in
@@ -221,12 +226,12 @@ module _ (ns : List ℕ) (fs : List Cell) where
             from (done j) = refl
 
         pub sets-goes : (j : ℕ) (w : code.State) → slot ns (u .accu) (index i) ≡ done j → view w ≡ load (number (pos 0)) (view v) →
-            resume p o i (whole ns fs u) e (Sets c) ≡ done (goes p (whole ns (set fs j c) w))
+            resume p y o i (whole ns fs u) e (Sets c) ≡ done (goes p (whole ns (set fs j c) w))
         unfolding _>>=_
         sets-goes j w at loaded =
             set-after ∙ ap (λ m. m >>= λ j. done (goes p (load (number (pos 0)) (whole ns (set fs j c) v)))) at
             ∙ ap (λ s. done (goes p s)) (sym (load-whole ns (set fs j c) v w (number (pos 0)) loaded))
 
-        pub sets-stuck : slot ns (u .accu) (index i) ≡ stuck → resume p o i (whole ns fs u) e (Sets c) ≡ stuck
+        pub sets-stuck : slot ns (u .accu) (index i) ≡ stuck → resume p y o i (whole ns fs u) e (Sets c) ≡ stuck
         unfolding _>>=_
         sets-stuck at = set-after ∙ ap (λ m. m >>= λ j. done (goes p (load (number (pos 0)) (whole ns (set fs j c) v)))) at

@@ -13,8 +13,8 @@ use Rattle.cells.specs.Cells.{number, operate₁, operate₂, condition}
 use Rattle.instructions.specs.declared.Operation.{Operation}
 use Rattle.instructions.specs.declared.Operation.the-variants.{Nothing, Access, Drop, Assign, Constant, GetField, SetField, Branch, BranchIf, BranchIfNot, Call, Stop, Alter, Combine}
 use Rattle.outcomes.specs.declared.Outcome.{Outcome}
-use Rattle.outcomes.specs.declared.Outcome.the-variants.{Gives, Operates, Stores, Sets, Gets, Goes, Opens, Halts, Stuck}
-use Rattle.machine.specs.Machine.{State, Price, Next, stops, goes, opens, index, jump, load, pop, store, getField, setField}
+use Rattle.outcomes.specs.declared.Outcome.the-variants.{Gives, Operates, Stores, Sets, Gets, Goes, Jumps, Opens, Halts, Stuck}
+use Rattle.machine.specs.Machine.{State, Price, Next, stops, goes, opens, index, withExtra, jump, load, pop, store, getField, setField}
 
 -- the entry that an operation looks at: entry n, or the top
 unfoldable pub entryOf : Operation → ℕ → ℕ
@@ -87,10 +87,10 @@ operated (Combine b) i a e = operate₂ b a e
 -- a conditional branch that jumps on zero or on non-zero, with the accumulator a
 unfoldable pub branching : Bool → Cell → Try Condition → Outcome
 branching z a stuck = Stuck
-branching true a (done IsZero) = Goes
+branching true a (done IsZero) = Jumps
 branching false a (done IsZero) = Gives a
 branching true a (done IsNonzero) = Gives a
-branching false a (done IsNonzero) = Goes
+branching false a (done IsNonzero) = Jumps
 branching z a (done IsUnknown) = Opens
 
 -- an operation with operand i and answer r, on a stack of height h, with the accumulator a and the entry e that it looks at
@@ -110,18 +110,19 @@ outcome Stop i r h a e = Halts
 outcome (Alter u) i r h a e = Operates
 outcome (Combine b) i r h a e = cond (ltb 0 h) Operates Stuck
 
--- what an outcome of the operation o with operand i makes of the state s, which is at the next address already, at the price p; e is the
--- entry that the operation looked at
-unfoldable pub resume : Price → Operation → ℤ → State → Cell → Outcome → Try Next
-resume p o i s e (Gives c) = pop (drops o (index i)) s >>= λ t. done (goes p (load c t))
-resume p o i s e Operates = operated o i (s .accu) e >>= λ c. pop (drops o (index i)) s >>= λ t. done (goes p (load c t))
-resume p o i s e Stores = store (index i) s >>= λ t. done (goes p t)
-resume p o i s e (Sets c) = pop 1 s >>= λ t. setField (index i) c t >>= λ u. done (goes p (load (number (pos 0)) u))
-resume p o i s e Gets = getField (index i) s >>= λ c. done (goes p (load c s))
-resume p o i s e Goes = done (goes p (jump (index i) s))
-resume p o i s e Opens = done (opens p s p (jump (index i) s))
-resume p o i s e Halts = done (stops p)
-resume p o i s e Stuck = stuck
+-- what an outcome of the operation o with operand i makes of the state s, which is at the next address already, at the price p, with the
+-- extra x; e is the entry that the operation looked at
+unfoldable pub resume : Price → ℕ → Operation → ℤ → State → Cell → Outcome → Try Next
+resume p x o i s e (Gives c) = pop (drops o (index i)) s >>= λ t. done (goes p (load c t))
+resume p x o i s e Operates = operated o i (s .accu) e >>= λ c. pop (drops o (index i)) s >>= λ t. done (goes p (load c t))
+resume p x o i s e Stores = store (index i) s >>= λ t. done (goes p t)
+resume p x o i s e (Sets c) = pop 1 s >>= λ t. setField (index i) c t >>= λ u. done (goes p (load (number (pos 0)) u))
+resume p x o i s e Gets = getField (index i) s >>= λ c. done (goes p (load c s))
+resume p x o i s e Goes = done (goes p (jump (index i) s))
+resume p x o i s e Jumps = done (goes (withExtra x p) (jump (index i) s))
+resume p x o i s e Opens = done (opens p s (withExtra x p) (jump (index i) s))
+resume p x o i s e Halts = done (stops p)
+resume p x o i s e Stuck = stuck
 
 -- what an outcome asks of a stack of height h
 abbrev pub Room : Operation → ℕ → ℕ → Outcome → Type 0
@@ -131,6 +132,7 @@ Room o n h Stores = n < h
 Room o n h (Sets c) = 0 < h
 Room o n h Gets = Unit {0}
 Room o n h Goes = Unit {0}
+Room o n h Jumps = Unit {0}
 Room o n h Opens = Unit {0}
 Room o n h Halts = Unit {0}
 Room o n h Stuck = Unit {0}

@@ -32,6 +32,8 @@ pub enum Outcome {
     Gets,
     // The target is the next address.
     Goes,
+    // A conditional branch jumps: the target is the next address, and the extra is paid.
+    Jumps,
     // Both ways of an unknown branch are open.
     Opens,
     Halts,
@@ -49,7 +51,7 @@ fn outcome_branching(a: Cell, zero: bool) -> Outcome
     match x {
         Condition::IsZero => {
             if zero {
-                Outcome::Goes
+                Outcome::Jumps
             } else {
                 Outcome::Gives(a)
             }
@@ -58,7 +60,7 @@ fn outcome_branching(a: Cell, zero: bool) -> Outcome
             if zero {
                 Outcome::Gives(a)
             } else {
-                Outcome::Goes
+                Outcome::Jumps
             }
         }
         Condition::IsUnknown => Outcome::Opens,

@@ -25,7 +25,7 @@ use Rattle.instructions.specs.Kinds.{Kind, kindNames, operand, calls, addresses
 use Rattle.instructions.specs.Columns.{kindAt, operationCode, unaryCode, binaryCode, comparisonCode, operations, operationOf}
 use Rattle.machine.specs.Machine.{Price, Instruction, instruction, priceOf}
 use Rattle.states.specs.Columns.{line, lineOf, instructionsOf}
-use Rattle.routine.specs.Rows.{op, arg, value, cycleCounts, wordCounts}
+use Rattle.routine.specs.Rows.{op, arg, value, cycleCounts, wordCounts, extraCounts}
 use Rattle.routine.specs.Routine.{inside, naturalAt, PriceList, prices, argumentValue, instructionOf}
 use Rattle.routine.proofs.RangeLaws.{natural-inside}
 use Rattle.values.specs.Values.{NaturalRange}
@@ -167,65 +167,70 @@ priced ks ps Primitive i w = refl
 priced ks ps (Within r) i w = alone (naturalAt cycleCounts (ks .cycles) i) (naturalAt wordCounts (ks .words) i)
 
 -- what the entries of a line say of its kind k
-module _ (ks ps : PriceList) (text : List ℕ) (k : Kind) (b : ℕ) (i : ℤ) (c w : ℕ) where
+module _ (ks : PriceList) (xs : List (List ℕ)) (ps : PriceList) (text : List ℕ) (k : Kind) (b : ℕ) (i : ℤ) (c w x : ℕ) where
   pub record Read : Type 0 where
     pub coded : Coded k b
     pub operand : (ns : List (List ℕ)) → i ≡ operand k (argumentValue ns (arg text) (k .argument))
     pub cycles : c ≡ naturalAt cycleCounts (ks .cycles) (find (op text) (ks .names)) + cond (calls (k .argument)) (naturalAt cycleCounts (ps .cycles) (find (arg text) (ps .names))) 0
     pub words : w ≡ naturalAt wordCounts (ks .words) (find (op text) (ks .names)) + cond (calls (k .argument)) (naturalAt wordCounts (ps .words) (find (arg text) (ps .names))) 0
+    pub extra : x ≡ naturalAt extraCounts xs (find (op text) (ks .names))
 
-  pub entry-is : Read → k ≡ kindAt (find (op text) kindNames) → lineOf (line b i c w) ≡ instructionOf ks ps text
+  pub entry-is : Read → k ≡ kindAt (find (op text) kindNames) → lineOf (line b i c w x) ≡ instructionOf ks xs ps text
   unfolding instructionOf instruction
   entry-is r e =
       let o : operationOf (b % 32) ≡ k .operation = ap operationOf (r .coded .code) ∙ operation-is (k .operation) in
       let s : _≡_ {A = Price} (record { cycles = c; words = w }) (priceOf (prices ks ps) (k .argument) (find (op text) (ks .names)) (argumentValue (ps .names) (arg text) (k .argument))) =
       (λ j. record { cycles = r .cycles j; words = r .words j }) ∙ priced ks ps (k .argument) (find (op text) (ks .names)) (arg text) in
-      let l : lineOf (line b i c w) ≡ instruction k (argumentValue (ps .names) (arg text) (k .argument)) _ =
-      λ j. record { pushes = r .coded .pushes j; operation = o j; operand = r .operand (ps .names) j; calls = r .coded .calls j; price = s j } in
-      l ∙ ap (λ (x : Kind). let v = argumentValue (ps .names) (arg text) (x .argument) in instruction x v (priceOf (prices ks ps) (x .argument) (find (op text) (ks .names)) v)) e
+      let l : lineOf (line b i c w x) ≡ instruction k (argumentValue (ps .names) (arg text) (k .argument)) _ _ =
+      λ j. record { pushes = r .coded .pushes j; operation = o j; operand = r .operand (ps .names) j; calls = r .coded .calls j; price = s j; extra = r .extra j } in
+      l ∙ ap (λ (k : Kind). let v = argumentValue (ps .names) (arg text) (k .argument) in instruction k v (priceOf (prices ks ps) (k .argument) (find (op text) (ks .names)) v) (naturalAt extraCounts xs (find (op text) (ks .names)))) e
 
   pub code-small : Read → b % 32 ≤ 22
   code-small r = let e = r .coded .code in omega (arith, operation-small (k .operation))
 
 -- columns of equal lengths with one more line
 
-lines-snoc : (bs : List ℕ) (is : List ℤ) (cs ws : List ℕ) (b : ℕ) (i : ℤ) (c w : ℕ) → length is ≡ length bs → length cs ≡ length bs → length ws ≡ length bs
-    → instructionsOf (bs ++ (b ∷ [])) (is ++ (i ∷ [])) (cs ++ (c ∷ [])) (ws ++ (w ∷ [])) ≡ instructionsOf bs is cs ws ++ (lineOf (line b i c w) ∷ [])
+lines-snoc : (bs : List ℕ) (is : List ℤ) (cs ws xs : List ℕ) (b : ℕ) (i : ℤ) (c w x : ℕ) → length is ≡ length bs → length cs ≡ length bs → length ws ≡ length bs → length xs ≡ length bs
+    → instructionsOf (bs ++ (b ∷ [])) (is ++ (i ∷ [])) (cs ++ (c ∷ [])) (ws ++ (w ∷ [])) (xs ++ (x ∷ [])) ≡ instructionsOf bs is cs ws xs ++ (lineOf (line b i c w x) ∷ [])
 unfolding instructionsOf
-lines-snoc [] [] [] [] b i c w p q r = refl
-lines-snoc [] [] [] (y ∷ ws) b i c w p q r = absurd (omega arith)
-lines-snoc [] [] (x ∷ cs) ws b i c w p q r = absurd (omega arith)
-lines-snoc [] (z ∷ is) cs ws b i c w p q r = absurd (omega arith)
-lines-snoc (a ∷ bs) [] cs ws b i c w p q r = absurd (omega arith)
-lines-snoc (a ∷ bs) (z ∷ is) [] ws b i c w p q r = absurd (omega arith)
-lines-snoc (a ∷ bs) (z ∷ is) (x ∷ cs) [] b i c w p q r = absurd (omega arith)
-lines-snoc (a ∷ bs) (z ∷ is) (x ∷ cs) (y ∷ ws) b i c w p q r =
-    ap (λ (l : List Instruction). lineOf (line a z x y) ∷ l) (lines-snoc bs is cs ws b i c w (omega arith) (omega arith) (omega arith))
+lines-snoc [] [] [] [] [] b i c w x p q r o = refl
+lines-snoc [] [] [] [] (v ∷ xs) b i c w x p q r o = absurd (omega arith)
+lines-snoc [] [] [] (y ∷ ws) xs b i c w x p q r o = absurd (omega arith)
+lines-snoc [] [] (u ∷ cs) ws xs b i c w x p q r o = absurd (omega arith)
+lines-snoc [] (z ∷ is) cs ws xs b i c w x p q r o = absurd (omega arith)
+lines-snoc (a ∷ bs) [] cs ws xs b i c w x p q r o = absurd (omega arith)
+lines-snoc (a ∷ bs) (z ∷ is) [] ws xs b i c w x p q r o = absurd (omega arith)
+lines-snoc (a ∷ bs) (z ∷ is) (u ∷ cs) [] xs b i c w x p q r o = absurd (omega arith)
+lines-snoc (a ∷ bs) (z ∷ is) (u ∷ cs) (y ∷ ws) [] b i c w x p q r o = absurd (omega arith)
+lines-snoc (a ∷ bs) (z ∷ is) (u ∷ cs) (y ∷ ws) (v ∷ xs) b i c w x p q r o =
+    ap (λ (l : List Instruction). lineOf (line a z u y v) ∷ l) (lines-snoc bs is cs ws xs b i c w x (omega arith) (omega arith) (omega arith) (omega arith))
 
--- four columns of 1,024 places
-pub record Room (bs : List ℕ) (is : List ℤ) (cs ws : List ℕ) : Type 0 where
+-- five columns of 1,024 places
+pub record Room (bs : List ℕ) (is : List ℤ) (cs ws xs : List ℕ) : Type 0 where
   pub codes : length bs ≡ 1024
   pub operands : length is ≡ 1024
   pub cycles : length cs ≡ 1024
   pub words : length ws ≡ 1024
+  pub extras : length xs ≡ 1024
 
-module _ (bs : List ℕ) (is : List ℤ) (cs ws : List ℕ) (n : ℕ) where
+module _ (bs : List ℕ) (is : List ℤ) (cs ws xs : List ℕ) (n : ℕ) where
   abbrev pub firstLines : List Instruction
-  firstLines = instructionsOf (take n bs) (take n is) (take n cs) (take n ws)
+  firstLines = instructionsOf (take n bs) (take n is) (take n cs) (take n ws) (take n xs)
 
-pub columns-more : (f : Line → Instruction) (ls : List Line) (bs : List ℕ) (is : List ℤ) (cs ws : List ℕ) (n : ℕ) (b : ℕ) (i : ℤ) (c w : ℕ)
-    → Room bs is cs ws → n < 1024 → n < length ls → lineOf (line b i c w) ≡ getD (map f ls) n (f noLine)
-    → firstLines bs is cs ws n ≡ take n (map f ls)
-    → firstLines (set bs n b) (set is n i) (set cs n c) (set ws n w) (n + 1) ≡ take (n + 1) (map f ls)
-columns-more f ls bs is cs ws n b i c w r h k e q =
-    let rb = r .codes in let ri = r .operands in let rc = r .cycles in let rw′ = r .words in
+pub columns-more : (f : Line → Instruction) (ls : List Line) (bs : List ℕ) (is : List ℤ) (cs ws xs : List ℕ) (n : ℕ) (b : ℕ) (i : ℤ) (c w x : ℕ)
+    → Room bs is cs ws xs → n < 1024 → n < length ls → lineOf (line b i c w x) ≡ getD (map f ls) n (f noLine)
+    → firstLines bs is cs ws xs n ≡ take n (map f ls)
+    → firstLines (set bs n b) (set is n i) (set cs n c) (set ws n w) (set xs n x) (n + 1) ≡ take (n + 1) (map f ls)
+columns-more f ls bs is cs ws xs n b i c w x r h k e q =
+    let rb = r .codes in let ri = r .operands in let rc = r .cycles in let rw′ = r .words in let rx = r .extras in
     let m : n < length (map f ls) = rw length-map (k) in
     rw add-one
-    (rw (take-suc-set bs n b (omega arith), take-suc-set is n i (omega arith), take-suc-set cs n c (omega arith), take-suc-set ws n w (omega arith))
-    (lines-snoc (take n bs) (take n is) (take n cs) (take n ws) b i c w
+    (rw (take-suc-set bs n b (omega arith), take-suc-set is n i (omega arith), take-suc-set cs n c (omega arith), take-suc-set ws n w (omega arith), take-suc-set xs n x (omega arith))
+    (lines-snoc (take n bs) (take n is) (take n cs) (take n ws) (take n xs) b i c w x
     (length-take-le n is (omega arith) ∙ sym (length-take-le n bs (omega arith)))
     (length-take-le n cs (omega arith) ∙ sym (length-take-le n bs (omega arith)))
     (length-take-le n ws (omega arith) ∙ sym (length-take-le n bs (omega arith)))
+    (length-take-le n xs (omega arith) ∙ sym (length-take-le n bs (omega arith)))
     ∙ ap₂ (λ (l : List Instruction) (x : Instruction). l ++ (x ∷ [])) q e
     ∙ sym (take-suc (map f ls) n (f noLine) m)))
 

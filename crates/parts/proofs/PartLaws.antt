@@ -10,15 +10,17 @@ use Rattle.machine.specs.Machine.{reblock}
 use Rattle.states.specs.View.{view, blocksOf, whole}
 use Rattle.states.specs.declared.State as code
 use Rattle.routine.specs.declared.Section.the-variants.{Kinds as kinds, Primitives as primitives}
-use Rattle.routine.specs.Layout.{body, codeLines}
+use Rattle.routine.specs.declared.Column.the-variants.{Extra as extra}
+use Rattle.routine.specs.declared.Role.the-variants.{Values as values}
+use Rattle.routine.specs.Layout.{body, codeLines, listed}
 use Rattle.routine.specs.Rows.{value}
 use Rattle.routine.specs.Routine.{inside, priceList, instructionOf, codeIn, startOf, routineOf, blocksInLine}
 use Rattle.routine.proofs.CodeLineLaws.{code-take, answer-drop}
 
 -- the instructions are those of the first lines after the layout
-pub instructions-in : (ls : List Line) → codeIn ls .instructions ≡ map (λ l. instructionOf (priceList kinds ls) (priceList primitives ls) (l .text)) (take (length (codeLines (body ls))) (body ls))
+pub instructions-in : (ls : List Line) → codeIn ls .instructions ≡ map (λ l. instructionOf (priceList kinds ls) (listed (values kinds extra) ls) (priceList primitives ls) (l .text)) (take (length (codeLines (body ls))) (body ls))
 unfolding codeIn
-instructions-in ls = ap (map (λ (l : Line). instructionOf (priceList kinds ls) (priceList primitives ls) (l .text))) (code-take (body ls))
+instructions-in ls = ap (map (λ (l : Line). instructionOf (priceList kinds ls) (listed (values kinds extra) ls) (priceList primitives ls) (l .text))) (code-take (body ls))
 
 -- the answers are those of the lines after ANSWER
 pub answers-in : (ls : List Line) → routineOf ls .answers ≡ map (λ l. inside numbers (value (l .text))) (drop (suc (length (codeLines (body ls)))) (body ls))

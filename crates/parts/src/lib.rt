@@ -161,19 +161,21 @@ pub struct Entry {
     pub operand: i32,
     pub cycles: u32,
     pub words: u32,
+    pub extra: u32,
 }
 
-// The entries of a code line, by the six lines of prices.
+// The entries of a code line, by the seven lines of prices.
 pub fn entry_of(
     kinds: &[u8],
     kind_cycles: &[u8],
     kind_words: &[u8],
+    kind_extras: &[u8],
     primitives: &[u8],
     primitive_cycles: &[u8],
     primitive_words: &[u8],
     text: &[u8],
 ) -> Entry
-    ensures instruction { λ r. ⌜ lineOf (line (r .code) (r .operand) (r .cycles) (r .words)) ≡ instructionOf (pricesOn (now (kinds .entry)) (now («kind_cycles» .entry)) (now («kind_words» .entry))) (pricesOn (now (primitives .entry)) (now («primitive_cycles» .entry)) (now («primitive_words» .entry))) (now (text .entry)) ⌝ }
+    ensures instruction { λ r. ⌜ lineOf (line (r .code) (r .operand) (r .cycles) (r .words) (r .extra)) ≡ instructionOf (pricesOn (now (kinds .entry)) (now («kind_cycles» .entry)) (now («kind_words» .entry))) (list (now («kind_extras» .entry))) (pricesOn (now (primitives .entry)) (now («primitive_cycles» .entry)) (now («primitive_words» .entry))) (now (text .entry)) ⌝ }
     ensures known { λ r. ⌜ r .code % 32 ≤ 22 ⌝ }
 {
     let op = text::word_at(text, 1);
@@ -200,11 +202,13 @@ pub fn entry_of(
         primitive_words,
         j,
     );
+    let extra = natural_at(layout::extra_counts(), kind_extras, i);
     Entry {
         code: code,
         operand: operand,
         cycles: cycles,
         words: words,
+        extra: extra,
     }
 }
 
@@ -214,13 +218,15 @@ pub struct Columns {
     pub operands: [i32; 1024],
     pub cycles: [u32; 1024],
     pub words: [u32; 1024],
+    pub extras: [u32; 1024],
 }
 
-// The first `count` lines of `body` in columns, by the six lines of prices.
+// The first `count` lines of `body` in columns, by the seven lines of prices.
 pub fn columns_of(
     kinds: &[u8],
     kind_cycles: &[u8],
     kind_words: &[u8],
+    kind_extras: &[u8],
     primitives: &[u8],
     primitive_cycles: &[u8],
     primitive_words: &[u8],
@@ -228,13 +234,14 @@ pub fn columns_of(
     count: usize,
 ) -> Columns
     requires { ⌜ (count ≤ 1024) × (count ≤ length (lines (now body))) ⌝ }
-    ensures instructions { λ r. ⌜ instructionsOf (take count (r .codes)) (take count (r .operands)) (take count (r .cycles)) (take count (r .words)) ≡ map (λ l. instructionOf (pricesOn (now (kinds .entry)) (now («kind_cycles» .entry)) (now («kind_words» .entry))) (pricesOn (now (primitives .entry)) (now («primitive_cycles» .entry)) (now («primitive_words» .entry))) (l .text)) (take count (lines (now (body .entry)))) ⌝ }
+    ensures instructions { λ r. ⌜ instructionsOf (take count (r .codes)) (take count (r .operands)) (take count (r .cycles)) (take count (r .words)) (take count (r .extras)) ≡ map (λ l. instructionOf (pricesOn (now (kinds .entry)) (now («kind_cycles» .entry)) (now («kind_words» .entry))) (list (now («kind_extras» .entry))) (pricesOn (now (primitives .entry)) (now («primitive_cycles» .entry)) (now («primitive_words» .entry))) (l .text)) (take count (lines (now (body .entry)))) ⌝ }
     ensures known { λ r. ⌜ ((j : ℕ) → getD (take count (r .codes)) j 0 % 32 ≤ 22) ⌝ }
 {
     let mut codes = [0u8; 1024];
     let mut operands = [0i32; 1024];
     let mut cycles = [0u32; 1024];
     let mut words = [0u32; 1024];
+    let mut extras = [0u32; 1024];
     let mut rest = body;
     let mut place = 0;
     while place < count {
@@ -243,6 +250,7 @@ pub fn columns_of(
             kinds,
             kind_cycles,
             kind_words,
+            kind_extras,
             primitives,
             primitive_cycles,
             primitive_words,
@@ -253,6 +261,7 @@ pub fn columns_of(
         operands[place] = operand;
         cycles[place] = entry.cycles;
         words[place] = entry.words;
+        extras[place] = entry.extra;
         let next = text::next_lines(rest);
         rest = next;
         place += 1;
@@ -262,6 +271,7 @@ pub fn columns_of(
         operands: operands,
         cycles: cycles,
         words: words,
+        extras: extras,
     }
 }
 

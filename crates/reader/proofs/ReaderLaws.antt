@@ -15,7 +15,7 @@ use Rattle.states.specs.View.{view, Fits, whole}
 use Rattle.states.specs.declared.State as code
 use Rattle.states.specs.View as view-of
 use Rattle.routine.specs.declared.Section.the-variants.{Limits as limits, Kinds as kinds, Primitives as primitives, Cells as cells, Fields as fields}
-use Rattle.routine.specs.declared.Column.the-variants.{Limit as limit, Cycles as cycles, Words as words-column, Cell as cell}
+use Rattle.routine.specs.declared.Column.the-variants.{Limit as limit, Cycles as cycles, Words as words-column, Extra as extra, Cell as cell}
 use Rattle.routine.specs.declared.Role.the-variants.{Names as names, Values as values}
 use Rattle.routine.specs.Layout.{layout, body, codeLines, list, textAt, listed}
 use Rattle.routine.specs.Rows.{Passes, value, blockSizes, total, firstAt, budgets, ticks}
@@ -43,23 +43,28 @@ module _ (ls ms : List Line) (count : ℕ) (x : BodyLines ls ms count) where
   pub counted-few : (count ≤ 1024) × (count ≤ length ms)
   counted-few = (x .few, rw (x .after, x .counted) (code-among (body ls)))
 
-  module _ (ks kc kw ps pc pw : List ℕ) (a : ks ≡ textAt (names kinds) layout ls) (b : kc ≡ textAt (values kinds cycles) layout ls) (c : kw ≡ textAt (values kinds words-column) layout ls)
+  module _ (ks kc kw kx ps pc pw : List ℕ) (a : ks ≡ textAt (names kinds) layout ls) (b : kc ≡ textAt (values kinds cycles) layout ls) (c : kw ≡ textAt (values kinds words-column) layout ls) (g : kx ≡ textAt (values kinds extra) layout ls)
       (d : ps ≡ textAt (names primitives) layout ls) (e : pc ≡ textAt (values primitives cycles) layout ls) (f : pw ≡ textAt (values primitives words-column) layout ls) where
     kinds-at : pricesOn ks kc kw ≡ priceList kinds ls
     unfolding priceList listed
     kinds-at = rw (a, b, c) refl
+
+    extras-at : list kx ≡ listed (values kinds extra) ls
+    unfolding listed
+    extras-at = rw g refl
 
     primitives-at : pricesOn ps pc pw ≡ priceList primitives ls
     unfolding priceList listed
     primitives-at = rw (d, e, f) refl
 
     pub code-held : (r : Columns)
-        → instructionsOf (take count (r .codes)) (take count (r .operands)) (take count (r .cycles)) (take count (r .words)) ≡ map (λ l. instructionOf (pricesOn ks kc kw) (pricesOn ps pc pw) (l .text)) (take count ms)
+        → instructionsOf (take count (r .codes)) (take count (r .operands)) (take count (r .cycles)) (take count (r .words)) (take count (r .extras)) ≡ map (λ l. instructionOf (pricesOn ks kc kw) (list kx) (pricesOn ps pc pw) (l .text)) (take count ms)
         → ((j : ℕ) → getD (take count (r .codes)) j 0 % 32 ≤ 22) → HoldsCode ls count r
     code-held r h k = record {
       instructions =
-          h ∙ ap₂ (λ q s. map (λ (l : Line). instructionOf q s (l .text)) (take count ms)) kinds-at primitives-at
-          ∙ ap₂ (λ n (xs : List Line). map (λ (l : Line). instructionOf (priceList kinds ls) (priceList primitives ls) (l .text)) (take n xs)) (x .counted) (x .after) ∙ sym (instructions-in ls);
+          h ∙ ap₂ (λ q s. map (λ (l : Line). instructionOf q (list kx) s (l .text)) (take count ms)) kinds-at primitives-at
+          ∙ ap (λ xs. map (λ (l : Line). instructionOf (priceList kinds ls) xs (priceList primitives ls) (l .text)) (take count ms)) extras-at
+          ∙ ap₂ (λ n (xs : List Line). map (λ (l : Line). instructionOf (priceList kinds ls) (listed (values kinds extra) ls) (priceList primitives ls) (l .text)) (take n xs)) (x .counted) (x .after) ∙ sym (instructions-in ls);
       known = k;
     }
 
@@ -87,10 +92,10 @@ module _ (ls : List Line) (p : Passes ls) (ms : List Line) (after : ms ≡ body 
     pub answers-held : (vs : List ℤ) → vs ≡ map (λ l. inside numbers (value (l .text))) rest → vs ≡ routineOf ls .answers
     answers-held vs e = e ∙ ap (map (λ (l : Line). inside numbers (value (l .text)))) answer-lines ∙ sym (answers-in ls)
 
-  pub code-is : (first : ℕ) → first ≡ firstAddress ms → (bs : List ℕ) (is : List ℤ) (cs ws : List ℕ) → instructionsOf bs is cs ws ≡ readings.codeIn ls .instructions
-      → codeOf first bs is cs ws ≡ routineOf ls .code
+  pub code-is : (first : ℕ) → first ≡ firstAddress ms → (bs : List ℕ) (is : List ℤ) (cs ws xs : List ℕ) → instructionsOf bs is cs ws xs ≡ readings.codeIn ls .instructions
+      → codeOf first bs is cs ws xs ≡ routineOf ls .code
   unfolding codeOf readings.codeIn routineOf
-  code-is first f bs is cs ws e = ap₂ (λ n ins. record { first = n; instructions = ins }) (f ∙ ap firstAddress after) e
+  code-is first f bs is cs ws xs e = ap₂ (λ n ins. record { first = n; instructions = ins }) (f ∙ ap firstAddress after) e
 
   pub first-is : (first : ℕ) → first ≡ firstAddress ms → first ≡ readings.codeIn ls .first
   unfolding readings.codeIn
@@ -162,14 +167,15 @@ start-at first cs s e = ap (λ v. v .at) e
 pub taken : {A : Type 0} (n : ℕ) (xs : List A) → n ≤ length xs → length (take n xs) ≡ n
 taken n xs h = let e : length (take n xs) ≡ min n (length xs) = length-take n xs in omega arith
 
-pub columns-sized : (count : ℕ) (r : Columns) → count ≤ 1024 → length (r .codes) ≡ 1024 → length (r .operands) ≡ 1024 → length (r .cycles) ≡ 1024 → length (r .words) ≡ 1024
+pub columns-sized : (count : ℕ) (r : Columns) → count ≤ 1024 → length (r .codes) ≡ 1024 → length (r .operands) ≡ 1024 → length (r .cycles) ≡ 1024 → length (r .words) ≡ 1024 → length (r .extras) ≡ 1024
     → ((j : ℕ) → getD (take count (r .codes)) j 0 % 32 ≤ 22)
-    → Sized (take count (r .codes)) (take count (r .operands)) (take count (r .cycles)) (take count (r .words))
-columns-sized count r h a b c d k =
+    → Sized (take count (r .codes)) (take count (r .operands)) (take count (r .cycles)) (take count (r .words)) (take count (r .extras))
+columns-sized count r h a b c d e k =
     let n = taken count (r .codes) (omega arith) in record {
       few = omega arith;
       operands = taken count (r .operands) (omega arith) ∙ sym n;
       cycles = taken count (r .cycles) (omega arith) ∙ sym n;
       words = taken count (r .words) (omega arith) ∙ sym n;
+      extras = taken count (r .extras) (omega arith) ∙ sym n;
       codes = k;
     }

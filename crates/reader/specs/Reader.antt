@@ -26,6 +26,9 @@ cycles r = take (r .count) (r .columns .cycles)
 abbrev pub words : Routine → List ℕ
 words r = take (r .count) (r .columns .words)
 
+abbrev pub extras : Routine → List ℕ
+extras r = take (r .count) (r .columns .extras)
+
 abbrev pub sizes : Routine → List ℕ
 sizes r = take (r .blocks) (r .sizes)
 
@@ -36,7 +39,7 @@ answers r = take (r .answers .count) (r .answers .values)
 pub record Holds (x : readings.Routine) (held : Routine) : Type 0 where
   pub budget : held .budget ≡ x .budget
   pub tick : held .tick ≡ x .tick
-  pub code : codeOf (held .first) (codes held) (operands held) (cycles held) (words held) ≡ x .code
+  pub code : codeOf (held .first) (codes held) (operands held) (cycles held) (words held) (extras held) ≡ x .code
   pub start : whole (sizes held) (held .fields) (held .start) ≡ x .start
   pub answered : answers held ≡ x .answers
 
@@ -46,6 +49,7 @@ pub record Full (c : Columns) : Type 0 where
   pub operands : length (c .operands) ≡ 1024
   pub cycles : length (c .cycles) ≡ 1024
   pub words : length (c .words) ≡ 1024
+  pub extras : length (c .extras) ≡ 1024
 
 -- and its parts are within their limits
 pub record Limited (held : Routine) : Type 0 where
@@ -53,7 +57,7 @@ pub record Limited (held : Routine) : Type 0 where
   pub first : held .first ≤ 60000
   pub few : held .count ≤ 1024
   pub full : Full (held .columns)
-  pub sized : Sized (codes held) (operands held) (cycles held) (words held)
+  pub sized : Sized (codes held) (operands held) (cycles held) (words held) (extras held)
   pub placed : held .start .at ≡ held .first
   pub formed : WellFormed (held .start)
   pub present : held .blocks ≤ 8
@@ -71,5 +75,5 @@ pub record BodyLines (ls ms : List Line) (count : ℕ) : Type 0 where
 
 -- the columns c hold the code of ls
 pub record HoldsCode (ls : List Line) (count : ℕ) (c : Columns) : Type 0 where
-  pub instructions : instructionsOf (take count (c .codes)) (take count (c .operands)) (take count (c .cycles)) (take count (c .words)) ≡ readings.codeIn ls .instructions
+  pub instructions : instructionsOf (take count (c .codes)) (take count (c .operands)) (take count (c .cycles)) (take count (c .words)) (take count (c .extras)) ≡ readings.codeIn ls .instructions
   pub known : (j : ℕ) → getD (take count (c .codes)) j 0 % 32 ≤ 22

@@ -34,6 +34,7 @@ fn columns_in(text: &[u8], body: &[u8], count: usize) -> Columns
     let kinds = layout::text_of(text, Role::Names(Section::Kinds));
     let kind_cycles = layout::text_of(text, Role::Values(Section::Kinds, Column::Cycles));
     let kind_words = layout::text_of(text, Role::Values(Section::Kinds, Column::Words));
+    let kind_extras = layout::text_of(text, Role::Values(Section::Kinds, Column::Extra));
     let primitives = layout::text_of(text, Role::Names(Section::Primitives));
     let primitive_cycles = layout::text_of(text, Role::Values(Section::Primitives, Column::Cycles));
     let primitive_words = layout::text_of(text, Role::Values(Section::Primitives, Column::Words));
@@ -41,6 +42,7 @@ fn columns_in(text: &[u8], body: &[u8], count: usize) -> Columns
         kinds,
         kind_cycles,
         kind_words,
+        kind_extras,
         primitives,
         primitive_cycles,
         primitive_words,

@@ -9,7 +9,7 @@ ghost use Rattle.report.specs.Decode.{decision, decode, reportOf};
 
 // SHARE: the cycles in thousandths of a tick, to the nearest, a half going up.
 pub fn share(tick: u64, cycles: u64) -> u64
-    requires { ⌜ (1 ≤ tick) × (tick ≤ 4000000000) × (cycles ≤ 4294967296000000) ⌝ }
+    requires { ⌜ (1 ≤ tick) × (tick ≤ 4000000000) × (cycles ≤ 8589934592000000) ⌝ }
     ensures { λ r. ⌜ r ≡ share tick cycles ⌝ }
 {
     (2 * (cycles * 1000) + tick) / (2 * tick)
@@ -66,7 +66,7 @@ pub fn put_bound(
     steps: u64,
     path: u64,
 ) -> usize
-    requires { ⌜ (1 ≤ tick) × (tick ≤ 4000000000) × (cycles ≤ 4294967296000000) ⌝ }
+    requires { ⌜ (1 ≤ tick) × (tick ≤ 4000000000) × (cycles ≤ 8589934592000000) ⌝ }
     requires { ⌜ length (boundText tick (reportOf cycles words depth steps path)) ≤ length (now out) ⌝ }
     ensures { λ r. ⌜ r ≡ length (boundText tick (reportOf cycles words depth steps path)) ⌝ }
     ensures { λ _. ⌜ now (out .exit) ≡ boundText tick (reportOf cycles words depth steps path) ++ drop (length (boundText tick (reportOf cycles words depth steps path))) (now (out .entry)) ⌝ }

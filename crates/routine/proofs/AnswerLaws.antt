@@ -42,7 +42,7 @@ module _ (ls ms : List Line) (e : take (length layout) ls ≡ take (length layou
 
   same-code : codeIn ls ≡ codeIn ms
   unfolding codeIn
-  same-code = simp (same-first, same-prices, c)
+  same-code = simp (same-first, same-prices, same-listed, c)
 
   pub same-but-answers : SameButAnswers (routineOf ls) (routineOf ms)
   unfolding routineOf

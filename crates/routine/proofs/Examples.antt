@@ -14,26 +14,31 @@ use Rattle.routine.specs.Rows as rows
 use Rattle.routine.specs.Routine as routines
 use Rattle.routine.specs.Routine.{refused, readBound, readRun}
 
--- a file with its limits, its kinds, its cell and its code
-abbrev file : String → String → String → String → List ℕ
-file limits kinds accu code =
+-- a file with its limits, its kinds and their extras, its cell and its code
+abbrev file : String → String → String → String → String → List ℕ
+file limits kinds extras accu code =
     text.bytes "BUDGET TICK\n" ++ text.bytes limits ++ text.bytes "\n" ++ text.bytes kinds
-    ++ text.bytes "\n1\n0\n-\n-\n-\nACCU\n" ++ text.bytes accu ++ text.bytes "\n-\n-\nAT OP ARG\n" ++ text.bytes code ++ text.bytes "\n"
+    ++ text.bytes "\n1\n0\n" ++ text.bytes extras ++ text.bytes "\n-\n-\n-\nACCU\n" ++ text.bytes accu ++ text.bytes "\n-\n-\nAT OP ARG\n" ++ text.bytes code ++ text.bytes "\n"
 
 pub examples :
     -- "empty text: line 1"
     (readBound [] ≡ refused (Layout 1))
     -- "BUDGET 0", and a name that is unknown too
-    × (readBound (file "0 5" "HALT" "0" "0 STOP -") ≡ refused (OutOfRange 2))
+    × (readBound (file "0 5" "HALT" "0" "0" "0 STOP -") ≡ refused (OutOfRange 2))
     -- a leading zero, and a BUDGET of 0 too
-    × (readBound (file "0 5" "STOP" "01" "0 STOP -") ≡ refused (Layout 10))
-    -- a handle to an absent block on line 10, and an unknown OP on line 14
-    × (readBound (file "9 5" "STOP" "#0" "0 HALT x") ≡ refused (BadName 10))
+    × (readBound (file "0 5" "STOP" "0" "01" "0 STOP -") ≡ refused (Layout 11))
+    -- a handle to an absent block on line 11, and an unknown OP on line 15
+    × (readBound (file "9 5" "STOP" "0" "#0" "0 HALT x") ≡ refused (BadName 11))
     -- "STOP not on line 3"
-    × (readBound (file "9 5" "PUSH" "0" "0 STOP -") ≡ refused (Unpriced 14))
+    × (readBound (file "9 5" "PUSH" "0" "0" "0 STOP -") ≡ refused (Unpriced 15))
     -- "BRANCH 5 in 0 to 4": a target one past the code
-    × (readBound (file "9 5" "BRANCH" "0" "0 BRANCH 1") ≡ refused (NoTarget 14))
+    × (readBound (file "9 5" "BRANCH" "0" "0" "0 BRANCH 1") ≡ refused (NoTarget 15))
+    -- "Other kinds must hold 0 there, or refusal 3": BRANCH too, and an unknown name, which row 4 would refuse; BRANCHIF may hold 1
+    × (readBound (file "9 5" "BRANCH" "1" "0" "0 BRANCH 0") ≡ refused (OutOfRange 6))
+    × (readBound (file "9 5" "HALT" "1" "0" "0 STOP -") ≡ refused (OutOfRange 6))
+    × (readBound (file "9 5" "BRANCHIF" "1" "0" "0 STOP -") ≡ refused (Unpriced 15))
+    × (readBound (file "9 5" "BRANCHIFNOT" "65536" "0" "0 STOP -") ≡ refused (OutOfRange 6))
     -- "ACCU `?`", of the run
-    × (readRun (file "9 5" "STOP" "?" "0 STOP -") ≡ refused (UnknownCell 10))
-unfolding text.equals text.split text.words text.linesOf text.lines text.find text.among text.all text.distinct decimals.digitsFrom decimals.natural decimals.numeral decimals.digits decimals.decimal table.kinds table.kindNames layout.isAnswer layout.body layout.upToAnswer layout.codeLines layout.answerRoles layout.codeRoles layout.bodyRoles layout.roles layout.list layout.textAt layout.listed rows.isNumeral rows.valueOf rows.value rows.knownOf rows.blockOf rows.hashed rows.cellWord rows.isCell rows.cellInRange rows.cellPresent rows.isName rows.stackNames rows.cellNames rows.equalLists rows.isField rows.sizesFrom rows.blockSizes rows.total columns.kindAt rows.argumentOf rows.onArgument rows.argumentLaidOut rows.argumentInRange rows.argumentNamed rows.argumentReaches rows.columnInRange rows.columnLaidOut rows.onCells rows.onCode rows.namesLaidOut rows.valuesLaidOut rows.codeLaidOut rows.laidOut rows.codeInRange rows.inRange rows.wellNamed rows.firstAt rows.codeNamed rows.named rows.priced rows.reaches rows.allKnown rows.test rows.earliest rows.refusedLine routines.orElse routines.checked routines.limited routines.readBound routines.readRun
-examples = (refl, refl, refl, refl, refl, refl, refl)
+    × (readRun (file "9 5" "STOP" "0" "?" "0 STOP -") ≡ refused (UnknownCell 11))
+unfolding text.equals text.split text.words text.linesOf text.lines text.find text.among text.all text.distinct decimals.digitsFrom decimals.natural decimals.numeral decimals.digits decimals.decimal table.kinds table.kindNames layout.isAnswer layout.body layout.upToAnswer layout.codeLines layout.answerRoles layout.codeRoles layout.bodyRoles layout.roles layout.list layout.textAt layout.listed rows.isNumeral rows.valueOf rows.value rows.knownOf rows.blockOf rows.hashed rows.cellWord rows.isCell rows.cellInRange rows.cellPresent rows.isName rows.stackNames rows.cellNames rows.equalLists rows.isField rows.sizesFrom rows.blockSizes rows.total columns.kindAt rows.argumentOf rows.onArgument rows.argumentLaidOut rows.argumentInRange rows.argumentNamed rows.argumentReaches rows.extraRange rows.extrasInRange rows.columnInRange rows.columnLaidOut rows.onCells rows.onCode rows.namesLaidOut rows.valuesLaidOut rows.codeLaidOut rows.laidOut rows.codeInRange rows.inRange rows.wellNamed rows.firstAt rows.codeNamed rows.named rows.priced rows.reaches rows.allKnown rows.test rows.earliest rows.refusedLine routines.orElse routines.checked routines.limited routines.readBound routines.readRun
+examples = (refl, refl, refl, refl, refl, refl, refl, refl, refl, refl, refl)

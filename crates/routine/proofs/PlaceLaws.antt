@@ -107,9 +107,9 @@ target-small ps w k e = go (branches (k .operation)) (k .argument) refl e
     go true Primitive q e = absurd (false≢true e)
     go true (Within r) q e = absurd (false≢true e)
 
-instruction-target : (ks ps : PriceList) (text : List ℕ) → target (instructionOf ks ps text .operation) (instructionOf ks ps text .operand) ≤ 62000
+instruction-target : (ks : PriceList) (xs : List (List ℕ)) (ps : PriceList) (text : List ℕ) → target (instructionOf ks xs ps text .operation) (instructionOf ks xs ps text .operand) ≤ 62000
 unfolding instructionOf instruction
-instruction-target ks ps text =
+instruction-target ks xs ps text =
     let i = find (op text) kindNames in
     target-small (ps .names) (arg text) (kindAt i) (kinds-targeted i)
 
@@ -118,7 +118,7 @@ module _ (ls : List Line) (passes : Passes ls) where
   unfolding routineOf codeIn
   confined = record {
     past = simp length-map (omega (arith, first-small (firstAt (body ls)), code-few ls (passes .layout)));
-    targets = every-mapped (λ l. instructionOf _ _ (l .text)) (λ l. instruction-target _ _ (l .text)) (codeLines (body ls));
+    targets = every-mapped (λ l. instructionOf _ _ _ (l .text)) (λ l. instruction-target _ _ _ (l .text)) (codeLines (body ls));
   }
 
   pub start-small : routineOf ls .start .at ≤ 62000

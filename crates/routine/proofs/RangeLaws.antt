@@ -9,21 +9,21 @@ use lib.IntN.{ℤ, pos, negsuc, natAbs}
 use lib.Signed.{leZ}
 use lib.ListN.{length, getD, take, length-map, length-take, length-drop}
 use borrow.Author.Tests.{leb-true, eqb-true}
-use Rattle.text.specs.Text.{Line}
+use Rattle.text.specs.Text.{Line, find}
 use Rattle.text.proofs.TextLaws.{Every, more, and-left, and-right, cond-left, cond-right}
 use Rattle.numbers.specs.declared.Range.{Range}
 use Rattle.numbers.specs.Numbers.{range, within}
 use Rattle.instructions.specs.declared.Argument.{Argument}
 use Rattle.instructions.specs.declared.Argument.the-variants.{Absent, Target, Primitive, Within}
-use Rattle.machine.specs.Machine.{instruction, Prices, priceOf}
-use Rattle.machine.proofs.PriceLaws.{AtMost}
+use Rattle.machine.specs.Machine.{Price, Instruction, instruction, Prices, priceOf, withExtra}
+use Rattle.machine.proofs.PriceLaws.{AtMost, Both}
 use Rattle.routine.specs.declared.Section.{Section}
 use Rattle.routine.specs.declared.Section.the-variants.{Limits as limits, Cells as cells}
 use Rattle.routine.specs.declared.Column.{Column}
 use Rattle.routine.specs.declared.Column.the-variants.{Limit as limit, Cell as cell}
 use Rattle.routine.specs.declared.Role.the-variants.{Names as names, Values as values}
 use Rattle.routine.specs.Layout.{layout, body, codeLines, listed}
-use Rattle.routine.specs.Rows.{budgets, ticks, valuesLaidOut, cellWord, value, cellNames, stackNames, columnInRange, columnLaidOut, inRange, laidOut, named, wellNamed, Passes}
+use Rattle.routine.specs.Rows.{budgets, ticks, valuesLaidOut, cellWord, value, op, cellNames, stackNames, columnInRange, columnLaidOut, inRange, laidOut, named, wellNamed, Passes}
 use Rattle.routine.specs.Routine.{inside, naturalIn, PriceList, priceAt, prices, instructionOf, codeIn, cellOf, cellsOf, startOf, routineOf}
 use Rattle.routine.proofs.RowLaws.{First, passes-range, passes-laid-out, passes-named, lists-path}
 
@@ -73,7 +73,7 @@ limit-ends : (low high : ℕ) (w : List ℕ) → within (range low high) (value 
 limit-ends low high w e = rw (inside-is (range low high) (value w) e) (natural-above low high (value w) e)
 
 module _ {ls : List Line} (p : Passes ls) where
-  limits-within : columnInRange limit (listed (values limits limit) ls) ≡ true
+  limits-within : columnInRange limit (listed (names limits) ls) (listed (values limits limit) ls) ≡ true
   unfolding listed inRange
   limits-within = passes-range p (values limits limit) refl
 
@@ -108,18 +108,29 @@ price-small p i = record {
   words = natural-inside 0 255 (value (getD (p .words) i [])) .below;
 }
 
-instruction-small : (ks ps : PriceList) (text : List ℕ) → AtMost 131070 510 (instructionOf ks ps text .price)
+-- an instruction's price, without its extra and with it
+abbrev pub Small : Instruction → Type 0
+Small i = Both (AtMost 196605 510) (i .price) (i .extra)
+
+with-extra-small : (x : ℕ) (p : Price) → AtMost 131070 510 p → x ≤ 65535 → Both (AtMost 196605 510) p x
+unfolding withExtra
+with-extra-small x p h l =
+    (record { cycles = omega (arith, h .cycles); words = h .words }, record { cycles = omega (arith, h .cycles); words = h .words })
+
+instruction-small : (ks : PriceList) (xs : List (List ℕ)) (ps : PriceList) (text : List ℕ) → Small (instructionOf ks xs ps text)
 unfolding instructionOf instruction
-instruction-small ks ps text = price-of-small 65535 255 (prices ks ps) (price-small ks) (price-small ps) _ _ _
+instruction-small ks xs ps text =
+    with-extra-small _ _ (price-of-small 65535 255 (prices ks ps) (price-small ks) (price-small ps) _ _ _)
+    (natural-inside 0 65535 (value (getD xs (find (op text) (ks .names)) [])) .below)
 
 pub every-mapped : {A B : Type 0} {P : B → Type 0} (f : A → B) → ((x : A) → P (f x)) → (xs : List A) → Every P (map f xs)
 every-mapped f h [] = Every.none
 every-mapped f h (x ∷ xs) = more (h x) (every-mapped f h xs)
 
 -- whatever the text says, no price is larger
-pub prices-small : (ls : List Line) → Every (λ i. AtMost 131070 510 (i .price)) (routineOf ls .code .instructions)
+pub prices-small : (ls : List Line) → Every Small (routineOf ls .code .instructions)
 unfolding routineOf codeIn
-prices-small ls = every-mapped (λ l. instructionOf _ _ (l .text)) (λ l. instruction-small _ _ (l .text)) (codeLines (body ls))
+prices-small ls = every-mapped (λ l. instructionOf _ _ _ (l .text)) (λ l. instruction-small _ _ _ (l .text)) (codeLines (body ls))
 
 -- ---- the start
 

@@ -234,9 +234,9 @@ module _ {ls : List Line} (p : Passes ls) (r : Role) (s : First r layout) where
   pub passes-laid-out : laidOut ls r (textAt r layout ls) ≡ true
   passes-laid-out = held-row layout-row ls (p .layout) r s (λ x. laidOut ls r x ≡ true) (laid-out ls r)
 
-  pub passes-range : inRange r (textAt r layout ls) ≡ true
+  pub passes-range : inRange ls r (textAt r layout ls) ≡ true
   unfolding test
-  passes-range = held-row range-row ls (p .range) r s (λ x. inRange r x ≡ true) (λ l h. h)
+  passes-range = held-row range-row ls (p .range) r s (λ x. inRange ls r x ≡ true) (λ l h. h)
 
   pub passes-named : named ls r (textAt r layout ls) ≡ true
   unfolding test

@@ -22,7 +22,7 @@ use Rattle.instructions.specs.Kinds as table
 use Rattle.routine.specs.declared.Section.{Section}
 use Rattle.routine.specs.declared.Section.the-variants.{Limits as limits, Kinds as kinds, Primitives as primitives, Cells as cells, Fields as fields, Instructions as instructions, Answers as answers}
 use Rattle.routine.specs.declared.Column.{Column}
-use Rattle.routine.specs.declared.Column.the-variants.{Limit as limit, Cycles as cycles, Words as words-column, Cell as cell}
+use Rattle.routine.specs.declared.Column.the-variants.{Limit as limit, Cycles as cycles, Words as words-column, Extra as extra, Cell as cell}
 use Rattle.routine.specs.declared.Role.{Role}
 use Rattle.routine.specs.declared.Role.the-variants.{Names as names, Values as values, Code as code, Answer as answer}
 use Rattle.routine.specs.Layout.{list, listed}
@@ -187,6 +187,7 @@ unfolding columnLaidOut
 column-ascii limit ws e = numerals-ascii ws e
 column-ascii cycles ws e = numerals-ascii ws e
 column-ascii words-column ws e = numerals-ascii ws e
+column-ascii extra ws e = numerals-ascii ws e
 column-ascii cell ws e = every-map cell-ascii (all-every (λ w. isCell (cellWord w)) ws e)
 
 argument-ascii : (ps : List (List ℕ)) → Every Ascii ps → (w : List ℕ) (a : Argument) → argumentLaidOut w a ≡ true → argumentNamed ps w a ≡ true → Ascii w

@@ -8,7 +8,7 @@ use Rattle.text.specs.Text.{bytes, equals, words, Line}
 use Rattle.routine.specs.declared.Section.{Section}
 use Rattle.routine.specs.declared.Section.the-variants.{Limits as limits, Kinds as kinds, Primitives as primitives, Cells as cells, Fields as fields, Instructions as instructions, Answers as answers}
 use Rattle.routine.specs.declared.Column.{Column}
-use Rattle.routine.specs.declared.Column.the-variants.{Limit as limit, Cycles as cycles, Words as words-column, Cell as cell}
+use Rattle.routine.specs.declared.Column.the-variants.{Limit as limit, Cycles as cycles, Words as words-column, Extra as extra, Cell as cell}
 use Rattle.routine.specs.declared.Role.{Role}
 use Rattle.routine.specs.declared.Role.the-variants.{Names as names, Values as values, Code as code, Answer as answer}
 
@@ -16,11 +16,12 @@ use Rattle.routine.specs.declared.Role.the-variants.{Names as names, Val
 abbrev pub section : Section → List Column → List Role
 section s cs = names s ∷ map (values s) cs
 
--- "Lines 1, 2 · 3 to 5 · 6 to 8 · 9, 10 · 11, 12 · 13 on": every line number follows from this list
+-- The table's column "Lines", with the third line of values of the kinds and "Later lines of the file move down by one" (document 02 §1):
+-- 1, 2 · 3 to 6 · 7 to 9 · 10, 11 · 12, 13 · 14 on. Every line number follows from this list.
 abbrev pub layout : List Role
 layout =
     section limits (limit ∷ [])
-    ++ section kinds (cycles ∷ words-column ∷ [])
+    ++ section kinds (cycles ∷ words-column ∷ extra ∷ [])
     ++ section primitives (cycles ∷ words-column ∷ [])
     ++ section cells (cell ∷ [])
     ++ section fields (cell ∷ [])
@@ -88,12 +89,13 @@ sectionPlace fields = 4
 sectionPlace instructions = 5
 sectionPlace answers = 6
 
--- the place of a column among the four
+-- the place of a column among the five
 abbrev pub columnPlace : Column → ℕ
 columnPlace limit = 0
 columnPlace cycles = 1
 columnPlace words-column = 2
-columnPlace cell = 3
+columnPlace extra = 3
+columnPlace cell = 4
 
 -- whether a line holds the names of s
 abbrev pub isNames : Section → Role → Bool
@@ -116,7 +118,7 @@ isRole (values s c) x = isValues s c x
 isRole (code k) x = false
 isRole (answer k) x = false
 
--- whether a line lists cells, as lines 10 and 12 do
+-- whether a line lists cells, as lines 11 and 13 do
 abbrev pub holdsCells : Role → Bool
 holdsCells r = isValues cells cell r || isValues fields cell r
 

@@ -21,7 +21,7 @@ use Rattle.instructions.specs.declared.Argument.the-variants.{Absent, Target, P
 use Rattle.machine.specs.Machine.{instruction, State, Price, Instruction, Prices, priceOf, Code}
 use Rattle.routine.specs.declared.Section.{Section}
 use Rattle.routine.specs.declared.Section.the-variants.{Limits as limits, Kinds as kinds, Primitives as primitives, Cells as cells, Fields as fields}
-use Rattle.routine.specs.declared.Column.the-variants.{Limit as limit, Cycles as cycles, Words as words-column, Cell as cell}
+use Rattle.routine.specs.declared.Column.the-variants.{Limit as limit, Cycles as cycles, Words as words-column, Extra as extra, Cell as cell}
 use Rattle.routine.specs.declared.Role.the-variants.{Names as names, Values as values}
 use Rattle.routine.specs.Layout.{body, codeLines, answerLines, listed}
 use Rattle.routine.specs.declared.CellWord.{CellWord}
@@ -30,7 +30,7 @@ use Rattle.routine.specs.declared.Row.{Row}
 use Rattle.routine.specs.declared.Row.the-variants.{Layout as layout-row, Range as range-row, Name as name-row, Price as price-row, Target as target-row, Known as known-row}
 use Rattle.routine.specs.declared.RefusedLine.{RefusedLine}
 use Rattle.routine.specs.declared.RefusedLine.the-variants.{Nowhere as nowhere, Line as line}
-use Rattle.routine.specs.Rows.{value, cellWord, handles, blockSizes, op, arg, firstAddresses, budgets, ticks, cycleCounts, wordCounts, firstAt, refusedLine}
+use Rattle.routine.specs.Rows.{value, cellWord, handles, blockSizes, op, arg, firstAddresses, budgets, ticks, cycleCounts, wordCounts, extraCounts, firstAt, refusedLine}
 
 -- a routine: BUDGET and TICK, its code, the state it starts in, its answers
 pub record Routine : Type 0 where
@@ -60,7 +60,7 @@ pub record PriceList : Type 0 where
   pub cycles : List (List ℕ)
   pub words : List (List ℕ)
 
--- "Lines .. 3 to 5 · 6 to 8": the prices of the kinds, or of the primitives
+-- lines 3 to 5 or 7 to 9: the prices of the kinds, or of the primitives
 unfoldable pub priceList : Section → List Line → PriceList
 priceList s ls = record { names = listed (names s) ls; cycles = listed (values s cycles) ls; words = listed (values s words-column) ls }
 
@@ -74,19 +74,20 @@ prices ks ps = record { kinds = priceAt ks; primitives = priceAt ps }
 
 -- ---- code
 
--- an argument: a number, an address, or a primitive's place on line 6
+-- an argument: a number, an address, or a primitive's place on line 7
 unfoldable pub argumentValue : List (List ℕ) → List ℕ → Argument → ℤ
 argumentValue ps w Absent = pos 0
 argumentValue ps w Target = inside addresses (value w)
 argumentValue ps w Primitive = pos (find w ps)
 argumentValue ps w (Within r) = inside numbers (value w)
 
--- the instruction of a code line, at the price of its kind (in ks) and of its primitive (in ps)
-unfoldable pub instructionOf : PriceList → PriceList → List ℕ → Instruction
-instructionOf ks ps text =
+-- the instruction of a code line, at the price of its kind (in ks) and of its primitive (in ps), with the extra of its kind (in xs)
+unfoldable pub instructionOf : PriceList → List (List ℕ) → PriceList → List ℕ → Instruction
+instructionOf ks xs ps text =
     let k = kindAt (find (op text) kindNames) in
+    let i = find (op text) (ks .names) in
     let v = argumentValue (ps .names) (arg text) (k .argument) in
-    instruction k v (priceOf (prices ks ps) (k .argument) (find (op text) (ks .names)) v)
+    instruction k v (priceOf (prices ks ps) (k .argument) i v) (naturalAt extraCounts xs i)
 
 -- "AT starts anywhere from 0 to 60,000": the first address, by the lines after the layout
 abbrev pub firstAddress : List Line → ℕ
@@ -96,7 +97,7 @@ firstAddress ls = natAbs (inside firstAddresses (firstAt ls))
 unfoldable pub codeIn : List Line → Code
 codeIn ls = record {
   first = firstAddress (body ls);
-  instructions = map (λ l. instructionOf (priceList kinds ls) (priceList primitives ls) (l .text)) (codeLines (body ls));
+  instructions = map (λ l. instructionOf (priceList kinds ls) (listed (values kinds extra) ls) (priceList primitives ls) (l .text)) (codeLines (body ls));
 }
 
 -- ---- cells
@@ -117,7 +118,7 @@ unfoldable pub blocksInLine : List ℕ → List Cell → List (List Cell)
 blocksInLine [] cs = []
 blocksInLine (n ∷ ns) cs = take n cs ∷ blocksInLine ns (drop n cs)
 
--- "ACCU, then S0 on": the start at an address, by the cells of line 10 and the blocks of line 12
+-- "ACCU, then S0 on": the start at an address, by the cells of line 11 and the blocks of line 13
 unfoldable pub startOf : ℕ → List Cell → List (List Cell) → State
 startOf first cs bs = record { at = first; accu = getD cs 0 (number (pos 0)); stack = drop 1 cs; blocks = bs }
 

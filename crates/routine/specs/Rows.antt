@@ -7,7 +7,7 @@ use mathlib.Core.List.{List, [], _∷_, _++_}
 use lib.Dec.{eqb, leb, ltb}
 use lib.IntN.{ℤ, pos, natAbs, _+ℤ_}
 use lib.Signed.{leZ, ltZ}
-use lib.ListN.{length, getD, take}
+use lib.ListN.{length, getD, take, drop}
 use Rattle.text.specs.Text.{bytes, isEmpty, equals, words, Line, place, among, all, distinct}
 use Rattle.text.specs.declared.Place.{Place}
 use Rattle.text.specs.declared.Place.the-variants.{At, Missing}
@@ -23,7 +23,7 @@ use Rattle.instructions.specs.declared.Argument.the-variants.{Absent, Target, P
 use Rattle.routine.specs.declared.Section.{Section}
 use Rattle.routine.specs.declared.Section.the-variants.{Limits as limits, Kinds as kinds, Primitives as primitives, Cells as cells, Fields as fields, Instructions as instructions, Answers as answers}
 use Rattle.routine.specs.declared.Column.{Column}
-use Rattle.routine.specs.declared.Column.the-variants.{Limit as limit, Cycles as cycles, Words as words-column, Cell as cell}
+use Rattle.routine.specs.declared.Column.the-variants.{Limit as limit, Cycles as cycles, Words as words-column, Extra as extra, Cell as cell}
 use Rattle.routine.specs.declared.Role.{Role}
 use Rattle.routine.specs.declared.Role.the-variants.{Names as names, Values as values, Code as code, Answer as answer}
 use Rattle.routine.specs.declared.CellWord.{CellWord}
@@ -65,7 +65,7 @@ unfoldable pub hashed : List ℕ → CellWord
 hashed [] = wrong
 hashed (d ∷ ds) = cond (eqb d 35) (blockOf (numeral ds)) (knownOf (numeral (d ∷ ds)))
 
--- what a word on line 10 or 12 says
+-- what a word on line 11 or 13 says
 unfoldable pub cellWord : List ℕ → CellWord
 cellWord w = cond (equals w (bytes "?")) unknown (hashed w)
 
@@ -114,7 +114,7 @@ unfoldable pub stackNames : ℕ → ℕ → List (List ℕ)
 stackNames k zero = []
 stackNames k (suc n) = (bytes "S" ++ decimal k) ∷ stackNames (suc k) n
 
--- the names that line 9 begins with
+-- the names that line 10 begins with
 unfoldable pub cellNames : List (List ℕ)
 cellNames = bytes "ACCU" ∷ stackNames 0 32
 
@@ -181,7 +181,7 @@ argumentInRange w Target = within addresses (value w)
 argumentInRange w Primitive = true
 argumentInRange w (Within r) = within r (value w)
 
--- a primitive is one of those named on line 6
+-- a primitive is one of those named on line 7
 unfoldable pub argumentNamed : List (List ℕ) → List ℕ → Argument → Bool
 argumentNamed ps w a = cond (calls a) (among w ps) true
 
@@ -223,18 +223,37 @@ cycleCounts = range 0 65535
 abbrev pub wordCounts : Range
 wordCounts = range 0 255
 
--- the values of a line, each in its range
-unfoldable pub columnInRange : Column → List (List ℕ) → Bool
-columnInRange limit ws = within budgets (value (getD ws 0 [])) && within ticks (value (getD ws 1 []))
-columnInRange cycles ws = all (λ w. within cycleCounts (value w)) ws
-columnInRange words-column ws = all (λ w. within wordCounts (value w)) ws
-columnInRange cell ws = all (λ w. cellInRange (cellWord w)) ws
+-- "extra cycles when BRANCHIF or BRANCHIFNOT jumps, 0 to 65,535" (document 02 §1)
+abbrev pub extraCounts : Range
+extraCounts = range 0 65535
+
+-- "Other kinds must hold 0 there"
+abbrev pub noExtra : Range
+noExtra = range 0 0
+
+-- the range of the extra under a name, a kind's or any other
+unfoldable pub extraRange : List ℕ → Range
+extraRange name = cond (among name (bytes "BRANCHIF" ∷ bytes "BRANCHIFNOT" ∷ [])) extraCounts noExtra
+
+-- extras, each in the range of the name at its place
+unfoldable pub extrasInRange : List (List ℕ) → List (List ℕ) → Bool
+extrasInRange ns [] = true
+extrasInRange ns (w ∷ ws) = within (extraRange (getD ns 0 [])) (value w) && extrasInRange (drop 1 ns) ws
+
+-- the values of a line under the names ns, each in its range
+unfoldable pub columnInRange : Column → List (List ℕ) → List (List ℕ) → Bool
+columnInRange limit ns ws = within budgets (value (getD ws 0 [])) && within ticks (value (getD ws 1 []))
+columnInRange cycles ns ws = all (λ w. within cycleCounts (value w)) ws
+columnInRange words-column ns ws = all (λ w. within wordCounts (value w)) ws
+columnInRange extra ns ws = extrasInRange ns ws
+columnInRange cell ns ws = all (λ w. cellInRange (cellWord w)) ws
 
 -- the values of a line, each rightly spelt
 unfoldable pub columnLaidOut : Column → List (List ℕ) → Bool
 columnLaidOut limit ws = all (λ w. isNumeral (numeral w)) ws
 columnLaidOut cycles ws = all (λ w. isNumeral (numeral w)) ws
 columnLaidOut words-column ws = all (λ w. isNumeral (numeral w)) ws
+columnLaidOut extra ws = all (λ w. isNumeral (numeral w)) ws
 columnLaidOut cell ws = all (λ w. isCell (cellWord w)) ws
 
 -- ---- the rows
@@ -280,11 +299,11 @@ unfoldable pub codeInRange : ℕ → List ℕ → Bool
 codeInRange k text = within (atRange k) (value (at text)) && onArgument (argumentInRange (arg text)) text
 
 -- row 3: "number outside its range"; an answer is any 32-bit number
-unfoldable pub inRange : Role → List ℕ → Bool
-inRange (names s) text = true
-inRange (values s c) text = columnInRange c (list text)
-inRange (code k) text = codeInRange k text
-inRange (answer k) text = within numbers (value text)
+unfoldable pub inRange : List Line → Role → List ℕ → Bool
+inRange ls (names s) text = true
+inRange ls (values s c) text = columnInRange c (listed (names s) ls) (list text)
+inRange ls (code k) text = codeInRange k text
+inRange ls (answer k) text = within numbers (value text)
 
 -- row 4 on a line of names: "name unknown, repeated or out of sequence"
 unfoldable pub wellNamed : Section → List (List ℕ) → Bool
@@ -328,7 +347,7 @@ allKnown r text = onCells (λ w. not (equals w (bytes "?"))) r text
 -- the test of a row on one line; in row 2 also "Each line ends in a line feed" and "words are parted by one space"
 unfoldable pub test : Row → List Line → Role → Line → Bool
 test layout-row ls r l = l .ended && all (λ w. not (isEmpty w)) (words (l .text)) && laidOut ls r (l .text)
-test range-row ls r l = inRange r (l .text)
+test range-row ls r l = inRange ls r (l .text)
 test name-row ls r l = named ls r (l .text)
 test price-row ls r l = priced ls r (l .text)
 test target-row ls r l = reaches ls r (l .text)

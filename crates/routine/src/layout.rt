@@ -13,12 +13,12 @@ ghost use Rattle.text.specs.Text.{lines, place, among};
 ghost use Rattle.instructions.specs.Kinds.{addresses};
 ghost use Rattle.routine.specs.declared.Role.the-variants.{Code};
 ghost use Rattle.routine.specs.Layout.{layout, body, codeLines, list, sectionPlace, columnPlace, isNames, isValues, isRole, holdsCells, textAt};
-ghost use Rattle.routine.specs.Rows.{handles, firstAddresses, atRange, budgets, ticks, cycleCounts, wordCounts};
+ghost use Rattle.routine.specs.Rows.{handles, firstAddresses, atRange, budgets, ticks, cycleCounts, extraCounts, noExtra, wordCounts};
 
 // ---- the lines
 
 // The number of lines of the layout.
-pub const LINES: usize = 13;
+pub const LINES: usize = 14;
 
 // What each of them holds. All line numbers follow from this list.
 const ROLES: [Role; LINES] = [
@@ -27,6 +27,7 @@ const ROLES: [Role; LINES] = [
     Role::Names(Section::Kinds),
     Role::Values(Section::Kinds, Column::Cycles),
     Role::Values(Section::Kinds, Column::Words),
+    Role::Values(Section::Kinds, Column::Extra),
     Role::Names(Section::Primitives),
     Role::Values(Section::Primitives, Column::Cycles),
     Role::Values(Section::Primitives, Column::Words),
@@ -66,7 +67,8 @@ fn column_place(c: Column) -> u8
         Column::Limit => 0,
         Column::Cycles => 1,
         Column::Words => 2,
-        Column::Cell => 3,
+        Column::Extra => 3,
+        Column::Cell => 4,
     }
 }
 
@@ -235,11 +237,28 @@ pub fn cycle_counts() -> Range
     }
 }
 
+// "extra cycles .. 0 to 65,535"
+pub fn extra_counts() -> Range
+    ensures { λ r. ⌜ r ≡ extraCounts ⌝ }
+{
+    Range {
+        low: 0,
+        high: 65535,
+    }
+}
+
 // "words 0 to 255"
 pub fn word_counts() -> Range
     ensures { λ r. ⌜ r ≡ wordCounts ⌝ }
 {
     Range { low: 0, high: 255 }
+}
+
+// "Other kinds must hold 0 there"
+pub fn no_extra() -> Range
+    ensures { λ r. ⌜ r ≡ noExtra ⌝ }
+{
+    Range { low: 0, high: 0 }
 }
 
 // "`#k` with k outside 0 to 7 is 3"

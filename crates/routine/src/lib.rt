@@ -18,6 +18,7 @@ pub enum Column {
     Limit,
     Cycles,
     Words,
+    Extra,
     Cell,
 }
 

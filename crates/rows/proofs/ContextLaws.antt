@@ -19,7 +19,7 @@ use Rattle.routine.specs.declared.Role.{Role}
 use Rattle.routine.specs.declared.Role.the-variants.{Names as names, Values as values, Code as code}
 use Rattle.routine.specs.declared.Row.the-variants.{Layout as layout-row}
 use Rattle.routine.specs.Layout.{layout, body, list, textAt, listed}
-use Rattle.routine.specs.Rows.{equalLists, blockSizes, total, wellNamed, test, valuesLaidOut, laidOut, onCells, onCode, codeNamed, named, op, arg, onArgument, argumentReaches, priced, reaches, firstAddresses, firstAt}
+use Rattle.routine.specs.Rows.{equalLists, blockSizes, total, wellNamed, test, valuesLaidOut, laidOut, onCells, onCode, codeNamed, named, op, arg, onArgument, argumentReaches, priced, reaches, firstAddresses, firstAt, columnInRange, inRange}
 use Rattle.names.specs.declared.Blocks.{Blocks}
 use Rattle.names.specs.Names.{BlocksOf}
 use Rattle.lines.specs.Lines.{wordTest}
@@ -38,6 +38,10 @@ module _ (ls : List Line) (text : List ℕ) (r : Bool) where
   pub laid-values : (s : Section) (c : Column) (ns : List ℕ) → ns ≡ textAt (names s) layout ls → r ≡ valuesLaidOut c (list ns) (list text) → r ≡ laidOut ls (values s c) text
   unfolding laidOut listed
   laid-values s c ns e h = h ∙ ap (λ t. valuesLaidOut c (list t) (list text)) e
+
+  pub ranged-values : (s : Section) (c : Column) (ns : List ℕ) → ns ≡ textAt (names s) layout ls → r ≡ columnInRange c (list ns) (list text) → r ≡ inRange ls (values s c) text
+  unfolding inRange listed
+  ranged-values s c ns e h = h ∙ ap (λ t. columnInRange c (list t) (list text)) e
 
   pub named-values : {ps : List ℕ} {b f : ℕ} → NameContext ls ps b f → (s : Section) (c : Column) → r ≡ onCells (wordTest (Present b)) (values s c) text → r ≡ named ls (values s c) text
   unfolding named wordTest

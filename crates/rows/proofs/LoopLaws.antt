@@ -23,7 +23,7 @@ use Rattle.rows.proofs.ScanLaws.{remaining, remaining-all, heading-star
 -- the number of a code line is small where the line's is
 
 layout-small : Every Small layout
-layout-small = more tt (more tt (more tt (more tt (more tt (more tt (more tt (more tt (more tt (more tt (more tt (more tt (more tt none))))))))))))
+layout-small = more tt (more tt (more tt (more tt (more tt (more tt (more tt (more tt (more tt (more tt (more tt (more tt (more tt (more tt none)))))))))))))
 
 pub role-small : (i m : ℕ) (text : List ℕ) → i ≤ 32768 → Small (roleOf i m text)
 unfolding roleOf

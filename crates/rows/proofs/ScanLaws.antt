@@ -71,7 +71,7 @@ layout-more i l ls h =
 
 first-more : (l : Line) (ls : List Line) → remaining (length layout) 0 (l ∷ ls) ≡ roleOf (length layout) 0 (l .text) ∷ remaining ((length layout) + 1) (headingAfter (length layout) 0 (l .text)) ls
 unfolding roleOf headingAfter isHeading bodyRoles
-first-more l ls = at-first (l ∷ ls) ∙ ap (λ rs. code 0 ∷ rs) (sym (at-code 14 ls (omega arith)))
+first-more l ls = at-first (l ∷ ls) ∙ ap (λ rs. code 0 ∷ rs) (sym (at-code (length layout + 1) ls (omega arith)))
 
 code-more : (i : ℕ) (l : Line) (ls : List Line) → length layout < i → remaining i 0 (l ∷ ls) ≡ roleOf i 0 (l .text) ∷ remaining (i + 1) (headingAfter i 0 (l .text)) ls
 unfolding roleOf headingAfter isHeading codeRoles isAnswer

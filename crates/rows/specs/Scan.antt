@@ -15,7 +15,7 @@ use Rattle.routine.specs.Layout.{layout, body, codeLines, textAt, listed}
 use Rattle.routine.specs.Rows.{blockSizes, firstAt}
 use Rattle.routine.specs.Routine.{firstAddress}
 
--- what the rows look at in the lines ls beside a line itself: lines 3 and 6, the number of blocks, the first address, the number of code lines
+-- what the rows look at in the lines ls beside a line itself: lines 3 and 7, the number of blocks, the first address, the number of code lines
 pub record Context (ls : List Line) (ks ps : List ℕ) (blocks first count : ℕ) : Type 0 where
   pub kinds-line : ks ≡ textAt (names kinds) layout ls
   pub primitives-line : ps ≡ textAt (names primitives) layout ls

@@ -44,12 +44,16 @@ fn laid_out(text: &[u8], role: Role, line: &[u8]) -> bool
 }
 
 // Row 3 on a line.
-fn in_range(role: Role, line: &[u8]) -> bool
-    ensures { λ r. ⌜ r ≡ inRange role (now (line .entry)) ⌝ }
+fn in_range(text: &[u8], role: Role, line: &[u8]) -> bool
+    ensures { λ r. ⌜ r ≡ inRange (lines (now (text .entry))) role (now (line .entry)) ⌝ }
 {
     match role {
         Role::Names(_) => true,
-        Role::Values(_, c) => lines::values_in_range(c, line),
+        Role::Values(s, c) => lines::values_in_range(
+            c,
+            layout::text_of(text, Role::Names(s)),
+            line,
+        ),
         Role::Code(k) => lines::code_in_range(k, line),
         Role::Answer(_) => lines::answer_in_range(line),
     }
@@ -169,7 +173,7 @@ fn passes(
 {
     match row {
         Row::Layout => laid_out_line(text, role, line, ended),
-        Row::Range => in_range(role, line),
+        Row::Range => in_range(text, role, line),
         Row::Name => named(text, primitives, blocks, first, role, line),
         Row::Price => priced(text, kinds, role, line),
         Row::Target => reaches(text, first, count, role, line),

@@ -26,7 +26,7 @@ use Rattle.steps.specs.declared.Next as next
 use Rattle.steps.specs.declared.Next.the-variants as leads-to
 use Rattle.steps.specs.declared.Change.{Change}
 use Rattle.steps.specs.declared.Change.the-variants.{Nothing, Field}
-use Rattle.steps.specs.Step.{ofNext, Differs}
+use Rattle.steps.specs.Step.{SmallPrice, ofNext, Differs}
 use Rattle.runs.specs.declared.Progress.{Progress}
 use Rattle.runs.specs.declared.Ran.{Ran}
 use Rattle.runs.specs.Progress.{ofProgress}
@@ -70,7 +70,7 @@ pub record Going (c : Code) (ns : List ℕ) (answers : List ℤ) (b : Run) (n : 
   pub formed : WellFormed (r .state)
   pub fits : Fits ns (r .blocks)
   pub taken : r .taken ≤ r .steps
-  pub cycles : r .cycles ≤ 4294967296 * r .steps
+  pub cycles : r .cycles ≤ 8589934592 * r .steps
   pub words : r .words ≤ 4294967296 * r .steps
   pub going : r .stopped ≡ false
   pub is : ofProgress ns answers r ≡ after c (r .steps) b
@@ -121,7 +121,7 @@ module _ (c : Code) (ns : List ℕ) (answers : List ℤ) (b : Run) (n : ℕ) (r 
     unfolding after
     next-is q e = e ∙ sym once-is ∙ ap (once c) (i .is)
 
-    module _ (p : Price) (k : ℕ) (took : Takes calls (r .taken) k) (cheap : (p .cycles < 4294967296) × (p .words < 4294967296)) where
+    module _ (p : Price) (k : ℕ) (took : Takes calls (r .taken) k) (cheap : SmallPrice p) where
       -- STOP was made
       pub stops-out : x ≡ leads-to.Stops p → r .steps < n →
           ofProgress ns answers (record { state = r .state; blocks = r .blocks; taken = k; cycles = r .cycles + p .cycles; words = r .words + p .words; depth = r .depth; steps = r .steps + 1; stopped = true }) ≡ after c n b
@@ -143,8 +143,8 @@ module _ (c : Code) (ns : List ℕ) (answers : List ℤ) (b : Run) (n : ℕ) (r 
         formed = formed;
         fits = fits;
         taken = omega (arith, took .few, i .taken);
-        cycles = omega (arith, i .cycles, cheap .0);
-        words = omega (arith, i .words, cheap .1);
+        cycles = omega (arith, i .cycles, cheap .cycles);
+        words = omega (arith, i .words, cheap .words);
         going = refl;
         is =
             next-is _

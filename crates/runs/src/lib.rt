@@ -61,6 +61,7 @@ pub fn after(
     operands: &[i32],
     cycles: &[u32],
     words: &[u32],
+    extras: &[u32],
     sizes: &[u8],
     first: usize,
     start: State,
@@ -68,10 +69,10 @@ pub fn after(
     answers: &[i32],
     n: usize,
 ) -> Progress
-    requires { ⌜ Sized (now codes) (now operands) (now cycles) (now words) ⌝ }
+    requires { ⌜ Sized (now codes) (now operands) (now cycles) (now words) (now extras) ⌝ }
     requires { ⌜ Runnable (now codes) (now sizes) first start fields n ⌝ }
-    ensures { λ r. ⌜ ofProgress (now (sizes .entry)) (now (answers .entry)) r ≡ after (codeOf first (now (codes .entry)) (now (operands .entry)) (now (cycles .entry)) (now (words .entry))) n (begin (whole (now (sizes .entry)) fields start) (now (answers .entry))) ⌝ }
-    ensures safe { λ r. ⌜ SafeFrom (codeOf first (now (codes .entry)) (now (operands .entry)) (now (cycles .entry)) (now (words .entry))) (whole (now (sizes .entry)) fields start) (now (answers .entry)) n (ofProgress (now (sizes .entry)) (now (answers .entry)) r) ⌝ }
+    ensures { λ r. ⌜ ofProgress (now (sizes .entry)) (now (answers .entry)) r ≡ after (codeOf first (now (codes .entry)) (now (operands .entry)) (now (cycles .entry)) (now (words .entry)) (now (extras .entry))) n (begin (whole (now (sizes .entry)) fields start) (now (answers .entry))) ⌝ }
+    ensures safe { λ r. ⌜ SafeFrom (codeOf first (now (codes .entry)) (now (operands .entry)) (now (cycles .entry)) (now (words .entry)) (now (extras .entry))) (whole (now (sizes .entry)) fields start) (now (answers .entry)) n (ofProgress (now (sizes .entry)) (now (answers .entry)) r) ⌝ }
     ensures { λ r. ⌜ WellFormed (r .state) × Fits (now (sizes .entry)) (r .blocks) ⌝ }
 {
     let mut state = start;
@@ -88,6 +89,7 @@ pub fn after(
             operands,
             cycles,
             words,
+            extras,
             sizes,
             first,
             answer,
@@ -100,8 +102,8 @@ pub fn after(
                 state: state,
                 blocks: blocks,
                 taken: taken_after(stepped.calls, taken),
-                cycles: spent + (p.cycles as u64),
-                words: sum + (p.words as u64),
+                cycles: spent + p.cycles,
+                words: sum + p.words,
                 depth: depth,
                 steps: made + 1,
                 stopped: true,
@@ -120,8 +122,8 @@ pub fn after(
             };
         };
         taken = taken_after(stepped.calls, taken);
-        spent = spent + (p.cycles as u64);
-        sum = sum + (p.words as u64);
+        spent = spent + p.cycles;
+        sum = sum + p.words;
         state = stepped.state;
         let h = 64 - state.free;
         if depth < h {
@@ -173,6 +175,7 @@ pub fn run(
     operands: &[i32],
     cycles: &[u32],
     words: &[u32],
+    extras: &[u32],
     sizes: &[u8],
     first: usize,
     start: State,
@@ -180,16 +183,17 @@ pub fn run(
     answers: &[i32],
     budget: usize,
 ) -> Ran
-    requires { ⌜ Sized (now codes) (now operands) (now cycles) (now words) ⌝ }
+    requires { ⌜ Sized (now codes) (now operands) (now cycles) (now words) (now extras) ⌝ }
     requires { ⌜ Runnable (now codes) (now sizes) first start fields budget ⌝ }
-    ensures { λ r. ⌜ verdictOf r ≡ run (codeOf first (now (codes .entry)) (now (operands .entry)) (now (cycles .entry)) (now (words .entry))) budget (whole (now (sizes .entry)) fields start) (now (answers .entry)) ⌝ }
-    ensures within { λ r. ⌜ WithinBound (codeOf first (now (codes .entry)) (now (operands .entry)) (now (cycles .entry)) (now (words .entry))) budget (whole (now (sizes .entry)) fields start) (verdictOf r) ⌝ }
+    ensures { λ r. ⌜ verdictOf r ≡ run (codeOf first (now (codes .entry)) (now (operands .entry)) (now (cycles .entry)) (now (words .entry)) (now (extras .entry))) budget (whole (now (sizes .entry)) fields start) (now (answers .entry)) ⌝ }
+    ensures within { λ r. ⌜ WithinBound (codeOf first (now (codes .entry)) (now (operands .entry)) (now (cycles .entry)) (now (words .entry)) (now (extras .entry))) budget (whole (now (sizes .entry)) fields start) (verdictOf r) ⌝ }
 {
     let r = after(
         codes,
         operands,
         cycles,
         words,
+        extras,
         sizes,
         first,
         start,

@@ -17,36 +17,36 @@ tail-at : {A : Type 0} (xs : List A) (j : ℕ) (d : A) → getD (drop 1 xs) j d 
 tail-at [] j d = refl
 tail-at (x ∷ xs) j d = refl
 
-lines-in : (j : ℕ) (bs : List ℕ) (is : List ℤ) (cs ws : List ℕ) → j < length bs →
-    nth j (instructionsOf bs is cs ws) ≡ done (lineOf (line (getD bs j 0) (getD is j (pos 0)) (getD cs j 0) (getD ws j 0)))
+lines-in : (j : ℕ) (bs : List ℕ) (is : List ℤ) (cs ws xs : List ℕ) → j < length bs →
+    nth j (instructionsOf bs is cs ws xs) ≡ done (lineOf (line (getD bs j 0) (getD is j (pos 0)) (getD cs j 0) (getD ws j 0) (getD xs j 0)))
 unfolding nth instructionsOf
-lines-in j [] is cs ws h = absurd (omega arith)
-lines-in zero (b ∷ bs) is cs ws h = refl
-lines-in (suc j) (b ∷ bs) is cs ws h =
-    rw (tail-at is j (pos 0), tail-at cs j 0, tail-at ws j 0) at (lines-in j bs (drop 1 is) (drop 1 cs) (drop 1 ws) (omega arith))
+lines-in j [] is cs ws xs h = absurd (omega arith)
+lines-in zero (b ∷ bs) is cs ws xs h = refl
+lines-in (suc j) (b ∷ bs) is cs ws xs h =
+    rw (tail-at is j (pos 0), tail-at cs j 0, tail-at ws j 0, tail-at xs j 0) at (lines-in j bs (drop 1 is) (drop 1 cs) (drop 1 ws) (drop 1 xs) (omega arith))
 
-lines-out : (j : ℕ) (bs : List ℕ) (is : List ℤ) (cs ws : List ℕ) → length bs ≤ j → nth j (instructionsOf bs is cs ws) ≡ stuck
+lines-out : (j : ℕ) (bs : List ℕ) (is : List ℤ) (cs ws xs : List ℕ) → length bs ≤ j → nth j (instructionsOf bs is cs ws xs) ≡ stuck
 unfolding nth instructionsOf
-lines-out j [] is cs ws h = refl
-lines-out zero (b ∷ bs) is cs ws h = absurd (omega arith)
-lines-out (suc j) (b ∷ bs) is cs ws h = lines-out j bs (drop 1 is) (drop 1 cs) (drop 1 ws) (omega arith)
+lines-out j [] is cs ws xs h = refl
+lines-out zero (b ∷ bs) is cs ws xs h = absurd (omega arith)
+lines-out (suc j) (b ∷ bs) is cs ws xs h = lines-out j bs (drop 1 is) (drop 1 cs) (drop 1 ws) (drop 1 xs) (omega arith)
 
-module _ (first : ℕ) (bs : List ℕ) (is : List ℤ) (cs ws : List ℕ) (a : ℕ) where
-  pub fetch-below : a < first → stuck ≡ fetch (codeOf first bs is cs ws) a
+module _ (first : ℕ) (bs : List ℕ) (is : List ℤ) (cs ws xs : List ℕ) (a : ℕ) where
+  pub fetch-below : a < first → stuck ≡ fetch (codeOf first bs is cs ws xs) a
   unfolding fetch codeOf
   fetch-below h = rw (lt-ltb a first h) refl
 
-  pub fetch-past : first ≤ a → length bs ≤ a - first → stuck ≡ fetch (codeOf first bs is cs ws) a
+  pub fetch-past : first ≤ a → length bs ≤ a - first → stuck ≡ fetch (codeOf first bs is cs ws xs) a
   unfolding fetch codeOf
-  fetch-past h l = rw (le-ltb a first h) (sym (lines-out (a - first) bs is cs ws l))
+  fetch-past h l = rw (le-ltb a first h) (sym (lines-out (a - first) bs is cs ws xs l))
 
   pub fetch-in : first ≤ a → a - first < length bs →
-      done (lineOf (line (getD bs (a - first) 0) (getD is (a - first) (pos 0)) (getD cs (a - first) 0) (getD ws (a - first) 0))) ≡ fetch (codeOf first bs is cs ws) a
+      done (lineOf (line (getD bs (a - first) 0) (getD is (a - first) (pos 0)) (getD cs (a - first) 0) (getD ws (a - first) 0) (getD xs (a - first) 0))) ≡ fetch (codeOf first bs is cs ws xs) a
   unfolding fetch codeOf
-  fetch-in h l = rw (le-ltb a first h) (sym (lines-in (a - first) bs is cs ws l))
+  fetch-in h l = rw (le-ltb a first h) (sym (lines-in (a - first) bs is cs ws xs l))
 
   -- a line that is fetched stands within the code
-  pub fetch-within : (i : Instruction) → fetch (codeOf first bs is cs ws) a ≡ done i → a < first + length bs
+  pub fetch-within : (i : Instruction) → fetch (codeOf first bs is cs ws xs) a ≡ done i → a < first + length bs
   fetch-within i e = go (ltb a first) refl (ltb (a - first) (length bs)) refl
     where
       go : (b : Bool) → ltb a first ≡ b → (d : Bool) → ltb (a - first) (length bs) ≡ d → a < first + length bs

@@ -8,7 +8,7 @@ use lib.IntN.{ℤ}
 use Rattle.cells.specs.Try.{Try, stuck, done, _>>=_}
 use Rattle.cells.specs.declared.Cell.{Cell}
 use Rattle.instructions.specs.declared.Operation.{Operation}
-use Rattle.machine.specs.Machine.{Price, Next, opens, Code, fetch, push, pop, store, load, jump, advance, reblock, prepare, execute, step, takes, takesAnswer}
+use Rattle.machine.specs.Machine.{Price, Next, opens, withExtra, Code, fetch, push, pop, store, load, jump, advance, reblock, prepare, execute, step, takes, takesAnswer}
 use Rattle.machine.proofs.ApartLaws.{push-at, pop-advance, store-advance}
 use Rattle.outcomes.specs.declared.Outcome.{Outcome}
 use Rattle.outcomes.specs.declared.Outcome.the-variants.{Opens}
@@ -89,8 +89,8 @@ module _ (c : Code) (r : Cell) (ns : List ℕ) (fs : List Cell) (s : State) wher
   calls l found = rw (← found) refl
 
 -- the two ways of a branch, which differ in the address
-pub opened : (ns : List ℕ) (fs : List Cell) (t w : State) {m : Try Next} {p : Price} {o : Operation} {i : ℤ} {r e : Cell} {n : ℕ} {out : Outcome} → Arm m ns fs p o i r (next t) n e out → out ≡ Opens → view w ≡ advance (view t) →
-    m ≡ done (opens p (whole ns fs w) p (jump n (whole ns fs w)))
+pub opened : (ns : List ℕ) (fs : List Cell) (t w : State) {m : Try Next} {p : Price} {y : ℕ} {o : Operation} {i : ℤ} {r e : Cell} {n : ℕ} {out : Outcome} → Arm m ns fs p y o i r (next t) n e out → out ≡ Opens → view w ≡ advance (view t) →
+    m ≡ done (opens p (whole ns fs w) (withExtra y p) (jump n (whole ns fs w)))
 unfolding whole reblock advance jump
-opened ns fs t w {m} {p} {o} {i} {r} {e} {n} arm g is =
-    opens-both arm (placed n t) g refl ∙ ap (λ v. done (opens p (reblock (blocksOf ns fs) v) p (jump n (reblock (blocksOf ns fs) v)))) (sym is)
+opened ns fs t w {m} {p} {y} {o} {i} {r} {e} {n} arm g is =
+    opens-both arm (placed n t) refl g ∙ ap (λ v. done (opens p (reblock (blocksOf ns fs) v) (withExtra y p) (jump n (reblock (blocksOf ns fs) v)))) (sym is)

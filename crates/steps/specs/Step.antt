@@ -16,6 +16,18 @@ use Rattle.steps.specs.declared.Change.the-variants.{Nothing, Field}
 abbrev pub ofPrice : code.Price → Price
 ofPrice p = record { cycles = p .cycles; words = p .words }
 
+-- a price that can be added up: two numbers of 32 bits at most
+pub record SmallPrice (p : code.Price) : Type 0 where
+  pub cycles : p .cycles < 8589934592
+  pub words : p .words < 4294967296
+
+-- and those of what comes next
+abbrev pub Small : code-next.Next → Type 0
+Small Stuck = Unit {0}
+Small (Stops p) = SmallPrice p
+Small (Goes p) = SmallPrice p
+Small (Opens p a q) = SmallPrice p × SmallPrice q
+
 -- what comes next, with the state s that the step left: the two ways of a branch differ in the address only
 unfoldable pub ofNext : code-next.Next → State → Try Next
 ofNext Stuck s = stuck

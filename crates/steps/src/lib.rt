@@ -11,12 +11,12 @@ ghost use lib.ListN.{length};
 ghost use Rattle.machine.specs.Machine.{step, takesAnswer};
 ghost use Rattle.states.specs.Columns.{codeOf, Sized};
 ghost use Rattle.states.specs.View.{WellFormed, Fits, whole};
-ghost use Rattle.steps.specs.Step.{ofNext, Differs};
+ghost use Rattle.steps.specs.Step.{ofNext, Small, Differs};
 
 // What a way costs.
 pub struct Price {
-    pub cycles: u32,
-    pub words: u32,
+    pub cycles: u64,
+    pub words: u64,
 }
 
 // What comes next: nothing where the step is stuck; STOP; one way; or the two ways of an unknown branch, of which the one not taken is at
@@ -49,19 +49,20 @@ pub fn step(
     operands: &[i32],
     cycles: &[u32],
     words: &[u32],
+    extras: &[u32],
     sizes: &[u8],
     first: usize,
     answer: Cell,
     mut state: State,
     mut blocks: [Cell; 128],
 ) -> Stepped
-    requires { ⌜ Sized (now codes) (now operands) (now cycles) (now words) × (first + length (now codes) ≤ 65536) × WellFormed state × Fits (now sizes) blocks ⌝ }
-    ensures { λ r. ⌜ ofNext (r .next) (whole (now (sizes .entry)) (r .blocks) (r .state)) ≡ step (codeOf first (now (codes .entry)) (now (operands .entry)) (now (cycles .entry)) (now (words .entry))) answer (whole (now (sizes .entry)) blocks state) ⌝ }
-    ensures { λ r. ⌜ r .calls ≡ takesAnswer (codeOf first (now (codes .entry)) (now (operands .entry)) (now (cycles .entry)) (now (words .entry))) (whole (now (sizes .entry)) blocks state) ⌝ }
-    ensures { λ r. ⌜ WellFormed (r .state) × Fits (now (sizes .entry)) (r .blocks) ⌝ }
+    requires { ⌜ Sized (now codes) (now operands) (now cycles) (now words) (now extras) × (first + length (now codes) ≤ 65536) × WellFormed state × Fits (now sizes) blocks ⌝ }
+    ensures { λ r. ⌜ ofNext (r .next) (whole (now (sizes .entry)) (r .blocks) (r .state)) ≡ step (codeOf first (now (codes .entry)) (now (operands .entry)) (now (cycles .entry)) (now (words .entry)) (now (extras .entry))) answer (whole (now (sizes .entry)) blocks state) ⌝ }
+    ensures { λ r. ⌜ r .calls ≡ takesAnswer (codeOf first (now (codes .entry)) (now (operands .entry)) (now (cycles .entry)) (now (words .entry)) (now (extras .entry))) (whole (now (sizes .entry)) blocks state) ⌝ }
+    ensures { λ r. ⌜ WellFormed (r .state) × Fits (now (sizes .entry)) (r .blocks) × Small (r .next) ⌝ }
     ensures { λ r. ⌜ Differs (r .change) blocks (r .blocks) ⌝ }
 {
-    let fetched = states::code::fetch(codes, operands, cycles, words, first, state.at);
+    let fetched = states::code::fetch(codes, operands, cycles, words, extras, first, state.at);
     let Fetched::Is(line) = fetched else {
         return Stepped {
             next: Next::Stuck,
@@ -89,8 +90,12 @@ pub fn step(
     let place = outcomes::entry_place(line.code, index, free);
     let drops = outcomes::drops_of(line.code, index);
     let price = Price {
-        cycles: line.cycles,
-        words: line.words,
+        cycles: line.cycles as u64,
+        words: line.words as u64,
+    };
+    let jumped = Price {
+        cycles: (line.cycles as u64) + (line.extra as u64),
+        words: line.words as u64,
     };
     let outcome = outcomes::outcome_of(
         line.code,
@@ -149,9 +154,13 @@ pub fn step(
         Outcome::Goes => {
             state = state.jump(index);
         }
+        Outcome::Jumps => {
+            state = state.jump(index);
+            next = Next::Goes(jumped);
+        }
         Outcome::Opens => {
             state = state.advance();
-            next = Next::Opens(price, index, price);
+            next = Next::Opens(price, index, jumped);
         }
         Outcome::Halts => {
             next = Next::Stops(price);

@@ -10,6 +10,7 @@ use Rattle.cells.proofs.number.Reads as number-reads
 use Rattle.cells.proofs.unknown.Reads as unknown-reads
 use Rattle.findings.proofs.finished.Reads as finished-reads
 use Rattle.findings.proofs.joined.Reads as joined-reads
+use Rattle.findings.proofs.jumped.Reads as jumped-reads
 use Rattle.findings.proofs.more.Reads as more-reads
 use Rattle.findings.proofs.refused.Reads as refused-reads
 use Rattle.outcomes.proofs.drops_of.Reads as drops-of-reads
@@ -54,24 +55,24 @@ use Rattle.states.proofs.StateLaws.{store-formed}
 use Rattle.findings.specs.declared.Found.{Found}
 use Rattle.findings.specs.Found.{refusedAs}
 use Rattle.explore.proofs.TurnLaws.{Prepared, pushes, keeps, same-free, stored-is, Turn, act, starts, overflows, outside}
-use Rattle.explore.proofs.ArmLaws.{Arm, Kept, again, spent-out, stuck-out, over-out, first-out, second-out, both-out, halts-out, sums}
+use Rattle.explore.proofs.ArmLaws.{Arm, Kept, again, again-jumped, tally-small, spent-out, stuck-out, over-out, first-out, second-out, both-out, halts-out, sums}
 
 -- the number of openings
-abbrev μ-explore : Measures 5 explore-kinds.ps ℕ
-μ-explore κs a = a .1 .1 .1 .1 .1 .1 .1 .1 .0
+abbrev μ-explore : Measures 6 explore-kinds.ps ℕ
+μ-explore κs a = a .1 .1 .1 .1 .1 .1 .1 .1 .1 .0
 
-abbrev explore-at : ℕ → In 5 explore-kinds.ps
-explore-at t = and 5 explore-kinds.ps (is 5 explore-kinds.ps μ-explore t) explore.Pre
+abbrev explore-at : ℕ → In 6 explore-kinds.ps
+explore-at t = and 6 explore-kinds.ps (is 6 explore-kinds.ps μ-explore t) explore.Pre
 
-abbrev explore-below : ℕ → In 5 explore-kinds.ps
-explore-below t = and 5 explore-kinds.ps (falls 5 explore-kinds.ps _<_ μ-explore t) explore.Pre
+abbrev explore-below : ℕ → In 6 explore-kinds.ps
+explore-below t = and 6 explore-kinds.ps (falls 6 explore-kinds.ps _<_ μ-explore t) explore.Pre
 
 abbrev Inv-loop : explore-lts.InvT-loop
-Inv-loop codes operands cycles words sizes first openings budget blocks₀ state₀ left₀ tally₀ blocks state left tally =
-    Turn first codes operands cycles words sizes openings budget blocks₀ state₀ blocks state left tally
+Inv-loop codes operands cycles words extras sizes first openings budget blocks₀ state₀ left₀ tally₀ blocks state left tally =
+    Turn first codes operands cycles words extras sizes openings budget blocks₀ state₀ blocks state left tally
 
 abbrev μ-loop : explore-lts.MeasureT-loop
-μ-loop codes operands cycles words sizes first openings budget blocks₀ state₀ left₀ tally₀ blocks state left tally = left
+μ-loop codes operands cycles words extras sizes first openings budget blocks₀ state₀ left₀ tally₀ blocks state left tally = left
 
 abbrev claims : ℕ → explore-lts.Claims
 claims t = (
@@ -105,6 +106,8 @@ claims t = (
   slot-of-reads.Learnt,
   jump-reads.Asked,
   jump-reads.Learnt,
+  jumped-reads.Asked,
+  jumped-reads.Learnt,
   explore-below t,
   explore.Post,
   joined-reads.Asked,
@@ -131,7 +134,7 @@ abbrev Joined : ℕ → Type 0
 Joined t = explore-lts.Joined1 (claims t) (explore-at t) explore.Post Inv-loop μ-loop
 
 abbrev entry : {t : ℕ} → Body t → Entry t
-entry b = b .before .before .before .before .before .before
+entry b = b .before .before .before .before .before .before .before
 
 abbrev body : {t : ℕ} → Lined t → Body t
 body k = k .before .before .before .before
@@ -145,21 +148,25 @@ joined a = a .before .before .before .before .before .before .before .before .be
 abbrev lined : {t : ℕ} → Acted t → Lined t
 lined a = a .before .before .before .before .before .before .before .before .before .before .before .before
 
+-- the array of fields is lent with its 128 places
+places : (t : ℕ) (e : Entry t) → length (e .args .t9) ≡ 128
+places t e = search (needs, length-images)
+
 module _ (t : ℕ) (k : Lined t) where
-  found : done (lineOf (line k)) ≡ fetch (codeOf (entry (body k) .args .first) (entry (body k) .args .codes .now) (entry (body k) .args .operands .now) (entry (body k) .args .cycles .now) (entry (body k) .args .words .now)) (body k .before .loop .state .at)
+  found : done (lineOf (line k)) ≡ fetch (codeOf (entry (body k) .args .first) (entry (body k) .args .codes .now) (entry (body k) .args .operands .now) (entry (body k) .args .cycles .now) (entry (body k) .args .words .now) (entry (body k) .args .extras .now)) (body k .before .loop .state .at)
   found = ap ofFetched (sym (k .before .fetched .given .1)) ∙ k .before .before .before .fetch .ensures .0
 
   known : line k .code ≤ 22
   known = subst Known (k .before .fetched .given .1) (k .before .before .before .fetch .ensures .1)
 
-  small : (line k .cycles < 4294967296) × (line k .words < 4294967296)
+  small : (line k .cycles < 4294967296) × ((line k .words < 4294967296) × (line k .extra < 4294967296))
   small = search needs
 
   -- the code's address is low
   low : body k .before .loop .state .at < 65536
   low =
       let e : Entry t = entry (body k) in
-      omega (arith, fetch-within (e .args .first) (e .args .codes .now) (e .args .operands .now) (e .args .cycles .now) (e .args .words .now) (body k .before .loop .state .at) (lineOf (line k)) (sym found), e .pre .1 .1 .addresses)
+      omega (arith, fetch-within (e .args .first) (e .args .codes .now) (e .args .operands .now) (e .args .cycles .now) (e .args .words .now) (e .args .extras .now) (body k .before .loop .state .at) (lineOf (line k)) (sym found), e .pre .1 .1 .addresses)
 
 module _ (t : ℕ) (j : Joined t) where
   -- the states before and after the push
@@ -190,8 +197,8 @@ module _ (t : ℕ) (a : Acted t) where
   fitting : SFits w32 (line (lined a) .operand)
   fitting = search needs
 
-  arm : Arm (entry b .args .first) (entry b .args .codes .now) (entry b .args .operands .now) (entry b .args .cycles .now) (entry b .args .words .now) (entry b .args .sizes .now)
-      (entry b .args .openings) (entry b .args .budget) (entry b .args .t8) (entry b .args .start)
+  arm : Arm (entry b .args .first) (entry b .args .codes .now) (entry b .args .operands .now) (entry b .args .cycles .now) (entry b .args .words .now) (entry b .args .extras .now) (entry b .args .sizes .now)
+      (entry b .args .openings) (entry b .args .budget) (entry b .args .t9) (entry b .args .start)
       (b .before .loop .blocks) (s t (joined a)) (b .before .loop .left) (b .before .loop .tally) (line (lined a)) (a .before .before .before .before .before .before .before .before .before .before .before .more .result) (u t (joined a)) n element (a .outcome-of .result)
   arm = record {
     turn = b .before .loop .inv;
@@ -199,7 +206,7 @@ module _ (t : ℕ) (a : Acted t) where
     small = small t (lined a);
     grown = a .before .before .before .before .before .before .before .before .before .before .before .more .ensures;
     arm =
-        arms.arm (codeOf (entry b .args .first) (entry b .args .codes .now) (entry b .args .operands .now) (entry b .args .cycles .now) (entry b .args .words .now)) unknown (entry b .args .sizes .now) (b .before .loop .blocks) (s t (joined a)) (u t (joined a)) (line (lined a))
+        arms.arm (codeOf (entry b .args .first) (entry b .args .codes .now) (entry b .args .operands .now) (entry b .args .cycles .now) (entry b .args .words .now) (entry b .args .extras .now)) unknown (entry b .args .sizes .now) (b .before .loop .blocks) (s t (joined a)) (u t (joined a)) (line (lined a))
         (sym (found t (lined a))) (prepared t (joined a) .ready) (prepared t (joined a) .formed) (b .before .loop .inv .fits) n (a .before .before .before .before .before .before .entry-place .result) element (cell (Number (pos 0))) (a .outcome-of .result)
         (a .before .before .before .before .before .before .before .index-of .ensures .0 ∙ ap index (toZ-ofZ w32 _ fitting)) (a .before .before .before .before .before .before .entry-place .ensures) refl
         (a .outcome-of .ensures
@@ -209,7 +216,7 @@ module _ (t : ℕ) (a : Acted t) where
 
   -- the array of fields has its 128 places
   within : length (b .before .loop .blocks) ≡ 128
-  within = let e : Entry t = entry b in let h : length (e .args .t8) ≡ 128 = search (needs, length-images) in b .before .loop .inv .size ∙ h
+  within = b .before .loop .inv .size ∙ places t (entry b)
 
 -- what an operation on cells gave
 operated-is : (t : ℕ) (c : explore-lts.After-operated (claims t) (explore-at t) explore.Post Inv-loop μ-loop) →
@@ -220,23 +227,23 @@ operated-is t c = let a : Acted t = c .before .before .before .before .before .b
 
 module _ (t : ℕ) (b : Body t) where
   abbrev keeps-at : Found → Type 0
-  keeps-at = Kept (entry b .args .first) (entry b .args .codes .now) (entry b .args .operands .now) (entry b .args .cycles .now) (entry b .args .words .now) (entry b .args .sizes .now) (entry b .args .openings) (entry b .args .budget) (entry b .args .t8) (entry b .args .start)
+  keeps-at = Kept (entry b .args .first) (entry b .args .codes .now) (entry b .args .operands .now) (entry b .args .cycles .now) (entry b .args .words .now) (entry b .args .extras .now) (entry b .args .sizes .now) (entry b .args .openings) (entry b .args .budget) (entry b .args .t9) (entry b .args .start)
 
-  stuck-kept : act (entry b .args .first) (entry b .args .codes .now) (entry b .args .operands .now) (entry b .args .cycles .now) (entry b .args .words .now) (entry b .args .sizes .now) (entry b .args .openings) (entry b .args .budget) (entry b .args .t8) (entry b .args .start)
+  stuck-kept : act (entry b .args .first) (entry b .args .codes .now) (entry b .args .operands .now) (entry b .args .cycles .now) (entry b .args .words .now) (entry b .args .extras .now) (entry b .args .sizes .now) (entry b .args .openings) (entry b .args .budget) (entry b .args .t9) (entry b .args .start)
       (whole (entry b .args .sizes .now) (b .before .loop .blocks) (b .before .loop .state)) ≡ stuck →
       (r : Found) → r ≡ refusedAs (refusals.Stuck (b .before .loop .state .at)) (entry b .args .budget - b .before .loop .left + 1) → keeps-at r
   stuck-kept e r f = stuck-out (b .before .loop .inv) (b .loop-test .taken) e r f
 
-  outside-kept : stuck ≡ fetch (codeOf (entry b .args .first) (entry b .args .codes .now) (entry b .args .operands .now) (entry b .args .cycles .now) (entry b .args .words .now)) (b .before .loop .state .at) →
+  outside-kept : stuck ≡ fetch (codeOf (entry b .args .first) (entry b .args .codes .now) (entry b .args .operands .now) (entry b .args .cycles .now) (entry b .args .words .now) (entry b .args .extras .now)) (b .before .loop .state .at) →
       (r : Found) → r ≡ refusedAs (refusals.Stuck (b .before .loop .state .at)) (entry b .args .budget - b .before .loop .left + 1) → keeps-at r
   outside-kept e =
-      stuck-kept (outside (entry b .args .first) (entry b .args .codes .now) (entry b .args .operands .now) (entry b .args .cycles .now) (entry b .args .words .now) (entry b .args .sizes .now) (entry b .args .openings) (entry b .args .budget) (entry b .args .t8) (entry b .args .start)
+      stuck-kept (outside (entry b .args .first) (entry b .args .codes .now) (entry b .args .operands .now) (entry b .args .cycles .now) (entry b .args .words .now) (entry b .args .extras .now) (entry b .args .sizes .now) (entry b .args .openings) (entry b .args .budget) (entry b .args .t9) (entry b .args .start)
       (b .before .loop .blocks) (b .before .loop .state) e)
 
 -- ---- the needs, in the order of the code
 
 loop-holds : (t : ℕ) → explore-lts.Need-loop-holds (claims t) (explore-at t) explore.Post Inv-loop μ-loop
-loop-holds t c = let e : Entry t = c .before .before .before .before in starts _ _ _ _ _ _ _ _ _ _ (e .pre .1 .1 .formed) (e .pre .1 .1 .fits)
+loop-holds t c = let e : Entry t = c .before .before .before .before .before in starts _ _ _ _ _ _ _ _ _ _ _ (e .pre .1 .1 .formed) (e .pre .1 .1 .fits)
 
 sub-used : (t : ℕ) → explore-lts.Need-sub-used (claims t) (explore-at t) explore.Post Inv-loop μ-loop
 sub-used t c = search needs
@@ -248,7 +255,7 @@ sub-left : (t : ℕ) → explore-lts.Need-sub-left (claims t) (explore-at t) exp
 sub-left t c = search needs
 
 fetch-requires : (t : ℕ) → explore-lts.Need-fetch-requires (claims t) (explore-at t) explore.Post Inv-loop μ-loop
-fetch-requires t c κs = c .before .before .before .before .before .before .pre .1 .0
+fetch-requires t c κs = c .before .before .before .before .before .before .before .pre .1 .0
 
 enum-known-fetched : (t : ℕ) → explore-lts.Need-enum-known-fetched (claims t) (explore-at t) explore.Post Inv-loop μ-loop
 enum-known-fetched t c = search needs
@@ -286,7 +293,7 @@ returns-2 t c =
     let b : Body t = body l in
     let s = b .before .loop .state in
     let v = c .before .before .before .advance in
-    let k = stuck-kept t b (overflows _ _ _ _ _ _ (entry b .args .openings) (entry b .args .budget) (entry b .args .t8) (entry b .args .start) (b .before .loop .blocks) s (line l) (found t l) (c .before .before .if1 .taken) (b .before .loop .inv .formed) (sym (same-free (entry b .args .sizes .now) (b .before .loop .blocks) (line l) s s (v .result) (v .ensures .0) (v .ensures .1) (b .before .loop .inv .formed)) ∙ c .before .if2 .taken)) _ (c .refused2 .ensures) in
+    let k = stuck-kept t b (overflows _ _ _ _ _ _ _ (entry b .args .openings) (entry b .args .budget) (entry b .args .t9) (entry b .args .start) (b .before .loop .blocks) s (line l) (found t l) (c .before .before .if1 .taken) (b .before .loop .inv .formed) (sym (same-free (entry b .args .sizes .now) (b .before .loop .blocks) (line l) s s (v .result) (v .ensures .0) (v .ensures .1) (b .before .loop .inv .formed)) ∙ c .before .if2 .taken)) _ (c .refused2 .ensures) in
     (k .explored, (k .safe, (k .exact, k .bounded)))
 
 sub-top : (t : ℕ) → explore-lts.Need-sub-top (claims t) (explore-at t) explore.Post Inv-loop μ-loop
@@ -511,10 +518,27 @@ loop-less-6 t c = let a : Acted t = c .before .before .before in omega (arith, b
 loop-again-6 : (t : ℕ) → explore-lts.Need-loop-again-6 (claims t) (explore-at t) explore.Post Inv-loop μ-loop
 loop-again-6 t c =
     let a : Acted t = c .before .before .before in
-    again (arm t a) _ (c .jump .result) (arms.jumps (arm t a .arm) (c .jump .result) (c .before .enum-told8 .given .1) (c .jump .ensures .0)) (c .jump .ensures .1) (arm t a .turn .fits) refl
+    again (arm t a) _ (c .jump .result) (arms.branches (arm t a .arm) (c .jump .result) (c .jump .ensures .0) (c .before .enum-told8 .given .1)) (c .jump .ensures .1) (arm t a .turn .fits) refl
 
 enum-told-9 : (t : ℕ) → explore-lts.Need-enum-told-9 (claims t) (explore-at t) explore.Post Inv-loop μ-loop
 enum-told-9 t c = search needs
+
+jumped-requires : (t : ℕ) → explore-lts.Need-jumped-requires (claims t) (explore-at t) explore.Post Inv-loop μ-loop
+jumped-requires t c κs = let a : Acted t = c .before .before in tally-small (arm t a) (entry (body (lined a)) .pre .1 .1 .budget-fits)
+
+jump-requires-2 : (t : ℕ) → explore-lts.Need-jump-requires-2 (claims t) (explore-at t) explore.Post Inv-loop μ-loop
+jump-requires-2 t c κs = let a : Acted t = c .before .before .before in prepared t (joined a) .formed
+
+loop-less-7 : (t : ℕ) → explore-lts.Need-loop-less-7 (claims t) (explore-at t) explore.Post Inv-loop μ-loop
+loop-less-7 t c = let a : Acted t = c .before .before .before .before in omega (arith, body (lined a) .loop-test .taken)
+
+loop-again-7 : (t : ℕ) → explore-lts.Need-loop-again-7 (claims t) (explore-at t) explore.Post Inv-loop μ-loop
+loop-again-7 t c =
+    let a : Acted t = c .before .before .before .before in
+    again-jumped (arm t a) (c .before .jumped .result) (c .before .jumped .ensures) _ (c .jump2 .result) (arms.jumps (arm t a .arm) (c .jump2 .result) (c .jump2 .ensures .0) (c .before .before .enum-told9 .given .1)) (c .jump2 .ensures .1) (arm t a .turn .fits) refl
+
+enum-told-10 : (t : ℕ) → explore-lts.Need-enum-told-10 (claims t) (explore-at t) explore.Post Inv-loop μ-loop
+enum-told-10 t c = search needs
 
 refused-requires-6 : (t : ℕ) → explore-lts.Need-refused-requires-6 (claims t) (explore-at t) explore.Post Inv-loop μ-loop
 refused-requires-6 t c κs = search needs
@@ -522,7 +546,7 @@ refused-requires-6 t c κs = search needs
 returns-6 : (t : ℕ) → explore-lts.Need-returns-6 (claims t) (explore-at t) explore.Post Inv-loop μ-loop
 returns-6 t c =
     let a : Acted t = c .before .before .before .before in
-    let k = over-out (arm t a) (c .before .before .enum-told9 .given .1) (c .before .if3 .taken) _ (c .refused6 .ensures) in
+    let k = over-out (arm t a) (c .before .before .enum-told10 .given .1) (c .before .if3 .taken) _ (c .refused6 .ensures) in
     (k .explored, (k .safe, (k .exact, k .bounded)))
 
 sub-explore : (t : ℕ) → explore-lts.Need-sub-explore (claims t) (explore-at t) explore.Post Inv-loop μ-loop
@@ -549,17 +573,17 @@ refused-requires-7 t c κs = search needs
 returns-7 : (t : ℕ) → explore-lts.Need-returns-7 (claims t) (explore-at t) explore.Post Inv-loop μ-loop
 returns-7 t c =
     let a : Acted t = c .before .before .before .before .before .before .before .before .before in
-    let k = first-out (arm t a) (c .before .before .before .before .before .before .before .enum-told9 .given .1) (omega (arith, c .before .before .before .before .before .before .if3 .left)) (c .before .before .before .before .before .explore .result) (c .before .before .before .before .before .explore .ensures .0) (c .before .before .before .before .before .explore .ensures .1 .1 .1) _ (c .before .before .before .first-verdict .given .1) _ (c .refused7 .ensures) in
+    let k = first-out (arm t a) (c .before .before .before .before .before .before .before .enum-told10 .given .1) (omega (arith, c .before .before .before .before .before .before .if3 .left)) (c .before .before .before .before .before .explore .result) (c .before .before .before .before .before .explore .ensures .0) (c .before .before .before .before .before .explore .ensures .1 .1 .1) _ (c .before .before .before .first-verdict .given .1) _ (c .refused7 .ensures) in
     (k .explored, (k .safe, (k .exact, k .bounded)))
 
-enum-told-10 : (t : ℕ) → explore-lts.Need-enum-told-10 (claims t) (explore-at t) explore.Post Inv-loop μ-loop
-enum-told-10 t c = search needs
+enum-told-11 : (t : ℕ) → explore-lts.Need-enum-told-11 (claims t) (explore-at t) explore.Post Inv-loop μ-loop
+enum-told-11 t c = search needs
 
 sub-rest : (t : ℕ) → explore-lts.Need-sub-rest (claims t) (explore-at t) explore.Post Inv-loop μ-loop
 sub-rest t c = c .before .before .before .explore .ensures .1 .1 .1 .used
 
-jump-requires-2 : (t : ℕ) → explore-lts.Need-jump-requires-2 (claims t) (explore-at t) explore.Post Inv-loop μ-loop
-jump-requires-2 t c κs = let a : Acted t = c .before .before .before .before .before .before .before in prepared t (joined a) .formed
+jump-requires-3 : (t : ℕ) → explore-lts.Need-jump-requires-3 (claims t) (explore-at t) explore.Post Inv-loop μ-loop
+jump-requires-3 t c κs = let a : Acted t = c .before .before .before .before .before .before .before in prepared t (joined a) .formed
 
 sub-explore-2 : (t : ℕ) → explore-lts.Need-sub-explore-2 (claims t) (explore-at t) explore.Post Inv-loop μ-loop
 sub-explore-2 t c = omega (arith, c .before .before .before .before .before .if3 .left)
@@ -568,7 +592,7 @@ explore-requires-2 : (t : ℕ) → explore-lts.Need-explore-requires-2 (claims t
 explore-requires-2 t c κs =
     let a : Acted t = c .before .before .before .before .before .before .before .before in
     let b : Body t = body (lined a) in
-    (omega (arith, c .before .before .before .before .before .if3 .left, entry b .pre .0), (entry b .pre .1 .0, record { addresses = entry b .pre .1 .1 .addresses; formed = c .jump2 .ensures .1; budget-fits = omega (arith, entry b .pre .1 .1 .budget-fits, b .before .loop .inv .inv .within); openings-fit = omega (arith, entry b .pre .1 .1 .openings-fit); fits = b .before .loop .inv .fits }))
+    (omega (arith, c .before .before .before .before .before .if3 .left, entry b .pre .0), (entry b .pre .1 .0, record { addresses = entry b .pre .1 .1 .addresses; formed = c .jump3 .ensures .1; budget-fits = omega (arith, entry b .pre .1 .1 .budget-fits, b .before .loop .inv .inv .within); openings-fit = omega (arith, entry b .pre .1 .1 .openings-fit); fits = b .before .loop .inv .fits }))
 
 enum-known-second-verdict : (t : ℕ) → explore-lts.Need-enum-known-second-verdict (claims t) (explore-at t) explore.Post Inv-loop μ-loop
 enum-known-second-verdict t c = search needs
@@ -591,26 +615,26 @@ refused-requires-8 t c κs = search needs
 returns-8 : (t : ℕ) → explore-lts.Need-returns-8 (claims t) (explore-at t) explore.Post Inv-loop μ-loop
 returns-8 t c =
     let a : Acted t = c .before .before .before .before .before .before .before .before .before .before .before .before .before .before .before in
-    let k = second-out (arm t a) (c .before .before .before .before .before .before .before .before .before .before .before .before .before .enum-told9 .given .1) (omega (arith, c .before .before .before .before .before .before .before .before .before .before .before .before .if3 .left)) (c .before .before .before .before .before .before .before .before .before .before .before .explore .result) (c .before .before .before .before .before .before .before .before .before .before .before .explore .ensures .0) (c .before .before .before .before .before .before .before .before .before .before .before .explore .ensures .1 .1 .1) (c .before .before .before .before .before .before .before .before .before .enum-told10 .given .1) (c .before .before .before .before .before .before .before .jump2 .result) (c .before .before .before .before .before .before .before .jump2 .ensures .0) (c .before .before .before .before .before .before .explore2 .result) (c .before .before .before .before .before .before .explore2 .ensures .0) (c .before .before .before .before .before .before .explore2 .ensures .1 .1 .1) _ (c .before .before .before .before .second-verdict .given .1) _ (c .refused8 .ensures) in
+    let k = second-out (arm t a) (c .before .before .before .before .before .before .before .before .before .before .before .before .before .enum-told10 .given .1) (omega (arith, c .before .before .before .before .before .before .before .before .before .before .before .before .if3 .left)) (c .before .before .before .before .before .before .before .before .before .before .before .explore .result) (c .before .before .before .before .before .before .before .before .before .before .before .explore .ensures .0) (c .before .before .before .before .before .before .before .before .before .before .before .explore .ensures .1 .1 .1) (c .before .before .before .before .before .before .before .before .before .enum-told11 .given .1) (c .before .before .before .before .before .before .before .jump3 .result) (c .before .before .before .before .before .before .before .jump3 .ensures .0) (c .before .before .before .before .before .before .explore2 .result) (c .before .before .before .before .before .before .explore2 .ensures .0) (c .before .before .before .before .before .before .explore2 .ensures .1 .1 .1) _ (c .before .before .before .before .second-verdict .given .1) _ (c .refused8 .ensures) in
     (k .explored, (k .safe, (k .exact, k .bounded)))
 
-enum-told-11 : (t : ℕ) → explore-lts.Need-enum-told-11 (claims t) (explore-at t) explore.Post Inv-loop μ-loop
-enum-told-11 t c = search needs
+enum-told-12 : (t : ℕ) → explore-lts.Need-enum-told-12 (claims t) (explore-at t) explore.Post Inv-loop μ-loop
+enum-told-12 t c = search needs
 
 joined-requires : (t : ℕ) → explore-lts.Need-joined-requires (claims t) (explore-at t) explore.Post Inv-loop μ-loop
 joined-requires t c κs =
     let a : Acted t = c .before .before .before .before .before .before .before .before .before .before .before in
     let b : Body t = body (lined a) in
-    sums (arm t a) (c .before .before .before .before .before .before .before .before .before .enum-told9 .given .1) (omega (arith, c .before .before .before .before .before .before .before .before .if3 .left)) (c .before .before .before .before .before .before .before .explore .result) (c .before .before .before .before .before .before .before .explore .ensures .0) (c .before .before .before .before .before .before .before .explore .ensures .1 .1 .1) (c .before .before .before .before .before .enum-told10 .given .1) (c .before .before .before .jump2 .result) (c .before .before .before .jump2 .ensures .0) (c .before .before .explore2 .result) (c .before .before .explore2 .ensures .0) (c .before .before .explore2 .ensures .1 .1 .1) (entry b .pre .1 .1 .openings-fit) (entry b .pre .1 .1 .budget-fits)
+    sums (arm t a) (c .before .before .before .before .before .before .before .before .before .enum-told10 .given .1) (omega (arith, c .before .before .before .before .before .before .before .before .if3 .left)) (c .before .before .before .before .before .before .before .explore .result) (c .before .before .before .before .before .before .before .explore .ensures .0) (c .before .before .before .before .before .before .before .explore .ensures .1 .1 .1) (c .before .before .before .before .before .enum-told11 .given .1) (c .before .before .before .jump3 .result) (c .before .before .before .jump3 .ensures .0) (c .before .before .explore2 .result) (c .before .before .explore2 .ensures .0) (c .before .before .explore2 .ensures .1 .1 .1) (entry b .pre .1 .1 .openings-fit) (entry b .pre .1 .1 .budget-fits)
 
 returns-9 : (t : ℕ) → explore-lts.Need-returns-9 (claims t) (explore-at t) explore.Post Inv-loop μ-loop
 returns-9 t c =
     let a : Acted t = c .before .before .before .before .before .before .before .before .before .before .before .before in
-    let k = both-out (arm t a) (c .before .before .before .before .before .before .before .before .before .before .enum-told9 .given .1) (omega (arith, c .before .before .before .before .before .before .before .before .before .if3 .left)) (c .before .before .before .before .before .before .before .before .explore .result) (c .before .before .before .before .before .before .before .before .explore .ensures .0) (c .before .before .before .before .before .before .before .before .explore .ensures .1 .1 .1) (c .before .before .before .before .before .before .enum-told10 .given .1) (c .before .before .before .before .jump2 .result) (c .before .before .before .before .jump2 .ensures .0) (c .before .before .before .explore2 .result) (c .before .before .before .explore2 .ensures .0) (c .before .before .before .explore2 .ensures .1 .1 .1) (c .before .enum-told11 .given .1) _ (c .joined .ensures) in
+    let k = both-out (arm t a) (c .before .before .before .before .before .before .before .before .before .before .enum-told10 .given .1) (omega (arith, c .before .before .before .before .before .before .before .before .before .if3 .left)) (c .before .before .before .before .before .before .before .before .explore .result) (c .before .before .before .before .before .before .before .before .explore .ensures .0) (c .before .before .before .before .before .before .before .before .explore .ensures .1 .1 .1) (c .before .before .before .before .before .before .enum-told11 .given .1) (c .before .before .before .before .jump3 .result) (c .before .before .before .before .jump3 .ensures .0) (c .before .before .before .explore2 .result) (c .before .before .before .explore2 .ensures .0) (c .before .before .before .explore2 .ensures .1 .1 .1) (c .before .enum-told12 .given .1) _ (c .joined .ensures) in
     (k .explored, (k .safe, (k .exact, k .bounded)))
 
-enum-told-12 : (t : ℕ) → explore-lts.Need-enum-told-12 (claims t) (explore-at t) explore.Post Inv-loop μ-loop
-enum-told-12 t c = search needs
+enum-told-13 : (t : ℕ) → explore-lts.Need-enum-told-13 (claims t) (explore-at t) explore.Post Inv-loop μ-loop
+enum-told-13 t c = search needs
 
 finished-requires : (t : ℕ) → explore-lts.Need-finished-requires (claims t) (explore-at t) explore.Post Inv-loop μ-loop
 finished-requires t c κs = search needs
@@ -618,11 +642,11 @@ finished-requires t c κs = search needs
 returns-10 : (t : ℕ) → explore-lts.Need-returns-10 (claims t) (explore-at t) explore.Post Inv-loop μ-loop
 returns-10 t c =
     let a : Acted t = c .before .before .before in
-    let k = halts-out (arm t a) (c .before .enum-told12 .given .1) _ (c .finished .ensures) in
+    let k = halts-out (arm t a) (c .before .enum-told13 .given .1) _ (c .finished .ensures) in
     (k .explored, (k .safe, (k .exact, k .bounded)))
 
-enum-told-13 : (t : ℕ) → explore-lts.Need-enum-told-13 (claims t) (explore-at t) explore.Post Inv-loop μ-loop
-enum-told-13 t c = search needs
+enum-told-14 : (t : ℕ) → explore-lts.Need-enum-told-14 (claims t) (explore-at t) explore.Post Inv-loop μ-loop
+enum-told-14 t c = search needs
 
 refused-requires-9 : (t : ℕ) → explore-lts.Need-refused-requires-9 (claims t) (explore-at t) explore.Post Inv-loop μ-loop
 refused-requires-9 t c κs = search needs
@@ -630,7 +654,7 @@ refused-requires-9 t c κs = search needs
 returns-11 : (t : ℕ) → explore-lts.Need-returns-11 (claims t) (explore-at t) explore.Post Inv-loop μ-loop
 returns-11 t c =
     let a : Acted t = c .before .before .before in
-    let k = stuck-kept t (body (lined a)) (arms.is-stuck (arm t a .arm) (c .before .enum-told13 .given .1)) _ (c .refused9 .ensures) in
+    let k = stuck-kept t (body (lined a)) (arms.is-stuck (arm t a .arm) (c .before .enum-told14 .given .1)) _ (c .refused9 .ensures) in
     (k .explored, (k .safe, (k .exact, k .bounded)))
 
 refused-requires-10 : (t : ℕ) → explore-lts.Need-refused-requires-10 (claims t) (explore-at t) explore.Post Inv-loop μ-loop
@@ -724,6 +748,11 @@ pub +explore-spec : {M : Type 1} → statement M
     (loop-less-6 t)
     (loop-again-6 t)
     (enum-told-9 t)
+    (jumped-requires t)
+    (jump-requires-2 t)
+    (loop-less-7 t)
+    (loop-again-7 t)
+    (enum-told-10 t)
     (refused-requires-6 t)
     (returns-6 t)
     (sub-explore t)
@@ -732,9 +761,9 @@ pub +explore-spec : {M : Type 1} → statement M
     (add-refused t)
     (refused-requires-7 t)
     (returns-7 t)
-    (enum-told-10 t)
+    (enum-told-11 t)
     (sub-rest t)
-    (jump-requires-2 t)
+    (jump-requires-3 t)
     (sub-explore-2 t)
     (explore-requires-2 t)
     (enum-known-second-verdict t)
@@ -742,13 +771,13 @@ pub +explore-spec : {M : Type 1} → statement M
     (add-refused-3 t)
     (refused-requires-8 t)
     (returns-8 t)
-    (enum-told-11 t)
+    (enum-told-12 t)
     (joined-requires t)
     (returns-9 t)
-    (enum-told-12 t)
+    (enum-told-13 t)
     (finished-requires t)
     (returns-10 t)
-    (enum-told-13 t)
+    (enum-told-14 t)
     (refused-requires-9 t)
     (returns-11 t)
     (refused-requires-10 t)

@@ -5,11 +5,11 @@ use Rattle.interrupts.proofs.interrupt.Statement.{statement}
 use Rattle.interrupts.proofs.interrupt.Tie as tie
 
 after-requires : tie.Need-after-requires
-after-requires c κs = let s = c .before .before .before .before in (s .pre .0, s .pre .1 .0)
+after-requires c κs = let s = c .before .before .before .before .before in (s .pre .0, s .pre .1 .0)
 
 afresh-requires : tie.Need-afresh-requires
 afresh-requires c κs =
-    let s = c .before .before .before .before .before .before .before in
+    let s = c .before .before .before .before .before .before .before .before in
     (s .pre .0, reached-explorable _ _ _ _ _ _ _ (s .pre .1 .0) (s .pre .1 .1) _ _ (search (s .pre .1 .0, c .before .before .after .ensures .1 .1)))
 
 numbers-of-requires : tie.Need-numbers-of-requires

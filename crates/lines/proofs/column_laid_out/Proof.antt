@@ -7,7 +7,7 @@ use denote.Enum.Declared.{tagOf}
 use Rattle.text.specs.Text.{all}
 use Rattle.text.specs.Decimal.{numeral}
 use Rattle.routine.specs.declared.Column.{Column}
-use Rattle.routine.specs.declared.Column.the-variants.{Limit, Cycles, Words, Cell}
+use Rattle.routine.specs.declared.Column.the-variants.{Limit, Cycles, Words, Extra, Cell}
 use Rattle.routine.specs.Layout.{list}
 use Rattle.routine.specs.Rows.{isNumeral, columnLaidOut}
 use Rattle.routine.proofs.Column.{the-type}
@@ -18,12 +18,13 @@ use Rattle.lines.proofs.column_laid_out.Statement.{statement}
 use Rattle.lines.proofs.column_laid_out.Tie as tie
 
 -- the columns of numbers, by the variants' numbers
-not-cells : (c : Column) (ws : List (List ℕ)) → OneOf (0 ∷ 1 ∷ 2 ∷ []) (tagOf the-type c) → all (λ w. isNumeral (numeral w)) ws ≡ columnLaidOut c ws
+not-cells : (c : Column) (ws : List (List ℕ)) → OneOf (0 ∷ 1 ∷ 2 ∷ 3 ∷ []) (tagOf the-type c) → all (λ w. isNumeral (numeral w)) ws ≡ columnLaidOut c ws
 unfolding columnLaidOut
 not-cells Limit ws o = refl
 not-cells Cycles ws o = refl
 not-cells Words ws o = refl
-not-cells Cell ws o = absurd (miss (0 ∷ 1 ∷ 2 ∷ []) 3 tt o)
+not-cells Extra ws o = refl
+not-cells Cell ws o = absurd (miss (0 ∷ 1 ∷ 2 ∷ 3 ∷ []) 4 tt o)
 
 enum-told : tie.Need-enum-told
 enum-told c = search needs

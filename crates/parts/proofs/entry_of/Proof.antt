@@ -1,6 +1,6 @@
 -- `parts::entry_of` meets its contract. Assumes nothing.
 use Prim.Native.Nat.{ℕ, _<_}
-use mathlib.Core.Path.{_≡_, ap, _∙_}
+use mathlib.Core.Path.{_≡_, ap, ap₂, _∙_}
 use mathlib.Core.List.{List}
 use native.Mathlib.Omega.{arith}
 use mir.Syntax.{w32}
@@ -9,8 +9,9 @@ use Rattle.text.specs.Text.{find}
 use Rattle.instructions.specs.Kinds.{kindNames, operand}
 use Rattle.instructions.specs.Columns.{kindAt}
 use Rattle.instructions.proofs.ColumnLaws.{kind-small}
+use Rattle.routine.specs.Layout.{list}
 use Rattle.routine.specs.Rows.{op}
-use Rattle.routine.specs.Routine.{argumentValue}
+use Rattle.routine.specs.Routine.{naturalAt, argumentValue}
 use Rattle.parts.specs.Parts.{pricesOn}
 use Rattle.parts.proofs.EntryLaws.{found, Read, entry-is, code-small, same-price}
 use borrow.Author.Needs.{needs}
@@ -18,11 +19,11 @@ use Rattle.parts.proofs.entry_of.Statement.{statement}
 use Rattle.parts.proofs.entry_of.Tie as tie
 
 -- the kind by its place in the table
-kind-is : (c : tie.After-index-of) → c .index-of .result ≡ find (op (c .before .before .before .before .before .before .before .before .before .before .before .args .text .now)) kindNames
+kind-is : (c : tie.After-index-of) → c .index-of .result ≡ find (op (c .before .before .before .before .before .before .before .before .before .before .before .before .args .text .now)) kindNames
 kind-is c = found kindNames _ _ _ (c .index-of .ensures) (c .before .kind-named .ensures) (c .before .before .before .word-at .ensures)
 
 kind-low : (c : tie.After-index-of) → c .index-of .result < 61
-kind-low c = omega (arith, kind-is c, kind-small (op (c .before .before .before .before .before .before .before .before .before .before .before .args .text .now)))
+kind-low c = omega (arith, kind-is c, kind-small (op (c .before .before .before .before .before .before .before .before .before .before .before .before .args .text .now)))
 
 word-at-requires : tie.Need-word-at-requires
 word-at-requires c κs = search needs
@@ -69,27 +70,35 @@ word-counts-requires c κs = search needs
 price-of-requires-2 : tie.Need-price-of-requires-2
 price-of-requires-2 c κs = record { greatest = 255; is = c .word-counts .ensures; small = omega arith }
 
+extra-counts-requires : tie.Need-extra-counts-requires
+extra-counts-requires c κs = search needs
+
+natural-at-requires : tie.Need-natural-at-requires
+natural-at-requires c κs = record { least = 0; greatest = 65535; is = c .extra-counts .ensures; small = (omega arith, omega arith) }
+
 returns : tie.Need-returns
 returns c =
-    let kind = c .before .before .before .before .before .before .before .before .before .before .before in
-    let start = kind .before .before .before .before .before .before .before .before .before .before .before in
+    let kind = c .before .before .before .before .before .before .before .before .before .before .before .before .before in
+    let start = kind .before .before .before .before .before .before .before .before .before .before .before .before in
     let k = kind .index-of .result in
     let text = start .args .text .now in
     let ks = pricesOn (start .args .kinds .now) (start .args .kind-cycles .now) (start .args .kind-words .now) in
     let ps = pricesOn (start .args .primitives .now) (start .args .primitive-cycles .now) (start .args .primitive-words .now) in
     let o = kind .before .before .before .word-at .ensures in
     let a = kind .before .before .word-at2 .ensures in
-    let i = found (ks .names) _ _ _ (c .before .before .before .before .before .before .before .before .index-of2 .ensures) (c .before .before .before .before .before .before .before .before .before .place-listed .ensures) o in
-    let j = found (ps .names) _ _ _ (c .before .before .before .before .before .before .index-of3 .ensures) (c .before .before .before .before .before .before .before .place-listed2 .ensures) a in
-    let t = c .before .before .before .before .before .before .before .before .before .before .calls-at .ensures in
-    let r : Read ks ps text (kindAt k) _ _ _ _ =
+    let i = found (ks .names) _ _ _ (c .before .before .before .before .before .before .before .before .before .before .index-of2 .ensures) (c .before .before .before .before .before .before .before .before .before .before .before .place-listed .ensures) o in
+    let j = found (ps .names) _ _ _ (c .before .before .before .before .before .before .before .before .index-of3 .ensures) (c .before .before .before .before .before .before .before .before .before .place-listed2 .ensures) a in
+    let t = c .before .before .before .before .before .before .before .before .before .before .before .before .calls-at .ensures in
+    let xs = list (start .args .kind-extras .now) in
+    let r : Read ks xs ps text (kindAt k) _ _ _ _ _ =
     record {
-      coded = c .before .before .before .before .before .code-of .ensures;
-      operand = λ ns. toZ-ofZ w32 (c .before .before .before .before .operand-of .result) (search needs) ∙ c .before .before .before .before .operand-of .ensures ns ∙ ap (λ (w : List ℕ). operand (kindAt k) (argumentValue ns w (kindAt k .argument))) a;
-      cycles = same-price (ks .cycles) (ps .cycles) (c .before .before .before .cycle-counts .ensures) i t j (c .before .before .price-of .ensures);
-      words = same-price (ks .words) (ps .words) (c .before .word-counts .ensures) i t j (c .price-of2 .ensures);
+      coded = c .before .before .before .before .before .before .before .code-of .ensures;
+      operand = λ ns. toZ-ofZ w32 (c .before .before .before .before .before .before .operand-of .result) (search needs) ∙ c .before .before .before .before .before .before .operand-of .ensures ns ∙ ap (λ (w : List ℕ). operand (kindAt k) (argumentValue ns w (kindAt k .argument))) a;
+      cycles = same-price (ks .cycles) (ps .cycles) (c .before .before .before .before .before .cycle-counts .ensures) i t j (c .before .before .before .before .price-of .ensures);
+      words = same-price (ks .words) (ps .words) (c .before .before .before .word-counts .ensures) i t j (c .before .before .price-of2 .ensures);
+      extra = c .natural-at .ensures ∙ ap₂ (λ q n. naturalAt q xs n) (c .before .extra-counts .ensures) i;
     } in
-    (entry-is ks ps text (kindAt k) _ _ _ _ r (ap kindAt (kind-is kind)), code-small ks ps text (kindAt k) _ _ _ _ r)
+    (entry-is ks xs ps text (kindAt k) _ _ _ _ _ r (ap kindAt (kind-is kind)), code-small ks xs ps text (kindAt k) _ _ _ _ _ r)
 
 pub entry-of-spec : {M : Type 1} → statement M
 entry-of-spec =
@@ -110,4 +119,6 @@ entry-of-spec =
     price-of-requires
     word-counts-requires
     price-of-requires-2
+    extra-counts-requires
+    natural-at-requires
     returns)

@@ -22,11 +22,14 @@ text-of-requires-5 c κs = search needs
 text-of-requires-6 : tie.Need-text-of-requires-6
 text-of-requires-6 c κs = search needs
 
+text-of-requires-7 : tie.Need-text-of-requires-7
+text-of-requires-7 c κs = search needs
+
 columns-of-requires : tie.Need-columns-of-requires
-columns-of-requires c κs = counted-few _ _ _ (c .before .before .before .before .before .before .before .before .pre)
+columns-of-requires c κs = counted-few _ _ _ (c .before .before .before .before .before .before .before .before .before .pre)
 
 returns : tie.Need-returns
-returns c = code-held _ _ _ (c .before .before .before .before .before .before .before .before .before .pre) _ _ _ _ _ _ (c .before .before .before .before .before .before .text-of .ensures) (c .before .before .before .before .before .text-of2 .ensures) (c .before .before .before .before .text-of3 .ensures) (c .before .before .before .text-of4 .ensures) (c .before .before .text-of5 .ensures) (c .before .text-of6 .ensures) (c .columns-of .result) (c .columns-of .ensures .0) (c .columns-of .ensures .1)
+returns c = code-held _ _ _ (c .before .before .before .before .before .before .before .before .before .before .pre) _ _ _ _ _ _ _ (c .before .before .before .before .before .before .before .text-of .ensures) (c .before .before .before .before .before .before .text-of2 .ensures) (c .before .before .before .before .before .text-of3 .ensures) (c .before .before .before .before .text-of4 .ensures) (c .before .before .before .text-of5 .ensures) (c .before .before .text-of6 .ensures) (c .before .text-of7 .ensures) (c .columns-of .result) (c .columns-of .ensures .0) (c .columns-of .ensures .1)
 
 pub columns-in-spec : {M : Type 1} → statement M
 columns-in-spec =
@@ -38,5 +41,6 @@ columns-in-spec =
     text-of-requires-4
     text-of-requires-5
     text-of-requires-6
+    text-of-requires-7
     columns-of-requires
     returns)

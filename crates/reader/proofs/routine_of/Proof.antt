@@ -74,6 +74,7 @@ returns c =
     let b : length (c .before .before .before .before .columns-in .result .operands) ≡ 1024 = search (c .before .before .before .before .columns-in .ok, needs, length-images) in
     let d : length (c .before .before .before .before .columns-in .result .cycles) ≡ 1024 = search (c .before .before .before .before .columns-in .ok, needs, length-images) in
     let e : length (c .before .before .before .before .columns-in .result .words) ≡ 1024 = search (c .before .before .before .before .columns-in .ok, needs, length-images) in
+    let x : length (c .before .before .before .before .columns-in .result .extras) ≡ 1024 = search (c .before .before .before .before .columns-in .ok, needs, length-images) in
     let f : length (c .before .before .before .before .before .before .before .before .fields-of .result) ≡ 128 = search (c .before .before .before .before .before .before .before .before .fields-of .ok, needs, length-images) in
     let g : length (c .answers-of .result .values) ≡ 64 = search (c .answers-of .ok, needs, length-images) in
     let k = counted _ (c .before .before .before .before .before .before .before .before .before .before .before .before .before .before .before .before .before .before .before .pre) _ (c .before .before .before .before .before .before .before .body-of .ensures) _ (c .before .before .before .before .before .count-code .ensures) in
@@ -81,7 +82,7 @@ returns c =
       record {
         budget = budget-held _ _ (c .before .before .before .before .before .before .before .before .before .before .before .before .before .before .before .before .before .text-of .ensures) _ _ (c .before .before .before .before .before .before .before .before .before .before .before .before .before .before .before .before .budgets .ensures) (c .before .before .before .before .before .before .before .before .before .before .before .before .before .before .before .natural-at .ensures);
         tick = tick-held _ _ (c .before .before .before .before .before .before .before .before .before .before .before .before .before .before .before .before .before .text-of .ensures) _ _ (c .before .before .before .before .before .before .before .before .before .before .before .before .before .before .ticks .ensures) (c .before .before .before .before .before .before .before .before .before .before .before .before .before .natural-at2 .ensures);
-        code = code-is _ (c .before .before .before .before .before .before .before .before .before .before .before .before .before .before .before .before .before .before .before .pre) _ (c .before .before .before .before .before .before .before .body-of .ensures) _ (c .before .before .before .before .before .count-code .ensures) _ (c .before .before .before .before .before .before .first-address .ensures) _ _ _ _ (c .before .before .before .before .columns-in .ensures .instructions);
+        code = code-is _ (c .before .before .before .before .before .before .before .before .before .before .before .before .before .before .before .before .before .before .before .pre) _ (c .before .before .before .before .before .before .before .body-of .ensures) _ (c .before .before .before .before .before .count-code .ensures) _ (c .before .before .before .before .before .before .first-address .ensures) _ _ _ _ _ (c .before .before .before .before .columns-in .ensures .instructions);
         start = start-held _ (c .before .before .before .before .before .before .before .before .before .before .before .before .before .before .before .before .before .before .before .pre) _ _ _ (c .before .before .before .before .before .before .before .before .before .before .before .before .text-of2 .ensures) (c .before .before .before .before .before .before .before .before .before .text-of3 .ensures) (c .before .before .before .text-of4 .ensures) _ (c .before .before .before .before .before .before .before .before .before .before .before .blocks-named .ensures) _ first _ (c .before .before .start-of .ensures .0) _ (c .before .before .before .before .before .before .before .before .fields-of .ensures);
         answered = answers-held _ (c .before .before .before .before .before .before .before .before .before .before .before .before .before .before .before .before .before .before .before .pre) _ (c .before .before .before .before .before .before .before .body-of .ensures) _ (c .before .before .before .before .before .count-code .ensures) _ (c .before .after-lines .ensures .0) _ (c .answers-of .ensures .0);
       },
@@ -89,8 +90,8 @@ returns c =
         budget = budget-limited _ _ (c .before .before .before .before .before .before .before .before .before .before .before .before .before .before .before .before .before .text-of .ensures) _ _ (c .before .before .before .before .before .before .before .before .before .before .before .before .before .before .before .before .before .before .before .pre) (c .before .before .before .before .before .before .before .before .before .before .before .before .before .before .before .before .budgets .ensures) (c .before .before .before .before .before .before .before .before .before .before .before .before .before .before .before .natural-at .ensures);
         first = first-low _ _ (c .before .before .before .before .before .before .first-address .ensures);
         few = k .few;
-        full = record { codes = a; operands = b; cycles = d; words = e };
-        sized = columns-sized _ (c .before .before .before .before .columns-in .result) (k .few) a b d e (c .before .before .before .before .columns-in .ensures .known);
+        full = record { codes = a; operands = b; cycles = d; words = e; extras = x };
+        sized = columns-sized _ (c .before .before .before .before .columns-in .result) (k .few) a b d e x (c .before .before .before .before .columns-in .ensures .known);
         placed = start-at _ _ (c .before .before .start-of .result) (c .before .before .start-of .ensures .0);
         formed = c .before .before .start-of .ensures .1;
         present = c .before .before .before .before .before .before .before .before .before .before .before .blocks-named .ensures .few;

@@ -16,17 +16,18 @@ use Rattle.steps.specs.declared.Price.{Price}
 use Rattle.steps.specs.declared.Next.{Next}
 use Rattle.steps.specs.declared.Next.the-variants.{Stops, Goes}
 use Rattle.steps.proofs.Next as next
+use Rattle.steps.specs.Step.{SmallPrice, Small}
 use Rattle.runs.proofs.RunLaws.{Going, begins, ends, goes-on, stops-out, stays-out, set-one, set-none, safe-from}
 use Rattle.runs.proofs.after.Statement.{statement}
 use Rattle.runs.proofs.after.Tie as tie
 
 abbrev Inv-loop : tie.InvT-loop
-Inv-loop codes operands cycles words sizes first answers n state₀ blocks₀ taken₀ spent₀ sum₀ depth₀ made₀ state blocks taken spent sum depth made =
-    Going (codeOf first codes operands cycles words) sizes answers (begin (whole sizes blocks₀ state₀) answers) n
+Inv-loop codes operands cycles words extras sizes first answers n state₀ blocks₀ taken₀ spent₀ sum₀ depth₀ made₀ state blocks taken spent sum depth made =
+    Going (codeOf first codes operands cycles words extras) sizes answers (begin (whole sizes blocks₀ state₀) answers) n
     (record { state = state; blocks = blocks; taken = taken; cycles = spent; words = sum; depth = depth; steps = made; stopped = false })
 
 abbrev μ-loop : tie.MeasureT-loop
-μ-loop codes operands cycles words sizes first answers n state₀ blocks₀ taken₀ spent₀ sum₀ depth₀ made₀ state blocks taken spent sum depth made = n - made
+μ-loop codes operands cycles words extras sizes first answers n state₀ blocks₀ taken₀ spent₀ sum₀ depth₀ made₀ state blocks taken spent sum depth made = n - made
 
 -- what comes next is neither STOP nor one way
 no-stop : (x : Next) → OneOf (0 ∷ 2 ∷ 3 ∷ []) (tagOf next.the-type x) → (p : Price) → x ≡ Stops p → ⊥
@@ -42,44 +43,38 @@ no-way x h p e = ⊎-elim
     (subst (λ v. OneOf (0 ∷ 1 ∷ 3 ∷ []) (tagOf next.the-type v)) e h)
 
 -- the numbers of a price
-stops-small : (c : tie.After-known-told Inv-loop μ-loop) → (c .before .next .given .0 .0 .cycles < 4294967296) × (c .before .next .given .0 .0 .words < 4294967296)
-stops-small c = search needs
+stops-small : (c : tie.After-known-told Inv-loop μ-loop) → SmallPrice (c .before .next .given .0 .0)
+stops-small c = subst Small (c .before .next .given .1) (c .before .before .before .step .ensures .1 .1 .0 .2)
 
-goes-small : (c : tie.After-known-told2 Inv-loop μ-loop) → (c .before .next2 .given .0 .0 .cycles < 4294967296) × (c .before .next2 .given .0 .0 .words < 4294967296)
-goes-small c = search needs
+goes-small : (c : tie.After-known-told2 Inv-loop μ-loop) → SmallPrice (c .before .next2 .given .0 .0)
+goes-small c = subst Small (c .before .next2 .given .1) (c .before .before .before .before .step .ensures .1 .1 .0 .2)
 
 sub-depth : tie.Need-sub-depth Inv-loop μ-loop
 sub-depth c = search needs
 
 loop-holds : tie.Need-loop-holds Inv-loop μ-loop
-loop-holds c = let s = c .before .before .before .before .before in begins _ _ _ _ (s .args .start) (s .args .fields) (s .pre .1 .formed) (s .pre .1 .fits)
+loop-holds c = let s = c .before .before .before .before .before .before in begins _ _ _ _ (s .args .start) (s .args .fields) (s .pre .1 .formed) (s .pre .1 .fits)
 
 answer-at-requires : tie.Need-answer-at-requires Inv-loop μ-loop
 answer-at-requires c κs = search needs
 
 step-requires : tie.Need-step-requires Inv-loop μ-loop
-step-requires c κs = let s = c .before .before .before .before .before .before .before .before in let i = c .before .before .loop .inv in (s .pre .0, s .pre .1 .addresses, i .formed, i .fits)
+step-requires c κs = let s = c .before .before .before .before .before .before .before .before .before in let i = c .before .before .loop .inv in (s .pre .0, s .pre .1 .addresses, i .formed, i .fits)
 
 enum-known-next : tie.Need-enum-known-next Inv-loop μ-loop
 enum-known-next c = search needs
 
 taken-after-requires : tie.Need-taken-after-requires Inv-loop μ-loop
-taken-after-requires c κs = let i = c .before .before .before .before .before .before .loop .inv in omega (arith, i .taken, c .before .before .before .before .before .loop-test .taken, c .before .before .before .before .before .before .before .before .before .before .before .before .pre .1 .steps)
-
-cast-t31 : tie.Need-cast-t31 Inv-loop μ-loop
-cast-t31 c = search needs
+taken-after-requires c κs = let i = c .before .before .before .before .before .before .loop .inv in omega (arith, i .taken, c .before .before .before .before .before .loop-test .taken, c .before .before .before .before .before .before .before .before .before .before .before .before .before .pre .1 .steps)
 
 add-t32 : tie.Need-add-t32 Inv-loop μ-loop
-add-t32 c = let i = c .before .before .before .before .before .before .before .before .loop .inv in omega (arith, i .cycles, i .within, stops-small (c .before .before) .0, c .before .before .before .before .before .before .before .before .before .before .before .before .before .before .pre .1 .steps)
+add-t32 c = let i = c .before .before .before .before .before .before .before .before .loop .inv in omega (arith, i .cycles, i .within, stops-small (c .before .before), c .before .before .before .before .before .before .before .before .before .before .before .before .before .before .before .pre .1 .steps)
 
-cast-t33 : tie.Need-cast-t33 Inv-loop μ-loop
-cast-t33 c = search needs
+add-t33 : tie.Need-add-t33 Inv-loop μ-loop
+add-t33 c = let i = c .before .before .before .before .before .before .before .before .before .loop .inv in omega (arith, i .words, i .within, stops-small (c .before .before .before) .words, c .before .before .before .before .before .before .before .before .before .before .before .before .before .before .before .before .pre .1 .steps)
 
 add-t34 : tie.Need-add-t34 Inv-loop μ-loop
-add-t34 c = let i = c .before .before .before .before .before .before .before .before .before .loop .inv in omega (arith, i .words, i .within, stops-small (c .before .before .before) .1, c .before .before .before .before .before .before .before .before .before .before .before .before .before .before .before .pre .1 .steps)
-
-add-t35 : tie.Need-add-t35 Inv-loop μ-loop
-add-t35 c = let i = c .before .before .before .before .before .before .before .before .before .loop .inv in omega (arith, i .within, c .before .before .before .before .before .before .before .before .before .before .before .before .before .before .before .pre .1 .steps)
+add-t34 c = let i = c .before .before .before .before .before .before .before .before .before .loop .inv in omega (arith, i .within, c .before .before .before .before .before .before .before .before .before .before .before .before .before .before .before .before .pre .1 .steps)
 
 returns : tie.Need-returns Inv-loop μ-loop
 returns c =
@@ -101,19 +96,13 @@ returns-2 c =
     (e, (safe-from _ _ _ _ _ e, (i .formed, i .fits)))
 
 taken-after-requires-2 : tie.Need-taken-after-requires-2 Inv-loop μ-loop
-taken-after-requires-2 c κs = let i = c .before .before .before .before .before .before .before .loop .inv in omega (arith, i .taken, c .before .before .before .before .before .before .loop-test .taken, c .before .before .before .before .before .before .before .before .before .before .before .before .before .pre .1 .steps)
-
-cast-spent : tie.Need-cast-spent Inv-loop μ-loop
-cast-spent c = search needs
+taken-after-requires-2 c κs = let i = c .before .before .before .before .before .before .before .loop .inv in omega (arith, i .taken, c .before .before .before .before .before .before .loop-test .taken, c .before .before .before .before .before .before .before .before .before .before .before .before .before .before .pre .1 .steps)
 
 add-spent : tie.Need-add-spent Inv-loop μ-loop
-add-spent c = let i = c .before .before .before .before .before .before .before .before .before .loop .inv in omega (arith, i .cycles, i .within, goes-small (c .before .before) .0, c .before .before .before .before .before .before .before .before .before .before .before .before .before .before .before .pre .1 .steps)
-
-cast-sum : tie.Need-cast-sum Inv-loop μ-loop
-cast-sum c = search needs
+add-spent c = let i = c .before .before .before .before .before .before .before .before .before .loop .inv in omega (arith, i .cycles, i .within, goes-small (c .before .before) .cycles, c .before .before .before .before .before .before .before .before .before .before .before .before .before .before .before .before .pre .1 .steps)
 
 add-sum : tie.Need-add-sum Inv-loop μ-loop
-add-sum c = let i = c .before .before .before .before .before .before .before .before .before .before .loop .inv in omega (arith, i .words, i .within, goes-small (c .before .before .before) .1, c .before .before .before .before .before .before .before .before .before .before .before .before .before .before .before .before .pre .1 .steps)
+add-sum c = let i = c .before .before .before .before .before .before .before .before .before .before .loop .inv in omega (arith, i .words, i .within, goes-small (c .before .before .before) .words, c .before .before .before .before .before .before .before .before .before .before .before .before .before .before .before .before .before .pre .1 .steps)
 
 sub-h : tie.Need-sub-h Inv-loop μ-loop
 sub-h c = c .before .before .before .before .before .before .before .before .before .step .ensures .1 .1 .0 .0 .free
@@ -149,7 +138,7 @@ handed c =
     (c .match3 .came)
 
 add-made : tie.Need-add-made Inv-loop μ-loop
-add-made c = let i = c .before .before .before .before .before .before .before .before .before .before .before .before .before .before .loop .inv in omega (arith, i .within, c .before .before .before .before .before .before .before .before .before .before .before .before .before .before .before .before .before .before .before .before .pre .1 .steps)
+add-made c = let i = c .before .before .before .before .before .before .before .before .before .before .before .before .before .before .loop .inv in omega (arith, i .within, c .before .before .before .before .before .before .before .before .before .before .before .before .before .before .before .before .before .before .before .before .before .pre .1 .steps)
 
 loop-less : tie.Need-loop-less Inv-loop μ-loop
 loop-less c = omega (arith, c .before .before .before .before .before .before .before .before .before .before .before .before .before .loop-test .taken)
@@ -179,18 +168,14 @@ after-spec =
     step-requires
     enum-known-next
     taken-after-requires
-    cast-t31
     add-t32
-    cast-t33
+    add-t33
     add-t34
-    add-t35
     returns
     enum-known-next-2
     returns-2
     taken-after-requires-2
-    cast-spent
     add-spent
-    cast-sum
     add-sum
     sub-h
     enum-known-change

@@ -2,7 +2,7 @@
 use mathlib.Core.Path.{_≡_, refl, sym, ap, subst, _∙_}
 use mathlib.Core.List.{List}
 use mathlib.Core.Logic.{⊎-elim}
-use Prim.Native.Nat.{ℕ, _-_, _≤_, _<_}
+use Prim.Native.Nat.{ℕ, _+_, _-_, _≤_, _<_}
 use native.Mathlib.Omega.{arith}
 use lib.IntN.{pos}
 use lib.ListN.{length, getD, length-set}
@@ -16,7 +16,7 @@ use Rattle.cells.specs.declared.Value.the-variants.{Number}
 use Rattle.cells.specs.Cells.{cell}
 use Rattle.cells.specs.Answers.{ofOperand}
 use Rattle.instructions.specs.Columns.{operationOf}
-use Rattle.machine.specs.Machine.{Next, Code, fetch, index, step, load, takesAnswer}
+use Rattle.machine.specs.Machine.{Next, Code, fetch, withExtra, index, step, load, takesAnswer}
 use Rattle.machine.proofs.ApartLaws.{pop-at, store-at}
 use Rattle.outcomes.specs.Outcome.{outcome, operated}
 use Rattle.outcomes.proofs.ArmLaws.{Arm}
@@ -29,7 +29,7 @@ use Rattle.states.proofs.ColumnLaws.{fetch-within}
 use Rattle.states.proofs.Stack.{length-images}
 use Rattle.steps.specs.declared.Change.{Change}
 use Rattle.steps.specs.declared.Change.the-variants.{Nothing, Field}
-use Rattle.steps.specs.Step.{ofNext, Differs}
+use Rattle.steps.specs.Step.{ofNext, SmallPrice, Differs}
 use Rattle.steps.proofs.StepLaws.{next, popped-next, stored-next, loaded-next, jumped-next, Ready, pushes, keeps, rises, outside, overflows, calls, opened}
 use Rattle.steps.proofs.step.Statement.{statement}
 use Rattle.steps.proofs.step.Tie as tie
@@ -37,39 +37,43 @@ use Rattle.steps.proofs.step.Tie as tie
 -- ---- places, and what is known there
 
 abbrev start : tie.After-known-told → tie.Start
-start k = k .before .before .before .before .before .before .before .before
+start k = k .before .before .before .before .before .before .before .before .before
 
 abbrev line : tie.After-known-told → Line
 line k = k .before .fetched .given .0 .0
 
+-- before the prices are made
+abbrev settled : tie.After-outcome-of → tie.After-drops-of
+settled a = a .before .before .before .before .before .before .before .before .before
+
 abbrev joined : tie.After-outcome-of → tie.Joined1
-joined a = a .before .before .before .before .before .before .before .before
+joined a = settled a .before .before .before .before
 
 abbrev lined : tie.After-outcome-of → tie.After-known-told
 lined a = joined a .before
 
 abbrev code : tie.Start → Code
-code s = codeOf (s .args .first) (s .args .codes .now) (s .args .operands .now) (s .args .cycles .now) (s .args .words .now)
+code s = codeOf (s .args .first) (s .args .codes .now) (s .args .operands .now) (s .args .cycles .now) (s .args .words .now) (s .args .extras .now)
 
-found : (k : tie.After-known-told) → done (lineOf (line k)) ≡ fetch (code (start k)) (start k .args .t8 .at)
+found : (k : tie.After-known-told) → done (lineOf (line k)) ≡ fetch (code (start k)) (start k .args .t9 .at)
 found k = ap ofFetched (sym (k .before .fetched .given .1)) ∙ k .before .before .before .fetch .ensures .0
 
 known : (k : tie.After-known-told) → line k .code ≤ 22
 known k = subst Known (k .before .fetched .given .1) (k .before .before .before .fetch .ensures .1)
 
 -- the code's address is low
-low : (k : tie.After-known-told) → start k .args .t8 .at < 65536
-low k = let s = start k in omega (arith, fetch-within (s .args .first) (s .args .codes .now) (s .args .operands .now) (s .args .cycles .now) (s .args .words .now) (s .args .t8 .at) (lineOf (line k)) (sym (found k)), s .pre .1)
+low : (k : tie.After-known-told) → start k .args .t9 .at < 65536
+low k = let s = start k in omega (arith, fetch-within (s .args .first) (s .args .codes .now) (s .args .operands .now) (s .args .cycles .now) (s .args .words .now) (s .args .extras .now) (s .args .t9 .at) (lineOf (line k)) (sym (found k)), s .pre .1)
 
-fields : (s : tie.Start) → length (s .args .t9) ≡ 128
+fields : (s : tie.Start) → length (s .args .t10) ≡ 128
 fields s = search (needs, length-images)
 
-ready : (j : tie.Joined1) → Ready (start (j .before) .args .sizes .now) (start (j .before) .args .t9) (line (j .before)) (start (j .before) .args .t8) (j .if1 .state)
+ready : (j : tie.Joined1) → Ready (start (j .before) .args .sizes .now) (start (j .before) .args .t10) (line (j .before)) (start (j .before) .args .t9) (j .if1 .state)
 ready j =
     let s = start (j .before) in
     ⊎-elim
-    (λ x. pushes (s .args .sizes .now) (s .args .t9) (line (j .before)) (s .args .t8) (j .if1 .state) (x .2 .result) (x .0 .taken) (x .2 .ensures .0) (x .2 .ensures .1) (x .3))
-    (λ x. keeps (s .args .sizes .now) (s .args .t9) (line (j .before)) (s .args .t8) (j .if1 .state) (x .0 .left) (s .pre .2) (x .1))
+    (λ x. pushes (s .args .sizes .now) (s .args .t10) (line (j .before)) (s .args .t9) (j .if1 .state) (x .2 .result) (x .0 .taken) (x .2 .ensures .0) (x .2 .ensures .1) (x .3))
+    (λ x. keeps (s .args .sizes .now) (s .args .t10) (line (j .before)) (s .args .t9) (j .if1 .state) (x .0 .left) (s .pre .2) (x .1))
     (j .if1 .came)
 
 module _ (a : tie.After-outcome-of) where
@@ -83,42 +87,49 @@ module _ (a : tie.After-outcome-of) where
   t = joined a .if1 .state
 
   abbrev n : ℕ
-  n = a .before .before .before .before .before .before .index-of .result
+  n = settled a .before .before .index-of .result
 
   abbrev entry : Cell
-  entry = getD (t .stack) (a .before .before .before .before .before .entry-place .result) (cell (Number (pos 0)))
+  entry = getD (t .stack) (settled a .before .entry-place .result) (cell (Number (pos 0)))
 
   fitting : SFits w32 (l .operand)
   fitting = search needs
 
-  prepared : Ready (s .args .sizes .now) (s .args .t9) l (s .args .t8) t
+  prepared : Ready (s .args .sizes .now) (s .args .t10) l (s .args .t9) t
   prepared = ready (joined a)
 
-  arm : Arm (step (code s) (s .args .answer) (whole (s .args .sizes .now) (s .args .t9) (s .args .t8))) (s .args .sizes .now) (s .args .t9) (lineOf l .price) (operationOf (l .code)) (l .operand) (s .args .answer) (next t) n entry (a .outcome-of .result)
+  arm : Arm (step (code s) (s .args .answer) (whole (s .args .sizes .now) (s .args .t10) (s .args .t9))) (s .args .sizes .now) (s .args .t10) (lineOf l .price) (l .extra) (operationOf (l .code)) (l .operand) (s .args .answer) (next t) n entry (a .outcome-of .result)
   arm =
-      arms.arm (code s) (s .args .answer) (s .args .sizes .now) (s .args .t9) (s .args .t8) (next t) l (sym (found (lined a))) (rises (s .args .sizes .now) (s .args .t9) l (s .args .t8) t prepared)
-      (record { free = prepared .formed .free; places = prepared .formed .places }) (s .pre .3) n (a .before .before .before .before .before .entry-place .result) entry (cell (Number (pos 0))) (a .outcome-of .result)
-      (a .before .before .before .before .before .before .index-of .ensures .0 ∙ ap index (toZ-ofZ w32 _ fitting)) (a .before .before .before .before .before .entry-place .ensures) refl
+      arms.arm (code s) (s .args .answer) (s .args .sizes .now) (s .args .t10) (s .args .t9) (next t) l (sym (found (lined a))) (rises (s .args .sizes .now) (s .args .t10) l (s .args .t9) t prepared)
+      (record { free = prepared .formed .free; places = prepared .formed .places }) (s .pre .3) n (settled a .before .entry-place .result) entry (cell (Number (pos 0))) (a .outcome-of .result)
+      (settled a .before .before .index-of .ensures .0 ∙ ap index (toZ-ofZ w32 _ fitting)) (settled a .before .entry-place .ensures) refl
       (a .outcome-of .ensures ∙ ap (λ z. outcome (operationOf (l .code)) z (s .args .answer) (64 - t .free) (t .accu) entry) (toZ-ofZ w32 _ fitting))
+
+  -- the prices are of two numbers of 32 bits at most
+  fit : (l .cycles < 4294967296) × ((l .words < 4294967296) × (l .extra < 4294967296))
+  fit = search needs
+
+  plain : SmallPrice (record { cycles = l .cycles; words = l .words })
+  plain = record { cycles = omega (arith, fit); words = fit .1 .0 }
+
+  jumped : SmallPrice (record { cycles = l .cycles + l .extra; words = l .words })
+  jumped = record { cycles = omega (arith, fit); words = fit .1 .0 }
 
   -- an address after methods that keep it
   near : (v : ℕ) → v ≡ t .at → v < 65536
   near v e = omega (arith, e, prepared .stays, low (lined a))
 
-  -- what is promised of a step with the state w, once it is known what it leads to
-  module _ (x : Try Next) (e : step (code s) (s .args .answer) (whole (s .args .sizes .now) (s .args .t9) (s .args .t8)) ≡ x) (w : State) (formed : WellFormed w) where
-    abbrev Promised : Change → List Cell → Type 0
-    Promised y fs =
-        (x ≡ step (code s) (s .args .answer) (whole (s .args .sizes .now) (s .args .t9) (s .args .t8)))
-        × ((l .calls ≡ takesAnswer (code s) (whole (s .args .sizes .now) (s .args .t9) (s .args .t8))) × ((WellFormed w × Fits (s .args .sizes .now) fs) × Differs y (s .args .t9) fs))
-
+  -- what is promised of a step with the state w, once it is known what it leads to, and that its prices are cheap
+  module _ {Cheap : Type 0} (cheap : Cheap) (x : Try Next) (e : step (code s) (s .args .answer) (whole (s .args .sizes .now) (s .args .t10) (s .args .t9)) ≡ x) (w : State) (formed : WellFormed w) where
     -- with the fields fs, which differ by the change y
-    changed : (y : Change) (fs : List Cell) → Fits (s .args .sizes .now) fs → Differs y (s .args .t9) fs → Promised y fs
-    changed y fs fits differs = (sym e, (calls (code s) (s .args .answer) (s .args .sizes .now) (s .args .t9) (s .args .t8) l (found (lined a)), ((formed, fits), differs)))
+    changed : (y : Change) (fs : List Cell) → Fits (s .args .sizes .now) fs → Differs y (s .args .t10) fs → (x ≡ step (code s) (s .args .answer) (whole (s .args .sizes .now) (s .args .t10) (s .args .t9)))
+        × ((l .calls ≡ takesAnswer (code s) (whole (s .args .sizes .now) (s .args .t10) (s .args .t9))) × ((WellFormed w × Fits (s .args .sizes .now) fs × Cheap) × Differs y (s .args .t10) fs))
+    changed y fs fits differs = (sym e, (calls (code s) (s .args .answer) (s .args .sizes .now) (s .args .t10) (s .args .t9) l (found (lined a)), ((formed, fits, cheap), differs)))
 
     -- with the fields as they were
-    kept : Promised Nothing (s .args .t9)
-    kept = changed Nothing (s .args .t9) (s .pre .3) refl
+    kept : (x ≡ step (code s) (s .args .answer) (whole (s .args .sizes .now) (s .args .t10) (s .args .t9)))
+        × ((l .calls ≡ takesAnswer (code s) (whole (s .args .sizes .now) (s .args .t10) (s .args .t9))) × ((WellFormed w × Fits (s .args .sizes .now) (s .args .t10) × Cheap) × Differs Nothing (s .args .t10) (s .args .t10)))
+    kept = changed Nothing (s .args .t10) (s .pre .3) refl
 
 fetch-requires : tie.Need-fetch-requires
 fetch-requires c κs = search needs
@@ -132,17 +143,17 @@ enum-told c = search needs
 returns : tie.Need-returns
 unfolding ofNext
 returns c =
-    let s = c .before .before .before .before .before .before .before in
-    let o = outside (code s) (s .args .answer) (s .args .sizes .now) (s .args .t9) (s .args .t8) (ap ofFetched (sym (c .enum-told .given .1)) ∙ c .before .before .fetch .ensures .0) in
-    (o .0, (o .1, ((s .pre .2, s .pre .3), refl)))
+    let s = c .before .before .before .before .before .before .before .before in
+    let o = outside (code s) (s .args .answer) (s .args .sizes .now) (s .args .t10) (s .args .t9) (ap ofFetched (sym (c .enum-told .given .1)) ∙ c .before .before .fetch .ensures .0) in
+    (o .0, (o .1, ((s .pre .2, s .pre .3, tt), refl)))
 
 returns-2 : tie.Need-returns-2
 unfolding ofNext
 returns-2 c =
     let k = c .before .before in
     let s = start k in (
-      overflows (code s) (s .args .answer) (s .args .sizes .now) (s .args .t9) (s .args .t8) (line k) (found k) (c .before .if1 .taken) (s .pre .2) (c .if2 .taken),
-      (calls (code s) (s .args .answer) (s .args .sizes .now) (s .args .t9) (s .args .t8) (line k) (found k), ((s .pre .2, s .pre .3), refl)),
+      overflows (code s) (s .args .answer) (s .args .sizes .now) (s .args .t10) (s .args .t9) (line k) (found k) (c .before .if1 .taken) (s .pre .2) (c .if2 .taken),
+      (calls (code s) (s .args .answer) (s .args .sizes .now) (s .args .t10) (s .args .t9) (line k) (found k), ((s .pre .2, s .pre .3, tt), refl)),
     )
 
 push-requires : tie.Need-push-requires
@@ -157,8 +168,26 @@ entry-place-requires c κs = (omega (arith, c .index-of .ensures .1), ready (c .
 drops-of-requires : tie.Need-drops-of-requires
 drops-of-requires c κs = known (c .before .before .before .before)
 
+cast-t49 : tie.Need-cast-t49
+cast-t49 c = search needs
+
+cast-t50 : tie.Need-cast-t50
+cast-t50 c = search needs
+
+cast-t49-2 : tie.Need-cast-t49-2
+cast-t49-2 c = search needs
+
+cast-t50-2 : tie.Need-cast-t50-2
+cast-t50-2 c = search needs
+
+add-t51 : tie.Need-add-t51
+add-t51 c = search needs
+
+cast-t52 : tie.Need-cast-t52
+cast-t52 c = search needs
+
 sub-outcome-of : tie.Need-sub-outcome-of
-sub-outcome-of c = ready (c .before .before .before .before) .formed .free
+sub-outcome-of c = ready (c .before .before .before .before .before .before .before .before .before) .formed .free
 
 mul-outcome-of : tie.Need-mul-outcome-of
 mul-outcome-of c = search needs
@@ -167,7 +196,7 @@ element-copy-out-outcome-of : tie.Need-element-copy-out-outcome-of
 element-copy-out-outcome-of c = search needs
 
 outcome-of-requires : tie.Need-outcome-of-requires
-outcome-of-requires c κs = known (c .before .before .before .before .before .before .before .before)
+outcome-of-requires c κs = known (c .before .before .before .before .before .before .before .before .before .before .before .before .before)
 
 enum-known-outcome : tie.Need-enum-known-outcome
 enum-known-outcome c = search needs
@@ -175,7 +204,7 @@ enum-known-outcome c = search needs
 -- ---- the accumulator becomes a cell
 
 pop-requires : tie.Need-pop-requires
-pop-requires c κs = let a = c .before .before .before in (prepared a .formed, arms.drop-room (arm a) _ _ (c .before .outcome .given .1) (a .before .before .before .before .drops-of .ensures))
+pop-requires c κs = let a = c .before .before .before in (prepared a .formed, arms.drop-room (arm a) _ _ (c .before .outcome .given .1) (settled a .drops-of .ensures))
 
 load-requires : tie.Need-load-requires
 load-requires c κs = search needs
@@ -195,8 +224,8 @@ unfolding ofNext
 returns-3 c =
     let a = c .before .before .before .before .before .before in
     let v = c .before .before .pop .result in
-    kept a _
-    (arms.gives (arm a) (c .before .before .before .before .outcome .given .0 .0) (a .before .before .before .before .drops-of .result) (next v) (c .advance .result) (a .before .before .before .before .drops-of .ensures) (popped-next (t a) v _ (c .before .before .pop .ensures .0))
+    kept a (plain a) _
+    (arms.gives (arm a) (c .before .before .before .before .outcome .given .0 .0) (settled a .drops-of .result) (next v) (c .advance .result) (settled a .drops-of .ensures) (popped-next (t a) v _ (c .before .before .pop .ensures .0))
     (loaded-next v (c .before .load .result) (c .advance .result) _ (c .before .load .ensures .0) (c .advance .ensures .0)) (c .before .before .before .before .outcome .given .1))
     (c .advance .result) (c .advance .ensures .1)
 
@@ -222,7 +251,7 @@ given : (c : tie.After-operated) → ofOperand (c .operated .result) ≡ operate
 given c = let a = c .before .before .before .before .before .before in c .operated .ensures ∙ ap (λ z. operated (operationOf (l a .code)) z (t a .accu) (entry a)) (toZ-ofZ w32 _ (fitting a))
 
 pop-requires-2 : tie.Need-pop-requires-2
-pop-requires-2 c κs = let a = c .before .before .before .before .before .before .before .before .before in (prepared a .formed, arms.operate-room (arm a) _ (c .before .before .before .before .before .before .before .enum-told2 .given .1) (a .before .before .before .before .drops-of .ensures))
+pop-requires-2 c κs = let a = c .before .before .before .before .before .before .before .before .before in (prepared a .formed, arms.operate-room (arm a) _ (c .before .before .before .before .before .before .before .enum-told2 .given .1) (settled a .drops-of .ensures))
 
 load-requires-2 : tie.Need-load-requires-2
 load-requires-2 c κs = search needs
@@ -237,8 +266,8 @@ unfolding ofNext
 returns-4 c =
     let a = c .before .before .before .before .before .before .before .before .before .before .before .before in
     let v = c .before .before .pop2 .result in
-    kept a _
-    (arms.operates (arm a) (c .before .before .before .before .given .given .0 .0) (a .before .before .before .before .drops-of .result) (next v) (c .advance2 .result) (a .before .before .before .before .drops-of .ensures) (popped-next (t a) v _ (c .before .before .pop2 .ensures .0))
+    kept a (plain a) _
+    (arms.operates (arm a) (c .before .before .before .before .given .given .0 .0) (settled a .drops-of .result) (next v) (c .advance2 .result) (settled a .drops-of .ensures) (popped-next (t a) v _ (c .before .before .pop2 .ensures .0))
     (loaded-next v (c .before .load2 .result) (c .advance2 .result) _ (c .before .load2 .ensures .0) (c .advance2 .ensures .0)) (c .before .before .before .before .before .before .before .before .before .before .enum-told2 .given .1) (sym (given (c .before .before .before .before .before .before)) ∙ ap ofOperand (c .before .before .before .before .given .given .1)))
     (c .advance2 .result) (c .advance2 .ensures .1)
 
@@ -249,7 +278,7 @@ returns-5 : tie.Need-returns-5
 unfolding ofNext
 returns-5 c =
     let a = c .before .before .before .before .before .before .before .before in
-    kept a _ (arms.operates-nothing (arm a) (c .before .before .before .before .before .before .enum-told2 .given .1) (sym (given (c .before .before)) ∙ ap ofOperand (c .enum-told3 .given .1))) (t a) (prepared a .formed)
+    kept a tt _ (arms.operates-nothing (arm a) (c .before .before .before .before .before .before .enum-told2 .given .1) (sym (given (c .before .before)) ∙ ap ofOperand (c .enum-told3 .given .1))) (t a) (prepared a .formed)
 
 -- ---- an entry becomes the accumulator
 
@@ -266,7 +295,7 @@ returns-6 : tie.Need-returns-6
 unfolding ofNext
 returns-6 c =
     let a = c .before .before .before .before in
-    kept a _ (arms.stores (arm a) (c .advance3 .result) (c .before .before .enum-told4 .given .1) (stored-next (t a) (c .before .store .result) (c .advance3 .result) _ (c .before .store .ensures .0) (c .advance3 .ensures .0)))
+    kept a (plain a) _ (arms.stores (arm a) (c .advance3 .result) (c .before .before .enum-told4 .given .1) (stored-next (t a) (c .before .store .result) (c .advance3 .result) _ (c .before .store .ensures .0) (c .advance3 .ensures .0)))
     (c .advance3 .result) (c .advance3 .ensures .1)
 
 -- ---- a field is set
@@ -312,7 +341,7 @@ unfolding ofNext
 returns-7 c =
     let a = c .before .before .before .before .before .before .before .before .before .before .before .before in
     let v = c .before .before .pop3 .result in
-    changed a _
+    changed a (plain a) _
     (arms.sets (arm a) (c .before .before .before .before .before .before .before .before .before .before .outcome2 .given .0 .0) (c .before .before .before .before .before .field .given .0 .0) (next v) (c .advance4 .result) (c .before .before .before .before .before .before .before .before .before .before .outcome2 .given .1) (set-slot (c .before .before .before .before) ∙ c .before .before .before .before .before .before .before .slot-of .ensures) (popped-next (t a) v _ (c .before .before .pop3 .ensures .0))
     (loaded-next v (c .before .load3 .result) (c .advance4 .result) _ (c .before .load3 .ensures .0) (c .advance4 .ensures .0) ∙ ap (λ z. load z (view (next v))) (c .before .before .before .number .ensures)))
     (c .advance4 .result) (c .advance4 .ensures .1) (Field (c .before .before .before .before .before .field .given .0 .0) _) _ (record { few = s a .pre .3 .few; room = simp length-set (s a .pre .3 .room) }) (set-within (c .before .before .before .before), refl)
@@ -324,7 +353,7 @@ returns-8 : tie.Need-returns-8
 unfolding ofNext
 returns-8 c =
     let a = c .before .before .before .before .before .before .before in
-    kept a _ (arms.sets-nothing (arm a) _ (c .before .before .before .before .before .outcome2 .given .1) (ap ofSlot (sym (c .enum-told5 .given .1)) ∙ c .before .before .slot-of .ensures)) (t a) (prepared a .formed)
+    kept a tt _ (arms.sets-nothing (arm a) _ (c .before .before .before .before .before .outcome2 .given .1) (ap ofSlot (sym (c .enum-told5 .given .1)) ∙ c .before .before .slot-of .ensures)) (t a) (prepared a .formed)
 
 -- ---- the accumulator becomes a field
 
@@ -359,7 +388,7 @@ returns-9 : tie.Need-returns-9
 unfolding ofNext
 returns-9 c =
     let a = c .before .before .before .before .before .before .before .before .before .before in
-    kept a _
+    kept a (plain a) _
     (arms.gets (arm a) (c .before .before .before .before .field2 .given .0 .0) _ (c .advance5 .result) (c .before .before .before .before .before .before .before .before .enum-told6 .given .1) (get-slot (c .before .before .before) ∙ c .before .before .before .before .before .before .slot-of2 .ensures)
     (loaded-next (t a) (c .before .load4 .result) (c .advance5 .result) _ (c .before .load4 .ensures .0) (c .advance5 .ensures .0)))
     (c .advance5 .result) (c .advance5 .ensures .1)
@@ -371,7 +400,7 @@ returns-10 : tie.Need-returns-10
 unfolding ofNext
 returns-10 c =
     let a = c .before .before .before .before .before .before in
-    kept a _ (arms.gets-nothing (arm a) (c .before .before .before .before .enum-told6 .given .1) (ap ofSlot (sym (c .enum-told7 .given .1)) ∙ c .before .before .slot-of2 .ensures)) (t a) (prepared a .formed)
+    kept a tt _ (arms.gets-nothing (arm a) (c .before .before .before .before .enum-told6 .given .1) (ap ofSlot (sym (c .enum-told7 .given .1)) ∙ c .before .before .slot-of2 .ensures)) (t a) (prepared a .formed)
 
 -- ---- branches, STOP, stuck
 
@@ -385,33 +414,45 @@ returns-11 : tie.Need-returns-11
 unfolding ofNext
 returns-11 c =
     let a = c .before .before .before in
-    kept a _ (arms.jumps (arm a) (c .jump .result) (c .before .enum-told8 .given .1) (jumped-next (t a) (c .jump .result) _ (c .jump .ensures .0))) (c .jump .result) (c .jump .ensures .1)
+    kept a (plain a) _ (arms.branches (arm a) (c .jump .result) (jumped-next (t a) (c .jump .result) _ (c .jump .ensures .0)) (c .before .enum-told8 .given .1)) (c .jump .result) (c .jump .ensures .1)
 
 enum-told-9 : tie.Need-enum-told-9
 enum-told-9 c = search needs
 
-advance-requires-6 : tie.Need-advance-requires-6
-advance-requires-6 c κs = let a = c .before .before in (prepared a .formed, near a _ refl)
+jump-requires-2 : tie.Need-jump-requires-2
+jump-requires-2 c κs = let a = c .before .before in prepared a .formed
 
 returns-12 : tie.Need-returns-12
-unfolding ofNext
+unfolding ofNext withExtra
 returns-12 c =
     let a = c .before .before .before in
-    kept a _ (opened (s a .args .sizes .now) (s a .args .t9) (t a) (c .advance6 .result) (arm a) (c .before .enum-told9 .given .1) (c .advance6 .ensures .0)) (c .advance6 .result) (c .advance6 .ensures .1)
+    kept a (jumped a) _ (arms.jumps (arm a) (c .jump2 .result) (jumped-next (t a) (c .jump2 .result) _ (c .jump2 .ensures .0)) (c .before .enum-told9 .given .1)) (c .jump2 .result) (c .jump2 .ensures .1)
 
 enum-told-10 : tie.Need-enum-told-10
 enum-told-10 c = search needs
 
+advance-requires-6 : tie.Need-advance-requires-6
+advance-requires-6 c κs = let a = c .before .before in (prepared a .formed, near a _ refl)
+
 returns-13 : tie.Need-returns-13
-unfolding ofNext
-returns-13 c = let a = c .before .before in kept a _ (arms.halts (arm a) (c .enum-told10 .given .1)) (t a) (prepared a .formed)
+unfolding ofNext withExtra
+returns-13 c =
+    let a = c .before .before .before in
+    kept a (plain a, jumped a) _ (opened (s a .args .sizes .now) (s a .args .t10) (t a) (c .advance6 .result) (arm a) (c .before .enum-told10 .given .1) (c .advance6 .ensures .0)) (c .advance6 .result) (c .advance6 .ensures .1)
 
 enum-told-11 : tie.Need-enum-told-11
 enum-told-11 c = search needs
 
 returns-14 : tie.Need-returns-14
 unfolding ofNext
-returns-14 c = let a = c .before .before in kept a _ (arms.is-stuck (arm a) (c .enum-told11 .given .1)) (t a) (prepared a .formed)
+returns-14 c = let a = c .before .before in kept a (plain a) _ (arms.halts (arm a) (c .enum-told11 .given .1)) (t a) (prepared a .formed)
+
+enum-told-12 : tie.Need-enum-told-12
+enum-told-12 c = search needs
+
+returns-15 : tie.Need-returns-15
+unfolding ofNext
+returns-15 c = let a = c .before .before in kept a tt _ (arms.is-stuck (arm a) (c .enum-told12 .given .1)) (t a) (prepared a .formed)
 
 pub step-spec : {M : Type 1} → statement M
 step-spec =
@@ -426,6 +467,12 @@ step-spec =
     index-of-requires
     entry-place-requires
     drops-of-requires
+    cast-t49
+    cast-t50
+    cast-t49-2
+    cast-t50-2
+    add-t51
+    cast-t52
     sub-outcome-of
     mul-outcome-of
     element-copy-out-outcome-of
@@ -467,9 +514,11 @@ step-spec =
     enum-told-8
     jump-requires
     enum-told-9
-    advance-requires-6
+    jump-requires-2
     enum-told-10
+    advance-requires-6
     enum-told-11
+    enum-told-12
     returns-3
     returns-4
     returns-5
@@ -481,4 +530,5 @@ step-spec =
     returns-11
     returns-12
     returns-13
-    returns-14)
+    returns-14
+    returns-15)

@@ -1,0 +1,118 @@
+-- `lines::extras_in_range` meets its contract. The loop's invariant: e is the length of the first word of what is left, and the extras of
+-- the line are in range as those that are left are, under the names that are left. The measure is the length of what is left.
+-- Assumes nothing.
+use mathlib.Core.Path.{_≡_, refl, sym, ap, _∙_}
+use mathlib.Core.Bool.{Bool}
+use mathlib.Core.List.{List, []}
+use Prim.Native.Nat.{ℕ, _≤_}
+use native.Mathlib.Omega.{arith}
+use native.Mathlib.Nat.{le-of-lt}
+use lib.ListN.{length, getD}
+use lib.Seq.{length-take-le}
+use borrow.Author.Tests.{not-true, not-false}
+use Rattle.numbers.specs.Numbers.{within}
+use Rattle.text.specs.Text.{words}
+use Rattle.text.proofs.ScanLaws.{firstLength}
+use Rattle.routine.specs.Rows.{value, extraRange, extrasInRange}
+use Rattle.lines.proofs.ExtraLaws.{extras-stop, extras-next, extras-last}
+use borrow.Author.Needs.{needs}
+use Rattle.lines.proofs.extras_in_range.Statement.{statement}
+use Rattle.lines.proofs.extras_in_range.Tie as tie
+
+-- the test of an extra, by the name that was read
+named : (above n w : List ℕ) {b : Bool} → n ≡ getD (words above) 0 [] → within (extraRange n) (value w) ≡ b → within (extraRange (getD (words above) 0 [])) (value w) ≡ b
+named above n w e h = ap (λ n. within (extraRange n) (value w)) (sym e) ∙ h
+
+abbrev Inv-loop : tie.InvT-loop
+Inv-loop names line above₀ rest₀ e₀ above rest e =
+    (e ≡ firstLength 32 rest) × (length rest ≤ length line) × (extrasInRange (words names) (words line) ≡ extrasInRange (words above) (words rest))
+
+abbrev μ-loop : tie.MeasureT-loop
+μ-loop names line above₀ rest₀ e₀ above rest e = length rest
+
+piece-length-requires : tie.Need-piece-length-requires Inv-loop μ-loop
+piece-length-requires c κs = search needs
+
+loop-holds : tie.Need-loop-holds Inv-loop μ-loop
+loop-holds c = (c .piece-length .ensures, omega arith, refl)
+
+word-at-requires : tie.Need-word-at-requires Inv-loop μ-loop
+word-at-requires c κs = search needs
+
+slice-aggregate-extra-in-range : tie.Need-slice-aggregate-extra-in-range Inv-loop μ-loop
+slice-aggregate-extra-in-range c = sym (length-take-le _ _ (le-of-lt (c .before .before .loop-test .taken)))
+
+extra-in-range-requires : tie.Need-extra-in-range-requires Inv-loop μ-loop
+extra-in-range-requires c κs = search needs
+
+returns : tie.Need-returns Inv-loop μ-loop
+returns c =
+    let l = c .before .before .before .before .before .loop in
+    sym (l .inv .2 ∙ extras-stop (words (l .above .now)) (l .rest .now) (l .e) (l .inv .0) (c .before .before .before .before .loop-test .taken) (named (l .above .now) _ _ (c .before .before .before .word-at .ensures) (sym (c .before .extra-in-range .ensures) ∙ not-true _ (c .if1 .taken))))
+
+next-names-requires : tie.Need-next-names-requires Inv-loop μ-loop
+next-names-requires c κs = search needs
+
+add-rest : tie.Need-add-rest Inv-loop μ-loop
+add-rest c = search needs
+
+sub-rest : tie.Need-sub-rest Inv-loop μ-loop
+sub-rest c = search needs
+
+part-rest-start : tie.Need-part-rest-start Inv-loop μ-loop
+part-rest-start c = search needs
+
+part-rest-end : tie.Need-part-rest-end Inv-loop μ-loop
+part-rest-end c = search needs
+
+piece-length-requires-2 : tie.Need-piece-length-requires-2 Inv-loop μ-loop
+piece-length-requires-2 c κs = search needs
+
+loop-less : tie.Need-loop-less Inv-loop μ-loop
+loop-less c = search needs
+
+loop-again : tie.Need-loop-again Inv-loop μ-loop
+loop-again c =
+    let l = c .before .before .before .before .before .before .before .before .loop in (
+      c .piece-length2 .ensures,
+      omega arith,
+      l .inv .2
+          ∙ extras-next (words (l .above .now)) (l .rest .now) (l .e) (l .inv .0) (c .before .before .before .before .before .before .before .loop-test .taken) (named (l .above .now) _ _ (c .before .before .before .before .before .before .word-at .ensures) (sym (c .before .before .before .before .extra-in-range .ensures) ∙ not-false _ (c .before .before .before .if1 .left)))
+          ∙ sym (c .before .before .next-names .ensures _),
+    )
+
+word-at-requires-2 : tie.Need-word-at-requires-2 Inv-loop μ-loop
+word-at-requires-2 c κs = search needs
+
+extra-in-range-requires-2 : tie.Need-extra-in-range-requires-2 Inv-loop μ-loop
+extra-in-range-requires-2 c κs = search needs
+
+returns-2 : tie.Need-returns-2 Inv-loop μ-loop
+returns-2 c =
+    let l = c .before .before .before .loop in
+    c .extra-in-range2 .ensures ∙ ap (λ n. within (extraRange n) (value (l .rest .now))) (c .before .word-at2 .ensures)
+    ∙ sym (l .inv .2 ∙ extras-last (words (l .above .now)) (l .rest .now) (l .e) (l .inv .0) (c .before .before .loop-test .left))
+
+pub extras-in-range-spec : {M : Type 1} → statement M
+extras-in-range-spec =
+    tie.close
+    (tie.spec
+    Inv-loop
+    μ-loop
+    piece-length-requires
+    loop-holds
+    word-at-requires
+    slice-aggregate-extra-in-range
+    extra-in-range-requires
+    returns
+    next-names-requires
+    add-rest
+    sub-rest
+    part-rest-start
+    part-rest-end
+    piece-length-requires-2
+    loop-less
+    loop-again
+    word-at-requires-2
+    extra-in-range-requires-2
+    returns-2)

@@ -1,0 +1,34 @@
+-- `lines::extras_listed` meets its contract. Assumes nothing.
+use mathlib.Core.Path.{sym, ap, _∙_}
+use Rattle.routine.specs.Layout.{list}
+use Rattle.routine.specs.Rows.{extrasInRange}
+use Rattle.routine.proofs.LayoutLaws.{list-none, list-words}
+use Rattle.lines.proofs.ExtraLaws.{names-listed}
+use borrow.Author.Needs.{needs}
+use Rattle.lines.proofs.extras_listed.Statement.{statement}
+use Rattle.lines.proofs.extras_listed.Tie as tie
+
+slice-aggregate-same : tie.Need-slice-aggregate-same
+slice-aggregate-same c = search needs
+
+same-requires : tie.Need-same-requires
+same-requires c κs = search needs
+
+returns : tie.Need-returns
+unfolding extrasInRange
+returns c =
+    let a = c .before .before .before .before .before .args in
+    sym (ap (extrasInRange (list (a .names .now))) (list-none (a .line .now) (sym (c .before .same .ensures) ∙ c .if1 .taken)))
+
+extras-in-range-requires : tie.Need-extras-in-range-requires
+extras-in-range-requires c κs = search needs
+
+returns-2 : tie.Need-returns-2
+returns-2 c =
+    let a = c .before .before .before .before .before .before .args in
+    c .extras-in-range .ensures ∙ names-listed (a .names .now) _ ∙ sym (ap (extrasInRange (list (a .names .now))) (list-words (a .line .now) (sym (c .before .before .same .ensures) ∙ c .before .if1 .left)))
+
+pub extras-listed-spec : {M : Type 1} → statement M
+extras-listed-spec =
+    tie.close
+    (tie.spec slice-aggregate-same same-requires returns extras-in-range-requires returns-2)
