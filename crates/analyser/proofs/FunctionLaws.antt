@@ -198,8 +198,8 @@ module _ (text : List ℕ) (n : ℕ) (former out : List ℕ) (r : code.Answer) w
 
 -- ---- for C
 
--- no number of a refusal is above 11
-pub number-small : (r : Refusal) → number r ≤ 11
+-- no number of a refusal is above 12
+pub number-small : (r : Refusal) → number r ≤ 12
 unfolding number
 number-small refusals.ReportMemory = omega arith
 number-small refusals.TextLength = omega arith
@@ -212,6 +212,7 @@ number-small (refusals.UnknownCell n) = omega arith
 number-small (refusals.Stuck a) = omega arith
 number-small (refusals.Openings a) = omega arith
 number-small (refusals.Spent a) = omega arith
+number-small (refusals.BadWord i) = omega arith
 
 pub word-refused : (r : Refusal) (n p : ℕ) → n ≡ number r → p ≡ place r → 9223372036854775808 + n * 4294967296 + p % 4294967296 ≡ wordOf (Refused r)
 unfolding wordOf
@@ -226,7 +227,8 @@ abbrev refusalAt : ℕ → ℕ → Refusal
 refusalAt n p =
     getD
     (refusals.ReportMemory ∷ refusals.TextLength ∷ refusals.Layout p ∷ refusals.OutOfRange p ∷ refusals.BadName p ∷ refusals.Unpriced p
-    ∷ refusals.NoTarget p ∷ refusals.Stuck p ∷ refusals.Openings p ∷ refusals.Spent p ∷ refusals.ReportMemory ∷ refusals.UnknownCell p ∷ [])
+    ∷ refusals.NoTarget p ∷ refusals.Stuck p ∷ refusals.Openings p ∷ refusals.Spent p ∷ refusals.ReportMemory ∷ refusals.UnknownCell p
+    ∷ refusals.BadWord p ∷ [])
     n refusals.ReportMemory
 
 refusal-told : (r : Refusal) → r ≡ refusalAt (number r) (place r)
@@ -242,6 +244,7 @@ refusal-told (refusals.UnknownCell n) = refl
 refusal-told (refusals.Stuck a) = refl
 refusal-told (refusals.Openings a) = refl
 refusal-told (refusals.Spent a) = refl
+refusal-told (refusals.BadWord i) = refl
 
 -- a report of 1 to 128 bytes, or a refusal whose place is at most 62,000
 record WithinLimits (a : Answer) : Type 0 where

@@ -18,7 +18,7 @@ use Rattle.instructions.specs.Kinds.{addresses, Kind, kind, kinds, stays
 
 -- the kind at a place of the table, counted from 0; past its end, the last
 unfoldable pub kindAt : ℕ → Kind
-kindAt k = getD kinds k (kind "STOP" Absent stays Stop 0)
+kindAt k = getD kinds k (kind 143 "STOP" Absent stays Stop 0)
 
 -- what a kind takes
 unfoldable pub argumentCode : Argument → ℕ

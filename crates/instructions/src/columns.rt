@@ -2,6 +2,71 @@
 use crate::arguments;
 use crate::operations;
 
+// The opcode in OCaml 4.13.1.
+pub const OPCODES: [u8; 61] = [
+    0, // ACC0
+    1, // ACC1
+    2, // ACC2
+    3, // ACC3
+    4, // ACC4
+    5, // ACC5
+    6, // ACC6
+    7, // ACC7
+    8, // ACC
+    9, // PUSH
+    10, // PUSHACC0
+    11, // PUSHACC1
+    12, // PUSHACC2
+    13, // PUSHACC3
+    14, // PUSHACC4
+    15, // PUSHACC5
+    16, // PUSHACC6
+    17, // PUSHACC7
+    18, // PUSHACC
+    19, // POP
+    20, // ASSIGN
+    99, // CONST0
+    100, // CONST1
+    101, // CONST2
+    102, // CONST3
+    103, // CONSTINT
+    104, // PUSHCONST0
+    105, // PUSHCONST1
+    106, // PUSHCONST2
+    107, // PUSHCONST3
+    108, // PUSHCONSTINT
+    127, // OFFSETINT
+    109, // NEGINT
+    88, // BOOLNOT
+    110, // ADDINT
+    111, // SUBINT
+    121, // EQ
+    122, // NEQ
+    123, // LTINT
+    124, // LEINT
+    125, // GTINT
+    126, // GEINT
+    67, // GETFIELD0
+    68, // GETFIELD1
+    69, // GETFIELD2
+    70, // GETFIELD3
+    71, // GETFIELD
+    73, // SETFIELD0
+    74, // SETFIELD1
+    75, // SETFIELD2
+    76, // SETFIELD3
+    77, // SETFIELD
+    84, // BRANCH
+    85, // BRANCHIF
+    86, // BRANCHIFNOT
+    93, // C_CALL1
+    94, // C_CALL2
+    95, // C_CALL3
+    96, // C_CALL4
+    97, // C_CALL5
+    143, // STOP
+];
+
 // What the kind takes.
 pub const ARGUMENTS: [u8; 61] = [
     arguments::ABSENT, // ACC0

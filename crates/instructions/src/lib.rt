@@ -1,9 +1,12 @@
 // The 61 instruction kinds, and their table by columns. The meaning is in specs/.
 ghost use mathlib.Core.Path.{_≡_};
-ghost use Prim.Native.Nat.{_<_};
+ghost use Prim.Native.Nat.{_+_, _≤_, _<_};
+ghost use lib.ListN.{length};
 ghost use Rattle.text.specs.Text.{place, among};
+ghost use Rattle.text.specs.Memory.{over};
 ghost use Rattle.instructions.specs.Kinds.{kindNames, calls};
 ghost use Rattle.instructions.specs.Columns.{kindAt, argumentCode, rangeOf, operationCode};
+ghost use Rattle.instructions.specs.Opcodes.{kindCoded};
 use cells::Binary;
 use cells::Unary;
 use numbers::Range;
@@ -131,4 +134,35 @@ pub fn is_kind(w: &[u8]) -> bool
     ensures { λ r. ⌜ r ≡ among (now (w .entry)) kindNames ⌝ }
 {
     text::is_among(w, &columns::NAMES)
+}
+
+// The opcode of a kind.
+pub fn opcode_at(k: usize) -> u32
+    requires { ⌜ k < 61 ⌝ }
+    ensures { λ r. ⌜ r ≡ kindAt k .opcode ⌝ }
+{
+    columns::OPCODES[k] as u32
+}
+
+// The kind with an opcode, by its place in the table.
+pub fn kind_coded(opcode: u32) -> Place
+    ensures { λ r. ⌜ r ≡ kindCoded opcode ⌝ }
+{
+    let mut k = 0;
+    while k < 61 {
+        if opcode == opcode_at(k) {
+            return Place::At(k);
+        }
+        k += 1;
+    }
+    Place::Missing
+}
+
+// Puts the name of a kind over out from `at` on, and answers where it ends.
+pub fn put_name(out: &mut [u8], at: usize, k: usize) -> usize
+    requires { ⌜ (k < 61) × (at + length (kindAt k .name) ≤ length (now out)) ⌝ }
+    ensures { λ r. ⌜ r ≡ at + length (kindAt k .name) ⌝ }
+    ensures { λ _. ⌜ now (out .exit) ≡ over (now (out .entry)) at (kindAt k .name) ⌝ }
+{
+    text::put(out, at, text::word_at(&columns::NAMES, k))
 }

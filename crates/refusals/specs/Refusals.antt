@@ -1,7 +1,7 @@
--- The refusal table of document 01: the number and the place of each refusal.
+-- The refusal table of document 01, and the new numbers of document 02: the number and the place of each refusal.
 use Prim.Native.Nat.{ℕ}
 use Rattle.refusals.specs.declared.Refusal.{Refusal}
-use Rattle.refusals.specs.declared.Refusal.the-variants.{ReportMemory, TextLength, Layout, OutOfRange, BadName, Unpriced, NoTarget, UnknownCell, Stuck, Openings, Spent}
+use Rattle.refusals.specs.declared.Refusal.the-variants.{ReportMemory, TextLength, Layout, OutOfRange, BadName, Unpriced, NoTarget, UnknownCell, Stuck, Openings, Spent, BadWord}
 
 -- column "No."
 unfoldable pub number : Refusal → ℕ
@@ -16,6 +16,7 @@ number (UnknownCell line) = 11
 number (Stuck address) = 7
 number (Openings address) = 8
 number (Spent address) = 9
+number (BadWord index) = 12
 
 -- column "Place"
 unfoldable pub place : Refusal → ℕ
@@ -30,3 +31,4 @@ place (UnknownCell line) = line
 place (Stuck address) = address
 place (Openings address) = address
 place (Spent address) = address
+place (BadWord index) = index

@@ -2,7 +2,7 @@
 ghost use mathlib.Core.Path.{_≡_};
 ghost use Rattle.refusals.specs.Refusals.{number, place};
 
-// A case for each row of the refusal table; the value held is a line of the routine file or an address of the code.
+// A case for each row of the refusal table; the value held is a line of the routine file, an address of the code, or the index of a word.
 pub enum Refusal {
     ReportMemory,
     TextLength,
@@ -15,6 +15,7 @@ pub enum Refusal {
     Stuck(usize),
     Openings(usize),
     Spent(usize),
+    BadWord(usize),
 }
 
 // How a check of a text, a bound or a run ends.
@@ -39,6 +40,7 @@ pub fn number(refusal: Refusal) -> u64
         Refusal::Stuck(_) => 7,
         Refusal::Openings(_) => 8,
         Refusal::Spent(_) => 9,
+        Refusal::BadWord(_) => 12,
     }
 }
 
@@ -58,5 +60,6 @@ pub fn place(refusal: Refusal) -> u64
         Refusal::Stuck(address) => address as u64,
         Refusal::Openings(address) => address as u64,
         Refusal::Spent(address) => address as u64,
+        Refusal::BadWord(index) => index as u64,
     }
 }

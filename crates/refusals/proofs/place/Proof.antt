@@ -55,6 +55,9 @@ enum-known-refusal-8 c = search needs
 enum-known-refusal-9 : tie.Need-enum-known-refusal-9
 enum-known-refusal-9 c = search needs
 
+enum-known-refusal-10 : tie.Need-enum-known-refusal-10
+enum-known-refusal-10 c = search needs
+
 returns : tie.Need-returns
 unfolding place
 returns c = search needs
@@ -99,6 +102,10 @@ returns-11 : tie.Need-returns-11
 unfolding place
 returns-11 c = search needs
 
+returns-12 : tie.Need-returns-12
+unfolding place
+returns-12 c = search needs
+
 pub place-spec : {M : Type 1} → statement M
 place-spec =
     tie.close
@@ -120,6 +127,7 @@ place-spec =
     enum-known-refusal-7
     enum-known-refusal-8
     enum-known-refusal-9
+    enum-known-refusal-10
     returns
     returns-2
     returns-3
@@ -130,4 +138,5 @@ place-spec =
     returns-8
     returns-9
     returns-10
-    returns-11)
+    returns-11
+    returns-12)

@@ -1,0 +1,5 @@
+pub mod IntegerLaws
+pub mod LineLaws
+pub mod WritingLaws
+pub mod PrimitiveLaws
+pub mod ImportLaws

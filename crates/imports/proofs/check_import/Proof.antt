@@ -1,0 +1,65 @@
+-- `imports::check_import` meets its contract: the primitives line, and then the words. Assumes nothing.
+use mathlib.Core.Path.{_≡_, sym, ap, subst, _∙_}
+use native.Mathlib.Omega.{arith}
+use lib.ListN.{length}
+use Rattle.routine.specs.Layout.{list}
+use Rattle.words.specs.Words.{wordsOf}
+use Rattle.words.specs.Decoding.{codeFault}
+use Rattle.words.specs.Import.{primitivesOf, faultVerdict}
+use Rattle.imports.proofs.ImportLaws.{primitives-are, accepted-few, import-refused, import-next}
+use borrow.Author.Needs.{needs}
+use Rattle.imports.proofs.check_import.Statement.{statement}
+use Rattle.imports.proofs.check_import.Tie as tie
+
+-- the count is that of the primitives
+counted : (c : tie.After-count-listed) → c .count-listed .result ≡ length (primitivesOf (c .before .before .before .before .before .before .before .args .primitives .now))
+counted c = c .count-listed .ensures ∙ ap (λ t. length (list t)) (c .before .first-line .ensures) ∙ ap length (sym (primitives-are (c .before .before .before .before .before .before .before .args .primitives .now)))
+
+check-primitives-requires : tie.Need-check-primitives-requires
+check-primitives-requires c κs = search needs
+
+enum-known-refusal : tie.Need-enum-known-refusal
+enum-known-refusal c = search needs
+
+enum-told : tie.Need-enum-told
+enum-told c = search needs
+
+first-line-requires : tie.Need-first-line-requires
+first-line-requires c κs = search needs
+
+count-listed-requires : tie.Need-count-listed-requires
+count-listed-requires c κs = search needs
+
+code-fault-requires : tie.Need-code-fault-requires
+code-fault-requires c κs =
+    let few = accepted-few (c .before .before .before .before .before .before .before .args .primitives .now) (sym (c .before .before .before .before .check-primitives .ensures) ∙ c .before .before .enum-told .given .1) in
+    omega (arith, few, counted c)
+
+fault-verdict-requires : tie.Need-fault-verdict-requires
+fault-verdict-requires c κs = search needs
+
+returns : tie.Need-returns
+returns c =
+    let s = c .before .before .before .before .before .before in
+    sym (import-refused (s .args .words .now) (s .args .primitives .now) _ (sym (c .before .before .before .check-primitives .ensures) ∙ c .before .refusal .given .1))
+
+returns-2 : tie.Need-returns-2
+returns-2 c =
+    let s = c .before .before .before .before .before .before .before .before .before in
+    c .fault-verdict .ensures
+    ∙ ap faultVerdict (c .before .code-fault .ensures ∙ ap (λ n. codeFault n (wordsOf (s .args .words .now))) (counted (c .before .before)))
+    ∙ sym (import-next (s .args .words .now) (s .args .primitives .now) (sym (c .before .before .before .before .before .before .check-primitives .ensures) ∙ c .before .before .before .before .enum-told .given .1))
+
+pub check-import-spec : {M : Type 1} → statement M
+check-import-spec =
+    tie.close
+    (tie.spec
+    check-primitives-requires
+    enum-known-refusal
+    enum-told
+    first-line-requires
+    count-listed-requires
+    code-fault-requires
+    fault-verdict-requires
+    returns
+    returns-2)

@@ -1,0 +1,98 @@
+-- Laws of opcodes: no two kinds have the same, so that a kind is known by its opcode. The rule is computed once for the whole table.
+-- Assumes nothing.
+use mathlib.Core.Path.{_≡_, refl, sym, ap, _∙_}
+use mathlib.Core.Bool.{Bool, true, false, cond}
+use mathlib.Core.List.{List, [], _∷_, map}
+use Prim.Native.Nat.{ℕ, zero, suc, _+_, _<_, _≤_}
+use native.Mathlib.Omega.{arith}
+use native.Mathlib.Nat.{le-of-suc-le-suc, not-suc-le-zero}
+use lib.Dec.{eqb}
+use lib.ListN.{length, getD, drop, drop-of-length-le, List·getD-map}
+use lib.Seq.{drop-cons}
+use borrow.Author.Tests.{eq-eqb, ne-eqb, eqb-true}
+use Rattle.text.specs.declared.Place.{Place}
+use Rattle.text.specs.declared.Place.the-variants.{At as at, Missing as missing}
+use Rattle.instructions.specs.Kinds.{kinds, opcodes}
+use Rattle.instructions.specs.Columns.{kindAt}
+use Rattle.instructions.specs.Opcodes.{placeFrom, kindCoded}
+use Rattle.instructions.proofs.ColumnLaws.{getD-any, natural-at}
+
+-- ---- a search along a list: found here, not here, at its end
+
+module _ (k n : ℕ) (l : List ℕ) (i : ℕ) where
+  pub place-here : i < length l → n ≡ getD l i 0 → placeFrom k n (drop i l) ≡ at k
+  unfolding placeFrom
+  place-here h e = rw (drop-cons l i 0, eq-eqb n (getD l i 0) e) refl
+
+  pub place-next : i < length l → (n ≡ getD l i 0 → ⊥) → placeFrom k n (drop i l) ≡ placeFrom (suc k) n (drop (suc i) l)
+  unfolding placeFrom
+  place-next h e = rw (drop-cons l i 0, ne-eqb n (getD l i 0) e) refl
+
+  pub place-end : length l ≤ i → placeFrom k n (drop i l) ≡ missing
+  unfolding placeFrom
+  place-end h = rw (drop-of-length-le l h) refl
+
+-- what is found stands there
+pub place-found : (j n k : ℕ) (l : List ℕ) → placeFrom j n l ≡ at k → (j ≤ k) × (k < j + length l) × ((i : ℕ) → k ≡ j + i → getD l i 0 ≡ n)
+unfolding placeFrom
+place-found j n k [] e = let z : _≡_ {A = ℕ} 0 1 = cc in absurd (omega arith)
+place-found j n k (m ∷ ms) e = go (eqb n m) refl e (place-found (suc j) n k ms)
+  where
+    go : (b : Bool) → eqb n m ≡ b → cond b (at j) (placeFrom (suc j) n ms) ≡ at k
+        → (placeFrom (suc j) n ms ≡ at k → (suc j ≤ k) × (k < suc j + length ms) × ((i : ℕ) → k ≡ suc j + i → getD ms i 0 ≡ n))
+        → (j ≤ k) × (k < j + suc (length ms)) × ((i : ℕ) → k ≡ j + i → getD (m ∷ ms) i 0 ≡ n)
+    go true q p ih = let z : j ≡ k = cc in (omega arith, omega arith, first z)
+      where
+        first : j ≡ k → (i : ℕ) → k ≡ j + i → getD (m ∷ ms) i 0 ≡ n
+        first z zero r = sym (eqb-true n m q)
+        first z (suc i) r = absurd (omega arith)
+    go false q p ih = let h = ih p in (omega arith, omega arith, later h)
+      where
+        later : (suc j ≤ k) × (k < suc j + length ms) × ((i : ℕ) → k ≡ suc j + i → getD ms i 0 ≡ n) → (i : ℕ) → k ≡ j + i → getD (m ∷ ms) i 0 ≡ n
+        later h zero r = absurd (omega arith)
+        later h (suc i) r = h .2 i (omega arith)
+
+-- ---- the table
+
+-- the numbers from j on, n of them
+count : ℕ → ℕ → List ℕ
+count j zero = []
+count j (suc n) = j ∷ count (suc j) n
+
+count-at : (j n k : ℕ) → k < n → getD (count j n) k 0 ≡ j + k
+unfolding count
+count-at j zero k h = absurd (not-suc-le-zero h)
+count-at j (suc n) zero h = omega arith
+count-at j (suc n) (suc k) h = count-at (suc j) n k (le-of-suc-le-suc h) ∙ omega arith
+
+-- each opcode is found at its own kind: computed for the whole table
+all-found : map kindCoded opcodes ≡ map at (count 0 61)
+unfolding kinds opcodes kindCoded placeFrom count
+all-found = refl
+
+first-found : kindCoded 0 ≡ at 0
+unfolding kinds opcodes kindCoded placeFrom
+first-found = refl
+
+-- the opcode of a kind
+pub opcode-of : (k : ℕ) → k < 61 → getD opcodes k 0 ≡ kindAt k .opcode
+unfolding opcodes
+opcode-of k h = natural-at (λ r. r .opcode) k h
+
+-- "numbered as in the OCaml distribution's public opcode list": one-to-one
+pub kind-of-opcode : (k : ℕ) → k < 61 → kindCoded (kindAt k .opcode) ≡ at k
+kind-of-opcode k h =
+    ap kindCoded (sym (opcode-of k h))
+    ∙ sym (List·getD-map kindCoded opcodes k 0)
+    ∙ ap (λ l. getD l k (kindCoded 0)) all-found
+    ∙ ap (λ p. getD (map at (count 0 61)) k p) first-found
+    ∙ List·getD-map at (count 0 61) k 0
+    ∙ ap at (count-at 0 61 k h ∙ omega arith)
+
+-- the kind that is found has the opcode
+pub opcode-of-kind : (n k : ℕ) → kindCoded n ≡ at k → (k < 61) × (kindAt k .opcode ≡ n)
+unfolding kinds opcodes kindCoded
+opcode-of-kind n k e =
+    let f = place-found 0 n k opcodes e in
+    let h : k < 61 = f .1 in
+    (h, sym (opcode-of k h) ∙ f .2 k (omega arith))

@@ -1,0 +1,156 @@
+-- Laws of the export: the words of instructions are decoded to the same instructions, how many bytes they are, and an offset
+-- leads back to the line that it was made of. Assumes nothing.
+use mathlib.Core.Path.{_≡_, refl, sym, ap, _∙_}
+use mathlib.Core.Bool.{Bool, true, false, cond}
+use mathlib.Core.List.{List, [], _∷_, _++_, map}
+use Prim.Native.Nat.{ℕ, zero, suc, _+_, _-_, _*_, _<_, _≤_}
+use native.Mathlib.Omega.{arith}
+use lib.Dec.{eqb, ltb}
+use lib.IntN.{ℤ, pos, negsuc, _+ℤ_, _-ℤ_}
+use lib.ListN.{length, getD, length-append}
+use borrow.Author.Tests.{eq-eqb, ne-eqb, ltb-true, ltb-false, le-ltb}
+use Rattle.numbers.specs.Numbers.{modulus, IsNumber, residue, signed}
+use Rattle.text.proofs.TextLaws.{Every, more}
+use Rattle.text.proofs.TextLaws as every
+use Rattle.instructions.specs.Kinds.{kinds}
+use Rattle.instructions.proofs.ColumnLaws.{column-at}
+use Rattle.text.specs.declared.Place.the-variants.{At as at}
+use Rattle.instructions.specs.Columns.{kindAt}
+use Rattle.instructions.specs.Opcodes.{placeFrom, kindCoded}
+use Rattle.instructions.proofs.OpcodeLaws.{kind-of-opcode}
+use Rattle.words.specs.Words.{Word, whole, wordsOf, allBytes}
+use Rattle.words.specs.Decoding.{Item, itemOf, hasArgument, opcode, argument, Entry, item, coded, entries, decoded, items, numberAt}
+use Rattle.words.specs.Held.{sizeOf}
+use Rattle.words.specs.Export.{Op, positions, itemsFrom, itemWords, wordsIn, exportOps}
+use Rattle.words.proofs.WordLaws.{signed-back, words-back, bytes-length}
+use Rattle.words.proofs.HeadLaws.{size-small, size-one, size-two}
+
+-- instructions that stand one after the other from index i on: kinds of the table, each with a number, which is 0 where it has no argument word
+pub data Placed : ℕ → List Item → Type 0 where
+  none : {i : ℕ} → Placed i []
+  with-word : {i k : ℕ} {z : ℤ} {xs : List Item} → k < 61 → hasArgument (kindAt k .argument) ≡ true → IsNumber z → Placed (i + sizeOf k) xs → Placed i (itemOf i k z ∷ xs)
+  plain : {i k : ℕ} {xs : List Item} → k < 61 → hasArgument (kindAt k .argument) ≡ false → Placed (i + sizeOf k) xs → Placed i (itemOf i k (pos 0) ∷ xs)
+
+-- the words of an instruction
+words-with : (i k : ℕ) (z : ℤ) → hasArgument (kindAt k .argument) ≡ true → itemWords (itemOf i k z) ≡ kindAt k .opcode ∷ residue z ∷ []
+unfolding itemWords
+words-with i k z t = rw t refl
+
+words-plain : (i k : ℕ) (z : ℤ) → hasArgument (kindAt k .argument) ≡ false → itemWords (itemOf i k z) ≡ kindAt k .opcode ∷ []
+unfolding itemWords
+words-plain i k z t = rw t refl
+
+-- one instruction is decoded
+decode-with : (i k : ℕ) (z : ℤ) (ws : List Word) → k < 61 → hasArgument (kindAt k .argument) ≡ true → IsNumber z
+    → entries opcode i (whole (kindAt k .opcode) ∷ whole (residue z) ∷ ws) ≡ item (itemOf i k z) ∷ entries opcode (i + sizeOf k) ws
+unfolding entries coded
+decode-with i k z ws h t n =
+    let s = size-two k t in
+    rw (kind-of-opcode k h, t, signed-back z n, s) (ap (λ j. item (itemOf i k z) ∷ entries opcode j ws) (omega arith))
+
+decode-plain : (i k : ℕ) (ws : List Word) → k < 61 → hasArgument (kindAt k .argument) ≡ false
+    → entries opcode i (whole (kindAt k .opcode) ∷ ws) ≡ item (itemOf i k (pos 0)) ∷ entries opcode (i + sizeOf k) ws
+unfolding entries coded
+decode-plain i k ws h t =
+    let s = size-one k t in
+    rw (kind-of-opcode k h, t, s) (ap (λ j. item (itemOf i k (pos 0)) ∷ entries opcode j ws) (omega arith))
+
+-- "Exporting and importing a routine .. brings back its code": the words of instructions are decoded to them
+pub decode-words : {i : ℕ} {xs : List Item} → Placed i xs → entries opcode i (map whole (wordsIn xs)) ≡ map item xs
+unfolding entries wordsIn
+decode-words none = refl
+decode-words (with-word {i} {k} {z} {xs} h t n p) =
+    ap (λ ws. entries opcode i (map whole (ws ++ wordsIn xs))) (words-with i k z t) ∙ decode-with i k z (map whole (wordsIn xs)) h t n ∙ ap (λ es. item (itemOf i k z) ∷ es) (decode-words p)
+decode-words (plain {i} {k} {xs} h t p) =
+    ap (λ ws. entries opcode i (map whole (ws ++ wordsIn xs))) (words-plain i k (pos 0) t) ∙ decode-plain i k (map whole (wordsIn xs)) h t ∙ ap (λ es. item (itemOf i k (pos 0)) ∷ es) (decode-words p)
+
+-- an instruction has two words at most, so that 1,024 have 8,192 bytes at most
+words-few : (x : Item) → length (itemWords x) ≤ 2
+unfolding itemWords
+words-few x = go (hasArgument (kindAt (x .kind) .argument))
+  where
+    go : (b : Bool) → length (kindAt (x .kind) .opcode ∷ cond b (residue (x .argument) ∷ []) []) ≤ 2
+    go true = omega arith
+    go false = omega arith
+
+all-few : (xs : List Item) → length (wordsIn xs) ≤ 2 * length xs
+unfolding wordsIn
+all-few [] = omega arith
+all-few (x ∷ xs) = let h = words-few x in let k = all-few xs in rw length-append (omega arith)
+
+pub export-fits : (xs : List Item) → length xs ≤ 1024 → length (allBytes (wordsIn xs)) ≤ 8192
+export-fits xs h = let k = all-few xs in let l = bytes-length (wordsIn xs) in omega arith
+
+-- ---- an offset leads back to the line that it was made of
+
+indices-are : (is : List ℕ) (i : ℕ) (xs : List Op) → map (λ x. x .index) (itemsFrom is i xs) ≡ positions i xs
+unfolding itemsFrom positions
+indices-are is i [] = refl
+indices-are is i (x ∷ xs) = ap (λ js. i ∷ js) (indices-are is (i + sizeOf (x .kind)) xs)
+
+-- positions rise
+position-from : (i n : ℕ) (xs : List Op) → n < length xs → i ≤ getD (positions i xs) n 0
+unfolding positions
+position-from i n [] h = absurd (omega arith)
+position-from i zero (x ∷ xs) h = omega arith
+position-from i (suc n) (x ∷ xs) h = let k = position-from (i + sizeOf (x .kind)) n xs (omega arith) in omega arith
+
+-- so that each is found at its own line
+position-found : (c i n : ℕ) (xs : List Op) → n < length xs → placeFrom c (getD (positions i xs) n 0) (positions i xs) ≡ at (c + n)
+unfolding positions placeFrom
+position-found c i n [] h = absurd (omega arith)
+position-found c i zero (x ∷ xs) h = rw (eq-eqb i i refl) (ap at (omega arith))
+position-found c i (suc n) (x ∷ xs) h =
+    let s = size-small (x .kind) in
+    let k = position-from (i + sizeOf (x .kind)) n xs (omega arith) in
+    let p = getD (positions (i + sizeOf (x .kind)) xs) n 0 in
+    let d : p ≡ i → ⊥ = λ e. omega arith in
+    rw (ne-eqb p i d) (position-found (suc c) (i + sizeOf (x .kind)) n xs (omega arith) ∙ ap at (omega arith))
+
+-- an offset and its position come to the index that it leads to
+offset-back : (p a : ℕ) → pos a +ℤ (pos p -ℤ pos a) ≡ pos p
+offset-back p zero = ap pos (omega arith)
+offset-back p (suc b) = go (ltb p (suc b)) refl
+  where
+    go : (t : Bool) → ltb p (suc b) ≡ t → pos (suc b) +ℤ cond t (negsuc (suc b - suc p)) (pos (p - suc b)) ≡ pos p
+    go true e =
+        let h = ltb-true p (suc b) e in
+        ap (λ t. cond t (negsuc (suc (suc b - suc p) - suc (suc b))) (pos (suc b - suc (suc b - suc p)))) (le-ltb (suc b) (suc (suc b - suc p)) (omega arith)) ∙ ap pos (omega arith)
+    go false e = let h = ltb-false p (suc b) e in ap pos (omega arith)
+
+-- a branch to line n of the code, exported and decoded, leads to instruction n
+pub target-back : (xs : List Op) (i n : ℕ) → n < length xs → numberAt (itemsFrom (positions 0 xs) 0 xs) (pos (suc i) +ℤ (pos (getD (positions 0 xs) n 0) -ℤ pos (suc i))) ≡ at n
+unfolding numberAt
+target-back xs i n h =
+    ap (numberAt (itemsFrom (positions 0 xs) 0 xs)) (offset-back (getD (positions 0 xs) n 0) (suc i))
+    ∙ ap (placeFrom 0 (getD (positions 0 xs) n 0)) (indices-are (positions 0 xs) 0 xs)
+    ∙ position-found 0 0 n xs h
+    ∙ ap at (omega arith)
+
+-- ---- the bytes of instructions are decoded to them
+
+-- each opcode is a word: computed for the whole table
+opcode-small : (k : ℕ) → k < 61 → kindAt k .opcode < modulus
+unfolding kinds
+opcode-small k h =
+    ltb-true _ _
+    (sym (column-at (λ r. r .opcode) (λ n. ltb n modulus) (λ r. ltb (r .opcode) modulus) 0 refl k h) ∙ column-at (λ r. r .opcode) (λ n. ltb n modulus) (λ r. true) 0 refl k h)
+
+residue-small : (z : ℤ) → residue z < modulus
+residue-small (pos n) = omega arith
+residue-small (negsuc n) = omega arith
+
+words-small : {i : ℕ} {xs : List Item} → Placed i xs → Every (λ n. n < modulus) (wordsIn xs)
+unfolding wordsIn
+words-small none = every.none
+words-small (with-word {i} {k} {z} {xs} h t n p) = rw (words-with i k z t) (more (opcode-small k h) (more (residue-small z) (words-small p)))
+words-small (plain {i} {k} {xs} h t p) = rw (words-plain i k (pos 0) t) (more (opcode-small k h) (words-small p))
+
+items-are : (xs : List Item) → items (map item xs) ≡ xs
+unfolding items
+items-are [] = refl
+items-are (x ∷ xs) = ap (λ ys. x ∷ ys) (items-are xs)
+
+pub bytes-decoded : {xs : List Item} → Placed 0 xs → items (decoded (wordsOf (allBytes (wordsIn xs)))) ≡ xs
+unfolding decoded
+bytes-decoded {xs} p = ap (λ ws. items (entries opcode 0 ws)) (words-back (wordsIn xs) (words-small p)) ∙ ap items (decode-words p) ∙ items-are xs

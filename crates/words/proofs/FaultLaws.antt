@@ -1,0 +1,54 @@
+-- Laws of the pass that looks for a fault, offsets aside: one turn, by the instruction at the head. Assumes nothing.
+use mathlib.Core.Path.{_≡_, refl, sym, ap, _∙_}
+use mathlib.Core.Bool.{Bool, true, false, cond}
+use mathlib.Core.List.{List, [], _∷_}
+use Prim.Native.Nat.{ℕ, suc, _+_, _<_, _≤_}
+use native.Mathlib.Omega.{arith}
+use native.Mathlib.Numerals.{add-one}
+use lib.IntN.{ℤ}
+use lib.ListN.{length, drop}
+use borrow.Author.Tests.{lt-ltb, le-ltb}
+use Rattle.text.specs.declared.Place.the-variants.{At as at, Missing as missing}
+use Rattle.instructions.specs.Columns.{kindAt}
+use Rattle.words.specs.declared.Head.the-variants as heads
+use Rattle.words.specs.Words.{Word, wordsOf}
+use Rattle.words.specs.Decoding.{opcode, entries, decoded, callListed, faultFrom, wordFault}
+use Rattle.words.specs.Held.{sizeOf, headOf}
+use Rattle.words.proofs.HeadLaws.{Read, head-unread, words-some}
+use Rattle.words.proofs.WordLaws.{words-none}
+
+-- no word at all
+pub fault-empty : (n : ℕ) (bs : List ℕ) → length bs ≡ 0 → wordFault n (wordsOf bs) ≡ at 0
+unfolding wordFault
+fault-empty n bs h = ap (wordFault n) (words-none bs h)
+
+pub fault-starts : (n : ℕ) (bs : List ℕ) → 0 < length bs → wordFault n (wordsOf bs) ≡ faultFrom n 0 (entries opcode 0 (wordsOf bs))
+unfolding wordFault decoded
+fault-starts n bs h = go (wordsOf bs) (words-some bs h)
+  where
+    go : (ws : List Word) → 0 < length ws → wordFault n ws ≡ faultFrom n 0 (entries opcode 0 ws)
+    go [] k = absurd (omega arith)
+    go (w ∷ ws) k = refl
+
+pub fault-none : (n c i : ℕ) (bs : List ℕ) → length bs ≡ 0 → faultFrom n c (entries opcode i (wordsOf bs)) ≡ missing
+unfolding entries faultFrom
+fault-none n c i bs h = rw (words-none bs h) refl
+
+pub fault-unread : (n c i : ℕ) (ws : List Word) → 0 < length ws → headOf ws ≡ heads.Unreadable → faultFrom n c (entries opcode i ws) ≡ at i
+unfolding faultFrom
+fault-unread n c i ws l h = ap (faultFrom n c) (head-unread i ws l h)
+
+module _ (n c : ℕ) {i k : ℕ} {z : ℤ} {ws : List Word} (r : Read i k z ws) where
+  pub fault-many : 1024 ≤ c → faultFrom n c (entries opcode i ws) ≡ at i
+  unfolding faultFrom
+  fault-many h = ap (faultFrom n c) (r .first) ∙ rw (le-ltb c 1024 h) refl
+
+  pub fault-call : c < 1024 → callListed n z (kindAt k .argument) ≡ false → faultFrom n c (entries opcode i ws) ≡ at (suc i)
+  unfolding faultFrom
+  fault-call h e = ap (faultFrom n c) (r .first) ∙ rw (lt-ltb c 1024 h, e) refl
+
+  -- the words vs follow, and the size is s
+  pub fault-next : c < 1024 → callListed n z (kindAt k .argument) ≡ true → {s : ℕ} → s ≡ sizeOf k → {vs : List Word} → vs ≡ drop (sizeOf k) ws
+      → faultFrom n c (entries opcode i ws) ≡ faultFrom n (c + 1) (entries opcode (i + s) vs)
+  unfolding faultFrom
+  fault-next h e {s} p {vs} q = ap (faultFrom n c) (r .first) ∙ rw (lt-ltb c 1024 h, e) (rw (p, q, add-one c) refl)

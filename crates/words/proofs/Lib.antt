@@ -1,0 +1,9 @@
+pub mod WordLaws
+pub mod HeadLaws
+pub mod FaultLaws
+pub mod PlaceLaws
+pub mod NumberingLaws
+pub mod OffsetLaws
+pub mod ExportLaws
+pub mod ResidueLaws
+pub mod Examples

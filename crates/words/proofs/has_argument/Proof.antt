@@ -1,0 +1,47 @@
+-- `words::has_argument` meets its contract. Assumes nothing.
+use mathlib.Core.Path.{sym, ap, _∙_}
+use Rattle.words.specs.Decoding.{hasArgument}
+use borrow.Author.Needs.{needs}
+use Rattle.words.proofs.has_argument.Statement.{statement}
+use Rattle.words.proofs.has_argument.Tie as tie
+
+argument-at-requires : tie.Need-argument-at-requires
+argument-at-requires c κs = search needs
+
+enum-told : tie.Need-enum-told
+enum-told c = search needs
+
+enum-told-2 : tie.Need-enum-told-2
+enum-told-2 c = search needs
+
+enum-told-3 : tie.Need-enum-told-3
+enum-told-3 c = search needs
+
+enum-told-4 : tie.Need-enum-told-4
+enum-told-4 c = search needs
+
+returns : tie.Need-returns
+returns c = sym (ap hasArgument (sym (c .before .before .argument-at .ensures) ∙ c .enum-told .given .1))
+
+returns-2 : tie.Need-returns-2
+returns-2 c = sym (ap hasArgument (sym (c .before .before .argument-at .ensures) ∙ c .enum-told2 .given .1))
+
+returns-3 : tie.Need-returns-3
+returns-3 c = sym (ap hasArgument (sym (c .before .before .argument-at .ensures) ∙ c .enum-told3 .given .1))
+
+returns-4 : tie.Need-returns-4
+returns-4 c = sym (ap hasArgument (sym (c .before .before .argument-at .ensures) ∙ c .enum-told4 .given .1))
+
+pub has-argument-spec : {M : Type 1} → statement M
+has-argument-spec =
+    tie.close
+    (tie.spec
+    argument-at-requires
+    enum-told
+    enum-told-2
+    enum-told-3
+    enum-told-4
+    returns
+    returns-2
+    returns-3
+    returns-4)

@@ -1,0 +1,85 @@
+-- `words::read_head` meets its contract. Assumes nothing.
+use Prim.Native.Nat.{ℕ, _<_}
+use mathlib.Core.Path.{_≡_, sym, ap, _∙_}
+use Rattle.text.specs.declared.Place.the-variants.{At}
+use Rattle.instructions.specs.Opcodes.{kindCoded}
+use Rattle.instructions.proofs.OpcodeLaws.{opcode-of-kind}
+use Rattle.words.specs.Words.{wordsOf}
+use Rattle.words.specs.Held.{withArgument}
+use Rattle.words.proofs.WordLaws.{firstOf, part-is}
+use Rattle.words.proofs.HeadLaws.{head-short, head-unknown, head-argument, head-plain}
+use borrow.Author.Needs.{needs}
+use Rattle.words.proofs.read_head.Statement.{statement}
+use Rattle.words.proofs.read_head.Tie as tie
+
+returns : tie.Need-returns
+returns c = sym (head-short (c .before .before .args .words .now) (c .if1 .taken))
+
+first-word-requires : tie.Need-first-word-requires
+first-word-requires c κs = search needs
+
+kind-coded-requires : tie.Need-kind-coded-requires
+kind-coded-requires c κs = search needs
+
+enum-known-k : tie.Need-enum-known-k
+enum-known-k c = search needs
+
+enum-told : tie.Need-enum-told
+enum-told c = search needs
+
+returns-2 : tie.Need-returns-2
+returns-2 c =
+    let f = c .before .before .before in
+    let e = ap kindCoded (sym (f .first-word .ensures)) ∙ sym (c .before .before .kind-coded .ensures) ∙ c .enum-told .given .1 in
+    sym (head-unknown (f .before .before .before .args .words .now) (f .before .if1 .left) e)
+
+has-argument-requires : tie.Need-has-argument-requires
+has-argument-requires c κs = opcode-of-kind _ _ (sym (c .before .before .before .kind-coded .ensures) ∙ c .before .k .given .1) .0
+
+sub-with-argument : tie.Need-sub-with-argument
+sub-with-argument c = search needs
+
+part-with-argument-start : tie.Need-part-with-argument-start
+part-with-argument-start c = search needs
+
+part-with-argument-end : tie.Need-part-with-argument-end
+part-with-argument-end c = search needs
+
+with-argument-requires : tie.Need-with-argument-requires
+with-argument-requires c κs = search needs
+
+returns-3 : tie.Need-returns-3
+returns-3 c =
+    let k = c .before .before .before .before .before in
+    let f = k .before .before .before in
+    let a = f .before .before .before .args in
+    let e = ap kindCoded (sym (f .first-word .ensures)) ∙ sym (k .before .before .kind-coded .ensures) ∙ k .k .given .1 in
+    let t = sym (c .before .before .before .has-argument .ensures) ∙ c .before .before .if2 .taken in
+    c .with-argument .ensures ∙ ap (λ bs. withArgument (k .k .given .0 .0) (wordsOf bs)) (part-is (a .words .now) 4) ∙ sym (head-argument (a .words .now) (f .before .if1 .left) _ e t)
+
+returns-4 : tie.Need-returns-4
+returns-4 c =
+    let k = c .before .before .before in
+    let f = k .before .before .before in
+    let a = f .before .before .before .args in
+    let e = ap kindCoded (sym (f .first-word .ensures)) ∙ sym (k .before .before .kind-coded .ensures) ∙ k .k .given .1 in
+    let t = sym (c .before .has-argument .ensures) ∙ c .if2 .left in
+    sym (head-plain (a .words .now) (f .before .if1 .left) _ e t)
+
+pub read-head-spec : {M : Type 1} → statement M
+read-head-spec =
+    tie.close
+    (tie.spec
+    returns
+    first-word-requires
+    kind-coded-requires
+    enum-known-k
+    enum-told
+    returns-2
+    has-argument-requires
+    sub-with-argument
+    part-with-argument-start
+    part-with-argument-end
+    with-argument-requires
+    returns-3
+    returns-4)

@@ -1,0 +1,66 @@
+-- What an import answers to words and a primitives line. (document 02, §2)
+use Prim.Native.Nat.{ℕ}
+use mathlib.Core.Bool.{Bool, cond, not, _&&_}
+use mathlib.Core.List.{List, [], _∷_}
+use lib.ListN.{length}
+use Rattle.refusals.specs.declared.Refusal.the-variants.{Layout, BadName, BadWord}
+use Rattle.refusals.specs.declared.Verdict.{Verdict}
+use Rattle.refusals.specs.declared.Verdict.the-variants.{Accepted as accepted, Refused as refused}
+use Rattle.text.specs.Text.{isEmpty, words, Line, noLine, lines, all}
+use Rattle.text.specs.declared.Place.{Place}
+use Rattle.text.specs.declared.Place.the-variants.{At as at, Missing as missing}
+use Rattle.routine.specs.declared.Section.the-variants.{Primitives as primitives}
+use Rattle.routine.specs.Layout.{list}
+use Rattle.routine.specs.Rows.{namesLaidOut, wellNamed}
+use Rattle.words.specs.Words.{wordsOf}
+use Rattle.words.specs.Decoding.{decoded, items, codeFault}
+use Rattle.words.specs.Lines.{codeText}
+
+-- ---- the primitives line
+
+-- laid out as the line of the file: "words are parted by one space", no 33rd name
+unfoldable pub lineLaidOut : List ℕ → Bool
+lineLaidOut text = all (λ w. not (isEmpty w)) (words text) && namesLaidOut primitives text
+
+-- 2, then 4, at place 1
+unfoldable pub lineVerdict : List ℕ → Verdict
+lineVerdict text = cond (lineLaidOut text) (cond (wellNamed primitives (list text)) accepted (refused (BadName 1))) (refused (Layout 1))
+
+-- one line, with or without a final line feed
+unfoldable pub oneLine : List Line → Verdict
+oneLine [] = refused (Layout 1)
+oneLine (l ∷ []) = lineVerdict (l .text)
+oneLine (l ∷ m ∷ ls) = refused (Layout 1)
+
+-- "refuses its primitives line by 2 or 4 at place 1"
+unfoldable pub primitivesVerdict : List ℕ → Verdict
+primitivesVerdict text = oneLine (lines text)
+
+-- the text of the first line
+abbrev pub firstText : List Line → List ℕ
+firstText [] = []
+firstText (l ∷ ls) = l .text
+
+-- the names on the primitives line
+unfoldable pub primitivesOf : List ℕ → List (List ℕ)
+primitivesOf text = list (firstText (lines text))
+
+-- ---- the import
+
+-- "New numbers: 12"
+unfoldable pub faultVerdict : Place → Verdict
+faultVerdict missing = accepted
+faultVerdict (at i) = refused (BadWord i)
+
+-- the first verdict, or the second where the first accepts
+unfoldable pub both : Verdict → Verdict → Verdict
+both accepted v = v
+both (refused r) v = refused r
+
+-- 2 and 4 of the line, then 12
+unfoldable pub importVerdict : List ℕ → List ℕ → Verdict
+importVerdict bs line = both (primitivesVerdict line) (faultVerdict (codeFault (length (primitivesOf line)) (wordsOf bs)))
+
+-- what an import makes of words that it accepts
+unfoldable pub importText : List ℕ → List ℕ → List ℕ
+importText bs line = codeText (primitivesOf line) (items (decoded (wordsOf bs)))
