@@ -39,6 +39,38 @@ covered-body : (row : Row) (ls : List Line) → refusedLine row ls ≡ nowhere �
 unfolding roles body
 covered-body row ls e = covered-drop layout (bodyRoles (body ls)) (row-covered row ls e)
 
+-- each code line from number k on passes the test t
+pub data Coded (t : Role → Line → Bool) : ℕ → List Line → Type 0 where
+  none : {k : ℕ} → Coded t k []
+  next : {k : ℕ} {l : Line} {ls : List Line} → t (code k) l ≡ true → Coded t (suc k) ls → Coded t k (l ∷ ls)
+
+code-covered : {t : Role → Line → Bool} (k : ℕ) (bs : List Line) → Covered t (codeRoles k bs) bs → Coded t k (upToAnswer bs)
+unfolding codeRoles upToAnswer
+code-covered k [] c = none
+code-covered {t} k (l ∷ bs) c = go (isAnswer l) c (code-covered (suc k) bs)
+  where
+    go : (b : Bool) → Covered t (cond b (names answers ∷ answerRoles 0 bs) (code k ∷ codeRoles (suc k) bs)) (l ∷ bs) → (Covered t (codeRoles (suc k) bs) bs → Coded t (suc k) (upToAnswer bs))
+        → Coded t k (cond b [] (l ∷ upToAnswer bs))
+    go true c ih = none
+    go false (passed p c) ih = next p (ih c)
+
+body-covered : {t : Role → Line → Bool} (bs : List Line) → Covered t (bodyRoles bs) bs → Coded t 0 (codeLines bs)
+unfolding bodyRoles codeLines
+body-covered [] c = none
+body-covered (l ∷ bs) (passed p c) = next p (code-covered 1 bs c)
+
+-- where a row refuses no line, each code line passes its test
+pub code-passed : (row : Row) (ls : List Line) → refusedLine row ls ≡ nowhere → Coded (test row ls) 0 (codeLines (body ls))
+code-passed row ls e = body-covered (body ls) (covered-body row ls e)
+
+-- there is one at least
+some-code : {t : Role → Line → Bool} (bs : List Line) → Covered t (bodyRoles bs) bs → 1 ≤ length (codeLines bs)
+unfolding bodyRoles codeLines
+some-code (l ∷ bs) (passed p c) = omega arith
+
+pub code-some : (row : Row) (ls : List Line) → refusedLine row ls ≡ nowhere → 1 ≤ length (codeLines (body ls))
+code-some row ls e = some-code (body ls) (covered-body row ls e)
+
 -- ---- the first address
 
 first-within : (ls bs : List Line) → Covered (test range-row ls) (bodyRoles bs) bs → within firstAddresses (firstAt bs) ≡ true

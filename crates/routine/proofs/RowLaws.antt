@@ -229,10 +229,23 @@ pub laid-out : (ls : List Line) (r : Role) (l : Line) → test layout-row ls r l
 unfolding test
 laid-out ls r l h = and-right (l .ended && all (λ w. not (isEmpty w)) (words (l .text))) (laidOut ls r (l .text)) h
 
+spaced : (ls : List Line) (r : Role) (l : Line) → test layout-row ls r l ≡ true → (l .ended && all (λ w. not (isEmpty w)) (words (l .text))) ≡ true
+unfolding test
+spaced ls r l h = and-left (l .ended && all (λ w. not (isEmpty w)) (words (l .text))) (laidOut ls r (l .text)) h
+
+pub lines-ended : (ls : List Line) → refusedLine layout-row ls ≡ nowhere → Every (λ l. l .ended ≡ true) ls
+lines-ended ls e =
+    held-lines layout-row layout-row ls e e (λ r l h g. and-left (l .ended) (all (λ w. not (isEmpty w)) (words (l .text))) (spaced ls r l h))
+
 -- the tests of rows 2, 3 and 4 on the lines of the layout
 module _ {ls : List Line} (p : Passes ls) (r : Role) (s : First r layout) where
   pub passes-laid-out : laidOut ls r (textAt r layout ls) ≡ true
   passes-laid-out = held-row layout-row ls (p .layout) r s (λ x. laidOut ls r x ≡ true) (laid-out ls r)
+
+  pub passes-spaced : all (λ w. not (isEmpty w)) (words (textAt r layout ls)) ≡ true
+  passes-spaced =
+      held-row layout-row ls (p .layout) r s (λ x. all (λ w. not (isEmpty w)) (words x) ≡ true)
+      (λ l h. and-right (l .ended) (all (λ w. not (isEmpty w)) (words (l .text))) (spaced ls r l h))
 
   pub passes-range : inRange ls r (textAt r layout ls) ≡ true
   unfolding test

@@ -1,0 +1,120 @@
+-- Laws of pieces put together again: the pieces of a text make the text, and joined pieces are split into the same; lines that each
+-- end in a line feed likewise. Assumes nothing.
+use mathlib.Core.Path.{_≡_, refl, sym, ap, subst, _∙_}
+use mathlib.Core.Bool.{Bool, true, false, cond, false≢true}
+use mathlib.Core.List.{List, [], _∷_, _++_, append-assoc, map}
+use Prim.Native.Nat.{ℕ, suc, _+_, _<_, _≤_}
+use native.Mathlib.Omega.{arith}
+use lib.Dec.{eqb}
+use lib.ListN.{length}
+use borrow.Author.Tests.{eqb-true, eqb-false, eq-eqb, ne-eqb}
+use Rattle.text.specs.Text.{bytes, isEmpty, onto, split, words, Line, linesOf, lines}
+use Rattle.text.proofs.TextLaws.{Every, none, more}
+use Rattle.text.proofs.PieceLaws.{split-some}
+use Rattle.text.proofs.LineLaws.{endedLine}
+use Rattle.inverses.specs.Sections.{linesText}
+
+-- ---- pieces
+
+-- no byte of a piece is c
+abbrev pub Free : ℕ → List ℕ → Type 0
+Free c w = Every (λ b. b ≡ c → ⊥) w
+
+-- pieces with c between them
+pub joined : ℕ → List (List ℕ) → List ℕ
+joined c [] = []
+joined c (w ∷ []) = w
+joined c (w ∷ v ∷ ws) = w ++ c ∷ joined c (v ∷ ws)
+
+join-onto : (c x : ℕ) (ps : List (List ℕ)) → 0 < length ps → joined c (onto x ps) ≡ x ∷ joined c ps
+unfolding joined
+join-onto c x [] h = absurd (omega arith)
+join-onto c x (w ∷ []) h = refl
+join-onto c x (w ∷ v ∷ ws) h = refl
+
+join-empty : (c : ℕ) (ps : List (List ℕ)) → 0 < length ps → joined c ([] ∷ ps) ≡ c ∷ joined c ps
+unfolding joined
+join-empty c [] h = absurd (omega arith)
+join-empty c (w ∷ ws) h = refl
+
+-- the pieces of a text make the text
+pub join-split : (c : ℕ) (s : List ℕ) → joined c (split c s) ≡ s
+unfolding split joined
+join-split c [] = refl
+join-split c (x ∷ xs) = go (eqb x c) refl (join-split c xs)
+  where
+    go : (b : Bool) → eqb x c ≡ b → joined c (split c xs) ≡ xs → joined c (cond b ([] ∷ split c xs) (onto x (split c xs))) ≡ x ∷ xs
+    go true e ih = join-empty c (split c xs) (split-some c xs) ∙ ap (λ d. d ∷ joined c (split c xs)) (sym (eqb-true x c e)) ∙ ap (λ t. x ∷ t) ih
+    go false e ih = join-onto c x (split c xs) (split-some c xs) ∙ ap (λ t. x ∷ t) ih
+
+-- no piece holds the byte that parts them
+onto-free : (c x : ℕ) (ps : List (List ℕ)) → (x ≡ c → ⊥) → Every (Free c) ps → Every (Free c) (onto x ps)
+onto-free c x [] h none = more (more h none) none
+onto-free c x (w ∷ ws) h (more p ps) = more (more h p) ps
+
+pub split-free : (c : ℕ) (s : List ℕ) → Every (Free c) (split c s)
+unfolding split
+split-free c [] = more none none
+split-free c (x ∷ xs) = go (eqb x c) refl (split-free c xs)
+  where
+    go : (b : Bool) → eqb x c ≡ b → Every (Free c) (split c xs) → Every (Free c) (cond b ([] ∷ split c xs) (onto x (split c xs)))
+    go true e ih = more none ih
+    go false e ih = onto-free c x (split c xs) (eqb-false x c e) ih
+
+-- joined pieces are split into the same
+pub split-alone : (c : ℕ) {w : List ℕ} → Free c w → split c w ≡ w ∷ []
+unfolding split
+split-alone c none = refl
+split-alone c (more {x} {xs} h hs) = rw (ne-eqb x c h, split-alone c hs) refl
+
+pub split-first : (c : ℕ) {w : List ℕ} (t : List ℕ) → Free c w → split c (w ++ c ∷ t) ≡ w ∷ split c t
+unfolding split
+split-first c t none = rw (eq-eqb c c refl) refl
+split-first c t (more {x} {xs} h hs) = rw (ne-eqb x c h, split-first c t hs) refl
+
+-- ---- lines
+
+-- lines that each end in a line feed, one after the other
+pub lines-append : (ls ms : List Line) → linesText (ls ++ ms) ≡ linesText ls ++ linesText ms
+unfolding linesText
+lines-append [] ms = refl
+lines-append (l ∷ ls) ms = ap (λ t. l .text ++ bytes "\n" ++ t) (lines-append ls ms) ∙ sym (append-assoc (l .text ++ bytes "\n") (linesText ls) (linesText ms))
+
+-- a text whose lines all end in a line feed is the text of its lines
+pieces-text : (ps : List (List ℕ)) → 0 < length ps → Every (λ l. l .ended ≡ true) (linesOf ps) → linesText (linesOf ps) ≡ joined 10 ps
+unfolding linesOf linesText joined
+pieces-text [] h e = absurd (omega arith)
+pieces-text ([] ∷ []) h e = refl
+pieces-text ((x ∷ xs) ∷ []) h (more k none) = absurd (false≢true k)
+pieces-text (p ∷ q ∷ ps) h (more k e) = append-assoc p (10 ∷ []) (linesText (linesOf (q ∷ ps))) ∙ ap (λ t. p ++ 10 ∷ t) (pieces-text (q ∷ ps) (omega arith) e)
+
+pub text-of-lines : (text : List ℕ) → Every (λ l. l .ended ≡ true) (lines text) → linesText (lines text) ≡ text
+unfolding lines
+text-of-lines text e = pieces-text (split 10 text) (split-some 10 text) e ∙ join-split 10 text
+
+-- no line holds a line feed
+pieces-free : (ps : List (List ℕ)) → Every (Free 10) ps → Every (λ l. Free 10 (l .text)) (linesOf ps)
+unfolding linesOf
+pieces-free [] none = none
+pieces-free ([] ∷ []) (more k none) = none
+pieces-free ((x ∷ xs) ∷ []) (more k none) = more k none
+pieces-free (p ∷ q ∷ ps) (more k ks) = more k (pieces-free (q ∷ ps) ks)
+
+pub lines-free : (text : List ℕ) → Every (λ l. Free 10 (l .text)) (lines text)
+unfolding lines
+lines-free text = pieces-free (split 10 text) (split-free 10 text)
+
+-- the lines of a text that is made of lines
+more-lines : (p : List ℕ) (ps : List (List ℕ)) → 0 < length ps → linesOf (p ∷ ps) ≡ endedLine p ∷ linesOf ps
+unfolding linesOf
+more-lines p [] h = absurd (omega arith)
+more-lines p (q ∷ ps) h = refl
+
+pub lines-of-text : {ls : List Line} → Every (λ l. Free 10 (l .text)) ls → lines (linesText ls) ≡ map (λ l. endedLine (l .text)) ls
+unfolding lines linesText linesOf split
+lines-of-text none = refl
+lines-of-text (more {x = l} {xs = ls} h hs) =
+    ap (λ t. linesOf (split 10 t)) (append-assoc (l .text) (10 ∷ []) (linesText ls))
+    ∙ ap linesOf (split-first 10 (linesText ls) h)
+    ∙ more-lines (l .text) (split 10 (linesText ls)) (split-some 10 (linesText ls))
+    ∙ ap (λ ms. endedLine (l .text) ∷ ms) (lines-of-text hs)

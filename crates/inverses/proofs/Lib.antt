@@ -1,0 +1,3 @@
+pub mod SpellingLaws
+pub mod JoinLaws
+pub mod FileLaws
