@@ -6,7 +6,7 @@ use mathlib.Core.List.{List, [], _∷_, _++_, append-assoc, map}
 use Prim.Native.Nat.{ℕ, suc, _+_, _<_, _≤_}
 use native.Mathlib.Omega.{arith}
 use lib.Dec.{eqb}
-use lib.ListN.{length}
+use lib.ListN.{length, getD}
 use borrow.Author.Tests.{eqb-true, eqb-false, eq-eqb, ne-eqb}
 use Rattle.text.specs.Text.{bytes, isEmpty, onto, split, words, Line, linesOf, lines}
 use Rattle.text.proofs.TextLaws.{Every, none, more}
@@ -118,3 +118,24 @@ lines-of-text (more {x = l} {xs = ls} h hs) =
     ∙ ap linesOf (split-first 10 (linesText ls) h)
     ∙ more-lines (l .text) (split 10 (linesText ls)) (split-some 10 (linesText ls))
     ∙ ap (λ ms. endedLine (l .text) ∷ ms) (lines-of-text hs)
+
+-- ---- words
+
+-- a text of three words
+pub words-three : (text : List ℕ) → length (words text) ≡ 3 → text ≡ getD (words text) 0 [] ++ bytes " " ++ getD (words text) 1 [] ++ bytes " " ++ getD (words text) 2 []
+unfolding words joined
+words-three text h = sym (join-split 32 text) ∙ go (split 32 text) h
+  where
+    go : (ws : List (List ℕ)) → length ws ≡ 3 → joined 32 ws ≡ getD ws 0 [] ++ bytes " " ++ getD ws 1 [] ++ bytes " " ++ getD ws 2 []
+    go [] e = absurd (omega arith)
+    go (x ∷ []) e = absurd (omega arith)
+    go (x ∷ y ∷ []) e = absurd (omega arith)
+    go (x ∷ y ∷ z ∷ []) e = simp append-assoc
+    go (x ∷ y ∷ z ∷ v ∷ vs) e = absurd (omega arith)
+
+-- what stands before the first c, and what stands after it
+pub cut-same : (c : ℕ) {w v : List ℕ} (t u : List ℕ) → Free c w → Free c v → w ++ c ∷ t ≡ v ++ c ∷ u → (w ≡ v) × (t ≡ u)
+cut-same c {w} {v} t u f g e =
+    let q : w ∷ split c t ≡ v ∷ split c u = sym (split-first c t f) ∙ ap (split c) e ∙ split-first c u g in
+    let s : split c t ≡ split c u = cc in
+    ((cc), sym (join-split c t) ∙ ap (joined c) s ∙ join-split c u)

@@ -83,7 +83,7 @@ export-fits xs h = let k = all-few xs in let l = bytes-length (wordsIn xs) in om
 
 -- ---- an offset leads back to the line that it was made of
 
-indices-are : (is : List ℕ) (i : ℕ) (xs : List Op) → map (λ x. x .index) (itemsFrom is i xs) ≡ positions i xs
+pub indices-are : (is : List ℕ) (i : ℕ) (xs : List Op) → map (λ x. x .index) (itemsFrom is i xs) ≡ positions i xs
 unfolding itemsFrom positions
 indices-are is i [] = refl
 indices-are is i (x ∷ xs) = ap (λ js. i ∷ js) (indices-are is (i + sizeOf (x .kind)) xs)
@@ -146,11 +146,14 @@ words-small none = every.none
 words-small (with-word {i} {k} {z} {xs} h t n p) = rw (words-with i k z t) (more (opcode-small k h) (more (residue-small z) (words-small p)))
 words-small (plain {i} {k} {xs} h t p) = rw (words-plain i k (pos 0) t) (more (opcode-small k h) (words-small p))
 
-items-are : (xs : List Item) → items (map item xs) ≡ xs
+pub items-are : (xs : List Item) → items (map item xs) ≡ xs
 unfolding items
 items-are [] = refl
 items-are (x ∷ xs) = ap (λ ys. x ∷ ys) (items-are xs)
 
-pub bytes-decoded : {xs : List Item} → Placed 0 xs → items (decoded (wordsOf (allBytes (wordsIn xs)))) ≡ xs
+pub bytes-entries : {xs : List Item} → Placed 0 xs → decoded (wordsOf (allBytes (wordsIn xs))) ≡ map item xs
 unfolding decoded
-bytes-decoded {xs} p = ap (λ ws. items (entries opcode 0 ws)) (words-back (wordsIn xs) (words-small p)) ∙ ap items (decode-words p) ∙ items-are xs
+bytes-entries {xs} p = ap (entries opcode 0) (words-back (wordsIn xs) (words-small p)) ∙ decode-words p
+
+pub bytes-decoded : {xs : List Item} → Placed 0 xs → items (decoded (wordsOf (allBytes (wordsIn xs)))) ≡ xs
+bytes-decoded {xs} p = ap items (bytes-entries p) ∙ items-are xs

@@ -1,0 +1,200 @@
+-- Laws of an export that is imported: of a passing file that begins at address 0 the words are accepted with its primitives line, and
+-- the lines made are those of the file. Assumes nothing.
+use mathlib.Core.Path.{_≡_, refl, sym, ap, subst, _∙_}
+use mathlib.Core.Bool.{Bool, true, false, cond, not, _&&_, false≢true}
+use mathlib.Core.List.{List, [], _∷_, _++_, map}
+use Prim.Native.Nat.{ℕ, zero, suc, _+_, _-_, _*_, _<_, _≤_}
+use native.Mathlib.Omega.{arith}
+use lib.Dec.{leb, ltb}
+use lib.IntN.{ℤ, pos, negsuc, natAbs, _+ℤ_, _-ℤ_}
+use lib.ListN.{length, getD, length-map}
+use borrow.Author.Tests.{leb-true, ltb-true, ltb-false}
+use Rattle.refusals.specs.declared.Verdict.the-variants.{Accepted as accepted}
+use Rattle.text.specs.Text.{bytes, isEmpty, split, words, Line, linesOf, lines, place, indexOf, find, all}
+use Rattle.text.specs.declared.Place.{Place}
+use Rattle.text.specs.declared.Place.the-variants.{At as at, Missing as missing}
+use Rattle.text.proofs.TextLaws.{Every, none, more, place-below}
+use Rattle.text.proofs.LineLaws.{unendedLine}
+use Rattle.numbers.specs.Numbers.{half, IsNumber, within, numbers}
+use Rattle.instructions.specs.Kinds.{addresses, kindNames}
+use Rattle.instructions.specs.Columns.{kindAt}
+use Rattle.instructions.specs.declared.Argument.{Argument}
+use Rattle.instructions.specs.declared.Argument.the-variants.{Absent, Target, Primitive, Within}
+use Rattle.routine.specs.declared.Section.the-variants.{Primitives as primitives}
+use Rattle.routine.specs.declared.Role.{Role}
+use Rattle.routine.specs.declared.Role.the-variants.{Names as names}
+use Rattle.routine.specs.declared.Row.the-variants.{Layout as layout-row, Range as range-row, Name as name-row, Target as target-row}
+use Rattle.routine.specs.Layout.{layout, body, codeLines, isRole, list, textAt, listed}
+use Rattle.routine.specs.Rows.{value, op, arg, namesLaidOut, laidOut, wellNamed, named, firstAt, test, Passes}
+use Rattle.routine.specs.Routine.{inside, argumentValue, firstAddress}
+use Rattle.routine.proofs.RowLaws.{passes-laid-out, passes-spaced, passes-named}
+use Rattle.routine.proofs.RangeLaws.{Natural, natural-inside, inside-keeps, every-mapped}
+use Rattle.routine.proofs.PassingLaws.{Coded, code-passed, code-some, code-few, first-small}
+use Rattle.routine.proofs.PassingLaws as coded
+use Rattle.words.specs.Words.{wordsOf, allBytes}
+use Rattle.words.specs.Decoding.{decoded, items, faultFrom, wordFault, offsetFault, codeFault}
+use Rattle.words.specs.Lines.{codeText}
+use Rattle.words.specs.Import.{lineLaidOut, lineVerdict, oneLine, primitivesVerdict, firstText, primitivesOf, faultVerdict, both, importVerdict, importText}
+use Rattle.words.specs.Export.{Op, relative, opOf, positions, itemsFrom, itemWords, wordsIn, exportOps, exportBytes}
+use Rattle.words.proofs.WordLaws.{bytes-length}
+use Rattle.words.proofs.FaultLaws.{fault-starts}
+use Rattle.words.proofs.OffsetLaws.{fault-then}
+use Rattle.words.proofs.ExportLaws.{Placed, bytes-entries, bytes-decoded}
+use Rattle.inverses.specs.Sections.{linesText, codeSection, primitivesLine}
+use Rattle.inverses.proofs.JoinLaws.{Free, split-alone, lines-free}
+use Rattle.inverses.proofs.FileLaws.{section-text}
+use Rattle.inverses.proofs.LineLaws.{argument-number, code-said}
+use Rattle.inverses.proofs.ImportedLaws.{Said, end, next, exported, all-placed, lines-made, no-fault, no-offset-fault}
+
+-- ---- the value of an argument is a number
+
+difference-number : (a b : ℕ) → a ≤ 62000 → b ≤ 60000 → IsNumber (pos a -ℤ pos b)
+difference-number a zero h k = record { fits = omega arith }
+difference-number a (suc b) h k = go (ltb a (suc b)) refl
+  where
+    go : (t : Bool) → ltb a (suc b) ≡ t → IsNumber (cond t (negsuc (suc b - suc a)) (pos (a - suc b)))
+    go true e = record { fits = omega arith }
+    go false e = record { fits = omega arith }
+
+find-small : (w : List ℕ) (ws : List (List ℕ)) → find w ws ≤ length ws
+unfolding find
+find-small w ws = go (place w ws) refl
+  where
+    go : (p : Place) → place w ws ≡ p → indexOf p ≤ length ws
+    go (at k) e = omega (arith, place-below 0 w ws e)
+    go missing e = omega arith
+
+value-number : (ps : List (List ℕ)) → length ps ≤ 32 → (first : ℕ) → first ≤ 60000 → (w : List ℕ) (a : Argument) → IsNumber (relative first (argumentValue ps w a) a)
+unfolding relative argumentValue
+value-number ps h first k w Absent = record { fits = omega arith }
+value-number ps h first k w Target =
+    let n = natural-inside 0 62000 (value w) in
+    subst (λ z. IsNumber (z -ℤ pos first)) (n .is) (difference-number (natAbs (inside addresses (value w))) first (n .below) k)
+value-number ps h first k w Primitive = let f = find-small w ps in record { fits = omega arith }
+value-number ps h first k w (Within r) = inside-keeps IsNumber numbers (value w) (record { fits = omega arith }) (λ y e. argument-number numbers y refl e)
+
+-- ---- the lines of a file
+
+-- every code line says what is exported of it
+all-said : (ls : List Line) → firstAt (body ls) ≡ pos 0 → {k : ℕ} (ms : List Line)
+    → Coded (test layout-row ls) k ms → Coded (test range-row ls) k ms → Coded (test name-row ls) k ms → Coded (test target-row ls) k ms
+    → Said (listed (names primitives) ls) (length (codeLines (body ls))) k ms (map (λ l. opOf (listed (names primitives) ls) (firstAddress (body ls)) (l .text)) ms)
+all-said ls b [] coded.none coded.none coded.none coded.none = end
+all-said ls b {k} (l ∷ ms) (coded.next p₂ c₂) (coded.next p₃ c₃) (coded.next p₄ c₄) (coded.next p₆ c₆) =
+    next (code-said ls b k l p₂ p₃ p₄ p₆) (all-said ls b ms c₂ c₃ c₄ c₆)
+
+-- what holds of every line holds of the one that has a role
+role-every : (P : List ℕ → Type 0) → P [] → (r : Role) (rs : List Role) {ls : List Line} → Every (λ l. P (l .text)) ls → P (textAt r rs ls)
+unfolding textAt
+role-every P e r [] h = e
+role-every P e r (x ∷ rs) none = e
+role-every P e r (x ∷ rs) (more {x = l} {xs = ls} p ps) = go (isRole r x) (role-every P e r rs ps)
+  where
+    go : (b : Bool) → P (textAt r rs ls) → P (cond b (l .text) (textAt r rs ls))
+    go true h = p
+    go false h = h
+
+-- a line with a word on it and no line feed is one line
+one-line : (w : List ℕ) → Free 10 w → all (λ v. not (isEmpty v)) (words w) ≡ true → lines w ≡ unendedLine w ∷ []
+unfolding lines linesOf words split all
+one-line [] f e = absurd (false≢true e)
+one-line (x ∷ xs) f e = ap linesOf (split-alone 10 f)
+
+module _ (text : List ℕ) (p : Passes (lines text)) where
+  abbrev ls : List Line
+  ls = lines text
+
+  primitives-line : lines (primitivesLine ls) ≡ unendedLine (primitivesLine ls) ∷ []
+  primitives-line =
+      one-line (primitivesLine ls) (role-every (Free 10) none (names primitives) layout (lines-free text)) (passes-spaced p (names primitives) refl)
+
+  pub primitives-accepted : primitivesVerdict (primitivesLine ls) ≡ accepted
+  unfolding primitivesVerdict oneLine lineVerdict lineLaidOut laidOut named
+  primitives-accepted =
+      rw (primitives-line, passes-spaced p (names primitives) refl, passes-laid-out p (names primitives) refl, passes-named p (names primitives) refl) refl
+
+  pub primitives-same : primitivesOf (primitivesLine ls) ≡ listed (names primitives) ls
+  unfolding primitivesOf listed
+  primitives-same = rw primitives-line refl
+
+  pub primitives-few : length (listed (names primitives) ls) ≤ 32
+  unfolding laidOut namesLaidOut listed
+  primitives-few = leb-true (length (listed (names primitives) ls)) 32 (passes-laid-out p (names primitives) refl)
+
+  module _ (begins : firstAt (body ls) ≡ pos 0) where
+    abbrev ps : List (List ℕ)
+    ps = listed (names primitives) ls
+
+    abbrev pub ops : List Op
+    ops = map (λ l. opOf ps (firstAddress (body ls)) (l .text)) (codeLines (body ls))
+
+    counted : length ops ≡ length (codeLines (body ls))
+    counted = length-map (codeLines (body ls)) (λ l. opOf ps (firstAddress (body ls)) (l .text))
+
+    few : length ops ≤ 1024
+    few = rw counted (code-few ls (p .layout))
+
+    room : 0 + length ops ≤ 1024
+    room = let h = few in omega arith
+
+    some : 1 ≤ length ops
+    some = rw counted (code-some layout-row ls (p .layout))
+
+    pub file-said : Said ps (length ops) 0 (codeLines (body ls)) ops
+    file-said =
+        subst (λ n. Said ps n 0 (codeLines (body ls)) ops) (sym counted)
+        (all-said ls begins (codeLines (body ls)) (code-passed layout-row ls (p .layout)) (code-passed range-row ls (p .range)) (code-passed name-row ls (p .names)) (code-passed target-row ls (p .targets)))
+
+    op-number : (l : Line) → IsNumber (opOf ps (firstAddress (body ls)) (l .text) .value)
+    unfolding opOf
+    op-number l = value-number ps primitives-few (firstAddress (body ls)) (first-small (firstAt (body ls))) (arg (l .text)) (kindAt (find (op (l .text)) kindNames) .argument)
+
+    file-placed : Placed 0 (exported ps ops few)
+    file-placed = all-placed ps ops few 0 file-said (omega arith) room (every-mapped (λ l. opOf ps (firstAddress (body ls)) (l .text)) op-number (codeLines (body ls)))
+
+    export-items : exportBytes ls ≡ allBytes (wordsIn (exported ps ops few))
+    unfolding exportBytes exportOps
+    export-items = refl
+
+    decoded-items : items (decoded (wordsOf (exportBytes ls))) ≡ exported ps ops few
+    decoded-items = ap (λ bs. items (decoded (wordsOf bs))) export-items ∙ bytes-decoded file-placed
+
+    -- there is a word at least
+    words-some : (xs : List Op) (is : List ℕ) (i : ℕ) → 1 ≤ length xs → 1 ≤ length (wordsIn (itemsFrom is i xs))
+    unfolding wordsIn itemsFrom itemWords
+    words-some [] is i h = absurd (omega arith)
+    words-some (x ∷ xs) is i h = omega arith
+
+    export-some : 0 < length (exportBytes ls)
+    export-some =
+        let h = bytes-length (wordsIn (exported ps ops few)) in
+        let k = words-some ops (positions 0 ops) 0 some in
+        rw export-items (omega arith)
+
+    words-sound : wordFault (length ps) (wordsOf (exportBytes ls)) ≡ missing
+    unfolding decoded
+    words-sound =
+        fault-starts (length ps) (exportBytes ls) export-some
+        ∙ ap (λ bs. faultFrom (length ps) 0 (decoded (wordsOf bs))) export-items
+        ∙ ap (faultFrom (length ps) 0) (bytes-entries file-placed)
+        ∙ no-fault ps ops few 0 file-said (omega arith) room
+
+    export-sound : codeFault (length ps) (wordsOf (exportBytes ls)) ≡ missing
+    export-sound =
+        fault-then (length ps) (wordsOf (exportBytes ls)) words-sound
+        ∙ ap (λ xs. offsetFault xs xs) decoded-items
+        ∙ no-offset-fault ps ops few 0 file-said (omega arith) room
+
+    -- the words are accepted with the file's own primitives line
+    pub export-imported : importVerdict (exportBytes ls) (primitivesLine ls) ≡ accepted
+    unfolding importVerdict both faultVerdict
+    export-imported = rw (primitives-accepted, primitives-same, export-sound) refl
+
+    -- and the lines made are those of the file
+    pub export-text : importText (exportBytes ls) (primitivesLine ls) ≡ codeSection ls
+    unfolding importText codeText
+    export-text =
+        ap (λ qs. codeText qs (items (decoded (wordsOf (exportBytes ls))))) primitives-same
+        ∙ ap (codeText ps) decoded-items
+        ∙ ap (λ t. bytes "AT OP ARG\n" ++ t) (lines-made ps ops few 0 file-said (omega arith) room)
+        ∙ sym (section-text p)
