@@ -137,11 +137,15 @@ module _ (bs line : List ℕ) where
     unfolding importVerdict
     import-line = both-pass _ _ e .0
 
-    pub import-readable : Readable (wordsOf bs)
+    pub import-sound : codeFault (length (primitivesOf line)) (wordsOf bs) ≡ missing
     unfolding importVerdict
-    import-readable =
-        readable-of (length (primitivesOf line)) (wordsOf bs)
-        (first-none (length (primitivesOf line)) (wordsOf bs) (wordFault (length (primitivesOf line)) (wordsOf bs)) refl (fault-none _ (both-pass _ _ e .1)))
+    import-sound = fault-none _ (both-pass _ _ e .1)
+
+    pub import-words : wordFault (length (primitivesOf line)) (wordsOf bs) ≡ missing
+    import-words = first-none (length (primitivesOf line)) (wordsOf bs) (wordFault (length (primitivesOf line)) (wordsOf bs)) refl import-sound
+
+    pub import-readable : Readable (wordsOf bs)
+    import-readable = readable-of (length (primitivesOf line)) (wordsOf bs) import-words
 
 -- what an import makes, by the first line as the code has it
 pub import-text : (bs line w : List ℕ) → w ≡ getD (lines line) 0 noLine .text → importText bs line ≡ codeText (list w) (items (decoded (wordsOf bs)))

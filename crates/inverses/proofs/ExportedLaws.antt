@@ -10,7 +10,7 @@ use lib.IntN.{ℤ, pos, negsuc, natAbs, _+ℤ_, _-ℤ_}
 use lib.ListN.{length, getD, length-map}
 use borrow.Author.Tests.{leb-true, ltb-true, ltb-false}
 use Rattle.refusals.specs.declared.Verdict.the-variants.{Accepted as accepted}
-use Rattle.text.specs.Text.{bytes, isEmpty, split, words, Line, linesOf, lines, place, indexOf, find, all}
+use Rattle.text.specs.Text.{bytes, isEmpty, equals, split, words, Line, linesOf, lines, place, indexOf, find, all}
 use Rattle.text.specs.declared.Place.{Place}
 use Rattle.text.specs.declared.Place.the-variants.{At as at, Missing as missing}
 use Rattle.text.proofs.TextLaws.{Every, none, more, place-below}
@@ -41,7 +41,7 @@ use Rattle.words.proofs.FaultLaws.{fault-starts}
 use Rattle.words.proofs.OffsetLaws.{fault-then}
 use Rattle.words.proofs.ExportLaws.{Placed, bytes-entries, bytes-decoded}
 use Rattle.inverses.specs.Sections.{linesText, codeSection, primitivesLine}
-use Rattle.inverses.proofs.JoinLaws.{Free, split-alone, lines-free}
+use Rattle.inverses.proofs.JoinLaws.{Free, pieces-every, split-alone, lines-free}
 use Rattle.inverses.proofs.FileLaws.{section-text}
 use Rattle.inverses.proofs.LineLaws.{argument-number, code-said}
 use Rattle.inverses.proofs.ImportedLaws.{Said, end, next, exported, all-placed, lines-made, no-fault, no-offset-fault}
@@ -104,9 +104,20 @@ module _ (text : List ℕ) (p : Passes (lines text)) where
   abbrev ls : List Line
   ls = lines text
 
+  primitives-free : Free 10 (primitivesLine ls)
+  primitives-free = role-every (Free 10) none (names primitives) layout (lines-free text)
+
   primitives-line : lines (primitivesLine ls) ≡ unendedLine (primitivesLine ls) ∷ []
-  primitives-line =
-      one-line (primitivesLine ls) (role-every (Free 10) none (names primitives) layout (lines-free text)) (passes-spaced p (names primitives) refl)
+  primitives-line = one-line (primitivesLine ls) primitives-free (passes-spaced p (names primitives) refl)
+
+  -- no primitive's name holds a line feed
+  pub names-free : Every (Free 10) (listed (names primitives) ls)
+  unfolding listed list words
+  names-free = go (equals (primitivesLine ls) (bytes "-"))
+    where
+      go : (b : Bool) → Every (Free 10) (cond b [] (split 32 (primitivesLine ls)))
+      go true = none
+      go false = pieces-every 32 primitives-free
 
   pub primitives-accepted : primitivesVerdict (primitivesLine ls) ≡ accepted
   unfolding primitivesVerdict oneLine lineVerdict lineLaidOut laidOut named
@@ -128,7 +139,7 @@ module _ (text : List ℕ) (p : Passes (lines text)) where
     abbrev pub ops : List Op
     ops = map (λ l. opOf ps (firstAddress (body ls)) (l .text)) (codeLines (body ls))
 
-    counted : length ops ≡ length (codeLines (body ls))
+    pub counted : length ops ≡ length (codeLines (body ls))
     counted = length-map (codeLines (body ls)) (λ l. opOf ps (firstAddress (body ls)) (l .text))
 
     few : length ops ≤ 1024

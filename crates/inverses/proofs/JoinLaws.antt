@@ -1,15 +1,15 @@
 -- Laws of pieces put together again: the pieces of a text make the text, and joined pieces are split into the same; lines that each
 -- end in a line feed likewise. Assumes nothing.
 use mathlib.Core.Path.{_≡_, refl, sym, ap, subst, _∙_}
-use mathlib.Core.Bool.{Bool, true, false, cond, false≢true}
+use mathlib.Core.Bool.{Bool, true, false, cond, not, false≢true}
 use mathlib.Core.List.{List, [], _∷_, _++_, append-assoc, map}
 use Prim.Native.Nat.{ℕ, suc, _+_, _<_, _≤_}
 use native.Mathlib.Omega.{arith}
 use lib.Dec.{eqb}
 use lib.ListN.{length, getD}
-use borrow.Author.Tests.{eqb-true, eqb-false, eq-eqb, ne-eqb}
-use Rattle.text.specs.Text.{bytes, isEmpty, onto, split, words, Line, linesOf, lines}
-use Rattle.text.proofs.TextLaws.{Every, none, more}
+use borrow.Author.Tests.{eqb-true, eqb-false, eq-eqb, ne-eqb, not-true}
+use Rattle.text.specs.Text.{bytes, isEmpty, onto, split, words, Line, linesOf, lines, all}
+use Rattle.text.proofs.TextLaws.{Every, none, more, every-map, all-every}
 use Rattle.text.proofs.PieceLaws.{split-some}
 use Rattle.text.proofs.LineLaws.{endedLine}
 use Rattle.inverses.specs.Sections.{linesText}
@@ -19,6 +19,10 @@ use Rattle.inverses.specs.Sections.{linesText}
 -- no byte of a piece is c
 abbrev pub Free : ℕ → List ℕ → Type 0
 Free c w = Every (λ b. b ≡ c → ⊥) w
+
+-- the same of a closed text: `refl` shows the test
+pub text-free : (c : ℕ) (w : List ℕ) → all (λ b. not (eqb b c)) w ≡ true → Free c w
+text-free c w e = every-map (λ b k. eqb-false b c (not-true (eqb b c) k)) (all-every (λ b. not (eqb b c)) w e)
 
 -- pieces with c between them
 pub joined : ℕ → List (List ℕ) → List ℕ
@@ -47,11 +51,12 @@ join-split c (x ∷ xs) = go (eqb x c) refl (join-split c xs)
     go true e ih = join-empty c (split c xs) (split-some c xs) ∙ ap (λ d. d ∷ joined c (split c xs)) (sym (eqb-true x c e)) ∙ ap (λ t. x ∷ t) ih
     go false e ih = join-onto c x (split c xs) (split-some c xs) ∙ ap (λ t. x ∷ t) ih
 
--- no piece holds the byte that parts them
-onto-free : (c x : ℕ) (ps : List (List ℕ)) → (x ≡ c → ⊥) → Every (Free c) ps → Every (Free c) (onto x ps)
-onto-free c x [] h none = more (more h none) none
-onto-free c x (w ∷ ws) h (more p ps) = more (more h p) ps
+-- one byte more in front of the first piece
+onto-every : (P : ℕ → Type 0) (x : ℕ) (ps : List (List ℕ)) → P x → Every (Every P) ps → Every (Every P) (onto x ps)
+onto-every P x [] h none = more (more h none) none
+onto-every P x (w ∷ ws) h (more p ps) = more (more h p) ps
 
+-- no piece holds the byte that parts them
 pub split-free : (c : ℕ) (s : List ℕ) → Every (Free c) (split c s)
 unfolding split
 split-free c [] = more none none
@@ -59,7 +64,17 @@ split-free c (x ∷ xs) = go (eqb x c) refl (split-free c xs)
   where
     go : (b : Bool) → eqb x c ≡ b → Every (Free c) (split c xs) → Every (Free c) (cond b ([] ∷ split c xs) (onto x (split c xs)))
     go true e ih = more none ih
-    go false e ih = onto-free c x (split c xs) (eqb-false x c e) ih
+    go false e ih = onto-every (λ b. b ≡ c → ⊥) x (split c xs) (eqb-false x c e) ih
+
+-- what holds of each byte of a text holds of each byte of its pieces
+pub pieces-every : {P : ℕ → Type 0} (c : ℕ) {s : List ℕ} → Every P s → Every (Every P) (split c s)
+unfolding split
+pieces-every c none = more none none
+pieces-every {P} c (more {x} {xs} h hs) = go (eqb x c) (pieces-every c hs)
+  where
+    go : (b : Bool) → Every (Every P) (split c xs) → Every (Every P) (cond b ([] ∷ split c xs) (onto x (split c xs)))
+    go true ih = more none ih
+    go false ih = onto-every P x (split c xs) h ih
 
 -- joined pieces are split into the same
 pub split-alone : (c : ℕ) {w : List ℕ} → Free c w → split c w ≡ w ∷ []

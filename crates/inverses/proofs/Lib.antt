@@ -5,3 +5,6 @@ pub mod NameLaws
 pub mod LineLaws
 pub mod ImportedLaws
 pub mod ExportedLaws
+pub mod DecodedLaws
+pub mod WrittenLaws
+pub mod RestoredLaws

@@ -182,9 +182,9 @@ module _ (ls : List Line) (begins : firstAt (body ls) ≡ pos 0) (k : ℕ) (l : 
 
 -- ---- a line is known by what it says
 
--- no digit is a space
-decimal-free : (n : ℕ) → Free 32 (decimal n)
-decimal-free n = every-map (λ d e q. let h = leb-true 48 d (cond-left (leb 48 d) (leb d 57) e) in omega arith) (decimal-digits n)
+-- no digit is a space or a line feed
+pub decimal-free : (c : ℕ) → c < 48 → (n : ℕ) → Free c (decimal n)
+decimal-free c k n = every-map (λ d e q. let h = leb-true 48 d (cond-left (leb 48 d) (leb d 57) e) in omega arith) (decimal-digits n)
 
 numbers-same : (x y : ℤ) → number x ≡ number y → x ≡ y
 numbers-same x y e = cc
@@ -202,11 +202,11 @@ module _ (ps : List (List ℕ)) (unlike : distinct ps ≡ true) (n : ℕ) where
 
   pub says-one : (k : ℕ) (text : List ℕ) (o p : Op) → Says ps n k text o → Says ps n k text p → o ≡ p
   says-one k text o p s t =
-      let d = decimal-free k in
+      let d = decimal-free 32 (omega arith) k in
       let e : decimal k ++ 32 ∷ (kindAt (o .kind) .name ++ 32 ∷ s .word) ≡ decimal k ++ 32 ∷ (kindAt (p .kind) .name ++ 32 ∷ t .word) =
-          sym (after-at k (kindAt (o .kind) .name) (s .word)) ∙ sym (s .line) ∙ t .line ∙ after-at k (kindAt (p .kind) .name) (t .word) in
+      sym (after-at k (kindAt (o .kind) .name) (s .word)) ∙ sym (s .line) ∙ t .line ∙ after-at k (kindAt (p .kind) .name) (t .word) in
       let r = cut-same 32 (kindAt (o .kind) .name ++ 32 ∷ s .word) (kindAt (p .kind) .name ++ 32 ∷ t .word) d d e .1 in
-      let q = cut-same 32 (s .word) (t .word) (name-free (o .kind)) (name-free (p .kind)) r in
+      let q = cut-same 32 (s .word) (t .word) (name-free 32 (omega arith) (o .kind)) (name-free 32 (omega arith) (p .kind)) r in
       let m : o .kind ≡ p .kind = name-known (o .kind) (p .kind) (s .known) (t .known) (q .0) in
       let v : o .value ≡ p .value = argument-same (subst (λ j. Argued ps n (kindAt j .argument) (s .word) (o .value)) m (s .argued)) (t .argued) (q .1) in
       ap₂ (λ j z. record { kind = j; value = z }) m v

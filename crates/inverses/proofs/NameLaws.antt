@@ -6,9 +6,9 @@ use mathlib.Core.List.{List, [], _∷_, map}
 use Prim.Native.Nat.{ℕ, zero, suc, _+_, _<_, _≤_}
 use native.Mathlib.Omega.{arith}
 use native.Mathlib.Nat.{le-of-suc-le-suc}
-use lib.Dec.{eqb}
+use lib.Dec.{ltb}
 use lib.ListN.{length, getD}
-use borrow.Author.Tests.{eq-eqb, eqb-false, not-true}
+use borrow.Author.Tests.{eq-eqb, not-true, ltb-true}
 use Rattle.text.specs.Text.{equals, placeFrom, place, indexOf, find, among, all, distinct}
 use Rattle.text.specs.declared.Place.{Place}
 use Rattle.text.specs.declared.Place.the-variants.{At, Missing}
@@ -98,10 +98,10 @@ pub name-known : (k j : ℕ) → k < 61 → j < 61 → kindAt k .name ≡ kindAt
 unfolding kinds kindNames
 name-known k j h i e = distinct-places kindNames names-distinct k j h i (name-at k h ∙ e ∙ sym (name-at j i))
 
--- no name holds a space: computed for the whole table
-unspaced : Kind → Bool
-unspaced k = all (λ b. not (eqb b 32)) (k .name)
+-- no name holds a space or another byte below it: computed for the whole table
+visible : Kind → Bool
+visible k = all (λ b. ltb 32 b) (k .name)
 
-pub name-free : (k : ℕ) → Free 32 (kindAt k .name)
-unfolding kinds kindAt all unspaced
-name-free k = every-map (λ b e. eqb-false b 32 (not-true (eqb b 32) e)) (all-every (λ b. not (eqb b 32)) (kindAt k .name) (every-getD (all-every unspaced kinds refl) refl k))
+pub name-free : (c : ℕ) → c ≤ 32 → (k : ℕ) → Free c (kindAt k .name)
+unfolding kinds kindAt all visible
+name-free c h k = every-map (λ b e q. let v = ltb-true 32 b e in omega arith) (all-every (λ b. ltb 32 b) (kindAt k .name) (every-getD (all-every visible kinds refl) refl k))

@@ -51,6 +51,7 @@ natural-back (d ∷ ds) z e = go (eqb d 48) refl e
     zero-alone : (es : List ℕ) → cond (isEmpty es) (number (pos 0)) misspelt ≡ number z → eqb d 48 ≡ true → (n : ℕ) × (z ≡ pos n) × (d ∷ es ≡ decimal n)
     zero-alone [] q k = (0, (cc), ap (λ c. c ∷ []) (eqb-true d 48 k) ∙ sym (decimal-one 0 (omega arith)))
     zero-alone (x ∷ xs) q k = not-spelt z q
+
     first : (b : Bool) → isDigit d ≡ b → eqb d 48 ≡ false → cond b (digitsFrom (0 * 10 + (d - 48)) ds) misspelt ≡ number z → (n : ℕ) × (z ≡ pos n) × (d ∷ ds ≡ decimal n)
     first true k f q =
         let low = leb-true 48 d (cond-left (leb 48 d) (leb d 57) k) in
@@ -60,6 +61,7 @@ natural-back (d ∷ ds) z e = go (eqb d 48) refl e
         let r = digits-back (0 * 10 + (d - 48)) ds z (omega arith) q in
         (r .0, r .1, ap (λ t. t ++ ds) (sym one) ∙ r .2)
     first false k f q = not-spelt z q
+
     go : (b : Bool) → eqb d 48 ≡ b → cond b (cond (isEmpty ds) (number (pos 0)) misspelt) (digitsFrom 0 (d ∷ ds)) ≡ number z → (n : ℕ) × (z ≡ pos n) × (d ∷ ds ≡ decimal n)
     go true k q = zero-alone ds q k
     go false k q = first (isDigit d) refl k q

@@ -23,7 +23,7 @@ text-among r (x ∷ xs) [] = refl
 text-among r (x ∷ xs) (l ∷ ls) = ap (cond (isRole r x) (l .text)) (text-among r xs ls)
 
 -- the first address is that of the first code line
-first-code : (ls : List Line) → firstAt (codeLines ls) ≡ firstAt ls
+pub first-code : (ls : List Line) → firstAt (codeLines ls) ≡ firstAt ls
 unfolding firstAt codeLines
 first-code [] = refl
 first-code (l ∷ ls) = refl
