@@ -1,25 +1,28 @@
-/* The bound of a routine and the run of a routine, for a loader in C.
+/* The bound of a routine, the run of a routine, and its code from and to the compiler's words, for a loader in C.
  *
  * `tickbound install PREFIX` puts this header into PREFIX/include and the library to link with into PREFIX/lib:
  * `cc -I PREFIX/include .. -L PREFIX/lib -ltickbound`, on x86-64 Linux. In the repository `rt staticlib analyser`
  * writes the same library to target/staticlib/libanalyser.a.
  *
- * Both functions read a routine file of `text_length` bytes at `text`, and write a report into the
- * `report_length` bytes lent at `report`.
+ * `tickbound_bound` and `tickbound_run` read a routine file of `text_length` bytes at `text`, and write a report
+ * into the `report_length` bytes lent at `report`. `tickbound_import` and `tickbound_export` write lines and words
+ * in the same way.
  *
- * - The two memories must not overlap, and nothing else may write them during the call.
- * - A pointer may be null where its length is 0. With a length above 0 it must point to that many bytes;
- *   `report_length` bytes must be writable.
- * - Every text of every length is answered. An empty text is refused by 2, report memory of fewer than
- *   TICKBOUND_REPORT_MEMORY bytes by 10, before anything is read.
- * - After a report, the memory holds the report's bytes and then its former bytes. After a refusal it is
- *   unchanged. The report is text (two lines, each ending in a line feed); no 0 byte ends it.
+ * - The memory that is lent for writing must not overlap what is read, and nothing else may write either during
+ *   the call.
+ * - A pointer may be null where its length is 0. With a length above 0 it must point to that many bytes; the
+ *   bytes lent for writing must be writable.
+ * - Every text of every length is answered. An empty text is refused by 2. Too little lent memory, fewer than
+ *   TICKBOUND_REPORT_MEMORY bytes for a report or TICKBOUND_CODE_MEMORY for lines and words, is refused by 10,
+ *   before anything is read.
+ * - After a report (lines, words), the memory holds its bytes and then its former bytes. After a refusal it is
+ *   unchanged. A report is text (two lines, each ending in a line feed); no 0 byte ends it.
  * - The functions keep nothing between calls, allocate nothing and may be called from several threads.
  *   Leave a call 256 KB of stack: it took under 144 KB at 32 openings. This is measured, not proved.
  *
- * The answer is one number that is a report's length or a refusal, and never both:
+ * The answer is one number that is a length or a refusal, and never both:
  *
- *   a report    its length, 1 to TICKBOUND_REPORT_MEMORY
+ *   a report    its length, 1 to TICKBOUND_REPORT_MEMORY; of lines or words, 1 to TICKBOUND_CODE_MEMORY
  *   a refusal   bit 63 is 1, bits 32 to 47 are the refusal's number, bits 0 to 31 its place;
  *               all other bits are 0. No place is above 62,000
  *
@@ -45,14 +48,19 @@ extern "C" {
 /* Report memory that is enough for every report; with less a call is refused by 10. */
 #define TICKBOUND_REPORT_MEMORY 128
 
+/* Memory that is enough for the lines of every import and the words of every export; with less a call is refused
+ * by 10. */
+#define TICKBOUND_CODE_MEMORY 32768
+
 /* The longest text that is not refused by 1. */
 #define TICKBOUND_TEXT_LIMIT 32768
 
 /* The most letters that a path has. */
 #define TICKBOUND_PATH_LIMIT 32
 
-/* The numbers of the refusals. The place is 0 for 10 and 1, a line of the text for 2 to 6 and 11, and an
- * address of the code for 7, 8 and 9. */
+/* The numbers of the refusals. The place is 0 for 10 and 1, a line of the text for 2 to 6 and 11, an address of
+ * the code for 7, 8 and 9, and for 12 the index of a word, from 0. An import refuses its primitives line by 2 or 4
+ * at place 1. */
 enum {
     TICKBOUND_TEXT_TOO_LONG = 1,
     TICKBOUND_LAYOUT = 2,
@@ -64,7 +72,8 @@ enum {
     TICKBOUND_OPENINGS = 8,
     TICKBOUND_SPENT = 9,
     TICKBOUND_LENT_TOO_LITTLE = 10,
-    TICKBOUND_UNKNOWN_CELL = 11
+    TICKBOUND_UNKNOWN_CELL = 11,
+    TICKBOUND_BAD_WORD = 12
 };
 
 /* The report of the bound: `CYCLES WORDS DEPTH STEPS SHARE PATH` and their values. */
@@ -73,12 +82,21 @@ uint64_t tickbound_bound(const uint8_t *text, size_t text_length, uint8_t *repor
 /* The report of the one run that the file gives: `CYCLES WORDS DEPTH STEPS` and their values. */
 uint64_t tickbound_run(const uint8_t *text, size_t text_length, uint8_t *report, size_t report_length);
 
+/* The lines of the code that the compiler's words hold: `AT OP ARG` and a line for each instruction, from address 0.
+ * The words are 32 bits each, the lowest byte first, numbered as in OCaml 4.13.1; `primitives` is the line of
+ * primitives that the file is to have (`-` for none), with or without a line feed at its end. */
+uint64_t tickbound_import(const uint8_t *words, size_t words_length, const uint8_t *primitives,
+                          size_t primitives_length, uint8_t *lines, size_t lines_length);
+
+/* The words of the code of a routine file, in the same form. */
+uint64_t tickbound_export(const uint8_t *text, size_t text_length, uint8_t *words, size_t words_length);
+
 /* Whether an answer is a refusal. */
 static inline bool tickbound_is_refused(uint64_t answer) {
     return answer >> 63 != 0;
 }
 
-/* The length of the report; 0, which is no report's length, where the answer is a refusal. */
+/* The length of the report, the lines or the words; 0, which is no such length, where the answer is a refusal. */
 static inline size_t tickbound_report_length(uint64_t answer) {
     return tickbound_is_refused(answer) ? 0 : (size_t)answer;
 }
