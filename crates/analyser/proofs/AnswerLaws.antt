@@ -1,14 +1,13 @@
 -- The promises of the answers to a text, from the laws of the layers below. Assumes nothing.
-use mathlib.Core.Path.{_≡_, refl, sym, ap, _∙_}
-use mathlib.Core.Bool.{Bool, true, false, cond}
+use mathlib.Core.Path.{_≡_, refl, sym, ap}
+use mathlib.Core.Bool.{true}
 use mathlib.Core.List.{List, [], _∷_}
 use Prim.Native.Nat.{ℕ, _≤_, _<_}
 use native.Mathlib.Omega.{arith}
 use lib.Dec.{ltb}
 use lib.ListN.{length}
-use borrow.Author.Tests.{lt-ltb, le-ltb, ltb-false}
+use borrow.Author.Tests.{lt-ltb, le-ltb}
 use Rattle.refusals.specs.declared.Refusal.{Refusal}
-use Rattle.refusals.specs.declared.Refusal.the-variants.{ReportMemory}
 use Rattle.refusals.specs.Refusals.{place}
 use Rattle.text.specs.Text.{lines, all}
 use Rattle.text.proofs.TextLaws.{Every, more}
@@ -24,8 +23,7 @@ use Rattle.bounds.specs.Promises.{NoGreater}
 use Rattle.bounds.proofs.PromiseLaws.{interruptible, bound-exact, run-within-bound}
 use Rattle.bounds.proofs.FigureLaws.{Bounded, bound-bounded, run-bounded}
 use Rattle.bounds.proofs.PlaceLaws.{bound-place, run-place}
-use Rattle.routine.specs.Routine.{Routine, routineOf, Reading, routine, readBound, readRun}
-use Rattle.routine.specs.Routine as readings
+use Rattle.routine.specs.Routine.{Routine, routineOf, readBound, readRun}
 use Rattle.routine.specs.Rows.{Passes}
 use Rattle.routine.proofs.RowLaws.{read-passes, run-passes}
 use Rattle.routine.proofs.RangeLaws.{prices-small, budget-small, tick-positive, start-low}
@@ -34,14 +32,13 @@ use Rattle.routine.proofs.SpellingLaws.{accepted-ascii}
 use Rattle.routine.proofs.AnswerLaws.{SameButAnswers, same-but-answers}
 use Rattle.report.specs.Report.{boundText, runText}
 use Rattle.report.proofs.ReportLaws.{Small, bound-fits, run-fits}
-use Rattle.analyser.specs.Answers.{Answer, reported, refused, memoryLimit, ofVerdict, ofReading, boundRoutine, runRoutine, boundAnswer, runAnswer}
-use Rattle.analyser.specs.Functions.{answerOf, reportLength}
-use Rattle.analyser.specs.Promises.{BoundReported, RunReported, WithinReport, RunAccepted, FilledIn, ReportsKept, RunsKept, AnswersIrrelevant, PassingIsAscii, ReportsFit, PlacesSmall}
+use Rattle.answers.specs.Answers.{reported, refused, ofReading, answerOf}
+use Rattle.answers.proofs.AnswerLaws.{never, from-reading, place-from}
+use Rattle.analyser.specs.Answers.{memoryLimit, ofVerdict, boundRoutine, runRoutine, boundAnswer, runAnswer}
+use Rattle.analyser.specs.Functions.{reportLength}
+use Rattle.analyser.specs.Promises.{BoundReported, WithinReport, RunAccepted, FilledIn, ReportsKept, RunsKept, AnswersIrrelevant, PassingIsAscii, ReportsFit, PlacesSmall}
 
 -- ---- what a report comes from
-
-never : {A : Type 0} (r : Refusal) (bs : List ℕ) → refused r ≡ reported bs → A
-never r bs e = let z : _≡_ {A = ℕ} 0 1 = cc in absurd (omega arith)
 
 record FromVerdict (text : Report → List ℕ) (v : Verdict) (bs : List ℕ) : Type 0 where
   report : Report
@@ -53,30 +50,12 @@ unfolding ofVerdict
 from-verdict text (verdicts.accepted q) bs e = record { report = q; accepts = refl; prints = cc }
 from-verdict text (verdicts.refused r) bs e = never r bs e
 
-record FromReading (f : Routine → Answer) (m : Reading) (n : ℕ) (bs : List ℕ) : Type 0 where
-  lent : memoryLimit ≤ n
-  routine : Routine
-  reads : m ≡ readings.routine routine
-  gives : f routine ≡ reported bs
-
-from-reading : (f : Routine → Answer) (m : Reading) (n : ℕ) (bs : List ℕ) → cond (ltb n memoryLimit) (refused ReportMemory) (ofReading f m) ≡ reported bs → FromReading f m n bs
-unfolding ofReading
-from-reading f m n bs = lent (ltb n memoryLimit) refl
-  where
-    read : memoryLimit ≤ n → (m : Reading) → ofReading f m ≡ reported bs → FromReading f m n bs
-    read h (readings.refused r) e = never r bs e
-    read h (readings.routine x) e = record { lent = h; routine = x; reads = refl; gives = e }
-
-    lent : (b : Bool) → ltb n memoryLimit ≡ b → cond b (refused ReportMemory) (ofReading f m) ≡ reported bs → FromReading f m n bs
-    lent true h e = never ReportMemory bs e
-    lent false h e = read (ltb-false n memoryLimit h) m e
-
 -- ---- demands 2 and 3
 
 pub reports-kept : ReportsKept
 unfolding boundAnswer boundRoutine bound
 reports-kept text n bs e =
-    let a = from-reading boundRoutine (readBound text) n bs e in
+    let a = from-reading boundRoutine (readBound text) memoryLimit n bs e in
     let x = a .routine in
     let v = from-verdict (boundText (x .tick)) (bound (x .code) (x .budget) (x .start)) bs (a .gives) in
     let is : BoundReported text bs x (v .report) = record { reads = a .reads; accepts = v .accepts; prints = sym (v .prints) } in (
@@ -99,7 +78,7 @@ runs-kept = (within, accepts)
   where
     within : (text : List ℕ) (n : ℕ) (bytes : List ℕ) → runAnswer text n ≡ reported bytes → WithinReport text bytes
     within text n bytes e =
-        let a = from-reading runRoutine (readRun text) n bytes e in
+        let a = from-reading runRoutine (readRun text) memoryLimit n bytes e in
         let y = a .routine in
         let v = from-verdict runText (run (y .code) (y .budget) (y .start) (y .answers)) bytes (a .gives) in (
           y,
@@ -163,7 +142,7 @@ reports-fit = (λ text n bs e. of-bound text n bs e, λ text n bs e. of-run text
   where
     of-bound : (text : List ℕ) (n : ℕ) (bs : List ℕ) → boundAnswer text n ≡ reported bs → (length bs ≤ memoryLimit) × (memoryLimit ≤ n)
     of-bound text n bs e =
-        let a = from-reading boundRoutine (readBound text) n bs e in
+        let a = from-reading boundRoutine (readBound text) memoryLimit n bs e in
         let x = a .routine in
         let v = from-verdict (boundText (x .tick)) (bound (x .code) (x .budget) (x .start)) bs (a .gives) in
         let p = read-passes text x (a .reads) in
@@ -173,7 +152,7 @@ reports-fit = (λ text n bs e. of-bound text n bs e, λ text n bs e. of-run text
 
     of-run : (text : List ℕ) (n : ℕ) (bs : List ℕ) → runAnswer text n ≡ reported bs → (length bs ≤ memoryLimit) × (memoryLimit ≤ n)
     of-run text n bs e =
-        let a = from-reading runRoutine (readRun text) n bs e in
+        let a = from-reading runRoutine (readRun text) memoryLimit n bs e in
         let x = a .routine in
         let v = from-verdict runText (run (x .code) (x .budget) (x .start) (x .answers)) bs (a .gives) in
         let p = run-passes text x (a .reads) in
@@ -204,34 +183,20 @@ unfolding ofVerdict
 from-refused text (verdicts.accepted q) r e = never r (text q) (sym e)
 from-refused text (verdicts.refused x) r e = let h : x ≡ r = cc in ap verdicts.refused h
 
--- a refusal is that of the memory, that of the reading, or that of the routine
-place-from : (B : ℕ) (f : Routine → Answer) (m : Reading) (n : ℕ) (r : Refusal) → ((r : Refusal) → m ≡ readings.refused r → place r ≤ B) →
-    ((x : Routine) → m ≡ readings.routine x → f x ≡ refused r → place r ≤ B) → cond (ltb n memoryLimit) (refused ReportMemory) (ofReading f m) ≡ refused r → place r ≤ B
-unfolding ofReading place
-place-from B f m n r of-reading of-routine = lent (ltb n memoryLimit)
-  where
-    read : (k : Reading) → m ≡ k → ofReading f k ≡ refused r → place r ≤ B
-    read (readings.refused x) q e = let h : x ≡ r = cc in of-reading r (q ∙ ap readings.refused h)
-    read (readings.routine x) q e = of-routine x q e
-
-    lent : (b : Bool) → cond b (refused ReportMemory) (ofReading f m) ≡ refused r → place r ≤ B
-    lent true e = let h : ReportMemory ≡ r = cc in rw (← h) (omega arith)
-    lent false e = read m refl e
-
 pub places-small : PlacesSmall
 unfolding boundAnswer boundRoutine runAnswer runRoutine
 places-small = (of-bound, of-run)
   where
     of-bound : (text : List ℕ) (n : ℕ) (r : Refusal) → boundAnswer text n ≡ refused r → place r ≤ 62000
     of-bound text n r =
-        place-from 62000 boundRoutine (readBound text) n r (λ r e. omega (arith, read-bound-place text r e)) (λ x e f.
+        place-from 62000 boundRoutine (readBound text) memoryLimit n r (λ r e. omega (arith, read-bound-place text r e)) (λ x e f.
         let (p, is, short) = read-passes text x e in
         let v = from-refused (boundText (x .tick)) (bound (x .code) (x .budget) (x .start)) r f in
         bound-place 62000 (x .code) (rw is (confined (lines text) p)) (x .budget) (x .start) (rw is (start-small (lines text) p)) r v)
 
     of-run : (text : List ℕ) (n : ℕ) (r : Refusal) → runAnswer text n ≡ refused r → place r ≤ 62000
     of-run text n r =
-        place-from 62000 runRoutine (readRun text) n r (λ r e. omega (arith, read-run-place text r e)) (λ x e f.
+        place-from 62000 runRoutine (readRun text) memoryLimit n r (λ r e. omega (arith, read-run-place text r e)) (λ x e f.
         let (p, known, is, short) = run-passes text x e in
         let v = from-refused runText (run (x .code) (x .budget) (x .start) (x .answers)) r f in
         run-place 62000 (x .code) (rw is (confined (lines text) p)) (x .budget) (x .start) (rw is (start-small (lines text) p)) (x .answers) r v)

@@ -1,7 +1,7 @@
 -- The routine that the code's arrays hold is bounded and run as the definitions say, and so is a text. Assumes nothing.
 use Prim.Native.Nat.{ℕ, _+_, _*_, _%_, _≤_, _<_}
-use mathlib.Core.Path.{_≡_, refl, sym, ap, ap₂, _∙_, subst}
-use mathlib.Core.List.{List, [], _∷_, _++_}
+use mathlib.Core.Path.{_≡_, refl, sym, ap, ap₂, _∙_}
+use mathlib.Core.List.{List, [], _∷_}
 use native.Mathlib.Omega.{arith}
 use native.Mathlib.Nat.{mod-eq-of-lt}
 use lib.ListN.{length, getD, drop, length-append}
@@ -28,12 +28,14 @@ use Rattle.reader.specs.declared.Routine.{Routine}
 use Rattle.reader.specs.Reader.{codes, sizes, Holds, Limited}
 use Rattle.report.specs.Decode.{reportOf}
 use Rattle.report.proofs.DecodeLaws.{report-of, report-of-run}
-use Rattle.analyser.specs.Answers.{Answer, reported, ofVerdict, ofReading, boundRoutine, runRoutine, boundAnswer, runAnswer, memory}
-use Rattle.analyser.specs.Answers as answers
-use Rattle.analyser.specs.declared.Answer as code
-use Rattle.analyser.specs.declared.Answer.the-variants.{Reported, Refused}
+use Rattle.answers.specs.Answers.{Answer, reported, memory, answerOf}
+use Rattle.answers.specs.Answers as answers
+use Rattle.answers.specs.declared.Answer as code
+use Rattle.answers.specs.declared.Answer.the-variants.{Reported, Refused}
+use Rattle.answers.proofs.AnswerLaws.{lent-short, reading-refused, reading-passed}
+use Rattle.analyser.specs.Answers.{memoryLimit, ofVerdict, boundRoutine, runRoutine, boundAnswer, runAnswer}
 use Rattle.analyser.specs.Held.{routineIn, Printable, Shareable}
-use Rattle.analyser.specs.Functions.{answerOf, reportLength, Delivers, toldLength, wordOf, Tells, AnswersTold}
+use Rattle.analyser.specs.Functions.{reportLength, Delivers, toldLength, wordOf, Tells, AnswersTold}
 use Rattle.analyser.specs.Promises.{SafeReport, ExactReport, WithinReport, RunAccepted}
 use Rattle.analyser.proofs.AnswerLaws.{reports-kept, reports-fit, runs-kept, bound-reports-some, run-reports-some, places-small}
 
@@ -91,17 +93,6 @@ module _ (text : Report → List ℕ) (r : Ran) (v : bounds.Verdict) (e : verdic
   unfolding verdictOf judged ofVerdict
   ran-refused x s = ap (ofVerdict text) (sym e) ∙ ap (λ d. ofVerdict text (judged d r)) s
 
--- ---- the answer and the memory
-
-pub gives-report : (a : Answer) (bs : List ℕ) → a ≡ reported bs → (n : ℕ) → n ≡ length bs → (former out : List ℕ) → out ≡ bs ++ drop (length bs) former
-    → (Reported n ≡ answerOf a) × (out ≡ memory a former)
-unfolding answerOf memory
-gives-report a bs e n h former out m = (rw (e, h) refl, rw e m)
-
-pub gives-refusal : (a : Answer) (x : Refusal) → a ≡ answers.refused x → (former : List ℕ) → (Refused x ≡ answerOf a) × (former ≡ memory a former)
-unfolding answerOf memory
-gives-refusal a x e former = (rw e refl, rw e refl)
-
 -- ---- a text
 
 -- the routine that is held is the routine
@@ -115,29 +106,29 @@ module _ (text : List ℕ) (n : ℕ) where
   -- too little memory
   pub bound-short : n < 128 → boundAnswer text n ≡ answers.refused ReportMemory
   unfolding boundAnswer
-  bound-short h = rw (lt-ltb n 128 h) refl
+  bound-short = lent-short memoryLimit n _
 
   pub run-short : n < 128 → runAnswer text n ≡ answers.refused ReportMemory
   unfolding runAnswer
-  run-short h = rw (lt-ltb n 128 h) refl
+  run-short = lent-short memoryLimit n _
 
   -- a text that is refused, and one that is not
 
   pub bound-refused : 128 ≤ n → (x : Refusal) → readBound text ≡ readings.refused x → boundAnswer text n ≡ answers.refused x
-  unfolding boundAnswer ofReading
-  bound-refused h x e = rw (le-ltb n 128 h, e) refl
+  unfolding boundAnswer
+  bound-refused = reading-refused boundRoutine (readBound text) memoryLimit n
 
   pub run-refused : 128 ≤ n → (x : Refusal) → readRun text ≡ readings.refused x → runAnswer text n ≡ answers.refused x
-  unfolding runAnswer ofReading
-  run-refused h x e = rw (le-ltb n 128 h, e) refl
+  unfolding runAnswer
+  run-refused = reading-refused runRoutine (readRun text) memoryLimit n
 
   pub bound-passed : 128 ≤ n → (x : readings.Routine) → readBound text ≡ readings.routine x → boundAnswer text n ≡ boundRoutine x
-  unfolding boundAnswer ofReading
-  bound-passed h x e = rw (le-ltb n 128 h, e) refl
+  unfolding boundAnswer
+  bound-passed = reading-passed boundRoutine (readBound text) memoryLimit n
 
   pub run-passed : 128 ≤ n → (x : readings.Routine) → readRun text ≡ readings.routine x → runAnswer text n ≡ runRoutine x
-  unfolding runAnswer ofReading
-  run-passed h x e = rw (le-ltb n 128 h, e) refl
+  unfolding runAnswer
+  run-passed = reading-passed runRoutine (readRun text) memoryLimit n
 
   pub bound-printable : 128 ≤ n → (x : readings.Routine) → readBound text ≡ readings.routine x → Printable (boundRoutine x) (x .tick) n
   bound-printable h x e =

@@ -1,4 +1,4 @@
--- What the public functions answer and write, in terms of the definitions.
+-- What an answer of the public functions says of the lent memory, and the number that C gets.
 use Prim.Native.Nat.{ℕ, _+_, _*_, _%_, _≤_, _<_}
 use mathlib.Core.Path.{_≡_}
 use mathlib.Core.Bool.{cond}
@@ -8,14 +8,10 @@ use lib.Dec.{ltb}
 use lib.ListN.{length, take}
 use Rattle.refusals.specs.declared.Refusal.{Refusal}
 use Rattle.refusals.specs.Refusals.{number, place}
-use Rattle.analyser.specs.Answers.{Answer, reported, refused, boundAnswer, runAnswer}
-use Rattle.analyser.specs.declared.Answer as code
-use Rattle.analyser.specs.declared.Answer.the-variants.{Reported, Refused}
-
--- a report by the number of its bytes
-unfoldable pub answerOf : Answer → code.Answer
-answerOf (reported bs) = Reported (length bs)
-answerOf (refused r) = Refused r
+use Rattle.answers.specs.Answers.{Answer, reported, refused, answerOf}
+use Rattle.answers.specs.declared.Answer as code
+use Rattle.answers.specs.declared.Answer.the-variants.{Reported, Refused}
+use Rattle.analyser.specs.Answers.{boundAnswer, runAnswer}
 
 -- ---- what an answer says of the lent memory
 

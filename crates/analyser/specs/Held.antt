@@ -9,7 +9,7 @@ use Rattle.routine.specs.Routine as readings
 use Rattle.reader.specs.declared.Routine.{Routine}
 use Rattle.reader.specs.Reader.{codes, operands, cycles, words, extras, sizes, answers}
 use Rattle.findings.specs.declared.Found.{Found}
-use Rattle.analyser.specs.Answers.{Answer, reported}
+use Rattle.answers.specs.Answers.{Answer, reported}
 
 -- the routine that the code's arrays hold
 abbrev pub routineIn : Routine → readings.Routine

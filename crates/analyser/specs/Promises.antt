@@ -22,8 +22,9 @@ use Rattle.routine.specs.Layout.{layout, body, codeLines}
 use Rattle.routine.specs.Routine.{Routine, readBound, readRun}
 use Rattle.routine.specs.Routine as readings
 use Rattle.report.specs.Report.{share, Nearest, boundText, runText}
-use Rattle.analyser.specs.Answers.{reported, refused, memoryLimit, boundAnswer, runAnswer}
-use Rattle.analyser.specs.Functions.{answerOf, reportLength}
+use Rattle.answers.specs.Answers.{reported, refused, answerOf}
+use Rattle.analyser.specs.Answers.{memoryLimit, boundAnswer, runAnswer}
+use Rattle.analyser.specs.Functions.{reportLength}
 
 -- the bytes are the bound's report, with the figures q, of the routine x that the text holds
 pub record BoundReported (text bytes : List ℕ) (x : Routine) (q : Report) : Type 0 where

@@ -1,4 +1,5 @@
 // The public functions on texts and lent memory. The meaning is in specs/.
+use answers::Answer;
 use findings::Found;
 use reader::Routine;
 use refusals::Refusal;
@@ -12,17 +13,12 @@ ghost use Rattle.bounds.specs.Run.{run};
 ghost use Rattle.findings.specs.Found.{Shows};
 ghost use Rattle.runs.specs.Contract.{verdictOf};
 ghost use Rattle.reader.specs.Reader.{Limited};
-ghost use Rattle.analyser.specs.Answers.{boundRoutine, runRoutine, boundAnswer, runAnswer, memory};
-ghost use Rattle.analyser.specs.Functions.{answerOf, reportLength, Delivers, wordOf, toldLength, Tells};
+ghost use Rattle.answers.specs.Answers.{memory, answerOf};
+ghost use Rattle.answers.specs.declared.Answer.the-variants.{Refused};
+ghost use Rattle.analyser.specs.Answers.{boundRoutine, runRoutine, boundAnswer, runAnswer};
+ghost use Rattle.analyser.specs.Functions.{reportLength, Delivers, wordOf, toldLength, Tells};
 ghost use Rattle.analyser.specs.Held.{routineIn, Printable, Shareable};
-ghost use Rattle.analyser.specs.declared.Answer.the-variants.{Refused};
 ghost use Rattle.analyser.specs.Promises.{SafeReport, ExactReport, WithinReport, RunAccepted};
-
-// The answer to a text: a report of so many bytes, or a refusal.
-pub enum Answer {
-    Reported(usize),
-    Refused(Refusal),
-}
 
 // The routine's bound.
 fn explored(routine: Routine) -> Found

@@ -1,5 +1,5 @@
 // Prints what the bound and the run say of the texts in a list of cases.
-use analyser::Answer;
+use answers::Answer;
 use refusals::Refusal;
 
 // Prints the line of a refusal.

@@ -12,10 +12,10 @@ use Rattle.refusals.specs.declared.Refusal.{Refusal}
 use Rattle.refusals.specs.Refusals.{number, place}
 use Rattle.report.specs.Report.{refusalLine, refusalText}
 use Rattle.report.proofs.PutLaws.{refusal-length}
-use Rattle.analyser.specs.Answers.{Answer, reported, refused, memory, printed}
-use Rattle.analyser.specs.Functions.{answerOf}
-use Rattle.analyser.specs.declared.Answer as code
-use Rattle.analyser.specs.declared.Answer.the-variants.{Reported, Refused}
+use Rattle.answers.specs.Answers.{Answer, reported, refused, memory, answerOf}
+use Rattle.answers.specs.declared.Answer as code
+use Rattle.answers.specs.declared.Answer.the-variants.{Reported, Refused}
+use Rattle.analyser.specs.Answers.{printed}
 use Rattle.console.specs.Line.{line, Held}
 
 pub refusal-fits : (k p : ℕ) → k < 2 ^ 64 → p < 2 ^ 64 → length (refusalLine k p) ≤ 128

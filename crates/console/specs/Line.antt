@@ -3,8 +3,8 @@ use Prim.Native.Nat.{ℕ, _≤_}
 use mathlib.Core.List.{List}
 use lib.ListN.{length, take}
 use Rattle.report.specs.Report.{refusalText}
-use Rattle.analyser.specs.declared.Answer.{Answer}
-use Rattle.analyser.specs.declared.Answer.the-variants.{Reported, Refused}
+use Rattle.answers.specs.declared.Answer.{Answer}
+use Rattle.answers.specs.declared.Answer.the-variants.{Reported, Refused}
 
 -- the report at the start of the memory, or the line of the refusal
 abbrev pub line : Answer → List ℕ → List ℕ

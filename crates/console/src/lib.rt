@@ -1,5 +1,5 @@
 // Standard input and standard output of the programs. What the bytes mean is in the crates below.
-use analyser::Answer;
+use answers::Answer;
 use libc::STDERR_FILENO;
 use libc::STDIN_FILENO;
 use libc::STDOUT_FILENO;

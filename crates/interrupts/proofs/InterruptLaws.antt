@@ -30,8 +30,9 @@ use Rattle.routine.specs.Routine.{readRun}
 use Rattle.routine.specs.Routine as readings
 use Rattle.reader.specs.declared.Routine.{Routine}
 use Rattle.reader.specs.Reader.{codes, sizes, Limited}
-use Rattle.analyser.specs.Answers.{Answer, reported, ofReading, memory}
-use Rattle.analyser.specs.Answers as answers
+use Rattle.answers.specs.Answers.{Answer, reported, memory}
+use Rattle.answers.specs.Answers as answers
+use Rattle.answers.proofs.AnswerLaws.{lent-short, reading-refused, reading-passed}
 use Rattle.analyser.specs.Held.{routineIn}
 use Rattle.analyser.proofs.FunctionLaws.{passes-not, same-refused, runnable}
 use Rattle.interrupts.specs.Interrupts.{numbersOfRun, numbersOfVerdict, numbersOf, stepsOf, interrupted, interruptAnswer, numberOf, Numbered}
@@ -123,15 +124,15 @@ module _ (n : ℕ) where
 module _ (text : List ℕ) (n lent : ℕ) where
   pub answer-short : lent < 13 → interruptAnswer text n lent ≡ answers.refused ReportMemory
   unfolding interruptAnswer
-  answer-short h = rw (lt-ltb lent 13 h) refl
+  answer-short = lent-short 13 lent _
 
   pub answer-refused : 13 ≤ lent → (x : Refusal) → readRun text ≡ readings.refused x → interruptAnswer text n lent ≡ answers.refused x
-  unfolding interruptAnswer ofReading
-  answer-refused h x e = rw (le-ltb lent 13 h, e) refl
+  unfolding interruptAnswer
+  answer-refused = reading-refused (λ x. reported (interrupted x n)) (readRun text) 13 lent
 
   pub answer-passed : 13 ≤ lent → (x : readings.Routine) → readRun text ≡ readings.routine x → interruptAnswer text n lent ≡ reported (interrupted x n)
-  unfolding interruptAnswer ofReading
-  answer-passed h x e = rw (le-ltb lent 13 h, e) refl
+  unfolding interruptAnswer
+  answer-passed = reading-passed (λ x. reported (interrupted x n)) (readRun text) 13 lent
 
 -- the number told and the memory, of a refusal and of numbers
 module _ (a : Answer) (former : List ℕ) where

@@ -5,7 +5,6 @@ use mathlib.Core.Bool.{cond}
 use mathlib.Core.List.{List, [], _∷_, _++_}
 use lib.Dec.{ltb}
 use lib.IntN.{ℤ}
-use Rattle.refusals.specs.declared.Refusal.the-variants.{ReportMemory}
 use Rattle.refusals.specs.Refusals.{number, place}
 use Rattle.machine.specs.Machine.{Code}
 use Rattle.bounds.specs.Tree.{Verdict, accepted, refused, bound}
@@ -15,8 +14,8 @@ use Rattle.findings.specs.Found.{encode, Shows}
 use Rattle.runs.specs.declared.Progress.{Progress}
 use Rattle.runs.specs.Progress.{ofProgress}
 use Rattle.routine.specs.Routine.{Routine, readRun}
-use Rattle.analyser.specs.Answers.{Answer, reported, ofReading}
-use Rattle.analyser.specs.Answers as answers
+use Rattle.answers.specs.Answers.{Answer, reported, lending, ofReading}
+use Rattle.answers.specs.Answers as answers
 
 -- of a run: 1 if STOP was made, its address, the cycles and the words spent, its largest height, its steps
 unfoldable pub numbersOfRun : Run → List ℕ
@@ -41,7 +40,7 @@ interrupted x n = numbersOf (x .code) (x .budget) (after (x .code) (stepsOf n) (
 
 -- the answer to a text, to n steps and to so many lent numbers; "report memory" is thirteen of them
 unfoldable pub interruptAnswer : List ℕ → ℕ → ℕ → Answer
-interruptAnswer text n lent = cond (ltb lent 13) (answers.refused ReportMemory) (ofReading (λ x. reported (interrupted x n)) (readRun text))
+interruptAnswer text n lent = lending 13 lent (ofReading (λ x. reported (interrupted x n)) (readRun text))
 
 -- an answer as one number: 0, or the number of the refusal
 unfoldable pub numberOf : Answer → ℕ

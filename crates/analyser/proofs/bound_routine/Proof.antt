@@ -1,7 +1,8 @@
 -- `analyser::bound_routine` meets its contract. Assumes nothing.
 use Rattle.analyser.specs.Answers.{boundRoutine}
 use Rattle.report.specs.Report.{boundText}
-use Rattle.analyser.proofs.FunctionLaws.{found-reported, found-refused, gives-report, gives-refusal}
+use Rattle.answers.proofs.AnswerLaws.{gives-report, gives-refusal}
+use Rattle.analyser.proofs.FunctionLaws.{found-reported, found-refused}
 use borrow.Author.Needs.{needs}
 use Rattle.analyser.proofs.bound_routine.Statement.{statement}
 use Rattle.analyser.proofs.bound_routine.Tie as tie

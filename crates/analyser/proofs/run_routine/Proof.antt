@@ -1,7 +1,8 @@
 -- `analyser::run_routine` meets its contract. Assumes nothing.
 use Rattle.analyser.specs.Answers.{runRoutine}
 use Rattle.report.specs.Report.{runText}
-use Rattle.analyser.proofs.FunctionLaws.{ran-reported, ran-refused, gives-report, gives-refusal}
+use Rattle.answers.proofs.AnswerLaws.{gives-report, gives-refusal}
+use Rattle.analyser.proofs.FunctionLaws.{ran-reported, ran-refused}
 use borrow.Author.Needs.{needs}
 use Rattle.analyser.proofs.run_routine.Statement.{statement}
 use Rattle.analyser.proofs.run_routine.Tie as tie

@@ -7,7 +7,7 @@ use Rattle.routine.specs.Routine.{routineOf, readRun}
 use Rattle.rows.specs.Checks.{readBy}
 use Rattle.rows.specs.declared.Reader.the-variants.{Run}
 use Rattle.rows.proofs.CheckLaws.{refused-reading, accepted-reading}
-use Rattle.analyser.specs.Answers.{reported}
+use Rattle.answers.specs.Answers.{reported}
 use Rattle.analyser.proofs.FunctionLaws.{held-routine}
 use borrow.Author.Needs.{needs}
 use Rattle.interrupts.proofs.InterruptLaws.{answer-short, answer-refused, answer-passed, tells-refusal, tells-numbers}

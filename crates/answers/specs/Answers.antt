@@ -1,0 +1,37 @@
+-- The answer of a public function, what the lent memory then holds, and the same in the code's type.
+-- (document 01, Refusal table; demands 1 and 2)
+use Prim.Native.Nat.{ℕ}
+use mathlib.Core.Bool.{cond}
+use mathlib.Core.List.{List, _++_}
+use lib.Dec.{ltb}
+use lib.ListN.{length, drop}
+use Rattle.refusals.specs.declared.Refusal.{Refusal}
+use Rattle.refusals.specs.declared.Refusal.the-variants.{ReportMemory}
+use Rattle.routine.specs.Routine.{Routine, Reading, routine}
+use Rattle.routine.specs.Routine as readings
+use Rattle.answers.specs.declared.Answer as code
+use Rattle.answers.specs.declared.Answer.the-variants.{Reported, Refused}
+
+-- a report's bytes, or a refusal
+pub data Answer : Type 0 where
+  reported : List ℕ → Answer
+  refused : Refusal → Answer
+
+-- refusal 10 where fewer bytes are lent than the limit, "checked first"; else the answer a
+abbrev pub lending : ℕ → ℕ → Answer → Answer
+lending limit n a = cond (ltb n limit) (refused ReportMemory) a
+
+-- of a reading: its refusal, or what f says of its routine
+unfoldable pub ofReading : (Routine → Answer) → Reading → Answer
+ofReading f (readings.refused r) = refused r
+ofReading f (routine x) = f x
+
+-- "Lent report memory holds, after an accepted call, exactly the report and then its former bytes; after a refusal it is as before."
+unfoldable pub memory : Answer → List ℕ → List ℕ
+memory (reported bs) former = bs ++ drop (length bs) former
+memory (refused r) former = former
+
+-- in the code's type: a report by the number of its bytes
+unfoldable pub answerOf : Answer → code.Answer
+answerOf (reported bs) = Reported (length bs)
+answerOf (refused r) = Refused r
