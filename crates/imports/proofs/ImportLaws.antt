@@ -1,4 +1,5 @@
--- Laws of the import: the primitives line of a text, and what is known of a line and of words that are accepted. Assumes nothing.
+-- Laws of the import: the primitives line of a text, what is known of a line and of words that are accepted, and where they are refused.
+-- Assumes nothing.
 use mathlib.Core.Path.{_≡_, refl, sym, ap, subst, _∙_}
 use mathlib.Core.Bool.{Bool, true, false, cond, not, _&&_}
 use mathlib.Core.List.{List, [], _∷_}
@@ -9,6 +10,7 @@ use lib.ListN.{length, getD, drop}
 use borrow.Author.Tests.{leb-true, ltb-true}
 use Rattle.refusals.specs.declared.Refusal.{Refusal}
 use Rattle.refusals.specs.declared.Refusal.the-variants.{Layout, BadName, BadWord}
+use Rattle.refusals.specs.Refusals.{place}
 use Rattle.refusals.specs.declared.Verdict.{Verdict}
 use Rattle.refusals.specs.declared.Verdict.the-variants.{Accepted as accepted, Refused as refused}
 use Rattle.text.specs.Text.{isEmpty, words, Line, noLine, lines, all, distinct}
@@ -25,7 +27,9 @@ use Rattle.words.specs.Import.{lineLaidOut, lineVerdict, oneLine, primitivesVer
 use Rattle.words.specs.Lines.{codeText}
 use Rattle.words.specs.Held.{Readable}
 use Rattle.words.proofs.OffsetLaws.{readable-of, fault-first}
+use Rattle.words.proofs.IndexLaws.{code-fault-near}
 use Rattle.imports.specs.Lines.{ShortNames}
+use Rattle.imports.proofs.LengthLaws.{code-fits}
 
 -- a verdict is of one case
 not-accepted : {X : Type 0} (r : Refusal) → refused r ≡ accepted → X
@@ -146,6 +150,38 @@ module _ (bs line : List ℕ) where
 
     pub import-readable : Readable (wordsOf bs)
     import-readable = readable-of (length (primitivesOf line)) (wordsOf bs) import-words
+
+    -- what it makes is within the memory that is asked for
+    pub import-fits : length (importText bs line) ≤ 32768
+    unfolding importText
+    import-fits = code-fits (primitivesOf line) (accepted-short line import-line) (wordsOf bs) import-readable
+
+  -- the names line is there in any case
+  pub import-some : 1 ≤ length (importText bs line)
+  unfolding importText codeText
+  import-some = omega arith
+
+  -- ---- a refusal: at place 1, or at the earliest word at fault
+
+  line-place : (ls : List Line) (r : Refusal) → oneLine ls ≡ refused r → place r ≡ 1
+  unfolding oneLine lineVerdict place
+  line-place [] r e = let q : Layout 1 ≡ r = cc in rw (← q) refl
+  line-place (l ∷ []) r e = go (lineLaidOut (l .text)) (wellNamed primitives (list (l .text))) e
+    where
+      go : (a b : Bool) → cond a (cond b accepted (refused (BadName 1))) (refused (Layout 1)) ≡ refused r → place r ≡ 1
+      go true true e = not-accepted r (sym e)
+      go true false e = let q : BadName 1 ≡ r = cc in rw (← q) refl
+      go false b e = let q : Layout 1 ≡ r = cc in rw (← q) refl
+  line-place (l ∷ m ∷ ls) r e = let q : Layout 1 ≡ r = cc in rw (← q) refl
+
+  pub import-place : (r : Refusal) → importVerdict bs line ≡ refused r → place r ≤ 2048
+  unfolding importVerdict primitivesVerdict both faultVerdict place
+  import-place r = go (oneLine (lines line)) (codeFault (length (primitivesOf line)) (wordsOf bs)) refl refl
+    where
+      go : (v : Verdict) (p : Place) → oneLine (lines line) ≡ v → codeFault (length (primitivesOf line)) (wordsOf bs) ≡ p → both v (faultVerdict p) ≡ refused r → place r ≤ 2048
+      go (refused x) p q h e = omega (arith, line-place (lines line) r (q ∙ e))
+      go accepted missing q h e = not-accepted r (sym e)
+      go accepted (at i) q h e = let f : BadWord i ≡ r = cc in rw (← f) (code-fault-near (length (primitivesOf line)) (wordsOf bs) i h)
 
 -- what an import makes, by the first line as the code has it
 pub import-text : (bs line w : List ℕ) → w ≡ getD (lines line) 0 noLine .text → importText bs line ≡ codeText (list w) (items (decoded (wordsOf bs)))

@@ -1,5 +1,6 @@
 pub mod IntegerLaws
 pub mod LineLaws
+pub mod LengthLaws
 pub mod WritingLaws
 pub mod PrimitiveLaws
 pub mod ImportLaws

@@ -2,39 +2,35 @@
 -- Assumes nothing.
 use mathlib.Core.Path.{_≡_, refl, sym, ap, _∙_}
 use mathlib.Core.Bool.{Bool, true, false, cond}
-use mathlib.Core.List.{List, [], _∷_, _++_, map, append-assoc, append-nil}
+use mathlib.Core.List.{List, [], _++_, append-assoc, append-nil}
 use Prim.Native.Nat.{ℕ, suc, _+_, _*_, _<_, _≤_}
 use native.Mathlib.Omega.{arith}
 use native.Mathlib.Numerals.{add-one}
-use lib.Dec.{leb, ltb}
-use lib.IntN.{ℤ, pos, negsuc, natAbs, _+ℤ_}
-use lib.ListN.{length, getD, drop, length-append}
+use lib.Dec.{ltb}
+use lib.IntN.{ℤ, pos, negsuc, _+ℤ_}
+use lib.ListN.{length, getD, drop}
 use mir.Syntax.{w32}
 use mir.Val.{SFits}
-use borrow.Author.Tests.{leb-true, ltb-true}
+use borrow.Author.Tests.{ltb-true}
 use Rattle.text.specs.Text.{bytes, indexOf}
 use Rattle.text.specs.Decimal.{decimal}
 use Rattle.text.specs.Memory.{over}
-use Rattle.text.proofs.DecimalLaws.{decimal-length}
 use Rattle.text.proofs.MemoryLaws.{Wrote, wrote-none, wrote-more}
 use Rattle.instructions.specs.declared.Argument.{Argument}
 use Rattle.instructions.specs.declared.Argument.the-variants.{Absent, Target, Primitive, Within}
 use Rattle.text.specs.declared.Place.the-variants.{At as at, Missing as missing}
-use Rattle.instructions.specs.Kinds.{kinds}
 use Rattle.instructions.specs.Columns.{kindAt}
-use Rattle.instructions.proofs.ColumnLaws.{column-at}
 use Rattle.words.specs.declared.Head.the-variants as heads
 use Rattle.words.specs.Words.{Word}
-use Rattle.words.specs.Decoding.{Item, itemOf, opcode, Entry, entries, decoded, items, faultFrom}
-use Rattle.words.specs.Lines.{integer, argumentText, lineText, linesFrom}
+use Rattle.words.specs.Decoding.{Item, itemOf, opcode, entries, decoded, items, faultFrom}
+use Rattle.words.specs.Lines.{argumentText, lineText, linesFrom}
 use Rattle.words.specs.Held.{sizeOf, headOf, Readable, numberIn, numberHeld, Numbered}
 use Rattle.words.proofs.HeadLaws.{Read, size-small}
 use Rattle.words.proofs.FaultLaws.{fault-unread}
 use Rattle.words.proofs.NumberingLaws.{sound-read}
 use Rattle.words.proofs.OffsetLaws.{number-in}
 use Rattle.imports.specs.Lines.{argumentIn, lineIn, ShortNames}
-use Rattle.imports.proofs.IntegerLaws.{integer-length}
-use Rattle.imports.proofs.LineLaws.{line-length}
+use Rattle.imports.proofs.LengthLaws.{Addresses, line-short}
 
 -- ---- the line is the definition's
 
@@ -50,12 +46,7 @@ unfolding lineIn lineText
 line-same ps d n i k z =
     ap (λ a. decimal n ++ bytes " " ++ kindAt k .name ++ bytes " " ++ a ++ bytes "\n") (argument-same ps d i k z (kindAt k .argument))
 
--- ---- "1023 PUSHCONSTINT -2147483648" and a line feed are 30 bytes
-
--- no name of a kind has more than 12 characters: computed for the whole table
-name-short : (k : ℕ) → k < 61 → length (kindAt k .name) ≤ 12
-unfolding kinds
-name-short k h = leb-true _ _ (sym (column-at (λ r. r .name) (λ w. leb (length w) 12) (λ r. leb (length (r .name)) 12) [] refl k h) ∙ column-at (λ r. r .name) (λ w. leb (length w) 12) (λ r. true) [] refl k h)
+-- ---- so that it has 30 bytes at most
 
 -- an address is below 1,024
 held-small : (v : ℕ) → indexOf (numberHeld v) < 1024
@@ -70,22 +61,10 @@ unfolding numberIn
 number-small t (pos n) = held-small (getD t n 1024)
 number-small t (negsuc n) = omega arith
 
-argument-short : (ps : List (List ℕ)) → ShortNames ps → (t : List ℕ) (i : ℕ) (z : ℤ) → SFits w32 z → (a : Argument) → length (argumentIn ps t i z a) ≤ 11
-unfolding argumentIn
-argument-short ps s t i z h Absent = omega arith
-argument-short ps s t i z h Target =
-    let m = number-small t (pos (suc i) +ℤ z) in
-    let l = decimal-length 4 (indexOf (numberIn t (pos (suc i) +ℤ z))) (omega arith) (omega arith) in
-    omega arith
-argument-short ps s t i z h Primitive = let l = s .short (natAbs z) in omega arith
-argument-short ps s t i z h (Within r) = integer-length z h
-
-pub line-short : (ps : List (List ℕ)) → ShortNames ps → (t : List ℕ) (n i k : ℕ) (z : ℤ) → SFits w32 z → n < 1024 → k < 61 → length (lineIn ps t n i k z) ≤ 30
-line-short ps s t n i k z h g l =
-    let a = argument-short ps s t i z h (kindAt k .argument) in
-    let b = name-short k l in
-    let d = decimal-length 4 n (omega arith) (omega arith) in
-    omega (arith, line-length ps t n i k z)
+pub written-short : (ps : List (List ℕ)) → ShortNames ps → {xs : List Item} {t : List ℕ} → Numbered xs t → (n i k : ℕ) (z : ℤ) → SFits w32 z → n < 1024 → k < 61 → length (lineIn ps t n i k z) ≤ 30
+written-short ps s {xs} {t} d n i k z h g l =
+    let m : Addresses xs = λ z. rw (← number-in d z) (number-small t z) in
+    rw (line-same ps d n i k z) (line-short ps s xs m n (itemOf i k z) h g l)
 
 -- ---- the pass
 
@@ -146,7 +125,7 @@ module _ {ps : List (List ℕ)} {former : List ℕ} {start : ℕ} {all : List Wo
         let o = sound-read (w .listed) c i k z ws r (w .sound) in
         let m = w .near in
         let b = size-small k in
-        let y = line-short ps s t c i k z f (o .0) (r .known) in
+        let y = written-short ps s d c i k z f (o .0) (r .known) in
         let v = w .short in
         let later = linesFrom ps (items (decoded all)) (suc c) (items (entries opcode (i + sizeOf k) (drop (sizeOf k) ws))) in
         rw (g, h, add-one c)

@@ -7,12 +7,13 @@ use native.Mathlib.Omega.{arith}
 use native.Mathlib.Numerals.{add-one}
 use lib.IntN.{ℤ}
 use lib.ListN.{length, drop}
-use borrow.Author.Tests.{lt-ltb, le-ltb}
+use lib.Dec.{ltb}
+use borrow.Author.Tests.{lt-ltb, le-ltb, ltb-true}
 use Rattle.text.specs.declared.Place.the-variants.{At as at, Missing as missing}
 use Rattle.instructions.specs.Columns.{kindAt}
 use Rattle.words.specs.declared.Head.the-variants as heads
 use Rattle.words.specs.Words.{Word, wordsOf}
-use Rattle.words.specs.Decoding.{opcode, entries, decoded, callListed, faultFrom, wordFault}
+use Rattle.words.specs.Decoding.{Item, opcode, Entry, item, entries, decoded, callListed, faultFrom, wordFault}
 use Rattle.words.specs.Held.{sizeOf, headOf}
 use Rattle.words.proofs.HeadLaws.{Read, head-unread, words-some}
 use Rattle.words.proofs.WordLaws.{words-none}
@@ -37,6 +38,19 @@ fault-none n c i bs h = rw (words-none bs h) refl
 pub fault-unread : (n c i : ℕ) (ws : List Word) → 0 < length ws → headOf ws ≡ heads.Unreadable → faultFrom n c (entries opcode i ws) ≡ at i
 unfolding faultFrom
 fault-unread n c i ws l h = ap (faultFrom n c) (head-unread i ws l h)
+
+-- an instruction with no fault, and those after it
+pub sound-item : (n c : ℕ) (x : Item) (es : List Entry) → faultFrom n c (item x ∷ es) ≡ missing → (c < 1024) × (faultFrom n (suc c) es ≡ missing)
+unfolding faultFrom
+sound-item n c x es e = first (ltb c 1024) refl e
+  where
+    second : (b : Bool) → cond b (faultFrom n (suc c) es) (at (suc (x .index))) ≡ missing → faultFrom n (suc c) es ≡ missing
+    second true q = q
+    second false q = let z : _≡_ {A = ℕ} 0 1 = cc in absurd (omega arith)
+
+    first : (b : Bool) → ltb c 1024 ≡ b → cond b (cond (callListed n (x .argument) (kindAt (x .kind) .argument)) (faultFrom n (suc c) es) (at (suc (x .index)))) (at (x .index)) ≡ missing → (c < 1024) × (faultFrom n (suc c) es ≡ missing)
+    first true l q = (ltb-true c 1024 l, second (callListed n (x .argument) (kindAt (x .kind) .argument)) q)
+    first false l q = let z : _≡_ {A = ℕ} 0 1 = cc in absurd (omega arith)
 
 module _ (n c : ℕ) {i k : ℕ} {z : ℤ} {ws : List Word} (r : Read i k z ws) where
   pub fault-many : 1024 ≤ c → faultFrom n c (entries opcode i ws) ≡ at i

@@ -4,6 +4,7 @@ pub mod FaultLaws
 pub mod PlaceLaws
 pub mod NumberingLaws
 pub mod OffsetLaws
+pub mod IndexLaws
 pub mod ExportLaws
 pub mod ResidueLaws
 pub mod Examples

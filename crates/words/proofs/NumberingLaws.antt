@@ -9,17 +9,16 @@ use lib.Dec.{ltb, eqb}
 use lib.IntN.{ℤ}
 use lib.ListN.{length, getD, set, drop, replicate, length-set}
 use lib.Seq.{getD-set-same, getD-set-other}
-use borrow.Author.Tests.{lt-ltb, ltb-true, eqb-true, eqb-false}
+use borrow.Author.Tests.{lt-ltb, eqb-true, eqb-false}
 use Rattle.text.specs.declared.Place.{Place}
 use Rattle.text.specs.declared.Place.the-variants.{At as at, Missing as missing}
-use Rattle.instructions.specs.Columns.{kindAt}
 use Rattle.instructions.specs.Opcodes.{placeFrom}
 use Rattle.words.specs.declared.Head.the-variants as heads
 use Rattle.words.specs.Words.{Word}
-use Rattle.words.specs.Decoding.{Item, itemOf, opcode, Entry, item, entries, decoded, items, callListed, faultFrom}
+use Rattle.words.specs.Decoding.{Item, itemOf, opcode, entries, decoded, items, faultFrom}
 use Rattle.words.specs.Held.{sizeOf, headOf, Readable, numberHeld, Numbered}
 use Rattle.words.proofs.HeadLaws.{Read, size-small}
-use Rattle.words.proofs.FaultLaws.{fault-unread}
+use Rattle.words.proofs.FaultLaws.{fault-unread, sound-item}
 
 -- the indices of the instructions from index i on
 abbrev indices : ℕ → List Word → List ℕ
@@ -59,19 +58,7 @@ numbering-starts ws t r e l = record {
 -- what is read next
 pub sound-read : (n c i k : ℕ) (z : ℤ) (ws : List Word) → Read i k z ws → faultFrom n c (entries opcode i ws) ≡ missing
     → (c < 1024) × (faultFrom n (suc c) (entries opcode (i + sizeOf k) (drop (sizeOf k) ws)) ≡ missing)
-unfolding faultFrom
-sound-read n c i k z ws r e = first (ltb c 1024) refl (sym (ap (faultFrom n c) (r .first)) ∙ e)
-  where
-    later : List Entry
-    later = entries opcode (i + sizeOf k) (drop (sizeOf k) ws)
-
-    second : (b : Bool) → cond b (faultFrom n (suc c) later) (at (suc i)) ≡ missing → faultFrom n (suc c) later ≡ missing
-    second true q = q
-    second false q = let x : _≡_ {A = ℕ} 0 1 = cc in absurd (omega arith)
-
-    first : (b : Bool) → ltb c 1024 ≡ b → cond b (cond (callListed n z (kindAt k .argument)) (faultFrom n (suc c) later) (at (suc i))) (at i) ≡ missing → (c < 1024) × (faultFrom n (suc c) later ≡ missing)
-    first true l q = (ltb-true c 1024 l, second (callListed n z (kindAt k .argument)) q)
-    first false l q = let x : _≡_ {A = ℕ} 0 1 = cc in absurd (omega arith)
+sound-read n c i k z ws r e = sound-item n c (itemOf i k z) (entries opcode (i + sizeOf k) (drop (sizeOf k) ws)) (sym (ap (faultFrom n c) (r .first)) ∙ e)
 
 module _ {all : List Word} {t : List ℕ} {i c : ℕ} {ws : List Word} (s : Numbering all t i c ws) where
   -- what is no instruction is not there

@@ -1,8 +1,10 @@
 -- Laws of words: the first word of bytes and what follows, and a word that was written is read back. Assumes nothing.
 use mathlib.Core.Path.{_≡_, refl, sym, ap, subst, _∙_}
+use mathlib.Core.Bool.{Bool, true, false}
 use mathlib.Core.List.{List, [], _∷_, _++_, map}
 use Prim.Native.Nat.{ℕ, zero, suc, _+_, _-_, _*_, _/_, _%_, _<_, _≤_}
 use native.Mathlib.Omega.{arith}
+use lib.Dec.{ltb}
 use lib.IntN.{ℤ, pos}
 use lib.ListN.{length, getD, take, drop, length-append, length-drop}
 use lib.Seq.{take-all}
@@ -11,8 +13,9 @@ use mir.Syntax.{w64}
 use mir.Val.{toZ}
 use mir.ValLaws.{toZ-pos}
 use native.Mathlib.Nat.{mod-eq-of-lt, div-div-eq-div-mul, div-add-mod'}
-use Rattle.numbers.specs.Numbers.{modulus, IsNumber, residue, signed, wrap}
-use Rattle.numbers.proofs.NumberLaws.{wrap-number, wrap-keeps}
+use borrow.Author.Tests.{ltb-true, ltb-false}
+use Rattle.numbers.specs.Numbers.{modulus, half, IsNumber, residue, signed, wrap}
+use Rattle.numbers.proofs.NumberLaws.{signed-low, signed-high, wrap-keeps}
 use Rattle.text.proofs.TextLaws.{Every, none, more}
 use Rattle.words.specs.Words.{Word, whole, cut, littleEndian, wordsOf, bytesOf, allBytes}
 
@@ -94,6 +97,9 @@ unfolding wrap
 signed-back z h = wrap-keeps z h
 
 -- a signed word is a number
-pub signed-is-number : (n : ℕ) → n < modulus → IsNumber (signed n)
-unfolding wrap
-signed-is-number n h = subst IsNumber (ap signed (mod-eq-of-lt h)) (wrap-number (pos n))
+pub signed-is-number : (n : ℕ) → IsNumber (signed n)
+signed-is-number n = go (ltb n half) refl
+  where
+    go : (b : Bool) → ltb n half ≡ b → IsNumber (signed n)
+    go true e = let h = ltb-true n half e in subst IsNumber (sym (signed-low n h)) (record { fits = h })
+    go false e = let h = ltb-false n half e in subst IsNumber (sym (signed-high n h)) (record { fits = omega arith })

@@ -13,7 +13,7 @@ use Rattle.words.specs.Words.{wordsOf}
 use Rattle.words.proofs.HeadLaws.{Read, size-small, head-read, head-fits, words-some, entries-none}
 use Rattle.imports.specs.Lines.{lineIn}
 use Rattle.imports.proofs.LineLaws.{room-as, put-as}
-use Rattle.imports.proofs.WritingLaws.{Writing, line-short, writing-starts, writing-reads, writing-room, writing-next, writing-ends}
+use Rattle.imports.proofs.WritingLaws.{Writing, written-short, writing-starts, writing-reads, writing-room, writing-next, writing-ends}
 use Rattle.imports.proofs.put_lines.Statement.{statement}
 use Rattle.imports.proofs.put_lines.Tie as tie
 
@@ -67,7 +67,7 @@ put-line-requires c κs =
     let l = i .before .before .before .before .before in
     let s = l .before .before .before .before .before in
     let r = writing-room (l .loop .inv) (instruction i) in
-    let y = line-short (list (s .args .primitives .now)) (s .pre .2) (s .args .numbers .now) (l .loop .count) (l .loop .index) (i .before .k .given .0 .0) (i .before .k .given .0 .1 .0) (argument-fits i) (r .0) (instruction i .known) in
+    let y = written-short (list (s .args .primitives .now)) (s .pre .2) (s .pre .1) (l .loop .count) (l .loop .index) (i .before .k .given .0 .0) (i .before .k .given .0 .1 .0) (argument-fits i) (r .0) (instruction i .known) in
     (instruction i .known, r .1, room-as (l .loop .e) (passed i) (omega (arith, y, r, s .pre .3, l .loop .inv .short, l .loop .inv .long)))
 
 after-requires : tie.Need-after-requires Inv-loop μ-loop

@@ -1,0 +1,149 @@
+-- Laws of the answers of an import and of an export: in each case of the code, how large they are, and where they refuse. Assumes nothing.
+use mathlib.Core.Path.{_≡_, refl, sym, ap, _∙_}
+use mathlib.Core.Bool.{Bool}
+use mathlib.Core.List.{List, [], _∷_}
+use Prim.Native.Nat.{ℕ, suc, _+_, _<_, _≤_}
+use native.Mathlib.Omega.{arith}
+use lib.ListN.{length, length-append, length-map, length-drop}
+use Rattle.refusals.specs.declared.Refusal.{Refusal}
+use Rattle.refusals.specs.declared.Refusal.the-variants.{ReportMemory}
+use Rattle.refusals.specs.Refusals.{place}
+use Rattle.refusals.specs.declared.Verdict.{Verdict}
+use Rattle.refusals.specs.declared.Verdict.the-variants.{Accepted, Refused}
+use Rattle.text.specs.Text.{Line, lines}
+use Rattle.routine.specs.declared.Role.{Role}
+use Rattle.routine.specs.declared.RefusedLine.the-variants.{Nowhere as nowhere}
+use Rattle.routine.specs.declared.Row.the-variants.{Layout as layout-row}
+use Rattle.routine.specs.Layout.{layout, body, codeLines, bodyRoles, roles}
+use Rattle.routine.specs.Rows.{refusedLine}
+use Rattle.routine.specs.Routine.{Routine, readBound}
+use Rattle.routine.specs.Routine as readings
+use Rattle.routine.proofs.RowLaws.{Covered, rest, passed, row-covered, read-passes}
+use Rattle.routine.proofs.PassingLaws.{code-few}
+use Rattle.routine.proofs.PlaceLaws.{read-bound-place}
+use Rattle.words.specs.Decoding.{Item}
+use Rattle.words.specs.Held.{sizeOf}
+use Rattle.words.specs.Import.{importVerdict, importText}
+use Rattle.words.specs.Export.{Op, positions, itemsFrom, itemWords, wordsIn, exportOps, exportBytes}
+use Rattle.words.proofs.WordLaws.{bytes-length}
+use Rattle.words.proofs.ExportLaws.{export-fits}
+use Rattle.imports.proofs.ImportLaws as imports
+use Rattle.answers.specs.Answers.{reported, refused}
+use Rattle.answers.proofs.AnswerLaws.{never, lent-short, lent-enough, lent-reported, lent-place, from-reading, place-from, reading-refused, reading-passed}
+use Rattle.conversions.specs.Answers.{conversionLimit, ofVerdict, importAnswer, exportAnswer}
+
+-- ---- an import
+
+module _ (words primitives : List ℕ) (n : ℕ) where
+  -- too little memory, a refusal, and what is made
+  pub import-short : n < 32768 → importAnswer words primitives n ≡ refused ReportMemory
+  unfolding importAnswer
+  import-short = lent-short conversionLimit n _
+
+  pub import-refused : 32768 ≤ n → (x : Refusal) → importVerdict words primitives ≡ Refused x → importAnswer words primitives n ≡ refused x
+  unfolding importAnswer ofVerdict
+  import-refused h x e = lent-enough conversionLimit n _ h ∙ ap (ofVerdict (importText words primitives)) e
+
+  pub import-made : 32768 ≤ n → importVerdict words primitives ≡ Accepted → importAnswer words primitives n ≡ reported (importText words primitives)
+  unfolding importAnswer ofVerdict
+  import-made h e = lent-enough conversionLimit n _ h ∙ ap (ofVerdict (importText words primitives)) e
+
+  -- a report
+  pub import-reported : (bs : List ℕ) → importAnswer words primitives n ≡ reported bs → (1 ≤ length bs) × (length bs ≤ 32768) × (32768 ≤ n)
+  unfolding importAnswer ofVerdict
+  import-reported bs e =
+      let l = lent-reported conversionLimit n (ofVerdict (importText words primitives) (importVerdict words primitives)) bs e in
+      go (importVerdict words primitives) refl (l .0) (l .1)
+    where
+      go : (v : Verdict) → importVerdict words primitives ≡ v → 32768 ≤ n → ofVerdict (importText words primitives) v ≡ reported bs → (1 ≤ length bs) × (length bs ≤ 32768) × (32768 ≤ n)
+      go Accepted q h e = let f : importText words primitives ≡ bs = cc in rw (← f) (imports.import-some words primitives, imports.import-fits words primitives q, h)
+      go (Refused r) q h e = never r bs e
+
+  -- a refusal
+  pub import-place : (r : Refusal) → importAnswer words primitives n ≡ refused r → place r ≤ 2048
+  unfolding importAnswer ofVerdict
+  import-place r = lent-place conversionLimit n (ofVerdict (importText words primitives) (importVerdict words primitives)) 2048 r (go (importVerdict words primitives) refl)
+    where
+      go : (v : Verdict) → importVerdict words primitives ≡ v → ofVerdict (importText words primitives) v ≡ refused r → place r ≤ 2048
+      go Accepted q e = never r (importText words primitives) (sym e)
+      go (Refused x) q e = let f : x ≡ r = cc in imports.import-place words primitives r (q ∙ ap Refused f)
+
+-- ---- how many bytes an export makes
+
+-- lines that have every role are as many at least
+covered-long : {t : Role → Line → Bool} {rs : List Role} {ls : List Line} → Covered t rs ls → length rs ≤ length ls
+covered-long rest = omega arith
+covered-long (passed p c) = omega (arith, covered-long c)
+
+roles-some : (bs : List Line) → 1 ≤ length (bodyRoles bs)
+unfolding bodyRoles
+roles-some [] = omega arith
+roles-some (l ∷ bs) = omega arith
+
+lines-some : (bs : List Line) → 1 ≤ length bs → 1 ≤ length (codeLines bs)
+unfolding codeLines
+lines-some [] h = h
+lines-some (l ∷ bs) h = omega arith
+
+-- "1 to 1,024 lines"
+code-some : (ls : List Line) → refusedLine layout-row ls ≡ nowhere → 1 ≤ length (codeLines (body ls))
+unfolding roles body
+code-some ls e =
+    let h = covered-long (row-covered layout-row ls e) in
+    lines-some (body ls) (rw length-drop (omega (arith, length-append layout (bodyRoles (body ls)), roles-some (body ls))))
+
+-- one instruction a line
+items-count : (is : List ℕ) (i : ℕ) (xs : List Op) → length (itemsFrom is i xs) ≡ length xs
+unfolding itemsFrom
+items-count is i [] = refl
+items-count is i (x ∷ xs) = ap suc (items-count is (i + sizeOf (x .kind)) xs)
+
+-- each has an opcode
+words-some : (xs : List Item) → length xs ≤ length (wordsIn xs)
+unfolding wordsIn itemWords
+words-some [] = omega arith
+words-some (x ∷ xs) = omega (arith, length-append (itemWords x) (wordsIn xs), words-some xs)
+
+module _ (ls : List Line) (e : refusedLine layout-row ls ≡ nowhere) where
+  export-length : (1 ≤ length (exportBytes ls)) × (length (exportBytes ls) ≤ 32768)
+  unfolding exportBytes exportOps
+  export-length = go _ (simp length-map (code-some ls e)) (simp length-map (code-few ls e))
+    where
+      go : (xs : List Op) → 1 ≤ length xs → length xs ≤ 1024 → (1 ≤ length (exportOps xs)) × (length (exportOps xs) ≤ 32768)
+      go xs h k =
+          let ys = itemsFrom (positions 0 xs) 0 xs in
+          let c = items-count (positions 0 xs) 0 xs in
+          (omega (arith, bytes-length (wordsIn ys), words-some ys), omega (arith, export-fits ys (omega arith)))
+
+-- ---- an export
+
+module _ (text : List ℕ) (n : ℕ) where
+  pub export-short : n < 32768 → exportAnswer text n ≡ refused ReportMemory
+  unfolding exportAnswer
+  export-short = lent-short conversionLimit n _
+
+  pub export-refused : 32768 ≤ n → (x : Refusal) → readBound text ≡ readings.refused x → exportAnswer text n ≡ refused x
+  unfolding exportAnswer
+  export-refused = reading-refused (λ x. reported (exportBytes (lines text))) (readBound text) conversionLimit n
+
+  pub export-made : 32768 ≤ n → (x : Routine) → readBound text ≡ readings.routine x → exportAnswer text n ≡ reported (exportBytes (lines text))
+  unfolding exportAnswer
+  export-made = reading-passed (λ x. reported (exportBytes (lines text))) (readBound text) conversionLimit n
+
+  -- a report
+  pub export-reported : (bs : List ℕ) → exportAnswer text n ≡ reported bs → (1 ≤ length bs) × (length bs ≤ 32768) × (32768 ≤ n)
+  unfolding exportAnswer
+  export-reported bs e =
+      let a = from-reading (λ x. reported (exportBytes (lines text))) (readBound text) conversionLimit n bs e in
+      let p = read-passes text (a .routine) (a .reads) .0 in
+      let f : exportBytes (lines text) ≡ bs = cc (a .gives) in
+      let l = export-length (lines text) (p .layout) in
+      rw (← f) (l .0, l .1, a .lent)
+
+  -- a refusal
+  pub export-place : (r : Refusal) → exportAnswer text n ≡ refused r → place r ≤ 32769
+  unfolding exportAnswer
+  export-place r =
+      place-from 32769 (λ x. reported (exportBytes (lines text))) (readBound text) conversionLimit n r
+      (read-bound-place text)
+      (λ x e f. never r (exportBytes (lines text)) (sym f))

@@ -1,0 +1,26 @@
+// The import and the export on lent memory. The meaning is in specs/.
+use answers::Answer;
+use refusals::Refusal;
+use refusals::Verdict;
+ghost use mathlib.Core.Path.{_≡_};
+ghost use lib.ListN.{length};
+ghost use Rattle.answers.specs.Answers.{memory, answerOf};
+ghost use Rattle.conversions.specs.Answers.{importAnswer};
+
+// The import of the compiler's words: the lines of code in the lent memory, or a refusal.
+pub fn import(words: &[u8], primitives: &[u8], out: &mut [u8]) -> Answer
+    ensures { λ r. ⌜ r ≡ answerOf (importAnswer (now (words .entry)) (now (primitives .entry)) (length (now (out .entry)))) ⌝ }
+    ensures { λ _. ⌜ now (out .exit) ≡ memory (importAnswer (now (words .entry)) (now (primitives .entry)) (length (now (out .entry)))) (now (out .entry)) ⌝ }
+{
+    if out.len() < 32768 {
+        return Answer::Refused(Refusal::ReportMemory);
+    }
+    let verdict = imports::check_import(words, primitives);
+    match verdict {
+        Verdict::Accepted => {
+            let n = imports::put_import(words, primitives, out);
+            Answer::Reported(n)
+        }
+        Verdict::Refused(refusal) => Answer::Refused(refusal),
+    }
+}
