@@ -41,7 +41,7 @@ fn cell_at(values: &[u8], i: usize) -> Cell
 }
 
 // The 32-bit number of a range that a word spells; one outside it counts 0.
-fn number_of(range: Range, w: &[u8]) -> i32
+pub fn number_of(range: Range, w: &[u8]) -> i32
     requires { ⌜ IsNumber (range .low) × IsNumber (range .high) ⌝ }
     ensures { λ r. ⌜ r ≡ inside range (value (now (w .entry))) ⌝ }
 {

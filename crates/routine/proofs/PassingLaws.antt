@@ -35,7 +35,7 @@ covered-drop [] ys c = c
 covered-drop (x ∷ xs) ys (passed p c) = covered-drop xs ys c
 
 -- so of the lines after the layout, where a row refuses nothing
-covered-body : (row : Row) (ls : List Line) → refusedLine row ls ≡ nowhere → Covered (test row ls) (bodyRoles (body ls)) (body ls)
+pub covered-body : (row : Row) (ls : List Line) → refusedLine row ls ≡ nowhere → Covered (test row ls) (bodyRoles (body ls)) (body ls)
 unfolding roles body
 covered-body row ls e = covered-drop layout (bodyRoles (body ls)) (row-covered row ls e)
 

@@ -1,0 +1,29 @@
+-- `exports::kind_of` meets its contract. Assumes nothing.
+use mathlib.Core.Path.{_≡_}
+use native.Mathlib.Omega.{arith}
+use Rattle.text.specs.Text.{find}
+use Rattle.instructions.specs.Kinds.{kindNames}
+use Rattle.instructions.proofs.ColumnLaws.{kind-small}
+use Rattle.routine.specs.Rows.{op}
+use Rattle.parts.proofs.EntryLaws.{found}
+use borrow.Author.Needs.{needs}
+use Rattle.exports.proofs.kind_of.Statement.{statement}
+use Rattle.exports.proofs.kind_of.Tie as tie
+
+word-at-requires : tie.Need-word-at-requires
+word-at-requires c κs = search needs
+
+kind-named-requires : tie.Need-kind-named-requires
+kind-named-requires c κs = search needs
+
+index-of-requires : tie.Need-index-of-requires
+index-of-requires c κs = search needs
+
+returns : tie.Need-returns
+returns c =
+    let line = c .before .before .before .before .args .line .now in
+    let e : c .index-of .result ≡ find (op line) kindNames = found kindNames _ _ _ (c .index-of .ensures) (c .before .kind-named .ensures) (c .before .before .word-at .ensures) in
+    (e, omega (arith, e, kind-small (op line)))
+
+pub kind-of-spec : {M : Type 1} → statement M
+kind-of-spec = tie.close (tie.spec word-at-requires kind-named-requires index-of-requires returns)

@@ -1,0 +1,107 @@
+-- `exports::put_line` meets its contract: the opcode, and then the argument word where the kind has one. Assumes nothing.
+use Prim.Native.Nat.{_*_}
+use mathlib.Core.Path.{sym, ap, _∙_}
+use mathlib.Core.List.{_++_}
+use native.Mathlib.Omega.{arith}
+use mir.Syntax.{w32}
+use mir.ValLaws.{toZ-ofZ}
+use Rattle.text.specs.Memory.{over}
+use Rattle.text.proofs.MemoryLaws.{wrote-none, wrote-more}
+use Rattle.routine.specs.Layout.{list}
+use Rattle.words.specs.Words.{bytesOf}
+use Rattle.exports.proofs.ArgumentLaws.{leads-by}
+use Rattle.exports.proofs.ExportingLaws.{line-plain, line-with}
+use borrow.Author.Needs.{needs}
+use Rattle.exports.proofs.put_line.Statement.{statement}
+use Rattle.exports.proofs.put_line.Tie as tie
+
+kind-of-requires : tie.Need-kind-of-requires
+kind-of-requires c κs = search needs
+
+mul-put-word : tie.Need-mul-put-word
+mul-put-word c = search needs
+
+opcode-at-requires : tie.Need-opcode-at-requires
+opcode-at-requires c κs = search needs
+
+put-word-requires : tie.Need-put-word-requires
+put-word-requires c κs = search needs
+
+has-argument-requires : tie.Need-has-argument-requires
+has-argument-requires c κs = search needs
+
+word-at-requires : tie.Need-word-at-requires
+word-at-requires c κs = search needs
+
+argument-word-requires : tie.Need-argument-word-requires
+argument-word-requires c κs =
+    let k = c .before .before .before .before .before .before .before .before in
+    let s = k .before .before .before .before .before in
+    (k .kind-of .ensures .1, omega (arith, s .pre .0), s .pre .2, s .pre .3, leads-by (s .args .line .now) (s .pre .4) (c .word-at .ensures) (k .kind-of .ensures .0))
+
+word-of-requires : tie.Need-word-of-requires
+word-of-requires c κs = search needs
+
+put-word-requires-2 : tie.Need-put-word-requires-2
+put-word-requires-2 c κs = search needs
+
+add-result : tie.Need-add-result
+add-result c = search needs
+
+same-length : tie.Need-same-length
+same-length c = search needs
+
+returns : tie.Need-returns
+unfolding bytesOf
+returns c =
+    let p2 = c .before .before in
+    let z = p2 .before .before .before in
+    let p1 = z .before .before .before .before .before .before in
+    let k = p1 .before .before .before in
+    let s = k .before .before .before .before .before in
+    let a = s .args in
+    let l = line-with (list (a .primitives .now)) (a .indices .now) (a .first) (a .index) (a .line .now) (k .kind-of .ensures .0) (p1 .before .opcode-at .ensures)
+    (sym (z .before .before .before .has-argument .ensures) ∙ z .before .before .if1 .taken) (z .before .word-at .ensures)
+    (toZ-ofZ w32 (z .argument-word .result) (search needs) ∙ z .argument-word .ensures) in
+    let w0 = wrote-none (a .out .now) (4 * a .index) (omega (arith, s .pre .1)) in
+    let w1 = wrote-more w0 (bytesOf (p1 .before .opcode-at .result)) (p1 .put-word .ensures) in
+    let w2 = wrote-more w1 (bytesOf (p2 .before .word-of .result)) (p2 .put-word2 .ensures) in (
+      omega (arith, l .1),
+      w2 .holds ∙ ap (λ r. over (a .out .now) (4 * a .index) (bytesOf (p1 .before .opcode-at .result) ++ bytesOf r)) (p2 .before .word-of .ensures) ∙ ap (over (a .out .now) (4 * a .index)) (sym (l .0)),
+    )
+
+add-result-2 : tie.Need-add-result-2
+add-result-2 c = search needs
+
+same-length-2 : tie.Need-same-length-2
+same-length-2 c = search needs
+
+returns-2 : tie.Need-returns-2
+unfolding bytesOf
+returns-2 c =
+    let p = c .before .before .before .before in
+    let k = p .before .before .before in
+    let s = k .before .before .before .before .before in
+    let a = s .args in
+    let l = line-plain (list (a .primitives .now)) (a .indices .now) (a .first) (a .index) (a .line .now) (k .kind-of .ensures .0) (p .before .opcode-at .ensures) (sym (c .before .has-argument .ensures) ∙ c .if1 .left) in
+    (omega (arith, l .1), p .put-word .ensures .1 ∙ ap (over (a .out .now) (4 * a .index)) (sym (l .0)))
+
+pub put-line-spec : {M : Type 1} → statement M
+put-line-spec =
+    tie.close
+    (tie.spec
+    kind-of-requires
+    mul-put-word
+    opcode-at-requires
+    put-word-requires
+    has-argument-requires
+    word-at-requires
+    argument-word-requires
+    word-of-requires
+    put-word-requires-2
+    add-result
+    same-length
+    returns
+    add-result-2
+    same-length-2
+    returns-2)
