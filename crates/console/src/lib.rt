@@ -1,4 +1,4 @@
-// Standard input and standard output of the programs. What the bytes mean is in the crates below.
+// Input and output of the programs. What the bytes mean is in the crates below.
 use answers::Answer;
 use libc::STDERR_FILENO;
 use libc::STDIN_FILENO;
@@ -14,13 +14,13 @@ pub struct Input {
     pub is_whole: bool,
 }
 
-// Reads standard input to its end, or until text is full.
-pub fn read_text(text: &mut [u8]) -> Input
+// Reads from a descriptor to its end, or until text is full.
+pub fn read_from(descriptor: i32, text: &mut [u8]) -> Input
     ensures { λ r. ⌜ Counts (r .length) (now (text .exit)) ⌝ }
 {
     let mut n = 0;
     while n < text.len() {
-        let got = libc::read(STDIN_FILENO, &mut text[n..]);
+        let got = libc::read(descriptor, &mut text[n..]);
         if got < 0 {
             return Input {
                 length: n,
@@ -39,16 +39,28 @@ pub fn read_text(text: &mut [u8]) -> Input
     }
 }
 
+// Reads standard input likewise.
+pub fn read_text(text: &mut [u8]) -> Input
+    ensures { λ r. ⌜ Counts (r .length) (now (text .exit)) ⌝ }
+{
+    read_from(STDIN_FILENO, text)
+}
+
+// Says on standard error why there is no answer.
+pub fn say(message: &[u8]) {
+    io::write_all(STDERR_FILENO, message);
+}
+
 // Says on standard error that a read failed: a part of a text is given no answer.
 pub fn read_failed() {
-    io::write_all(STDERR_FILENO, b"the input could not be read\n");
+    say(b"the input could not be read\n");
 }
 
 // Writes all of bytes to standard output.
 pub fn write(bytes: &[u8]) {
     let is_written = io::write_all(STDOUT_FILENO, bytes);
     if !is_written {
-        io::write_all(STDERR_FILENO, b"the output could not be written\n");
+        say(b"the output could not be written\n");
     }
 }
 
