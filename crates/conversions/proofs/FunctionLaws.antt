@@ -1,31 +1,25 @@
 -- Laws of the answers of an import and of an export: in each case of the code, how large they are, and where they refuse. Assumes nothing.
 use mathlib.Core.Path.{_≡_, refl, sym, ap, _∙_}
-use mathlib.Core.Bool.{Bool}
-use mathlib.Core.List.{List, [], _∷_}
-use Prim.Native.Nat.{ℕ, suc, _+_, _<_, _≤_}
+use mathlib.Core.List.{List}
+use Prim.Native.Nat.{ℕ, _<_, _≤_}
 use native.Mathlib.Omega.{arith}
-use lib.ListN.{length, length-append, length-map, length-drop}
+use lib.ListN.{length, length-map}
 use Rattle.refusals.specs.declared.Refusal.{Refusal}
 use Rattle.refusals.specs.declared.Refusal.the-variants.{ReportMemory}
 use Rattle.refusals.specs.Refusals.{place}
 use Rattle.refusals.specs.declared.Verdict.{Verdict}
 use Rattle.refusals.specs.declared.Verdict.the-variants.{Accepted, Refused}
 use Rattle.text.specs.Text.{Line, lines}
-use Rattle.routine.specs.declared.Role.{Role}
 use Rattle.routine.specs.declared.RefusedLine.the-variants.{Nowhere as nowhere}
 use Rattle.routine.specs.declared.Row.the-variants.{Layout as layout-row}
-use Rattle.routine.specs.Layout.{layout, body, codeLines, bodyRoles, roles}
 use Rattle.routine.specs.Rows.{refusedLine}
 use Rattle.routine.specs.Routine.{Routine, readBound}
 use Rattle.routine.specs.Routine as readings
-use Rattle.routine.proofs.RowLaws.{Covered, rest, passed, row-covered, read-passes}
-use Rattle.routine.proofs.PassingLaws.{code-few}
+use Rattle.routine.proofs.RowLaws.{read-passes}
+use Rattle.routine.proofs.PassingLaws.{code-few, code-some}
 use Rattle.routine.proofs.PlaceLaws.{read-bound-place}
-use Rattle.words.specs.Decoding.{Item}
-use Rattle.words.specs.Held.{sizeOf}
 use Rattle.words.specs.Import.{importVerdict, importText}
-use Rattle.words.specs.Export.{Op, positions, itemsFrom, itemWords, wordsIn, exportOps, exportBytes}
-use Rattle.words.proofs.WordLaws.{bytes-length}
+use Rattle.words.specs.Export.{exportBytes}
 use Rattle.words.proofs.ExportLaws.{export-fits}
 use Rattle.imports.proofs.ImportLaws as imports
 use Rattle.answers.specs.Answers.{reported, refused}
@@ -68,54 +62,12 @@ module _ (words primitives : List ℕ) (n : ℕ) where
       go Accepted q e = never r (importText words primitives) (sym e)
       go (Refused x) q e = let f : x ≡ r = cc in imports.import-place words primitives r (q ∙ ap Refused f)
 
--- ---- how many bytes an export makes
-
--- lines that have every role are as many at least
-covered-long : {t : Role → Line → Bool} {rs : List Role} {ls : List Line} → Covered t rs ls → length rs ≤ length ls
-covered-long rest = omega arith
-covered-long (passed p c) = omega (arith, covered-long c)
-
-roles-some : (bs : List Line) → 1 ≤ length (bodyRoles bs)
-unfolding bodyRoles
-roles-some [] = omega arith
-roles-some (l ∷ bs) = omega arith
-
-lines-some : (bs : List Line) → 1 ≤ length bs → 1 ≤ length (codeLines bs)
-unfolding codeLines
-lines-some [] h = h
-lines-some (l ∷ bs) h = omega arith
-
--- "1 to 1,024 lines"
-code-some : (ls : List Line) → refusedLine layout-row ls ≡ nowhere → 1 ≤ length (codeLines (body ls))
-unfolding roles body
-code-some ls e =
-    let h = covered-long (row-covered layout-row ls e) in
-    lines-some (body ls) (rw length-drop (omega (arith, length-append layout (bodyRoles (body ls)), roles-some (body ls))))
-
--- one instruction a line
-items-count : (is : List ℕ) (i : ℕ) (xs : List Op) → length (itemsFrom is i xs) ≡ length xs
-unfolding itemsFrom
-items-count is i [] = refl
-items-count is i (x ∷ xs) = ap suc (items-count is (i + sizeOf (x .kind)) xs)
-
--- each has an opcode
-words-some : (xs : List Item) → length xs ≤ length (wordsIn xs)
-unfolding wordsIn itemWords
-words-some [] = omega arith
-words-some (x ∷ xs) = omega (arith, length-append (itemWords x) (wordsIn xs), words-some xs)
-
-module _ (ls : List Line) (e : refusedLine layout-row ls ≡ nowhere) where
-  export-length : (1 ≤ length (exportBytes ls)) × (length (exportBytes ls) ≤ 32768)
-  unfolding exportBytes exportOps
-  export-length = go _ (simp length-map (code-some ls e)) (simp length-map (code-few ls e))
-    where
-      go : (xs : List Op) → 1 ≤ length xs → length xs ≤ 1024 → (1 ≤ length (exportOps xs)) × (length (exportOps xs) ≤ 32768)
-      go xs h k =
-          let ys = itemsFrom (positions 0 xs) 0 xs in
-          let c = items-count (positions 0 xs) 0 xs in
-          (omega (arith, bytes-length (wordsIn ys), words-some ys), omega (arith, export-fits ys (omega arith)))
-
 -- ---- an export
+
+-- a file has 1 to 1,024 code lines
+export-length : (ls : List Line) → refusedLine layout-row ls ≡ nowhere → (4 ≤ length (exportBytes ls)) × (length (exportBytes ls) ≤ 8192)
+unfolding exportBytes
+export-length ls e = export-fits _ (simp length-map (code-some ls e)) (simp length-map (code-few ls e))
 
 module _ (text : List ℕ) (n : ℕ) where
   pub export-short : n < 32768 → exportAnswer text n ≡ refused ReportMemory
@@ -138,7 +90,7 @@ module _ (text : List ℕ) (n : ℕ) where
       let p = read-passes text (a .routine) (a .reads) .0 in
       let f : exportBytes (lines text) ≡ bs = cc (a .gives) in
       let l = export-length (lines text) (p .layout) in
-      rw (← f) (l .0, l .1, a .lent)
+      rw (← f) (omega arith, omega arith, a .lent)
 
   -- a refusal
   pub export-place : (r : Refusal) → exportAnswer text n ≡ refused r → place r ≤ 32769

@@ -2,10 +2,11 @@
 use answers::Answer;
 use refusals::Refusal;
 use refusals::Verdict;
+use rows::Reader;
 ghost use mathlib.Core.Path.{_≡_};
 ghost use lib.ListN.{length};
 ghost use Rattle.answers.specs.Answers.{memory, answerOf};
-ghost use Rattle.conversions.specs.Answers.{importAnswer};
+ghost use Rattle.conversions.specs.Answers.{importAnswer, exportAnswer};
 
 // The import of the compiler's words: the lines of code in the lent memory, or a refusal.
 pub fn import(words: &[u8], primitives: &[u8], out: &mut [u8]) -> Answer
@@ -20,6 +21,25 @@ pub fn import(words: &[u8], primitives: &[u8], out: &mut [u8]) -> Answer
         Verdict::Accepted => {
             let n = imports::put_import(words, primitives, out);
             Answer::Reported(n)
+        }
+        Verdict::Refused(refusal) => Answer::Refused(refusal),
+    }
+}
+
+// The export of a routine file: the words of its code in the lent memory, or a refusal.
+pub fn export(text: &[u8], out: &mut [u8]) -> Answer
+    ensures { λ r. ⌜ r ≡ answerOf (exportAnswer (now (text .entry)) (length (now (out .entry)))) ⌝ }
+    ensures { λ _. ⌜ now (out .exit) ≡ memory (exportAnswer (now (text .entry)) (length (now (out .entry)))) (now (out .entry)) ⌝ }
+{
+    let lent = out.len();
+    if lent < 32768 {
+        return Answer::Refused(Refusal::ReportMemory); // before the text is read
+    }
+    let verdict = rows::check(Reader::Bound, text);
+    match verdict {
+        Verdict::Accepted => {
+            let length = exports::put_export(text, out);
+            Answer::Reported(length)
         }
         Verdict::Refused(refusal) => Answer::Refused(refusal),
     }

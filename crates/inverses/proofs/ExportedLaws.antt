@@ -35,11 +35,10 @@ use Rattle.words.specs.Words.{wordsOf, allBytes}
 use Rattle.words.specs.Decoding.{decoded, items, faultFrom, wordFault, offsetFault, codeFault}
 use Rattle.words.specs.Lines.{codeText}
 use Rattle.words.specs.Import.{lineLaidOut, lineVerdict, oneLine, primitivesVerdict, firstText, primitivesOf, faultVerdict, both, importVerdict, importText}
-use Rattle.words.specs.Export.{Op, relative, opOf, positions, itemsFrom, itemWords, wordsIn, exportOps, exportBytes}
-use Rattle.words.proofs.WordLaws.{bytes-length}
+use Rattle.words.specs.Export.{Op, relative, opOf, wordsIn, exportOps, exportBytes}
 use Rattle.words.proofs.FaultLaws.{fault-starts}
 use Rattle.words.proofs.OffsetLaws.{fault-then}
-use Rattle.words.proofs.ExportLaws.{Placed, bytes-entries, bytes-decoded}
+use Rattle.words.proofs.ExportLaws.{Placed, export-fits, bytes-entries, bytes-decoded}
 use Rattle.inverses.specs.Sections.{linesText, codeSection, primitivesLine}
 use Rattle.inverses.proofs.JoinLaws.{Free, pieces-every, split-alone, lines-free}
 use Rattle.inverses.proofs.FileLaws.{section-text}
@@ -149,7 +148,7 @@ module _ (text : List ℕ) (p : Passes (lines text)) where
     room = let h = few in omega arith
 
     some : 1 ≤ length ops
-    some = rw counted (code-some layout-row ls (p .layout))
+    some = rw counted (code-some ls (p .layout))
 
     pub file-said : Said ps (length ops) 0 (codeLines (body ls)) ops
     file-said =
@@ -171,16 +170,9 @@ module _ (text : List ℕ) (p : Passes (lines text)) where
     decoded-items = ap (λ bs. items (decoded (wordsOf bs))) export-items ∙ bytes-decoded file-placed
 
     -- there is a word at least
-    words-some : (xs : List Op) (is : List ℕ) (i : ℕ) → 1 ≤ length xs → 1 ≤ length (wordsIn (itemsFrom is i xs))
-    unfolding wordsIn itemsFrom itemWords
-    words-some [] is i h = absurd (omega arith)
-    words-some (x ∷ xs) is i h = omega arith
-
     export-some : 0 < length (exportBytes ls)
-    export-some =
-        let h = bytes-length (wordsIn (exported ps ops few)) in
-        let k = words-some ops (positions 0 ops) 0 some in
-        rw export-items (omega arith)
+    unfolding exportBytes
+    export-some = let h = export-fits ops some few .0 in omega arith
 
     words-sound : wordFault (length ps) (wordsOf (exportBytes ls)) ≡ missing
     unfolding decoded

@@ -19,7 +19,6 @@ use Rattle.text.proofs.DecimalLaws.{decimal-read}
 use Rattle.instructions.specs.Columns.{kindAt}
 use Rattle.routine.specs.declared.Section.the-variants.{Primitives as primitives}
 use Rattle.routine.specs.declared.Role.the-variants.{Names as names}
-use Rattle.routine.specs.declared.Row.the-variants.{Layout as layout-row}
 use Rattle.routine.specs.Layout.{body, codeLines, listed}
 use Rattle.routine.specs.Rows.{valueOf, value, isName, wellNamed, named, firstAt, Passes}
 use Rattle.routine.proofs.RowLaws.{passes-named}
@@ -166,7 +165,7 @@ module _ (bs line text : List ℕ) (small : Every (λ b. b < 256) bs) (ok : impo
   said-again = rows-said xs ps (codeLines (body ls)) xs sound-all (cc (same-lines))
 
   begins : firstAt (body ls) ≡ pos 0
-  begins = sym (first-code (body ls)) ∙ first-said said-again (code-some layout-row ls (p .layout))
+  begins = sym (first-code (body ls)) ∙ first-said said-again (code-some ls (p .layout))
 
   unlike : distinct ps ≡ true
   unfolding named wellNamed listed

@@ -63,14 +63,6 @@ body-covered (l ∷ bs) (passed p c) = next p (code-covered 1 bs c)
 pub code-passed : (row : Row) (ls : List Line) → refusedLine row ls ≡ nowhere → Coded (test row ls) 0 (codeLines (body ls))
 code-passed row ls e = body-covered (body ls) (covered-body row ls e)
 
--- there is one at least
-some-code : {t : Role → Line → Bool} (bs : List Line) → Covered t (bodyRoles bs) bs → 1 ≤ length (codeLines bs)
-unfolding bodyRoles codeLines
-some-code (l ∷ bs) (passed p c) = omega arith
-
-pub code-some : (row : Row) (ls : List Line) → refusedLine row ls ≡ nowhere → 1 ≤ length (codeLines (body ls))
-code-some row ls e = some-code (body ls) (covered-body row ls e)
-
 -- ---- the first address
 
 first-within : (ls bs : List Line) → Covered (test range-row ls) (bodyRoles bs) bs → within firstAddresses (firstAt bs) ≡ true
@@ -194,6 +186,10 @@ module _ (ls : List Line) where
       let m : 1 + length (upToAnswer bs) ≤ 1024 = code-from 1 bs (omega arith) c in
       omega arith
 
+  some-code : (bs : List Line) → Covered (test layout-row ls) (bodyRoles bs) bs → 1 ≤ length (codeLines bs)
+  unfolding bodyRoles codeLines
+  some-code (l ∷ bs) (passed p c) = omega arith
+
   few-answers : (bs : List Line) → Covered (test layout-row ls) (bodyRoles bs) bs → length (answerLines bs) ≤ 64
   unfolding bodyRoles answerLines
   few-answers [] c = omega arith
@@ -202,6 +198,9 @@ module _ (ls : List Line) where
 module _ (ls : List Line) (e : refusedLine layout-row ls ≡ nowhere) where
   pub code-few : length (codeLines (body ls)) ≤ 1024
   code-few = few-code ls (body ls) (covered-body layout-row ls e)
+
+  pub code-some : 1 ≤ length (codeLines (body ls))
+  code-some = some-code ls (body ls) (covered-body layout-row ls e)
 
   pub answers-few : length (answerLines (body ls)) ≤ 64
   answers-few = few-answers ls (body ls) (covered-body layout-row ls e)

@@ -21,7 +21,7 @@ use Rattle.instructions.proofs.OpcodeLaws.{kind-of-opcode}
 use Rattle.words.specs.Words.{Word, whole, wordsOf, allBytes}
 use Rattle.words.specs.Decoding.{Item, itemOf, hasArgument, opcode, argument, Entry, item, coded, entries, decoded, items, numberAt}
 use Rattle.words.specs.Held.{sizeOf}
-use Rattle.words.specs.Export.{Op, positions, itemsFrom, itemWords, wordsIn, exportOps}
+use Rattle.words.specs.Export.{Op, positions, argumentWord, itemsFrom, itemWords, wordsIn, exportOps}
 use Rattle.words.proofs.WordLaws.{signed-back, words-back, bytes-length}
 use Rattle.words.proofs.HeadLaws.{size-small, size-one, size-two}
 
@@ -64,22 +64,29 @@ decode-words (with-word {i} {k} {z} {xs} h t n p) =
 decode-words (plain {i} {k} {xs} h t p) =
     ap (λ ws. entries opcode i (map whole (ws ++ wordsIn xs))) (words-plain i k (pos 0) t) ∙ decode-plain i k (map whole (wordsIn xs)) h t ∙ ap (λ es. item (itemOf i k (pos 0)) ∷ es) (decode-words p)
 
--- an instruction has two words at most, so that 1,024 have 8,192 bytes at most
-words-few : (x : Item) → length (itemWords x) ≤ 2
+-- an instruction has one word or two, so that 1 to 1,024 lines have 4 to 8,192 bytes
+words-few : (x : Item) → (1 ≤ length (itemWords x)) × (length (itemWords x) ≤ 2)
 unfolding itemWords
 words-few x = go (hasArgument (kindAt (x .kind) .argument))
   where
-    go : (b : Bool) → length (kindAt (x .kind) .opcode ∷ cond b (residue (x .argument) ∷ []) []) ≤ 2
-    go true = omega arith
-    go false = omega arith
+    go : (b : Bool) → (1 ≤ length (kindAt (x .kind) .opcode ∷ cond b (residue (x .argument) ∷ []) [])) × (length (kindAt (x .kind) .opcode ∷ cond b (residue (x .argument) ∷ []) []) ≤ 2)
+    go true = (omega arith, omega arith)
+    go false = (omega arith, omega arith)
 
-all-few : (xs : List Item) → length (wordsIn xs) ≤ 2 * length xs
-unfolding wordsIn
-all-few [] = omega arith
-all-few (x ∷ xs) = let h = words-few x in let k = all-few xs in rw length-append (omega arith)
+all-few : (is : List ℕ) (i : ℕ) (xs : List Op) → (length xs ≤ length (wordsIn (itemsFrom is i xs))) × (length (wordsIn (itemsFrom is i xs)) ≤ 2 * length xs)
+unfolding itemsFrom wordsIn
+all-few is i [] = (omega arith, omega arith)
+all-few is i (x ∷ xs) =
+    let h = words-few (itemOf i (x .kind) (argumentWord is i (x .value) (kindAt (x .kind) .argument))) in
+    let k = all-few is (i + sizeOf (x .kind)) xs in
+    rw length-append (omega arith, omega arith)
 
-pub export-fits : (xs : List Item) → length xs ≤ 1024 → length (allBytes (wordsIn xs)) ≤ 8192
-export-fits xs h = let k = all-few xs in let l = bytes-length (wordsIn xs) in omega arith
+pub export-fits : (xs : List Op) → 1 ≤ length xs → length xs ≤ 1024 → (4 ≤ length (exportOps xs)) × (length (exportOps xs) ≤ 8192)
+unfolding exportOps
+export-fits xs h g =
+    let k = all-few (positions 0 xs) 0 xs in
+    let l = bytes-length (wordsIn (itemsFrom (positions 0 xs) 0 xs)) in
+    (omega arith, omega arith)
 
 -- ---- an offset leads back to the line that it was made of
 
