@@ -113,7 +113,7 @@ holds-placed (alone {i} {w} {k} {xs} q a h) (more b bs) =
 holds-placed (paired {i} {w} {v} {k} {xs} q a h) (more b (more d bs)) =
     let s = size-two k a in
     let e : suc (suc i) ≡ i + sizeOf k = omega arith in
-    with-word (opcode-of-kind w k q .0) a (signed-is-number v d) (subst (λ j. Placed j xs) e (holds-placed h bs))
+    with-word (opcode-of-kind w k q .0) a (signed-is-number v) (subst (λ j. Placed j xs) e (holds-placed h bs))
 
 holds-words : {i : ℕ} {ns : List ℕ} {xs : List Item} → Holds i ns xs → Every (λ n. n < modulus) ns → wordsIn xs ≡ ns
 unfolding wordsIn itemWords
