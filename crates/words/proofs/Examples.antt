@@ -26,69 +26,40 @@ use Rattle.words.specs.Export as export-of
 published : List ℕ
 published = words.allBytes (93 ∷ 0 ∷ 85 ∷ 3 ∷ 101 ∷ 110 ∷ 143 ∷ [])
 
-made : importText published (text.bytes "READ\n") ≡ text.bytes "AT OP ARG\n0 C_CALL1 READ\n1 BRANCHIF 4\n2 CONST2 -\n3 ADDINT -\n4 STOP -\n"
-unfolding published text.equals text.split text.words text.linesOf text.lines decimals.digits decimals.decimal table.kinds table.opcodes columns.kindAt opcodes.placeFrom opcodes.kindCoded layout.list words.wordsOf words.bytesOf words.allBytes decoding.coded decoding.entries decoding.decoded decoding.items decoding.numberAt lines.integer lines.argumentText lines.lineText lines.linesFrom lines.codeText import-of.primitivesOf import-of.importText
-made = refl
-
--- the same as an export of its code lines
+-- a code line
 op : ℕ → ℕ → Op
 op k v = record { kind = k; value = pos v }
 
-exported : exportOps (op 55 0 ∷ op 53 4 ∷ op 23 0 ∷ op 34 0 ∷ op 60 0 ∷ []) ≡ published
-unfolding published op table.kinds columns.kindAt words.bytesOf words.allBytes held.sizeOf export-of.positions export-of.argumentWord export-of.itemsFrom export-of.itemWords export-of.wordsIn export-of.exportOps
-exported = refl
+-- each row by computation, with one proof
+abbrev pub Examples : Type 0
+Examples =
+    -- the lines that they are imported to
+    (importText published (text.bytes "READ\n") ≡ text.bytes "AT OP ARG\n0 C_CALL1 READ\n1 BRANCHIF 4\n2 CONST2 -\n3 ADDINT -\n4 STOP -\n")
+    -- the same as an export of these code lines
+    × (exportOps (op 55 0 ∷ op 53 4 ∷ op 23 0 ∷ op 34 0 ∷ op 60 0 ∷ []) ≡ published)
+    -- no word at all: place 0
+    × (importVerdict ([]) (text.bytes "READ") ≡ Refused (BadWord 0))
+    -- an opcode outside the 61 kinds, after a branch to nowhere: offsets are looked at last
+    × (importVerdict (words.allBytes (84 ∷ 9 ∷ 144 ∷ [])) (text.bytes "READ") ≡ Refused (BadWord 2))
+    -- a cut-off argument counts at its opcode
+    × (importVerdict (words.allBytes (143 ∷ 8 ∷ []) ++ (1 ∷ 0 ∷ [])) (text.bytes "READ") ≡ Refused (BadWord 1))
+    -- a cut-off word, at the index that it would have
+    × (importVerdict (words.allBytes (143 ∷ []) ++ (143 ∷ [])) (text.bytes "READ") ≡ Refused (BadWord 1))
+    -- a place that is not on the primitives line, at the argument word
+    × (importVerdict (words.allBytes (93 ∷ 1 ∷ [])) (text.bytes "READ") ≡ Refused (BadWord 1))
+    -- an offset just past the last word is outside
+    × (importVerdict (words.allBytes (84 ∷ 1 ∷ [])) (text.bytes "READ") ≡ Refused (BadWord 1))
+    -- an offset to its own word lands inside an instruction
+    × (importVerdict (words.allBytes (84 ∷ 0 ∷ [])) (text.bytes "READ") ≡ Refused (BadWord 1))
+    -- an offset of -1 leads to its own opcode
+    × (importVerdict (words.allBytes (84 ∷ 4294967295 ∷ [])) (text.bytes "READ") ≡ Accepted)
+    -- an empty primitives line
+    × (importVerdict (published) (text.bytes "") ≡ Refused (Layout 1))
+    -- a name that stands twice
+    × (importVerdict (published) (text.bytes "READ READ") ≡ Refused (BadName 1))
+    -- a line feed elsewhere
+    × (importVerdict (published) (text.bytes "READ\n-") ≡ Refused (Layout 1))
 
--- no word at all: place 0
-no-word : importVerdict ([]) (text.bytes "READ") ≡ Refused (BadWord 0)
-unfolding published text.equals text.split text.words text.linesOf text.lines text.among text.all text.distinct decimals.digits decimals.decimal table.kinds table.opcodes columns.kindAt opcodes.placeFrom opcodes.kindCoded layout.list rows.isName rows.namesLaidOut rows.wellNamed words.wordsOf words.bytesOf words.allBytes decoding.coded decoding.entries decoding.decoded decoding.items decoding.isPlace decoding.callListed decoding.faultFrom decoding.wordFault decoding.numberAt decoding.lands decoding.offsetFault decoding.orOffsets decoding.codeFault import-of.lineLaidOut import-of.lineVerdict import-of.oneLine import-of.primitivesVerdict import-of.primitivesOf import-of.faultVerdict import-of.both import-of.importVerdict
-no-word = refl
-
--- an opcode outside the 61 kinds, after a branch to nowhere: offsets are looked at last
-no-kind : importVerdict (words.allBytes (84 ∷ 9 ∷ 144 ∷ [])) (text.bytes "READ") ≡ Refused (BadWord 2)
-unfolding published text.equals text.split text.words text.linesOf text.lines text.among text.all text.distinct decimals.digits decimals.decimal table.kinds table.opcodes columns.kindAt opcodes.placeFrom opcodes.kindCoded layout.list rows.isName rows.namesLaidOut rows.wellNamed words.wordsOf words.bytesOf words.allBytes decoding.coded decoding.entries decoding.decoded decoding.items decoding.isPlace decoding.callListed decoding.faultFrom decoding.wordFault decoding.numberAt decoding.lands decoding.offsetFault decoding.orOffsets decoding.codeFault import-of.lineLaidOut import-of.lineVerdict import-of.oneLine import-of.primitivesVerdict import-of.primitivesOf import-of.faultVerdict import-of.both import-of.importVerdict
-no-kind = refl
-
--- a cut-off argument counts at its opcode
-cut-argument : importVerdict (words.allBytes (143 ∷ 8 ∷ []) ++ (1 ∷ 0 ∷ [])) (text.bytes "READ") ≡ Refused (BadWord 1)
-unfolding published text.equals text.split text.words text.linesOf text.lines text.among text.all text.distinct decimals.digits decimals.decimal table.kinds table.opcodes columns.kindAt opcodes.placeFrom opcodes.kindCoded layout.list rows.isName rows.namesLaidOut rows.wellNamed words.wordsOf words.bytesOf words.allBytes decoding.coded decoding.entries decoding.decoded decoding.items decoding.isPlace decoding.callListed decoding.faultFrom decoding.wordFault decoding.numberAt decoding.lands decoding.offsetFault decoding.orOffsets decoding.codeFault import-of.lineLaidOut import-of.lineVerdict import-of.oneLine import-of.primitivesVerdict import-of.primitivesOf import-of.faultVerdict import-of.both import-of.importVerdict
-cut-argument = refl
-
--- a cut-off word, at the index that it would have
-cut-word : importVerdict (words.allBytes (143 ∷ []) ++ (143 ∷ [])) (text.bytes "READ") ≡ Refused (BadWord 1)
-unfolding published text.equals text.split text.words text.linesOf text.lines text.among text.all text.distinct decimals.digits decimals.decimal table.kinds table.opcodes columns.kindAt opcodes.placeFrom opcodes.kindCoded layout.list rows.isName rows.namesLaidOut rows.wellNamed words.wordsOf words.bytesOf words.allBytes decoding.coded decoding.entries decoding.decoded decoding.items decoding.isPlace decoding.callListed decoding.faultFrom decoding.wordFault decoding.numberAt decoding.lands decoding.offsetFault decoding.orOffsets decoding.codeFault import-of.lineLaidOut import-of.lineVerdict import-of.oneLine import-of.primitivesVerdict import-of.primitivesOf import-of.faultVerdict import-of.both import-of.importVerdict
-cut-word = refl
-
--- a place that is not on the primitives line, at the argument word
-no-place : importVerdict (words.allBytes (93 ∷ 1 ∷ [])) (text.bytes "READ") ≡ Refused (BadWord 1)
-unfolding published text.equals text.split text.words text.linesOf text.lines text.among text.all text.distinct decimals.digits decimals.decimal table.kinds table.opcodes columns.kindAt opcodes.placeFrom opcodes.kindCoded layout.list rows.isName rows.namesLaidOut rows.wellNamed words.wordsOf words.bytesOf words.allBytes decoding.coded decoding.entries decoding.decoded decoding.items decoding.isPlace decoding.callListed decoding.faultFrom decoding.wordFault decoding.numberAt decoding.lands decoding.offsetFault decoding.orOffsets decoding.codeFault import-of.lineLaidOut import-of.lineVerdict import-of.oneLine import-of.primitivesVerdict import-of.primitivesOf import-of.faultVerdict import-of.both import-of.importVerdict
-no-place = refl
-
--- an offset just past the last word is outside
-past-the-end : importVerdict (words.allBytes (84 ∷ 1 ∷ [])) (text.bytes "READ") ≡ Refused (BadWord 1)
-unfolding published text.equals text.split text.words text.linesOf text.lines text.among text.all text.distinct decimals.digits decimals.decimal table.kinds table.opcodes columns.kindAt opcodes.placeFrom opcodes.kindCoded layout.list rows.isName rows.namesLaidOut rows.wellNamed words.wordsOf words.bytesOf words.allBytes decoding.coded decoding.entries decoding.decoded decoding.items decoding.isPlace decoding.callListed decoding.faultFrom decoding.wordFault decoding.numberAt decoding.lands decoding.offsetFault decoding.orOffsets decoding.codeFault import-of.lineLaidOut import-of.lineVerdict import-of.oneLine import-of.primitivesVerdict import-of.primitivesOf import-of.faultVerdict import-of.both import-of.importVerdict
-past-the-end = refl
-
--- an offset to its own word lands inside an instruction
-inside : importVerdict (words.allBytes (84 ∷ 0 ∷ [])) (text.bytes "READ") ≡ Refused (BadWord 1)
-unfolding published text.equals text.split text.words text.linesOf text.lines text.among text.all text.distinct decimals.digits decimals.decimal table.kinds table.opcodes columns.kindAt opcodes.placeFrom opcodes.kindCoded layout.list rows.isName rows.namesLaidOut rows.wellNamed words.wordsOf words.bytesOf words.allBytes decoding.coded decoding.entries decoding.decoded decoding.items decoding.isPlace decoding.callListed decoding.faultFrom decoding.wordFault decoding.numberAt decoding.lands decoding.offsetFault decoding.orOffsets decoding.codeFault import-of.lineLaidOut import-of.lineVerdict import-of.oneLine import-of.primitivesVerdict import-of.primitivesOf import-of.faultVerdict import-of.both import-of.importVerdict
-inside = refl
-
--- an offset of -1 leads to its own opcode
-to-itself : importVerdict (words.allBytes (84 ∷ 4294967295 ∷ [])) (text.bytes "READ") ≡ Accepted
-unfolding published text.equals text.split text.words text.linesOf text.lines text.among text.all text.distinct decimals.digits decimals.decimal table.kinds table.opcodes columns.kindAt opcodes.placeFrom opcodes.kindCoded layout.list rows.isName rows.namesLaidOut rows.wellNamed words.wordsOf words.bytesOf words.allBytes decoding.coded decoding.entries decoding.decoded decoding.items decoding.isPlace decoding.callListed decoding.faultFrom decoding.wordFault decoding.numberAt decoding.lands decoding.offsetFault decoding.orOffsets decoding.codeFault import-of.lineLaidOut import-of.lineVerdict import-of.oneLine import-of.primitivesVerdict import-of.primitivesOf import-of.faultVerdict import-of.both import-of.importVerdict
-to-itself = refl
-
--- an empty primitives line
-empty-line : importVerdict (published) (text.bytes "") ≡ Refused (Layout 1)
-unfolding published text.equals text.split text.words text.linesOf text.lines text.among text.all text.distinct decimals.digits decimals.decimal table.kinds table.opcodes columns.kindAt opcodes.placeFrom opcodes.kindCoded layout.list rows.isName rows.namesLaidOut rows.wellNamed words.wordsOf words.bytesOf words.allBytes decoding.coded decoding.entries decoding.decoded decoding.items decoding.isPlace decoding.callListed decoding.faultFrom decoding.wordFault decoding.numberAt decoding.lands decoding.offsetFault decoding.orOffsets decoding.codeFault import-of.lineLaidOut import-of.lineVerdict import-of.oneLine import-of.primitivesVerdict import-of.primitivesOf import-of.faultVerdict import-of.both import-of.importVerdict
-empty-line = refl
-
--- a name that stands twice
-repeated : importVerdict (published) (text.bytes "READ READ") ≡ Refused (BadName 1)
-unfolding published text.equals text.split text.words text.linesOf text.lines text.among text.all text.distinct decimals.digits decimals.decimal table.kinds table.opcodes columns.kindAt opcodes.placeFrom opcodes.kindCoded layout.list rows.isName rows.namesLaidOut rows.wellNamed words.wordsOf words.bytesOf words.allBytes decoding.coded decoding.entries decoding.decoded decoding.items decoding.isPlace decoding.callListed decoding.faultFrom decoding.wordFault decoding.numberAt decoding.lands decoding.offsetFault decoding.orOffsets decoding.codeFault import-of.lineLaidOut import-of.lineVerdict import-of.oneLine import-of.primitivesVerdict import-of.primitivesOf import-of.faultVerdict import-of.both import-of.importVerdict
-repeated = refl
-
--- a line feed elsewhere
-two-lines : importVerdict (published) (text.bytes "READ\n-") ≡ Refused (Layout 1)
-unfolding published text.equals text.split text.words text.linesOf text.lines text.among text.all text.distinct decimals.digits decimals.decimal table.kinds table.opcodes columns.kindAt opcodes.placeFrom opcodes.kindCoded layout.list rows.isName rows.namesLaidOut rows.wellNamed words.wordsOf words.bytesOf words.allBytes decoding.coded decoding.entries decoding.decoded decoding.items decoding.isPlace decoding.callListed decoding.faultFrom decoding.wordFault decoding.numberAt decoding.lands decoding.offsetFault decoding.orOffsets decoding.codeFault import-of.lineLaidOut import-of.lineVerdict import-of.oneLine import-of.primitivesVerdict import-of.primitivesOf import-of.faultVerdict import-of.both import-of.importVerdict
-two-lines = refl
+pub examples : Examples
+unfolding published text.equals text.split text.words text.linesOf text.lines decimals.digits decimals.decimal table.kinds table.opcodes columns.kindAt opcodes.placeFrom opcodes.kindCoded layout.list words.wordsOf words.bytesOf words.allBytes decoding.coded decoding.entries decoding.decoded decoding.items decoding.numberAt lines.integer lines.argumentText lines.lineText lines.linesFrom lines.codeText import-of.primitivesOf import-of.importText op held.sizeOf export-of.positions export-of.argumentWord export-of.itemsFrom export-of.itemWords export-of.wordsIn export-of.exportOps text.among text.all text.distinct rows.isName rows.namesLaidOut rows.wellNamed decoding.isPlace decoding.callListed decoding.faultFrom decoding.wordFault decoding.lands decoding.offsetFault decoding.orOffsets decoding.codeFault import-of.lineLaidOut import-of.lineVerdict import-of.oneLine import-of.primitivesVerdict import-of.faultVerdict import-of.both import-of.importVerdict
+examples = (refl, refl, refl, refl, refl, refl, refl, refl, refl, refl, refl, refl, refl)
