@@ -34,6 +34,7 @@ use Rattle.report.specs.Report.{boundText, runText}
 use Rattle.report.proofs.ReportLaws.{Small, bound-fits, run-fits}
 use Rattle.answers.specs.Answers.{reported, refused, ofReading, answerOf}
 use Rattle.answers.proofs.AnswerLaws.{never, from-reading, place-from}
+use Rattle.conversions.proofs.FunctionLaws.{import-reported, import-place, export-reported, export-place}
 use Rattle.analyser.specs.Answers.{memoryLimit, ofVerdict, boundRoutine, runRoutine, boundAnswer, runAnswer}
 use Rattle.analyser.specs.Functions.{reportLength}
 use Rattle.analyser.specs.Promises.{BoundReported, WithinReport, RunAccepted, FilledIn, ReportsKept, RunsKept, AnswersIrrelevant, PassingIsAscii, ReportsFit, PlacesSmall}
@@ -110,7 +111,7 @@ every-all (b ∷ bs) (more h hs) = rw (lt-ltb b 128 h) (every-all bs hs)
 pub passing-is-ascii : PassingIsAscii
 passing-is-ascii text x e = every-all text (accepted-ascii text (read-passes text x e .0))
 
--- ---- 128 bytes
+-- ---- 128 bytes, and 32,768
 
 module _ (text : List ℕ) (x : Routine) (passes : Passes (lines text)) (is : x ≡ routineOf (lines text)) where
   priced : (a : ℕ) (i : Instruction) → fetch (x .code) a ≡ done i → Both (AtMost 196605 510) (i .price) (i .extra)
@@ -138,7 +139,12 @@ bound-small tick budget q t h b = record {
 
 pub reports-fit : ReportsFit
 unfolding boundAnswer boundRoutine runAnswer runRoutine
-reports-fit = (λ text n bs e. of-bound text n bs e, λ text n bs e. of-run text n bs e)
+reports-fit = (
+  λ text n bs e. of-bound text n bs e,
+  λ text n bs e. of-run text n bs e,
+  λ words primitives n bs e. let r = import-reported words primitives n bs e in (r .1, r .2),
+  λ text n bs e. let r = export-reported text n bs e in (r .1, r .2),
+)
   where
     of-bound : (text : List ℕ) (n : ℕ) (bs : List ℕ) → boundAnswer text n ≡ reported bs → (length bs ≤ memoryLimit) × (memoryLimit ≤ n)
     of-bound text n bs e =
@@ -185,7 +191,12 @@ from-refused text (verdicts.refused x) r e = let h : x ≡ r = cc in ap verdicts
 
 pub places-small : PlacesSmall
 unfolding boundAnswer boundRoutine runAnswer runRoutine
-places-small = (of-bound, of-run)
+places-small = (
+  of-bound,
+  of-run,
+  λ words primitives n r e. omega (arith, import-place words primitives n r e),
+  λ text n r e. omega (arith, export-place text n r e),
+)
   where
     of-bound : (text : List ℕ) (n : ℕ) (r : Refusal) → boundAnswer text n ≡ refused r → place r ≤ 62000
     of-bound text n r =

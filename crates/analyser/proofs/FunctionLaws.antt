@@ -33,9 +33,11 @@ use Rattle.answers.specs.Answers as answers
 use Rattle.answers.specs.declared.Answer as code
 use Rattle.answers.specs.declared.Answer.the-variants.{Reported, Refused}
 use Rattle.answers.proofs.AnswerLaws.{lent-short, reading-refused, reading-passed}
+use Rattle.conversions.specs.Answers.{conversionLimit, importAnswer, exportAnswer}
+use Rattle.conversions.proofs.FunctionLaws.{import-reported, export-reported}
 use Rattle.analyser.specs.Answers.{memoryLimit, ofVerdict, boundRoutine, runRoutine, boundAnswer, runAnswer}
 use Rattle.analyser.specs.Held.{routineIn, Printable, Shareable}
-use Rattle.analyser.specs.Functions.{reportLength, Delivers, toldLength, wordOf, Tells, AnswersTold}
+use Rattle.analyser.specs.Functions.{reportLength, Delivers, toldLength, wordOf, Tells, AnswerTold, AnswersTold}
 use Rattle.analyser.specs.Promises.{SafeReport, ExactReport, WithinReport, RunAccepted}
 use Rattle.analyser.proofs.AnswerLaws.{reports-kept, reports-fit, runs-kept, bound-reports-some, run-reports-some, places-small}
 
@@ -237,38 +239,61 @@ refusal-told (refusals.Openings a) = refl
 refusal-told (refusals.Spent a) = refl
 refusal-told (refusals.BadWord i) = refl
 
--- a report of 1 to 128 bytes, or a refusal whose place is at most 62,000
-record WithinLimits (a : Answer) : Type 0 where
-  report : (bs : List ℕ) → a ≡ reported bs → (1 ≤ length bs) × (length bs ≤ 128)
+-- a report of 1 to `most` bytes, or a refusal whose place is at most 62,000
+record WithinLimits (most : ℕ) (a : Answer) : Type 0 where
+  small : most ≤ 32768
+  report : (bs : List ℕ) → a ≡ reported bs → (1 ≤ length bs) × (length bs ≤ most)
   refusal : (r : Refusal) → a ≡ answers.refused r → place r ≤ 62000
 
-bound-limits : (text : List ℕ) (n : ℕ) → WithinLimits (boundAnswer text n)
-bound-limits text n = record { report = λ bs e. (bound-reports-some text n bs e, reports-fit .0 text n bs e .0); refusal = places-small .0 text n }
+bound-limits : (text : List ℕ) (n : ℕ) → WithinLimits memoryLimit (boundAnswer text n)
+bound-limits text n = record {
+  small = omega arith;
+  report = λ bs e. (bound-reports-some text n bs e, reports-fit .0 text n bs e .0);
+  refusal = places-small .0 text n;
+}
 
-run-limits : (text : List ℕ) (n : ℕ) → WithinLimits (runAnswer text n)
-run-limits text n = record { report = λ bs e. (run-reports-some text n bs e, reports-fit .1 text n bs e .0); refusal = places-small .1 text n }
+run-limits : (text : List ℕ) (n : ℕ) → WithinLimits memoryLimit (runAnswer text n)
+run-limits text n = record {
+  small = omega arith;
+  report = λ bs e. (run-reports-some text n bs e, reports-fit .1 text n bs e .0);
+  refusal = places-small .1 text n;
+}
+
+import-limits : (words primitives : List ℕ) (n : ℕ) → WithinLimits conversionLimit (importAnswer words primitives n)
+import-limits words primitives n = record {
+  small = omega arith;
+  report = λ bs e. let r = import-reported words primitives n bs e in (r .0, r .1);
+  refusal = places-small .2 words primitives n;
+}
+
+export-limits : (text : List ℕ) (n : ℕ) → WithinLimits conversionLimit (exportAnswer text n)
+export-limits text n = record {
+  small = omega arith;
+  report = λ bs e. let r = export-reported text n bs e in (r .0, r .1);
+  refusal = places-small .3 text n;
+}
 
 -- what holds of the number
-tells : (a : Answer) → WithinLimits a → (w : ℕ) → w ≡ wordOf (answerOf a) → Tells a w
+tells : {most : ℕ} {a : Answer} → WithinLimits most a → (w : ℕ) → w ≡ wordOf (answerOf a) → Tells most a w
 unfolding wordOf answerOf
-tells a h w e = record {
+tells h w e = record {
   report = λ bs q. let k = h .report bs q in rw (e, q) k;
   refusal = λ r q. let k = h .refusal r q in let z : place r % 4294967296 ≡ place r = mod-eq-of-lt (omega arith) in (omega arith, rw (e, q, z) refl);
 }
 
 -- the length that the number tells is the one answered
-told-length : (a : Answer) → WithinLimits a → toldLength (wordOf (answerOf a)) ≡ reportLength (answerOf a)
+told-length : (most : ℕ) (a : Answer) → WithinLimits most a → toldLength (wordOf (answerOf a)) ≡ reportLength (answerOf a)
 unfolding wordOf answerOf toldLength reportLength
-told-length (reported bs) h = let k = h .report bs refl in rw (lt-ltb (length bs) 9223372036854775808 (omega arith)) refl
-told-length (answers.refused r) h = rw (le-ltb (9223372036854775808 + number r * 4294967296 + place r % 4294967296) 9223372036854775808 (omega arith)) refl
+told-length most (reported bs) h = let k = h .report bs refl in let m = h .small in rw (lt-ltb (length bs) 9223372036854775808 (omega arith)) refl
+told-length most (answers.refused r) h = rw (le-ltb (9223372036854775808 + number r * 4294967296 + place r % 4294967296) 9223372036854775808 (omega arith)) refl
 
 -- two answers with one number
-told : (a b : Answer) → WithinLimits a → WithinLimits b → wordOf (answerOf a) ≡ wordOf (answerOf b) → answerOf a ≡ answerOf b
+told : (most : ℕ) (a b : Answer) → WithinLimits most a → WithinLimits most b → AnswerTold a b
 unfolding wordOf answerOf
-told (reported bs) (reported cs) h k e = ap Reported e
-told (reported bs) (answers.refused r) h k e = let l = h .report bs refl in absurd (omega arith)
-told (answers.refused r) (reported bs) h k e = let l = k .report bs refl in absurd (omega arith)
-told (answers.refused r) (answers.refused s) h k e =
+told most (reported bs) (reported cs) h k e = ap Reported e
+told most (reported bs) (answers.refused r) h k e = let l = h .report bs refl in let m = h .small in absurd (omega arith)
+told most (answers.refused r) (reported bs) h k e = let l = k .report bs refl in let m = k .small in absurd (omega arith)
+told most (answers.refused r) (answers.refused s) h k e =
     let l = h .refusal r refl in
     let m = k .refusal s refl in
     let f : number r ≡ number s = omega arith in
@@ -277,19 +302,27 @@ told (answers.refused r) (answers.refused s) h k e =
 
 pub answers-told : AnswersTold
 answers-told = (
-  λ text text′ n n′. told (boundAnswer text n) (boundAnswer text′ n′) (bound-limits text n) (bound-limits text′ n′),
-  λ text text′ n n′. told (runAnswer text n) (runAnswer text′ n′) (run-limits text n) (run-limits text′ n′),
+  λ text text′ n n′. told memoryLimit _ _ (bound-limits text n) (bound-limits text′ n′),
+  λ text text′ n n′. told memoryLimit _ _ (run-limits text n) (run-limits text′ n′),
+  λ words words′ primitives primitives′ n n′. told conversionLimit _ _ (import-limits words primitives n) (import-limits words′ primitives′ n′),
+  λ text text′ n n′. told conversionLimit _ _ (export-limits text n) (export-limits text′ n′),
 )
 
 module _ (text : List ℕ) (n : ℕ) where
-  pub bound-tells : (w : ℕ) → w ≡ wordOf (answerOf (boundAnswer text n)) → Tells (boundAnswer text n) w
-  bound-tells = tells (boundAnswer text n) (bound-limits text n)
+  pub bound-tells : (w : ℕ) → w ≡ wordOf (answerOf (boundAnswer text n)) → Tells memoryLimit (boundAnswer text n) w
+  bound-tells = tells (bound-limits text n)
 
   pub bound-length : (r : code.Answer) → r ≡ answerOf (boundAnswer text n) → (w : ℕ) → w ≡ wordOf r → reportLength r ≡ toldLength w
-  bound-length r e w f = rw (f, e) (sym (told-length (boundAnswer text n) (bound-limits text n)))
+  bound-length r e w f = rw (f, e) (sym (told-length memoryLimit (boundAnswer text n) (bound-limits text n)))
 
-  pub run-tells : (w : ℕ) → w ≡ wordOf (answerOf (runAnswer text n)) → Tells (runAnswer text n) w
-  run-tells = tells (runAnswer text n) (run-limits text n)
+  pub run-tells : (w : ℕ) → w ≡ wordOf (answerOf (runAnswer text n)) → Tells memoryLimit (runAnswer text n) w
+  run-tells = tells (run-limits text n)
 
   pub run-length : (r : code.Answer) → r ≡ answerOf (runAnswer text n) → (w : ℕ) → w ≡ wordOf r → reportLength r ≡ toldLength w
-  run-length r e w f = rw (f, e) (sym (told-length (runAnswer text n) (run-limits text n)))
+  run-length r e w f = rw (f, e) (sym (told-length memoryLimit (runAnswer text n) (run-limits text n)))
+
+  pub export-tells : (w : ℕ) → w ≡ wordOf (answerOf (exportAnswer text n)) → Tells conversionLimit (exportAnswer text n) w
+  export-tells = tells (export-limits text n)
+
+pub import-tells : (words primitives : List ℕ) (n w : ℕ) → w ≡ wordOf (answerOf (importAnswer words primitives n)) → Tells conversionLimit (importAnswer words primitives n) w
+import-tells words primitives n = tells (import-limits words primitives n)

@@ -11,6 +11,7 @@ use Rattle.refusals.specs.Refusals.{number, place}
 use Rattle.answers.specs.Answers.{Answer, reported, refused, answerOf}
 use Rattle.answers.specs.declared.Answer as code
 use Rattle.answers.specs.declared.Answer.the-variants.{Reported, Refused}
+use Rattle.conversions.specs.Answers.{importAnswer, exportAnswer}
 use Rattle.analyser.specs.Answers.{boundAnswer, runAnswer}
 
 -- ---- what an answer says of the lent memory
@@ -35,13 +36,19 @@ wordOf (Refused r) = 9223372036854775808 + number r * 4294967296 + place r % 429
 unfoldable pub toldLength : ℕ → Option ℕ
 toldLength w = cond (ltb w 9223372036854775808) (some w) none
 
--- what holds of it: a report's is from 1 to 128; a refusal's has bit 63, its number and its whole place
-pub record Tells (a : Answer) (w : ℕ) : Type 0 where
-  pub report : (bs : List ℕ) → a ≡ reported bs → (1 ≤ w) × (w ≤ 128)
+-- what holds of it: a report's is from 1 to the most that a function reports; a refusal's has bit 63, its number and its whole place
+pub record Tells (most : ℕ) (a : Answer) (w : ℕ) : Type 0 where
+  pub report : (bs : List ℕ) → a ≡ reported bs → (1 ≤ w) × (w ≤ most)
   pub refusal : (r : Refusal) → a ≡ refused r → (place r < 4294967296) × (w ≡ 9223372036854775808 + number r * 4294967296 + place r)
 
 -- two answers with one number are the same refusal, or reports of one length
+abbrev pub AnswerTold : Answer → Answer → Type 0
+AnswerTold a b = wordOf (answerOf a) ≡ wordOf (answerOf b) → answerOf a ≡ answerOf b
+
+-- so of any two answers of one function
 abbrev pub AnswersTold : Type 0
 AnswersTold =
-    ((text text′ : List ℕ) (n n′ : ℕ) → wordOf (answerOf (boundAnswer text n)) ≡ wordOf (answerOf (boundAnswer text′ n′)) → answerOf (boundAnswer text n) ≡ answerOf (boundAnswer text′ n′))
-    × ((text text′ : List ℕ) (n n′ : ℕ) → wordOf (answerOf (runAnswer text n)) ≡ wordOf (answerOf (runAnswer text′ n′)) → answerOf (runAnswer text n) ≡ answerOf (runAnswer text′ n′))
+    ((text text′ : List ℕ) (n n′ : ℕ) → AnswerTold (boundAnswer text n) (boundAnswer text′ n′))
+    × ((text text′ : List ℕ) (n n′ : ℕ) → AnswerTold (runAnswer text n) (runAnswer text′ n′))
+    × ((words words′ primitives primitives′ : List ℕ) (n n′ : ℕ) → AnswerTold (importAnswer words primitives n) (importAnswer words′ primitives′ n′))
+    × ((text text′ : List ℕ) (n n′ : ℕ) → AnswerTold (exportAnswer text n) (exportAnswer text′ n′))

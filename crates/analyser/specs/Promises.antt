@@ -22,7 +22,8 @@ use Rattle.routine.specs.Layout.{layout, body, codeLines}
 use Rattle.routine.specs.Routine.{Routine, readBound, readRun}
 use Rattle.routine.specs.Routine as readings
 use Rattle.report.specs.Report.{share, Nearest, boundText, runText}
-use Rattle.answers.specs.Answers.{reported, refused, answerOf}
+use Rattle.answers.specs.Answers.{Answer, reported, refused, answerOf}
+use Rattle.conversions.specs.Answers.{conversionLimit, importAnswer, exportAnswer}
 use Rattle.analyser.specs.Answers.{memoryLimit, boundAnswer, runAnswer}
 use Rattle.analyser.specs.Functions.{reportLength}
 
@@ -96,17 +97,29 @@ AnswersIrrelevant =
 abbrev pub PassingIsAscii : Type 0
 PassingIsAscii = (text : List ℕ) (x : Routine) → readBound text ≡ readings.routine x → all (λ b. ltb b 128) text ≡ true
 
--- 128 bytes are enough for every report, and no report is given with fewer lent
+-- of an answer with n bytes lent: a report is within the limit, and is not given with fewer lent
+abbrev pub ReportFits : ℕ → ℕ → Answer → Type 0
+ReportFits limit n a = (bs : List ℕ) → a ≡ reported bs → (length bs ≤ limit) × (limit ≤ n)
+
+-- 128 bytes are enough for every report, and 32,768 for the lines of an import and for the words of an export
 abbrev pub ReportsFit : Type 0
 ReportsFit =
-    ((text : List ℕ) (n : ℕ) (bs : List ℕ) → boundAnswer text n ≡ reported bs → (length bs ≤ memoryLimit) × (memoryLimit ≤ n))
-    × ((text : List ℕ) (n : ℕ) (bs : List ℕ) → runAnswer text n ≡ reported bs → (length bs ≤ memoryLimit) × (memoryLimit ≤ n))
+    ((text : List ℕ) (n : ℕ) → ReportFits memoryLimit n (boundAnswer text n))
+    × ((text : List ℕ) (n : ℕ) → ReportFits memoryLimit n (runAnswer text n))
+    × ((words primitives : List ℕ) (n : ℕ) → ReportFits conversionLimit n (importAnswer words primitives n))
+    × ((text : List ℕ) (n : ℕ) → ReportFits conversionLimit n (exportAnswer text n))
 
--- no place of a refusal is above 62,000: a line is 32,769 at most, and the code and its targets are within 0 to 62,000
+-- the place of a refusal is 62,000 at most
+abbrev pub PlaceSmall : Answer → Type 0
+PlaceSmall a = (r : Refusal) → a ≡ refused r → place r ≤ 62000
+
+-- no place is above 62,000: a line is 32,769 at most, the code and its targets are within 0 to 62,000, and a word's index is 2,048 at most
 abbrev pub PlacesSmall : Type 0
 PlacesSmall =
-    ((text : List ℕ) (n : ℕ) (r : Refusal) → boundAnswer text n ≡ refused r → place r ≤ 62000)
-    × ((text : List ℕ) (n : ℕ) (r : Refusal) → runAnswer text n ≡ refused r → place r ≤ 62000)
+    ((text : List ℕ) (n : ℕ) → PlaceSmall (boundAnswer text n))
+    × ((text : List ℕ) (n : ℕ) → PlaceSmall (runAnswer text n))
+    × ((words primitives : List ℕ) (n : ℕ) → PlaceSmall (importAnswer words primitives n))
+    × ((text : List ℕ) (n : ℕ) → PlaceSmall (exportAnswer text n))
 
 -- reading a decimal number that was written gives it back
 abbrev pub WrittenReadsBack : Type 0

@@ -15,7 +15,8 @@ ghost use Rattle.runs.specs.Contract.{verdictOf};
 ghost use Rattle.reader.specs.Reader.{Limited};
 ghost use Rattle.answers.specs.Answers.{memory, answerOf};
 ghost use Rattle.answers.specs.declared.Answer.the-variants.{Refused};
-ghost use Rattle.analyser.specs.Answers.{boundRoutine, runRoutine, boundAnswer, runAnswer};
+ghost use Rattle.conversions.specs.Answers.{conversionLimit, importAnswer, exportAnswer};
+ghost use Rattle.analyser.specs.Answers.{memoryLimit, boundRoutine, runRoutine, boundAnswer, runAnswer};
 ghost use Rattle.analyser.specs.Functions.{reportLength, Delivers, wordOf, toldLength, Tells};
 ghost use Rattle.analyser.specs.Held.{routineIn, Printable, Shareable};
 ghost use Rattle.analyser.specs.Promises.{SafeReport, ExactReport, WithinReport, RunAccepted};
@@ -199,7 +200,7 @@ fn refusal_word(r: Refusal) -> u64
 pub extern "C" fn tickbound_bound(text: &[u8], out: &mut [u8]) -> u64
     ensures { λ r. ⌜ r ≡ wordOf (answerOf (boundAnswer (now (text .entry)) (length (now (out .entry))))) ⌝ }
     ensures { λ _. ⌜ now (out .exit) ≡ memory (boundAnswer (now (text .entry)) (length (now (out .entry)))) (now (out .entry)) ⌝ }
-    ensures tells { λ r. ⌜ Tells (boundAnswer (now (text .entry)) (length (now (out .entry)))) r ⌝ }
+    ensures tells { λ r. ⌜ Tells memoryLimit (boundAnswer (now (text .entry)) (length (now (out .entry)))) r ⌝ }
     ensures safe { λ r. ⌜ Delivers (toldLength r) (now (out .exit)) (SafeReport (now (text .entry))) ⌝ }
     ensures exact { λ r. ⌜ Delivers (toldLength r) (now (out .exit)) (ExactReport (now (text .entry))) ⌝ }
 {
@@ -212,10 +213,32 @@ pub extern "C" fn tickbound_bound(text: &[u8], out: &mut [u8]) -> u64
 pub extern "C" fn tickbound_run(text: &[u8], out: &mut [u8]) -> u64
     ensures { λ r. ⌜ r ≡ wordOf (answerOf (runAnswer (now (text .entry)) (length (now (out .entry))))) ⌝ }
     ensures { λ _. ⌜ now (out .exit) ≡ memory (runAnswer (now (text .entry)) (length (now (out .entry)))) (now (out .entry)) ⌝ }
-    ensures tells { λ r. ⌜ Tells (runAnswer (now (text .entry)) (length (now (out .entry)))) r ⌝ }
+    ensures tells { λ r. ⌜ Tells memoryLimit (runAnswer (now (text .entry)) (length (now (out .entry)))) r ⌝ }
     ensures within { λ r. ⌜ Delivers (toldLength r) (now (out .exit)) (WithinReport (now (text .entry))) ⌝ }
     ensures accepts { λ r. ⌜ RunAccepted (now (text .entry)) (length (now (out .entry))) (toldLength r) ⌝ }
 {
     let answer = run(text, out);
     word_of(answer)
+}
+
+// `conversions::import` for C.
+#[no_mangle]
+pub extern "C" fn tickbound_import(words: &[u8], primitives: &[u8], out: &mut [u8]) -> u64
+    ensures { λ r. ⌜ r ≡ wordOf (answerOf (importAnswer (now (words .entry)) (now (primitives .entry)) (length (now (out .entry))))) ⌝ }
+    ensures { λ _. ⌜ now (out .exit) ≡ memory (importAnswer (now (words .entry)) (now (primitives .entry)) (length (now (out .entry)))) (now (out .entry)) ⌝ }
+    ensures tells { λ r. ⌜ Tells conversionLimit (importAnswer (now (words .entry)) (now (primitives .entry)) (length (now (out .entry)))) r ⌝ }
+{
+    let imported = conversions::import(words, primitives, out);
+    word_of(imported)
+}
+
+// `conversions::export` for C.
+#[no_mangle]
+pub extern "C" fn tickbound_export(text: &[u8], out: &mut [u8]) -> u64
+    ensures { λ r. ⌜ r ≡ wordOf (answerOf (exportAnswer (now (text .entry)) (length (now (out .entry))))) ⌝ }
+    ensures { λ _. ⌜ now (out .exit) ≡ memory (exportAnswer (now (text .entry)) (length (now (out .entry)))) (now (out .entry)) ⌝ }
+    ensures tells { λ r. ⌜ Tells conversionLimit (exportAnswer (now (text .entry)) (length (now (out .entry)))) r ⌝ }
+{
+    let exported = conversions::export(text, out);
+    word_of(exported)
 }
