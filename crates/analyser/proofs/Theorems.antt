@@ -1,6 +1,7 @@
 -- What is proved, by the names of the statements in specs/. Nothing else of proofs/ needs to be read.
 -- Assumes nothing.
 use Prim.Native.Nat.{ℕ}
+use mathlib.Core.Path.{ap}
 use Rattle.text.proofs.DecimalLaws.{decimal-read}
 use Rattle.cells.specs.declared.Cell.{Cell}
 use Rattle.cells.specs.Cells.{unknown}
@@ -19,6 +20,9 @@ use Rattle.bounds.proofs.RunLaws as run-laws
 use Rattle.bounds.proofs.TraceLaws as trace-laws
 use Rattle.bounds.proofs.RunVerdictLaws as run-verdict-laws
 use Rattle.report.proofs.ReportLaws.{share-nearest, share-unique}
+use Rattle.conversions.specs.Promises as conversions
+use Rattle.conversions.proofs.Theorems as conversion-theorems
+use Rattle.analyser.specs.Answers.{boundAnswer, runAnswer}
 use Rattle.analyser.specs.Promises as answers
 use Rattle.analyser.specs.Functions as functions
 use Rattle.analyser.proofs.AnswerLaws as answer-laws
@@ -110,6 +114,21 @@ places-small = answer-laws.places-small
 -- the number that C gets tells the answer
 pub answers-told : functions.AnswersTold
 answers-told = function-laws.answers-told
+
+-- exporting and importing bring back the file's lines, and the words (`conversions/specs/Promises`)
+pub exports-import : conversions.ExportsImport
+exports-import = conversion-theorems.exports-import
+
+pub imports-replace : conversions.ImportsReplace
+imports-replace = conversion-theorems.imports-replace
+
+pub imports-export : conversions.ImportsExport
+imports-export = conversion-theorems.imports-export
+
+pub imports-bound : answers.ImportsBound
+imports-bound text words made n m k b e g =
+    let f = imports-replace text words made n m b e g in
+    (ap (λ t. boundAnswer t k) f, ap (λ t. runAnswer t k) f)
 
 pub written-reads-back : answers.WrittenReadsBack
 written-reads-back = decimal-read

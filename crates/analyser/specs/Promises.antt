@@ -23,7 +23,9 @@ use Rattle.routine.specs.Routine.{Routine, readBound, readRun}
 use Rattle.routine.specs.Routine as readings
 use Rattle.report.specs.Report.{share, Nearest, boundText, runText}
 use Rattle.answers.specs.Answers.{Answer, reported, refused, answerOf}
+use Rattle.inverses.specs.Sections.{replaced, primitivesLine}
 use Rattle.conversions.specs.Answers.{conversionLimit, importAnswer, exportAnswer}
+use Rattle.conversions.specs.Promises.{BeginsAtZero}
 use Rattle.analyser.specs.Answers.{memoryLimit, boundAnswer, runAnswer}
 use Rattle.analyser.specs.Functions.{reportLength}
 
@@ -120,6 +122,12 @@ PlacesSmall =
     × ((text : List ℕ) (n : ℕ) → PlaceSmall (runAnswer text n))
     × ((words primitives : List ℕ) (n : ℕ) → PlaceSmall (importAnswer words primitives n))
     × ((text : List ℕ) (n : ℕ) → PlaceSmall (exportAnswer text n))
+
+-- "An import followed by a bound gives what the written file gives": the file with the lines made of its own words has its bound and its run
+abbrev pub ImportsBound : Type 0
+ImportsBound =
+    (text words made : List ℕ) (n m k : ℕ) → BeginsAtZero text → exportAnswer text n ≡ reported words → importAnswer words (primitivesLine (lines text)) m ≡ reported made →
+    (boundAnswer (replaced (lines text) made) k ≡ boundAnswer text k) × (runAnswer (replaced (lines text) made) k ≡ runAnswer text k)
 
 -- reading a decimal number that was written gives it back
 abbrev pub WrittenReadsBack : Type 0

@@ -23,11 +23,11 @@ use Rattle.words.specs.Export.{Op, exportOps}
 use Rattle.words.specs.Export as export-of
 
 -- C_CALL1 0, BRANCHIF 3 words on, CONST2, ADDINT, STOP
-published : List ℕ
+pub published : List ℕ
 published = words.allBytes (93 ∷ 0 ∷ 85 ∷ 3 ∷ 101 ∷ 110 ∷ 143 ∷ [])
 
 -- a code line
-op : ℕ → ℕ → Op
+pub op : ℕ → ℕ → Op
 op k v = record { kind = k; value = pos v }
 
 -- each row by computation, with one proof
