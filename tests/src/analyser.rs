@@ -3,6 +3,15 @@
 extern "C" {
     fn tickbound_bound(text: *const u8, text_length: usize, report: *mut u8, report_length: usize) -> u64;
     fn tickbound_run(text: *const u8, text_length: usize, report: *mut u8, report_length: usize) -> u64;
+    fn tickbound_import(
+        words: *const u8,
+        words_length: usize,
+        primitives: *const u8,
+        primitives_length: usize,
+        lines: *mut u8,
+        lines_length: usize,
+    ) -> u64;
+    fn tickbound_export(text: *const u8, text_length: usize, words: *mut u8, words_length: usize) -> u64;
 }
 
 #[link(name = "interrupts", kind = "static")]
@@ -24,6 +33,17 @@ pub fn bound(text: &[u8], report: &mut [u8]) -> u64 {
 pub fn run(text: &[u8], report: &mut [u8]) -> u64 {
     // SAFETY: as above.
     unsafe { tickbound_run(start(text), text.len(), start_mut(report), report.len()) }
+}
+
+pub fn import(words: &[u8], primitives: &[u8], lines: &mut [u8]) -> u64 {
+    let (length, lent) = (primitives.len(), lines.len());
+    // SAFETY: as above, of three memories.
+    unsafe { tickbound_import(start(words), words.len(), start(primitives), length, start_mut(lines), lent) }
+}
+
+pub fn export(text: &[u8], words: &mut [u8]) -> u64 {
+    // SAFETY: as above.
+    unsafe { tickbound_export(start(text), text.len(), start_mut(words), words.len()) }
 }
 
 /// The run of a file, interrupted after `n` steps and bounded afresh; or the number of its refusal.

@@ -6,6 +6,7 @@ use independent::random::Random;
 use independent::report::{bound_answer, printed, run_answer, told, Answer, MEMORY};
 use independent::routine::{line, read, Refusal, Routine, TEXT_LIMIT};
 use independent::run::Run;
+use std::ffi::OsStr;
 use std::io::Write;
 use std::path::Path;
 use std::process::{Command, Stdio};
@@ -15,23 +16,26 @@ const LENT: usize = 200;
 /// Bytes before and behind the lent memory, which must keep their values.
 const AROUND: usize = 32;
 
-/// A call with report memory of a length: none, or what differs from the answer wanted.
-fn differs(function: Function, text: &[u8], length: usize, pattern: u8, wanted: &Answer) -> Option<String> {
-    let before: Vec<u8> = (0..LENT + 2 * AROUND).map(|i| pattern.wrapping_add(i as u8)).collect();
+/// A call with lent memory of a length, at most `most`: none, or what differs from the answer wanted.
+pub fn differs(
+    call: &dyn Fn(&mut [u8]) -> u64,
+    most: usize,
+    length: usize,
+    pattern: u8,
+    wanted: &Answer,
+) -> Option<String> {
+    let before: Vec<u8> = (0..most + 2 * AROUND).map(|i| pattern.wrapping_add(i as u8)).collect();
     let mut memory = before.clone();
-    let copy = text.to_vec();
-    let answer = function(&copy, &mut memory[AROUND..AROUND + length]);
+    let answer = call(&mut memory[AROUND..AROUND + length]);
     let mut after = before;
-    if let Ok(report) = wanted {
-        after[AROUND..AROUND + report.len()].copy_from_slice(report);
+    if let Ok(bytes) = wanted {
+        after[AROUND..AROUND + bytes.len()].copy_from_slice(bytes);
     }
     if answer != told(wanted) {
         Some(format!("with {length} bytes lent: the number told is {answer:#x}, not {:#x}", told(wanted)))
     } else if memory != after {
         let at = memory.iter().zip(&after).position(|(a, b)| a != b).unwrap() as i64 - AROUND as i64;
         Some(format!("with {length} bytes lent: byte {at} of the memory is not as it must be"))
-    } else if copy != text {
-        Some("the text was written".to_string())
     } else {
         None
     }
@@ -48,12 +52,17 @@ pub fn compare(random: &mut Random, text: &[u8]) -> Result<(Answer, Answer), Str
         let enough = if random.one_in(3) { MEMORY } else { random.within(MEMORY, LENT) };
         let short = if random.one_in(3) { MEMORY - 1 } else { random.below(MEMORY) };
         let lengths = if random.one_in(200) { (0..=LENT).collect() } else { vec![enough, short] };
+        let copy = text.to_vec();
+        let call = |memory: &mut [u8]| function(&copy, memory);
         let found = lengths.into_iter().find_map(|length| match length >= MEMORY {
-            true => differs(function, text, length, pattern, answer),
-            false => differs(function, text, length, pattern, &own(text, length)),
+            true => differs(&call, LENT, length, pattern, answer),
+            false => differs(&call, LENT, length, pattern, &own(text, length)),
         });
         if let Some(what) = found {
             return Err(format!("{name} {what}\nwanted: {}", shown(answer)));
+        }
+        if copy != text {
+            return Err(format!("{name} wrote the text"));
         }
     }
     Ok(wanted)
@@ -216,27 +225,30 @@ fn interrupted(random: &mut Random, text: &[u8]) -> Result<u64, String> {
     Ok(compared)
 }
 
-/// What the programs print for a text, compared: the report or the line of the refusal, and nothing else.
-pub fn by_programs(programs: &Path, text: &[u8], answers: &(Answer, Answer)) -> Result<(), String> {
-    for (name, answer) in [("bound", &answers.0), ("run", &answers.1)] {
-        let mut program = Command::new(programs.join(name))
-            .stdin(Stdio::piped())
-            .stdout(Stdio::piped())
-            .spawn()
-            .map_err(|e| format!("the program {name} does not start: {e}"))?;
-        // a program may end before it has read everything: at the byte after the limit
-        let _ = program.stdin.take().unwrap().write_all(text);
-        let output = program.wait_with_output().map_err(|e| e.to_string())?.stdout;
-        let wanted = printed(answer);
-        if output != wanted {
-            return Err(format!(
-                "the program {name} printed: {}\nwanted: {}",
-                output.escape_ascii(),
-                wanted.escape_ascii()
-            ));
-        }
+/// Compares what a program prints for arguments and an input: the bytes made or the line of the refusal, and nothing else.
+pub fn program(program: &Path, arguments: &[&OsStr], input: &[u8], wanted: &Answer) -> Result<(), String> {
+    let shown = program.display();
+    let mut child = Command::new(program)
+        .args(arguments)
+        .stdin(Stdio::piped())
+        .stdout(Stdio::piped())
+        .spawn()
+        .map_err(|e| format!("the program {shown} does not start: {e}"))?;
+    // a program may end before it has read everything: at the byte after the limit
+    let _ = child.stdin.take().unwrap().write_all(input);
+    let output = child.wait_with_output().map_err(|e| e.to_string())?.stdout;
+    let wanted = printed(wanted);
+    if output != wanted {
+        let (output, wanted) = (output.escape_ascii(), wanted.escape_ascii());
+        return Err(format!("the program {shown} printed: {output}\nwanted: {wanted}"));
     }
     Ok(())
+}
+
+/// What the programs print for a text, compared.
+pub fn by_programs(programs: &Path, text: &[u8], answers: &(Answer, Answer)) -> Result<(), String> {
+    program(&programs.join("bound"), &[], text, &answers.0)?;
+    program(&programs.join("run"), &[], text, &answers.1)
 }
 
 /// All comparisons on one file; gives the answers of the bound and the run, and the number of interruptions compared.

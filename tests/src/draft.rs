@@ -34,6 +34,11 @@ fn list(words: Vec<String>) -> String {
     }
 }
 
+/// The lines, each with its line feed.
+fn joined(lines: &[String]) -> String {
+    lines.iter().flat_map(|l| [l, "\n"]).collect()
+}
+
 /// The line of names and the lines of values of a price section.
 fn section<const N: usize>(prices: &[(String, [usize; N])]) -> impl Iterator<Item = String> + '_ {
     let names = list(prices.iter().map(|p| p.0.clone()).collect());
@@ -50,6 +55,11 @@ impl Draft {
     }
 
     pub fn text(&self) -> String {
+        self.with_code(&self.code_lines())
+    }
+
+    /// The text with other lines of code, under their line of names.
+    pub fn with_code(&self, code: &str) -> String {
         let mut lines = vec!["BUDGET TICK".to_string(), format!("{} {}", self.budget, self.tick)];
         lines.extend(section(&self.kinds));
         lines.extend(section(&self.primitives));
@@ -59,7 +69,16 @@ impl Draft {
         let fields = |b: usize| (0..self.blocks[b].len()).map(move |f| format!("B{b}.{f}"));
         lines.push(list((0..self.blocks.len()).flat_map(fields).collect()));
         lines.push(list(self.blocks.concat()));
-        lines.push("AT OP ARG".to_string());
+        let mut text = joined(&lines) + code;
+        if !self.answers.is_empty() {
+            text += "ANSWER\n";
+            text += &joined(&self.answers.iter().map(i32::to_string).collect::<Vec<_>>());
+        }
+        text
+    }
+
+    fn code_lines(&self) -> String {
+        let mut lines = vec!["AT OP ARG".to_string()];
         for (i, (op, arg)) in self.code.iter().enumerate() {
             let arg = match arg {
                 Arg::Nothing => "-".to_string(),
@@ -70,10 +89,6 @@ impl Draft {
             };
             lines.push(format!("{} {op} {arg}", self.first + i));
         }
-        if !self.answers.is_empty() {
-            lines.push("ANSWER".to_string());
-            lines.extend(self.answers.iter().map(i32::to_string));
-        }
-        lines.iter().flat_map(|l| [l, "\n"]).collect()
+        joined(&lines)
     }
 }

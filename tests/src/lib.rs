@@ -1,9 +1,10 @@
 //! Document 01 and the change requests that have landed (`docs/CHANGES.md`), implemented a second time from their text alone, in plain
-//! Rust; a generator of routine files; and the analyser's C functions, to be compared.
+//! Rust; generators of routine files and of words; and the analyser's C functions, to be compared.
 pub mod analyser;
 pub mod bound;
 pub mod cases;
 pub mod change;
+pub mod compiled;
 pub mod damage;
 pub mod draft;
 pub mod generate;
@@ -13,4 +14,7 @@ pub mod report;
 pub mod routine;
 pub mod run;
 pub mod texts;
+pub mod word_cases;
+pub mod word_draft;
+pub mod words;
 pub mod writer;

@@ -1,20 +1,28 @@
 //! The analyser's C functions and programs compared with the independent implementation: on the cases of document 01 and of the change
-//! requests and on texts, with the answers that these papers give them, and on files from a seed.
+//! requests, on texts and on words, with the answers that these papers give them; on functions that OCaml compiled; and on files and
+//! words from a seed.
+mod causes;
 mod compare;
 mod extras;
+mod imports;
 mod pinned;
 
+use causes::Causes;
 use compare::{by_programs, file};
 use extras::Extras;
+use imports::{compiled, export_by_program, exported, import_by_program, imported};
 use independent::analyser;
 use independent::cases::{cases, program_files, starred};
+use independent::compiled::functions;
 use independent::damage::damaged;
 use independent::generate::draft;
 use independent::random::Random;
 use independent::report::{bound_answer, told, Answer, MEMORY};
-use independent::routine::{line, KINDS};
+use independent::routine::{line, read, KINDS};
 use independent::texts::{texts, TEXTS};
-use pinned::pinned;
+use independent::word_cases::{self, CASES};
+use independent::word_draft;
+use pinned::{pinned, pinned_export, pinned_import};
 use std::collections::{BTreeMap, BTreeSet};
 use std::path::Path;
 
@@ -34,6 +42,7 @@ struct Tally {
     /// answers of the bound and of the run, by the number of the refusal; 0 for a report
     answers: BTreeMap<u32, [u64; 2]>,
     extras: Extras,
+    causes: Causes,
 }
 
 impl Tally {
@@ -60,6 +69,31 @@ impl Tally {
         }
         self.extras.note(text, bound, run);
     }
+
+    /// All comparisons on one file; with the programs too, if they are given.
+    fn file(&mut self, random: &mut Random, text: &[u8], programs: Option<&Path>) -> Result<(), String> {
+        let (answers, interruptions) = file(random, text)?;
+        self.interruptions += interruptions;
+        self.note(text, &answers);
+        let exported = exported(random, text, &answers.0)?;
+        if exported.is_ok() {
+            self.causes.note_export(read(text, false).unwrap().first);
+        }
+        let Some(programs) = programs else {
+            return Ok(());
+        };
+        self.given_to_programs += 1;
+        by_programs(programs, text, &answers)?;
+        export_by_program(programs, text, &exported)
+    }
+
+    /// All comparisons on words and a primitives line.
+    fn words(&mut self, random: &mut Random, programs: Option<&Path>) -> Result<(), String> {
+        let import = word_draft::import(random);
+        let (answer, came_back) = imported(random, &import)?;
+        self.causes.note_import(&import, &answer, came_back);
+        programs.map_or(Ok(()), |programs| import_by_program(programs, &import, &answer))
+    }
 }
 
 /// The cases of the document and the texts, and that none was lost.
@@ -73,6 +107,32 @@ fn compare_pinned(tally: &mut Tally, programs: &Path, random: &mut Random) {
     }
 }
 
+/// The imports and exports with pinned answers, and the compiled functions.
+fn compare_words(tally: &mut Tally, programs: &Path, random: &mut Random) {
+    let (imports, exports) = (word_cases::imports(), word_cases::exports());
+    let counts = [imports.len(), exports.len()];
+    let count = if counts == CASES { Ok(()) } else { Err(format!("{counts:?}, not {CASES:?}")) };
+    tally.count("the count of the imports and exports", &[], count);
+    for case in &imports {
+        let found = pinned_import(programs, random, case);
+        tally.count(&format!("the import {}", case.name), &[], found);
+    }
+    for case in &exports {
+        let found = pinned_export(programs, random, case);
+        tally.count(&format!("the export {}", case.name), &case.read, found);
+    }
+    let functions = functions();
+    let kept = std::fs::read_dir("tests/compiled").map_or(0, |folder| {
+        folder.filter(|file| file.as_ref().is_ok_and(|f| f.path().extension().is_some_and(|e| e == "words"))).count()
+    });
+    let count = if kept == functions.len() { Ok(()) } else { Err(format!("{kept}, not {}", functions.len())) };
+    tally.count("the count of the compiled functions", &[], count);
+    for function in &functions {
+        let found = compiled(programs, random, function);
+        tally.count(&format!("the compiled function {}", function.name), &[], found);
+    }
+}
+
 /// The files that the programs of `crates/` are run with stand as they are made.
 fn compare_program_files(tally: &mut Tally) {
     for (path, made) in program_files() {
@@ -83,19 +143,22 @@ fn compare_program_files(tally: &mut Tally) {
     }
 }
 
-/// Files enough that every kind, every refusal of a text and every use of an extra must come up.
+/// Files enough that every kind, every refusal of a text, every use of an extra and every cause must come up.
 const MANY: u64 = 5_000;
 
-/// Whether the files that were compared had all kinds in accepted code, reports, each refusal of a text, and extras wherever they count.
+/// Whether what was compared had all kinds in accepted code and in accepted words, reports, each refusal of a text, extras wherever they
+/// count, and each cause by which words are refused.
 fn covers(tally: &Tally) -> Result<(), String> {
     let missing: Vec<u32> = (0..=11).filter(|n| *n != 10 && !tally.answers.contains_key(n)).collect();
-    let rare: Vec<_> = tally.extras.counts().into_iter().filter(|(_, count)| *count < MANY / 200).collect();
-    if tally.kinds.len() == KINDS.len() && missing.is_empty() && rare.is_empty() && tally.interruptions >= MANY / 2 {
+    let counts = tally.extras.counts().into_iter().chain(tally.causes.counts());
+    let rare: Vec<_> = counts.filter(|(_, count)| *count < MANY / 200).collect();
+    let kinds = [tally.kinds.len(), tally.causes.kinds()];
+    if kinds == [KINDS.len(); 2] && missing.is_empty() && rare.is_empty() && tally.interruptions >= MANY / 2 {
         Ok(())
     } else {
-        let (kinds, interruptions) = (tally.kinds.len(), tally.interruptions);
+        let interruptions = tally.interruptions;
         Err(format!(
-            "{kinds} kinds and {interruptions} interruptions came up, no answer of the numbers {missing:?}, and too few of {rare:?}"
+            "{kinds:?} kinds and {interruptions} interruptions came up, no answer of the numbers {missing:?}, and too few of {rare:?}"
         ))
     }
 }
@@ -126,21 +189,16 @@ fn main() {
     small_stack(&mut tally);
     compare_program_files(&mut tally);
     compare_pinned(&mut tally, programs, &mut Random::new(seed));
+    compare_words(&mut tally, programs, &mut Random::new(seed));
     for number in 0..count {
         let mut random = Random::new(seed.wrapping_mul(1_000_003).wrapping_add(number));
         let mut parts = draft(&mut random);
         let text = if random.one_in(2) { damaged(&mut random, &mut parts) } else { parts.text().into_bytes() };
-        let found = file(&mut random, &text).and_then(|(answers, interruptions)| {
-            tally.interruptions += interruptions;
-            tally.note(&text, &answers);
-            if random.one_in(50) {
-                tally.given_to_programs += 1;
-                by_programs(programs, &text, &answers)
-            } else {
-                Ok(())
-            }
-        });
+        let given = random.one_in(50).then_some(programs);
+        let found = tally.file(&mut random, &text, given);
         tally.count(&format!("file {number} of seed {seed}"), &text, found);
+        let found = tally.words(&mut random, given);
+        tally.count(&format!("words {number} of seed {seed}"), &[], found);
     }
 
     if count >= MANY {
@@ -156,6 +214,10 @@ fn main() {
     println!("kinds in the code of accepted files: {}", tally.kinds.len());
     for (what, count) in tally.extras.counts() {
         println!("files with {what}: {count}");
+    }
+    println!("kinds in the words of accepted imports: {}", tally.causes.kinds());
+    for (what, count) in tally.causes.counts() {
+        println!("{what}: {count}");
     }
     println!("files given to the programs too: {}", tally.given_to_programs);
     println!("runs interrupted and bounded afresh: {}", tally.interruptions);

@@ -1,10 +1,14 @@
 //! Texts whose answers are read from document 01 and the change requests: the C functions, the independent implementation and the
 //! programs must give these.
 use crate::compare::{by_programs, compare, shown};
+use crate::imports::{export_by_program, exported, import_by_program, imported};
 use independent::analyser::{self, Function};
 use independent::change::Text;
 use independent::random::Random;
 use independent::report::{bound_answer, printed, run_answer, Answer};
+use independent::word_cases::Case;
+use independent::word_draft::Import;
+use independent::words::{export_answer, import_answer, MEMORY};
 use std::path::Path;
 
 /// What a program prints for the number that a C function tells and the memory that it leaves.
@@ -20,15 +24,47 @@ pub fn pinned(programs: &Path, random: &mut Random, text: &Text) -> Result<(), S
     let functions: [(&str, Function, fn(&[u8], usize) -> Answer); 2] =
         [("bound", analyser::bound, bound_answer), ("run", analyser::run, run_answer)];
     for ((name, function, own), wanted) in functions.into_iter().zip(text.printed()) {
-        let mut memory = vec![0; text.lent];
-        let said = heard(function(&text.bytes, &mut memory), &memory);
-        if said != wanted.as_bytes() {
-            return Err(format!("{name} says {}\nwanted: {wanted}", said.escape_ascii()));
-        }
         let own = own(&text.bytes, text.lent);
-        if printed(&own) != wanted.as_bytes() {
-            return Err(format!("{name} of the independent implementation says {}\nwanted: {wanted}", shown(&own)));
-        }
+        both(name, &|memory| function(&text.bytes, memory), text.lent, &own, wanted.as_bytes())?;
     }
-    compare(random, &text.bytes).and_then(|answers| by_programs(programs, &text.bytes, &answers))
+    let answers = compare(random, &text.bytes)?;
+    let exported = exported(random, &text.bytes, &answers.0)?;
+    // the export refuses by 1 to 6 as the bound does, and by nothing else
+    let bound = &text.printed()[0];
+    let refused = (1..=6).any(|number| bound.starts_with(&format!("REFUSED {number} ")));
+    if exported.is_ok() == refused || refused && printed(&exported) != bound.as_bytes() {
+        return Err(format!("export says {}\nthe bound: {bound}", shown(&exported)));
+    }
+    by_programs(programs, &text.bytes, &answers)
+}
+
+/// Whether a function and the independent implementation say what is wanted.
+fn both(name: &str, call: &dyn Fn(&mut [u8]) -> u64, lent: usize, own: &Answer, wanted: &[u8]) -> Result<(), String> {
+    let mut memory = vec![0; lent];
+    let said = heard(call(&mut memory), &memory);
+    let shown_wanted = wanted.escape_ascii();
+    if said != wanted {
+        return Err(format!("{name} says {}\nwanted: {shown_wanted}", said.escape_ascii()));
+    }
+    if printed(own) != wanted {
+        return Err(format!("{name} of the independent implementation says {}\nwanted: {shown_wanted}", shown(own)));
+    }
+    Ok(())
+}
+
+pub fn pinned_import(programs: &Path, random: &mut Random, case: &Case<Import>) -> Result<(), String> {
+    let Import { words, primitives } = &case.read;
+    let own = import_answer(words, primitives, case.lent);
+    let call = |memory: &mut [u8]| analyser::import(words, primitives, memory);
+    both("import", &call, case.lent, &own, &printed(&case.told))?;
+    let (answer, _) = imported(random, &case.read)?;
+    import_by_program(programs, &case.read, &answer)
+}
+
+pub fn pinned_export(programs: &Path, random: &mut Random, case: &Case<Vec<u8>>) -> Result<(), String> {
+    let own = export_answer(&case.read, case.lent);
+    let call = |memory: &mut [u8]| analyser::export(&case.read, memory);
+    both("export", &call, case.lent, &own, &printed(&case.told))?;
+    let answer = exported(random, &case.read, &bound_answer(&case.read, MEMORY))?;
+    export_by_program(programs, &case.read, &answer)
 }

@@ -2,6 +2,9 @@
 use crate::machine::{Cell, Instruction, Operator, State, FIELDS};
 
 pub const TEXT_LIMIT: usize = 32_768;
+/// The most primitives and the most lines of code.
+pub const PRIMITIVES: usize = 32;
+pub const CODE_LINES: usize = 1024;
 
 /// The numbers of the lines up to the code.
 pub mod line {
@@ -141,7 +144,7 @@ pub struct Routine {
 }
 
 /// The value of a rightly spelt number; one of more than 18 digits counts as out of every range.
-fn number(word: &[u8]) -> Option<i64> {
+pub(crate) fn number(word: &[u8]) -> Option<i64> {
     let digits = word.strip_prefix(b"-").unwrap_or(word);
     let minus = digits.len() < word.len();
     let spelt = match digits {
@@ -182,7 +185,7 @@ fn is_cell(word: &[u8]) -> bool {
 type Words<'a> = Vec<&'a [u8]>;
 
 /// The lines of a text that passed row 2, by their numbers.
-struct Layout<'a> {
+pub(crate) struct Layout<'a> {
     lines: Vec<Words<'a>>,
     /// the number of the line after the last line of code
     code_end: usize,
@@ -190,17 +193,17 @@ struct Layout<'a> {
 
 impl<'a> Layout<'a> {
     /// The words of a line.
-    fn line(&self, n: usize) -> &[&'a [u8]] {
+    pub(crate) fn line(&self, n: usize) -> &[&'a [u8]] {
         &self.lines[n - 1]
     }
 
     /// The words of a line that may be an empty list.
-    fn list(&self, n: usize) -> &[&'a [u8]] {
+    pub(crate) fn list(&self, n: usize) -> &[&'a [u8]] {
         entries(&self.lines[n - 1])
     }
 
     /// The numbers of the lines of code.
-    fn code(&self) -> std::ops::Range<usize> {
+    pub(crate) fn code(&self) -> std::ops::Range<usize> {
         line::CODE..self.code_end
     }
 
@@ -210,12 +213,13 @@ impl<'a> Layout<'a> {
     }
 
     /// A number of a line, by its place there.
-    fn number(&self, n: usize, word: usize) -> i64 {
+    pub(crate) fn number(&self, n: usize, word: usize) -> i64 {
         number(self.line(n)[word]).unwrap()
     }
 }
 
-fn entries<'a, 'b>(line: &'b [&'a [u8]]) -> &'b [&'a [u8]] {
+/// The names of a line of names.
+pub(crate) fn entries<'a, 'b>(line: &'b [&'a [u8]]) -> &'b [&'a [u8]] {
     if line == [b"-"] {
         &[]
     } else {
@@ -251,7 +255,7 @@ fn layout(text: &[u8]) -> Result<Layout<'_>, Refusal> {
             line::LIMITS => values(line::LIMIT_NAMES, is_number),
             line::KINDS | line::FIELD_NAMES => true,
             line::KIND_CYCLES | line::KIND_WORDS | line::KIND_EXTRAS => values(line::KINDS, is_number),
-            line::PRIMITIVES => entries(&words).len() <= 32,
+            line::PRIMITIVES => entries(&words).len() <= PRIMITIVES,
             line::PRIMITIVE_CYCLES | line::PRIMITIVE_WORDS => values(line::PRIMITIVES, is_number),
             line::CELL_NAMES => words != [b"-"],
             line::CELLS => values(line::CELL_NAMES, is_cell),
@@ -263,7 +267,7 @@ fn layout(text: &[u8]) -> Result<Layout<'_>, Refusal> {
                     answer_line = Some(n);
                     true
                 }
-                None => n < line::CODE + 1024 && code_line(&words),
+                None => n < line::CODE + CODE_LINES && code_line(&words),
             },
         };
         if !good {
@@ -330,13 +334,13 @@ fn ranges(file: &Layout) -> Result<(), Refusal> {
     Ok(())
 }
 
-fn repeated(words: &[&[u8]]) -> bool {
+pub(crate) fn repeated(words: &[&[u8]]) -> bool {
     let mut sorted = words.to_vec();
     sorted.sort();
     sorted.windows(2).any(|w| w[0] == w[1])
 }
 
-fn primitive_name(word: &[u8]) -> bool {
+pub(crate) fn primitive_name(word: &[u8]) -> bool {
     (1..=8).contains(&word.len())
         && word[0].is_ascii_uppercase()
         && word.iter().all(|&b| b.is_ascii_uppercase() || b.is_ascii_digit() || b == b'_')
@@ -414,8 +418,8 @@ fn prices_and_targets(file: &Layout) -> Result<(), Refusal> {
     Ok(())
 }
 
-/// Reads a routine file; `run` is whether row 11 is looked at.
-pub fn read(text: &[u8], run: bool) -> Result<Routine, Refusal> {
+/// Rows 1 to 6.
+pub(crate) fn checked(text: &[u8]) -> Result<Layout<'_>, Refusal> {
     if text.len() > TEXT_LIMIT {
         return refused(1, 0);
     }
@@ -423,6 +427,12 @@ pub fn read(text: &[u8], run: bool) -> Result<Routine, Refusal> {
     ranges(&file)?;
     names(&file)?;
     prices_and_targets(&file)?;
+    Ok(file)
+}
+
+/// Reads a routine file; `run` is whether row 11 is looked at.
+pub fn read(text: &[u8], run: bool) -> Result<Routine, Refusal> {
+    let file = checked(text)?;
     if run {
         for n in [line::CELLS, line::FIELDS] {
             if file.list(n).contains(&&b"?"[..]) {

@@ -26,7 +26,7 @@ const PUBLISHED_BRANCH: Base = File(|| published().replace("BRANCHIF", "BRANCH")
 /// Both conditional branches on one unknown, each with an extra.
 const BRANCHES: Base = File(|| TWO_BRANCHES.to_string());
 
-const LARGER_FILE: &str = "\
+pub(crate) const LARGER_FILE: &str = "\
 BUDGET TICK
 1000000 4000000000
 PUSH ACC BRANCHIFNOT OFFSETINT BRANCH SETFIELD C_CALL2 STOP
