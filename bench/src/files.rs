@@ -1,7 +1,9 @@
-//! The files that are measured.
+//! The files and words that are measured.
 use independent::draft::{Arg, Draft};
-use independent::routine::{jumps_at_a_cost, KINDS};
+use independent::routine::{jumps_at_a_cost, Argument, KINDS};
+use independent::words::{export_answer, MEMORY};
 use std::iter::repeat_n;
+use std::sync::OnceLock;
 
 const BUDGET: usize = 1_000_000;
 
@@ -111,12 +113,39 @@ pub fn long_code(bytes: usize) -> Vec<u8> {
     text(bytes - text(0).len())
 }
 
+fn primitives() -> Vec<(String, [usize; 2])> {
+    (1..=32).map(|k| (format!("LONGER{k:02}"), [1, 1])).collect()
+}
+
 /// A call of the last of 32 primitives for each 32 bytes, after STOP.
 pub fn long_calls(bytes: usize) -> Vec<u8> {
     let mut code: Code = vec![("STOP", Arg::Nothing)];
     code.extend(repeat_n(("C_CALL5", Arg::Primitive(31)), bytes / 32 - 1));
-    let primitives = (1..=32).map(|k| (format!("LONGER{k:02}"), [1, 1])).collect();
-    Draft { primitives, ..draft(&["0"], Vec::new(), code) }.text().into_bytes()
+    Draft { primitives: primitives(), ..draft(&["0"], Vec::new(), code) }.text().into_bytes()
+}
+
+/// Instructions of all kinds in turn, one for each 32 bytes, with targets all over the code and 32 primitives.
+pub fn instructions(bytes: usize) -> Vec<u8> {
+    let count = bytes / 32;
+    let arg = |i: usize| match KINDS[i % KINDS.len()].1 {
+        Argument::Nothing => Arg::Nothing,
+        Argument::Number(low, high) => Arg::Number(if i % 2 == 0 { low } else { high }),
+        Argument::Target => Arg::Line(i * 389 % count),
+        Argument::Primitive => Arg::Primitive(i % 32),
+    };
+    let code = (0..count).map(|i| (KINDS[i % KINDS.len()].0, arg(i))).collect();
+    Draft { primitives: primitives(), ..draft(&["0"], Vec::new(), code) }.text().into_bytes()
+}
+
+/// The words of these instructions.
+pub fn words(bytes: usize) -> Vec<u8> {
+    export_answer(&instructions(bytes), MEMORY).unwrap()
+}
+
+/// The line of their primitives.
+pub fn primitives_line() -> &'static [u8] {
+    static LINE: OnceLock<String> = OnceLock::new();
+    LINE.get_or_init(|| primitives().into_iter().map(|p| p.0).collect::<Vec<_>>().join(" ")).as_bytes()
 }
 
 /// All kinds, then one of them as often as there is room for it and its prices.

@@ -1,4 +1,4 @@
-//! The speed of the analyser's bound and run, as a ratio against the independent implementation in the same run.
+//! The speed of the analyser's bound, run, import and export, as a ratio against the independent implementation in the same run.
 mod clock;
 mod files;
 
@@ -6,21 +6,29 @@ use clock::now;
 use independent::analyser::{self, Function};
 use independent::report::{bound_answer, printed, run_answer, told, Answer, MEMORY};
 use independent::routine::TEXT_LIMIT;
+use independent::words::{self, export_answer, import_answer};
 use std::hint::black_box;
 use std::time::Duration;
 
 /// Passes over all files, so that a slow moment of the machine does not fall on one file alone; in each, twelve calls of both.
 const PASSES: usize = 5;
 
-/// What is measured: the analyser's function, and the independent one.
+/// What is measured: the analyser's function and the independent one, with this memory lent.
 #[derive(Clone, Copy)]
 struct Pair {
     proved: Function,
     independent: fn(&[u8], usize) -> Answer,
+    lent: usize,
 }
 
-const BOUND: Pair = Pair { proved: analyser::bound, independent: bound_answer };
-const RUN: Pair = Pair { proved: analyser::run, independent: run_answer };
+const BOUND: Pair = Pair { proved: analyser::bound, independent: bound_answer, lent: MEMORY };
+const RUN: Pair = Pair { proved: analyser::run, independent: run_answer, lent: MEMORY };
+const IMPORT: Pair = Pair {
+    proved: |words, lines| analyser::import(words, files::primitives_line(), lines),
+    independent: |words, lent| import_answer(words, files::primitives_line(), lent),
+    lent: words::MEMORY,
+};
+const EXPORT: Pair = Pair { proved: analyser::export, independent: export_answer, lent: words::MEMORY };
 
 /// A file, and the best times of one call of both.
 struct Measured {
@@ -38,11 +46,11 @@ impl Measured {
 
     /// Calls both in turn at twelve places of a page, and keeps the best times.
     fn measure(&mut self) {
-        let mut memory = [0; MEMORY];
+        let mut memory = vec![0; self.pair.lent];
         let mut both = || {
             let text = black_box(&self.text[..]);
             self.proved = self.proved.min(time(|| (self.pair.proved)(text, &mut memory)));
-            self.independent = self.independent.min(time(|| (self.pair.independent)(text, MEMORY)));
+            self.independent = self.independent.min(time(|| (self.pair.independent)(text, self.pair.lent)));
         };
         let mut lines = || {
             below::<16>(&mut both);
@@ -71,13 +79,16 @@ fn below<const SPACE: usize>(f: &mut dyn FnMut()) {
     black_box(&space);
 }
 
-/// What both answer, as it is printed; they must agree.
+/// What both answer: the last line that is printed, or the length of what is made of an import or an export. They must agree.
 fn answer(pair: Pair, text: &[u8]) -> String {
-    let mut memory = [0; MEMORY];
-    let answer = (pair.independent)(text, MEMORY);
+    let mut memory = vec![0; pair.lent];
+    let answer = (pair.independent)(text, pair.lent);
     assert_eq!((pair.proved)(text, &mut memory), told(&answer));
     let bytes = answer.as_ref().map_or(&[][..], |report| report);
     assert!(memory.starts_with(bytes));
+    if bytes.len() > MEMORY {
+        return format!("{} bytes", bytes.len());
+    }
     String::from_utf8(printed(&answer)).unwrap().lines().last().unwrap().to_string()
 }
 
@@ -98,13 +109,15 @@ fn head(name: &str, second: &str) {
 }
 
 fn main() {
-    let scanned: [(&str, fn(usize) -> Vec<u8>); 6] = [
-        ("names on line 3", files::names),
-        ("spaces on line 3", files::spaces),
-        ("a kind repeated on line 3", files::repeated_kind),
-        ("32 primitives with long names", files::long_names),
-        ("1,024 lines of code", files::long_code),
-        ("1,024 lines that call the last of 32 primitives", files::long_calls),
+    let scanned: [(&str, fn(usize) -> Vec<u8>, Pair); 8] = [
+        ("names on line 3", files::names, BOUND),
+        ("spaces on line 3", files::spaces, BOUND),
+        ("a kind repeated on line 3", files::repeated_kind, BOUND),
+        ("32 primitives with long names", files::long_names, BOUND),
+        ("1,024 lines of code", files::long_code, BOUND),
+        ("1,024 lines that call the last of 32 primitives", files::long_calls, BOUND),
+        ("the import of 1,024 instructions", files::words, IMPORT),
+        ("the export of 1,024 instructions", files::instructions, EXPORT),
     ];
     let mut explored = vec![
         Measured::new("a straight path of 1,000,000 steps", files::straight_path(), BOUND),
@@ -112,8 +125,10 @@ fn main() {
         Measured::new("a full tree of 18 openings, narrow", files::tree(false), BOUND),
         Measured::new("a full tree of 18 openings, wide", files::tree(true), BOUND),
         Measured::new("a file of 32,768 bytes", files::long_code(TEXT_LIMIT), BOUND),
+        Measured::new("the import of 1,024 instructions", files::words(TEXT_LIMIT), IMPORT),
+        Measured::new("the export of 1,024 instructions", files::instructions(TEXT_LIMIT), EXPORT),
     ];
-    let of_length = |bytes| scanned.map(|(name, text)| Measured::new(name, text(bytes), BOUND));
+    let of_length = |bytes| scanned.map(|(name, text, pair)| Measured::new(name, text(bytes), pair));
     let (mut whole, mut half) = (of_length(TEXT_LIMIT), of_length(TEXT_LIMIT / 2));
     for _ in 0..PASSES {
         explored.iter_mut().chain(&mut whole).chain(&mut half).for_each(Measured::measure);
@@ -123,7 +138,7 @@ fn main() {
         row(file, file.proved, file.independent);
     }
     println!();
-    head("text that makes a scan long", "half, ms");
+    head("what makes a scan long", "half, ms");
     for (file, half) in whole.iter().zip(&half) {
         row(file, file.proved, half.proved);
     }
