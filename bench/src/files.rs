@@ -142,7 +142,18 @@ pub fn words(bytes: usize) -> Vec<u8> {
     export_answer(&instructions(bytes), MEMORY).unwrap()
 }
 
-/// The line of their primitives.
+/// Branches to the last line, one for each 32 bytes.
+pub fn branches(bytes: usize) -> Vec<u8> {
+    let count = bytes / 32;
+    draft(&["0"], Vec::new(), vec![("BRANCHIFNOT", Arg::Line(count - 1)); count]).text().into_bytes()
+}
+
+/// The words of these branches.
+pub fn branch_words(bytes: usize) -> Vec<u8> {
+    export_answer(&branches(bytes), MEMORY).unwrap()
+}
+
+/// The line of the primitives of `words`.
 pub fn primitives_line() -> &'static [u8] {
     static LINE: OnceLock<String> = OnceLock::new();
     LINE.get_or_init(|| primitives().into_iter().map(|p| p.0).collect::<Vec<_>>().join(" ")).as_bytes()

@@ -109,7 +109,7 @@ fn head(name: &str, second: &str) {
 }
 
 fn main() {
-    let scanned: [(&str, fn(usize) -> Vec<u8>, Pair); 8] = [
+    let scanned: [(&str, fn(usize) -> Vec<u8>, Pair); 10] = [
         ("names on line 3", files::names, BOUND),
         ("spaces on line 3", files::spaces, BOUND),
         ("a kind repeated on line 3", files::repeated_kind, BOUND),
@@ -118,6 +118,8 @@ fn main() {
         ("1,024 lines that call the last of 32 primitives", files::long_calls, BOUND),
         ("the import of 1,024 instructions", files::words, IMPORT),
         ("the export of 1,024 instructions", files::instructions, EXPORT),
+        ("the import of 1,024 branches to the last", files::branch_words, IMPORT),
+        ("the export of 1,024 branches to the last", files::branches, EXPORT),
     ];
     let mut explored = vec![
         Measured::new("a straight path of 1,000,000 steps", files::straight_path(), BOUND),
