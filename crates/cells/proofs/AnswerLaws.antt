@@ -1,16 +1,18 @@
 -- What the code's operations give is what their definitions give. Assumes nothing.
 use mathlib.Core.Path.{_≡_, sym, ap, _∙_}
+use Prim.Native.Nat.{ℕ}
 use lib.IntN.{ℤ}
 use mir.Syntax.{w32}
 use Rattle.numbers.specs.Numbers.{wrap}
 use Rattle.numbers.proofs.NumberLaws.{wrap-number, wrap-keeps}
 use Rattle.numbers.proofs.SignedLaws.{read, wrapped-read}
+use Rattle.numbers.specs.declared.Comparison.{Comparison}
 use Rattle.cells.specs.declared.Value.{Value}
 use Rattle.cells.specs.declared.Value.the-variants.{Number}
 use Rattle.cells.specs.declared.Cell.{Cell}
 use Rattle.cells.specs.declared.Unary.{Unary}
 use Rattle.cells.specs.declared.Binary.{Binary}
-use Rattle.cells.specs.Cells.{cell, number, calculate₁, calculate₂, map₁, map₂, operate₁, operate₂}
+use Rattle.cells.specs.Cells.{cell, number, calculate₁, map₁, compareHandles, combineHandles, map₂, operate₁, operate₂}
 use Rattle.cells.specs.Try.{Try, done}
 
 -- r is the wrapped result of the operation d
@@ -25,6 +27,12 @@ pub operated₁ : (u : Unary) (i : ℤ) (a : Cell) {v : Value} {m : Try Cell} �
 unfolding operate₁
 operated₁ u i a p e = e ∙ ap (map₁ (calculate₁ u i)) (sym p)
 
-pub operated₂ : (b : Binary) (a c : Cell) {v w : Value} {m : Try Cell} → a .value ≡ v → c .value ≡ w → m ≡ map₂ (calculate₂ b) v w → m ≡ operate₂ b a c
+pub operated₂ : (b : Binary) (a c : Cell) {v w : Value} {m : Try Cell} → a .value ≡ v → c .value ≡ w → m ≡ map₂ b v w → m ≡ operate₂ b a c
 unfolding operate₂
-operated₂ b a c {w = w} p q e = e ∙ ap (λ v. map₂ (calculate₂ b) v w) (sym p) ∙ ap (map₂ (calculate₂ b) (a .value)) (sym q)
+operated₂ b a c {w = w} p q e = e ∙ ap (λ v. map₂ b v w) (sym p) ∙ ap (map₂ b (a .value)) (sym q)
+
+pub compared : (c : Comparison) (j k : ℕ) {d : Comparison} {m : Try Cell} → c ≡ d → m ≡ compareHandles d j k → m ≡ compareHandles c j k
+compared c j k p e = e ∙ ap (λ d. compareHandles d j k) (sym p)
+
+pub combined : (b : Binary) (j k : ℕ) {d : Binary} {m : Try Cell} → b ≡ d → m ≡ combineHandles d j k → m ≡ combineHandles b j k
+combined b j k p e = e ∙ ap (λ d. combineHandles d j k) (sym p)

@@ -1,15 +1,17 @@
 -- The laws of cells, for the erasure order and for the plain cells that a cell allows. With specs/ these are all that knows what a
 -- cell is. Assumes nothing.
 use mathlib.Core.Path.{_≡_, refl}
-use Prim.Native.Nat.{zero, suc}
+use Prim.Native.Nat.{ℕ, zero, suc}
 use lib.IntN.{ℤ, pos, negsuc}
 use Rattle.numbers.proofs.NumberLaws.{wrap-number}
 use Rattle.cells.specs.declared.Value.{Value}
 use Rattle.cells.specs.declared.Value.the-variants.{Number, Unknown, Handle}
 use Rattle.cells.specs.declared.Cell.{Cell}
 use Rattle.cells.specs.declared.Unary.{Unary}
+use Rattle.numbers.specs.declared.Comparison.the-variants.{Equal, Unequal, Less, AtMost, Greater, AtLeast}
 use Rattle.cells.specs.declared.Binary.{Binary}
-use Rattle.cells.specs.Cells.{number, unknown, calculate₁, calculate₂, map₁, map₂, operate₁, operate₂, conditionIn, condition, handled, block}
+use Rattle.cells.specs.declared.Binary.the-variants.{Add, Subtract, Compare}
+use Rattle.cells.specs.Cells.{number, unknown, calculate₁, calculate₂, map₁, compareHandles, combineHandles, map₂, operate₁, operate₂, conditionIn, condition, handled, block}
 use Rattle.cells.specs.Order.{Refines, same, erased, Allowed, known, some-number, same-handle}
 use Rattle.cells.proofs.Covering.{Covered, by-stuck, both, covered-self, Narrower, zeros, nonzeros, zero-unknown, nonzero-unknown, unknowns}
 
@@ -58,34 +60,48 @@ map₁-allowed f (some-number {n} h) = both (number-allowed (f n))
 map₁-allowed f same-handle = by-stuck
 
 -- with one operand erased
-map₂-left : (f : ℤ → ℤ → ℤ) (m : ℤ) (w : Value) → Covered Refines (map₂ f (Number m) w) (map₂ f Unknown w)
+map₂-left : (b : Binary) (m : ℤ) (w : Value) → Covered Refines (map₂ b (Number m) w) (map₂ b Unknown w)
 unfolding map₂
-map₂-left f m (Number n) = both (wrapped (f m n))
-map₂-left f m Unknown = both same
-map₂-left f m (Handle k) = by-stuck
+map₂-left b m (Number n) = both (wrapped (calculate₂ b m n))
+map₂-left b m Unknown = both same
+map₂-left b m (Handle k) = by-stuck
 
-map₂-right : (f : ℤ → ℤ → ℤ) (v : Value) (n : ℤ) → Covered Refines (map₂ f v (Number n)) (map₂ f v Unknown)
+map₂-right : (b : Binary) (v : Value) (n : ℤ) → Covered Refines (map₂ b v (Number n)) (map₂ b v Unknown)
 unfolding map₂
-map₂-right f (Number m) n = both (wrapped (f m n))
-map₂-right f Unknown n = both same
-map₂-right f (Handle k) n = by-stuck
+map₂-right b (Number m) n = both (wrapped (calculate₂ b m n))
+map₂-right b Unknown n = both same
+map₂-right b (Handle k) n = by-stuck
 
-map₂-refines : (f : ℤ → ℤ → ℤ) {a c a′ c′ : Cell} → Refines a a′ → Refines c c′ → Covered Refines (map₂ f (a .value) (c .value)) (map₂ f (a′ .value) (c′ .value))
+map₂-refines : (b : Binary) {a c a′ c′ : Cell} → Refines a a′ → Refines c c′ → Covered Refines (map₂ b (a .value) (c .value)) (map₂ b (a′ .value) (c′ .value))
 unfolding map₂
-map₂-refines f same same = covered-self (λ c. same) _
-map₂-refines f (same {a}) (erased {n} h) = map₂-right f (a .value) n
-map₂-refines f (erased {n} h) (same {a}) = map₂-left f n (a .value)
-map₂-refines f (erased {n = m} h) (erased {n} k) = both (wrapped (f m n))
+map₂-refines b same same = covered-self (λ c. same) _
+map₂-refines b (same {a}) (erased {n} h) = map₂-right b (a .value) n
+map₂-refines b (erased {n} h) (same {a}) = map₂-left b n (a .value)
+map₂-refines b (erased {n = m} h) (erased {n} k) = both (wrapped (calculate₂ b m n))
 
-map₂-allowed : (f : ℤ → ℤ → ℤ) {a c a′ c′ : Cell} → Allowed a a′ → Allowed c c′ → Covered Allowed (map₂ f (a .value) (c .value)) (map₂ f (a′ .value) (c′ .value))
+-- what two handles give is plain
+handles-allowed : (b : Binary) (j k : ℕ) → Covered Allowed (combineHandles b j k) (combineHandles b j k)
+unfolding combineHandles compareHandles
+handles-allowed Add j k = by-stuck
+handles-allowed Subtract j k = by-stuck
+handles-allowed (Compare Equal) j k = both known
+handles-allowed (Compare Unequal) j k = both known
+handles-allowed (Compare Less) j k = by-stuck
+handles-allowed (Compare AtMost) j k = by-stuck
+handles-allowed (Compare Greater) j k = by-stuck
+handles-allowed (Compare AtLeast) j k = by-stuck
+
+map₂-allowed : (b : Binary) {a c a′ c′ : Cell} → Allowed a a′ → Allowed c c′ → Covered Allowed (map₂ b (a .value) (c .value)) (map₂ b (a′ .value) (c′ .value))
 unfolding map₂
-map₂-allowed f known known = both known
-map₂-allowed f (known {n = m}) (some-number {n} h) = both (number-allowed (f m n))
-map₂-allowed f known same-handle = by-stuck
-map₂-allowed f (some-number {n = m} h) (known {n}) = both (number-allowed (f m n))
-map₂-allowed f (some-number {n = m} h) (some-number {n} k) = both (number-allowed (f m n))
-map₂-allowed f (some-number h) same-handle = by-stuck
-map₂-allowed f same-handle q = by-stuck
+map₂-allowed b known known = both known
+map₂-allowed b (known {n = m}) (some-number {n} h) = both (number-allowed (calculate₂ b m n))
+map₂-allowed b known same-handle = by-stuck
+map₂-allowed b (some-number {n = m} h) (known {n}) = both (number-allowed (calculate₂ b m n))
+map₂-allowed b (some-number {n = m} h) (some-number {n} k) = both (number-allowed (calculate₂ b m n))
+map₂-allowed b (some-number h) same-handle = by-stuck
+map₂-allowed b same-handle known = by-stuck
+map₂-allowed b same-handle (some-number h) = by-stuck
+map₂-allowed b (same-handle {k = j}) (same-handle {k}) = handles-allowed b j k
 
 -- conditions and handles
 
@@ -128,7 +144,7 @@ unfolding operate₁ operate₂
 refines-lawful = record {
   numbers = λ n. same;
   operates₁ = λ u i r. map₁-refines (calculate₁ u i) r;
-  operates₂ = λ b r q. map₂-refines (calculate₂ b) r q;
+  operates₂ = λ b r q. map₂-refines b r q;
   conditions = condition-refines;
   blocks = block-refines;
 }
@@ -138,7 +154,7 @@ unfolding operate₁ operate₂
 allowed-lawful = record {
   numbers = λ n. known;
   operates₁ = λ u i r. map₁-allowed (calculate₁ u i) r;
-  operates₂ = λ b r q. map₂-allowed (calculate₂ b) r q;
+  operates₂ = λ b r q. map₂-allowed b r q;
   conditions = condition-allowed;
   blocks = λ r. block-refines (allowed-refines r);
 }

@@ -1,7 +1,11 @@
 -- Cells, and all that the machine does with them: nothing above this layer looks inside a cell. (document 01, Cells and machine)
 use Prim.Native.Nat.{ℕ, zero, suc}
+use mathlib.Core.Bool.{not}
+use lib.Dec.{eqb}
 use lib.IntN.{ℤ, pos, negsuc, negℤ, _+ℤ_, _-ℤ_}
 use Rattle.numbers.specs.Numbers.{wrap, holds, bit}
+use Rattle.numbers.specs.declared.Comparison.{Comparison}
+use Rattle.numbers.specs.declared.Comparison.the-variants.{Equal, Unequal, Less, AtMost, Greater, AtLeast}
 use Rattle.cells.specs.declared.Value.{Value}
 use Rattle.cells.specs.declared.Value.the-variants.{Number, Unknown, Handle}
 use Rattle.cells.specs.declared.Cell.{Cell}
@@ -41,21 +45,39 @@ calculate₂ Add m n = m +ℤ n
 calculate₂ Subtract m n = m -ℤ n
 calculate₂ (Compare c) m n = bit (holds c m n)
 
--- "Arithmetic or comparison with an unknown gives an unknown. Stuck: a handle in arithmetic, comparison or branch condition"
+-- "Arithmetic or comparison with an unknown gives an unknown. Stuck: a handle in arithmetic, comparison or branch condition" (but for
+-- the comparison of two handles, below)
 unfoldable pub map₁ : (ℤ → ℤ) → Value → Try Cell
 map₁ f (Number n) = done (number (f n))
 map₁ f Unknown = done unknown
 map₁ f (Handle k) = stuck
 
--- the same for two operands; a handle is stuck beside an unknown too
-unfoldable pub map₂ : (ℤ → ℤ → ℤ) → Value → Value → Try Cell
-map₂ f (Number m) (Number n) = done (number (f m n))
-map₂ f (Number m) Unknown = done unknown
-map₂ f (Number m) (Handle k) = stuck
-map₂ f Unknown (Number n) = done unknown
-map₂ f Unknown Unknown = done unknown
-map₂ f Unknown (Handle k) = stuck
-map₂ f (Handle j) w = stuck
+-- "EQ and NEQ of two handles now give a known 1 or 0 by block number"; stuck "are the four order comparisons" (document 02 §3)
+unfoldable pub compareHandles : Comparison → ℕ → ℕ → Try Cell
+compareHandles Equal j k = done (number (bit (eqb j k)))
+compareHandles Unequal j k = done (number (bit (not (eqb j k))))
+compareHandles Less j k = stuck
+compareHandles AtMost j k = stuck
+compareHandles Greater j k = stuck
+compareHandles AtLeast j k = stuck
+
+-- an operation on the handles of blocks j and k: arithmetic is stuck
+unfoldable pub combineHandles : Binary → ℕ → ℕ → Try Cell
+combineHandles Add j k = stuck
+combineHandles Subtract j k = stuck
+combineHandles (Compare c) j k = compareHandles c j k
+
+-- the same for two operands; "A handle against a number or an unknown is still stuck" (document 02 §3)
+unfoldable pub map₂ : Binary → Value → Value → Try Cell
+map₂ b (Number m) (Number n) = done (number (calculate₂ b m n))
+map₂ b (Number m) Unknown = done unknown
+map₂ b (Number m) (Handle k) = stuck
+map₂ b Unknown (Number n) = done unknown
+map₂ b Unknown Unknown = done unknown
+map₂ b Unknown (Handle k) = stuck
+map₂ b (Handle j) (Number n) = stuck
+map₂ b (Handle j) Unknown = stuck
+map₂ b (Handle j) (Handle k) = combineHandles b j k
 
 -- an operation on the accumulator, with the operand i
 unfoldable pub operate₁ : Unary → ℤ → Cell → Try Cell
@@ -63,7 +85,7 @@ operate₁ u i a = map₁ (calculate₁ u i) (a .value)
 
 -- an operation on the accumulator and the popped entry
 unfoldable pub operate₂ : Binary → Cell → Cell → Try Cell
-operate₂ b a c = map₂ (calculate₂ b) (a .value) (c .value)
+operate₂ b a c = map₂ b (a .value) (c .value)
 
 -- a branch condition
 unfoldable pub conditionIn : Value → Try Condition

@@ -1,8 +1,8 @@
 // Cells, and the operations on them. The meaning is in specs/.
 use numbers::Comparison;
 ghost use mathlib.Core.Path.{_≡_};
-ghost use Rattle.numbers.specs.Numbers.{wrap};
-ghost use Rattle.cells.specs.Cells.{number, unknown, handle, calculate₁, calculate₂, operate₁, operate₂, condition, block};
+ghost use Rattle.numbers.specs.Numbers.{wrap, bit};
+ghost use Rattle.cells.specs.Cells.{number, unknown, handle, calculate₁, calculate₂, compareHandles, combineHandles, operate₁, operate₂, condition, block};
 ghost use Rattle.cells.specs.Answers.{ofOperand, ofTested, ofHandled};
 
 // "A cell holds a number, an unknown number or a block handle."
@@ -113,6 +113,38 @@ pub fn operate1(u: Unary, i: i32, a: Cell) -> Operand
     }
 }
 
+// The cell of 1 where b is true, else that of 0.
+fn truth(b: bool) -> Cell
+    ensures { λ r. ⌜ r ≡ number (bit b) ⌝ }
+{
+    if b { number(1) } else { number(0) }
+}
+
+// "EQ and NEQ of two handles now give a known 1 or 0 by block number"; the order of two handles is stuck.
+fn compare_handles(c: Comparison, j: u8, k: u8) -> Operand
+    ensures { λ r. ⌜ ofOperand r ≡ compareHandles c j k ⌝ }
+{
+    match c {
+        Comparison::Equal => Operand::Is(truth(j == k)),
+        Comparison::Unequal => Operand::Is(truth(j != k)),
+        Comparison::Less => Operand::Stuck,
+        Comparison::AtMost => Operand::Stuck,
+        Comparison::Greater => Operand::Stuck,
+        Comparison::AtLeast => Operand::Stuck,
+    }
+}
+
+// An operation on the handles of blocks j and k.
+fn combine_handles(b: Binary, j: u8, k: u8) -> Operand
+    ensures { λ r. ⌜ ofOperand r ≡ combineHandles b j k ⌝ }
+{
+    match b {
+        Binary::Add => Operand::Stuck,
+        Binary::Subtract => Operand::Stuck,
+        Binary::Compare(c) => compare_handles(c, j, k),
+    }
+}
+
 pub fn operate2(b: Binary, a: Cell, c: Cell) -> Operand
     ensures { λ r. ⌜ ofOperand r ≡ operate₂ b a c ⌝ }
 {
@@ -129,7 +161,11 @@ pub fn operate2(b: Binary, a: Cell, c: Cell) -> Operand
             Value::Unknown => Operand::Is(unknown()),
             Value::Handle(_) => Operand::Stuck,
         },
-        Value::Handle(_) => Operand::Stuck,
+        Value::Handle(j) => match right {
+            Value::Number(_) => Operand::Stuck,
+            Value::Unknown => Operand::Stuck,
+            Value::Handle(k) => combine_handles(b, j, k),
+        },
     }
 }
 

@@ -49,8 +49,20 @@ unknown-requires-3 c κs = search needs
 enum-told-6 : tie.Need-enum-told-6
 enum-told-6 c = search needs
 
+enum-known-left-2 : tie.Need-enum-known-left-2
+enum-known-left-2 c = search needs
+
 enum-told-7 : tie.Need-enum-told-7
 enum-told-7 c = search needs
+
+enum-told-8 : tie.Need-enum-told-8
+enum-told-8 c = search needs
+
+enum-known-right-2 : tie.Need-enum-known-right-2
+enum-known-right-2 c = search needs
+
+combine-handles-requires : tie.Need-combine-handles-requires
+combine-handles-requires c κs = search needs
 
 returns : tie.Need-returns
 unfolding map₂
@@ -91,7 +103,17 @@ returns-6 c =
 returns-7 : tie.Need-returns-7
 unfolding map₂
 returns-7 c =
-    operated₂ _ _ _ (c .enum-told7 .given .1) refl refl
+    operated₂ _ _ _ (c .before .before .before .left2 .given .1) (c .enum-told7 .given .1) refl
+
+returns-8 : tie.Need-returns-8
+unfolding map₂
+returns-8 c =
+    operated₂ _ _ _ (c .before .before .before .left2 .given .1) (c .enum-told8 .given .1) refl
+
+returns-9 : tie.Need-returns-9
+unfolding map₂
+returns-9 c =
+    operated₂ _ _ _ (c .before .before .before .before .before .left2 .given .1) (c .before .before .right2 .given .1) (c .combine-handles .ensures)
 
 pub operate2-spec : {M : Type 1} → statement M
 operate2-spec =
@@ -110,11 +132,17 @@ operate2-spec =
     enum-told-5
     unknown-requires-3
     enum-told-6
+    enum-known-left-2
     enum-told-7
+    enum-told-8
+    enum-known-right-2
+    combine-handles-requires
     returns
     returns-2
     returns-3
     returns-4
     returns-5
     returns-6
-    returns-7)
+    returns-7
+    returns-8
+    returns-9)

@@ -1,0 +1,22 @@
+-- `cells::truth` meets its contract. Assumes nothing.
+use mathlib.Core.Path.{sym, ap, _∙_}
+use Rattle.numbers.specs.Numbers.{bit}
+use Rattle.cells.specs.Cells.{number}
+use borrow.Author.Needs.{needs}
+use Rattle.cells.proofs.truth.Statement.{statement}
+use Rattle.cells.proofs.truth.Tie as tie
+
+number-requires : tie.Need-number-requires
+number-requires c κs = search needs
+
+number-requires-2 : tie.Need-number-requires-2
+number-requires-2 c κs = search needs
+
+returns : tie.Need-returns
+returns c = c .number .ensures ∙ ap (λ t. number (bit t)) (sym (c .before .if1 .taken))
+
+returns-2 : tie.Need-returns-2
+returns-2 c = c .number2 .ensures ∙ ap (λ t. number (bit t)) (sym (c .before .if1 .left))
+
+pub truth-spec : {M : Type 1} → statement M
+truth-spec = tie.close (tie.spec number-requires number-requires-2 returns returns-2)
