@@ -1,5 +1,5 @@
 //! The bound: the tree of steps explored, with refusals 7, 8 and 9.
-use crate::machine::{Cell, Next, State};
+use crate::machine::{Cell, Handles, Next, State};
 use crate::routine::{refused, Refusal, Routine};
 
 pub const OPENINGS: u32 = 32;
@@ -21,12 +21,14 @@ pub struct Figures {
     pub path: Path,
 }
 
-/// A conditional branch that jumps, in the bound.
-pub enum Jump {
-    /// on a known condition
-    Known { extra: u64 },
-    /// on an unknown one, with the cycles of both ways, the extra not counted
+/// What is noted of a step in the bound.
+pub enum Event {
+    /// a conditional branch jumps on a known condition
+    Jumped { extra: u64 },
+    /// it opens two ways on an unknown one, with the cycles of both, the extra not counted
     Opened { at: u32, extra: u64, not_taken: u64, taken: u64 },
+    /// an operation on two cells meets a handle
+    Met { handles: Handles, stuck: bool },
 }
 
 struct Explorer<'a, F> {
@@ -40,8 +42,8 @@ pub fn bound(routine: &Routine, state: State) -> Result<Figures, Refusal> {
     explored(routine, state, |_| ()).0
 }
 
-/// The bound, and how many steps were looked at, also where it is refused; `note` is told of each jump.
-pub fn explored(routine: &Routine, state: State, note: impl FnMut(Jump)) -> (Result<Figures, Refusal>, u64) {
+/// The bound, and how many steps were looked at, also where it is refused; `note` is told of each event.
+pub fn explored(routine: &Routine, state: State, note: impl FnMut(Event)) -> (Result<Figures, Refusal>, u64) {
     let mut explorer = Explorer { routine, steps: 0, note };
     let mut answer = explorer.walk(state, OPENINGS);
     if let Ok(figures) = &mut answer {
@@ -50,7 +52,7 @@ pub fn explored(routine: &Routine, state: State, note: impl FnMut(Jump)) -> (Res
     (answer, explorer.steps)
 }
 
-impl<F: FnMut(Jump)> Explorer<'_, F> {
+impl<F: FnMut(Event)> Explorer<'_, F> {
     fn walk(&mut self, mut state: State, openings: u32) -> Result<Figures, Refusal> {
         let (mut cycles, mut words, mut depth) = (0, 0, state.height);
         loop {
@@ -64,12 +66,17 @@ impl<F: FnMut(Jump)> Explorer<'_, F> {
             };
             cycles += line.cycles;
             words += line.words;
-            match state.step(line, || Cell::Unknown) {
+            let handles = state.handles(line);
+            let next = state.step(line, || Cell::Unknown);
+            if let Some(handles) = handles {
+                (self.note)(Event::Met { handles, stuck: next.is_none() });
+            }
+            match next {
                 None => return refused(7, at as usize),
                 Some(Next::Goes) => depth = depth.max(state.height),
                 Some(Next::Jumps) => {
                     cycles += line.extra;
-                    (self.note)(Jump::Known { extra: line.extra });
+                    (self.note)(Event::Jumped { extra: line.extra });
                 }
                 Some(Next::Stops) => {
                     return Ok(Figures { cycles, words, depth, steps: 0, path: Path { taken: 0, length: 0 } });
@@ -82,7 +89,7 @@ impl<F: FnMut(Jump)> Explorer<'_, F> {
                     taken.at = target;
                     let n = self.walk(state, openings - 1)?;
                     let t = self.walk(taken, openings - 1)?;
-                    (self.note)(Jump::Opened { at, extra: line.extra, not_taken: n.cycles, taken: t.cycles });
+                    (self.note)(Event::Opened { at, extra: line.extra, not_taken: n.cycles, taken: t.cycles });
                     let jump = line.extra + t.cycles;
                     let worst = if n.cycles > jump { &n } else { &t };
                     return Ok(Figures {

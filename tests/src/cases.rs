@@ -1,9 +1,9 @@
 //! The cases on the edges and the small examples of document 01, with the answers given there and zeros on the line of extras; those of
-//! change request 1; and the files that the programs of `crates/` are run with, which are made of them.
+//! change requests 1 and 3; and the files that the programs of `crates/` are run with, which are made of them.
 use crate::change::Base::{File, Named};
 use crate::change::Change::{FirstBytes, Nothing, Without};
 use crate::change::Told::{Refusal, Report};
-use crate::change::{append, lines, made, refused, word, Base, Entry, Text};
+use crate::change::{append, line, lines, made, refused, word, Base, Entry, Text};
 use crate::report::MEMORY;
 use crate::routine::TEXT_LIMIT;
 
@@ -39,6 +39,13 @@ fn pushes(count: usize) -> String {
     file(1000, "PUSH STOP", "1 1", "ACCU", "0", &format!("{code}{count} STOP -\n"))
 }
 
+/// An operation on two cells, with two blocks, then a branch that tells what it gives.
+fn on_handles(operation: &str, cells: &str) -> String {
+    let code = format!("0 {operation} -\n1 BRANCHIF 3\n2 CONST1 -\n3 STOP -\n");
+    let kinds = "EQ NEQ ADDINT SUBINT LTINT LEINT GTINT GEINT BRANCHIF CONST1 STOP";
+    file(99, kinds, "2 2 2 2 2 2 2 2 5 7 1", "ACCU S0", cells, &code).replacen("-\n-\nAT", "B0.0 B1.0\n0 0\nAT", 1)
+}
+
 /// Two lines of code, then a branch that tells whether the accumulator is the lowest number.
 fn gives_the_lowest(first: &str, then: &str) -> String {
     let kinds = "CONSTINT OFFSETINT NEGINT PUSH EQ BRANCHIF ACC0 STOP";
@@ -47,9 +54,9 @@ fn gives_the_lowest(first: &str, then: &str) -> String {
 }
 
 /// What `crates/cases` is run with: the published example (case 1, run: case 7), the cases that are not starred, each row's example, and
-/// what change request 1 adds to them.
+/// what change requests 1 and 3 add to them.
 pub fn cases() -> Vec<Text> {
-    let lists = [published_example(), not_starred(), refusal_table(), taken_jumps()];
+    let lists = [published_example(), not_starred(), refusal_table(), taken_jumps(), compared_handles()];
     let mut texts = made(lists.into_iter().flatten().collect());
     // the program lends a byte less for it
     texts.iter_mut().find(|text| text.name == "lent_127").unwrap().lent = MEMORY - 1;
@@ -122,6 +129,31 @@ fn taken_jumps() -> Vec<Entry> {
         ("extra_10_run", Named("published_run"), word(6, 2, "10"), [Report("66 4 1 6 66 T"), Report("66 4 1 3")]),
         ("extra_of_stop", PUBLISHED, word(6, 5, "1"), refused(3, 6)),
         ("former_format", PUBLISHED, Without(6), refused(2, 6)),
+    ]
+}
+
+/// Change request 3: EQ and NEQ of two handles, a handle beside a number or an unknown, and the other operations on two handles.
+fn compared_handles() -> Vec<Entry> {
+    let jumps = [Report("8 0 1 3 8 -"), Report("8 0 1 3")];
+    let goes_on = [Report("15 0 1 4 15 -"), Report("15 0 1 4")];
+    let unknown_beside = [Refusal(7, 0), Refusal(11, 11)];
+    let unlike: Base = File(|| on_handles("EQ", "#0 #1"));
+    let operation = |name: &str| line(15, &format!("0 {name} -"));
+    vec![
+        ("eq_equal_handles", File(|| on_handles("EQ", "#1 #1")), Nothing, jumps),
+        ("eq_unlike_handles", unlike, Nothing, goes_on),
+        ("neq_equal_handles", Named("eq_equal_handles"), operation("NEQ"), goes_on),
+        ("neq_unlike_handles", unlike, operation("NEQ"), jumps),
+        ("eq_of_a_handle_and_a_number", unlike, line(11, "#0 0"), refused(7, 0)),
+        ("eq_of_a_number_and_a_handle", unlike, line(11, "0 #0"), refused(7, 0)),
+        ("neq_of_a_handle_and_an_unknown", Named("neq_unlike_handles"), line(11, "#0 ?"), unknown_beside),
+        ("neq_of_an_unknown_and_a_handle", Named("neq_unlike_handles"), line(11, "? #0"), unknown_beside),
+        ("ltint_of_handles", unlike, operation("LTINT"), refused(7, 0)),
+        ("leint_of_handles", unlike, operation("LEINT"), refused(7, 0)),
+        ("gtint_of_handles", unlike, operation("GTINT"), refused(7, 0)),
+        ("geint_of_handles", unlike, operation("GEINT"), refused(7, 0)),
+        ("addint_of_handles", unlike, operation("ADDINT"), refused(7, 0)),
+        ("subint_of_handles", unlike, operation("SUBINT"), refused(7, 0)),
     ]
 }
 

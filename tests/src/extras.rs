@@ -1,5 +1,5 @@
 //! Where the extra of a taken jump counts in the files compared.
-use independent::bound::{explored, Jump};
+use independent::bound::{explored, Event};
 use independent::report::Answer;
 use independent::routine::{line, read, Refusal};
 use independent::run::run;
@@ -28,12 +28,13 @@ impl Extras {
         if bound.is_ok() {
             let routine = read(text, false).unwrap();
             let (mut known, mut tie, mut decided) = (false, false, false);
-            let _ = explored(&routine, routine.start.clone(), |jump| match jump {
-                Jump::Known { extra } => known |= extra > 0,
-                Jump::Opened { extra, not_taken, taken, .. } => {
+            let _ = explored(&routine, routine.start.clone(), |event| match event {
+                Event::Jumped { extra } => known |= extra > 0,
+                Event::Opened { extra, not_taken, taken, .. } => {
                     tie |= extra > 0 && not_taken == extra + taken;
                     decided |= not_taken > taken && not_taken < extra + taken;
                 }
+                Event::Met { .. } => {}
             });
             self.known += known as u64;
             self.ties += tie as u64;

@@ -1,5 +1,5 @@
 //! Routine files from a seed: spelt right, and mostly with code that does not get stuck.
-use crate::bound::{explored, Jump};
+use crate::bound::{explored, Event};
 use crate::draft::{Arg, Draft};
 use crate::random::Random;
 use crate::routine::{jumps_at_a_cost, read, KINDS};
@@ -188,8 +188,8 @@ fn tie(random: &mut Random, draft: &mut Draft) {
     };
     routine.budget = 3000;
     let mut ties = Vec::new();
-    let _ = explored(&routine, routine.start.clone(), |jump| match jump {
-        Jump::Opened { at, not_taken, taken, .. } if (taken + 1..=taken + 65_535).contains(&not_taken) => {
+    let _ = explored(&routine, routine.start.clone(), |event| match event {
+        Event::Opened { at, not_taken, taken, .. } if (taken + 1..=taken + 65_535).contains(&not_taken) => {
             ties.push((at, not_taken - taken));
         }
         _ => {}

@@ -58,6 +58,15 @@ pub struct State {
     pub fields: [Cell; BLOCKS * FIELDS],
 }
 
+/// The operands of an operation on two cells, where a handle is among them.
+#[derive(Clone, Copy, PartialEq)]
+pub enum Handles {
+    Equal,
+    Unlike,
+    /// a handle and a number or an unknown
+    WithAnother,
+}
+
 /// What follows a step.
 pub enum Next {
     /// the state as it now is
@@ -94,6 +103,20 @@ impl State {
     fn pop(&mut self) -> Option<Cell> {
         self.drop(1)?;
         Some(self.stack[self.height])
+    }
+
+    /// The accumulator and the top entry, where the line operates on both and a handle is among them.
+    pub fn handles(&self, line: &Line) -> Option<Handles> {
+        let Instruction::Binary(_) = line.instruction else {
+            return None;
+        };
+        let right = self.stack[self.height.checked_sub(1)?];
+        match (self.accumulator, right) {
+            (Cell::Handle(j), Cell::Handle(k)) if j == k => Some(Handles::Equal),
+            (Cell::Handle(_), Cell::Handle(_)) => Some(Handles::Unlike),
+            (Cell::Handle(_), _) | (_, Cell::Handle(_)) => Some(Handles::WithAnother),
+            _ => None,
+        }
     }
 
     /// The place of a field of the block that the accumulator handles.
@@ -144,6 +167,11 @@ impl State {
             Instruction::Binary(operator) => {
                 let right = self.pop()?;
                 self.accumulator = match (self.accumulator, right) {
+                    (Cell::Handle(j), Cell::Handle(k)) => match operator {
+                        Operator::Equal => Cell::Number((j == k) as i32),
+                        Operator::Unequal => Cell::Number((j != k) as i32),
+                        _ => return None,
+                    },
                     (Cell::Handle(_), _) | (_, Cell::Handle(_)) => return None,
                     (Cell::Number(x), Cell::Number(y)) => Cell::Number(operator.of(x, y)),
                     _ => Cell::Unknown,

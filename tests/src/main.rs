@@ -4,12 +4,14 @@
 mod causes;
 mod compare;
 mod extras;
+mod handles;
 mod imports;
 mod pinned;
 
 use causes::Causes;
 use compare::{by_programs, file};
 use extras::Extras;
+use handles::Compared;
 use imports::{compiled, export_by_program, exported, import_by_program, imported};
 use independent::analyser;
 use independent::cases::{cases, program_files, starred};
@@ -42,6 +44,7 @@ struct Tally {
     /// answers of the bound and of the run, by the number of the refusal; 0 for a report
     answers: BTreeMap<u32, [u64; 2]>,
     extras: Extras,
+    handles: Compared,
     causes: Causes,
 }
 
@@ -68,6 +71,7 @@ impl Tally {
             self.answers.entry(answer.as_ref().err().map_or(0, |r| r.number)).or_default()[i] += 1;
         }
         self.extras.note(text, bound, run);
+        self.handles.note(text, bound, run);
     }
 
     /// All comparisons on one file; with the programs too, if they are given.
@@ -143,14 +147,14 @@ fn compare_program_files(tally: &mut Tally) {
     }
 }
 
-/// Files enough that every kind, every refusal of a text, every use of an extra and every cause must come up.
+/// Files enough that every kind, every refusal of a text, every use of an extra, every pair with a handle and every cause must come up.
 const MANY: u64 = 5_000;
 
 /// Whether what was compared had all kinds in accepted code and in accepted words, reports, each refusal of a text, extras wherever they
-/// count, and each cause by which words are refused.
+/// count, handles in operations on two cells, and each cause by which words are refused.
 fn covers(tally: &Tally) -> Result<(), String> {
     let missing: Vec<u32> = (0..=11).filter(|n| *n != 10 && !tally.answers.contains_key(n)).collect();
-    let counts = tally.extras.counts().into_iter().chain(tally.causes.counts());
+    let counts = tally.extras.counts().into_iter().chain(tally.handles.counts()).chain(tally.causes.counts());
     let rare: Vec<_> = counts.filter(|(_, count)| *count < MANY / 200).collect();
     let kinds = [tally.kinds.len(), tally.causes.kinds()];
     if kinds == [KINDS.len(); 2] && missing.is_empty() && rare.is_empty() && tally.interruptions >= MANY / 2 {
@@ -212,7 +216,7 @@ fn main() {
         println!("{name:<10} {bound:>7} {run:>7}");
     }
     println!("kinds in the code of accepted files: {}", tally.kinds.len());
-    for (what, count) in tally.extras.counts() {
+    for (what, count) in tally.extras.counts().into_iter().chain(tally.handles.counts()) {
         println!("files with {what}: {count}");
     }
     println!("kinds in the words of accepted imports: {}", tally.causes.kinds());

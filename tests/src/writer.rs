@@ -75,7 +75,7 @@ impl Writer<'_> {
     fn atom(&mut self) {
         let height = self.shapes.stack.len();
         let accumulator = self.shapes.accumulator;
-        match self.random.below(14) {
+        match self.random.below(15) {
             0 | 1 if height > 0 => {
                 let n = self.random.below(height);
                 self.shapes.accumulator = self.shapes.stack[self.entry(n)];
@@ -127,6 +127,9 @@ impl Writer<'_> {
             }
             11 | 12 => self.field(),
             13 if self.primitives > 0 => self.call(),
+            14 => {
+                self.handles();
+            }
             _ => {}
         }
     }
@@ -148,6 +151,30 @@ impl Writer<'_> {
         self.emit(&format!("C_CALL{}", popped + 1), Arg::Primitive(primitive));
         self.shapes.stack.truncate(self.shapes.stack.len() - popped);
         self.shapes.accumulator = Shape::Number;
+    }
+
+    /// EQ or NEQ of two handles of the stack; now and then with something else, which is stuck.
+    fn handles(&mut self) -> bool {
+        let entries: Vec<usize> =
+            (0..self.shapes.stack.len()).filter(|&e| matches!(self.shapes.stack[e], Shape::Handle(_))).collect();
+        if entries.is_empty() || self.full() {
+            return false;
+        }
+        let height = self.shapes.stack.len();
+        let n = height - 1 - *self.random.pick(&entries);
+        self.numbered("ACC", "ACC", n as i64, 8);
+        let rare = self.random.one_in(40);
+        if rare && self.random.one_in(2) {
+            self.emit("PUSHCONST0", Arg::Nothing);
+        } else {
+            let n = height - *self.random.pick(&entries);
+            self.numbered("PUSHACC", "PUSHACC", n as i64, 8);
+        }
+        let others = ["ADDINT", "SUBINT", "LTINT", "LEINT", "GTINT", "GEINT"];
+        let operator = *if rare { self.random.pick(&others) } else { self.random.pick(&["EQ", "NEQ"]) };
+        self.emit(operator, Arg::Nothing);
+        self.shapes.accumulator = Shape::Number;
+        true
     }
 
     fn field(&mut self) {
@@ -202,7 +229,9 @@ impl Writer<'_> {
     }
 
     fn branch(&mut self) -> usize {
-        self.condition();
+        if !self.random.one_in(5) || !self.handles() {
+            self.condition();
+        }
         let name = if self.random.one_in(2) { "BRANCHIF" } else { "BRANCHIFNOT" };
         self.emit(name, Arg::Line(0));
         self.code.len() - 1

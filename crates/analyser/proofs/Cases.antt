@@ -116,6 +116,38 @@ jump-tie = two-calls "6 0 0"
 pub jump-above : List ℕ
 jump-above = two-calls "7 0 0"
 
+-- document 02 §3: an operation on two cells, with two blocks, and a branch that shows what it gives
+abbrev operated : String → String → List ℕ
+operated operation cells =
+    file
+    ("BUDGET TICK" ∷ "1000 1000" ∷
+    "EQ NEQ GEINT BRANCHIF CONST1 STOP" ∷ "2 2 2 5 7 1" ∷ "0 0 0 0 0 0" ∷ "0 0 0 0 0 0" ∷
+    "-" ∷ "-" ∷ "-" ∷
+    "ACCU S0" ∷ cells ∷
+    "B0.0 B1.0" ∷ "0 0" ∷
+    "AT OP ARG" ∷ operation ∷ "1 BRANCHIF 3" ∷ "2 CONST1 -" ∷ "3 STOP -" ∷ [])
+
+pub eq-equal : List ℕ
+eq-equal = operated "0 EQ -" "#1 #1"
+
+pub eq-unlike : List ℕ
+eq-unlike = operated "0 EQ -" "#0 #1"
+
+pub neq-equal : List ℕ
+neq-equal = operated "0 NEQ -" "#1 #1"
+
+pub neq-unlike : List ℕ
+neq-unlike = operated "0 NEQ -" "#0 #1"
+
+pub eq-number : List ℕ
+eq-number = operated "0 EQ -" "#0 0"
+
+pub eq-unknown : List ℕ
+eq-unknown = operated "0 EQ -" "? #0"
+
+pub geint-handles : List ℕ
+geint-handles = operated "0 GEINT -" "#0 #1"
+
 -- what the bound or the run prints for a file with 128 lent bytes
 abbrev Bounds : List ℕ → List String → Type 0
 Bounds text expected = analyser.printed (analyser.boundAnswer text 128) ≡ file expected
@@ -163,6 +195,15 @@ Starred =
     × Bounds jump-below (report "13 9 0 5 13 N")
     × Bounds jump-tie (report "13 9 0 5 13 T")
     × Bounds jump-above (report "14 9 0 5 14 T")
+    -- one way only: the comparison of two handles is known
+    × Bounds eq-equal (report "8 0 1 3 8 -")
+    × Bounds eq-unlike (report "15 0 1 4 15 -")
+    × Bounds neq-equal (report "15 0 1 4 15 -")
+    × Bounds neq-unlike (report "8 0 1 3 8 -")
+    × Runs eq-unlike (run-report "15 0 1 4")
+    × Bounds eq-number ("REFUSED 7 0" ∷ [])
+    × Bounds eq-unknown ("REFUSED 7 0" ∷ [])
+    × Bounds geint-handles ("REFUSED 7 0" ∷ [])
 
 -- ---- demand 3 of a file: case 1, and its file with S0 known and one answer (case 7)
 
@@ -181,8 +222,8 @@ Published =
     × (routines.readRun case7 ≡ routines.routine (holding (state 0 (pos 0) (cell (pos 0) ∷ [])) (pos 7 ∷ [])))
 
 computed : Starred × Published
-unfolding case1 case1-half case2 case2-spent case2-exact case3 case4 case6 case7 jump-bound jump-taken jump-not-taken jump-below jump-tie jump-above refusals.number refusals.place text.equals text.split text.words text.linesOf text.lines text.find text.among text.all text.distinct decimals.digitsFrom decimals.natural decimals.numeral decimals.digits decimals.decimal numbers.wrap numbers.holds try._>>=_ cells.calculate₁ cells.calculate₂ cells.map₁ cells.map₂ cells.operate₁ cells.operate₂ cells.conditionIn cells.condition cells.handled cells.block kinds.kinds kinds.kindNames kinds.operand lists.nth lists.put lists.without machine.height machine.priceOf machine.fetch machine.jump machine.load machine.restack machine.store machine.push machine.pop machine.getField machine.setField machine.advance machine.ahead machine.withExtra machine.ways machine.opposite machine.perform machine.prepare machine.execute machine.step machine.takes machine.takesAnswer tree.expand tree.tree tree.address tree.steps tree.size tree.cycles tree.words tree.depth tree.worse tree.path tree.report tree.refusal tree.judge tree.verdict tree.explore tree.bound run.begin run.answer run.remaining run.moved run.leads run.once run.after run.stuckAt run.isStuck run.boundedAfresh run.judgeRun run.run layout.isAnswer layout.body layout.upToAnswer layout.pastAnswer layout.codeLines layout.answerLines layout.answerRoles layout.codeRoles layout.bodyRoles layout.roles layout.list layout.textAt layout.listed rows.isNumeral rows.valueOf rows.value rows.knownOf rows.blockOf rows.hashed rows.cellWord rows.isCell rows.cellInRange rows.cellPresent rows.isName rows.stackNames rows.cellNames rows.equalLists rows.isField rows.sizesFrom rows.blockSizes rows.total rows.argumentOf rows.onArgument rows.argumentLaidOut rows.argumentInRange rows.argumentNamed rows.argumentReaches rows.extraRange rows.extrasInRange rows.columnInRange rows.columnLaidOut rows.onCells rows.onCode rows.namesLaidOut rows.valuesLaidOut rows.codeLaidOut rows.laidOut rows.codeInRange rows.inRange rows.wellNamed rows.firstAt rows.codeNamed rows.named rows.priced rows.reaches rows.allKnown rows.test rows.earliest rows.refusedLine routines.inside routines.priceList routines.argumentValue routines.instructionOf columns.kindAt machine.instruction interrupted.code routines.codeIn routines.cellOf routines.cellsOf routines.blocksInLine routines.startOf routines.routineOf routines.orElse routines.checked routines.limited routines.readBound routines.readRun reports.share reports.pathText reports.figures reports.boundText reports.runText reports.refusalLine reports.refusalText analyser.ofVerdict answers.ofReading analyser.boundRoutine analyser.runRoutine analyser.boundAnswer analyser.runAnswer answers.memory analyser.printed
-computed = ((refl, refl, refl, refl, refl, refl, refl, refl, refl, refl, refl, refl, refl, refl, refl, refl, refl), (refl, refl, refl))
+unfolding case1 case1-half case2 case2-spent case2-exact case3 case4 case6 case7 jump-bound jump-taken jump-not-taken jump-below jump-tie jump-above eq-equal eq-unlike neq-equal neq-unlike eq-number eq-unknown geint-handles refusals.number refusals.place text.equals text.split text.words text.linesOf text.lines text.find text.among text.all text.distinct decimals.digitsFrom decimals.natural decimals.numeral decimals.digits decimals.decimal numbers.wrap numbers.holds try._>>=_ cells.calculate₁ cells.calculate₂ cells.map₁ cells.compareHandles cells.combineHandles cells.map₂ cells.operate₁ cells.operate₂ cells.conditionIn cells.condition cells.handled cells.block kinds.kinds kinds.kindNames kinds.operand lists.nth lists.put lists.without machine.height machine.priceOf machine.fetch machine.jump machine.load machine.restack machine.store machine.push machine.pop machine.getField machine.setField machine.advance machine.ahead machine.withExtra machine.ways machine.opposite machine.perform machine.prepare machine.execute machine.step machine.takes machine.takesAnswer tree.expand tree.tree tree.address tree.steps tree.size tree.cycles tree.words tree.depth tree.worse tree.path tree.report tree.refusal tree.judge tree.verdict tree.explore tree.bound run.begin run.answer run.remaining run.moved run.leads run.once run.after run.stuckAt run.isStuck run.boundedAfresh run.judgeRun run.run layout.isAnswer layout.body layout.upToAnswer layout.pastAnswer layout.codeLines layout.answerLines layout.answerRoles layout.codeRoles layout.bodyRoles layout.roles layout.list layout.textAt layout.listed rows.isNumeral rows.valueOf rows.value rows.knownOf rows.blockOf rows.hashed rows.cellWord rows.isCell rows.cellInRange rows.cellPresent rows.isName rows.stackNames rows.cellNames rows.equalLists rows.isField rows.sizesFrom rows.blockSizes rows.total rows.argumentOf rows.onArgument rows.argumentLaidOut rows.argumentInRange rows.argumentNamed rows.argumentReaches rows.extraRange rows.extrasInRange rows.columnInRange rows.columnLaidOut rows.onCells rows.onCode rows.namesLaidOut rows.valuesLaidOut rows.codeLaidOut rows.laidOut rows.codeInRange rows.inRange rows.wellNamed rows.firstAt rows.codeNamed rows.named rows.priced rows.reaches rows.allKnown rows.test rows.earliest rows.refusedLine routines.inside routines.priceList routines.argumentValue routines.instructionOf columns.kindAt machine.instruction interrupted.code routines.codeIn routines.cellOf routines.cellsOf routines.blocksInLine routines.startOf routines.routineOf routines.orElse routines.checked routines.limited routines.readBound routines.readRun reports.share reports.pathText reports.figures reports.boundText reports.runText reports.refusalLine reports.refusalText analyser.ofVerdict answers.ofReading analyser.boundRoutine analyser.runRoutine analyser.boundAnswer analyser.runAnswer answers.memory analyser.printed
+computed = ((refl, refl, refl, refl, refl, refl, refl, refl, refl, refl, refl, refl, refl, refl, refl, refl, refl, refl, refl, refl, refl, refl, refl, refl, refl), (refl, refl, refl))
 
 pub starred : Starred
 starred = computed .0
