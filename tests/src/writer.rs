@@ -163,7 +163,7 @@ impl Writer<'_> {
         let height = self.shapes.stack.len();
         let n = height - 1 - *self.random.pick(&entries);
         self.numbered("ACC", "ACC", n as i64, 8);
-        let rare = self.random.one_in(40);
+        let rare = self.random.one_in(10);
         if rare && self.random.one_in(2) {
             self.emit("PUSHCONST0", Arg::Nothing);
         } else {
