@@ -279,7 +279,7 @@ pub fn first_addresses() -> Range
 }
 
 // "Targets are addresses, 0 to 62,000."
-fn addresses() -> Range
+pub fn addresses() -> Range
     ensures { λ r. ⌜ r ≡ addresses ⌝ }
 {
     Range {

@@ -38,7 +38,7 @@ pub struct Ran {
 }
 
 // The next answer after the first `taken`: 0 once the list is used up.
-fn answer_at(answers: &[i32], taken: usize) -> Cell
+pub fn answer_at(answers: &[i32], taken: usize) -> Cell
     ensures { λ r. ⌜ r ≡ answer (drop taken (now (answers .entry))) ⌝ }
 {
     if answers.len() <= taken {
@@ -48,7 +48,7 @@ fn answer_at(answers: &[i32], taken: usize) -> Cell
 }
 
 // The answers asked for after a step that takes one or none.
-fn taken_after(calls: bool, taken: usize) -> usize
+pub fn taken_after(calls: bool, taken: usize) -> usize
     requires { ⌜ taken < 1000000 ⌝ }
     ensures { λ r. ⌜ ((answers : List ℤ) → drop r answers ≡ remaining calls (drop taken answers)) × (r ≤ suc taken) ⌝ }
 {

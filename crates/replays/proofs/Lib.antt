@@ -1,0 +1,4 @@
+pub mod ReplayLaws
+pub mod Theorems
+pub mod FollowLaws
+pub mod LoopLaws

@@ -1,0 +1,106 @@
+-- `replays::replay` meets its contract. The loop's invariant: the lines left decide what the replay says (`Following`). The measure is the
+-- length of what is left. Assumes nothing.
+use mathlib.Core.Path.{_∙_}
+use lib.ListN.{length}
+use native.Mathlib.Omega.{arith}
+use borrow.Author.Needs.{needs}
+use borrow.Author.Tests.{not-true, not-false}
+use Rattle.states.specs.Columns.{codeOf}
+use Rattle.states.specs.View.{whole}
+use Rattle.traces.specs.Traces.{entries}
+use Rattle.replays.specs.Replay.{replay}
+use Rattle.replays.specs.Held.{ofReplayed}
+use Rattle.replays.proofs.LoopLaws.{Following, begins, ends, differs, stops, goes-on}
+use Rattle.replays.proofs.replay.Statement.{statement}
+use Rattle.replays.proofs.replay.Tie as tie
+use Rattle.replays.proofs.replay.Reads as reads
+use Rattle.replays.proofs.replay.Lts as lts
+use Rattle.replays.proofs.after_stop.Reads as after-stop-reads
+use Rattle.replays.proofs.follow.Reads as follow-reads
+use Rattle.text.proofs.first_line.Reads as first-line-reads
+use Rattle.text.proofs.next_lines.Reads as next-lines-reads
+use Rattle.traces.proofs.entry_of.Reads as entry-of-reads
+
+abbrev Inv-loop : tie.InvT-loop
+Inv-loop codes operands cycles words extras sizes first answers trace state₀ blocks₀ taken₀ rest₀ line₀ state blocks taken rest line =
+    Following (codeOf first codes operands cycles words extras) sizes answers (replay (codeOf first codes operands cycles words extras) (whole sizes blocks₀ state₀) answers (entries trace)) taken state blocks rest line
+
+abbrev μ-loop : tie.MeasureT-loop
+μ-loop codes operands cycles words extras sizes first answers trace state₀ blocks₀ taken₀ rest₀ line₀ state blocks taken rest line = length rest
+
+next-lines-requires : tie.Need-next-lines-requires Inv-loop μ-loop
+next-lines-requires c κs = search needs
+
+loop-holds : tie.Need-loop-holds Inv-loop μ-loop
+loop-holds c = let s = c .before .before .before .before .before .before .before in begins _ _ _ _ _ _ _ (s .pre .2) (s .pre .3) (s .pre .4) (c .next-lines .ensures .0)
+
+first-line-requires : tie.Need-first-line-requires Inv-loop μ-loop
+first-line-requires c κs = search needs
+
+entry-of-requires : tie.Need-entry-of-requires Inv-loop μ-loop
+entry-of-requires c κs = search needs
+
+cast-follow : tie.Need-cast-follow Inv-loop μ-loop
+cast-follow c = search needs
+
+follow-requires : tie.Need-follow-requires Inv-loop μ-loop
+follow-requires c κs =
+    let i = c .before .before .before .before .loop .inv in
+    let s = c .before .before .before .before .before .before .before .before .before .before .before .before in
+    let f = i .few in
+    let g = i .near in
+    (s .pre .0, s .pre .1, i .formed, i .fits, omega arith)
+
+returns : tie.Need-returns Inv-loop μ-loop
+unfolding ofReplayed
+returns c =
+    let b = c .before .before .before .before in
+    differs (b .before .before .before .loop .inv) (b .before .before .loop-test .taken) _ (b .before .first-line .ensures) _ _ (b .entry-of .ensures .0) (b .entry-of .ensures .1) _ (c .before .before .follow .ensures) (not-true _ (c .if1 .taken))
+
+next-lines-requires-2 : tie.Need-next-lines-requires-2 Inv-loop μ-loop
+next-lines-requires-2 c κs = search needs
+
+after-stop-requires : tie.Need-after-stop-requires Inv-loop μ-loop
+after-stop-requires c κs = let i = c .before .before .before .before .before .before .before .before .before .loop .inv in let g = i .near in omega arith
+
+returns-2 : tie.Need-returns-2 Inv-loop μ-loop
+returns-2 c =
+    let b = c .before .before .before .before .before .before .before in
+    c .after-stop .ensures
+    ∙ stops (b .before .before .before .loop .inv) (b .before .before .loop-test .taken) _ (b .before .first-line .ensures) _ _ (b .entry-of .ensures .0) (b .entry-of .ensures .1) _ (c .before .before .before .before .before .follow .ensures) (not-false _ (c .before .before .before .if1 .left)) _ (c .before .before .next-lines2 .ensures .0) (c .before .if2 .taken)
+
+add-line : tie.Need-add-line Inv-loop μ-loop
+add-line c = let i = c .before .before .before .before .before .before .before .before .before .before .before .loop .inv in let g = i .near in omega arith
+
+loop-less : tie.Need-loop-less Inv-loop μ-loop
+loop-less c = let h = c .before .before .before .next-lines2 .ensures .1 in let t = c .before .before .before .before .before .before .before .before .before .before .loop-test .taken in omega arith
+
+loop-again : tie.Need-loop-again Inv-loop μ-loop
+loop-again c =
+    let b = c .before .before .before .before .before .before .before .before in
+    goes-on (b .before .before .before .loop .inv) (b .before .before .loop-test .taken) _ (b .before .first-line .ensures) _ _ (b .entry-of .ensures .0) (b .entry-of .ensures .1) _ (c .before .before .before .before .before .before .follow .ensures) (not-false _ (c .before .before .before .before .if1 .left)) _ (c .before .before .before .next-lines2 .ensures .0) (c .before .before .if2 .left)
+
+returns-3 : tie.Need-returns-3 Inv-loop μ-loop
+unfolding ofReplayed
+returns-3 c = ends (c .before .loop .inv) (c .loop-test .left)
+
+pub replay-spec : {M : Type 1} → statement M
+replay-spec =
+    tie.close
+    (tie.spec
+    Inv-loop
+    μ-loop
+    next-lines-requires
+    loop-holds
+    first-line-requires
+    entry-of-requires
+    cast-follow
+    follow-requires
+    returns
+    next-lines-requires-2
+    after-stop-requires
+    returns-2
+    add-line
+    loop-less
+    loop-again
+    returns-3)

@@ -1,0 +1,67 @@
+-- `traces::check_trace` meets its contract. Assumes nothing.
+use mathlib.Core.Path.{_≡_, sym, _∙_}
+use Rattle.text.specs.Text.{lines}
+use Rattle.routine.specs.declared.RefusedLine.the-variants.{Nowhere}
+use Rattle.traces.specs.Traces.{lineLaidOut, earliest}
+use Rattle.traces.specs.Scan.{lineTest}
+use Rattle.traces.proofs.TraceLaws.{check-long, check-empty, check-layout, check-range, check-accepted}
+use borrow.Author.Needs.{needs}
+use Rattle.traces.proofs.check_trace.Statement.{statement}
+use Rattle.traces.proofs.check_trace.Tie as tie
+
+-- row 2 refuses no line
+row-layout : (c : tie.After-enum-told) → earliest lineLaidOut 0 (lines (c .before .before .before .before .before .before .args .trace .now)) ≡ Nowhere
+unfolding lineTest
+row-layout c = sym (c .before .before .earliest .ensures) ∙ c .enum-told .given .1
+
+returns : tie.Need-returns
+returns c = check-long _ (c .if1 .taken)
+
+returns-2 : tie.Need-returns-2
+returns-2 c = check-empty _ (c .before .if1 .left) (c .if2 .taken)
+
+earliest-requires : tie.Need-earliest-requires
+earliest-requires c κs = search needs
+
+enum-known-layout : tie.Need-enum-known-layout
+enum-known-layout c = search needs
+
+returns-3 : tie.Need-returns-3
+unfolding lineTest
+returns-3 c = check-layout _ (c .before .before .before .before .before .if1 .left) (c .before .before .before .before .if2 .left) _ (sym (c .before .before .before .earliest .ensures) ∙ c .before .layout .given .1)
+
+enum-told : tie.Need-enum-told
+enum-told c = search needs
+
+earliest-requires-2 : tie.Need-earliest-requires-2
+earliest-requires-2 c κs = search needs
+
+enum-known-range : tie.Need-enum-known-range
+enum-known-range c = search needs
+
+returns-4 : tie.Need-returns-4
+unfolding lineTest
+returns-4 c = check-range _ (c .before .before .before .before .before .before .before .before .if1 .left) (c .before .before .before .before .before .before .before .if2 .left) _ (row-layout (c .before .before .before .before)) (sym (c .before .before .before .earliest2 .ensures) ∙ c .before .range .given .1)
+
+enum-told-2 : tie.Need-enum-told-2
+enum-told-2 c = search needs
+
+returns-5 : tie.Need-returns-5
+unfolding lineTest
+returns-5 c = check-accepted _ (c .before .before .before .before .before .before .before .if1 .left) (c .before .before .before .before .before .before .if2 .left) (row-layout (c .before .before .before)) (sym (c .before .before .earliest2 .ensures) ∙ c .enum-told2 .given .1)
+
+pub check-trace-spec : {M : Type 1} → statement M
+check-trace-spec =
+    tie.close
+    (tie.spec
+    returns
+    returns-2
+    earliest-requires
+    enum-known-layout
+    returns-3
+    enum-told
+    earliest-requires-2
+    enum-known-range
+    returns-4
+    enum-told-2
+    returns-5)

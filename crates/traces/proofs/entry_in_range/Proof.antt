@@ -1,0 +1,53 @@
+-- `traces::entry_in_range` meets its contract. Assumes nothing.
+use mathlib.Core.Path.{sym, ap₂, _∙_}
+use native.Mathlib.Omega.{arith}
+use Rattle.numbers.specs.Numbers.{within}
+use Rattle.routine.specs.Rows.{value}
+use Rattle.traces.specs.Traces.{cycleRange, cycles, entryInRange}
+use Rattle.lines.proofs.LineLaws.{and-true, and-false, near-range}
+use borrow.Author.Needs.{needs}
+use Rattle.traces.proofs.entry_in_range.Statement.{statement}
+use Rattle.traces.proofs.entry_in_range.Tie as tie
+
+word-at-requires : tie.Need-word-at-requires
+word-at-requires c κs = search needs
+
+word-at-requires-2 : tie.Need-word-at-requires-2
+word-at-requires-2 c κs = search needs
+
+addresses-requires : tie.Need-addresses-requires
+addresses-requires c κs = search needs
+
+is-within-requires : tie.Need-is-within-requires
+is-within-requires c κs = near-range 0 62000 (omega arith) (omega arith) (c .addresses .ensures)
+
+cycle-range-requires : tie.Need-cycle-range-requires
+cycle-range-requires c κs = search needs
+
+is-within-requires-2 : tie.Need-is-within-requires-2
+is-within-requires-2 c κs = near-range 0 4000000000 (omega arith) (omega arith) (c .cycle-range .ensures)
+
+returns : tie.Need-returns
+unfolding entryInRange
+returns c =
+    and-true (sym (c .before .before .before .is-within .ensures ∙ ap₂ (λ r w. within r (value w)) (c .before .before .before .before .addresses .ensures) (c .before .before .before .before .before .before .word-at .ensures)) ∙ c .before .before .if1 .taken)
+    (c .is-within2 .ensures ∙ ap₂ (λ r w. within r (value w)) (c .before .cycle-range .ensures) (c .before .before .before .before .before .word-at2 .ensures))
+
+returns-2 : tie.Need-returns-2
+unfolding entryInRange
+returns-2 c =
+    and-false (within cycleRange (value (cycles (c .before .before .before .before .before .before .args .line .now))))
+    (sym (c .before .is-within .ensures ∙ ap₂ (λ r w. within r (value w)) (c .before .before .addresses .ensures) (c .before .before .before .before .word-at .ensures)) ∙ c .if1 .left)
+
+pub entry-in-range-spec : {M : Type 1} → statement M
+entry-in-range-spec =
+    tie.close
+    (tie.spec
+    word-at-requires
+    word-at-requires-2
+    addresses-requires
+    is-within-requires
+    cycle-range-requires
+    is-within-requires-2
+    returns
+    returns-2)

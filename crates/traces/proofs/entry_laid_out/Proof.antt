@@ -1,0 +1,61 @@
+-- `traces::entry_laid_out` meets its contract. Assumes nothing.
+use mathlib.Core.Path.{sym, ap, _∙_}
+use lib.ListN.{length}
+use borrow.Author.Tests.{eq-eqb, ne-eqb}
+use Rattle.text.specs.Text.{words}
+use Rattle.text.specs.Decimal.{numeral}
+use Rattle.routine.specs.Rows.{isNumeral, at}
+use Rattle.traces.specs.Traces.{cycles, entryLaidOut}
+use Rattle.lines.proofs.LineLaws.{and-true, and-false, and-stop, and-through}
+use borrow.Author.Needs.{needs}
+use Rattle.traces.proofs.entry_laid_out.Statement.{statement}
+use Rattle.traces.proofs.entry_laid_out.Tie as tie
+
+count-words-requires : tie.Need-count-words-requires
+count-words-requires c κs = search needs
+
+returns : tie.Need-returns
+unfolding entryLaidOut
+returns c =
+    let line = c .before .before .before .args .line .now in
+    and-stop _ (isNumeral (numeral (at line))) (isNumeral (numeral (cycles line))) (ne-eqb (length (words line)) 2 (λ e. c .if1 .taken (c .before .count-words .ensures ∙ e)))
+
+word-at-requires : tie.Need-word-at-requires
+word-at-requires c κs = search needs
+
+word-at-requires-2 : tie.Need-word-at-requires-2
+word-at-requires-2 c κs = search needs
+
+is-numeral-requires : tie.Need-is-numeral-requires
+is-numeral-requires c κs = search needs
+
+is-numeral-requires-2 : tie.Need-is-numeral-requires-2
+is-numeral-requires-2 c κs = search needs
+
+returns-2 : tie.Need-returns-2
+unfolding entryLaidOut
+returns-2 c =
+    let line = c .before .before .before .before .before .before .before .before .args .line .now in
+    and-through _ _ _ (eq-eqb (length (words line)) 2 (sym (c .before .before .before .before .before .before .count-words .ensures) ∙ c .before .before .before .before .before .if1 .left))
+    (and-true (sym (c .before .before .is-numeral .ensures ∙ ap (λ w. isNumeral (numeral w)) (c .before .before .before .before .word-at .ensures)) ∙ c .before .if2 .taken)
+    (c .is-numeral2 .ensures ∙ ap (λ w. isNumeral (numeral w)) (c .before .before .before .word-at2 .ensures)))
+
+returns-3 : tie.Need-returns-3
+unfolding entryLaidOut
+returns-3 c =
+    let line = c .before .before .before .before .before .before .before .args .line .now in
+    and-through _ _ _ (eq-eqb (length (words line)) 2 (sym (c .before .before .before .before .before .count-words .ensures) ∙ c .before .before .before .before .if1 .left))
+    (and-false (isNumeral (numeral (cycles line))) (sym (c .before .is-numeral .ensures ∙ ap (λ w. isNumeral (numeral w)) (c .before .before .before .word-at .ensures)) ∙ c .if2 .left))
+
+pub entry-laid-out-spec : {M : Type 1} → statement M
+entry-laid-out-spec =
+    tie.close
+    (tie.spec
+    count-words-requires
+    returns
+    word-at-requires
+    word-at-requires-2
+    is-numeral-requires
+    is-numeral-requires-2
+    returns-2
+    returns-3)

@@ -1,0 +1,50 @@
+-- `traces::passes` meets its contract. Assumes nothing.
+use mathlib.Core.Path.{ap, _∙_}
+use lib.ListN.{getD}
+use Rattle.text.specs.Text.{lines, noLine}
+use Rattle.lines.proofs.LineLaws.{arm}
+use Rattle.traces.specs.Traces.{textInRange, lineInRange}
+use Rattle.traces.specs.Scan.{lineTest}
+use borrow.Author.Needs.{needs}
+use Rattle.traces.proofs.passes.Statement.{statement}
+use Rattle.traces.proofs.passes.Tie as tie
+
+enum-told : tie.Need-enum-told
+enum-told c = search needs
+
+line-laid-out-requires : tie.Need-line-laid-out-requires
+line-laid-out-requires c κs = search needs
+
+enum-told-2 : tie.Need-enum-told-2
+enum-told-2 c = search needs
+
+first-line-requires : tie.Need-first-line-requires
+first-line-requires c κs = search needs
+
+in-range-requires : tie.Need-in-range-requires
+in-range-requires c κs = search needs
+
+returns : tie.Need-returns
+unfolding lineTest
+returns c =
+    let start = c .before .before .before .before in
+    arm (λ t. lineTest t (start .args .k) (getD (lines (start .args .rest .now)) 0 noLine)) (c .before .enum-told .given .1) (c .line-laid-out .ensures)
+
+returns-2 : tie.Need-returns-2
+unfolding lineTest lineInRange
+returns-2 c =
+    let start = c .before .before .before .before .before in
+    arm (λ t. lineTest t (start .args .k) (getD (lines (start .args .rest .now)) 0 noLine)) (c .before .before .enum-told2 .given .1)
+    (c .in-range .ensures ∙ ap (textInRange (start .args .k)) (c .before .first-line .ensures))
+
+pub passes-spec : {M : Type 1} → statement M
+passes-spec =
+    tie.close
+    (tie.spec
+    enum-told
+    line-laid-out-requires
+    enum-told-2
+    first-line-requires
+    in-range-requires
+    returns
+    returns-2)
