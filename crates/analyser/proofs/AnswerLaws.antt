@@ -32,10 +32,11 @@ use Rattle.routine.proofs.SpellingLaws.{accepted-ascii}
 use Rattle.routine.proofs.AnswerLaws.{SameButAnswers, same-but-answers}
 use Rattle.report.specs.Report.{boundText, runText}
 use Rattle.report.proofs.ReportLaws.{Small, bound-fits, run-fits}
-use Rattle.answers.specs.Answers.{reported, refused, ofReading, answerOf}
+use Rattle.answers.specs.Answers.{reported, refused, memoryLimit, ofReading, answerOf}
 use Rattle.answers.proofs.AnswerLaws.{never, from-reading, place-from}
 use Rattle.conversions.proofs.FunctionLaws.{import-reported, import-place, export-reported, export-place}
-use Rattle.analyser.specs.Answers.{memoryLimit, ofVerdict, boundRoutine, runRoutine, boundAnswer, runAnswer}
+use Rattle.conformance.proofs.FunctionLaws.{replay-reported, replay-place}
+use Rattle.analyser.specs.Answers.{ofVerdict, boundRoutine, runRoutine, boundAnswer, runAnswer}
 use Rattle.analyser.specs.Functions.{reportLength}
 use Rattle.analyser.specs.Promises.{BoundReported, WithinReport, RunAccepted, FilledIn, ReportsKept, RunsKept, AnswersIrrelevant, PassingIsAscii, ReportsFit, PlacesSmall}
 
@@ -144,6 +145,7 @@ reports-fit = (
   λ text n bs e. of-run text n bs e,
   λ words primitives n bs e. let r = import-reported words primitives n bs e in (r .1, r .2),
   λ text n bs e. let r = export-reported text n bs e in (r .1, r .2),
+  λ text trace n bs e. let r = replay-reported text trace n bs e in (r .1, r .2),
 )
   where
     of-bound : (text : List ℕ) (n : ℕ) (bs : List ℕ) → boundAnswer text n ≡ reported bs → (length bs ≤ memoryLimit) × (memoryLimit ≤ n)
@@ -196,6 +198,7 @@ places-small = (
   of-run,
   λ words primitives n r e. omega (arith, import-place words primitives n r e),
   λ text n r e. omega (arith, export-place text n r e),
+  λ text trace n r e. omega (arith, replay-place text trace n r e),
 )
   where
     of-bound : (text : List ℕ) (n : ℕ) (r : Refusal) → boundAnswer text n ≡ refused r → place r ≤ 62000

@@ -28,14 +28,16 @@ use Rattle.reader.specs.declared.Routine.{Routine}
 use Rattle.reader.specs.Reader.{codes, sizes, Holds, Limited}
 use Rattle.report.specs.Decode.{reportOf}
 use Rattle.report.proofs.DecodeLaws.{report-of, report-of-run}
-use Rattle.answers.specs.Answers.{Answer, reported, memory, answerOf}
+use Rattle.answers.specs.Answers.{Answer, reported, memoryLimit, memory, answerOf}
 use Rattle.answers.specs.Answers as answers
 use Rattle.answers.specs.declared.Answer as code
 use Rattle.answers.specs.declared.Answer.the-variants.{Reported, Refused}
 use Rattle.answers.proofs.AnswerLaws.{lent-short, reading-refused, reading-passed}
 use Rattle.conversions.specs.Answers.{conversionLimit, importAnswer, exportAnswer}
 use Rattle.conversions.proofs.FunctionLaws.{import-reported, export-reported}
-use Rattle.analyser.specs.Answers.{memoryLimit, ofVerdict, boundRoutine, runRoutine, boundAnswer, runAnswer}
+use Rattle.conformance.specs.Answers.{replayAnswer}
+use Rattle.conformance.proofs.FunctionLaws.{replay-reported}
+use Rattle.analyser.specs.Answers.{ofVerdict, boundRoutine, runRoutine, boundAnswer, runAnswer}
 use Rattle.analyser.specs.Held.{routineIn, Printable, Shareable}
 use Rattle.analyser.specs.Functions.{reportLength, Delivers, toldLength, wordOf, Tells, AnswerTold, AnswersTold}
 use Rattle.analyser.specs.Promises.{SafeReport, ExactReport, WithinReport, RunAccepted}
@@ -273,6 +275,13 @@ export-limits text n = record {
   refusal = places-small .3 text n;
 }
 
+replay-limits : (text trace : List ℕ) (n : ℕ) → WithinLimits memoryLimit (replayAnswer text trace n)
+replay-limits text trace n = record {
+  small = omega arith;
+  report = λ bs e. let r = replay-reported text trace n bs e in (r .0, r .1);
+  refusal = places-small .4 text trace n;
+}
+
 -- what holds of the number
 tells : {most : ℕ} {a : Answer} → WithinLimits most a → (w : ℕ) → w ≡ wordOf (answerOf a) → Tells most a w
 unfolding wordOf answerOf
@@ -306,6 +315,7 @@ answers-told = (
   λ text text′ n n′. told memoryLimit _ _ (run-limits text n) (run-limits text′ n′),
   λ words words′ primitives primitives′ n n′. told conversionLimit _ _ (import-limits words primitives n) (import-limits words′ primitives′ n′),
   λ text text′ n n′. told conversionLimit _ _ (export-limits text n) (export-limits text′ n′),
+  λ text text′ trace trace′ n n′. told memoryLimit _ _ (replay-limits text trace n) (replay-limits text′ trace′ n′),
 )
 
 module _ (text : List ℕ) (n : ℕ) where
@@ -326,3 +336,6 @@ module _ (text : List ℕ) (n : ℕ) where
 
 pub import-tells : (words primitives : List ℕ) (n w : ℕ) → w ≡ wordOf (answerOf (importAnswer words primitives n)) → Tells conversionLimit (importAnswer words primitives n) w
 import-tells words primitives n = tells (import-limits words primitives n)
+
+pub replay-tells : (text trace : List ℕ) (n w : ℕ) → w ≡ wordOf (answerOf (replayAnswer text trace n)) → Tells memoryLimit (replayAnswer text trace n) w
+replay-tells text trace n = tells (replay-limits text trace n)

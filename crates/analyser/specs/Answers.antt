@@ -6,12 +6,8 @@ use Rattle.bounds.specs.Tree.{Report, Verdict, bound}
 use Rattle.bounds.specs.Tree as verdicts
 use Rattle.bounds.specs.Run.{run}
 use Rattle.routine.specs.Routine.{Routine, readBound, readRun}
-use Rattle.answers.specs.Answers.{Answer, reported, refused, lending, ofReading}
+use Rattle.answers.specs.Answers.{Answer, reported, refused, memoryLimit, lending, ofReading}
 use Rattle.report.specs.Report.{boundText, runText, refusalText}
-
--- "report memory under 128 bytes", checked first
-abbrev pub memoryLimit : ℕ
-memoryLimit = 128
 
 -- of a verdict: the text of its report, or its refusal
 unfoldable pub ofVerdict : (Report → List ℕ) → Verdict → Answer

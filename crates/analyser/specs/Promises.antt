@@ -22,11 +22,12 @@ use Rattle.routine.specs.Layout.{layout, body, codeLines}
 use Rattle.routine.specs.Routine.{Routine, readBound, readRun}
 use Rattle.routine.specs.Routine as readings
 use Rattle.report.specs.Report.{share, Nearest, boundText, runText}
-use Rattle.answers.specs.Answers.{Answer, reported, refused, answerOf}
+use Rattle.answers.specs.Answers.{Answer, reported, refused, memoryLimit, answerOf}
 use Rattle.inverses.specs.Sections.{replaced, primitivesLine}
 use Rattle.conversions.specs.Answers.{conversionLimit, importAnswer, exportAnswer}
 use Rattle.conversions.specs.Promises.{BeginsAtZero}
-use Rattle.analyser.specs.Answers.{memoryLimit, boundAnswer, runAnswer}
+use Rattle.conformance.specs.Answers.{replayAnswer}
+use Rattle.analyser.specs.Answers.{boundAnswer, runAnswer}
 use Rattle.analyser.specs.Functions.{reportLength}
 
 -- the bytes are the bound's report, with the figures q, of the routine x that the text holds
@@ -110,6 +111,7 @@ ReportsFit =
     × ((text : List ℕ) (n : ℕ) → ReportFits memoryLimit n (runAnswer text n))
     × ((words primitives : List ℕ) (n : ℕ) → ReportFits conversionLimit n (importAnswer words primitives n))
     × ((text : List ℕ) (n : ℕ) → ReportFits conversionLimit n (exportAnswer text n))
+    × ((text trace : List ℕ) (n : ℕ) → ReportFits memoryLimit n (replayAnswer text trace n))
 
 -- the place of a refusal is 62,000 at most
 abbrev pub PlaceSmall : Answer → Type 0
@@ -122,6 +124,7 @@ PlacesSmall =
     × ((text : List ℕ) (n : ℕ) → PlaceSmall (runAnswer text n))
     × ((words primitives : List ℕ) (n : ℕ) → PlaceSmall (importAnswer words primitives n))
     × ((text : List ℕ) (n : ℕ) → PlaceSmall (exportAnswer text n))
+    × ((text trace : List ℕ) (n : ℕ) → PlaceSmall (replayAnswer text trace n))
 
 -- "An import followed by a bound gives what the written file gives": the file with the lines made of its own words has its bound and its run
 abbrev pub ImportsBound : Type 0

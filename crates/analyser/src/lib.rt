@@ -13,10 +13,11 @@ ghost use Rattle.bounds.specs.Run.{run};
 ghost use Rattle.findings.specs.Found.{Shows};
 ghost use Rattle.runs.specs.Contract.{verdictOf};
 ghost use Rattle.reader.specs.Reader.{Limited};
-ghost use Rattle.answers.specs.Answers.{memory, answerOf};
+ghost use Rattle.answers.specs.Answers.{memoryLimit, memory, answerOf};
 ghost use Rattle.answers.specs.declared.Answer.the-variants.{Refused};
 ghost use Rattle.conversions.specs.Answers.{conversionLimit, importAnswer, exportAnswer};
-ghost use Rattle.analyser.specs.Answers.{memoryLimit, boundRoutine, runRoutine, boundAnswer, runAnswer};
+ghost use Rattle.conformance.specs.Answers.{replayAnswer};
+ghost use Rattle.analyser.specs.Answers.{boundRoutine, runRoutine, boundAnswer, runAnswer};
 ghost use Rattle.analyser.specs.Functions.{reportLength, Delivers, wordOf, toldLength, Tells};
 ghost use Rattle.analyser.specs.Held.{routineIn, Printable, Shareable};
 ghost use Rattle.analyser.specs.Promises.{SafeReport, ExactReport, WithinReport, RunAccepted};
@@ -241,4 +242,15 @@ pub extern "C" fn tickbound_export(text: &[u8], out: &mut [u8]) -> u64
 {
     let exported = conversions::export(text, out);
     word_of(exported)
+}
+
+// `conformance::replay` for C.
+#[no_mangle]
+pub extern "C" fn tickbound_replay(text: &[u8], trace: &[u8], out: &mut [u8]) -> u64
+    ensures { λ r. ⌜ r ≡ wordOf (answerOf (replayAnswer (now (text .entry)) (now (trace .entry)) (length (now (out .entry))))) ⌝ }
+    ensures { λ _. ⌜ now (out .exit) ≡ memory (replayAnswer (now (text .entry)) (now (trace .entry)) (length (now (out .entry)))) (now (out .entry)) ⌝ }
+    ensures tells { λ r. ⌜ Tells memoryLimit (replayAnswer (now (text .entry)) (now (trace .entry)) (length (now (out .entry)))) r ⌝ }
+{
+    let replayed = conformance::replay(text, trace, out);
+    word_of(replayed)
 }

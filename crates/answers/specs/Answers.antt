@@ -7,6 +7,8 @@ use lib.Dec.{ltb}
 use lib.ListN.{length, drop}
 use Rattle.refusals.specs.declared.Refusal.{Refusal}
 use Rattle.refusals.specs.declared.Refusal.the-variants.{ReportMemory}
+use Rattle.refusals.specs.declared.Verdict.{Verdict}
+use Rattle.refusals.specs.declared.Verdict.the-variants as verdicts
 use Rattle.routine.specs.Routine.{Routine, Reading, routine}
 use Rattle.routine.specs.Routine as readings
 use Rattle.answers.specs.declared.Answer as code
@@ -17,6 +19,10 @@ pub data Answer : Type 0 where
   reported : List ℕ → Answer
   refused : Refusal → Answer
 
+-- "report memory under 128 bytes", checked first
+abbrev pub memoryLimit : ℕ
+memoryLimit = 128
+
 -- refusal 10 where fewer bytes are lent than the limit, "checked first"; else the answer a
 abbrev pub lending : ℕ → ℕ → Answer → Answer
 lending limit n a = cond (ltb n limit) (refused ReportMemory) a
@@ -25,6 +31,11 @@ lending limit n a = cond (ltb n limit) (refused ReportMemory) a
 unfoldable pub ofReading : (Routine → Answer) → Reading → Answer
 ofReading f (readings.refused r) = refused r
 ofReading f (routine x) = f x
+
+-- of the verdict of a check: what is made, or its refusal
+unfoldable pub ofVerdict : List ℕ → Verdict → Answer
+ofVerdict made verdicts.Accepted = reported made
+ofVerdict made (verdicts.Refused r) = refused r
 
 -- "Lent report memory holds, after an accepted call, exactly the report and then its former bytes; after a refusal it is as before."
 unfoldable pub memory : Answer → List ℕ → List ℕ

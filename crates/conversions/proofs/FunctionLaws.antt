@@ -22,9 +22,9 @@ use Rattle.words.specs.Import.{importVerdict, importText}
 use Rattle.words.specs.Export.{exportBytes}
 use Rattle.words.proofs.ExportLaws.{export-fits}
 use Rattle.imports.proofs.ImportLaws as imports
-use Rattle.answers.specs.Answers.{reported, refused}
+use Rattle.answers.specs.Answers.{reported, refused, ofVerdict}
 use Rattle.answers.proofs.AnswerLaws.{never, lent-short, lent-enough, lent-reported, lent-place, from-reading, place-from, reading-refused, reading-passed}
-use Rattle.conversions.specs.Answers.{conversionLimit, ofVerdict, importAnswer, exportAnswer}
+use Rattle.conversions.specs.Answers.{conversionLimit, importAnswer, exportAnswer}
 
 -- ---- an import
 

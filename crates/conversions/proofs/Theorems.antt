@@ -21,9 +21,9 @@ use Rattle.inverses.specs.Sections.{replaced, primitivesLine}
 use Rattle.inverses.proofs.FileLaws.{replaced-whole}
 use Rattle.inverses.proofs.ExportedLaws.{export-imported, export-text}
 use Rattle.inverses.proofs.RestoredLaws.{import-exported}
-use Rattle.answers.specs.Answers.{reported}
+use Rattle.answers.specs.Answers.{reported, ofVerdict}
 use Rattle.answers.proofs.AnswerLaws.{never, lent-reported, from-reading}
-use Rattle.conversions.specs.Answers.{conversionLimit, ofVerdict, importAnswer, exportAnswer}
+use Rattle.conversions.specs.Answers.{conversionLimit, importAnswer, exportAnswer}
 use Rattle.conversions.specs.Promises.{BeginsAtZero, ExportsImport, ImportsReplace, ImportsExport}
 use Rattle.conversions.proofs.FunctionLaws.{import-made}
 

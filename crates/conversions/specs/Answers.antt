@@ -2,22 +2,15 @@
 -- (document 02, §2)
 use Prim.Native.Nat.{ℕ}
 use mathlib.Core.List.{List}
-use Rattle.refusals.specs.declared.Verdict.{Verdict}
-use Rattle.refusals.specs.declared.Verdict.the-variants as verdicts
 use Rattle.text.specs.Text.{lines}
 use Rattle.routine.specs.Routine.{readBound}
 use Rattle.words.specs.Import.{importVerdict, importText}
 use Rattle.words.specs.Export.{exportBytes}
-use Rattle.answers.specs.Answers.{Answer, reported, refused, lending, ofReading}
+use Rattle.answers.specs.Answers.{Answer, reported, lending, ofReading, ofVerdict}
 
 -- "Memory lent for the lines, or for the words, of under 32,768 bytes is refusal 10, checked first"
 abbrev pub conversionLimit : ℕ
 conversionLimit = 32768
-
--- of a verdict: what is made, or its refusal
-unfoldable pub ofVerdict : List ℕ → Verdict → Answer
-ofVerdict made verdicts.Accepted = reported made
-ofVerdict made (verdicts.Refused r) = refused r
 
 -- "An import then refuses its primitives line by 2 or 4 at place 1", and by "12, checked next in an import"; else it makes the lines
 unfoldable pub importAnswer : List ℕ → List ℕ → ℕ → Answer

@@ -1,0 +1,25 @@
+-- `analyser::tickbound_replay` meets its contract. Assumes nothing.
+use Rattle.analyser.specs.Functions.{wordOf}
+use mathlib.Core.Path.{ap, _∙_}
+use Rattle.analyser.proofs.FunctionLaws.{replay-tells}
+use borrow.Author.Needs.{needs}
+use Rattle.analyser.proofs.tickbound_replay.Statement.{statement}
+use Rattle.analyser.proofs.tickbound_replay.Tie as tie
+
+replay-requires : tie.Need-replay-requires
+replay-requires c κs = search needs
+
+word-of-requires : tie.Need-word-of-requires
+word-of-requires c κs = search needs
+
+same-length : tie.Need-same-length
+same-length c = search needs
+
+returns : tie.Need-returns
+returns c =
+    let b = c .before .before .before .replay .ensures in
+    let w = c .word-of .ensures ∙ ap wordOf (b .0) in
+    (w, (b .1, replay-tells _ _ _ _ w))
+
+pub tickbound-replay-spec : {M : Type 1} → statement M
+tickbound-replay-spec = tie.close (tie.spec replay-requires word-of-requires same-length returns)

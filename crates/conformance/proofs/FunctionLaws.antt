@@ -1,0 +1,144 @@
+-- Laws of the answers of a replay: in each case of the code, how large they are, and where they refuse. Assumes nothing.
+use Prim.Native.Nat.{ℕ, _+_, _<_, _≤_}
+use mathlib.Core.Path.{_≡_, refl, sym, ap, ap₂, _∙_}
+use mathlib.Core.Bool.{Bool, true, false, cond}
+use mathlib.Core.List.{List, _++_}
+use native.Mathlib.Omega.{arith}
+use lib.Dec.{ltb}
+use lib.ListN.{length, length-append, length-map, length-drop}
+use Rattle.refusals.specs.declared.Refusal.{Refusal}
+use Rattle.refusals.specs.declared.Refusal.the-variants.{ReportMemory, TextLength, Layout, OutOfRange}
+use Rattle.refusals.specs.Refusals.{place}
+use Rattle.refusals.specs.declared.Verdict.{Verdict}
+use Rattle.refusals.specs.declared.Verdict.the-variants.{Accepted, Refused}
+use Rattle.text.specs.Text.{bytes, lines}
+use Rattle.text.specs.Decimal.{decimal}
+use Rattle.text.proofs.DecimalLaws.{decimal-length}
+use Rattle.routine.specs.declared.RefusedLine.{RefusedLine}
+use Rattle.routine.specs.declared.RefusedLine.the-variants.{Nowhere as nowhere, Line as line}
+use Rattle.routine.specs.Routine.{readRun}
+use Rattle.routine.specs.Routine as readings
+use Rattle.routine.proofs.PlaceLaws.{read-run-place}
+use Rattle.reader.specs.declared.Routine.{Routine}
+use Rattle.reader.specs.Reader.{codes, Holds, Limited}
+use Rattle.traces.specs.Traces.{traceLimit, layoutFault, rangeFault, refusedAt, lineVerdict, traceVerdict, entries}
+use Rattle.traces.proofs.TraceLaws.{entries-few, layout-place, range-place}
+use Rattle.replays.specs.declared.Replayed.{Replayed}
+use Rattle.replays.specs.declared.Replayed.the-variants.{Agrees, Differs}
+use Rattle.replays.specs.Replay.{Outcome, agreed, differed, replay}
+use Rattle.replays.specs.Held.{ofReplayed}
+use Rattle.replays.proofs.Theorems.{differs-where}
+use Rattle.answers.specs.Answers.{Answer, reported, refused, memoryLimit, ofVerdict}
+use Rattle.answers.proofs.AnswerLaws.{never, lent-short, from-reading, place-from, reading-refused, reading-passed}
+use Rattle.conformance.specs.Answers.{outcomeText, replayRoutine, replayAnswer}
+use Rattle.conformance.specs.Held.{outcomeIn}
+
+pub addresses-fit : (x : Routine) → Limited x → x .first + length (codes x) ≤ 65536
+addresses-fit x l = let n = l .sized .few in let f = l .first in omega arith
+
+-- ---- what is printed
+
+pub text-agrees : (x : Replayed) → x ≡ Agrees → outcomeText (ofReplayed x) ≡ bytes "AGREES\n"
+unfolding outcomeText ofReplayed
+text-agrees x e = rw e refl
+
+pub text-differs : (x : Replayed) (n : ℕ) → x ≡ Differs n → outcomeText (ofReplayed x) ≡ bytes "DIFFERS " ++ decimal n ++ bytes "\n"
+unfolding outcomeText ofReplayed
+text-differs x n e = rw e refl
+
+differed-length : (n : ℕ) → length (bytes "DIFFERS " ++ decimal n ++ bytes "\n") ≡ 8 + length (decimal n) + 1
+differed-length n = simp length-append
+
+pub agrees-length : (x : Replayed) → x ≡ Agrees → length (outcomeText (ofReplayed x)) ≡ 7
+agrees-length x e = rw (text-agrees x e) refl
+
+pub differs-length : (x : Replayed) (n : ℕ) → x ≡ Differs n → length (outcomeText (ofReplayed x)) ≡ 8 + length (decimal n) + 1
+differs-length x n e = rw (text-differs x n e) (differed-length n)
+
+-- a line's number has four digits at most
+outcome-length : (o : Outcome) → ((n : ℕ) → o ≡ differed n → n < 10000) → (1 ≤ length (outcomeText o)) × (length (outcomeText o) ≤ 13)
+unfolding outcomeText
+outcome-length agreed h = (omega arith, omega arith)
+outcome-length (differed n) h =
+    let l = differed-length n in
+    let d = decimal-length 4 n (h n refl) (omega arith) in
+    (omega arith, omega arith)
+
+-- ---- a trace
+
+pub lines-few : (trace : List ℕ) → traceVerdict trace ≡ Accepted → length (lines trace) ≤ 4097
+unfolding entries
+lines-few trace e = let h = entries-few trace e in let k = rw (length-map, length-drop) at h in omega arith
+
+trace-place : (trace : List ℕ) (r : Refusal) → traceVerdict trace ≡ Refused r → place r ≤ 4098
+unfolding traceVerdict lineVerdict refusedAt place
+trace-place trace r e = go (ltb traceLimit (length trace)) (layoutFault (lines trace)) (rangeFault (lines trace)) e
+  where
+    go : (b : Bool) (a c : RefusedLine) → cond b (Refused TextLength) (refusedAt a Layout (refusedAt c OutOfRange Accepted)) ≡ Refused r → place r ≤ 4098
+    go true a c f = let q : TextLength ≡ r = cc in rw (← q) (omega arith)
+    go false (line n) c f = let q : Layout n ≡ r = cc in let h = layout-place trace n (e ∙ ap Refused (sym q)) in rw (← q) (h .1)
+    go false nowhere (line n) f = let q : OutOfRange n ≡ r = cc in let h = range-place trace n (e ∙ ap Refused (sym q)) in rw (← q) (omega (arith, h .1))
+    go false nowhere nowhere f = absurd (let z : _≡_ {A = ℕ} 0 1 = cc in omega arith)
+
+-- ---- a routine
+
+module _ (trace : List ℕ) (accepted : traceVerdict trace ≡ Accepted) where
+  pub said-length : (x : Routine) → (1 ≤ length (outcomeText (outcomeIn x trace))) × (length (outcomeText (outcomeIn x trace)) ≤ 13)
+  said-length x = outcome-length (outcomeIn x trace) (λ n e. let (k, q, f) = differs-where _ _ _ (entries trace) .0 n e in let l = entries-few trace accepted in let t = f .there in omega arith)
+
+  pub said : (x : Routine) (s : Replayed) → ofReplayed s ≡ outcomeIn x trace → ofVerdict (outcomeText (outcomeIn x trace)) (traceVerdict trace) ≡ reported (outcomeText (ofReplayed s))
+  unfolding ofVerdict
+  said x s e = rw (accepted, ← e) refl
+
+pub said-refused : (trace made : List ℕ) (r : Refusal) → traceVerdict trace ≡ Refused r → ofVerdict made (traceVerdict trace) ≡ refused r
+unfolding ofVerdict
+said-refused trace made r e = rw e refl
+
+-- what is said of the routine that is held is said of the routine
+pub held-answer : (x : readings.Routine) (h : Routine) → Holds x h → (trace : List ℕ) → replayRoutine trace x ≡ ofVerdict (outcomeText (outcomeIn h trace)) (traceVerdict trace)
+unfolding replayRoutine
+held-answer x h p trace = rw (← p .code, ← p .start, ← p .answered) refl
+
+-- ---- a text
+
+module _ (text trace : List ℕ) (n : ℕ) where
+  pub replay-short : n < 128 → replayAnswer text trace n ≡ refused ReportMemory
+  unfolding replayAnswer
+  replay-short = lent-short memoryLimit n _
+
+  pub replay-refused : 128 ≤ n → (x : Refusal) → readRun text ≡ readings.refused x → replayAnswer text trace n ≡ refused x
+  unfolding replayAnswer
+  replay-refused = reading-refused (replayRoutine trace) (readRun text) memoryLimit n
+
+  pub replay-passed : 128 ≤ n → (x : readings.Routine) → readRun text ≡ readings.routine x → replayAnswer text trace n ≡ replayRoutine trace x
+  unfolding replayAnswer
+  replay-passed = reading-passed (replayRoutine trace) (readRun text) memoryLimit n
+
+  -- a report
+  pub replay-reported : (bs : List ℕ) → replayAnswer text trace n ≡ reported bs → (1 ≤ length bs) × (length bs ≤ 128) × (128 ≤ n)
+  unfolding replayAnswer replayRoutine ofVerdict
+  replay-reported bs e =
+      let a = from-reading (replayRoutine trace) (readRun text) memoryLimit n bs e in
+      let x = a .routine in
+      let o = replay (x .code) (x .start) (x .answers) (entries trace) in
+      go o (λ m q k. let (j, p, f) = differs-where _ _ _ (entries trace) .0 m q in let l = entries-few trace k in let t = f .there in omega arith) (traceVerdict trace) refl (a .lent) (a .gives)
+    where
+      go : (o : Outcome) → ((m : ℕ) → o ≡ differed m → traceVerdict trace ≡ Accepted → m < 10000) → (v : Verdict) → traceVerdict trace ≡ v → 128 ≤ n → ofVerdict (outcomeText o) v ≡ reported bs
+          → (1 ≤ length bs) × (length bs ≤ 128) × (128 ≤ n)
+      go o h Accepted q l e =
+          let f : outcomeText o ≡ bs = cc in
+          let k = outcome-length o (λ m p. h m p q) in
+          rw (← f) (k .0, omega (arith, k .1), l)
+      go o h (Refused r) q l e = never r bs e
+
+  -- a refusal
+  pub replay-place : (r : Refusal) → replayAnswer text trace n ≡ refused r → place r ≤ 32769
+  unfolding replayAnswer replayRoutine ofVerdict
+  replay-place r =
+      place-from 32769 (replayRoutine trace) (readRun text) memoryLimit n r
+      (read-run-place text)
+      (λ x e f. go (outcomeText (replay (x .code) (x .start) (x .answers) (entries trace))) (traceVerdict trace) refl f)
+    where
+      go : (made : List ℕ) (v : Verdict) → traceVerdict trace ≡ v → ofVerdict made v ≡ refused r → place r ≤ 32769
+      go made Accepted q f = never r made (sym f)
+      go made (Refused x) q f = let h : x ≡ r = cc in omega (arith, trace-place trace r (q ∙ ap Refused h))

@@ -1,0 +1,103 @@
+// The replay on texts and lent memory. The meaning is in specs/.
+use answers::Answer;
+use reader::Routine;
+use refusals::Refusal;
+use refusals::Verdict;
+use replays::Replayed;
+use rows::Reader;
+ghost use mathlib.Core.Path.{_≡_};
+ghost use mathlib.Core.List.{_++_};
+ghost use Prim.Native.Nat.{_≤_};
+ghost use lib.ListN.{length, drop};
+ghost use Rattle.text.specs.Text.{lines};
+ghost use Rattle.reader.specs.Reader.{Limited};
+ghost use Rattle.traces.specs.Traces.{traceVerdict};
+ghost use Rattle.replays.specs.Held.{ofReplayed};
+ghost use Rattle.answers.specs.Answers.{ofVerdict, memory, answerOf};
+ghost use Rattle.conformance.specs.Answers.{outcomeText, replayAnswer};
+ghost use Rattle.conformance.specs.Held.{outcomeIn};
+
+// What the replay of an accepted trace says of the routine.
+fn followed(routine: Routine, trace: &[u8]) -> Replayed
+    requires { ⌜ Limited routine × (length (lines (now trace)) ≤ 4097) ⌝ }
+    ensures { λ r. ⌜ ofReplayed r ≡ outcomeIn routine (now (trace .entry)) ⌝ }
+{
+    let columns = routine.columns;
+    let codes = columns.codes;
+    let operands = columns.operands;
+    let cycles = columns.cycles;
+    let words = columns.words;
+    let extras = columns.extras;
+    let sizes = routine.sizes;
+    let fields = routine.fields;
+    let start = routine.start;
+    let answers = routine.answers;
+    let values = answers.values;
+    let given = answers.count;
+    let count = routine.count;
+    let blocks = routine.blocks;
+    replays::replay(
+        &codes[..count],
+        &operands[..count],
+        &cycles[..count],
+        &words[..count],
+        &extras[..count],
+        &sizes[..blocks],
+        routine.first,
+        start,
+        fields,
+        &values[..given],
+        trace,
+    )
+}
+
+// Puts what a replay says at the start of out, and answers its length.
+fn put_outcome(out: &mut [u8], said: Replayed) -> usize
+    requires { ⌜ length (outcomeText (ofReplayed said)) ≤ length (now out) ⌝ }
+    ensures { λ r. ⌜ r ≡ length (outcomeText (ofReplayed said)) ⌝ }
+    ensures { λ _. ⌜ now (out .exit) ≡ outcomeText (ofReplayed said) ++ drop (length (outcomeText (ofReplayed said))) (now (out .entry)) ⌝ }
+{
+    match said {
+        Replayed::Agrees => text::put(out, 0, b"AGREES\n"),
+        Replayed::Differs(n) => {
+            let a = text::put(out, 0, b"DIFFERS ");
+            let b = text::put_decimal(out, a, n as u64);
+            text::put(out, b, b"\n")
+        }
+    }
+}
+
+// The answer of the replay to a routine and a trace.
+fn replay_trace(routine: Routine, trace: &[u8], out: &mut [u8]) -> Answer
+    requires { ⌜ Limited routine × (128 ≤ length (now out)) ⌝ }
+    ensures { λ r. ⌜ r ≡ answerOf (ofVerdict (outcomeText (outcomeIn routine (now (trace .entry)))) (traceVerdict (now (trace .entry)))) ⌝ }
+    ensures { λ _. ⌜ now (out .exit) ≡ memory (ofVerdict (outcomeText (outcomeIn routine (now (trace .entry)))) (traceVerdict (now (trace .entry)))) (now (out .entry)) ⌝ }
+{
+    let verdict = traces::check_trace(trace);
+    match verdict {
+        Verdict::Accepted => {
+            let said = followed(routine, trace);
+            let n = put_outcome(out, said);
+            Answer::Reported(n)
+        }
+        Verdict::Refused(refusal) => Answer::Refused(refusal),
+    }
+}
+
+// The replay of a card's trace on a routine file: `AGREES` or `DIFFERS` and a line in the lent memory, or a refusal.
+pub fn replay(text: &[u8], trace: &[u8], out: &mut [u8]) -> Answer
+    ensures { λ r. ⌜ r ≡ answerOf (replayAnswer (now (text .entry)) (now (trace .entry)) (length (now (out .entry)))) ⌝ }
+    ensures { λ _. ⌜ now (out .exit) ≡ memory (replayAnswer (now (text .entry)) (now (trace .entry)) (length (now (out .entry)))) (now (out .entry)) ⌝ }
+{
+    if out.len() < 128 {
+        return Answer::Refused(Refusal::ReportMemory);
+    }
+    let verdict = rows::check(Reader::Run, text);
+    match verdict {
+        Verdict::Accepted => {
+            let routine = reader::routine_of(text);
+            replay_trace(routine, trace, out)
+        }
+        Verdict::Refused(refusal) => Answer::Refused(refusal),
+    }
+}

@@ -1,0 +1,30 @@
+-- `replay::answer` meets its contract: what is printed is what the answer and its memory say. Assumes nothing.
+use mathlib.Core.Path.{_∙_}
+use lib.ListN.{length}
+use borrow.Author.Needs.{needs}
+use Rattle.conformance.specs.Answers.{replayAnswer}
+use Rattle.console.proofs.PrintLaws.{line-held, line-printed}
+use Rattle.replay.proofs.answer.Statement.{statement}
+use Rattle.replay.proofs.answer.Tie as tie
+
+replay-requires : tie.Need-replay-requires
+replay-requires c κs = search needs
+
+put-line-requires : tie.Need-put-line-requires
+put-line-requires c κs =
+    let b = c .before .before .before in
+    let s = b .before .before .before .before .before in
+    line-held (replayAnswer (s .args .text .now) (s .args .trace .now) (length (s .args .out .now))) (s .args .out .now) (b .replay .ensures .0) (b .replay .ensures .1) (s .pre)
+
+same-length : tie.Need-same-length
+same-length c = search needs
+
+returns : tie.Need-returns
+returns c =
+    let l = c .before .before in
+    let b = l .before .before .before .before in
+    let s = b .before .before .before .before .before in
+    (l .put-line .ensures .0, l .put-line .ensures .1 ∙ line-printed (replayAnswer (s .args .text .now) (s .args .trace .now) (length (s .args .out .now))) (s .args .out .now) (b .replay .ensures .0) (b .replay .ensures .1))
+
+pub answer-spec : {M : Type 1} → statement M
+answer-spec = tie.close (tie.spec replay-requires put-line-requires same-length returns)
