@@ -12,6 +12,14 @@ extern "C" {
         lines_length: usize,
     ) -> u64;
     fn tickbound_export(text: *const u8, text_length: usize, words: *mut u8, words_length: usize) -> u64;
+    fn tickbound_replay(
+        text: *const u8,
+        text_length: usize,
+        trace: *const u8,
+        trace_length: usize,
+        report: *mut u8,
+        report_length: usize,
+    ) -> u64;
 }
 
 #[link(name = "interrupts", kind = "static")]
@@ -44,6 +52,12 @@ pub fn import(words: &[u8], primitives: &[u8], lines: &mut [u8]) -> u64 {
 pub fn export(text: &[u8], words: &mut [u8]) -> u64 {
     // SAFETY: as above.
     unsafe { tickbound_export(start(text), text.len(), start_mut(words), words.len()) }
+}
+
+pub fn replay(text: &[u8], trace: &[u8], report: &mut [u8]) -> u64 {
+    let (length, lent) = (trace.len(), report.len());
+    // SAFETY: as above, of three memories.
+    unsafe { tickbound_replay(start(text), text.len(), start(trace), length, start_mut(report), lent) }
 }
 
 /// The run of a file, interrupted after `n` steps and bounded afresh; or the number of its refusal.

@@ -21,7 +21,7 @@ const FIGURE_4: Base = File(|| include_str!("../../examples/figure4.txt").to_str
 const STOP: Base = File(|| file(1000, "STOP", "1", "ACCU", "0", "0 STOP -\n"));
 
 /// A file from its budget, kinds with cycles, cells and code; TICK is 1000, words and extras are 0.
-fn file(budget: u32, kinds: &str, cycles: &str, names: &str, cells: &str, code: &str) -> String {
+pub(crate) fn file(budget: u32, kinds: &str, cycles: &str, names: &str, cells: &str, code: &str) -> String {
     let zeros = vec!["0"; kinds.split(' ').count()].join(" ");
     let prices = format!("{kinds}\n{cycles}\n{zeros}\n{zeros}");
     format!("BUDGET TICK\n{budget} 1000\n{prices}\n-\n-\n-\n{names}\n{cells}\n-\n-\nAT OP ARG\n{code}")
@@ -34,7 +34,7 @@ fn branches(count: usize) -> String {
 }
 
 /// As many PUSH, then STOP.
-fn pushes(count: usize) -> String {
+pub(crate) fn pushes(count: usize) -> String {
     let code: String = (0..count).map(|i| format!("{i} PUSH -\n")).collect();
     file(1000, "PUSH STOP", "1 1", "ACCU", "0", &format!("{code}{count} STOP -\n"))
 }

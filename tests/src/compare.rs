@@ -41,31 +41,38 @@ pub fn differs(
     }
 }
 
-/// Compares both functions on a text, with enough memory and with too little, sometimes with every length; gives the answers
+/// Compares a function that writes a report, with enough memory and with too little, sometimes with every length; gives the answer
 /// wanted.
+pub fn compare_report(
+    random: &mut Random,
+    call: &dyn Fn(&mut [u8]) -> u64,
+    own: &dyn Fn(usize) -> Answer,
+) -> Result<Answer, String> {
+    let wanted = own(LENT);
+    let pattern = random.next() as u8;
+    let enough = if random.one_in(3) { MEMORY } else { random.within(MEMORY, LENT) };
+    let short = if random.one_in(3) { MEMORY - 1 } else { random.below(MEMORY) };
+    let lengths = if random.one_in(200) { (0..=LENT).collect() } else { vec![enough, short] };
+    let found = lengths.into_iter().find_map(|length| match length >= MEMORY {
+        true => differs(call, LENT, length, pattern, &wanted),
+        false => differs(call, LENT, length, pattern, &own(length)),
+    });
+    found.map_or_else(|| Ok(wanted.clone()), |what| Err(format!("{what}\nwanted: {}", shown(&wanted))))
+}
+
+/// Compares both functions on a text; gives the answers wanted.
 pub fn compare(random: &mut Random, text: &[u8]) -> Result<(Answer, Answer), String> {
-    let wanted = (bound_answer(text, LENT), run_answer(text, LENT));
-    let functions: [(&str, Function, &Answer, fn(&[u8], usize) -> Answer); 2] =
-        [("bound", analyser::bound, &wanted.0, bound_answer), ("run", analyser::run, &wanted.1, run_answer)];
-    for (name, function, answer, own) in functions {
-        let pattern = random.next() as u8;
-        let enough = if random.one_in(3) { MEMORY } else { random.within(MEMORY, LENT) };
-        let short = if random.one_in(3) { MEMORY - 1 } else { random.below(MEMORY) };
-        let lengths = if random.one_in(200) { (0..=LENT).collect() } else { vec![enough, short] };
+    let mut of = |name: &str, function: Function, own: fn(&[u8], usize) -> Answer| {
         let copy = text.to_vec();
-        let call = |memory: &mut [u8]| function(&copy, memory);
-        let found = lengths.into_iter().find_map(|length| match length >= MEMORY {
-            true => differs(&call, LENT, length, pattern, answer),
-            false => differs(&call, LENT, length, pattern, &own(text, length)),
-        });
-        if let Some(what) = found {
-            return Err(format!("{name} {what}\nwanted: {}", shown(answer)));
+        let answer = compare_report(random, &|memory| function(&copy, memory), &|lent| own(text, lent))
+            .map_err(|what| format!("{name} {what}"))?;
+        if copy == text {
+            Ok(answer)
+        } else {
+            Err(format!("{name} wrote the text"))
         }
-        if copy != text {
-            return Err(format!("{name} wrote the text"));
-        }
-    }
-    Ok(wanted)
+    };
+    Ok((of("bound", analyser::bound, bound_answer)?, of("run", analyser::run, run_answer)?))
 }
 
 pub fn shown(answer: &Answer) -> String {
@@ -73,13 +80,13 @@ pub fn shown(answer: &Answer) -> String {
 }
 
 /// The figures of a report of the run, or the first four of one of the bound.
-fn figures(report: &[u8]) -> Vec<u64> {
+pub fn figures(report: &[u8]) -> Vec<u64> {
     let values = std::str::from_utf8(report).unwrap().lines().nth(1).unwrap();
     values.split(' ').take(4).map(|w| w.parse().unwrap()).collect()
 }
 
-/// An accepted file with numbers for each `?` and other answers.
-fn filled(random: &mut Random, text: &[u8]) -> Vec<u8> {
+/// A file that passes refusals 1 to 6, with numbers for each `?` and other answers.
+pub fn filled(random: &mut Random, text: &[u8]) -> Vec<u8> {
     let text = std::str::from_utf8(text).unwrap();
     // a primitive may be named ANSWER: the heading is looked for after the first line of code
     let heading = text.lines().skip(line::CODE).position(|l| l == "ANSWER").map(|at| at + line::CODE);

@@ -1,12 +1,14 @@
 //! The analyser's C functions and programs compared with the independent implementation: on the cases of document 01 and of the change
-//! requests, on texts and on words, with the answers that these papers give them; on functions that OCaml compiled; and on files and
-//! words from a seed.
+//! requests, on texts, words and traces, with the answers that these papers give them; on functions that OCaml compiled; and on files,
+//! words and traces from a seed.
 mod causes;
 mod compare;
 mod extras;
 mod handles;
 mod imports;
 mod pinned;
+mod replays;
+mod traces;
 
 use causes::Causes;
 use compare::{by_programs, file};
@@ -19,14 +21,17 @@ use independent::compiled::functions;
 use independent::damage::damaged;
 use independent::generate::draft;
 use independent::random::Random;
+use independent::replay_cases;
 use independent::report::{bound_answer, told, Answer, MEMORY};
 use independent::routine::{line, read, KINDS};
 use independent::texts::{texts, TEXTS};
 use independent::word_cases::{self, CASES};
 use independent::word_draft;
-use pinned::{pinned, pinned_export, pinned_import};
+use pinned::{pinned, pinned_export, pinned_import, pinned_replay};
+use replays::{replay_by_program, replayed};
 use std::collections::{BTreeMap, BTreeSet};
 use std::path::Path;
+use traces::Traces;
 
 /// Disagreements shown in full; all are counted.
 const SHOWN: u64 = 5;
@@ -46,6 +51,7 @@ struct Tally {
     extras: Extras,
     handles: Compared,
     causes: Causes,
+    traces: Traces,
 }
 
 impl Tally {
@@ -98,6 +104,13 @@ impl Tally {
         self.causes.note_import(&import, &answer, came_back);
         programs.map_or(Ok(()), |programs| import_by_program(programs, &import, &answer))
     }
+
+    /// All comparisons on a file and a trace for it.
+    fn trace(&mut self, random: &mut Random, text: &[u8], programs: Option<&Path>) -> Result<(), String> {
+        let (replay, answer) = replayed(random, text)?;
+        self.traces.note(&replay);
+        programs.map_or(Ok(()), |programs| replay_by_program(programs, &replay, &answer))
+    }
 }
 
 /// The cases of the document and the texts, and that none was lost.
@@ -137,6 +150,18 @@ fn compare_words(tally: &mut Tally, programs: &Path, random: &mut Random) {
     }
 }
 
+/// The replays with pinned answers.
+fn compare_replays(tally: &mut Tally, programs: &Path, random: &mut Random) {
+    let cases = replay_cases::replays();
+    let (found, wanted) = (cases.len(), replay_cases::CASES);
+    let count = if found == wanted { Ok(()) } else { Err(format!("{found}, not {wanted}")) };
+    tally.count("the count of the replays", &[], count);
+    for case in &cases {
+        let found = pinned_replay(programs, random, case);
+        tally.count(&format!("the replay {}", case.name), &[], found);
+    }
+}
+
 /// The files that the programs of `crates/` are run with stand as they are made.
 fn compare_program_files(tally: &mut Tally) {
     for (path, made) in program_files() {
@@ -147,15 +172,19 @@ fn compare_program_files(tally: &mut Tally) {
     }
 }
 
-/// Files enough that every kind, every refusal of a text, every use of an extra, every pair with a handle and every cause must come up.
+/// Files enough that every kind, every refusal of a text, every use of an extra, every pair with a handle, every cause and every way in
+/// which a trace compares must come up.
 const MANY: u64 = 5_000;
 
 /// Whether what was compared had all kinds in accepted code and in accepted words, reports, each refusal of a text, extras wherever they
-/// count, handles in operations on two cells, and each cause by which words are refused.
+/// count, handles in operations on two cells, each cause by which words are refused, and traces that agree, differ and are refused by
+/// each cause.
 fn covers(tally: &Tally) -> Result<(), String> {
     let missing: Vec<u32> = (0..=11).filter(|n| *n != 10 && !tally.answers.contains_key(n)).collect();
     let counts = tally.extras.counts().into_iter().chain(tally.handles.counts()).chain(tally.causes.counts());
-    let rare: Vec<_> = counts.filter(|(_, count)| *count < MANY / 200).collect();
+    let too_few = counts.chain(tally.traces.counts()).filter(|(_, count)| *count < MANY / 200);
+    let rare: Vec<_> =
+        too_few.chain(tally.traces.rare().into_iter().filter(|(_, count)| *count < MANY / 1000)).collect();
     let kinds = [tally.kinds.len(), tally.causes.kinds()];
     if kinds == [KINDS.len(); 2] && missing.is_empty() && rare.is_empty() && tally.interruptions >= MANY / 2 {
         Ok(())
@@ -194,6 +223,7 @@ fn main() {
     compare_program_files(&mut tally);
     compare_pinned(&mut tally, programs, &mut Random::new(seed));
     compare_words(&mut tally, programs, &mut Random::new(seed));
+    compare_replays(&mut tally, programs, &mut Random::new(seed));
     for number in 0..count {
         let mut random = Random::new(seed.wrapping_mul(1_000_003).wrapping_add(number));
         let mut parts = draft(&mut random);
@@ -203,6 +233,8 @@ fn main() {
         tally.count(&format!("file {number} of seed {seed}"), &text, found);
         let found = tally.words(&mut random, given);
         tally.count(&format!("words {number} of seed {seed}"), &[], found);
+        let found = tally.trace(&mut random, &text, given);
+        tally.count(&format!("trace {number} of seed {seed}"), &[], found);
     }
 
     if count >= MANY {
@@ -220,7 +252,8 @@ fn main() {
         println!("files with {what}: {count}");
     }
     println!("kinds in the words of accepted imports: {}", tally.causes.kinds());
-    for (what, count) in tally.causes.counts() {
+    let traces = tally.traces.counts().into_iter().chain(tally.traces.rare());
+    for (what, count) in tally.causes.counts().into_iter().chain(traces) {
         println!("{what}: {count}");
     }
     println!("files given to the programs too: {}", tally.given_to_programs);

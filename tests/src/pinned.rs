@@ -2,10 +2,13 @@
 //! programs must give these.
 use crate::compare::{by_programs, compare, shown};
 use crate::imports::{export_by_program, exported, import_by_program, imported};
+use crate::replays::{compare_replay, replay_by_program};
 use independent::analyser::{self, Function};
 use independent::change::Text;
 use independent::random::Random;
+use independent::replay::replay_answer;
 use independent::report::{bound_answer, printed, run_answer, Answer};
+use independent::trace_draft::Replay;
 use independent::word_cases::Case;
 use independent::word_draft::Import;
 use independent::words::{export_answer, import_answer, MEMORY};
@@ -67,4 +70,13 @@ pub fn pinned_export(programs: &Path, random: &mut Random, case: &Case<Vec<u8>>)
     both("export", &call, case.lent, &own, &printed(&case.told))?;
     let answer = exported(random, &case.read, &bound_answer(&case.read, MEMORY))?;
     export_by_program(programs, &case.read, &answer)
+}
+
+pub fn pinned_replay(programs: &Path, random: &mut Random, case: &Case<Replay>) -> Result<(), String> {
+    let Replay { text, trace } = &case.read;
+    let own = replay_answer(text, trace, case.lent);
+    let call = |memory: &mut [u8]| analyser::replay(text, trace, memory);
+    both("replay", &call, case.lent, &own, &printed(&case.told))?;
+    let answer = compare_replay(random, &case.read)?;
+    replay_by_program(programs, &case.read, &answer)
 }
