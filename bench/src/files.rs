@@ -1,6 +1,7 @@
-//! The files and words that are measured.
+//! The files, words and traces that are measured.
 use independent::draft::{Arg, Draft};
-use independent::routine::{jumps_at_a_cost, Argument, KINDS};
+use independent::routine::{jumps_at_a_cost, read, Argument, KINDS};
+use independent::trace_draft::{self, walk};
 use independent::words::{export_answer, MEMORY};
 use std::iter::repeat_n;
 use std::sync::OnceLock;
@@ -86,6 +87,17 @@ pub fn straight_path() -> Vec<u8> {
     code.extend(repeat_n(("CONST0", Nothing), rest));
     code.push(("STOP", Nothing));
     draft(&["0", &turns.to_string(), "#0"], blocks(4), code).text().into_bytes()
+}
+
+/// The routine file of that loop, made once.
+pub fn looping() -> &'static [u8] {
+    static TEXT: OnceLock<Vec<u8>> = OnceLock::new();
+    TEXT.get_or_init(straight_path)
+}
+
+/// The trace of that loop, with a step for each 8 bytes of these: 4,096 of 32,768.
+pub fn trace(bytes: usize) -> Vec<u8> {
+    trace_draft::text(&walk(&read(looping(), true).unwrap(), bytes / 8).steps)
 }
 
 /// 18 openings on each path, then STOP: all 2^18 paths. The wide one has 32 entries and 128 fields.

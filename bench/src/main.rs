@@ -1,9 +1,10 @@
-//! The speed of the analyser's bound, run, import and export, as a ratio against the independent implementation in the same run.
+//! The speed of the analyser's bound, run, import, export and replay, as a ratio against the independent implementation in the same run.
 mod clock;
 mod files;
 
 use clock::now;
 use independent::analyser::{self, Function};
+use independent::replay::replay_answer;
 use independent::report::{bound_answer, printed, run_answer, told, Answer, MEMORY};
 use independent::routine::TEXT_LIMIT;
 use independent::words::{self, export_answer, import_answer};
@@ -29,6 +30,12 @@ const IMPORT: Pair = Pair {
     lent: words::MEMORY,
 };
 const EXPORT: Pair = Pair { proved: analyser::export, independent: export_answer, lent: words::MEMORY };
+/// Of a trace, against the file of the loop.
+const REPLAY: Pair = Pair {
+    proved: |trace, report| analyser::replay(files::looping(), trace, report),
+    independent: |trace, lent| replay_answer(files::looping(), trace, lent),
+    lent: MEMORY,
+};
 
 /// A file, and the best times of one call of both.
 struct Measured {
@@ -109,7 +116,7 @@ fn head(name: &str, second: &str) {
 }
 
 fn main() {
-    let scanned: [(&str, fn(usize) -> Vec<u8>, Pair); 10] = [
+    let scanned: [(&str, fn(usize) -> Vec<u8>, Pair); 11] = [
         ("names on line 3", files::names, BOUND),
         ("spaces on line 3", files::spaces, BOUND),
         ("a kind repeated on line 3", files::repeated_kind, BOUND),
@@ -120,6 +127,7 @@ fn main() {
         ("the export of 1,024 instructions", files::instructions, EXPORT),
         ("the import of 1,024 branches to the last", files::branch_words, IMPORT),
         ("the export of 1,024 branches to the last", files::branches, EXPORT),
+        ("the replay of 4,096 lines", files::trace, REPLAY),
     ];
     let mut explored = vec![
         Measured::new("a straight path of 1,000,000 steps", files::straight_path(), BOUND),
@@ -129,6 +137,7 @@ fn main() {
         Measured::new("a file of 32,768 bytes", files::long_code(TEXT_LIMIT), BOUND),
         Measured::new("the import of 1,024 instructions", files::words(TEXT_LIMIT), IMPORT),
         Measured::new("the export of 1,024 instructions", files::instructions(TEXT_LIMIT), EXPORT),
+        Measured::new("the replay of 4,096 lines", files::trace(TEXT_LIMIT), REPLAY),
     ];
     let of_length = |bytes| scanned.map(|(name, text, pair)| Measured::new(name, text(bytes), pair));
     let (mut whole, mut half) = (of_length(TEXT_LIMIT), of_length(TEXT_LIMIT / 2));
