@@ -1,12 +1,13 @@
-/* The bound of a routine, the run of a routine, and its code from and to the compiler's words, for a loader in C.
+/* The bound of a routine, the run of a routine, its code from and to the compiler's words, and a card's trace held
+ * against its run, for a loader in C.
  *
  * `tickbound install PREFIX` puts this header into PREFIX/include and the library to link with into PREFIX/lib:
  * `cc -I PREFIX/include .. -L PREFIX/lib -ltickbound`, on x86-64 Linux. In the repository `rt staticlib analyser`
  * writes the same library to target/staticlib/libanalyser.a.
  *
  * `tickbound_bound` and `tickbound_run` read a routine file of `text_length` bytes at `text`, and write a report
- * into the `report_length` bytes lent at `report`. `tickbound_import` and `tickbound_export` write lines and words
- * in the same way.
+ * into the `report_length` bytes lent at `report`. `tickbound_replay` reads a trace of `trace_length` bytes at `trace`
+ * beside it. `tickbound_import` and `tickbound_export` write lines and words in the same way.
  *
  * - The memory that is lent for writing must not overlap what is read, and nothing else may write either during
  *   the call.
@@ -16,7 +17,7 @@
  *   TICKBOUND_REPORT_MEMORY bytes for a report or TICKBOUND_CODE_MEMORY for lines and words, is refused by 10,
  *   before anything is read.
  * - After a report (lines, words), the memory holds its bytes and then its former bytes. After a refusal it is
- *   unchanged. A report is text (two lines, each ending in a line feed); no 0 byte ends it.
+ *   unchanged. A report is text (two lines, one of a replay, each ending in a line feed); no 0 byte ends it.
  * - The functions keep nothing between calls, allocate nothing and may be called from several threads.
  *   Leave a call 256 KB of stack: it took under 144 KB at 32 openings. This is measured, not proved.
  *
@@ -30,9 +31,10 @@
  * report's length; a refused routine has no figures at all. Ask `tickbound_is_refused` before anything is
  * read from the report's memory.
  *
- * `tickbound_read_report` and `tickbound_read_run_report` read the figures of a report as numbers, and
- * `tickbound_tick` the TICK of a routine file. They stand in this header whole and need no library. A routine is
- * loaded only where its `cycles` are at most TICK: `share` is rounded and does not decide. */
+ * `tickbound_read_report` and `tickbound_read_run_report` read the figures of a report as numbers,
+ * `tickbound_read_replay_report` whether a trace agrees, and `tickbound_tick` the TICK of a routine file. They stand in
+ * this header whole and need no library. A routine is loaded only where its `cycles` are at most TICK: `share` is
+ * rounded and does not decide. */
 #ifndef TICKBOUND_H
 #define TICKBOUND_H
 
@@ -55,12 +57,15 @@ extern "C" {
 /* The longest text that is not refused by 1. */
 #define TICKBOUND_TEXT_LIMIT 32768
 
+/* The longest trace that is not refused by 1. */
+#define TICKBOUND_TRACE_LIMIT 131072
+
 /* The most letters that a path has. */
 #define TICKBOUND_PATH_LIMIT 32
 
 /* The numbers of the refusals. The place is 0 for 10 and 1, a line of the text for 2 to 6 and 11, an address of
  * the code for 7, 8 and 9, and for 12 the index of a word, from 0. An import refuses its primitives line by 2 or 4
- * at place 1. */
+ * at place 1. A replay refuses its trace by 1, 2 or 3, after its routine file: a line is then one of the trace. */
 enum {
     TICKBOUND_TEXT_TOO_LONG = 1,
     TICKBOUND_LAYOUT = 2,
@@ -81,6 +86,16 @@ uint64_t tickbound_bound(const uint8_t *text, size_t text_length, uint8_t *repor
 
 /* The report of the one run that the file gives: `CYCLES WORDS DEPTH STEPS` and their values. */
 uint64_t tickbound_run(const uint8_t *text, size_t text_length, uint8_t *report, size_t report_length);
+
+/* A card's trace, lines under `AT CYCLES`, held against the run that the file gives. The report is one line: `AGREES`,
+ * or `DIFFERS` and the number of the first line of the trace that differs, its line of names being line 1. A trace may
+ * end before the run does. BUDGET plays no part.
+ *
+ * Refused by 10; then by 1 to 6 and 11, as a run of the file is; then by 1 (at place 0), 2 and 3 (at a line of the
+ * trace) for the trace. So of a refusal by 1, 2 or 3 the place is in the routine file where `tickbound_run` refuses
+ * that file by any of 1 to 6 or by 11, and else in the trace. */
+uint64_t tickbound_replay(const uint8_t *text, size_t text_length, const uint8_t *trace, size_t trace_length,
+                          uint8_t *report, size_t report_length);
 
 /* The lines of the code that the compiler's words hold: `AT OP ARG` and a line for each instruction, from address 0.
  * The words are 32 bits each, the lowest byte first, numbered as in OCaml 4.13.1; `primitives` is the line of
@@ -121,6 +136,13 @@ struct tickbound_report {
 /* The figures of a run. */
 struct tickbound_run_report {
     uint64_t cycles, words, depth, steps;
+};
+
+/* What a replay says: whether the trace agrees, and otherwise the first line that differs. `line` is 0, which is no
+ * such line, where the trace agrees. */
+struct tickbound_replay_report {
+    bool agrees;
+    uint64_t line;
 };
 
 /* Bytes that are still to be read. The functions up to `tickbound_take_path` are for those below them: each passes over
@@ -205,6 +227,25 @@ static inline bool tickbound_read_run_report(const uint8_t *bytes, size_t length
         !tickbound_take_number(&left, " ", &read.cycles) || !tickbound_take_number(&left, " ", &read.words) ||
         !tickbound_take_number(&left, " ", &read.depth) || !tickbound_take_number(&left, "\n", &read.steps) ||
         left.count != 0) {
+        return false;
+    }
+    *report = read;
+    return true;
+}
+
+/* Reads the report of a replay. False, with `report` unchanged, where the bytes are not exactly a replay's report:
+ * `AGREES`, or `DIFFERS`, one space and a number above 1 (line 1, of names, never differs), and a line feed. */
+static inline bool tickbound_read_replay_report(const uint8_t *bytes, size_t length,
+                                                struct tickbound_replay_report *report) {
+    struct tickbound_bytes left = {bytes, length};
+    struct tickbound_replay_report read;
+    read.agrees = tickbound_take_string(&left, "AGREES\n");
+    read.line = 0;
+    if (!read.agrees && (!tickbound_take_string(&left, "DIFFERS ") || !tickbound_take_number(&left, "\n", &read.line) ||
+                         read.line < 2)) {
+        return false;
+    }
+    if (left.count != 0) {
         return false;
     }
     *report = read;

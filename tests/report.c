@@ -29,6 +29,7 @@ static void check(bool is_right, const char *what) {
 /* Figures that no report has, to show that refused bytes leave them. */
 static const struct tickbound_report former = {1, 2, 3, 4, 5, "TNT"};
 static const struct tickbound_run_report former_run = {1, 2, 3, 4};
+static const struct tickbound_replay_report former_replay = {true, 5};
 
 static bool same(const struct tickbound_report *a, const struct tickbound_report *b) {
     return a->cycles == b->cycles && a->words == b->words && a->depth == b->depth && a->steps == b->steps && a->share == b->share &&
@@ -37,6 +38,10 @@ static bool same(const struct tickbound_report *a, const struct tickbound_report
 
 static bool same_run(const struct tickbound_run_report *a, const struct tickbound_run_report *b) {
     return a->cycles == b->cycles && a->words == b->words && a->depth == b->depth && a->steps == b->steps;
+}
+
+static bool same_replay(const struct tickbound_replay_report *a, const struct tickbound_replay_report *b) {
+    return a->agrees == b->agrees && a->line == b->line;
 }
 
 /* The bytes are a report with these figures. */
@@ -51,6 +56,11 @@ static void reads_run(const char *bytes, uint64_t cycles, uint64_t words, uint64
     check(tickbound_read_run_report((const uint8_t *)bytes, strlen(bytes), &got) && same_run(&got, &wanted), bytes);
 }
 
+static void reads_replay(const char *bytes, bool agrees, uint64_t line) {
+    struct tickbound_replay_report got = former_replay, wanted = {agrees, line};
+    check(tickbound_read_replay_report((const uint8_t *)bytes, strlen(bytes), &got) && same_replay(&got, &wanted), bytes);
+}
+
 static bool is_refused(const uint8_t *bytes, size_t length) {
     struct tickbound_report got = former;
     return !tickbound_read_report(bytes, length, &got) && same(&got, &former);
@@ -61,6 +71,11 @@ static bool is_refused_run(const uint8_t *bytes, size_t length) {
     return !tickbound_read_run_report(bytes, length, &got) && same_run(&got, &former_run);
 }
 
+static bool is_refused_replay(const uint8_t *bytes, size_t length) {
+    struct tickbound_replay_report got = former_replay;
+    return !tickbound_read_replay_report(bytes, length, &got) && same_replay(&got, &former_replay);
+}
+
 /* The bytes are no report, and the figures stay as they are. */
 static void refuses(const char *bytes) {
     check(is_refused((const uint8_t *)bytes, strlen(bytes)), bytes);
@@ -68,6 +83,10 @@ static void refuses(const char *bytes) {
 
 static void refuses_run(const char *bytes) {
     check(is_refused_run((const uint8_t *)bytes, strlen(bytes)), bytes);
+}
+
+static void refuses_replay(const char *bytes) {
+    check(is_refused_replay((const uint8_t *)bytes, strlen(bytes)), bytes);
 }
 
 /* Every byte of a report exchanged for every byte: so many of these are reports, and each prints as it was read. */
@@ -207,6 +226,34 @@ int main(void) {
     refuses_run(RUN_NAMES "56 4 1 03\n");
     refuses_run(RUN_NAMES "56 4 1 -\n");
     refuses_run(RUN_NAMES "56 4 1 18446744073709551616\n");
+
+    reads_replay("AGREES\n", true, 0);
+    reads_replay("DIFFERS 2\n", false, 2);
+    reads_replay("DIFFERS 10\n", false, 10);
+    reads_replay("DIFFERS 4097\n", false, 4097);
+    reads_replay("DIFFERS " MOST "\n", false, UINT64_MAX);
+    check(is_refused_replay(NULL, 0), "no bytes");
+    check(is_refused_replay((const uint8_t *)"AGREES\n", sizeof "AGREES\n"), "a 0 after a replay's report");
+    refuses_replay("REFUSED 2 1\n");
+    refuses_replay(RUN_NAMES "56 4 1 3\n");
+    refuses_replay("AGREES");
+    refuses_replay("AGREES 2\n");
+    refuses_replay("AGREES \n");
+    refuses_replay("AGREES\n\n");
+    refuses_replay("AGREES\nDIFFERS 2\n");
+    refuses_replay("agrees\n");
+    refuses_replay("DIFFERS\n");
+    refuses_replay("DIFFERS \n");
+    refuses_replay("DIFFERS 0\n");
+    refuses_replay("DIFFERS 1\n");
+    refuses_replay("DIFFERS 02\n");
+    refuses_replay("DIFFERS -2\n");
+    refuses_replay("DIFFERS  2\n");
+    refuses_replay("DIFFERS 2");
+    refuses_replay("DIFFERS 2 \n");
+    refuses_replay("DIFFERS 2 3\n");
+    refuses_replay("DIFFERS 2\n\n");
+    refuses_replay("DIFFERS 18446744073709551616\n");
 
     tick_is("BUDGET TICK\n1000 1000\nSTOP\n", 1000);
     tick_is("BUDGET TICK\n1 4000000000\n", 4000000000u);
