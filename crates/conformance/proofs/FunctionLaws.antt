@@ -1,28 +1,26 @@
 -- Laws of the answers of a replay: in each case of the code, how large they are, and where they refuse. Assumes nothing.
 use Prim.Native.Nat.{ℕ, _+_, _<_, _≤_}
 use mathlib.Core.Path.{_≡_, refl, sym, ap, ap₂, _∙_}
-use mathlib.Core.Bool.{Bool, true, false, cond}
 use mathlib.Core.List.{List, _++_}
 use native.Mathlib.Omega.{arith}
-use lib.Dec.{ltb}
+use lib.IntN.{ℤ}
 use lib.ListN.{length, length-append, length-map, length-drop}
 use Rattle.refusals.specs.declared.Refusal.{Refusal}
-use Rattle.refusals.specs.declared.Refusal.the-variants.{ReportMemory, TextLength, Layout, OutOfRange}
+use Rattle.refusals.specs.declared.Refusal.the-variants.{ReportMemory}
 use Rattle.refusals.specs.Refusals.{place}
 use Rattle.refusals.specs.declared.Verdict.{Verdict}
 use Rattle.refusals.specs.declared.Verdict.the-variants.{Accepted, Refused}
 use Rattle.text.specs.Text.{bytes, lines}
 use Rattle.text.specs.Decimal.{decimal}
 use Rattle.text.proofs.DecimalLaws.{decimal-length}
-use Rattle.routine.specs.declared.RefusedLine.{RefusedLine}
-use Rattle.routine.specs.declared.RefusedLine.the-variants.{Nowhere as nowhere, Line as line}
+use Rattle.machine.specs.Machine.{State, Code}
 use Rattle.routine.specs.Routine.{readRun}
 use Rattle.routine.specs.Routine as readings
 use Rattle.routine.proofs.PlaceLaws.{read-run-place}
 use Rattle.reader.specs.declared.Routine.{Routine}
 use Rattle.reader.specs.Reader.{codes, Holds, Limited}
-use Rattle.traces.specs.Traces.{traceLimit, layoutFault, rangeFault, refusedAt, lineVerdict, traceVerdict, entries}
-use Rattle.traces.proofs.TraceLaws.{entries-few, layout-place, range-place}
+use Rattle.traces.specs.Traces.{traceVerdict, entries}
+use Rattle.traces.proofs.TraceLaws.{entries-few, trace-place}
 use Rattle.replays.specs.declared.Replayed.{Replayed}
 use Rattle.replays.specs.declared.Replayed.the-variants.{Agrees, Differs}
 use Rattle.replays.specs.Replay.{Outcome, agreed, differed, replay}
@@ -70,21 +68,15 @@ pub lines-few : (trace : List ℕ) → traceVerdict trace ≡ Accepted → lengt
 unfolding entries
 lines-few trace e = let h = entries-few trace e in let k = rw (length-map, length-drop) at h in omega arith
 
-trace-place : (trace : List ℕ) (r : Refusal) → traceVerdict trace ≡ Refused r → place r ≤ 4098
-unfolding traceVerdict lineVerdict refusedAt place
-trace-place trace r e = go (ltb traceLimit (length trace)) (layoutFault (lines trace)) (rangeFault (lines trace)) e
-  where
-    go : (b : Bool) (a c : RefusedLine) → cond b (Refused TextLength) (refusedAt a Layout (refusedAt c OutOfRange Accepted)) ≡ Refused r → place r ≤ 4098
-    go true a c f = let q : TextLength ≡ r = cc in rw (← q) (omega arith)
-    go false (line n) c f = let q : Layout n ≡ r = cc in let h = layout-place trace n (e ∙ ap Refused (sym q)) in rw (← q) (h .1)
-    go false nowhere (line n) f = let q : OutOfRange n ≡ r = cc in let h = range-place trace n (e ∙ ap Refused (sym q)) in rw (← q) (omega (arith, h .1))
-    go false nowhere nowhere f = absurd (let z : _≡_ {A = ℕ} 0 1 = cc in omega arith)
-
 -- ---- a routine
 
 module _ (trace : List ℕ) (accepted : traceVerdict trace ≡ Accepted) where
+  -- what is said of an accepted trace
+  outcome-fits : (c : Code) (s : State) (answers : List ℤ) → (1 ≤ length (outcomeText (replay c s answers (entries trace)))) × (length (outcomeText (replay c s answers (entries trace))) ≤ 13)
+  outcome-fits c s answers = outcome-length (replay c s answers (entries trace)) (λ n e. let (k, q, f) = differs-where c s answers (entries trace) .0 n e in let l = entries-few trace accepted in let t = f .there in omega arith)
+
   pub said-length : (x : Routine) → (1 ≤ length (outcomeText (outcomeIn x trace))) × (length (outcomeText (outcomeIn x trace)) ≤ 13)
-  said-length x = outcome-length (outcomeIn x trace) (λ n e. let (k, q, f) = differs-where _ _ _ (entries trace) .0 n e in let l = entries-few trace accepted in let t = f .there in omega arith)
+  said-length x = outcome-fits _ _ _
 
   pub said : (x : Routine) (s : Replayed) → ofReplayed s ≡ outcomeIn x trace → ofVerdict (outcomeText (outcomeIn x trace)) (traceVerdict trace) ≡ reported (outcomeText (ofReplayed s))
   unfolding ofVerdict
@@ -120,16 +112,12 @@ module _ (text trace : List ℕ) (n : ℕ) where
   replay-reported bs e =
       let a = from-reading (replayRoutine trace) (readRun text) memoryLimit n bs e in
       let x = a .routine in
-      let o = replay (x .code) (x .start) (x .answers) (entries trace) in
-      go o (λ m q k. let (j, p, f) = differs-where _ _ _ (entries trace) .0 m q in let l = entries-few trace k in let t = f .there in omega arith) (traceVerdict trace) refl (a .lent) (a .gives)
+      go (outcomeText (replay (x .code) (x .start) (x .answers) (entries trace))) (λ k. outcome-fits trace k (x .code) (x .start) (x .answers)) (traceVerdict trace) refl (a .lent) (a .gives)
     where
-      go : (o : Outcome) → ((m : ℕ) → o ≡ differed m → traceVerdict trace ≡ Accepted → m < 10000) → (v : Verdict) → traceVerdict trace ≡ v → 128 ≤ n → ofVerdict (outcomeText o) v ≡ reported bs
+      go : (said : List ℕ) → (traceVerdict trace ≡ Accepted → (1 ≤ length said) × (length said ≤ 13)) → (v : Verdict) → traceVerdict trace ≡ v → 128 ≤ n → ofVerdict said v ≡ reported bs
           → (1 ≤ length bs) × (length bs ≤ 128) × (128 ≤ n)
-      go o h Accepted q l e =
-          let f : outcomeText o ≡ bs = cc in
-          let k = outcome-length o (λ m p. h m p q) in
-          rw (← f) (k .0, omega (arith, k .1), l)
-      go o h (Refused r) q l e = never r bs e
+      go said h Accepted q l e = let f : said ≡ bs = cc in let k = h q in rw (← f) (k .0, omega (arith, k .1), l)
+      go said h (Refused r) q l e = never r bs e
 
   -- a refusal
   pub replay-place : (r : Refusal) → replayAnswer text trace n ≡ refused r → place r ≤ 32769

@@ -11,6 +11,7 @@ use lib.IntN.{pos, natAbs}
 use lib.ListN.{length, getD, drop, length-map, length-drop}
 use Rattle.refusals.specs.declared.Refusal.{Refusal}
 use Rattle.refusals.specs.declared.Refusal.the-variants.{TextLength, Layout, OutOfRange}
+use Rattle.refusals.specs.Refusals.{place}
 use Rattle.refusals.specs.declared.Verdict.{Verdict}
 use Rattle.refusals.specs.declared.Verdict.the-variants.{Accepted as accepted, Refused as refused}
 use Rattle.text.specs.Text.{bytes, equals, Line, lines, noLine}
@@ -22,7 +23,7 @@ use Rattle.routine.specs.declared.RefusedLine.{RefusedLine}
 use Rattle.routine.specs.declared.RefusedLine.the-variants.{Nowhere as nowhere, Line as line}
 use Rattle.routine.specs.Rows.{value, at}
 use Rattle.routine.specs.Routine.{naturalIn}
-use Rattle.routine.proofs.RangeLaws.{natural-within, natural-inside, inside-is}
+use Rattle.routine.proofs.RangeLaws.{natural-within, inside-is}
 use Rattle.traces.specs.Traces.{traceLimit, entryLimit, cycleRange, cycles, entryLaidOut, textLaidOut, lineLaidOut, entryInRange, textInRange, lineInRange, earliest, layoutFault, rangeFault, refusedAt, lineVerdict, traceVerdict, entryOf, entries}
 
 -- ---- the tests by the index of a line
@@ -190,14 +191,14 @@ entries-few text e =
     rw (length-map, length-drop) (omega arith)
 
 -- a line that fails is one of the lines, counted from 1
-place-within : (t : ℕ → Line → Bool) (k : ℕ) (ls : List Line) (n : ℕ) → earliest t k ls ≡ line n → (k < n) × (n ≤ k + length ls)
+place-within : (t : ℕ → Line → Bool) (k : ℕ) (ls : List Line) (n : ℕ) → earliest t k ls ≡ line n → n ≤ k + length ls
 unfolding earliest
 place-within t k [] n e = absurd (let z : _≡_ {A = ℕ} 0 1 = cc in omega arith)
 place-within t k (l ∷ ls) n e = go (place-within t (suc k) ls n) (t k l) e
   where
-    go : (earliest t (suc k) ls ≡ line n → (suc k < n) × (n ≤ suc k + length ls)) → (b : Bool) → cond b (earliest t (suc k) ls) (line (suc k)) ≡ line n → (k < n) × (n ≤ k + suc (length ls))
-    go after true e = let h = after e in (omega arith, omega arith)
-    go after false e = let q : suc k ≡ n = cc in (omega arith, omega arith)
+    go : (earliest t (suc k) ls ≡ line n → n ≤ suc k + length ls) → (b : Bool) → cond b (earliest t (suc k) ls) (line (suc k)) ≡ line n → n ≤ k + suc (length ls)
+    go after true e = let h = after e in omega arith
+    go after false e = let q : suc k ≡ n = cc in omega arith
 
 layout-place-from : (k : ℕ) (ls : List Line) (n : ℕ) → k ≤ suc entryLimit → earliest lineLaidOut k ls ≡ line n → n ≤ suc (suc entryLimit)
 unfolding earliest
@@ -208,60 +209,27 @@ layout-place-from k (l ∷ ls) n h e = go (λ i f. layout-place-from (suc k) ls 
     go after true q e = let i = index-low k l q in after (omega arith) e
     go after false q e = let r : suc k ≡ n = cc in omega arith
 
-layout-fault-low : (ls : List Line) (n : ℕ) → layoutFault ls ≡ line n → (0 < n) × (n ≤ suc (suc entryLimit))
+layout-fault-low : (ls : List Line) (n : ℕ) → layoutFault ls ≡ line n → n ≤ suc (suc entryLimit)
 unfolding layoutFault
-layout-fault-low [] n e = let r : 1 ≡ n = cc in (omega arith, omega arith)
-layout-fault-low (l ∷ ls) n e = (place-within lineLaidOut 0 (l ∷ ls) n e .0, layout-place-from 0 (l ∷ ls) n (omega arith) e)
+layout-fault-low [] n e = let r : 1 ≡ n = cc in omega arith
+layout-fault-low (l ∷ ls) n e = layout-place-from 0 (l ∷ ls) n (omega arith) e
 
--- which row refuses
+range-fault-low : (ls : List Line) (n : ℕ) → layoutFault ls ≡ nowhere → rangeFault ls ≡ line n → n ≤ suc (suc entryLimit)
+unfolding rangeFault
+range-fault-low ls n p q = let w = place-within lineInRange 0 ls n q in let k = layout-few ls p in omega arith
 
-at-layout : (a b : RefusedLine) (n : ℕ) → refusedAt a Layout (refusedAt b OutOfRange accepted) ≡ refused (Layout n) → a ≡ line n
-unfolding refusedAt
-at-layout nowhere nowhere n e = absurd (let z : _≡_ {A = ℕ} 0 1 = cc in omega arith)
-at-layout nowhere (line m) n e = absurd (let z : _≡_ {A = ℕ} 0 1 = cc in omega arith)
-at-layout (line m) b n e = cc
-
-at-range : (a b : RefusedLine) (n : ℕ) → refusedAt a Layout (refusedAt b OutOfRange accepted) ≡ refused (OutOfRange n) → (a ≡ nowhere) × (b ≡ line n)
-unfolding refusedAt
-at-range nowhere nowhere n e = absurd (let z : _≡_ {A = ℕ} 0 1 = cc in omega arith)
-at-range nowhere (line m) n e = (refl, (cc))
-at-range (line m) b n e = absurd (let z : _≡_ {A = ℕ} 0 1 = cc in omega arith)
-
--- a refusal other than 1 is that of the lines
-of-lines : (text : List ℕ) (r : Refusal) → traceVerdict text ≡ refused r → (TextLength ≡ r → ⊥) → lineVerdict (lines text) ≡ refused r
-unfolding traceVerdict
-of-lines text r = go (ltb traceLimit (length text))
+-- "else refusal 2 at the first line too many": no place is past it
+pub trace-place : (text : List ℕ) (r : Refusal) → traceVerdict text ≡ refused r → place r ≤ 4098
+unfolding traceVerdict lineVerdict refusedAt place
+trace-place text r = go (ltb traceLimit (length text)) (layoutFault (lines text)) (rangeFault (lines text)) refl refl
   where
-    go : (b : Bool) → cond b (refused TextLength) (lineVerdict (lines text)) ≡ refused r → (TextLength ≡ r → ⊥) → lineVerdict (lines text) ≡ refused r
-    go true e f = absurd (f (cc))
-    go false e f = e
-
--- "else refusal 2 at the first line too many"
-pub layout-place : (text : List ℕ) (n : ℕ) → traceVerdict text ≡ refused (Layout n) → (0 < n) × (n ≤ 4098)
-unfolding lineVerdict
-layout-place text n e =
-    let d : TextLength ≡ Layout n → ⊥ = λ q. let z : _≡_ {A = ℕ} 0 1 = cc in omega arith in
-    layout-fault-low (lines text) n (at-layout (layoutFault (lines text)) (rangeFault (lines text)) n (of-lines text (Layout n) e d))
-
-pub range-place : (text : List ℕ) (n : ℕ) → traceVerdict text ≡ refused (OutOfRange n) → (0 < n) × (n ≤ 4097)
-unfolding lineVerdict rangeFault
-range-place text n e =
-    let d : TextLength ≡ OutOfRange n → ⊥ = λ q. let z : _≡_ {A = ℕ} 0 1 = cc in omega arith in
-    let p = at-range (layoutFault (lines text)) (rangeFault (lines text)) n (of-lines text (OutOfRange n) e d) in
-    let q = place-within lineInRange 0 (lines text) n (p .1) in
-    let f = layout-few (lines text) (p .0) in
-    (q .0, omega arith)
+    go : (b : Bool) (a c : RefusedLine) → layoutFault (lines text) ≡ a → rangeFault (lines text) ≡ c → cond b (refused TextLength) (refusedAt a Layout (refusedAt c OutOfRange accepted)) ≡ refused r → place r ≤ 4098
+    go true a c p q e = let f : TextLength ≡ r = cc in rw (← f) (omega arith)
+    go false (line n) c p q e = let f : Layout n ≡ r = cc in let h = layout-fault-low (lines text) n p in rw (← f) h
+    go false nowhere (line n) p q e = let f : OutOfRange n ≡ r = cc in let h = range-fault-low (lines text) n p q in rw (← f) h
+    go false nowhere nowhere p q e = absurd (let z : _≡_ {A = ℕ} 0 1 = cc in omega arith)
 
 -- ---- the recorded steps
-
--- "AT is 0 to 62,000 and CYCLES 0 to 4,000,000,000", whatever a line says
-pub at-small : (text : List ℕ) → entryOf text .at ≤ 62000
-unfolding entryOf
-at-small text = natural-inside 0 62000 (value (at text)) .below
-
-pub cycles-small : (text : List ℕ) → entryOf text .cycles ≤ 4000000000
-unfolding entryOf
-cycles-small text = natural-inside 0 4000000000 (value (cycles text)) .below
 
 -- a line whose step has the numbers that its words spell
 pub record Spelt (text : List ℕ) : Type 0 where
