@@ -85,7 +85,8 @@ leads-by text l e q = rw (e, q) l
 -- ---- places
 
 -- a place on a line of n names, or 0
-pub place-few : (w : List ℕ) (ws : List (List ℕ)) → indexOf (place w ws) ≤ length ws
+pub place-few : (w : List ℕ) (ws : List (List ℕ)) → find w ws ≤ length ws
+unfolding find
 place-few w ws = go (place w ws) refl
   where
     go : (p : Place) → place w ws ≡ p → indexOf p ≤ length ws

@@ -79,7 +79,7 @@ fn argument_word(
     match instructions::argument_at(k) {
         Argument::Absent => 0,
         Argument::Target => offset_to(target_index(indices, first, k, w), index),
-        Argument::Primitive => text::index_of(layout::place_listed(primitives, w)) as i32,
+        Argument::Primitive => layout::index_listed(primitives, w) as i32,
         Argument::Within(_) => parts::number_of(values::number_range(), w),
     }
 }

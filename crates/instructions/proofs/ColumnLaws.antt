@@ -27,7 +27,7 @@ getD-any [] k d e h = absurd (not-suc-le-zero h)
 getD-any (x ∷ xs) zero d e h = refl
 getD-any (x ∷ xs) (suc k) d e h = getD-any xs k d e (le-of-suc-le-suc h)
 
-names-count : length kindNames ≡ 61
+pub names-count : length kindNames ≡ 61
 unfolding kinds kindNames
 names-count = refl
 

@@ -1,2 +1,3 @@
 pub mod ColumnLaws
 pub mod OpcodeLaws
+pub mod NameLaws

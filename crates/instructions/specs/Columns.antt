@@ -1,7 +1,7 @@
 -- The table by columns of numbers, as the code has it: what stands in each column at a kind.
-use Prim.Native.Nat.{ℕ}
+use Prim.Native.Nat.{ℕ, _+_, _-_, _*_, _%_}
 use mathlib.Core.List.{List, [], _∷_}
-use lib.ListN.{getD}
+use lib.ListN.{length, getD}
 use Rattle.numbers.specs.declared.Range.{Range}
 use Rattle.numbers.specs.Numbers.{range}
 use Rattle.numbers.specs.declared.Comparison.{Comparison}
@@ -14,11 +14,24 @@ use Rattle.instructions.specs.declared.Argument.{Argument}
 use Rattle.instructions.specs.declared.Argument.the-variants.{Absent, Target, Primitive, Within}
 use Rattle.instructions.specs.declared.Operation.{Operation}
 use Rattle.instructions.specs.declared.Operation.the-variants.{Nothing, Access, Drop, Assign, Constant, GetField, SetField, Branch, BranchIf, BranchIfNot, Call, Stop, Alter, Combine}
-use Rattle.instructions.specs.Kinds.{addresses, Kind, kind, kinds, stays}
+use Rattle.instructions.specs.Kinds.{addresses, Kind, kind, kinds, kindNames, stays}
 
 -- the kind at a place of the table, counted from 0; past its end, the last
 unfoldable pub kindAt : ℕ → Kind
 kindAt k = getD kinds k (kind 143 "STOP" Absent stays Stop 0)
+
+-- where each of the given words begins in a text of them, parted by single spaces, from s on; at the end, where one more would
+abbrev pub startsFrom : ℕ → List (List ℕ) → List ℕ
+startsFrom s [] = s ∷ []
+startsFrom s (w ∷ ws) = s ∷ startsFrom (s + length w + 1) ws
+
+-- where name k begins in the text of all names
+abbrev pub nameStart : ℕ → ℕ
+nameStart k = getD (startsFrom 0 kindNames) k 0
+
+-- a number by which the code tells the names of the kinds apart: from the first two bytes of a word, its last and its length
+abbrev pub nameKey : List ℕ → ℕ
+nameKey w = (getD w 0 0 + getD w 1 0 + 5 * getD w (length w - 1) 0 + 9 * length w) % 256
 
 -- what a kind takes
 unfoldable pub argumentCode : Argument → ℕ

@@ -1,11 +1,11 @@
 // The 61 instruction kinds, and their table by columns. The meaning is in specs/.
 ghost use mathlib.Core.Path.{_≡_};
-ghost use Prim.Native.Nat.{_+_, _≤_, _<_};
+ghost use Prim.Native.Nat.{ℕ, _+_, _≤_, _<_};
 ghost use lib.ListN.{length};
-ghost use Rattle.text.specs.Text.{place, among};
+ghost use Rattle.text.specs.Text.{equals, place, among};
 ghost use Rattle.text.specs.Memory.{over};
 ghost use Rattle.instructions.specs.Kinds.{kindNames, calls};
-ghost use Rattle.instructions.specs.Columns.{kindAt, argumentCode, rangeOf, operationCode};
+ghost use Rattle.instructions.specs.Columns.{kindAt, nameStart, nameKey, argumentCode, rangeOf, operationCode};
 ghost use Rattle.instructions.specs.Opcodes.{kindCoded};
 use cells::Binary;
 use cells::Unary;
@@ -15,6 +15,7 @@ use text::Place;
 mod arguments;
 mod columns;
 pub mod operations;
+mod slots;
 
 // "argument range after each": no argument, a number in a range, a target, or a primitive.
 // A kind with a target jumps there, and a kind with a primitive calls it.
@@ -122,18 +123,78 @@ pub fn fixed_at(k: usize) -> i32
     columns::FIXED[k] as i32
 }
 
-// The kind that a word names, by its place in the table.
+fn wide(x: u8) -> usize
+    ensures { λ r. ⌜ (r ≡ x) × (r < 256) ⌝ }
+{
+    x as usize
+}
+
+// Where name k begins in NAMES; at 61 where a name after the last would.
+fn name_start(k: usize) -> usize
+    requires { ⌜ k ≤ 61 ⌝ }
+    ensures { λ r. ⌜ r ≡ nameStart k ⌝ }
+{
+    slots::STARTS[k] as usize
+}
+
+// Whether w is the name of a kind.
+fn is_name_of(k: usize, w: &[u8]) -> bool
+    requires { ⌜ k < 61 ⌝ }
+    ensures { λ r. ⌜ r ≡ equals (now (w .entry)) (kindAt k .name) ⌝ }
+{
+    let start = name_start(k);
+    let next = name_start(k + 1);
+    text::same(w, &columns::NAMES[start..next - 1])
+}
+
+// The key of a word: no two names have the same.
+fn name_key(w: &[u8]) -> usize
+    requires { ⌜ (2 ≤ length (now w)) × (length (now w) ≤ 12) ⌝ }
+    ensures { λ r. ⌜ r ≡ nameKey (now (w .entry)) ⌝ }
+{
+    let n = w.len();
+    let first = wide(w[0]);
+    let second = wide(w[1]);
+    let last = wide(w[n - 1]);
+    (first + second + 5 * last + 9 * n) % 256
+}
+
+// The only kind whose name a word can be.
+fn candidate(w: &[u8]) -> usize
+    requires { ⌜ (2 ≤ length (now w)) × (length (now w) ≤ 12) ⌝ }
+    ensures low { λ r. ⌜ r < 61 ⌝ }
+    ensures only { λ r. ⌜ ((k : ℕ) → k < 61 → now (w .entry) ≡ kindAt k .name → r ≡ k) ⌝ }
+{
+    let key = name_key(w);
+    wide(slots::KINDS[key])
+}
+
+// The kind that a word names, by its place in the table: no search, since one kind alone can have the name.
 pub fn kind_named(w: &[u8]) -> Place
     ensures { λ r. ⌜ r ≡ place (now (w .entry)) kindNames ⌝ }
 {
-    text::find(w, &columns::NAMES)
+    if w.len() < 2 {
+        return Place::Missing;
+    }
+    if 12 < w.len() {
+        return Place::Missing;
+    }
+    let k = candidate(w);
+    if is_name_of(k, w) {
+        Place::At(k)
+    } else {
+        Place::Missing
+    }
 }
 
 // Whether a word names a kind.
 pub fn is_kind(w: &[u8]) -> bool
     ensures { λ r. ⌜ r ≡ among (now (w .entry)) kindNames ⌝ }
 {
-    text::is_among(w, &columns::NAMES)
+    let Place::At(_) = kind_named(w) else {
+        return false;
+    };
+    true
 }
 
 // The opcode of a kind.

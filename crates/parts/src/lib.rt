@@ -182,8 +182,8 @@ pub fn entry_of(
     let arg = text::word_at(text, 2);
     let k = text::index_of(instructions::kind_named(op));
     let called = instructions::calls_at(k);
-    let i = text::index_of(layout::place_listed(kinds, op));
-    let j = text::index_of(layout::place_listed(primitives, arg));
+    let i = layout::index_listed(kinds, op);
+    let j = layout::index_listed(primitives, arg);
     let code = code_of(k);
     let operand = operand_of(k, arg);
     let cycles = price_of(

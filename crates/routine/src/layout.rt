@@ -4,12 +4,13 @@ use crate::Column;
 use crate::Role;
 use crate::Section;
 use numbers::Range;
+use text::Lookup;
 use text::Place;
 ghost use mathlib.Core.Path.{_≡_};
 ghost use mathlib.Core.List.{[]};
 ghost use Prim.Native.Nat.{_<_};
 ghost use lib.ListN.{length, getD};
-ghost use Rattle.text.specs.Text.{lines, place, among};
+ghost use Rattle.text.specs.Text.{lines, lookup, find, among};
 ghost use Rattle.instructions.specs.Kinds.{addresses};
 ghost use Rattle.routine.specs.declared.Role.the-variants.{Code};
 ghost use Rattle.routine.specs.Layout.{layout, body, codeLines, list, sectionPlace, columnPlace, isNames, isValues, isRole, holdsCells, textAt};
@@ -185,24 +186,38 @@ pub fn listed_at(line: &[u8], k: usize) -> &[u8]
     text::word_at(line, k)
 }
 
-// Whether w is one of the words listed on a line.
+// Looks a word up among those listed on a line, and ends where it stands; of none where the line is `-`.
+pub fn look_up(line: &[u8], w: &[u8]) -> Lookup
+    ensures { λ r. ⌜ r ≡ lookup (now (w .entry)) (list (now (line .entry))) ⌝ }
+{
+    if text::same(line, b"-") {
+        return Lookup {
+            place: Place::Missing,
+            looked: 0,
+        };
+    }
+    text::find(w, line)
+}
+
+// Whether w is one of them.
 pub fn is_listed(w: &[u8], line: &[u8]) -> bool
     ensures { λ r. ⌜ r ≡ among (now (w .entry)) (list (now (line .entry))) ⌝ }
 {
-    if text::same(line, b"-") {
+    let found = look_up(line, w);
+    let place = found.place;
+    let Place::At(_) = place else {
         return false;
-    }
-    text::is_among(w, line)
+    };
+    true
 }
 
-// Where a word stands among those listed on a line.
-pub fn place_listed(line: &[u8], w: &[u8]) -> Place
-    ensures { λ r. ⌜ r ≡ place (now (w .entry)) (list (now (line .entry))) ⌝ }
+// Its place as an index; 0 where it is missing.
+pub fn index_listed(line: &[u8], w: &[u8]) -> usize
+    ensures { λ r. ⌜ r ≡ find (now (w .entry)) (list (now (line .entry))) ⌝ }
 {
-    if text::same(line, b"-") {
-        return Place::Missing;
-    }
-    text::find(w, line)
+    let found = look_up(line, w);
+    let place = found.place;
+    text::index_of(place)
 }
 
 // ---- ranges

@@ -249,7 +249,7 @@ fn earliest(
     let mut heading: usize = 0;
     while 0 < rest.len() {
         let line = text::first_line(rest);
-        let ended = text::line_ends(rest);
+        let ended = text::line_ends(rest, line.len());
         let role = role_of(passed, heading, line);
         if !passes(
             row,
@@ -266,7 +266,7 @@ fn earliest(
             return RefusedLine::Line((passed + 1) as u32);
         }
         heading = heading_after(passed, heading, line);
-        let next = text::next_lines(rest);
+        let next = text::after_line(rest, line.len());
         rest = next;
         passed += 1;
     }

@@ -6,11 +6,11 @@ use mathlib.Core.List.{List, [], _∷_}
 use native.Mathlib.Omega.{arith}
 use lib.Dec.{ltb}
 use lib.ListN.{length, getD, take, drop}
-use lib.Seq.{take-all, drop-nil, getD-drop}
+use lib.Seq.{length-take-le, take-all, drop-nil, getD-drop}
 use borrow.Author.Tests.{ltb-true, ltb-false}
 use Rattle.text.specs.Text.{isEmpty, split, Line, noLine, linesOf, lines}
 use Rattle.text.proofs.ScanLaws.{firstLength, past, cut-more, cut-last}
-use Rattle.text.proofs.PieceLaws.{split-some}
+use Rattle.text.proofs.PieceLaws.{split-some, first-le}
 
 -- a line that a line feed ends, and one that the end of the text ends
 
@@ -63,6 +63,10 @@ line-text s n q = go (ltb n (length s)) refl
     go false e =
         let h = ltb-false n (length s) e in
         ap (λ (ls : List Line). getD ls 0 noLine .text) (lines-last s n q h) ∙ last-text s ∙ sym (take-all n s h)
+
+-- its length
+pub line-length : (s : List ℕ) {n : ℕ} → n ≡ length (getD (lines s) 0 noLine .text) → n ≡ firstLength 10 s
+line-length s e = e ∙ ap length (line-text s (firstLength 10 s) refl) ∙ length-take-le (firstLength 10 s) s (first-le 10 s)
 
 pub line-ended : (s : List ℕ) (n : ℕ) → n ≡ firstLength 10 s → getD (lines s) 0 noLine .ended ≡ ltb n (length s)
 line-ended s n q = go (ltb n (length s)) refl

@@ -7,12 +7,13 @@ use mathlib.Core.List.{List, [], _∷_}
 use mathlib.Core.Logic.{⊎-elim}
 use native.Mathlib.Omega.{arith}
 use native.Mathlib.Numerals.{add-one}
-use native.Mathlib.Nat.{eq-or-lt-of-le}
+use native.Mathlib.Nat.{zero-add, eq-or-lt-of-le}
 use lib.Dec.{eqb}
 use lib.ListN.{length, getD, take, drop, length-drop, drop-of-length-le}
 use lib.Seq.{drop-cons, take-all}
 use borrow.Author.Tests.{eq-eqb, ne-eqb}
-use Rattle.text.specs.Text.{equals, onto, split, words, placeFrom}
+use Rattle.text.specs.Text.{equals, onto, split, words, placeFrom, looked, lookup}
+use Rattle.text.specs.declared.Lookup.{Lookup}
 use Rattle.text.specs.declared.Place.the-variants.{At, Missing}
 
 -- the length of a text's first piece
@@ -103,17 +104,31 @@ equals-end a b i h k =
     (λ (l : i < length b). rw (drop-of-length-le a h, drop-cons b i 0 l, ne-eqb i (length b) (omega arith)) refl)
     (eq-or-lt-of-le k)
 
--- a search among the words of l, whose first word has the length n: that word is w, it is another, or it is the last
+-- what looking w up comes to where k words before the given ones have been looked at
+abbrev pub lookupFrom : ℕ → List ℕ → List (List ℕ) → Lookup
+lookupFrom k w ws = record { place = placeFrom k w ws; looked = k + looked w ws }
+
+pub lookup-from : (w : List ℕ) (ws : List (List ℕ)) → lookup w ws ≡ lookupFrom 0 w ws
+lookup-from w ws = rw (zero-add (looked w ws)) refl
+
+-- among the words of l, whose first word has the length n: that word is w, it is another, or it is the last
 
 module _ (k : ℕ) (w l : List ℕ) (n : ℕ) (q : n ≡ firstLength 32 l) where
-  pub find-here : n < length l → equals w (take n l) ≡ true → placeFrom k w (words l) ≡ At k
+  pub find-here : n < length l → equals w (take n l) ≡ true → lookupFrom k w (words l) ≡ record { place = At k; looked = k + 1 }
   unfolding words
   find-here h e = rw (cut-more 32 l n q h, e) refl
 
-  pub find-next : n < length l → equals w (take n l) ≡ false → placeFrom k w (words l) ≡ placeFrom (k + 1) w (words (past n l))
+  pub find-next : n < length l → equals w (take n l) ≡ false → lookupFrom k w (words l) ≡ lookupFrom (k + 1) w (words (past n l))
   unfolding words
-  find-next h e = rw (cut-more 32 l n q h, e, add-one k) refl
+  find-next h e =
+      let ws = words (past n l) in
+      let s : k + suc (looked w ws) ≡ suc k + looked w ws = omega arith in
+      rw (cut-more 32 l n q h, e, add-one k) (ap (λ m. record { place = placeFrom (suc k) w ws; looked = m }) s)
 
-  pub find-last : length l ≤ n → placeFrom k w (words l) ≡ cond (equals w l) (At k) Missing
+  pub find-last : length l ≤ n → lookupFrom k w (words l) ≡ record { place = cond (equals w l) (At k) Missing; looked = k + 1 }
   unfolding words
-  find-last h = rw (cut-last 32 l n q h) refl
+  find-last h = rw (cut-last 32 l n q h) (last (equals w l))
+    where
+      last : (b : Bool) → _≡_ {A = Lookup} (record { place = cond b (At k) Missing; looked = k + suc (cond b 0 0) }) (record { place = cond b (At k) Missing; looked = k + 1 })
+      last true = refl
+      last false = refl

@@ -1,14 +1,15 @@
 -- Laws of texts: what holds of each byte of the pieces holds of each byte of the text; a word among the given ones is one of them. And
 -- of tests that hold together or agree. Assumes nothing.
-use mathlib.Core.Path.{_≡_, refl, sym, ap₂, subst, _∙_}
+use mathlib.Core.Path.{_≡_, refl, sym, ap, ap₂, subst, _∙_}
 use mathlib.Core.Bool.{Bool, true, false, cond, false≢true, and-eq-true-iff, _&&_}
 use mathlib.Core.List.{List, [], _∷_, _++_}
-use Prim.Native.Nat.{ℕ, zero, suc, _+_, _<_, _≤_}
+use Prim.Native.Nat.{ℕ, zero, suc, _+_, _-_, _<_, _≤_}
 use native.Mathlib.Omega.{arith}
+use native.Mathlib.Nat.{le-of-suc-le-suc, not-suc-le-zero}
 use lib.Dec.{eqb, leb, ltb}
 use lib.ListN.{length, getD}
-use borrow.Author.Tests.{eqb-true, ltb-true, ltb-false, lt-ltb, le-ltb, leb-true, leb-false, le-leb, lt-leb}
-use Rattle.text.specs.Text.{equals, onto, split, linesOf, lines, placeFrom, place, indexOf, find, among, all}
+use borrow.Author.Tests.{eqb-true, eq-eqb, ltb-true, ltb-false, lt-ltb, le-ltb, leb-true, leb-false, le-leb, lt-leb}
+use Rattle.text.specs.Text.{equals, onto, split, linesOf, lines, placeFrom, place, looked, indexOf, find, among, all}
 use Rattle.text.specs.declared.Place.{Place}
 use Rattle.text.specs.declared.Place.the-variants.{At, Missing}
 
@@ -86,6 +87,11 @@ equals-path (x ∷ xs) [] e = absurd (false≢true e)
 equals-path (x ∷ xs) (y ∷ ys) e =
     ap₂ _∷_ (eqb-true x y (cond-left (eqb x y) (equals xs ys) e)) (equals-path xs ys (cond-right (eqb x y) (equals xs ys) e))
 
+pub equals-self : (x : List ℕ) → equals x x ≡ true
+unfolding equals
+equals-self [] = refl
+equals-self (x ∷ xs) = rw (eq-eqb x x refl) (equals-self xs)
+
 -- a word among the given ones
 
 pub among-every : {P : List ℕ → Type 0} (w : List ℕ) (ws : List (List ℕ)) → among w ws ≡ true → Every P ws → P w
@@ -96,6 +102,17 @@ among-every {P} w (x ∷ xs) e (more p ps) = go (equals w x) refl e (λ q. among
     go : (b : Bool) → equals w x ≡ b → cond b true (among w xs) ≡ true → (among w xs ≡ true → P w) → P w
     go true s q ih = subst P (sym (equals-path w x s)) p
     go false s q ih = ih q
+
+-- the word at a place is one of them
+pub among-at : (ws : List (List ℕ)) (k : ℕ) → k < length ws → among (getD ws k []) ws ≡ true
+unfolding among
+among-at [] k h = absurd (not-suc-le-zero h)
+among-at (x ∷ xs) zero h = rw (equals-self x) refl
+among-at (x ∷ xs) (suc k) h = go (equals (getD xs k []) x) (among-at xs k (le-of-suc-le-suc h))
+  where
+    go : (b : Bool) → among (getD xs k []) xs ≡ true → cond b true (among (getD xs k []) xs) ≡ true
+    go true e = refl
+    go false e = e
 
 abbrev pub isFound : Place → Bool
 isFound (At k) = true
@@ -126,6 +143,41 @@ find-below w ws h = go (place w ws) refl
     go : (p : Place) → place w ws ≡ p → indexOf p < length ws
     go (At k) e = omega (arith, place-below 0 w ws e)
     go Missing e = h
+
+-- and there it stands
+place-word : (k : ℕ) (w : List ℕ) (ws : List (List ℕ)) {n : ℕ} → placeFrom k w ws ≡ At n → (k ≤ n) × (getD ws (n - k) [] ≡ w)
+place-word k w [] e = let z : _≡_ {A = ℕ} 0 1 = cc in absurd (omega arith)
+place-word k w (x ∷ xs) {n} e = go (equals w x) refl e (place-word (suc k) w xs)
+  where
+    go : (b : Bool) → equals w x ≡ b → cond b (At k) (placeFrom (suc k) w xs) ≡ At n → (placeFrom (suc k) w xs ≡ At n → (suc k ≤ n) × (getD xs (n - suc k) [] ≡ w)) → (k ≤ n) × (getD (x ∷ xs) (n - k) [] ≡ w)
+    go true s q ih = let f : k ≡ n = cc in let z : n - k ≡ 0 = omega arith in (omega arith, rw z (sym (equals-path w x s)))
+    go false s q ih = let i = ih q in let z : n - k ≡ suc (n - suc k) = omega (arith, i .0) in (omega (arith, i .0), rw z (i .1))
+
+pub among-find : (w : List ℕ) (ws : List (List ℕ)) → among w ws ≡ true → (place w ws ≡ At (find w ws)) × (getD ws (find w ws) [] ≡ w)
+unfolding find
+among-find w ws h = go (place w ws) refl (sym (among-place 0 w ws) ∙ h)
+  where
+    go : (p : Place) → place w ws ≡ p → isFound p ≡ true → (p ≡ At (indexOf p)) × (getD ws (indexOf p) [] ≡ w)
+    go (At k) e q = let z : k ≡ k - 0 = omega arith in (refl, ap (λ i. getD ws i []) z ∙ place-word 0 w ws e .1)
+    go Missing e q = absurd (false≢true q)
+
+-- "those up to and with the one sought, or all of them where that one is missing"
+
+pub looked-found : (k : ℕ) (w : List ℕ) (ws : List (List ℕ)) {n : ℕ} → placeFrom k w ws ≡ At n → k + looked w ws ≡ suc n
+looked-found k w [] e = let z : _≡_ {A = ℕ} 0 1 = cc in absurd (omega arith)
+looked-found k w (x ∷ xs) {n} e = go (equals w x) e (looked-found (suc k) w xs)
+  where
+    go : (b : Bool) → cond b (At k) (placeFrom (suc k) w xs) ≡ At n → (placeFrom (suc k) w xs ≡ At n → suc k + looked w xs ≡ suc n) → k + suc (cond b 0 (looked w xs)) ≡ suc n
+    go true q ih = let f : k ≡ n = cc in omega arith
+    go false q ih = omega (arith, ih q)
+
+pub looked-missing : (k : ℕ) (w : List ℕ) (ws : List (List ℕ)) → placeFrom k w ws ≡ Missing → looked w ws ≡ length ws
+looked-missing k w [] e = refl
+looked-missing k w (x ∷ xs) e = go (equals w x) e (looked-missing (suc k) w xs)
+  where
+    go : (b : Bool) → cond b (At k) (placeFrom (suc k) w xs) ≡ Missing → (placeFrom (suc k) w xs ≡ Missing → looked w xs ≡ length xs) → suc (cond b 0 (looked w xs)) ≡ suc (length xs)
+    go true q ih = let z : _≡_ {A = ℕ} 0 1 = cc in absurd (omega arith)
+    go false q ih = ap suc (ih q)
 
 -- the bytes of a text's pieces
 

@@ -6,6 +6,7 @@ use Prim.Native.String.{String, [] as ends, _∷_ as _then_}
 use mathlib.Core.Bool.{Bool, true, false, cond, not, _&&_}
 use mathlib.Core.List.{List, [], _∷_}
 use lib.Dec.{eqb}
+use Rattle.text.specs.declared.Lookup.{Lookup}
 use Rattle.text.specs.declared.Place.{Place}
 use Rattle.text.specs.declared.Place.the-variants.{At, Missing}
 
@@ -67,6 +68,15 @@ placeFrom k w (x ∷ xs) = cond (equals w x) (At k) (placeFrom (suc k) w xs)
 -- counted from 0
 abbrev pub place : List ℕ → List (List ℕ) → Place
 place w ws = placeFrom 0 w ws
+
+-- "how many names it looked at: those up to and with the one sought, or all of them where that one is missing" (document 02 §5)
+abbrev pub looked : List ℕ → List (List ℕ) → ℕ
+looked w [] = 0
+looked w (x ∷ xs) = suc (cond (equals w x) 0 (looked w xs))
+
+-- what looking w up among the given words comes to
+abbrev pub lookup : List ℕ → List (List ℕ) → Lookup
+lookup w ws = record { place = place w ws; looked = looked w ws }
 
 -- a place as an index; 0 where the word is missing
 abbrev pub indexOf : Place → ℕ

@@ -2,7 +2,7 @@
 ghost use lib.ListN.{length, getD, drop};
 ghost use mathlib.Core.List.{[]};
 ghost use mathlib.Core.Path.{_≡_};
-ghost use Rattle.text.specs.Text.{equals, split, words, lines, noLine, place, indexOf, among};
+ghost use Rattle.text.specs.Text.{equals, split, words, lines, noLine, lookup, indexOf, among};
 ghost use Prim.Native.Nat.{suc, _+_, _-_, _*_, _≤_, min};
 ghost use Rattle.text.specs.Decimal.{digitsFrom, natural, negative, numeral, most, clamped, decimal};
 ghost use Rattle.text.specs.Magnitude.{held, toNumeral};
@@ -18,6 +18,12 @@ pub enum Numeral {
 pub enum Place {
     At(usize),
     Missing,
+}
+
+// What looking a word up among others comes to: where it stands, and how many of them were looked at.
+pub struct Lookup {
+    pub place: Place,
+    pub looked: usize,
 }
 
 // What is held of a natural number while it is read.
@@ -59,25 +65,34 @@ pub fn piece_length(s: &[u8], c: u8) -> usize
     i
 }
 
-// Where the first word of text stands that is w, counted from 0.
-pub fn find(w: &[u8], text: &[u8]) -> Place
-    ensures { λ r. ⌜ r ≡ place (now (w .entry)) (words (now (text .entry))) ⌝ }
+// Looks w up among the words of text: where the first stands that is w, and how many words were looked at. It ends there.
+pub fn find(w: &[u8], text: &[u8]) -> Lookup
+    ensures { λ r. ⌜ r ≡ lookup (now (w .entry)) (words (now (text .entry))) ⌝ }
 {
     let mut rest = text;
     let mut k = 0;
     let mut e = piece_length(rest, b' ');
     while e < rest.len() {
         if same(w, &rest[..e]) {
-            return Place::At(k);
+            return Lookup {
+                place: Place::At(k),
+                looked: k + 1,
+            };
         }
         rest = &rest[e + 1..];
         e = piece_length(rest, b' ');
         k += 1;
     }
     if same(w, rest) {
-        Place::At(k)
+        Lookup {
+            place: Place::At(k),
+            looked: k + 1,
+        }
     } else {
-        Place::Missing
+        Lookup {
+            place: Place::Missing,
+            looked: k + 1,
+        }
     }
 }
 
@@ -99,12 +114,24 @@ pub fn first_line(s: &[u8]) -> &[u8]
     &s[..e]
 }
 
-// Whether a line feed ends the first line of s.
-pub fn line_ends(s: &[u8]) -> bool
+// Whether a line feed ends the first line of s, which has e bytes.
+pub fn line_ends(s: &[u8], e: usize) -> bool
+    requires { ⌜ e ≡ length (getD (lines (now s)) 0 noLine .text) ⌝ }
     ensures { λ r. ⌜ r ≡ getD (lines (now (s .entry))) 0 noLine .ended ⌝ }
 {
-    let e = piece_length(s, b'\n');
     e < s.len()
+}
+
+// What follows the first line of s, which has e bytes, and its line feed; no bytes where there is none.
+pub fn after_line(s: &[u8], e: usize) -> &[u8]
+    requires { ⌜ e ≡ length (getD (lines (now s)) 0 noLine .text) ⌝ }
+    ensures lines { λ r. ⌜ lines (now r) ≡ drop 1 (lines (now (s .entry))) ⌝ }
+    ensures shorter { λ r. ⌜ length (now r) ≤ length (now (s .entry)) - 1 ⌝ }
+{
+    if e < s.len() {
+        return &s[e + 1..];
+    }
+    &s[..0]
 }
 
 // What follows the first line feed of s; no bytes where there is none.
@@ -112,11 +139,8 @@ pub fn next_lines(s: &[u8]) -> &[u8]
     ensures lines { λ r. ⌜ lines (now r) ≡ drop 1 (lines (now (s .entry))) ⌝ }
     ensures shorter { λ r. ⌜ length (now r) ≤ length (now (s .entry)) - 1 ⌝ }
 {
-    let e = piece_length(s, b'\n');
-    if e < s.len() {
-        return &s[e + 1..];
-    }
-    &s[..0]
+    let line = first_line(s);
+    after_line(s, line.len())
 }
 
 // What is left of s after its first k lines.
@@ -182,7 +206,9 @@ pub fn word_at(line: &[u8], k: usize) -> &[u8]
 pub fn is_among(w: &[u8], text: &[u8]) -> bool
     ensures { λ r. ⌜ r ≡ among (now (w .entry)) (words (now (text .entry))) ⌝ }
 {
-    let Place::At(_) = find(w, text) else {
+    let found = find(w, text);
+    let place = found.place;
+    let Place::At(_) = place else {
         return false;
     };
     true

@@ -69,7 +69,7 @@ fn line_laid_out(k: usize, rest: &[u8]) -> bool
     ensures { λ r. ⌜ r ≡ lineLaidOut k (getD (lines (now (rest .entry))) 0 noLine) ⌝ }
 {
     let line = text::first_line(rest);
-    let ended = text::line_ends(rest);
+    let ended = text::line_ends(rest, line.len());
     if ended {
         return laid_out(k, line);
     }

@@ -1,17 +1,15 @@
 -- `exports::argument_word` meets its contract: by what the kind takes. Assumes nothing.
 use Prim.Native.Nat.{suc, _≤_}
-use mathlib.Core.Path.{refl, sym, ap, subst, _∙_}
+use mathlib.Core.Path.{sym, ap, subst, _∙_}
 use native.Mathlib.Omega.{arith}
 use lib.IntN.{pos, _-ℤ_}
 use lib.ListN.{length}
 use mir.Syntax.{w32}
 use mir.ValLaws.{toZ-ofZ, toZ-pos}
-use Rattle.text.specs.Text.{indexOf}
 use Rattle.routine.specs.Layout.{list}
 use Rattle.routine.specs.Rows.{value}
 use Rattle.routine.specs.Routine.{inside}
 use Rattle.parts.proofs.WordLaws.{numbers-fit}
-use Rattle.parts.proofs.EntryLaws.{found}
 use Rattle.exports.specs.Lines.{Leads}
 use Rattle.exports.proofs.ArgumentLaws.{place-few, argument-absent, argument-target, argument-primitive, argument-within}
 use borrow.Author.Needs.{needs}
@@ -19,10 +17,10 @@ use Rattle.exports.proofs.argument_word.Statement.{statement}
 use Rattle.exports.proofs.argument_word.Tie as tie
 
 -- a primitive's place
-small : (c : tie.After-index-of) → c .index-of .result ≤ 32
+small : (c : tie.After-index-listed) → c .index-listed .result ≤ 32
 small c =
-    let s = c .before .before .before .before .before .before .before .before in
-    omega (arith, c .index-of .ensures ∙ ap indexOf (c .before .place-listed .ensures), place-few (s .args .w .now) (list (s .args .primitives .now)), s .pre .2)
+    let s = c .before .before .before .before .before .before .before in
+    omega (arith, c .index-listed .ensures, place-few (s .args .w .now) (list (s .args .primitives .now)), s .pre .2)
 
 argument-at-requires : tie.Need-argument-at-requires
 argument-at-requires c κs = search needs
@@ -45,11 +43,8 @@ offset-to-requires c κs = search needs
 enum-told-3 : tie.Need-enum-told-3
 enum-told-3 c = search needs
 
-place-listed-requires : tie.Need-place-listed-requires
-place-listed-requires c κs = search needs
-
-index-of-requires : tie.Need-index-of-requires
-index-of-requires c κs = search needs
+index-listed-requires : tie.Need-index-listed-requires
+index-listed-requires c κs = search needs
 
 cast-result : tie.Need-cast-result
 cast-result c = omega (arith, small c)
@@ -70,7 +65,7 @@ returns-2 : tie.Need-returns-2
 returns-2 c = toZ-ofZ w32 _ (search needs) ∙ c .offset-to .ensures ∙ ap (λ n. pos n -ℤ pos (suc (c .before .before .before .before .before .before .before .before .args .index))) (c .before .target-index .ensures .0) ∙ sym (argument-target (list (c .before .before .before .before .before .before .before .before .args .primitives .now)) (c .before .before .before .before .before .before .before .before .args .indices .now) (c .before .before .before .before .before .before .before .before .args .first) (c .before .before .before .before .before .before .before .before .args .index) (c .before .before .before .before .before .before .before .before .args .w .now) (sym (c .before .before .before .before .argument-at .ensures) ∙ c .before .before .enum-told2 .given .1))
 
 returns-3 : tie.Need-returns-3
-returns-3 c = toZ-pos w32 _ (omega (arith, small c)) ∙ ap pos (found _ _ _ _ (c .index-of .ensures) (c .before .place-listed .ensures) refl) ∙ sym (argument-primitive (list (c .before .before .before .before .before .before .before .before .args .primitives .now)) (c .before .before .before .before .before .before .before .before .args .indices .now) (c .before .before .before .before .before .before .before .before .args .first) (c .before .before .before .before .before .before .before .before .args .index) (c .before .before .before .before .before .before .before .before .args .w .now) (sym (c .before .before .before .before .argument-at .ensures) ∙ c .before .before .enum-told3 .given .1))
+returns-3 c = toZ-pos w32 _ (omega (arith, small c)) ∙ ap pos (c .index-listed .ensures) ∙ sym (argument-primitive (list (c .before .before .before .before .before .before .before .args .primitives .now)) (c .before .before .before .before .before .before .before .args .indices .now) (c .before .before .before .before .before .before .before .args .first) (c .before .before .before .before .before .before .before .args .index) (c .before .before .before .before .before .before .before .args .w .now) (sym (c .before .before .before .argument-at .ensures) ∙ c .before .enum-told3 .given .1))
 
 returns-4 : tie.Need-returns-4
 returns-4 c = toZ-ofZ w32 _ (search needs) ∙ c .number-of .ensures ∙ ap (λ r. inside r (value (c .before .before .before .before .before .before .before .before .args .w .now))) (c .before .number-range .ensures) ∙ sym (argument-within (list (c .before .before .before .before .before .before .before .before .args .primitives .now)) (c .before .before .before .before .before .before .before .before .args .indices .now) (c .before .before .before .before .before .before .before .before .args .first) (c .before .before .before .before .before .before .before .before .args .index) (c .before .before .before .before .before .before .before .before .args .w .now) (sym (c .before .before .before .before .argument-at .ensures) ∙ c .before .before .enum-told4 .given .1))
@@ -85,8 +80,7 @@ argument-word-spec =
     target-index-requires
     offset-to-requires
     enum-told-3
-    place-listed-requires
-    index-of-requires
+    index-listed-requires
     cast-result
     enum-told-4
     number-range-requires

@@ -1,20 +1,24 @@
--- `instructions::is_kind` meets its contract: the words of NAMES are the names of the kinds, by computation.
--- Assumes nothing.
-use Rattle.text.specs.Text.{split, words}
-use Rattle.instructions.specs.Kinds.{kinds, kindNames}
+-- `instructions::is_kind` meets its contract. Assumes nothing.
+use mathlib.Core.Path.{sym, ap, _∙_}
+use Rattle.text.proofs.TextLaws.{isFound, among-place}
 use borrow.Author.Needs.{needs}
 use Rattle.instructions.proofs.is_kind.Statement.{statement}
 use Rattle.instructions.proofs.is_kind.Tie as tie
 
-slice-aggregate-is-among : tie.Need-slice-aggregate-is-among
-slice-aggregate-is-among c = search needs
+kind-named-requires : tie.Need-kind-named-requires
+kind-named-requires c κs = search needs
 
-is-among-requires : tie.Need-is-among-requires
-is-among-requires c κs = search needs
+enum-told : tie.Need-enum-told
+enum-told c = search needs
+
+enum-told-2 : tie.Need-enum-told-2
+enum-told-2 c = search needs
 
 returns : tie.Need-returns
-unfolding split words kinds kindNames
-returns c = c .is-among .ensures
+returns c = sym (among-place 0 _ _ ∙ ap isFound (sym (c .before .before .kind-named .ensures) ∙ c .enum-told2 .given .1))
+
+returns-2 : tie.Need-returns-2
+returns-2 c = sym (among-place 0 _ _ ∙ ap isFound (sym (c .before .before .kind-named .ensures) ∙ c .enum-told .given .1))
 
 pub is-kind-spec : {M : Type 1} → statement M
-is-kind-spec = tie.close (tie.spec slice-aggregate-is-among is-among-requires returns)
+is-kind-spec = tie.close (tie.spec kind-named-requires enum-told enum-told-2 returns returns-2)

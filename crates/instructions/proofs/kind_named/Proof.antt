@@ -1,20 +1,34 @@
--- `instructions::kind_named` meets its contract: the words of NAMES are the names of the kinds, by computation.
--- Assumes nothing.
-use Rattle.text.specs.Text.{split, words}
-use Rattle.instructions.specs.Kinds.{kinds, kindNames}
+-- `instructions::kind_named` meets its contract: one kind alone can have the name. Assumes nothing.
+use mathlib.Core.Path.{sym, _∙_}
+use native.Mathlib.Omega.{arith}
+use Rattle.instructions.proofs.NameLaws.{name-length, not-named, is-named, is-unnamed}
 use borrow.Author.Needs.{needs}
 use Rattle.instructions.proofs.kind_named.Statement.{statement}
 use Rattle.instructions.proofs.kind_named.Tie as tie
 
-slice-aggregate-find : tie.Need-slice-aggregate-find
-slice-aggregate-find c = search needs
-
-find-requires : tie.Need-find-requires
-find-requires c κs = search needs
-
 returns : tie.Need-returns
-unfolding split words kinds kindNames
-returns c = c .find .ensures
+returns c = let w = c .before .before .args .w .now in sym (not-named w (λ a. omega (arith, c .if1 .taken, name-length w a)))
+
+returns-2 : tie.Need-returns-2
+returns-2 c = let w = c .before .before .before .args .w .now in sym (not-named w (λ a. omega (arith, c .if2 .taken, name-length w a)))
+
+candidate-requires : tie.Need-candidate-requires
+candidate-requires c κs = search needs
+
+is-name-of-requires : tie.Need-is-name-of-requires
+is-name-of-requires c κs = search needs
+
+returns-3 : tie.Need-returns-3
+returns-3 c =
+    let k = c .before .before .candidate in
+    sym (is-named (c .before .before .before .before .before .before .args .w .now) (k .result) (k .ensures .0) (k .ensures .1) (sym (c .before .is-name-of .ensures) ∙ c .if3 .taken))
+
+returns-4 : tie.Need-returns-4
+returns-4 c =
+    let k = c .before .before .candidate in
+    sym (is-unnamed (c .before .before .before .before .before .before .args .w .now) (k .result) (k .ensures .0) (k .ensures .1) (sym (c .before .is-name-of .ensures) ∙ c .if3 .left))
 
 pub kind-named-spec : {M : Type 1} → statement M
-kind-named-spec = tie.close (tie.spec slice-aggregate-find find-requires returns)
+kind-named-spec =
+    tie.close
+    (tie.spec returns returns-2 candidate-requires is-name-of-requires returns-3 returns-4)

@@ -40,23 +40,17 @@ index-of-requires c κs = search needs
 calls-at-requires : tie.Need-calls-at-requires
 calls-at-requires c κs = kind-low c
 
-place-listed-requires : tie.Need-place-listed-requires
-place-listed-requires c κs = search needs
+index-listed-requires : tie.Need-index-listed-requires
+index-listed-requires c κs = search needs
 
-index-of-requires-2 : tie.Need-index-of-requires-2
-index-of-requires-2 c κs = search needs
-
-place-listed-requires-2 : tie.Need-place-listed-requires-2
-place-listed-requires-2 c κs = search needs
-
-index-of-requires-3 : tie.Need-index-of-requires-3
-index-of-requires-3 c κs = search needs
+index-listed-requires-2 : tie.Need-index-listed-requires-2
+index-listed-requires-2 c κs = search needs
 
 code-of-requires : tie.Need-code-of-requires
-code-of-requires c κs = kind-low (c .before .before .before .before .before)
+code-of-requires c κs = kind-low (c .before .before .before)
 
 operand-of-requires : tie.Need-operand-of-requires
-operand-of-requires c κs = kind-low (c .before .before .before .before .before .before)
+operand-of-requires c κs = kind-low (c .before .before .before .before)
 
 cycle-counts-requires : tie.Need-cycle-counts-requires
 cycle-counts-requires c κs = search needs
@@ -78,7 +72,7 @@ natural-at-requires c κs = record { least = 0; greatest = 65535; is = c .extra-
 
 returns : tie.Need-returns
 returns c =
-    let kind = c .before .before .before .before .before .before .before .before .before .before .before .before .before in
+    let kind = c .before .before .before .before .before .before .before .before .before .before .before in
     let start = kind .before .before .before .before .before .before .before .before .before .before .before .before in
     let k = kind .index-of .result in
     let text = start .args .text .now in
@@ -86,9 +80,9 @@ returns c =
     let ps = pricesOn (start .args .primitives .now) (start .args .primitive-cycles .now) (start .args .primitive-words .now) in
     let o = kind .before .before .before .word-at .ensures in
     let a = kind .before .before .word-at2 .ensures in
-    let i = found (ks .names) _ _ _ (c .before .before .before .before .before .before .before .before .before .before .index-of2 .ensures) (c .before .before .before .before .before .before .before .before .before .before .before .place-listed .ensures) o in
-    let j = found (ps .names) _ _ _ (c .before .before .before .before .before .before .before .before .index-of3 .ensures) (c .before .before .before .before .before .before .before .before .before .place-listed2 .ensures) a in
-    let t = c .before .before .before .before .before .before .before .before .before .before .before .before .calls-at .ensures in
+    let i = c .before .before .before .before .before .before .before .before .before .index-listed .ensures ∙ ap (λ w. find w (ks .names)) o in
+    let j = c .before .before .before .before .before .before .before .before .index-listed2 .ensures ∙ ap (λ w. find w (ps .names)) a in
+    let t = c .before .before .before .before .before .before .before .before .before .before .calls-at .ensures in
     let xs = list (start .args .kind-extras .now) in
     let r : Read ks xs ps text (kindAt k) _ _ _ _ _ =
     record {
@@ -109,10 +103,8 @@ entry-of-spec =
     kind-named-requires
     index-of-requires
     calls-at-requires
-    place-listed-requires
-    index-of-requires-2
-    place-listed-requires-2
-    index-of-requires-3
+    index-listed-requires
+    index-listed-requires-2
     code-of-requires
     operand-of-requires
     cycle-counts-requires

@@ -4,7 +4,7 @@ use lib.ListN.{length}
 use native.Mathlib.Omega.{arith}
 use borrow.Author.Needs.{needs}
 use Prim.Native.Nat.{_≤_}
-use mathlib.Core.Path.{sym, subst}
+use mathlib.Core.Path.{sym, ap, subst}
 use Rattle.rows.specs.Scan.{Small}
 use Rattle.rows.proofs.LoopLaws.{role-small, Scanned, scanned-start, scanned-fails, scanned-goes, scanned-misses, scanned-through}
 use Rattle.rows.proofs.earliest.Statement.{statement}
@@ -23,7 +23,7 @@ first-line-requires : tie.Need-first-line-requires Inv-loop μ-loop
 first-line-requires c κs = search needs
 
 line-ends-requires : tie.Need-line-ends-requires Inv-loop μ-loop
-line-ends-requires c κs = search needs
+line-ends-requires c κs = ap length (c .first-line .ensures)
 
 role-of-requires : tie.Need-role-of-requires Inv-loop μ-loop
 role-of-requires c κs = c .before .before .before .loop .inv .heading
@@ -43,17 +43,17 @@ returns c = scanned-fails (c .before .before .before .before .before .before .lo
 heading-after-requires : tie.Need-heading-after-requires Inv-loop μ-loop
 heading-after-requires c κs = search needs
 
-next-lines-requires : tie.Need-next-lines-requires Inv-loop μ-loop
-next-lines-requires c κs = search needs
+after-line-requires : tie.Need-after-line-requires Inv-loop μ-loop
+after-line-requires c κs = ap length (c .before .before .before .before .before .first-line .ensures)
 
 add-passed : tie.Need-add-passed Inv-loop μ-loop
 add-passed c = let v = c .before .before .before .before .before .before .before .before .loop .inv .size in let r = c .before .before .before .before .before .before .before .before .before .before .before .before .pre .0 in omega arith
 
 loop-less : tie.Need-loop-less Inv-loop μ-loop
-loop-less c = let k = c .next-lines .ensures .1 in let h = c .before .before .before .before .before .before .before .loop-test .taken in omega arith
+loop-less c = let k = c .after-line .ensures .1 in let h = c .before .before .before .before .before .before .before .loop-test .taken in omega arith
 
 loop-again : tie.Need-loop-again Inv-loop μ-loop
-loop-again c = scanned-goes (c .before .before .before .before .before .before .before .before .loop .inv) (c .before .before .before .before .before .before .before .loop-test .taken) (c .before .before .before .before .before .before .first-line .ensures) (c .before .before .before .before .before .line-ends .ensures) (c .before .before .before .before .role-of .ensures) (c .before .before .before .passes .ensures) (c .before .before .if1 .left) _ (c .next-lines .ensures .0) (c .next-lines .ensures .1) _ (c .before .heading-after .ensures)
+loop-again c = scanned-goes (c .before .before .before .before .before .before .before .before .loop .inv) (c .before .before .before .before .before .before .before .loop-test .taken) (c .before .before .before .before .before .before .first-line .ensures) (c .before .before .before .before .before .line-ends .ensures) (c .before .before .before .before .role-of .ensures) (c .before .before .before .passes .ensures) (c .before .before .if1 .left) _ (c .after-line .ensures .0) (c .after-line .ensures .1) _ (c .before .heading-after .ensures)
 
 misses-requires : tie.Need-misses-requires Inv-loop μ-loop
 misses-requires c κs = c .before .loop .inv .heading
@@ -85,7 +85,7 @@ earliest-spec =
     cast-t19
     returns
     heading-after-requires
-    next-lines-requires
+    after-line-requires
     add-passed
     loop-less
     loop-again

@@ -1,7 +1,7 @@
 -- `text::find` meets its contract. The loop's invariant: e is the length of the first word of what is left, and the word sought
--- has the place in the text that it has in what is left, counted from k. The measure is the length of what is left. Assumes nothing.
+-- comes to the same in the text as in what is left with k words looked at before. The measure is the length of what is left. Assumes nothing.
 use Prim.Native.Nat.{_+_, _≤_}
-use mathlib.Core.Path.{_≡_, refl, sym, ap, _∙_}
+use mathlib.Core.Path.{_≡_, sym, ap, _∙_}
 use mathlib.Core.Bool.{Bool, cond}
 use native.Mathlib.Omega.{arith}
 use native.Mathlib.Nat.{le-of-lt}
@@ -9,13 +9,13 @@ use lib.ListN.{length}
 use lib.Seq.{length-take-le}
 use borrow.Author.Needs.{needs}
 use Rattle.text.specs.declared.Place.the-variants.{At, Missing}
-use Rattle.text.specs.Text.{words, placeFrom, place}
-use Rattle.text.proofs.ScanLaws.{firstLength, find-here, find-next, find-last}
+use Rattle.text.specs.Text.{words, lookup}
+use Rattle.text.proofs.ScanLaws.{firstLength, lookupFrom, lookup-from, find-here, find-next, find-last}
 use Rattle.text.proofs.find.Statement.{statement}
 use Rattle.text.proofs.find.Tie as tie
 
 abbrev Inv-loop : tie.InvT-loop
-Inv-loop w text rest₀ k₀ e₀ rest k e = (e ≡ firstLength 32 rest) × (k + length rest ≤ length text) × (place w (words text) ≡ placeFrom k w (words rest))
+Inv-loop w text rest₀ k₀ e₀ rest k e = (e ≡ firstLength 32 rest) × (k + length rest ≤ length text) × (lookup w (words text) ≡ lookupFrom k w (words rest))
 
 abbrev μ-loop : tie.MeasureT-loop
 μ-loop w text rest₀ k₀ e₀ rest k e = length rest
@@ -24,13 +24,18 @@ piece-length-requires : tie.Need-piece-length-requires Inv-loop μ-loop
 piece-length-requires c κs = search needs
 
 loop-holds : tie.Need-loop-holds Inv-loop μ-loop
-loop-holds c = (c .piece-length .ensures, omega arith, refl)
+loop-holds c =
+    let a = c .before .before .before .args in
+    (c .piece-length .ensures, omega arith, lookup-from (a .w .now) (words (a .text .now)))
 
 slice-aggregate-same : tie.Need-slice-aggregate-same Inv-loop μ-loop
 slice-aggregate-same c = sym (length-take-le _ _ (le-of-lt (c .before .loop-test .taken)))
 
 same-requires : tie.Need-same-requires Inv-loop μ-loop
 same-requires c κs = search needs
+
+add-t12 : tie.Need-add-t12 Inv-loop μ-loop
+add-t12 c = search needs
 
 returns : tie.Need-returns Inv-loop μ-loop
 returns c =
@@ -68,15 +73,21 @@ loop-again c =
 same-requires-2 : tie.Need-same-requires-2 Inv-loop μ-loop
 same-requires-2 c κs = search needs
 
+add-t19 : tie.Need-add-t19 Inv-loop μ-loop
+add-t19 c = search needs
+
 returns-2 : tie.Need-returns-2 Inv-loop μ-loop
 returns-2 c =
     let l = c .before .before .before in
-    sym (l .loop .inv .2 ∙ find-last (l .loop .k) _ _ _ (l .loop .inv .0) (c .before .before .loop-test .left) ∙ ap (λ (b : Bool). cond b (At (l .loop .k)) Missing) (sym (c .before .same2 .ensures) ∙ c .if2 .taken))
+    sym (l .loop .inv .2 ∙ find-last (l .loop .k) _ _ _ (l .loop .inv .0) (c .before .before .loop-test .left) ∙ ap (λ (b : Bool). record { place = cond b (At (l .loop .k)) Missing; looked = l .loop .k + 1 }) (sym (c .before .same2 .ensures) ∙ c .if2 .taken))
+
+add-t21 : tie.Need-add-t21 Inv-loop μ-loop
+add-t21 c = search needs
 
 returns-3 : tie.Need-returns-3 Inv-loop μ-loop
 returns-3 c =
     let l = c .before .before .before in
-    sym (l .loop .inv .2 ∙ find-last (l .loop .k) _ _ _ (l .loop .inv .0) (c .before .before .loop-test .left) ∙ ap (λ (b : Bool). cond b (At (l .loop .k)) Missing) (sym (c .before .same2 .ensures) ∙ c .if2 .left))
+    sym (l .loop .inv .2 ∙ find-last (l .loop .k) _ _ _ (l .loop .inv .0) (c .before .before .loop-test .left) ∙ ap (λ (b : Bool). record { place = cond b (At (l .loop .k)) Missing; looked = l .loop .k + 1 }) (sym (c .before .same2 .ensures) ∙ c .if2 .left))
 
 pub find-spec : {M : Type 1} → statement M
 find-spec =
@@ -88,6 +99,7 @@ find-spec =
     loop-holds
     slice-aggregate-same
     same-requires
+    add-t12
     returns
     add-rest
     sub-rest
@@ -98,5 +110,7 @@ find-spec =
     loop-less
     loop-again
     same-requires-2
+    add-t19
+    add-t21
     returns-2
     returns-3)

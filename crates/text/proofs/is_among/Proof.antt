@@ -15,10 +15,10 @@ enum-told-2 : tie.Need-enum-told-2
 enum-told-2 c = search needs
 
 returns : tie.Need-returns
-returns c = sym (among-place 0 _ _ ∙ ap isFound (sym (c .before .before .find .ensures) ∙ c .enum-told2 .given .1))
+returns c = sym (among-place 0 _ _ ∙ ap (λ r. isFound (r .place)) (sym (c .before .before .find .ensures)) ∙ ap isFound (c .enum-told2 .given .1))
 
 returns-2 : tie.Need-returns-2
-returns-2 c = sym (among-place 0 _ _ ∙ ap isFound (sym (c .before .before .find .ensures) ∙ c .enum-told .given .1))
+returns-2 c = sym (among-place 0 _ _ ∙ ap (λ r. isFound (r .place)) (sym (c .before .before .find .ensures)) ∙ ap isFound (c .enum-told .given .1))
 
 pub is-among-spec : {M : Type 1} → statement M
 is-among-spec = tie.close (tie.spec find-requires enum-told enum-told-2 returns returns-2)

@@ -1,43 +1,18 @@
 -- `text::next_lines` meets its contract. Assumes nothing.
-use native.Mathlib.Omega.{arith}
+use mathlib.Core.Path.{ap}
+use lib.ListN.{length}
 use borrow.Author.Needs.{needs}
-use Rattle.text.proofs.LineLaws.{next-more, next-none}
 use Rattle.text.proofs.next_lines.Statement.{statement}
 use Rattle.text.proofs.next_lines.Tie as tie
 
-piece-length-requires : tie.Need-piece-length-requires
-piece-length-requires c κs = search needs
+first-line-requires : tie.Need-first-line-requires
+first-line-requires c κs = search needs
 
-add-result : tie.Need-add-result
-add-result c = search needs
-
-sub-result : tie.Need-sub-result
-sub-result c = search needs
-
-part-result-start : tie.Need-part-result-start
-part-result-start c = search needs
-
-part-result-end : tie.Need-part-result-end
-part-result-end c = search needs
+after-line-requires : tie.Need-after-line-requires
+after-line-requires c κs = ap length (c .first-line .ensures)
 
 returns : tie.Need-returns
-returns c = (next-more _ _ (c .before .before .piece-length .ensures) (c .before .if1 .taken), omega arith)
-
-slice-aggregate-result : tie.Need-slice-aggregate-result
-slice-aggregate-result c = search needs
-
-returns-2 : tie.Need-returns-2
-returns-2 c = (next-none _ _ (c .before .before .piece-length .ensures) (c .before .if1 .left), omega arith)
+returns c = c .after-line .ensures
 
 pub next-lines-spec : {M : Type 1} → statement M
-next-lines-spec =
-    tie.close
-    (tie.spec
-    piece-length-requires
-    add-result
-    sub-result
-    part-result-start
-    part-result-end
-    returns
-    slice-aggregate-result
-    returns-2)
+next-lines-spec = tie.close (tie.spec first-line-requires after-line-requires returns)

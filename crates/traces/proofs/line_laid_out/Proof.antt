@@ -1,6 +1,6 @@
 -- `traces::line_laid_out` meets its contract. Assumes nothing.
 use mathlib.Core.Path.{sym, ap, _∙_}
-use lib.ListN.{getD}
+use lib.ListN.{length, getD}
 use Rattle.text.specs.Text.{lines, noLine}
 use Rattle.traces.specs.Traces.{textLaidOut, lineLaidOut}
 use Rattle.lines.proofs.LineLaws.{and-true, and-false}
@@ -12,7 +12,7 @@ first-line-requires : tie.Need-first-line-requires
 first-line-requires c κs = search needs
 
 line-ends-requires : tie.Need-line-ends-requires
-line-ends-requires c κs = search needs
+line-ends-requires c κs = ap length (c .first-line .ensures)
 
 laid-out-requires : tie.Need-laid-out-requires
 laid-out-requires c κs = search needs

@@ -1,29 +1,24 @@
 -- `routine::layout::is_listed` meets its contract. Assumes nothing.
 use mathlib.Core.Path.{sym, ap, _∙_}
-use Rattle.text.specs.Text.{among}
-use Rattle.routine.proofs.LayoutLaws.{list-none, list-words}
 use borrow.Author.Needs.{needs}
+use Rattle.text.proofs.TextLaws.{isFound, among-place}
 use Rattle.routine.proofs.layout.is_listed.Statement.{statement}
 use Rattle.routine.proofs.layout.is_listed.Tie as tie
 
-slice-aggregate-same : tie.Need-slice-aggregate-same
-slice-aggregate-same c = search needs
+look-up-requires : tie.Need-look-up-requires
+look-up-requires c κs = search needs
 
-same-requires : tie.Need-same-requires
-same-requires c κs = search needs
+enum-told : tie.Need-enum-told
+enum-told c = search needs
+
+enum-told-2 : tie.Need-enum-told-2
+enum-told-2 c = search needs
 
 returns : tie.Need-returns
-unfolding among
-returns c =
-    sym (ap (among (c .before .before .before .before .before .args .w .now)) (list-none (c .before .before .before .before .before .args .line .now) (sym (c .before .same .ensures) ∙ c .if1 .taken)))
-
-is-among-requires : tie.Need-is-among-requires
-is-among-requires c κs = search needs
+returns c = sym (among-place 0 _ _ ∙ ap (λ r. isFound (r .place)) (sym (c .before .before .look-up .ensures)) ∙ ap isFound (c .enum-told2 .given .1))
 
 returns-2 : tie.Need-returns-2
-returns-2 c =
-    c .is-among .ensures ∙ sym (ap (among (c .before .before .before .before .before .before .args .w .now)) (list-words (c .before .before .before .before .before .before .args .line .now) (sym (c .before .before .same .ensures) ∙ c .before .if1 .left)))
+returns-2 c = sym (among-place 0 _ _ ∙ ap (λ r. isFound (r .place)) (sym (c .before .before .look-up .ensures)) ∙ ap isFound (c .enum-told .given .1))
 
 pub is-listed-spec : {M : Type 1} → statement M
-is-listed-spec =
-    tie.close (tie.spec slice-aggregate-same same-requires returns is-among-requires returns-2)
+is-listed-spec = tie.close (tie.spec look-up-requires enum-told enum-told-2 returns returns-2)

@@ -1,0 +1,26 @@
+-- `routine::layout::look_up` meets its contract. Assumes nothing.
+use mathlib.Core.Path.{sym, ap, _∙_}
+use Rattle.text.specs.Text.{lookup}
+use Rattle.routine.proofs.LayoutLaws.{list-none, list-words}
+use borrow.Author.Needs.{needs}
+use Rattle.routine.proofs.layout.look_up.Statement.{statement}
+use Rattle.routine.proofs.layout.look_up.Tie as tie
+
+slice-aggregate-same : tie.Need-slice-aggregate-same
+slice-aggregate-same c = search needs
+
+same-requires : tie.Need-same-requires
+same-requires c κs = search needs
+
+returns : tie.Need-returns
+returns c = sym (ap (lookup _) (list-none _ (sym (c .before .same .ensures) ∙ c .if1 .taken)))
+
+find-requires : tie.Need-find-requires
+find-requires c κs = search needs
+
+returns-2 : tie.Need-returns-2
+returns-2 c = c .find .ensures ∙ sym (ap (lookup _) (list-words _ (sym (c .before .before .same .ensures) ∙ c .before .if1 .left)))
+
+pub look-up-spec : {M : Type 1} → statement M
+look-up-spec =
+    tie.close (tie.spec slice-aggregate-same same-requires returns find-requires returns-2)
