@@ -125,6 +125,20 @@ pub fn long_code(bytes: usize) -> Vec<u8> {
     text(bytes - text(0).len())
 }
 
+/// A routine of 96 lines in six kinds, under prices for all 61.
+pub fn six_kinds() -> Vec<u8> {
+    let turn: Code = vec![
+        ("CONSTINT", Arg::Number(8)),
+        ("PUSH", Arg::Nothing),
+        ("ACC0", Arg::Nothing),
+        ("ADDINT", Arg::Nothing),
+        ("OFFSETINT", Arg::Number(-1)),
+    ];
+    let mut code: Code = turn.into_iter().cycle().take(95).collect();
+    code.push(("STOP", Arg::Nothing));
+    draft(&["0"], Vec::new(), code).text().into_bytes()
+}
+
 fn primitives() -> Vec<(String, [usize; 2])> {
     (1..=32).map(|k| (format!("LONGER{k:02}"), [1, 1])).collect()
 }

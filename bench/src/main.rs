@@ -134,6 +134,7 @@ fn main() {
         Measured::new("the run of that path", files::straight_path(), RUN),
         Measured::new("a full tree of 18 openings, narrow", files::tree(false), BOUND),
         Measured::new("a full tree of 18 openings, wide", files::tree(true), BOUND),
+        Measured::new("61 kinds priced, six of them used", files::six_kinds(), BOUND),
         Measured::new("a file of 32,768 bytes", files::long_code(TEXT_LIMIT), BOUND),
         Measured::new("the import of 1,024 instructions", files::words(TEXT_LIMIT), IMPORT),
         Measured::new("the export of 1,024 instructions", files::instructions(TEXT_LIMIT), EXPORT),
