@@ -58,6 +58,10 @@ small limits kinds cycles words extras names cells code =
 abbrev one-branch : String → String → String → List ℕ
 one-branch limits extras accu = small limits "BRANCHIF STOP" "5 1" "0 0" extras "ACCU" accu ("0 BRANCHIF 1" ∷ "1 STOP -" ∷ [])
 
+-- case 3, with its limits and its cycles
+abbrev one-stop : String → String → List ℕ
+one-stop limits cycles = small limits "STOP" cycles "0" "0" "ACCU" "0" ("0 STOP -" ∷ [])
+
 -- case 4, with its extras
 abbrev two-calls : String → List ℕ
 two-calls extras =
@@ -85,7 +89,7 @@ pub case2-exact : List ℕ
 case2-exact = one-branch "3 1000" "0 0" "?"
 
 pub case3 : List ℕ
-case3 = small "1000 1000" "STOP" "0" "0" "0" "ACCU" "0" ("0 STOP -" ∷ [])
+case3 = one-stop "1000 1000" "0"
 
 pub case4 : List ℕ
 case4 = two-calls "0 0 0"
@@ -148,6 +152,11 @@ eq-unknown = operated "0 EQ -" "? #0"
 pub geint-handles : List ℕ
 geint-handles = operated "0 GEINT -" "#0 #1"
 
+-- document 02 §6: a half with an odd whole part; case 1 has one with an even whole part (case1-half)
+
+pub share-34 : List ℕ
+share-34 = one-stop "1000 2000" "67"
+
 -- what the bound or the run prints for a file with 128 lent bytes
 abbrev Bounds : List ℕ → List String → Type 0
 Bounds text expected = analyser.printed (analyser.boundAnswer text 128) ≡ file expected
@@ -178,7 +187,7 @@ Gives kind accu stack expected =
 abbrev Starred : Type 0
 Starred =
     Bounds case1 (report "65 4 1 6 65 N")
-    × Bounds case1-half (report "65 4 1 6 33 N")
+    × Bounds case1-half (report "65 4 1 6 32 N")
     × Bounds case2 (report "6 0 0 3 6 T")
     × Bounds case2-spent ("REFUSED 9 1" ∷ [])
     × Bounds case2-exact (report "6 0 0 3 6 T")
@@ -204,6 +213,12 @@ Starred =
     × Bounds eq-number ("REFUSED 7 0" ∷ [])
     × Bounds eq-unknown ("REFUSED 7 0" ∷ [])
     × Bounds geint-handles ("REFUSED 7 0" ∷ [])
+    × Bounds share-34 (report "67 0 0 1 34 -")
+    -- the largest TICK and CYCLES that `report::share` takes; the two largest exact halves with that TICK; the largest SHARE
+    × (reports.share 4000000000 8589934592000000 ≡ 2147483648)
+    × (reports.share 4000000000 8589934590000000 ≡ 2147483648)
+    × (reports.share 4000000000 8589934586000000 ≡ 2147483646)
+    × (reports.share 1 8589934592000000 ≡ 8589934592000000000)
 
 -- ---- demand 3 of a file: case 1, and its file with S0 known and one answer (case 7)
 
@@ -222,8 +237,8 @@ Published =
     × (routines.readRun case7 ≡ routines.routine (holding (state 0 (pos 0) (cell (pos 0) ∷ [])) (pos 7 ∷ [])))
 
 computed : Starred × Published
-unfolding case1 case1-half case2 case2-spent case2-exact case3 case4 case6 case7 jump-bound jump-taken jump-not-taken jump-below jump-tie jump-above eq-equal eq-unlike neq-equal neq-unlike eq-number eq-unknown geint-handles refusals.number refusals.place text.equals text.split text.words text.linesOf text.lines text.find text.among text.all text.distinct decimals.digitsFrom decimals.natural decimals.numeral decimals.digits decimals.decimal numbers.wrap numbers.holds try._>>=_ cells.calculate₁ cells.calculate₂ cells.map₁ cells.compareHandles cells.combineHandles cells.map₂ cells.operate₁ cells.operate₂ cells.conditionIn cells.condition cells.handled cells.block kinds.kinds kinds.kindNames kinds.operand lists.nth lists.put lists.without machine.height machine.priceOf machine.fetch machine.jump machine.load machine.restack machine.store machine.push machine.pop machine.getField machine.setField machine.advance machine.ahead machine.withExtra machine.ways machine.opposite machine.perform machine.prepare machine.execute machine.step machine.takes machine.takesAnswer tree.expand tree.tree tree.address tree.steps tree.size tree.cycles tree.words tree.depth tree.worse tree.path tree.report tree.refusal tree.judge tree.verdict tree.explore tree.bound run.begin run.answer run.remaining run.moved run.leads run.once run.after run.stuckAt run.isStuck run.boundedAfresh run.judgeRun run.run layout.isAnswer layout.body layout.upToAnswer layout.pastAnswer layout.codeLines layout.answerLines layout.answerRoles layout.codeRoles layout.bodyRoles layout.roles layout.list layout.textAt layout.listed rows.isNumeral rows.valueOf rows.value rows.knownOf rows.blockOf rows.hashed rows.cellWord rows.isCell rows.cellInRange rows.cellPresent rows.isName rows.stackNames rows.cellNames rows.equalLists rows.isField rows.sizesFrom rows.blockSizes rows.total rows.argumentOf rows.onArgument rows.argumentLaidOut rows.argumentInRange rows.argumentNamed rows.argumentReaches rows.extraRange rows.extrasInRange rows.columnInRange rows.columnLaidOut rows.onCells rows.onCode rows.namesLaidOut rows.valuesLaidOut rows.codeLaidOut rows.laidOut rows.codeInRange rows.inRange rows.wellNamed rows.firstAt rows.codeNamed rows.named rows.priced rows.reaches rows.allKnown rows.test rows.earliest rows.refusedLine routines.inside routines.priceList routines.argumentValue routines.instructionOf columns.kindAt machine.instruction interrupted.code routines.codeIn routines.cellOf routines.cellsOf routines.blocksInLine routines.startOf routines.routineOf routines.orElse routines.checked routines.limited routines.readBound routines.readRun reports.share reports.pathText reports.figures reports.boundText reports.runText reports.refusalLine reports.refusalText analyser.ofVerdict answers.ofReading analyser.boundRoutine analyser.runRoutine analyser.boundAnswer analyser.runAnswer answers.memory analyser.printed
-computed = ((refl, refl, refl, refl, refl, refl, refl, refl, refl, refl, refl, refl, refl, refl, refl, refl, refl, refl, refl, refl, refl, refl, refl, refl, refl), (refl, refl, refl))
+unfolding case1 case1-half case2 case2-spent case2-exact case3 case4 case6 case7 jump-bound jump-taken jump-not-taken jump-below jump-tie jump-above eq-equal eq-unlike neq-equal neq-unlike eq-number eq-unknown geint-handles share-34 refusals.number refusals.place text.equals text.split text.words text.linesOf text.lines text.find text.among text.all text.distinct decimals.digitsFrom decimals.natural decimals.numeral decimals.digits decimals.decimal numbers.wrap numbers.holds try._>>=_ cells.calculate₁ cells.calculate₂ cells.map₁ cells.compareHandles cells.combineHandles cells.map₂ cells.operate₁ cells.operate₂ cells.conditionIn cells.condition cells.handled cells.block kinds.kinds kinds.kindNames kinds.operand lists.nth lists.put lists.without machine.height machine.priceOf machine.fetch machine.jump machine.load machine.restack machine.store machine.push machine.pop machine.getField machine.setField machine.advance machine.ahead machine.withExtra machine.ways machine.opposite machine.perform machine.prepare machine.execute machine.step machine.takes machine.takesAnswer tree.expand tree.tree tree.address tree.steps tree.size tree.cycles tree.words tree.depth tree.worse tree.path tree.report tree.refusal tree.judge tree.verdict tree.explore tree.bound run.begin run.answer run.remaining run.moved run.leads run.once run.after run.stuckAt run.isStuck run.boundedAfresh run.judgeRun run.run layout.isAnswer layout.body layout.upToAnswer layout.pastAnswer layout.codeLines layout.answerLines layout.answerRoles layout.codeRoles layout.bodyRoles layout.roles layout.list layout.textAt layout.listed rows.isNumeral rows.valueOf rows.value rows.knownOf rows.blockOf rows.hashed rows.cellWord rows.isCell rows.cellInRange rows.cellPresent rows.isName rows.stackNames rows.cellNames rows.equalLists rows.isField rows.sizesFrom rows.blockSizes rows.total rows.argumentOf rows.onArgument rows.argumentLaidOut rows.argumentInRange rows.argumentNamed rows.argumentReaches rows.extraRange rows.extrasInRange rows.columnInRange rows.columnLaidOut rows.onCells rows.onCode rows.namesLaidOut rows.valuesLaidOut rows.codeLaidOut rows.laidOut rows.codeInRange rows.inRange rows.wellNamed rows.firstAt rows.codeNamed rows.named rows.priced rows.reaches rows.allKnown rows.test rows.earliest rows.refusedLine routines.inside routines.priceList routines.argumentValue routines.instructionOf columns.kindAt machine.instruction interrupted.code routines.codeIn routines.cellOf routines.cellsOf routines.blocksInLine routines.startOf routines.routineOf routines.orElse routines.checked routines.limited routines.readBound routines.readRun reports.share reports.pathText reports.figures reports.boundText reports.runText reports.refusalLine reports.refusalText analyser.ofVerdict answers.ofReading analyser.boundRoutine analyser.runRoutine analyser.boundAnswer analyser.runAnswer answers.memory analyser.printed
+computed = ((refl, refl, refl, refl, refl, refl, refl, refl, refl, refl, refl, refl, refl, refl, refl, refl, refl, refl, refl, refl, refl, refl, refl, refl, refl, refl, refl, refl, refl, refl), (refl, refl, refl))
 
 pub starred : Starred
 starred = computed .0

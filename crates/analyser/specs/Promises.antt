@@ -136,6 +136,6 @@ ImportsBound =
 abbrev pub WrittenReadsBack : Type 0
 WrittenReadsBack = (n : ℕ) → numeral (decimal n) ≡ number (pos n)
 
--- SHARE is the nearest whole number, a half going up, and no other number is
+-- SHARE is the nearest whole number, at an exact half the even one, and no other number is
 abbrev pub ShareNearest : Type 0
 ShareNearest = (tick cycles : ℕ) → 1 ≤ tick → Nearest tick cycles (share tick cycles) × ((n : ℕ) → Nearest tick cycles n → n ≡ share tick cycles)

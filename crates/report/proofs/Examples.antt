@@ -9,9 +9,13 @@ use Rattle.report.specs.Report.{share, pathText, figures, runText, refus
 use Rattle.report.specs.Decode.{decisions, decode}
 
 pub examples :
-    -- "a half going up": 65 cycles of 2000 are 32.5 thousandths
-    (share 2000 65 ≡ 33)
+    -- "65 cycles with TICK 2000 gives 32, and 67 gives 34"; what is no exact half is not rounded to the even one
+    (share 2000 65 ≡ 32)
+    × (share 2000 67 ≡ 34)
     × (share 2000 64 ≡ 32)
+    × (share 2000 66 ≡ 33)
+    × (share 1999 65 ≡ 33)
+    × (share 2001 67 ≡ 33)
     × (share 3 1 ≡ 333)
     × (pathText [] ≡ bytes "-")
     × (pathText (decode 1) ≡ bytes "-")
@@ -19,4 +23,4 @@ pub examples :
     × (refusalText (Spent 4102) ≡ bytes "REFUSED 9 4102\n")
     × (runText (record { cycles = 56; words = 4; depth = 1; steps = 3; path = [] }) ≡ bytes "CYCLES WORDS DEPTH STEPS\n56 4 1 3\n")
 unfolding share decisions decode pathText figures runText refusalLine refusalText digits decimal number place
-examples = (refl, refl, refl, refl, refl, refl, refl, refl)
+examples = (refl, refl, refl, refl, refl, refl, refl, refl, refl, refl, refl, refl)

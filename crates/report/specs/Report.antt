@@ -1,21 +1,30 @@
 -- What is printed: a report, a run's report, a refusal. (document 01, The printed report)
-use Prim.Native.Nat.{ℕ, _+_, _*_, _/_, _<_, _≤_}
+use Prim.Native.Nat.{ℕ, _+_, _*_, _/_, _%_, _≤_}
+use mathlib.Core.Path.{_≡_}
+use mathlib.Core.Bool.{cond}
 use mathlib.Core.List.{List, [], _∷_, _++_, map}
+use lib.Dec.{ltb}
 use Rattle.refusals.specs.Refusals.{number, place}
 use Rattle.refusals.specs.declared.Refusal.{Refusal}
 use Rattle.text.specs.Text.{bytes}
 use Rattle.text.specs.Decimal.{decimal}
 use Rattle.bounds.specs.Tree.{Report, Decision, N, T}
 
--- "SHARE is CYCLES × 1000 / TICK to the nearest whole number, a half going up": the whole part of that and a half
+-- "SHARE is CYCLES × 1000 / TICK to the nearest whole number": its whole part where less than a half is left over, and 1 more where more
+-- than a half is; "SHARE at an exact half goes to the even whole number" (document 02 §6): 1 more where the whole part is odd
 unfoldable pub share : ℕ → ℕ → ℕ
-share tick cycles = (2 * (cycles * 1000) + tick) / (2 * tick)
+share tick cycles =
+    let whole = cycles * 1000 / tick in
+    let twice = 2 * (cycles * 1000 % tick) in
+    whole + cond (ltb twice tick) 0 (cond (ltb tick twice) 1 (whole % 2))
 
--- the same without a division: SHARE less a half is at most CYCLES × 1000 / TICK, and SHARE and a half is above it; here both times
--- 2 × TICK, with TICK added on each side
+-- the same without a division: SHARE is at most a half above and at most a half below CYCLES × 1000 / TICK, and it is even where it is a
+-- half above or a half below; here all times 2 × TICK
 pub record Nearest (tick cycles share : ℕ) : Type 0 where
   pub not-above : 2 * tick * share ≤ 2 * (cycles * 1000) + tick
-  pub not-below : 2 * (cycles * 1000) + tick < 2 * tick * (share + 1)
+  pub not-below : 2 * (cycles * 1000) ≤ 2 * tick * share + tick
+  pub even-above : 2 * tick * share ≡ 2 * (cycles * 1000) + tick → share % 2 ≡ 0
+  pub even-below : 2 * (cycles * 1000) ≡ 2 * tick * share + tick → share % 2 ≡ 0
 
 -- the letter of a decision: N or T
 abbrev pub letter : Decision → ℕ

@@ -7,12 +7,20 @@ ghost use Rattle.text.specs.Memory.{over};
 ghost use Rattle.report.specs.Report.{share, letter, pathText, figures, boundText, runText, refusalLine};
 ghost use Rattle.report.specs.Decode.{decision, decode, reportOf};
 
-// SHARE: the cycles in thousandths of a tick, to the nearest, a half going up.
+// SHARE: the cycles in thousandths of a tick, to the nearest whole number, and at an exact half to the even one.
 pub fn share(tick: u64, cycles: u64) -> u64
     requires { ⌜ (1 ≤ tick) × (tick ≤ 4000000000) × (cycles ≤ 8589934592000000) ⌝ }
     ensures { λ r. ⌜ r ≡ share tick cycles ⌝ }
 {
-    (2 * (cycles * 1000) + tick) / (2 * tick)
+    let whole = cycles * 1000 / tick;
+    let twice = 2 * (cycles * 1000 % tick);
+    if twice < tick {
+        whole
+    } else if tick < twice {
+        whole + 1
+    } else {
+        whole + whole % 2
+    }
 }
 
 // The letter of a decision: 0 is not taken.
