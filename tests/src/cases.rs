@@ -1,5 +1,5 @@
 //! The cases on the edges and the small examples of document 01, with the answers given there and zeros on the line of extras; those of
-//! change requests 1 and 3; and the files that the programs of `crates/` are run with, which are made of them.
+//! change requests 1, 3 and 6; and the files that the programs of `crates/` are run with, which are made of them.
 use crate::change::Base::{File, Named};
 use crate::change::Change::{FirstBytes, Nothing, Without};
 use crate::change::Told::{Refusal, Report};
@@ -39,6 +39,13 @@ pub(crate) fn pushes(count: usize) -> String {
     file(1000, "PUSH STOP", "1 1", "ACCU", "0", &format!("{code}{count} STOP -\n"))
 }
 
+/// As many steps of 62,500 cycles each, the last one STOP, with the largest TICK.
+fn steps_of_62500(steps: usize) -> String {
+    let code: String = (0..steps - 1).map(|i| format!("{i} CONST0 -\n")).collect();
+    let code = format!("{code}{} STOP -\n", steps - 1);
+    file(1000, "CONST0 STOP", "62500 62500", "ACCU", "0", &code).replacen("1000 1000", "1000 4000000000", 1)
+}
+
 /// An operation on two cells, with two blocks, then a branch that tells what it gives.
 fn on_handles(operation: &str, cells: &str) -> String {
     let code = format!("0 {operation} -\n1 BRANCHIF 3\n2 CONST1 -\n3 STOP -\n");
@@ -54,9 +61,9 @@ fn gives_the_lowest(first: &str, then: &str) -> String {
 }
 
 /// What `crates/cases` is run with: the published example (case 1, run: case 7), the cases that are not starred, each row's example, and
-/// what change requests 1 and 3 add to them.
+/// what change requests 1, 3 and 6 add to them.
 pub fn cases() -> Vec<Text> {
-    let lists = [published_example(), not_starred(), refusal_table(), taken_jumps(), compared_handles()];
+    let lists = [published_example(), not_starred(), refusal_table(), taken_jumps(), compared_handles(), halves()];
     let mut texts = made(lists.into_iter().flatten().collect());
     // the program lends a byte less for it
     texts.iter_mut().find(|text| text.name == "lent_127").unwrap().lent = MEMORY - 1;
@@ -66,7 +73,7 @@ pub fn cases() -> Vec<Text> {
 fn published_example() -> Vec<Entry> {
     vec![
         ("published", PUBLISHED, Nothing, [Report("65 4 1 6 65 N"), Refusal(11, 11)]),
-        ("published_tick_2000", PUBLISHED, word(2, 2, "2000"), [Report("65 4 1 6 33 N"), Refusal(11, 11)]),
+        ("published_tick_2000", PUBLISHED, word(2, 2, "2000"), [Report("65 4 1 6 32 N"), Refusal(11, 11)]),
         ("published_run", PUBLISHED_KNOWN, append("ANSWER\n7\n"), [Report("65 4 1 6 65 N"), Report("56 4 1 3")]),
     ]
 }
@@ -154,6 +161,44 @@ fn compared_handles() -> Vec<Entry> {
         ("geint_of_handles", unlike, operation("GEINT"), refused(7, 0)),
         ("addint_of_handles", unlike, operation("ADDINT"), refused(7, 0)),
         ("subint_of_handles", unlike, operation("SUBINT"), refused(7, 0)),
+    ]
+}
+
+/// Change request 6: SHARE at a half after an even and after an odd number, next to such a half, and at a whole number.
+fn halves() -> Vec<Entry> {
+    let limits = |cycles: u32, tick: u32| lines(2, 4, format!("1000 {tick}\nSTOP\n{cycles}"));
+    vec![
+        ("tick_1999_of_65", STOP, limits(65, 1999), [Report("65 0 0 1 33 -"), Report("65 0 0 1")]),
+        ("tick_2000_of_65", STOP, limits(65, 2000), [Report("65 0 0 1 32 -"), Report("65 0 0 1")]),
+        ("tick_2001_of_65", STOP, limits(65, 2001), [Report("65 0 0 1 32 -"), Report("65 0 0 1")]),
+        ("tick_2000_of_66", STOP, limits(66, 2000), [Report("66 0 0 1 33 -"), Report("66 0 0 1")]),
+        ("tick_1999_of_67", STOP, limits(67, 1999), [Report("67 0 0 1 34 -"), Report("67 0 0 1")]),
+        ("tick_2000_of_67", STOP, limits(67, 2000), [Report("67 0 0 1 34 -"), Report("67 0 0 1")]),
+        ("tick_2001_of_67", STOP, limits(67, 2001), [Report("67 0 0 1 33 -"), Report("67 0 0 1")]),
+        ("tick_1999_of_1", STOP, limits(1, 1999), [Report("1 0 0 1 1 -"), Report("1 0 0 1")]),
+        ("tick_2000_of_1", STOP, limits(1, 2000), [Report("1 0 0 1 0 -"), Report("1 0 0 1")]),
+        ("tick_2000_of_3", STOP, limits(3, 2000), [Report("3 0 0 1 2 -"), Report("3 0 0 1")]),
+        ("tick_2001_of_3", STOP, limits(3, 2001), [Report("3 0 0 1 1 -"), Report("3 0 0 1")]),
+        ("tick_16_of_65533", STOP, limits(65533, 16), [Report("65533 0 0 1 4095812 -"), Report("65533 0 0 1")]),
+        ("tick_16_of_65535", STOP, limits(65535, 16), [Report("65535 0 0 1 4095938 -"), Report("65535 0 0 1")]),
+        (
+            "tick_4000000000_of_2000000",
+            File(|| steps_of_62500(32)),
+            Nothing,
+            [Report("2000000 0 0 32 0 -"), Report("2000000 0 0 32")],
+        ),
+        (
+            "tick_3999999999_of_2000000",
+            File(|| steps_of_62500(32)),
+            word(2, 2, "3999999999"),
+            [Report("2000000 0 0 32 1 -"), Report("2000000 0 0 32")],
+        ),
+        (
+            "tick_4000000000_of_6000000",
+            File(|| steps_of_62500(96)),
+            Nothing,
+            [Report("6000000 0 0 96 2 -"), Report("6000000 0 0 96")],
+        ),
     ]
 }
 

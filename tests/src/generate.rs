@@ -2,7 +2,7 @@
 use crate::bound::{explored, Event};
 use crate::draft::{Arg, Draft};
 use crate::random::Random;
-use crate::routine::{jumps_at_a_cost, read, KINDS};
+use crate::routine::{jumps_at_a_cost, read, Refusal, KINDS};
 use crate::writer::{Shape, Shapes, Writer};
 
 fn price(random: &mut Random, most: usize, style: usize) -> usize {
@@ -168,7 +168,7 @@ pub fn draft(random: &mut Random) -> Draft {
     let tick = match random.below(6) {
         0 => 1,
         // a half where the cycles are odd
-        3 | 4 => 2000,
+        3 | 4 => *random.pick(&[16, 400, 2000]),
         1 => 4_000_000_000,
         2 => random.within(1, 5000) as u64,
         _ => 1 + random.next() % 4_000_000_000,
@@ -177,7 +177,7 @@ pub fn draft(random: &mut Random) -> Draft {
     if random.one_in(3) {
         tie(random, &mut draft);
     }
-    draft.budget = budget(random, &draft);
+    limits(random, &mut draft);
     draft
 }
 
@@ -201,17 +201,38 @@ fn tie(random: &mut Random, draft: &mut Draft) {
     }
 }
 
-/// A budget, mostly near the number of steps that are looked at.
-fn budget(random: &mut Random, draft: &Draft) -> u64 {
+/// Puts BUDGET to what fits the steps that are looked at, and TICK sometimes to what fits the cycles.
+fn limits(random: &mut Random, draft: &mut Draft) {
     let most = if random.one_in(500) { 100_000 } else { 3000 };
+    draft.budget = most;
     let Ok(mut routine) = read(draft.text().as_bytes(), false) else {
-        return most;
+        return;
     };
     routine.budget = most;
     let (answer, steps) = explored(&routine, routine.start.clone(), |_| ());
-    if answer.is_err_and(|refusal| refusal.number == 9) {
-        return 1 + random.below(most as usize) as u64;
+    draft.budget = match answer {
+        Err(Refusal { number: 9, .. }) => 1 + random.below(most as usize) as u64,
+        _ => budget(random, steps),
+    };
+    if let (Ok(figures), true) = (answer, random.one_in(3)) {
+        draft.tick = near_a_half(random, figures.cycles).unwrap_or(draft.tick);
     }
+}
+
+/// A TICK with which SHARE is at a half, or the one before or after it, if there is one.
+fn near_a_half(random: &mut Random, cycles: u64) -> Option<u64> {
+    let halves: Vec<u64> = (1..1000).step_by(2).filter(|halves| cycles * 2000 % halves == 0).collect();
+    let tick = cycles * 2000 / random.pick(&halves);
+    let tick = match random.below(3) {
+        0 => tick + 1,
+        1 => tick.max(1) - 1,
+        _ => tick,
+    };
+    (1..=4_000_000_000).contains(&tick).then_some(tick)
+}
+
+/// A budget, mostly near the number of steps that are looked at.
+fn budget(random: &mut Random, steps: u64) -> u64 {
     if random.one_in(2000) {
         return 1_000_000;
     }

@@ -8,6 +8,7 @@ mod handles;
 mod imports;
 mod pinned;
 mod replays;
+mod shares;
 mod traces;
 
 use causes::Causes;
@@ -29,6 +30,7 @@ use independent::word_cases::{self, CASES};
 use independent::word_draft;
 use pinned::{pinned, pinned_export, pinned_import, pinned_replay};
 use replays::{replay_by_program, replayed};
+use shares::Shares;
 use std::collections::{BTreeMap, BTreeSet};
 use std::path::Path;
 use traces::Traces;
@@ -50,6 +52,7 @@ struct Tally {
     answers: BTreeMap<u32, [u64; 2]>,
     extras: Extras,
     handles: Compared,
+    shares: Shares,
     causes: Causes,
     traces: Traces,
 }
@@ -78,6 +81,12 @@ impl Tally {
         }
         self.extras.note(text, bound, run);
         self.handles.note(text, bound, run);
+        self.shares.note(text, bound);
+    }
+
+    /// What a report depends on, and how many files had it.
+    fn counts(&self) -> impl Iterator<Item = (&'static str, u64)> {
+        self.extras.counts().into_iter().chain(self.handles.counts()).chain(self.shares.counts())
     }
 
     /// All comparisons on one file; with the programs too, if they are given.
@@ -172,17 +181,17 @@ fn compare_program_files(tally: &mut Tally) {
     }
 }
 
-/// Files enough that every kind, every refusal of a text, every use of an extra, every pair with a handle, every cause and every way in
-/// which a trace compares must come up.
+/// Files enough that every kind, every refusal of a text, every use of an extra, every pair with a handle, SHARE on each side of a half,
+/// every cause and every way in which a trace compares must come up.
 const MANY: u64 = 5_000;
 
 /// Whether what was compared had all kinds in accepted code and in accepted words, reports, each refusal of a text, extras wherever they
-/// count, handles in operations on two cells, each cause by which words are refused, and traces that agree, differ and are refused by
-/// each cause.
+/// count, handles in operations on two cells, SHARE at a half and next to it, each cause by which words are refused, and traces that
+/// agree, differ and are refused by each cause.
 fn covers(tally: &Tally) -> Result<(), String> {
     let missing: Vec<u32> = (0..=11).filter(|n| *n != 10 && !tally.answers.contains_key(n)).collect();
-    let counts = tally.extras.counts().into_iter().chain(tally.handles.counts()).chain(tally.causes.counts());
-    let too_few = counts.chain(tally.traces.counts()).filter(|(_, count)| *count < MANY / 200);
+    let counts = tally.counts().chain(tally.causes.counts()).chain(tally.traces.counts());
+    let too_few = counts.filter(|(_, count)| *count < MANY / 200);
     let rare: Vec<_> =
         too_few.chain(tally.traces.rare().into_iter().filter(|(_, count)| *count < MANY / 1000)).collect();
     let kinds = [tally.kinds.len(), tally.causes.kinds()];
@@ -248,7 +257,7 @@ fn main() {
         println!("{name:<10} {bound:>7} {run:>7}");
     }
     println!("kinds in the code of accepted files: {}", tally.kinds.len());
-    for (what, count) in tally.extras.counts().into_iter().chain(tally.handles.counts()) {
+    for (what, count) in tally.counts() {
         println!("files with {what}: {count}");
     }
     println!("kinds in the words of accepted imports: {}", tally.causes.kinds());

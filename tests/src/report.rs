@@ -27,8 +27,22 @@ pub fn run_answer(text: &[u8], lent: usize) -> Answer {
     Ok(format!("CYCLES WORDS DEPTH STEPS\n{} {} {} {}\n", run.cycles, run.words, run.depth, run.steps).into_bytes())
 }
 
+/// Whether CYCLES × 1000 / TICK is a whole number and a half.
+pub fn at_a_half(cycles: u64, tick: u64) -> bool {
+    cycles * 2000 % tick == 0 && cycles * 2000 / tick % 2 == 1
+}
+
+/// CYCLES × 1000 / TICK to the nearest whole number, and at a half to the even one.
+fn share(cycles: u64, tick: u64) -> u64 {
+    let half_up = (cycles * 2000 + tick) / (2 * tick);
+    if at_a_half(cycles, tick) && half_up % 2 == 1 {
+        half_up - 1
+    } else {
+        half_up
+    }
+}
+
 fn bound_report(figures: &Figures, tick: u64) -> String {
-    let share = (figures.cycles * 1000 * 2 + tick) / (2 * tick);
     let path: String =
         (0..figures.path.length).map(|i| if figures.path.taken >> i & 1 == 1 { 'T' } else { 'N' }).collect();
     format!(
@@ -37,7 +51,7 @@ fn bound_report(figures: &Figures, tick: u64) -> String {
         figures.words,
         figures.depth,
         figures.steps,
-        share,
+        share(figures.cycles, tick),
         if path.is_empty() { "-" } else { &path }
     )
 }
