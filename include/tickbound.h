@@ -126,8 +126,8 @@ static inline uint32_t tickbound_place(uint64_t answer) {
     return tickbound_is_refused(answer) ? (uint32_t)(answer & 0xffffffff) : 0;
 }
 
-/* The figures of a bound. `share` is the cycles in thousandths of TICK, to the nearest whole number, and at an exact half
- * to the even one. `path` is the letters of the decisions, N or T, ended by a 0; where there is none, it is empty (the
+/* The figures of a bound. `share` is the cycles in thousandths of TICK, to the nearest whole number, at an exact half
+ * the even one. `path` is the letters of the decisions, N or T, ended by a 0; where there is none, it is empty (the
  * report has `-` there). */
 struct tickbound_report {
     uint64_t cycles, words, depth, steps, share;
