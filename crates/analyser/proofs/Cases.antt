@@ -157,6 +157,32 @@ geint-handles = operated "0 GEINT -" "#0 #1"
 pub share-34 : List ℕ
 share-34 = one-stop "1000 2000" "67"
 
+-- document 02 §7: a file with a cell, a field, a line with an argument and an answer, each at an end of the range of numbers or just outside it
+abbrev numbered : String → String → String → String → List ℕ
+numbered accu field line answer =
+    file
+    ("BUDGET TICK" ∷ "1000 1000" ∷
+    "OFFSETINT STOP" ∷ "2 1" ∷ "0 0" ∷ "0 0" ∷
+    "-" ∷ "-" ∷ "-" ∷
+    "ACCU" ∷ accu ∷
+    "B0.0" ∷ field ∷
+    "AT OP ARG" ∷ line ∷ "1 STOP -" ∷ "ANSWER" ∷ answer ∷ [])
+
+pub at-the-ends : List ℕ
+at-the-ends = numbered "1073741823" "-1073741824" "0 OFFSETINT -1073741824" "1073741823"
+
+pub cell-outside : List ℕ
+cell-outside = numbered "1073741824" "0" "0 OFFSETINT 0" "0"
+
+pub field-outside : List ℕ
+field-outside = numbered "0" "-1073741825" "0 OFFSETINT 0" "0"
+
+pub argument-outside : List ℕ
+argument-outside = numbered "0" "0" "0 OFFSETINT 1073741824" "0"
+
+pub answer-outside : List ℕ
+answer-outside = numbered "0" "0" "0 OFFSETINT 0" "-1073741825"
+
 -- what the bound or the run prints for a file with 128 lent bytes
 abbrev Bounds : List ℕ → List String → Type 0
 Bounds text expected = analyser.printed (analyser.boundAnswer text 128) ≡ file expected
@@ -177,11 +203,11 @@ cell z = cells.cell (Number z)
 abbrev state : ℕ → ℤ → List Cell → machine.State
 state at accu stack = record { at = at; accu = cell accu; stack = stack; blocks = [] }
 
--- the one step of a kind that takes no argument, from an accumulator and a stack, leaves another accumulator and an empty stack
-abbrev Gives : String → ℤ → List Cell → ℤ → Type 0
-Gives kind accu stack expected =
+-- the one step of a kind with an argument, 0 where it takes none, from an accumulator and a stack, leaves another accumulator and an empty stack
+abbrev Gives : String → ℤ → ℤ → List Cell → ℤ → Type 0
+Gives kind argument accu stack expected =
     let price : machine.Price = record { cycles = 1; words = 0 } in
-    let code : machine.Code = record { first = 0; instructions = machine.instruction (columns.kindAt (text.find (text.bytes kind) kinds.kindNames)) (pos 0) price 0 ∷ [] } in
+    let code : machine.Code = record { first = 0; instructions = machine.instruction (columns.kindAt (text.find (text.bytes kind) kinds.kindNames)) argument price 0 ∷ [] } in
     machine.step code cells.unknown (state 0 accu stack) ≡ try.done (machine.goes price (state 1 expected []))
 
 abbrev Starred : Type 0
@@ -193,9 +219,19 @@ Starred =
     × Bounds case2-exact (report "6 0 0 3 6 T")
     × Bounds case3 (report "0 0 0 1 0 -")
     × Bounds case4 (report "13 9 0 5 13 N")
-    -- case 5: 2147483647 plus 1 is -2147483648, and NEGINT of -2147483648 is itself
-    × Gives "ADDINT" (pos 2147483647) (cell (pos 1) ∷ []) (negsuc 2147483647)
-    × Gives "NEGINT" (negsuc 2147483647) [] (negsuc 2147483647)
+    -- case 5: 1073741823 plus 1 is -1073741824, and NEGINT of -1073741824 is itself
+    × Gives "ADDINT" (pos 0) (pos 1073741823) (cell (pos 1) ∷ []) (negsuc 1073741823)
+    × Gives "NEGINT" (pos 0) (negsuc 1073741823) [] (negsuc 1073741823)
+    -- the other operations that wrap, and OFFSETINT below the range too
+    × Gives "SUBINT" (pos 0) (negsuc 1073741823) (cell (pos 1) ∷ []) (pos 1073741823)
+    × Gives "OFFSETINT" (pos 1) (pos 1073741823) [] (negsuc 1073741823)
+    × Gives "OFFSETINT" (negsuc 0) (negsuc 1073741823) [] (pos 1073741823)
+    × Gives "BOOLNOT" (pos 0) (negsuc 1073741822) [] (negsuc 1073741823)
+    × Bounds at-the-ends (report "3 0 0 2 3 -")
+    × Bounds cell-outside ("REFUSED 3 11" ∷ [])
+    × Bounds field-outside ("REFUSED 3 13" ∷ [])
+    × Bounds argument-outside ("REFUSED 3 15" ∷ [])
+    × Bounds answer-outside ("REFUSED 3 18" ∷ [])
     × Bounds case6 ("REFUSED 7 1" ∷ [])
     × Runs case7 (run-report "56 4 1 3")
     × Bounds jump-bound (report "9 0 0 3 9 T")
@@ -237,8 +273,8 @@ Published =
     × (routines.readRun case7 ≡ routines.routine (holding (state 0 (pos 0) (cell (pos 0) ∷ [])) (pos 7 ∷ [])))
 
 computed : Starred × Published
-unfolding case1 case1-half case2 case2-spent case2-exact case3 case4 case6 case7 jump-bound jump-taken jump-not-taken jump-below jump-tie jump-above eq-equal eq-unlike neq-equal neq-unlike eq-number eq-unknown geint-handles share-34 refusals.number refusals.place text.equals text.split text.words text.linesOf text.lines text.find text.among text.all text.distinct decimals.digitsFrom decimals.natural decimals.numeral decimals.digits decimals.decimal numbers.wrap numbers.holds try._>>=_ cells.calculate₁ cells.calculate₂ cells.map₁ cells.compareHandles cells.combineHandles cells.map₂ cells.operate₁ cells.operate₂ cells.conditionIn cells.condition cells.handled cells.block kinds.kinds kinds.kindNames kinds.operand lists.nth lists.put lists.without machine.height machine.priceOf machine.fetch machine.jump machine.load machine.restack machine.store machine.push machine.pop machine.getField machine.setField machine.advance machine.ahead machine.withExtra machine.ways machine.opposite machine.perform machine.prepare machine.execute machine.step machine.takes machine.takesAnswer tree.expand tree.tree tree.address tree.steps tree.size tree.cycles tree.words tree.depth tree.worse tree.path tree.report tree.refusal tree.judge tree.verdict tree.explore tree.bound run.begin run.answer run.remaining run.moved run.leads run.once run.after run.stuckAt run.isStuck run.boundedAfresh run.judgeRun run.run layout.isAnswer layout.body layout.upToAnswer layout.pastAnswer layout.codeLines layout.answerLines layout.answerRoles layout.codeRoles layout.bodyRoles layout.roles layout.list layout.textAt layout.listed rows.isNumeral rows.valueOf rows.value rows.knownOf rows.blockOf rows.hashed rows.cellWord rows.isCell rows.cellInRange rows.cellPresent rows.isName rows.stackNames rows.cellNames rows.equalLists rows.isField rows.sizesFrom rows.blockSizes rows.total rows.argumentOf rows.onArgument rows.argumentLaidOut rows.argumentInRange rows.argumentNamed rows.argumentReaches rows.extraRange rows.extrasInRange rows.columnInRange rows.columnLaidOut rows.onCells rows.onCode rows.namesLaidOut rows.valuesLaidOut rows.codeLaidOut rows.laidOut rows.codeInRange rows.inRange rows.wellNamed rows.firstAt rows.codeNamed rows.named rows.priced rows.reaches rows.allKnown rows.test rows.earliest rows.refusedLine routines.inside routines.priceList routines.argumentValue routines.instructionOf columns.kindAt machine.instruction interrupted.code routines.codeIn routines.cellOf routines.cellsOf routines.blocksInLine routines.startOf routines.routineOf routines.orElse routines.checked routines.limited routines.readBound routines.readRun reports.share reports.pathText reports.figures reports.boundText reports.runText reports.refusalLine reports.refusalText analyser.ofVerdict answers.ofReading analyser.boundRoutine analyser.runRoutine analyser.boundAnswer analyser.runAnswer answers.memory analyser.printed
-computed = ((refl, refl, refl, refl, refl, refl, refl, refl, refl, refl, refl, refl, refl, refl, refl, refl, refl, refl, refl, refl, refl, refl, refl, refl, refl, refl, refl, refl, refl, refl), (refl, refl, refl))
+unfolding case1 case1-half case2 case2-spent case2-exact case3 case4 case6 case7 jump-bound jump-taken jump-not-taken jump-below jump-tie jump-above eq-equal eq-unlike neq-equal neq-unlike eq-number eq-unknown geint-handles at-the-ends cell-outside field-outside argument-outside answer-outside share-34 refusals.number refusals.place text.equals text.split text.words text.linesOf text.lines text.find text.among text.all text.distinct decimals.digitsFrom decimals.natural decimals.numeral decimals.digits decimals.decimal numbers.wrap numbers.holds try._>>=_ cells.calculate₁ cells.calculate₂ cells.map₁ cells.compareHandles cells.combineHandles cells.map₂ cells.operate₁ cells.operate₂ cells.conditionIn cells.condition cells.handled cells.block kinds.kinds kinds.kindNames kinds.operand lists.nth lists.put lists.without machine.height machine.priceOf machine.fetch machine.jump machine.load machine.restack machine.store machine.push machine.pop machine.getField machine.setField machine.advance machine.ahead machine.withExtra machine.ways machine.opposite machine.perform machine.prepare machine.execute machine.step machine.takes machine.takesAnswer tree.expand tree.tree tree.address tree.steps tree.size tree.cycles tree.words tree.depth tree.worse tree.path tree.report tree.refusal tree.judge tree.verdict tree.explore tree.bound run.begin run.answer run.remaining run.moved run.leads run.once run.after run.stuckAt run.isStuck run.boundedAfresh run.judgeRun run.run layout.isAnswer layout.body layout.upToAnswer layout.pastAnswer layout.codeLines layout.answerLines layout.answerRoles layout.codeRoles layout.bodyRoles layout.roles layout.list layout.textAt layout.listed rows.isNumeral rows.valueOf rows.value rows.knownOf rows.blockOf rows.hashed rows.cellWord rows.isCell rows.cellInRange rows.cellPresent rows.isName rows.stackNames rows.cellNames rows.equalLists rows.isField rows.sizesFrom rows.blockSizes rows.total rows.argumentOf rows.onArgument rows.argumentLaidOut rows.argumentInRange rows.argumentNamed rows.argumentReaches rows.extraRange rows.extrasInRange rows.columnInRange rows.columnLaidOut rows.onCells rows.onCode rows.namesLaidOut rows.valuesLaidOut rows.codeLaidOut rows.laidOut rows.codeInRange rows.inRange rows.wellNamed rows.firstAt rows.codeNamed rows.named rows.priced rows.reaches rows.allKnown rows.test rows.earliest rows.refusedLine routines.inside routines.priceList routines.argumentValue routines.instructionOf columns.kindAt machine.instruction interrupted.code routines.codeIn routines.cellOf routines.cellsOf routines.blocksInLine routines.startOf routines.routineOf routines.orElse routines.checked routines.limited routines.readBound routines.readRun reports.share reports.pathText reports.figures reports.boundText reports.runText reports.refusalLine reports.refusalText analyser.ofVerdict answers.ofReading analyser.boundRoutine analyser.runRoutine analyser.boundAnswer analyser.runAnswer answers.memory analyser.printed
+computed = ((refl, refl, refl, refl, refl, refl, refl, refl, refl, refl, refl, refl, refl, refl, refl, refl, refl, refl, refl, refl, refl, refl, refl, refl, refl, refl, refl, refl, refl, refl, refl, refl, refl, refl, refl, refl, refl, refl, refl), (refl, refl, refl))
 
 pub starred : Starred
 starred = computed .0

@@ -4,8 +4,7 @@ use Prim.Native.Nat.{ℕ}
 use lib.IntN.{ℤ}
 use mir.Syntax.{w32}
 use Rattle.numbers.specs.Numbers.{wrap}
-use Rattle.numbers.proofs.NumberLaws.{wrap-number, wrap-keeps}
-use Rattle.numbers.proofs.SignedLaws.{read, wrapped-read}
+use Rattle.numbers.proofs.SignedLaws.{read, wrap-fits, result-read}
 use Rattle.numbers.specs.declared.Comparison.{Comparison}
 use Rattle.cells.specs.declared.Value.{Value}
 use Rattle.cells.specs.declared.Value.the-variants.{Number}
@@ -17,11 +16,11 @@ use Rattle.cells.specs.Try.{Try, done}
 
 -- r is the wrapped result of the operation d
 pub calculated : {D : Type 0} (f : D → ℤ) (d : D) {e : D} {r m : ℤ} → d ≡ e → r ≡ wrap m → m ≡ f e → read w32 r ≡ wrap (f d)
-calculated f d {r = r} {m = m} p q g = wrapped-read m r (sym q) ∙ ap wrap (g ∙ ap f (sym p))
+calculated f d {r = r} {m = m} p q g = result-read (wrap-fits m) (sym q) ∙ ap wrap (g ∙ ap f (sym p))
 
--- c is the cell of such a result
-pub entered : (n : ℤ) {r : ℤ} {c : Cell} → r ≡ wrap n → c ≡ number (read w32 r) → done c ≡ done (number n)
-entered n {r = r} q p = ap done (p ∙ ap number (wrapped-read n r (sym q)) ∙ ap (λ z. cell (Number z)) (wrap-keeps (wrap n) (wrap-number n)))
+-- the cell of such a result
+pub entered : (n : ℤ) {r m : ℤ} → r ≡ wrap m → m ≡ n → done (cell (Number (read w32 r))) ≡ done (number n)
+entered n {r = r} {m = m} q e = ap (λ z. done (cell (Number z))) (result-read (wrap-fits m) (sym q) ∙ ap wrap e)
 
 pub operated₁ : (u : Unary) (i : ℤ) (a : Cell) {v : Value} {m : Try Cell} → a .value ≡ v → m ≡ map₁ (calculate₁ u i) v → m ≡ operate₁ u i a
 unfolding operate₁

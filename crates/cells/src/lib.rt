@@ -55,11 +55,12 @@ pub enum Handled {
     Stuck,
 }
 
+// The cell of a number, which wraps.
 pub fn number(n: i32) -> Cell
     ensures { λ r. ⌜ r ≡ number n ⌝ }
 {
     Cell {
-        value: Value::Number(n),
+        value: Value::Number(numbers::narrow(n as i64)),
     }
 }
 
@@ -107,7 +108,9 @@ pub fn operate1(u: Unary, i: i32, a: Cell) -> Operand
 {
     let value = a.value;
     match value {
-        Value::Number(n) => Operand::Is(number(calculate1(u, i, n))),
+        Value::Number(n) => Operand::Is(Cell {
+            value: Value::Number(calculate1(u, i, n)),
+        }),
         Value::Unknown => Operand::Is(unknown()),
         Value::Handle(_) => Operand::Stuck,
     }
@@ -152,7 +155,9 @@ pub fn operate2(b: Binary, a: Cell, c: Cell) -> Operand
     let right = c.value;
     match left {
         Value::Number(m) => match right {
-            Value::Number(n) => Operand::Is(number(calculate2(b, m, n))),
+            Value::Number(n) => Operand::Is(Cell {
+                value: Value::Number(calculate2(b, m, n)),
+            }),
             Value::Unknown => Operand::Is(unknown()),
             Value::Handle(_) => Operand::Stuck,
         },

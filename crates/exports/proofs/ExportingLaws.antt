@@ -17,7 +17,7 @@ use Rattle.instructions.specs.Kinds.{kindNames}
 use Rattle.instructions.specs.Columns.{kindAt}
 use Rattle.numbers.specs.Numbers.{residue}
 use Rattle.routine.specs.Rows.{op, arg}
-use Rattle.words.specs.Words.{bytesOf, allBytes}
+use Rattle.words.specs.Words.{wordBits, bytesOf, allBytes}
 use Rattle.words.specs.Decoding.{itemOf, hasArgument}
 use Rattle.words.specs.Held.{sizeOf}
 use Rattle.words.specs.Export.{Op, opOf, positions, itemsFrom, itemWords, wordsIn, exportOps}
@@ -106,7 +106,7 @@ words-size : (i k : ℕ) (z : ℤ) → length (itemWords (itemOf i k z)) ≡ siz
 unfolding itemWords sizeOf
 words-size i k z = go (hasArgument (kindAt k .argument))
   where
-    go : (b : Bool) → length (kindAt k .opcode ∷ cond b (residue z ∷ []) []) ≡ cond b 2 1
+    go : (b : Bool) → length (kindAt k .opcode ∷ cond b (residue wordBits z ∷ []) []) ≡ cond b 2 1
     go true = refl
     go false = refl
 
@@ -132,14 +132,14 @@ module _ (ps : List (List ℕ)) (is : List ℕ) (first i : ℕ) (text : List ℕ
 
     -- and the argument word z that the argument w makes
     pub line-with : hasArgument (kindAt k .argument) ≡ true → {w : List ℕ} {z : ℤ} → w ≡ arg text → z ≡ argumentAt ps is first i w (kindAt k .argument)
-        → (lineBytes ps is first i text ≡ bytesOf n ++ bytesOf (residue z)) × (sizeOf (kindIn text) ≡ 2)
+        → (lineBytes ps is first i text ≡ bytesOf n ++ bytesOf (residue wordBits z)) × (sizeOf (kindIn text) ≡ 2)
     unfolding lineBytes itemWords allBytes
     line-with h {w} {z} u d =
         let h′ : hasArgument (kindAt (kindIn text) .argument) ≡ true = rw e at h in
         let d′ = d ∙ ap₂ (λ v j. argumentAt ps is first i v (kindAt j .argument)) u e in (
           rw h′
               (ap (λ bs. bytesOf (kindAt (kindIn text) .opcode) ++ bs) (append-nil _)
-              ∙ ap₂ (λ j y. bytesOf j ++ bytesOf (residue y)) (sym (o ∙ ap (λ j. kindAt j .opcode) e)) (sym d′)),
+              ∙ ap₂ (λ j y. bytesOf j ++ bytesOf (residue wordBits y)) (sym (o ∙ ap (λ j. kindAt j .opcode) e)) (sym d′)),
           size-two (kindIn text) h′,
         )
 

@@ -80,7 +80,7 @@ fn argument_word(
         Argument::Absent => 0,
         Argument::Target => offset_to(target_index(indices, first, k, w), index),
         Argument::Primitive => layout::index_listed(primitives, w) as i32,
-        Argument::Within(_) => parts::number_of(values::number_range(), w),
+        Argument::Within(_) => parts::number_of(numbers::number_range(), w),
     }
 }
 

@@ -70,7 +70,7 @@ module _ (ps : List (List ℕ)) (s : ShortNames ps) (xs : List Item) (m : Addres
   lines-short n c (unreadable i ∷ es) (unread l) e = let z : _≡_ {A = ℕ} 0 1 = cc in absurd (omega arith)
   lines-short n c (item x ∷ es) (next l k f r) e =
       let o = sound-item n c x es e in
-      let y = line-short c x (record { sfits = f .fits }) (o .0) k in
+      let y = line-short c x f (o .0) k in
       omega (arith, length-append (lineText ps xs c x) (linesFrom ps xs (suc c) (items es)), lines-short n (suc c) es r (o .1))
 
 -- ---- all lines

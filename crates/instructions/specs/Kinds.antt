@@ -38,7 +38,7 @@ count = Within (range 0 64)
 abbrev pub field : Argument
 field = Within (range 0 15)
 
--- "An i is any 32-bit number."
+-- "An i is any .. number" (document 01), of 31 bits (document 02, §7)
 abbrev pub any : Argument
 any = Within numbers
 

@@ -159,13 +159,13 @@ pub const LOWS: [i64; 61] = [
     0, // CONST1
     0, // CONST2
     0, // CONST3
-    -2147483648, // CONSTINT
+    numbers::LOWEST as i64, // CONSTINT
     0, // PUSHCONST0
     0, // PUSHCONST1
     0, // PUSHCONST2
     0, // PUSHCONST3
-    -2147483648, // PUSHCONSTINT
-    -2147483648, // OFFSETINT
+    numbers::LOWEST as i64, // PUSHCONSTINT
+    numbers::LOWEST as i64, // OFFSETINT
     0, // NEGINT
     0, // BOOLNOT
     0, // ADDINT
@@ -224,13 +224,13 @@ pub const HIGHS: [i64; 61] = [
     0, // CONST1
     0, // CONST2
     0, // CONST3
-    2147483647, // CONSTINT
+    numbers::HIGHEST as i64, // CONSTINT
     0, // PUSHCONST0
     0, // PUSHCONST1
     0, // PUSHCONST2
     0, // PUSHCONST3
-    2147483647, // PUSHCONSTINT
-    2147483647, // OFFSETINT
+    numbers::HIGHEST as i64, // PUSHCONSTINT
+    numbers::HIGHEST as i64, // OFFSETINT
     0, // NEGINT
     0, // BOOLNOT
     0, // ADDINT

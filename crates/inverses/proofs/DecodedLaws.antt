@@ -16,11 +16,11 @@ use Rattle.numbers.specs.Numbers.{modulus, half, residue, signed}
 use Rattle.instructions.specs.Columns.{kindAt}
 use Rattle.instructions.specs.Opcodes.{kindCoded}
 use Rattle.instructions.proofs.OpcodeLaws.{opcode-of-kind}
-use Rattle.words.specs.Words.{Word, whole, cut, littleEndian, wordsOf, bytesOf, allBytes}
+use Rattle.words.specs.Words.{wordBits, Word, whole, cut, littleEndian, wordsOf, bytesOf, allBytes}
 use Rattle.words.specs.Decoding.{Item, itemOf, hasArgument, Entry, item, unreadable, Due, opcode, argument, coded, entries, items, callListed, faultFrom}
 use Rattle.words.specs.Held.{sizeOf}
 use Rattle.words.specs.Export.{itemWords, wordsIn}
-use Rattle.words.proofs.WordLaws.{signed-is-number}
+use Rattle.words.proofs.WordLaws.{signed-fits}
 use Rattle.words.proofs.HeadLaws.{size-one, size-two}
 use Rattle.words.proofs.ExportLaws.{Placed, with-word, plain}
 use Rattle.words.proofs.ExportLaws as placed
@@ -32,7 +32,7 @@ data Holds : ℕ → List ℕ → List Item → Type 0 where
   done : {i : ℕ} → Holds i [] []
   alone : {i w k : ℕ} {ns : List ℕ} {xs : List Item} → kindCoded w ≡ at k → hasArgument (kindAt k .argument) ≡ false → Holds (suc i) ns xs → Holds i (w ∷ ns) (itemOf i k (pos 0) ∷ xs)
   paired : {i w v k : ℕ} {ns : List ℕ} {xs : List Item} → kindCoded w ≡ at k → hasArgument (kindAt k .argument) ≡ true → Holds (suc (suc i)) ns xs
-      → Holds i (w ∷ v ∷ ns) (itemOf i k (signed v) ∷ xs)
+      → Holds i (w ∷ v ∷ ns) (itemOf i k (signed wordBits v) ∷ xs)
 
 pub faulty : {X : Type 0} (i : ℕ) → at i ≡ missing → X
 faulty i e = let z : _≡_ {A = ℕ} 0 1 = cc in absurd (omega arith)
@@ -73,7 +73,7 @@ sound-holds n c i (whole w ∷ v ∷ ws) e = go (kindCoded w) refl e (sound-hold
         → (ns : List ℕ) × (whole w ∷ v ∷ ws ≡ map whole ns) × Holds i ns (items (entries (argument i k) (suc i) (v ∷ ws)))
     after-two k cut q a f two = faulty i f
     after-two k (whole u) q a f two =
-        let h = two (fault-rest n c (itemOf i k (signed u)) (entries opcode (suc (suc i)) ws) f) in
+        let h = two (fault-rest n c (itemOf i k (signed wordBits u)) (entries opcode (suc (suc i)) ws) f) in
         (w ∷ u ∷ h .0, ap (λ vs. whole w ∷ whole u ∷ vs) (h .1), paired q a (h .2))
 
     by-argument : (k : ℕ) (b : Bool) → kindCoded w ≡ at k → hasArgument (kindAt k .argument) ≡ b
@@ -97,14 +97,14 @@ sound-holds n c i (whole w ∷ v ∷ ws) e = go (kindCoded w) refl e (sound-hold
 -- ---- what they hold
 
 -- a word by its signed number
-residue-back : (v : ℕ) → v < modulus → residue (signed v) ≡ v
-residue-back v h = go (ltb v half) refl
+residue-back : (v : ℕ) → v < modulus wordBits → residue wordBits (signed wordBits v) ≡ v
+residue-back v h = go (ltb v (half wordBits)) refl
   where
-    go : (b : Bool) → ltb v half ≡ b → residue (cond b (pos v) (negsuc (modulus - suc v))) ≡ v
+    go : (b : Bool) → ltb v (half wordBits) ≡ b → residue wordBits (cond b (pos v) (negsuc (modulus wordBits - suc v))) ≡ v
     go true e = mod-eq-of-lt h
-    go false e = let m : (modulus - suc v) % modulus ≡ modulus - suc v = mod-eq-of-lt (omega arith) in omega arith
+    go false e = let m : (modulus wordBits - suc v) % modulus wordBits ≡ modulus wordBits - suc v = mod-eq-of-lt (omega arith) in omega arith
 
-holds-placed : {i : ℕ} {ns : List ℕ} {xs : List Item} → Holds i ns xs → Every (λ n. n < modulus) ns → Placed i xs
+holds-placed : {i : ℕ} {ns : List ℕ} {xs : List Item} → Holds i ns xs → Every (λ n. n < modulus wordBits) ns → Placed i xs
 holds-placed done none = placed.none
 holds-placed (alone {i} {w} {k} {xs} q a h) (more b bs) =
     let s = size-one k a in
@@ -113,9 +113,9 @@ holds-placed (alone {i} {w} {k} {xs} q a h) (more b bs) =
 holds-placed (paired {i} {w} {v} {k} {xs} q a h) (more b (more d bs)) =
     let s = size-two k a in
     let e : suc (suc i) ≡ i + sizeOf k = omega arith in
-    with-word (opcode-of-kind w k q .0) a (signed-is-number v) (subst (λ j. Placed j xs) e (holds-placed h bs))
+    with-word (opcode-of-kind w k q .0) a (signed-fits v) (subst (λ j. Placed j xs) e (holds-placed h bs))
 
-holds-words : {i : ℕ} {ns : List ℕ} {xs : List Item} → Holds i ns xs → Every (λ n. n < modulus) ns → wordsIn xs ≡ ns
+holds-words : {i : ℕ} {ns : List ℕ} {xs : List Item} → Holds i ns xs → Every (λ n. n < modulus wordBits) ns → wordsIn xs ≡ ns
 unfolding wordsIn itemWords
 holds-words done none = refl
 holds-words (alone {w} {k} q a h) (more b bs) = rw (a, opcode-of-kind w k q .1, holds-words h bs) refl
@@ -140,7 +140,7 @@ four-back a b c d n t u h i j k e f =
     let z : n / 16777216 % 256 ≡ d = ap (λ m. m % 256) r ∙ omega arith in
     rw (w, x, y, z, f) refl
 
-bytes-back : (bs ns : List ℕ) → Every (λ b. b < 256) bs → wordsOf bs ≡ map whole ns → Every (λ n. n < modulus) ns × (allBytes ns ≡ bs)
+bytes-back : (bs ns : List ℕ) → Every (λ b. b < 256) bs → wordsOf bs ≡ map whole ns → Every (λ n. n < modulus wordBits) ns × (allBytes ns ≡ bs)
 unfolding wordsOf allBytes bytesOf
 bytes-back [] [] h e = (none, refl)
 bytes-back [] (n ∷ ns) h e = let z : _≡_ {A = ℕ} 0 1 = cc in absurd (omega arith)
@@ -152,7 +152,7 @@ bytes-back (a ∷ b ∷ c ∷ d ∷ bs) (n ∷ ns) (more h (more i (more j (more
     let f : littleEndian a b c d ≡ n = cc in
     let g : wordsOf bs ≡ map whole ns = cc in
     let r = bytes-back bs ns hs g in
-    let small : n < modulus = omega arith in
+    let small : n < modulus wordBits = omega arith in
     (more small (r .0), four-back a b c d n (allBytes ns) bs h i j k f (r .1))
 
 -- ---- all

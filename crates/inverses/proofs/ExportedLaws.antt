@@ -15,7 +15,7 @@ use Rattle.text.specs.declared.Place.{Place}
 use Rattle.text.specs.declared.Place.the-variants.{At as at, Missing as missing}
 use Rattle.text.proofs.TextLaws.{Every, none, more, place-below}
 use Rattle.text.proofs.LineLaws.{unendedLine}
-use Rattle.numbers.specs.Numbers.{half, IsNumber, within, numbers}
+use Rattle.numbers.specs.Numbers.{IsNumber, numbers}
 use Rattle.instructions.specs.Kinds.{addresses, kindNames}
 use Rattle.instructions.specs.Columns.{kindAt}
 use Rattle.instructions.specs.declared.Argument.{Argument}

@@ -8,13 +8,16 @@ use native.Mathlib.Omega.{arith}
 use lib.Dec.{ltb}
 use lib.IntN.{ℤ, pos, negsuc, natAbs, _+ℤ_, _-ℤ_}
 use lib.ListN.{length, getD}
+use mir.Syntax.{w32}
+use mir.Val.{SFits}
 use borrow.Author.Tests.{lt-ltb, ltb-true, ltb-false}
 use Rattle.text.specs.Text.{bytes, Line, indexOf}
 use Rattle.text.specs.declared.Place.the-variants.{At as at, Missing as missing}
 use Rattle.text.specs.Decimal.{decimal}
 use Rattle.text.proofs.TextLaws.{Every, none, more}
 use Rattle.numbers.specs.declared.Range.{Range}
-use Rattle.numbers.specs.Numbers.{half, IsNumber}
+use Rattle.numbers.specs.Numbers.{IsNumber}
+use Rattle.numbers.proofs.SignedLaws.{number-fits}
 use Rattle.instructions.specs.Columns.{kindAt}
 use Rattle.instructions.specs.declared.Argument.{Argument}
 use Rattle.instructions.specs.declared.Argument.the-variants.{Absent, Target, Primitive, Within}
@@ -40,13 +43,13 @@ position-small i n [] = omega arith
 position-small i zero (x ∷ xs) = omega arith
 position-small i (suc n) (x ∷ xs) = let h = position-small (i + sizeOf (x .kind)) n xs in let s = size-small (x .kind) in omega arith
 
--- so that an offset is a number
-offset-number : (p i : ℕ) → p ≤ 2048 → i ≤ 2048 → IsNumber (pos p -ℤ pos (suc i))
-offset-number p i h k = go (ltb p (suc i)) refl
+-- so that an offset fits a word
+offset-fits : (p i : ℕ) → p ≤ 2048 → i ≤ 2048 → SFits w32 (pos p -ℤ pos (suc i))
+offset-fits p i h k = go (ltb p (suc i)) refl
   where
-    go : (b : Bool) → ltb p (suc i) ≡ b → IsNumber (cond b (negsuc (suc i - suc p)) (pos (p - suc i)))
-    go true e = record { fits = omega arith }
-    go false e = record { fits = omega arith }
+    go : (b : Bool) → ltb p (suc i) ≡ b → SFits w32 (cond b (negsuc (suc i - suc p)) (pos (p - suc i)))
+    go true e = record { sfits = omega arith }
+    go false e = record { sfits = omega arith }
 
 module _ (ps : List (List ℕ)) (os : List Op) (few : length os ≤ 1024) where
   abbrev pub indices : List ℕ
@@ -65,9 +68,9 @@ module _ (ps : List (List ℕ)) (os : List Op) (few : length os ≤ 1024) where
     place-one Absent q absent m h p = plain h (ap hasArgument q) p
     place-one Target q (target {t} k) m h p =
         let s = position-small 0 t os in
-        with-word h (ap hasArgument q) (offset-number (getD indices t 0) i (omega arith) near) p
-    place-one Primitive q (primitive k) m h p = with-word h (ap hasArgument q) m p
-    place-one (Within r) q within-range m h p = with-word h (ap hasArgument q) m p
+        with-word h (ap hasArgument q) (offset-fits (getD indices t 0) i (omega arith) near) p
+    place-one Primitive q (primitive k) m h p = with-word h (ap hasArgument q) (number-fits _ m) p
+    place-one (Within r) q within-range m h p = with-word h (ap hasArgument q) (number-fits _ m) p
 
     argument-made : (a : Argument) {w : List ℕ} {z : ℤ} → Argued ps (length os) a w z → argumentText ps exported (itemOf i j (argumentWord indices i z a)) a ≡ w
     unfolding argumentWord argumentText

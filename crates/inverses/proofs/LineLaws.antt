@@ -18,7 +18,7 @@ use Rattle.text.specs.Decimal.{isDigit, numeral, decimal}
 use Rattle.text.proofs.TextLaws.{Every, every-map, every-getD, all-every, and-left, and-right, cond-left, cond-right, equals-path}
 use Rattle.text.proofs.DecimalLaws.{decimal-digits, decimal-read}
 use Rattle.numbers.specs.declared.Range.{Range}
-use Rattle.numbers.specs.Numbers.{half, IsNumber, within, numbers, same}
+use Rattle.numbers.specs.Numbers.{bits, half, IsNumber, within, numbers, same}
 use Rattle.instructions.specs.Kinds.{Kind, addresses, kinds, kindNames}
 use Rattle.instructions.specs.Columns.{kindAt}
 use Rattle.instructions.specs.declared.Argument.{Argument}
@@ -57,10 +57,10 @@ pub record Says (ps : List (List ℕ)) (n k : ℕ) (text : List ℕ) (o : Op) : 
 -- ---- numbers
 
 number-within : (z : ℤ) → IsNumber z → within numbers z ≡ true
-number-within (pos n) h = let k = h .fits in le-leb n (half - 1) (omega arith)
-number-within (negsuc n) h = let k = h .fits in rw (le-leb n (half - 1) (omega arith)) refl
+number-within (pos n) h = let k = h .fits in le-leb n (half bits - 1) (omega arith)
+number-within (negsuc n) h = let k = h .fits in rw (le-leb n (half bits - 1) (omega arith)) refl
 
-between : (low high z : ℤ) → mag low < half → mag high < half → leZ low z ≡ true → leZ z high ≡ true → mag z < half
+between : (low high z : ℤ) → mag low < half bits → mag high < half bits → leZ low z ≡ true → leZ z high ≡ true → mag z < half bits
 between low (pos b) (pos n) l h e f = let q = leb-true n b f in omega arith
 between low (negsuc b) (pos n) l h e f = absurd (false≢true f)
 between (pos a) high (negsuc n) l h e f = absurd (false≢true e)
@@ -71,7 +71,7 @@ abbrev bounded : Argument → Bool
 bounded Absent = true
 bounded Target = true
 bounded Primitive = true
-bounded (Within r) = ltb (mag (r .low)) half && ltb (mag (r .high)) half
+bounded (Within r) = ltb (mag (r .low)) (half bits) && ltb (mag (r .high)) (half bits)
 
 kind-bounded : (k : ℕ) → bounded (kindAt k .argument) ≡ true
 unfolding kinds kindAt all
@@ -83,8 +83,8 @@ argument-number r z b e =
     record {
       fits =
           between (r .low) (r .high) z
-          (ltb-true (mag (r .low)) half (and-left (ltb (mag (r .low)) half) (ltb (mag (r .high)) half) b))
-          (ltb-true (mag (r .high)) half (and-right (ltb (mag (r .low)) half) (ltb (mag (r .high)) half) b))
+          (ltb-true (mag (r .low)) (half bits) (and-left (ltb (mag (r .low)) (half bits)) (ltb (mag (r .high)) (half bits)) b))
+          (ltb-true (mag (r .high)) (half bits) (and-right (ltb (mag (r .low)) (half bits)) (ltb (mag (r .high)) (half bits)) b))
           (within-low r z e)
           (within-high r z e);
     }

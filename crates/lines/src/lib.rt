@@ -366,5 +366,5 @@ pub fn answer_laid_out(k: usize, line: &[u8]) -> bool
 pub fn answer_in_range(line: &[u8]) -> bool
     ensures { λ r. ⌜ r ≡ within numbers (value (now (line .entry))) ⌝ }
 {
-    values::is_within(values::number_range(), line)
+    values::is_within(numbers::number_range(), line)
 }

@@ -1,18 +1,18 @@
 -- Signed locals. A local holds bits, and the machine computes with what it reads back from them; that is the number itself where the
 -- number fits the width. Assumes nothing.
 use mathlib.Core.Path.{_≡_, refl, sym, ap, subst, _∙_}
-use mathlib.Core.Bool.{Bool, true, false, cond, false≢true}
-use Prim.Native.Nat.{ℕ, zero, suc, _-_, _<_, _≤_}
-use native.Mathlib.Nat.{mod-eq-of-lt, lt-of-lt-of-le}
+use mathlib.Core.Bool.{Bool, true, false, cond}
+use Prim.Native.Nat.{ℕ, zero, suc, _-_, _*_, _/_, _^_, _%_, _<_, _≤_}
+use native.Mathlib.Nat.{lt-of-lt-of-le}
 use native.Mathlib.Omega.{arith}
 use lib.Dec.{ltb, eqb, lit≤}
 use lib.IntN.{ℤ, pos, negsuc, negℤ, subℕ, _+ℤ_, _-ℤ_, +ℤ-idl}
-use lib.Signed.{mag, ltZ}
+use lib.Signed.{mag, ltZ, leZ, shrZ}
 use mir.Syntax.{Width, w32, w64}
 use mir.Val.{SFits, ofZ, toZ}
-use mir.ValLaws.{toZ-ofZ}
-use borrow.Author.Tests.{lt-ltb, le-ltb, ltb-true, ltb-false, eq-eqb, ne-eqb, eqb-true, eqb-false}
-use Rattle.numbers.specs.Numbers.{modulus, half, IsNumber, signed, wrap, same, bit}
+use mir.ValLaws.{toZ-ofZ, toZ-pos, toZ-neg}
+use borrow.Author.Tests.{lt-ltb, le-ltb, ltb-true, ltb-false, leb-false, eq-eqb, ne-eqb, eqb-true, eqb-false}
+use Rattle.numbers.specs.Numbers.{bits, modulus, half, IsNumber, residue, signed, wrap, same, bit}
 use Rattle.numbers.proofs.NumberLaws.{signed-low, signed-high, wrap-number, wrap-keeps}
 
 -- what the machine reads back
@@ -24,31 +24,65 @@ read-both f w x y h k = ap (λ a. f a (read w y)) (toZ-ofZ w x h) ∙ ap (f x) (
 
 -- ---- numbers and widths
 
-fits-number : (z : ℤ) → SFits w32 z → IsNumber z
-fits-number z h = record { fits = h .sfits }
-
-pub fits-keeps : (z : ℤ) → SFits w32 z → wrap z ≡ z
-fits-keeps z h = wrap-keeps z (fits-number z h)
+-- the code holds numbers in 32 bits
+pub number-fits : (z : ℤ) → IsNumber z → SFits w32 z
+number-fits z h = record { sfits = lt-of-lt-of-le (h .fits) (lit≤ tt) }
 
 widen : (z : ℤ) → SFits w32 z → SFits w64 z
 widen z h = record { sfits = lt-of-lt-of-le (h .sfits) (lit≤ tt) }
 
--- y is what z wraps to: it fits both widths, and is read back from both
-module _ (z y : ℤ) (e : wrap z ≡ y) where
-  pub wrapped-fits : SFits w32 y
-  wrapped-fits = subst (SFits w32) e (record { sfits = wrap-number z .fits })
+pub wrap-fits : (z : ℤ) → SFits w32 (wrap z)
+wrap-fits z = number-fits (wrap z) (wrap-number z)
 
-  pub wrapped-wide : SFits w64 y
-  wrapped-wide = widen y wrapped-fits
+-- the code has y for x, which fits 32 bits: y fits both widths, and x is read back from both
+module _ {x y : ℤ} (h : SFits w32 x) (e : x ≡ y) where
+  pub result-fits : SFits w32 y
+  result-fits = subst (SFits w32) e h
 
-  pub wrapped-cast : SFits w32 (read w64 y)
-  wrapped-cast = subst (SFits w32) (sym (toZ-ofZ w64 y wrapped-wide)) wrapped-fits
+  pub result-wide : SFits w64 y
+  result-wide = widen y result-fits
 
-  pub wrapped-read : read w32 y ≡ wrap z
-  wrapped-read = toZ-ofZ w32 y wrapped-fits ∙ sym e
+  pub result-cast : SFits w32 (read w64 y)
+  result-cast = subst (SFits w32) (sym (toZ-ofZ w64 y result-wide)) result-fits
 
-  pub wrapped-back : read w32 (read w64 y) ≡ wrap z
-  wrapped-back = ap (read w32) (toZ-ofZ w64 y wrapped-wide) ∙ wrapped-read
+  pub result-read : read w32 y ≡ x
+  result-read = toZ-ofZ w32 y result-fits ∙ sym e
+
+  pub result-back : read w32 (read w64 y) ≡ x
+  result-back = ap (read w32) (toZ-ofZ w64 y result-wide) ∙ result-read
+
+-- ---- narrowing: of 64 bits those that a number leaves over are shifted out, and the sign of the others is shifted in
+
+abbrev spare : ℕ
+spare = 64 - bits
+
+-- the remainder of a number is that of its bits
+residue-bits : (s : ℤ) → SFits w64 s → residue bits s ≡ ofZ w64 s % modulus bits
+residue-bits (pos n) h = refl
+residue-bits (negsuc n) h = let k : n < 2 ^ 63 = h .sfits in omega arith
+
+shifted-out : (n : ℕ) → n * 2 ^ spare % 2 ^ 64 ≡ n % modulus bits * 2 ^ spare
+shifted-out n = omega arith
+
+shifted-in : (r : ℕ) → r < modulus bits → shrZ (toZ w64 (r * 2 ^ spare)) (2 ^ spare) ≡ signed bits r
+shifted-in r h = go (ltb r (half bits)) refl
+  where
+    go : (t : Bool) → ltb r (half bits) ≡ t → shrZ (toZ w64 (r * 2 ^ spare)) (2 ^ spare) ≡ signed bits r
+    go true e =
+        let l : r < half bits = ltb-true r (half bits) e in
+        ap (λ z. shrZ z (2 ^ spare)) (toZ-pos w64 (r * 2 ^ spare) (omega arith)) ∙ ap pos (omega arith) ∙ sym (signed-low bits r l)
+    go false e =
+        let l : half bits ≤ r = ltb-false r (half bits) e in
+        let k = 2 ^ 64 - suc (r * 2 ^ spare) in
+        let e : r * 2 ^ spare ≡ 2 ^ 64 - suc k = omega arith in
+        ap (λ z. shrZ z (2 ^ spare)) (ap (toZ w64) e ∙ toZ-neg w64 k (omega arith)) ∙ ap negsuc (omega arith) ∙ sym (signed-high bits r l)
+
+pub narrowed : (s : ℤ) → SFits w64 s → wrap s ≡ shrZ (toZ w64 (ofZ w64 s * 2 ^ spare % 2 ^ 64)) (2 ^ spare)
+unfolding wrap
+narrowed s h =
+    ap (signed bits) (residue-bits s h)
+    ∙ sym (shifted-in (ofZ w64 s % modulus bits) (omega arith))
+    ∙ ap (λ n. shrZ (toZ w64 n) (2 ^ spare)) (sym (shifted-out (ofZ w64 s)))
 
 -- ---- differences of naturals
 
@@ -66,54 +100,23 @@ sub-mag-by a b k h g false e =
     let l : b ≤ a = ltb-false a b e in
     subst (λ z. mag z < k) (sym (sub-more a b l)) (omega arith)
 
-sub-mag : (a b k : ℕ) → a < k → b < suc k → mag (subℕ a b) < k
-sub-mag a b k h g = sub-mag-by a b k h g (ltb a b) refl
+sub-fits : (a b : ℕ) → a < 2 ^ 63 → b < suc (2 ^ 63) → SFits w64 (subℕ a b)
+sub-fits a b h g = record { sfits = sub-mag-by a b (2 ^ 63) h g (ltb a b) refl }
 
--- ---- what a sum or a difference wraps to: one modulus less above the range, and one more below it
+-- ---- sums and differences of numbers of 32 bits, in 64 bits
 
-above : (z : ℤ) → mag z < modulus → ltZ (pos (half - 1)) z ≡ true → wrap z ≡ z -ℤ pos modulus
-unfolding wrap
-above (pos n) h t =
-    let k : half - 1 < n = ltb-true _ _ t in
-    ap signed (mod-eq-of-lt h) ∙ signed-high n (omega arith) ∙ sym (sub-less n modulus h)
-above (negsuc n) h t = absurd (false≢true t)
+pub sum-fits : (x y : ℤ) → SFits w32 x → SFits w32 y → SFits w64 (x +ℤ y)
+sum-fits (pos a) (pos b) h k = record { sfits = omega arith }
+sum-fits (pos a) (negsuc b) h k = sub-fits a (suc b) (omega arith) (omega arith)
+sum-fits (negsuc a) (pos b) h k = sub-fits b (suc a) (omega arith) (omega arith)
+sum-fits (negsuc a) (negsuc b) h k = record { sfits = omega arith }
 
-below : (z : ℤ) → mag z < modulus → ltZ z (negsuc (half - 1)) ≡ true → wrap z ≡ z +ℤ pos modulus
-unfolding wrap
-below (pos n) h t = absurd (false≢true t)
-below (negsuc n) h t =
-    let k : half - 1 < n = ltb-true _ _ t in
-    ap (λ r. signed (modulus - suc r)) (mod-eq-of-lt h) ∙ signed-low (modulus - suc n) (omega arith) ∙ sym (sub-more modulus (suc n) h)
-
-between : (z : ℤ) → ltZ (pos (half - 1)) z ≡ false → ltZ z (negsuc (half - 1)) ≡ false → wrap z ≡ z
-between (pos n) t u = let k : n ≤ half - 1 = ltb-false _ _ t in wrap-keeps (pos n) (record { fits = omega arith })
-between (negsuc n) t u = let k : n ≤ half - 1 = ltb-false _ _ u in wrap-keeps (negsuc n) (record { fits = omega arith })
-
--- the same where the tests are of what is read back
-module _ (s : ℤ) (h : SFits w64 s) where
-  pub wrap-above : mag s < modulus → ltZ (pos (half - 1)) (read w64 s) ≡ true → wrap s ≡ read w64 s -ℤ pos modulus
-  wrap-above k = subst (λ z. ltZ (pos (half - 1)) z ≡ true → wrap s ≡ z -ℤ pos modulus) (sym (toZ-ofZ w64 s h)) (above s k)
-
-  pub wrap-below : mag s < modulus → ltZ (read w64 s) (negsuc (half - 1)) ≡ true → wrap s ≡ read w64 s +ℤ pos modulus
-  wrap-below k = subst (λ z. ltZ z (negsuc (half - 1)) ≡ true → wrap s ≡ z +ℤ pos modulus) (sym (toZ-ofZ w64 s h)) (below s k)
-
-  pub wrap-between : ltZ (pos (half - 1)) (read w64 s) ≡ false → ltZ (read w64 s) (negsuc (half - 1)) ≡ false → wrap s ≡ s
-  wrap-between = subst (λ z. ltZ (pos (half - 1)) z ≡ false → ltZ z (negsuc (half - 1)) ≡ false → wrap s ≡ s) (sym (toZ-ofZ w64 s h)) (between s)
-
--- ---- sums and differences of two numbers, in 64 bits
-
-pub mag-sum : (x y : ℤ) → SFits w32 x → SFits w32 y → mag (x +ℤ y) < modulus
-mag-sum (pos a) (pos b) h k = omega arith
-mag-sum (pos a) (negsuc b) h k = sub-mag a (suc b) modulus (omega arith) (omega arith)
-mag-sum (negsuc a) (pos b) h k = sub-mag b (suc a) modulus (omega arith) (omega arith)
-mag-sum (negsuc a) (negsuc b) h k = omega arith
-
-pub mag-difference : (x y : ℤ) → SFits w32 x → SFits w32 y → mag (x -ℤ y) < modulus
-mag-difference x (pos zero) h k = mag-sum x (pos zero) h k
-mag-difference (pos a) (pos (suc b)) h k = sub-mag a (suc b) modulus (omega arith) (omega arith)
-mag-difference (negsuc a) (pos (suc b)) h k = omega arith
-mag-difference (pos a) (negsuc b) h k = omega arith
-mag-difference (negsuc a) (negsuc b) h k = sub-mag (suc b) (suc a) modulus (omega arith) (omega arith)
+pub difference-fits : (x y : ℤ) → SFits w32 x → SFits w32 y → SFits w64 (x -ℤ y)
+difference-fits x (pos zero) h k = sum-fits x (pos zero) h k
+difference-fits (pos a) (pos (suc b)) h k = sub-fits a (suc b) (omega arith) (omega arith)
+difference-fits (negsuc a) (pos (suc b)) h k = record { sfits = omega arith }
+difference-fits (pos a) (negsuc b) h k = record { sfits = omega arith }
+difference-fits (negsuc a) (negsuc b) h k = sub-fits (suc b) (suc a) (omega arith) (omega arith)
 
 -- a number that is cast to 64 bits
 abbrev pub wide : ℤ → ℤ
@@ -122,22 +125,19 @@ wide x = read w64 (read w32 x)
 pub cast-fits : (x : ℤ) → SFits w32 x → SFits w64 (read w32 x)
 cast-fits x h = subst (SFits w64) (sym (toZ-ofZ w32 x h)) (widen x h)
 
-wide-is : (x : ℤ) → SFits w32 x → wide x ≡ x
+pub wide-is : (x : ℤ) → SFits w32 x → wide x ≡ x
 wide-is x h = toZ-ofZ w64 (read w32 x) (cast-fits x h) ∙ toZ-ofZ w32 x h
 
--- an operation on two such numbers that stays below the modulus: it fits, and is read back
-module _ (f : ℤ → ℤ → ℤ) (bound : (x y : ℤ) → SFits w32 x → SFits w32 y → mag (f x y) < modulus) {x y : ℤ} (h : SFits w32 x) (k : SFits w32 y) where
+-- an operation on two such numbers: it fits, and is read back
+module _ (f : ℤ → ℤ → ℤ) (fits : (x y : ℤ) → SFits w32 x → SFits w32 y → SFits w64 (f x y)) {x y : ℤ} (h : SFits w32 x) (k : SFits w32 y) where
   operation-is : f (wide x) (wide y) ≡ f x y
   operation-is = ap (λ a. f a (wide y)) (wide-is x h) ∙ ap (f x) (wide-is y k)
 
   pub operation-fits : SFits w64 (f (wide x) (wide y))
-  operation-fits = subst (SFits w64) (sym operation-is) (record { sfits = lt-of-lt-of-le (bound x y h k) (lit≤ tt) })
+  operation-fits = subst (SFits w64) (sym operation-is) (fits x y h k)
 
   pub operation-read : read w64 (f (wide x) (wide y)) ≡ f x y
   operation-read = toZ-ofZ w64 (f (wide x) (wide y)) operation-fits ∙ operation-is
-
-  pub operation-small : mag (read w64 (f (wide x) (wide y))) < modulus
-  operation-small = subst (λ z. mag z < modulus) (sym operation-read) (bound x y h k)
 
 -- ---- negation
 
@@ -145,13 +145,16 @@ pub zero-minus : (x : ℤ) → SFits w32 x → pos 0 -ℤ read w32 x ≡ negℤ 
 zero-minus x h = ap (λ z. pos 0 -ℤ z) (toZ-ofZ w32 x h) ∙ +ℤ-idl (negℤ x)
 
 -- every number but the lowest has its negative
-negative : (x : ℤ) → SFits w32 x → (ofZ w32 x ≡ half → ⊥) → IsNumber (negℤ x)
-negative (pos zero) h f = record { fits = omega arith }
-negative (pos (suc n)) h f = let k : suc n < half = h .sfits in record { fits = omega arith }
-negative (negsuc n) h f = let k : n < half = h .sfits in record { fits = omega (arith, f) }
+negative : (x : ℤ) → leZ x (negsuc (half bits - 1)) ≡ false → ltZ (pos (half bits - 1)) x ≡ false → IsNumber (negℤ x)
+negative (pos zero) f g = record { fits = omega arith }
+negative (pos (suc n)) f g = let k : suc n ≤ half bits - 1 = ltb-false _ _ g in record { fits = omega arith }
+negative (negsuc n) f g = let k : n < half bits - 1 = leb-false _ _ f in record { fits = omega arith }
 
-pub wrap-negative : (x : ℤ) → SFits w32 x → (ofZ w32 x ≡ half → ⊥) → wrap (negℤ x) ≡ pos 0 -ℤ read w32 x
-wrap-negative x h f = wrap-keeps (negℤ x) (negative x h f) ∙ sym (zero-minus x h)
+pub wrap-negative : (x : ℤ) → SFits w32 x → leZ (read w32 x) (negsuc (half bits - 1)) ≡ false → ltZ (pos (half bits - 1)) (read w32 x) ≡ false
+    → wrap (negℤ x) ≡ pos 0 -ℤ read w32 x
+wrap-negative x h f g =
+    let e = toZ-ofZ w32 x h in
+    wrap-keeps (negℤ x) (negative x (ap (λ z. leZ z (negsuc (half bits - 1))) (sym e) ∙ f) (ap (ltZ (pos (half bits - 1))) (sym e) ∙ g)) ∙ sym (zero-minus x h)
 
 -- ---- equality is tested on the bits
 

@@ -1,4 +1,5 @@
--- Numbers: "Numbers are signed, 32 bits, two's complement, and wrap." (document 01, Cells and machine)
+-- Numbers: "Numbers are signed, .. two's complement, and wrap." (document 01, Cells and machine); "Numbers are 31 bits on the card."
+-- (document 02, §7)
 use Prim.Native.Nat.{ℕ, suc, _-_, _^_, _%_, _<_}
 use mathlib.Core.Bool.{Bool, true, false, cond, not}
 use lib.Dec.{ltb, eqb}
@@ -8,34 +9,34 @@ use Rattle.numbers.specs.declared.Comparison.{Comparison}
 use Rattle.numbers.specs.declared.Comparison.the-variants.{Equal, Unequal, Less, AtMost, Greater, AtLeast}
 use Rattle.numbers.specs.declared.Range.{Range}
 
--- "32 bits": the width stands here and nowhere else
+-- "31 bits": the width of numbers stands here and nowhere else
 abbrev pub bits : ℕ
-bits = 32
+bits = 31
 
--- how many numbers there are
-abbrev pub modulus : ℕ
-modulus = 2 ^ bits
+-- how many numbers of a width there are
+abbrev pub modulus : ℕ → ℕ
+modulus w = 2 ^ w
 
 -- half of them are below 0
-abbrev pub half : ℕ
-half = 2 ^ (bits - 1)
+abbrev pub half : ℕ → ℕ
+half w = 2 ^ (w - 1)
 
--- what is a number: from -half to half - 1 (`mag` is n both for n and for -(n + 1))
+-- what is a number: "from -1073741824 to 1073741823" (`mag` is n both for n and for -(n + 1))
 pub record IsNumber (z : ℤ) : Type 0 where
-  pub fits : mag z < half
+  pub fits : mag z < half bits
 
--- the remainder modulo 2 ^ bits
-abbrev pub residue : ℤ → ℕ
-residue (pos n) = n % modulus
-residue (negsuc n) = modulus - suc (n % modulus)
+-- the remainder modulo 2 ^ w
+abbrev pub residue : ℕ → ℤ → ℕ
+residue w (pos n) = n % modulus w
+residue w (negsuc n) = modulus w - suc (n % modulus w)
 
--- "two's complement": the number that a remainder stands for
-abbrev pub signed : ℕ → ℤ
-signed r = cond (ltb r half) (pos r) (negsuc (modulus - suc r))
+-- "two's complement": the number of w bits that a remainder stands for
+abbrev pub signed : ℕ → ℕ → ℤ
+signed w r = cond (ltb r (half w)) (pos r) (negsuc (modulus w - suc r))
 
--- "and wrap"
+-- "and every operation wraps there"
 unfoldable pub wrap : ℤ → ℤ
-wrap z = signed (residue z)
+wrap z = signed bits (residue bits z)
 
 -- whether two numbers are equal
 abbrev pub same : ℤ → ℤ → Bool
@@ -62,9 +63,9 @@ bit false = pos 0
 abbrev pub within : Range → ℤ → Bool
 within r z = cond (leZ (r .low) z) (leZ z (r .high)) false
 
--- "An i is any 32-bit number."
+-- the range of numbers: "An argument, start or block cell, or answer outside that is refusal 3."
 abbrev pub numbers : Range
-numbers = record { low = negsuc (half - 1); high = pos (half - 1) }
+numbers = record { low = negsuc (half bits - 1); high = pos (half bits - 1) }
 
 -- from 0, or another natural number, on to a natural number
 abbrev pub range : ℕ → ℕ → Range

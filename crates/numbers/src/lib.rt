@@ -1,9 +1,7 @@
-// Signed numbers of 32 bits that wrap. The meaning is in specs/.
+// Signed numbers of 31 bits that wrap. The meaning is in specs/.
 ghost use mathlib.Core.Path.{_≡_};
-ghost use Prim.Native.Nat.{_<_};
 ghost use lib.IntN.{negℤ, _+ℤ_, _-ℤ_};
-ghost use lib.Signed.{mag};
-ghost use Rattle.numbers.specs.Numbers.{modulus, wrap, holds, bit, within};
+ghost use Rattle.numbers.specs.Numbers.{wrap, holds, bit, within, numbers};
 
 // "EQ, NEQ, LTINT, LEINT, GTINT, GEINT"
 pub enum Comparison {
@@ -21,18 +19,32 @@ pub struct Range {
     pub high: i64,
 }
 
-// The number that a sum or a difference of two numbers wraps to.
+// "Numbers are 31 bits on the card": the width stands here, and nowhere else in the code.
+const BITS: i64 = 31;
+
+// The ends of the range.
+pub const HIGHEST: i32 = (1 << (BITS - 1)) - 1;
+
+pub const LOWEST: i32 = -HIGHEST - 1;
+
+// How many of 64 bits a number leaves over.
+const SPARE: i64 = 64 - BITS;
+
+// The range of numbers.
+pub fn number_range() -> Range
+    ensures { λ r. ⌜ r ≡ numbers ⌝ }
+{
+    Range {
+        low: LOWEST as i64,
+        high: HIGHEST as i64,
+    }
+}
+
+// The number that s wraps to: its lowest bits, with their sign.
 pub fn narrow(s: i64) -> i32
-    requires { ⌜ mag s < modulus ⌝ }
     ensures { λ r. ⌜ r ≡ wrap s ⌝ }
 {
-    if s > 2147483647 {
-        return (s - 4294967296) as i32;
-    }
-    if s < -2147483648 {
-        return (s + 4294967296) as i32;
-    }
-    s as i32
+    (s << SPARE >> SPARE) as i32
 }
 
 pub fn wrapping_add(x: i32, y: i32) -> i32
@@ -51,7 +63,7 @@ pub fn wrapping_sub(x: i32, y: i32) -> i32
 pub fn negate(x: i32) -> i32
     ensures { λ r. ⌜ r ≡ wrap (negℤ x) ⌝ }
 {
-    if x == -2147483648 {
+    if x <= LOWEST || x > HIGHEST {
         return wrapping_sub(0, x);
     }
     -x

@@ -40,7 +40,7 @@ fn cell_at(values: &[u8], i: usize) -> Cell
     values::cell_of(layout::listed_at(values, i))
 }
 
-// The 32-bit number of a range that a word spells; one outside it counts 0.
+// The number of a range that a word spells; one outside it counts 0.
 pub fn number_of(range: Range, w: &[u8]) -> i32
     requires { ⌜ IsNumber (range .low) × IsNumber (range .high) ⌝ }
     ensures { λ r. ⌜ r ≡ inside range (value (now (w .entry))) ⌝ }
@@ -68,7 +68,7 @@ pub fn answers_of(text: &[u8]) -> Answers
     let mut n = 0;
     while 0 < rest.len() {
         let line = text::first_line(rest);
-        let v = number_of(values::number_range(), line);
+        let v = number_of(numbers::number_range(), line);
         values[n] = v;
         let next = text::next_lines(rest);
         rest = next;
@@ -138,7 +138,7 @@ fn operand_of(k: usize, w: &[u8]) -> i32
         Argument::Absent => instructions::fixed_at(k),
         Argument::Target => number_of(instructions::range_at(k), w),
         Argument::Primitive => instructions::fixed_at(k),
-        Argument::Within(_) => number_of(values::number_range(), w),
+        Argument::Within(_) => number_of(numbers::number_range(), w),
     }
 }
 

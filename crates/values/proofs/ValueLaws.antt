@@ -22,7 +22,8 @@ use Rattle.text.specs.declared.Numeral.{Numeral}
 use Rattle.text.specs.declared.Numeral.the-variants.{Misspelt, Number}
 use Rattle.text.proofs.ClampLaws.{clamp-le, le-clamp, clamp-small, clamp-natAbs-lt}
 use Rattle.numbers.specs.declared.Range.{Range}
-use Rattle.numbers.specs.Numbers.{half, IsNumber, within, numbers}
+use Rattle.numbers.specs.Numbers.{bits, half, IsNumber, within, numbers}
+use Rattle.numbers.proofs.SignedLaws.{number-fits}
 use Rattle.cells.specs.Cells.{number, handle}
 use Rattle.routine.specs.declared.CellWord.{CellWord}
 use Rattle.routine.specs.declared.CellWord.the-variants.{Wrong, Unknown, Known, Block}
@@ -67,12 +68,12 @@ inside-clamp r z h = ap (λ b. cond b (clamp z) (pos 0)) (within-clamp r z h) �
 pub natural-sign : {high : ℕ} {z : ℤ} → Natural high z → T (nonNeg z)
 natural-sign {z = z} n = subst (λ y. T (nonNeg y)) (n .is) tt
 
--- a number of 32 bits
+-- a number of a range of numbers fits 32 bits
 pub inside-fits : (r : Range) (z : ℤ) → IsNumber (r .low) → IsNumber (r .high) → SFits w32 (inside r z)
-inside-fits r z l h = inside-keeps (SFits w32) r z (record { sfits = lit< tt }) (λ y e. record { sfits = within-mag r y half (l .fits) (h .fits) e })
+inside-fits r z l h = inside-keeps (SFits w32) r z (record { sfits = lit< tt }) (λ y e. number-fits y (record { fits = within-mag r y (half bits) (l .fits) (h .fits) e }))
 
-pub number-fits : (z : ℤ) → SFits w32 (inside numbers z)
-number-fits z = inside-fits numbers z (record { fits = lit< tt }) (record { fits = lit< tt })
+pub inside-numbers-fits : (z : ℤ) → SFits w32 (inside numbers z)
+inside-numbers-fits z = inside-fits numbers z (record { fits = lit< tt }) (record { fits = lit< tt })
 
 -- ---- cells
 

@@ -136,21 +136,11 @@ pub fn is_cell(w: &[u8]) -> bool
     true
 }
 
-// "An i is any 32-bit number."
-pub fn number_range() -> Range
-    ensures { λ r. ⌜ r ≡ numbers ⌝ }
-{
-    Range {
-        low: -2147483648,
-        high: 2147483647,
-    }
-}
-
 pub fn cell_in_range(w: &[u8]) -> bool
     ensures { λ r. ⌜ r ≡ cellInRange (cellWord (now (w .entry))) ⌝ }
 {
     match cell_word(w) {
-        CellWord::Known(z) => numbers::within(number_range(), z),
+        CellWord::Known(z) => numbers::within(numbers::number_range(), z),
         CellWord::Block(k) => numbers::within(layout::handles(), k),
         _ => true,
     }
@@ -179,7 +169,7 @@ pub fn cell_present(n: usize, w: &[u8]) -> bool
 fn number_cell(z: i64) -> Cell
     ensures { λ r. ⌜ r ≡ number (inside numbers z) ⌝ }
 {
-    let n = inside(number_range(), z);
+    let n = inside(numbers::number_range(), z);
     cells::number(n as i32)
 }
 

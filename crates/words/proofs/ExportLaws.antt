@@ -8,8 +8,11 @@ use native.Mathlib.Omega.{arith}
 use lib.Dec.{eqb, ltb}
 use lib.IntN.{ℤ, pos, negsuc, _+ℤ_, _-ℤ_}
 use lib.ListN.{length, getD, length-append}
+use mir.Syntax.{w32}
+use mir.Val.{SFits}
 use borrow.Author.Tests.{eq-eqb, ne-eqb, ltb-true, ltb-false, le-ltb}
-use Rattle.numbers.specs.Numbers.{modulus, IsNumber, residue, signed}
+use Rattle.numbers.specs.Numbers.{modulus, residue}
+use Rattle.numbers.proofs.NumberLaws.{residue-fits, signed-back}
 use Rattle.text.proofs.TextLaws.{Every, more}
 use Rattle.text.proofs.TextLaws as every
 use Rattle.instructions.specs.Kinds.{kinds}
@@ -18,21 +21,21 @@ use Rattle.text.specs.declared.Place.the-variants.{At as at}
 use Rattle.instructions.specs.Columns.{kindAt}
 use Rattle.instructions.specs.Opcodes.{placeFrom, kindCoded}
 use Rattle.instructions.proofs.OpcodeLaws.{kind-of-opcode}
-use Rattle.words.specs.Words.{Word, whole, wordsOf, allBytes}
+use Rattle.words.specs.Words.{wordBits, Word, whole, wordsOf, allBytes}
 use Rattle.words.specs.Decoding.{Item, itemOf, hasArgument, opcode, argument, Entry, item, coded, entries, decoded, items, numberAt}
 use Rattle.words.specs.Held.{sizeOf}
 use Rattle.words.specs.Export.{Op, positions, argumentWord, itemsFrom, itemWords, wordsIn, exportOps}
-use Rattle.words.proofs.WordLaws.{signed-back, words-back, bytes-length}
+use Rattle.words.proofs.WordLaws.{words-back, bytes-length}
 use Rattle.words.proofs.HeadLaws.{size-small, size-one, size-two}
 
--- instructions that stand one after the other from index i on: kinds of the table, each with a number, which is 0 where it has no argument word
+-- instructions that stand one after the other from index i on: kinds of the table, each with an argument that fits a word, and is 0 where it has none
 pub data Placed : ℕ → List Item → Type 0 where
   none : {i : ℕ} → Placed i []
-  with-word : {i k : ℕ} {z : ℤ} {xs : List Item} → k < 61 → hasArgument (kindAt k .argument) ≡ true → IsNumber z → Placed (i + sizeOf k) xs → Placed i (itemOf i k z ∷ xs)
+  with-word : {i k : ℕ} {z : ℤ} {xs : List Item} → k < 61 → hasArgument (kindAt k .argument) ≡ true → SFits w32 z → Placed (i + sizeOf k) xs → Placed i (itemOf i k z ∷ xs)
   plain : {i k : ℕ} {xs : List Item} → k < 61 → hasArgument (kindAt k .argument) ≡ false → Placed (i + sizeOf k) xs → Placed i (itemOf i k (pos 0) ∷ xs)
 
 -- the words of an instruction
-words-with : (i k : ℕ) (z : ℤ) → hasArgument (kindAt k .argument) ≡ true → itemWords (itemOf i k z) ≡ kindAt k .opcode ∷ residue z ∷ []
+words-with : (i k : ℕ) (z : ℤ) → hasArgument (kindAt k .argument) ≡ true → itemWords (itemOf i k z) ≡ kindAt k .opcode ∷ residue wordBits z ∷ []
 unfolding itemWords
 words-with i k z t = rw t refl
 
@@ -41,12 +44,12 @@ unfolding itemWords
 words-plain i k z t = rw t refl
 
 -- one instruction is decoded
-decode-with : (i k : ℕ) (z : ℤ) (ws : List Word) → k < 61 → hasArgument (kindAt k .argument) ≡ true → IsNumber z
-    → entries opcode i (whole (kindAt k .opcode) ∷ whole (residue z) ∷ ws) ≡ item (itemOf i k z) ∷ entries opcode (i + sizeOf k) ws
+decode-with : (i k : ℕ) (z : ℤ) (ws : List Word) → k < 61 → hasArgument (kindAt k .argument) ≡ true → SFits w32 z
+    → entries opcode i (whole (kindAt k .opcode) ∷ whole (residue wordBits z) ∷ ws) ≡ item (itemOf i k z) ∷ entries opcode (i + sizeOf k) ws
 unfolding entries coded
 decode-with i k z ws h t n =
     let s = size-two k t in
-    rw (kind-of-opcode k h, t, signed-back z n, s) (ap (λ j. item (itemOf i k z) ∷ entries opcode j ws) (omega arith))
+    rw (kind-of-opcode k h, t, signed-back wordBits (omega arith) z (n .sfits), s) (ap (λ j. item (itemOf i k z) ∷ entries opcode j ws) (omega arith))
 
 decode-plain : (i k : ℕ) (ws : List Word) → k < 61 → hasArgument (kindAt k .argument) ≡ false
     → entries opcode i (whole (kindAt k .opcode) ∷ ws) ≡ item (itemOf i k (pos 0)) ∷ entries opcode (i + sizeOf k) ws
@@ -69,7 +72,7 @@ words-few : (x : Item) → (1 ≤ length (itemWords x)) × (length (itemWords x)
 unfolding itemWords
 words-few x = go (hasArgument (kindAt (x .kind) .argument))
   where
-    go : (b : Bool) → (1 ≤ length (kindAt (x .kind) .opcode ∷ cond b (residue (x .argument) ∷ []) [])) × (length (kindAt (x .kind) .opcode ∷ cond b (residue (x .argument) ∷ []) []) ≤ 2)
+    go : (b : Bool) → (1 ≤ length (kindAt (x .kind) .opcode ∷ cond b (residue wordBits (x .argument) ∷ []) [])) × (length (kindAt (x .kind) .opcode ∷ cond b (residue wordBits (x .argument) ∷ []) []) ≤ 2)
     go true = (omega arith, omega arith)
     go false = (omega arith, omega arith)
 
@@ -137,20 +140,16 @@ target-back xs i n h =
 -- ---- the bytes of instructions are decoded to them
 
 -- each opcode is a word: computed for the whole table
-opcode-small : (k : ℕ) → k < 61 → kindAt k .opcode < modulus
+opcode-small : (k : ℕ) → k < 61 → kindAt k .opcode < modulus wordBits
 unfolding kinds
 opcode-small k h =
     ltb-true _ _
-    (sym (column-at (λ r. r .opcode) (λ n. ltb n modulus) (λ r. ltb (r .opcode) modulus) 0 refl k h) ∙ column-at (λ r. r .opcode) (λ n. ltb n modulus) (λ r. true) 0 refl k h)
+    (sym (column-at (λ r. r .opcode) (λ n. ltb n (modulus wordBits)) (λ r. ltb (r .opcode) (modulus wordBits)) 0 refl k h) ∙ column-at (λ r. r .opcode) (λ n. ltb n (modulus wordBits)) (λ r. true) 0 refl k h)
 
-residue-small : (z : ℤ) → residue z < modulus
-residue-small (pos n) = omega arith
-residue-small (negsuc n) = omega arith
-
-words-small : {i : ℕ} {xs : List Item} → Placed i xs → Every (λ n. n < modulus) (wordsIn xs)
+words-small : {i : ℕ} {xs : List Item} → Placed i xs → Every (λ n. n < modulus wordBits) (wordsIn xs)
 unfolding wordsIn
 words-small none = every.none
-words-small (with-word {i} {k} {z} {xs} h t n p) = rw (words-with i k z t) (more (opcode-small k h) (more (residue-small z) (words-small p)))
+words-small (with-word {i} {k} {z} {xs} h t n p) = rw (words-with i k z t) (more (opcode-small k h) (more (residue-fits wordBits z) (words-small p)))
 words-small (plain {i} {k} {xs} h t p) = rw (words-plain i k (pos 0) t) (more (opcode-small k h) (words-small p))
 
 pub items-are : (xs : List Item) → items (map item xs) ≡ xs

@@ -17,7 +17,7 @@ use Rattle.instructions.specs.Opcodes.{kindCoded}
 use Rattle.instructions.proofs.OpcodeLaws.{opcode-of-kind}
 use Rattle.words.specs.declared.Head.{Head}
 use Rattle.words.specs.declared.Head.the-variants as heads
-use Rattle.words.specs.Words.{Word, whole, cut, wordsOf}
+use Rattle.words.specs.Words.{wordBits, Word, whole, cut, wordsOf}
 use Rattle.words.specs.Decoding.{Item, itemOf, hasArgument, Entry, item, unreadable, opcode, argument, coded, entries}
 use Rattle.words.specs.Held.{sizeOf, withArgument, headCoded, headOf}
 use Rattle.words.proofs.WordLaws.{words-none, words-cut, firstOf, words-first, part-is}
@@ -32,7 +32,7 @@ argument-short k (a ∷ b ∷ []) h = refl
 argument-short k (a ∷ b ∷ c ∷ []) h = refl
 argument-short k (a ∷ b ∷ c ∷ d ∷ bs) h = absurd (omega arith)
 
-pub argument-read : (k : ℕ) (bs : List ℕ) → 4 ≤ length bs → withArgument k (wordsOf bs) ≡ heads.Instruction k (signed (firstOf bs))
+pub argument-read : (k : ℕ) (bs : List ℕ) → 4 ≤ length bs → withArgument k (wordsOf bs) ≡ heads.Instruction k (signed wordBits (firstOf bs))
 unfolding withArgument
 argument-read k bs h = ap (withArgument k) (words-first bs h)
 
@@ -122,7 +122,7 @@ with-argument i w k j z [] e t h = not-instruction k z h
 with-argument i w k j z (cut ∷ ws) e t h = not-instruction k z h
 with-argument i w k j z (whole v ∷ ws) e t h =
     let p : j ≡ k = cc in
-    let q : signed v ≡ z = cc in
+    let q : signed wordBits v ≡ z = cc in
     let s = size-two k (ap (λ x. hasArgument (kindAt x .argument)) (sym p) ∙ t) in
     record {
       known = rw p at (opcode-of-kind w j e .0);
@@ -173,7 +173,7 @@ head-unread i (whole w ∷ ws) l h = go (kindCoded w) h
     after-opcode : (j : ℕ) (vs : List Word) → withArgument j vs ≡ heads.Unreadable → entries (argument i j) (suc i) vs ≡ unreadable i ∷ []
     after-opcode j [] e = refl
     after-opcode j (cut ∷ vs) e = refl
-    after-opcode j (whole v ∷ vs) e = not-unread j (signed v) e
+    after-opcode j (whole v ∷ vs) e = not-unread j (signed wordBits v) e
 
     go : (p : Place) → headCoded ws p ≡ heads.Unreadable → coded i (λ d. entries d (suc i) ws) p ≡ unreadable i ∷ []
     go missing e = refl

@@ -8,8 +8,9 @@ use native.Mathlib.Omega.{arith}
 use lib.Dec.{ltb}
 use lib.IntN.{pos}
 use lib.ListN.{length}
+use mir.Syntax.{w32}
+use mir.Val.{SFits}
 use borrow.Author.Tests.{ltb-true}
-use Rattle.numbers.specs.Numbers.{IsNumber}
 use Rattle.text.specs.declared.Place.{Place}
 use Rattle.text.specs.declared.Place.the-variants.{At as at, Missing as missing}
 use Rattle.instructions.specs.Columns.{kindAt}
@@ -17,15 +18,16 @@ use Rattle.instructions.specs.Opcodes.{kindCoded}
 use Rattle.instructions.proofs.OpcodeLaws.{opcode-of-kind}
 use Rattle.words.specs.Words.{Word, whole, cut}
 use Rattle.words.specs.Decoding.{Item, itemOf, hasArgument, Entry, item, unreadable, Due, opcode, argument, coded, entries, decoded, items, callListed, faultFrom, wordFault, lands, offsetFault, orOffsets, codeFault}
-use Rattle.words.proofs.WordLaws.{signed-is-number}
+use Rattle.words.proofs.WordLaws.{signed-fits}
 use Rattle.words.proofs.FaultLaws.{sound-item}
 use Rattle.words.proofs.OffsetLaws.{readable-of}
 
--- entries before which c instructions stand: each at an index of at most two for each instruction before it, of a kind of the table, with a number
+-- entries before which c instructions stand: each at an index of at most two for each instruction before it, of a kind of the table, with an
+-- argument that fits a word
 pub data Spaced : ℕ → List Entry → Type 0 where
   none : {c : ℕ} → Spaced c []
   unread : {c i : ℕ} {es : List Entry} → i ≤ 2 * c → Spaced c (unreadable i ∷ es)
-  next : {c : ℕ} {x : Item} {es : List Entry} → x .index ≤ 2 * c → x .kind < 61 → IsNumber (x .argument) → Spaced (suc c) es → Spaced c (item x ∷ es)
+  next : {c : ℕ} {x : Item} {es : List Entry} → x .index ≤ 2 * c → x .kind < 61 → SFits w32 (x .argument) → Spaced (suc c) es → Spaced c (item x ∷ es)
 
 -- where the next word begins an instruction, and where it is the argument of kind k
 abbrev DueAt : ℕ → ℕ → Due → Type 0
@@ -39,7 +41,7 @@ coded-spaced c i w f h with-argument after = kind (kindCoded w) refl
   where
     known : (k : ℕ) → k < 61 → (b : Bool) → Spaced c (cond b (f (argument i k)) (item (itemOf i k (pos 0)) ∷ f opcode))
     known k l true = with-argument k l
-    known k l false = next {x = itemOf i k (pos 0)} h l (record { fits = omega arith }) after
+    known k l false = next {x = itemOf i k (pos 0)} h l (record { sfits = omega arith }) after
 
     kind : (p : Place) → kindCoded w ≡ p → Spaced c (coded i f p)
     kind missing e = unread h
@@ -54,7 +56,7 @@ words-spaced c opcode i (whole w ∷ ws) h =
 words-spaced c (argument j k) i [] h = unread (h .0)
 words-spaced c (argument j k) i (cut ∷ ws) h = unread (h .0)
 words-spaced c (argument j k) i (whole w ∷ ws) h =
-    next (h .0) (h .2) (signed-is-number w) (words-spaced (suc c) opcode (suc i) ws (omega (arith, h .0, h .1)))
+    next (h .0) (h .2) (signed-fits w) (words-spaced (suc c) opcode (suc i) ws (omega (arith, h .0, h .1)))
 
 pub decoded-spaced : (ws : List Word) → Spaced 0 (decoded ws)
 unfolding decoded

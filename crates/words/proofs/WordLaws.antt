@@ -1,23 +1,22 @@
 -- Laws of words: the first word of bytes and what follows, and a word that was written is read back. Assumes nothing.
-use mathlib.Core.Path.{_≡_, refl, sym, ap, subst, _∙_}
-use mathlib.Core.Bool.{Bool, true, false}
+use mathlib.Core.Path.{_≡_, refl, sym, ap, _∙_}
+use mathlib.Core.Bool.{true, false, cond}
 use mathlib.Core.List.{List, [], _∷_, _++_, map}
 use Prim.Native.Nat.{ℕ, zero, suc, _+_, _-_, _*_, _/_, _%_, _<_, _≤_}
 use native.Mathlib.Omega.{arith}
-use lib.Dec.{ltb}
-use lib.IntN.{ℤ, pos}
+use lib.IntN.{pos, negsuc, _-ℤ_}
 use lib.ListN.{length, getD, take, drop, length-append, length-drop}
 use lib.Seq.{take-all}
-use lib.Signed.{mag}
-use mir.Syntax.{w64}
-use mir.Val.{toZ}
+use lib.Signed.{ltZ}
+use mir.Syntax.{w32, w64}
+use mir.Val.{SFits, toZ}
 use mir.ValLaws.{toZ-pos}
 use native.Mathlib.Nat.{mod-eq-of-lt, div-div-eq-div-mul, div-add-mod'}
-use borrow.Author.Tests.{ltb-true, ltb-false}
-use Rattle.numbers.specs.Numbers.{modulus, half, IsNumber, residue, signed, wrap}
-use Rattle.numbers.proofs.NumberLaws.{signed-low, signed-high, wrap-keeps}
+use borrow.Author.Tests.{lt-ltb, ltb-true, ltb-false}
+use Rattle.numbers.specs.Numbers.{modulus, half, signed}
+use Rattle.numbers.proofs.NumberLaws.{signed-number, signed-low, signed-high}
 use Rattle.text.proofs.TextLaws.{Every, none, more}
-use Rattle.words.specs.Words.{Word, whole, cut, littleEndian, wordsOf, bytesOf, allBytes}
+use Rattle.words.specs.Words.{wordBits, Word, whole, cut, littleEndian, wordsOf, bytesOf, allBytes}
 
 -- ---- the first word
 
@@ -56,7 +55,7 @@ part-is bs n = take-all (length bs - n) (drop n bs) (rw length-drop (omega arith
 joined : (n a b c d q r s : ℕ) → q * 256 + a ≡ n → r * 256 + b ≡ q → s * 256 + c ≡ r → d ≡ s → littleEndian a b c d ≡ n
 joined n a b c d q r s h i j k = omega arith
 
-pub word-back : (n : ℕ) → n < modulus → littleEndian (n % 256) (n / 256 % 256) (n / 65536 % 256) (n / 16777216 % 256) ≡ n
+pub word-back : (n : ℕ) → n < modulus wordBits → littleEndian (n % 256) (n / 256 % 256) (n / 65536 % 256) (n / 16777216 % 256) ≡ n
 word-back n h =
     let e : n / 256 / 256 ≡ n / 65536 = div-div-eq-div-mul n 256 256 in
     let f : n / 65536 / 256 ≡ n / 16777216 = div-div-eq-div-mul n 65536 256 in
@@ -68,7 +67,7 @@ word-back n h =
     (mod-eq-of-lt k)
 
 -- the same of several
-pub words-back : (ns : List ℕ) → Every (λ n. n < modulus) ns → wordsOf (allBytes ns) ≡ map whole ns
+pub words-back : (ns : List ℕ) → Every (λ n. n < modulus wordBits) ns → wordsOf (allBytes ns) ≡ map whole ns
 unfolding wordsOf bytesOf allBytes
 words-back [] none = refl
 words-back (n ∷ ns) (more h hs) = ap (λ w. whole w ∷ wordsOf (allBytes ns)) (word-back n h) ∙ ap (λ ws. whole n ∷ ws) (words-back ns hs)
@@ -80,26 +79,20 @@ bytes-length (n ∷ ns) = let e = bytes-length ns in omega arith
 
 -- ---- signed words
 
--- a number of 32 bits that the code holds in 64
-pub held-word : (n : ℕ) → n < modulus → toZ w64 n ≡ pos n
-held-word n h = toZ-pos w64 n (omega arith)
+-- they fit 32 bits
+pub signed-fits : (n : ℕ) → SFits w32 (signed wordBits n)
+signed-fits n = record { sfits = signed-number wordBits (omega arith) n }
 
-pub held-small : (n : ℕ) → n < modulus → mag (toZ w64 n) < modulus
-held-small n h = subst (λ z. mag z < modulus) (sym (held-word n h)) h
+-- a word as the code holds it, in 64 bits: below half it is the number, and from there on 2 ^ 32 more
+module _ (n : ℕ) (h : n < modulus wordBits) where
+  held : toZ w64 n ≡ pos n
+  held = toZ-pos w64 n (omega arith)
 
-pub wrap-word : (n : ℕ) → n < modulus → wrap (toZ w64 n) ≡ signed n
-unfolding wrap
-wrap-word n h = ap wrap (held-word n h) ∙ ap signed (mod-eq-of-lt h)
+  pub signed-kept : ltZ (toZ w64 n) (pos (half wordBits)) ≡ true → signed wordBits n ≡ toZ w64 n
+  signed-kept t = signed-low wordBits n (ltb-true n (half wordBits) (ap (λ z. ltZ z (pos (half wordBits))) (sym held) ∙ t)) ∙ sym held
 
--- the word of a number is read back
-pub signed-back : (z : ℤ) → IsNumber z → signed (residue z) ≡ z
-unfolding wrap
-signed-back z h = wrap-keeps z h
-
--- a signed word is a number
-pub signed-is-number : (n : ℕ) → IsNumber (signed n)
-signed-is-number n = go (ltb n half) refl
-  where
-    go : (b : Bool) → ltb n half ≡ b → IsNumber (signed n)
-    go true e = let h = ltb-true n half e in subst IsNumber (sym (signed-low n h)) (record { fits = h })
-    go false e = let h = ltb-false n half e in subst IsNumber (sym (signed-high n h)) (record { fits = omega arith })
+  pub signed-lowered : ltZ (toZ w64 n) (pos (half wordBits)) ≡ false → signed wordBits n ≡ toZ w64 n -ℤ pos (modulus wordBits)
+  signed-lowered t =
+      signed-high wordBits n (ltb-false n (half wordBits) (ap (λ z. ltZ z (pos (half wordBits))) (sym held) ∙ t))
+      ∙ ap (λ b. cond b (negsuc (modulus wordBits - suc n)) (pos (n - modulus wordBits))) (sym (lt-ltb n (modulus wordBits) h))
+      ∙ ap (λ z. z -ℤ pos (modulus wordBits)) (sym held)

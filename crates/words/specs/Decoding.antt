@@ -11,7 +11,7 @@ use Rattle.text.specs.declared.Place.{Place}
 use Rattle.text.specs.declared.Place.the-variants.{At as at, Missing as missing}
 use Rattle.instructions.specs.Columns.{kindAt}
 use Rattle.instructions.specs.Opcodes.{placeFrom, kindCoded}
-use Rattle.words.specs.Words.{Word, whole, cut}
+use Rattle.words.specs.Words.{wordBits, Word, whole, cut}
 
 -- an instruction in words: the index of its opcode, its kind by its place in the table, and its argument word, or 0 where it has none
 pub record Item : Type 0 where
@@ -54,7 +54,7 @@ entries opcode i (cut ∷ ws) = unreadable i ∷ []
 entries opcode i (whole w ∷ ws) = coded i (λ d. entries d (suc i) ws) (kindCoded w)
 entries (argument j k) i [] = unreadable j ∷ []
 entries (argument j k) i (cut ∷ ws) = unreadable j ∷ []
-entries (argument j k) i (whole w ∷ ws) = item (itemOf j k (signed w)) ∷ entries opcode (suc i) ws
+entries (argument j k) i (whole w ∷ ws) = item (itemOf j k (signed wordBits w)) ∷ entries opcode (suc i) ws
 
 -- all words
 unfoldable pub decoded : List Word → List Entry

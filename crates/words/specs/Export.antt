@@ -15,7 +15,7 @@ use Rattle.routine.specs.declared.Role.the-variants.{Names as names}
 use Rattle.routine.specs.Layout.{body, codeLines, listed}
 use Rattle.routine.specs.Rows.{op, arg}
 use Rattle.routine.specs.Routine.{argumentValue, firstAddress}
-use Rattle.words.specs.Words.{allBytes}
+use Rattle.words.specs.Words.{wordBits, allBytes}
 use Rattle.words.specs.Decoding.{Item, itemOf, hasArgument}
 use Rattle.words.specs.Held.{sizeOf}
 
@@ -57,7 +57,7 @@ itemsFrom is i (x ∷ xs) = itemOf i (x .kind) (argumentWord is i (x .value) (ki
 
 -- the words of an instruction: its opcode, and its argument word where its kind has one
 unfoldable pub itemWords : Item → List ℕ
-itemWords x = kindAt (x .kind) .opcode ∷ cond (hasArgument (kindAt (x .kind) .argument)) (residue (x .argument) ∷ []) []
+itemWords x = kindAt (x .kind) .opcode ∷ cond (hasArgument (kindAt (x .kind) .argument)) (residue wordBits (x .argument) ∷ []) []
 
 -- the words of several
 unfoldable pub wordsIn : List Item → List ℕ

@@ -15,7 +15,7 @@ use Rattle.instructions.specs.Columns.{kindAt}
 use Rattle.instructions.specs.Opcodes.{placeFrom, kindCoded}
 use Rattle.words.specs.declared.Head.{Head}
 use Rattle.words.specs.declared.Head.the-variants.{Unreadable as unreadable, Instruction as instruction}
-use Rattle.words.specs.Words.{Word, whole, cut}
+use Rattle.words.specs.Words.{wordBits, Word, whole, cut}
 use Rattle.words.specs.Decoding.{Item, hasArgument, decoded, faultFrom, isFound}
 
 -- how many words a kind takes
@@ -26,7 +26,7 @@ sizeOf k = cond (hasArgument (kindAt k .argument)) 2 1
 unfoldable pub withArgument : ℕ → List Word → Head
 withArgument k [] = unreadable
 withArgument k (cut ∷ ws) = unreadable
-withArgument k (whole w ∷ ws) = instruction k (signed w)
+withArgument k (whole w ∷ ws) = instruction k (signed wordBits w)
 
 -- the kind of an opcode, with what follows
 unfoldable pub headCoded : List Word → Place → Head

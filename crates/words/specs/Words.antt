@@ -2,6 +2,10 @@
 use Prim.Native.Nat.{ℕ, _+_, _*_, _/_, _%_}
 use mathlib.Core.List.{List, [], _∷_, _++_}
 
+-- the width of a word
+abbrev pub wordBits : ℕ
+wordBits = 32
+
 -- a word of four bytes, or one that is cut off, of 1 to 3
 pub data Word : Type 0 where
   whole : ℕ → Word
@@ -19,7 +23,7 @@ wordsOf (a ∷ b ∷ []) = cut ∷ []
 wordsOf (a ∷ b ∷ c ∷ []) = cut ∷ []
 wordsOf (a ∷ b ∷ c ∷ d ∷ bs) = whole (littleEndian a b c d) ∷ wordsOf bs
 
--- the bytes of a number of 32 bits
+-- the bytes of a word
 unfoldable pub bytesOf : ℕ → List ℕ
 bytesOf n = n % 256 ∷ n / 256 % 256 ∷ n / 65536 % 256 ∷ n / 16777216 % 256 ∷ []
 

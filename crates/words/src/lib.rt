@@ -8,9 +8,14 @@ ghost use lib.ListN.{length, getD, drop};
 ghost use Rattle.text.specs.Memory.{over};
 ghost use Rattle.numbers.specs.Numbers.{residue, signed};
 ghost use Rattle.instructions.specs.Columns.{kindAt};
-ghost use Rattle.words.specs.Words.{littleEndian, wordsOf, bytesOf};
+ghost use Rattle.words.specs.Words.{wordBits, littleEndian, wordsOf, bytesOf};
 ghost use Rattle.words.specs.Decoding.{decoded, items, hasArgument, isPlace, callListed, wordFault, isFound, offsetFault, codeFault};
 ghost use Rattle.words.specs.Held.{sizeOf, withArgument, headOf, Readable, numberIn, Numbered, landsIn};
+
+// "32-bit .. words": how many there are, and from which on they stand for numbers below 0.
+const MODULUS: i64 = 1 << 32;
+
+const HALF: i64 = MODULUS / 2;
 
 // What stands at the head of words: a kind by its place in the table with its argument word, or no instruction.
 pub enum Head {
@@ -34,9 +39,13 @@ pub fn first_word(bytes: &[u8]) -> u32
 
 // "Argument words are signed."
 pub fn signed(word: u32) -> i32
-    ensures { λ r. ⌜ r ≡ signed word ⌝ }
+    ensures { λ r. ⌜ r ≡ signed wordBits word ⌝ }
 {
-    numbers::narrow(word as i64)
+    let z = word as i64;
+    if z < HALF {
+        return z as i32;
+    }
+    (z - MODULUS) as i32
 }
 
 // Whether a kind has an argument word.
@@ -278,11 +287,11 @@ pub fn put_word(out: &mut [u8], at: usize, word: u32) -> usize
 
 // A number of 32 bits as a word.
 pub fn word_of(z: i32) -> u32
-    ensures { λ r. ⌜ r ≡ residue z ⌝ }
+    ensures { λ r. ⌜ r ≡ residue wordBits z ⌝ }
 {
     let w = z as i64;
     if w < 0 {
-        return (w + 4294967296) as u32;
+        return (w + MODULUS) as u32;
     }
     w as u32
 }

@@ -1,15 +1,22 @@
--- `cells::number` meets its contract: a number of 32 bits wraps to itself. Assumes nothing.
+-- `cells::number` meets its contract. Assumes nothing.
 use mathlib.Core.Path.{sym, ap, _∙_}
 use mir.Syntax.{w32}
-use mir.ValLaws.{toZ-ofZ}
-use Rattle.numbers.proofs.SignedLaws.{fits-keeps}
+use Rattle.numbers.specs.Numbers.{wrap}
+use Rattle.numbers.proofs.SignedLaws.{cast-fits, wide-is, wrap-fits, result-read}
 use Rattle.cells.specs.declared.Value.the-variants.{Number}
 use Rattle.cells.specs.Cells.{cell}
+use borrow.Author.Needs.{needs}
 use Rattle.cells.proofs.number.Statement.{statement}
 use Rattle.cells.proofs.number.Tie as tie
 
+cast-narrow : tie.Need-cast-narrow
+cast-narrow c = cast-fits (c .args .n) (c .fits .n)
+
+narrow-requires : tie.Need-narrow-requires
+narrow-requires c κs = search needs
+
 returns : tie.Need-returns
-returns c = ap (λ z. cell (Number z)) (toZ-ofZ w32 _ (c .fits .n) ∙ sym (fits-keeps _ (c .fits .n)))
+returns c = ap (λ z. cell (Number z)) (result-read (wrap-fits _) (sym (c .narrow .ensures)) ∙ ap wrap (wide-is _ (c .before .fits .n)))
 
 pub number-spec : {M : Type 1} → statement M
-number-spec = tie.close (tie.spec returns)
+number-spec = tie.close (tie.spec cast-narrow narrow-requires returns)

@@ -1,7 +1,6 @@
 -- `cells::operate1` meets its contract. Assumes nothing.
-use mathlib.Core.Path.{refl, ap, _∙_}
+use mathlib.Core.Path.{refl, ap}
 use mir.Syntax.{w32}
-use Rattle.numbers.specs.Numbers.{wrap}
 use Rattle.numbers.proofs.SignedLaws.{read-both}
 use Rattle.cells.specs.Try.{done}
 use Rattle.cells.specs.Cells.{calculate₁, map₁}
@@ -16,9 +15,6 @@ enum-known-value c = search needs
 calculate1-requires : tie.Need-calculate1-requires
 calculate1-requires c κs = search needs
 
-number-requires : tie.Need-number-requires
-number-requires c κs = search needs
-
 enum-told : tie.Need-enum-told
 enum-told c = search needs
 
@@ -31,12 +27,12 @@ enum-told-2 c = search needs
 returns : tie.Need-returns
 unfolding map₁
 returns c =
-    let start = c .before .before .before .before .before in
-    let known = c .before .before .before .value .given in
+    let start = c .before .before .before .before in
+    let known = c .before .before .value .given in
     operated₁ _ _ _ (known .1)
     (entered (calculate₁ (start .args .u) (start .args .i) (known .0 .0))
-    (c .before .calculate1 .ensures ∙ ap wrap (read-both (calculate₁ (start .args .u)) w32 _ _ (start .fits .i) (search needs)))
-    (c .number .ensures))
+    (c .calculate1 .ensures)
+    (read-both (calculate₁ (start .args .u)) w32 _ _ (start .fits .i) (search needs)))
 
 returns-2 : tie.Need-returns-2
 unfolding map₁
@@ -54,7 +50,6 @@ operate1-spec =
     (tie.spec
     enum-known-value
     calculate1-requires
-    number-requires
     enum-told
     unknown-requires
     enum-told-2

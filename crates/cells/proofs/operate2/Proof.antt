@@ -1,7 +1,6 @@
 -- `cells::operate2` meets its contract. Assumes nothing.
-use mathlib.Core.Path.{refl, ap, _∙_}
+use mathlib.Core.Path.{refl, ap}
 use mir.Syntax.{w32}
-use Rattle.numbers.specs.Numbers.{wrap}
 use Rattle.numbers.proofs.SignedLaws.{read-both}
 use Rattle.cells.specs.Try.{done}
 use Rattle.cells.specs.Cells.{calculate₂, map₂}
@@ -18,9 +17,6 @@ enum-known-right c = search needs
 
 calculate2-requires : tie.Need-calculate2-requires
 calculate2-requires c κs = search needs
-
-number-requires : tie.Need-number-requires
-number-requires c κs = search needs
 
 enum-told : tie.Need-enum-told
 enum-told c = search needs
@@ -67,13 +63,13 @@ combine-handles-requires c κs = search needs
 returns : tie.Need-returns
 unfolding map₂
 returns c =
-    let start = c .before .before .before .before .before .before .before .before in
-    let left = c .before .before .before .before .before .before .left .given in
-    let right = c .before .before .before .right .given in
+    let start = c .before .before .before .before .before .before .before in
+    let left = c .before .before .before .before .before .left .given in
+    let right = c .before .before .right .given in
     operated₂ _ _ _ (left .1) (right .1)
     (entered (calculate₂ (start .args .b) (left .0 .0) (right .0 .0))
-    (c .before .calculate2 .ensures ∙ ap wrap (read-both (calculate₂ (start .args .b)) w32 _ _ (search needs) (search needs)))
-    (c .number .ensures))
+    (c .calculate2 .ensures)
+    (read-both (calculate₂ (start .args .b)) w32 _ _ (search needs) (search needs)))
 
 returns-2 : tie.Need-returns-2
 unfolding map₂
@@ -122,7 +118,6 @@ operate2-spec =
     enum-known-left
     enum-known-right
     calculate2-requires
-    number-requires
     enum-told
     unknown-requires
     enum-told-2

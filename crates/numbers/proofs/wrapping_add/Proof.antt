@@ -5,7 +5,7 @@ use mir.Syntax.{w32}
 use mir.ValLaws.{toZ-ofZ}
 use borrow.Author.Needs.{needs}
 use Rattle.numbers.specs.Numbers.{wrap}
-use Rattle.numbers.proofs.SignedLaws.{cast-fits, operation-fits, operation-read, operation-small, mag-sum}
+use Rattle.numbers.proofs.SignedLaws.{cast-fits, operation-fits, operation-read, sum-fits}
 use Rattle.numbers.proofs.wrapping_add.Statement.{statement}
 use Rattle.numbers.proofs.wrapping_add.Tie as tie
 
@@ -16,16 +16,16 @@ cast-narrow-2 : tie.Need-cast-narrow-2
 cast-narrow-2 c = cast-fits (c .args .y) (c .fits .y)
 
 add-narrow : tie.Need-add-narrow
-add-narrow c = operation-fits _+ℤ_ mag-sum (c .fits .x) (c .fits .y)
+add-narrow c = operation-fits _+ℤ_ sum-fits (c .fits .x) (c .fits .y)
 
 narrow-requires : tie.Need-narrow-requires
-narrow-requires c κs = operation-small _+ℤ_ mag-sum (c .fits .x) (c .fits .y)
+narrow-requires c κs = search needs
 
 returns : tie.Need-returns
 returns c =
     toZ-ofZ w32 _ (search needs)
     ∙ c .narrow .ensures
-    ∙ ap wrap (operation-read _+ℤ_ mag-sum (c .before .fits .x) (c .before .fits .y))
+    ∙ ap wrap (operation-read _+ℤ_ sum-fits (c .before .fits .x) (c .before .fits .y))
 
 pub wrapping-add-spec : {M : Type 1} → statement M
 wrapping-add-spec = tie.close (tie.spec cast-narrow cast-narrow-2 add-narrow narrow-requires returns)

@@ -6,7 +6,7 @@ use mir.ValLaws.{toZ-ofZ}
 use Rattle.numbers.specs.Numbers.{numbers}
 use Rattle.cells.specs.Cells.{number}
 use Rattle.routine.specs.Routine.{inside}
-use Rattle.values.proofs.ValueLaws.{number-fits}
+use Rattle.values.proofs.ValueLaws.{inside-numbers-fits}
 use borrow.Author.Needs.{needs}
 use Rattle.values.proofs.number_cell.Statement.{statement}
 use Rattle.values.proofs.number_cell.Tie as tie
@@ -21,14 +21,14 @@ inside-requires : tie.Need-inside-requires
 inside-requires c κs = search needs
 
 cast-number : tie.Need-cast-number
-cast-number c = subst (SFits w32) (sym (held c)) (number-fits (c .before .before .args .z))
+cast-number c = subst (SFits w32) (sym (held c)) (inside-numbers-fits (c .before .before .args .z))
 
 number-requires : tie.Need-number-requires
 number-requires c κs = search needs
 
 returns : tie.Need-returns
 returns c =
-    c .number .ensures ∙ ap number (toZ-ofZ w32 _ (subst (SFits w32) (sym (held (c .before))) (number-fits (c .before .before .before .args .z))) ∙ held (c .before))
+    c .number .ensures ∙ ap number (toZ-ofZ w32 _ (subst (SFits w32) (sym (held (c .before))) (inside-numbers-fits (c .before .before .before .args .z))) ∙ held (c .before))
 
 pub number-cell-spec : {M : Type 1} → statement M
 number-cell-spec =

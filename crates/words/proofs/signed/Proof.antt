@@ -1,20 +1,39 @@
 -- `words::signed` meets its contract. Assumes nothing.
-use mathlib.Core.Path.{_∙_}
-use mir.Syntax.{w32}
-use mir.ValLaws.{toZ-ofZ}
-use Rattle.words.proofs.WordLaws.{held-small, wrap-word}
+use mathlib.Core.Path.{_≡_}
+use lib.IntN.{pos, _-ℤ_}
+use mir.Syntax.{w64}
+use mir.Val.{toZ}
+use Rattle.numbers.specs.Numbers.{modulus, signed}
+use Rattle.numbers.proofs.SignedLaws.{result-fits, result-wide, result-cast, result-read, result-back}
+use Rattle.words.specs.Words.{wordBits}
+use Rattle.words.proofs.WordLaws.{signed-fits, signed-kept, signed-lowered}
 use borrow.Author.Needs.{needs}
 use Rattle.words.proofs.signed.Statement.{statement}
 use Rattle.words.proofs.signed.Tie as tie
 
-cast-narrow : tie.Need-cast-narrow
-cast-narrow c = search needs
+kept : (c : tie.Then1) → signed wordBits (c .before .args .word) ≡ toZ w64 (c .before .args .word)
+kept c = signed-kept (c .before .args .word) (search needs) (c .if1 .taken)
 
-narrow-requires : tie.Need-narrow-requires
-narrow-requires c κs = held-small (c .args .word) (search needs)
+lowered : (c : tie.Else1) → signed wordBits (c .before .args .word) ≡ toZ w64 (c .before .args .word) -ℤ pos (modulus wordBits)
+lowered c = signed-lowered (c .before .args .word) (search needs) (c .if1 .left)
+
+cast-z : tie.Need-cast-z
+cast-z c = search needs
+
+cast-result : tie.Need-cast-result
+cast-result c = result-fits (signed-fits (c .before .args .word)) (kept c)
 
 returns : tie.Need-returns
-returns c = toZ-ofZ w32 _ (search needs) ∙ c .narrow .ensures ∙ wrap-word (c .before .args .word) (search needs)
+returns c = result-read (signed-fits (c .before .args .word)) (kept c)
+
+sub-result : tie.Need-sub-result
+sub-result c = result-wide (signed-fits (c .before .args .word)) (lowered c)
+
+cast-result-2 : tie.Need-cast-result-2
+cast-result-2 c = result-cast (signed-fits (c .before .args .word)) (lowered c)
+
+returns-2 : tie.Need-returns-2
+returns-2 c = result-back (signed-fits (c .before .args .word)) (lowered c)
 
 pub signed-spec : {M : Type 1} → statement M
-signed-spec = tie.close (tie.spec cast-narrow narrow-requires returns)
+signed-spec = tie.close (tie.spec cast-z cast-result returns sub-result cast-result-2 returns-2)
