@@ -1,5 +1,5 @@
 //! The bound: the tree of steps explored, with refusals 7, 8 and 9.
-use crate::machine::{Cell, Handles, Next, State};
+use crate::machine::{Cell, Handles, Next, State, Wrap};
 use crate::routine::{refused, Refusal, Routine};
 
 pub const OPENINGS: u32 = 32;
@@ -29,6 +29,8 @@ pub enum Event {
     Opened { at: u32, extra: u64, not_taken: u64, taken: u64 },
     /// an operation on two cells meets a handle
     Met { handles: Handles, stuck: bool },
+    /// an operation wraps
+    Wrapped(Wrap),
 }
 
 struct Explorer<'a, F> {
@@ -67,6 +69,9 @@ impl<F: FnMut(Event)> Explorer<'_, F> {
             cycles += line.cycles;
             words += line.words;
             let handles = state.handles(line);
+            if let Some(wrap) = state.wraps(line) {
+                (self.note)(Event::Wrapped(wrap));
+            }
             let next = state.step(line, || Cell::Unknown);
             if let Some(handles) = handles {
                 (self.note)(Event::Met { handles, stuck: next.is_none() });

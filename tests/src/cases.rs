@@ -1,5 +1,5 @@
 //! The cases on the edges and the small examples of document 01, with the answers given there and zeros on the line of extras; those of
-//! change requests 1, 3 and 6; and the files that the programs of `crates/` are run with, which are made of them.
+//! change requests 1, 3, 6 and 7; and the files that the programs of `crates/` are run with, which are made of them.
 use crate::change::Base::{File, Named};
 use crate::change::Change::{FirstBytes, Nothing, Without};
 use crate::change::Told::{Refusal, Report};
@@ -53,17 +53,32 @@ fn on_handles(operation: &str, cells: &str) -> String {
     file(99, kinds, "2 2 2 2 2 2 2 2 5 7 1", "ACCU S0", cells, &code).replacen("-\n-\nAT", "B0.0 B1.0\n0 0\nAT", 1)
 }
 
-/// Two lines of code, then a branch that tells whether the accumulator is the lowest number.
-fn gives_the_lowest(first: &str, then: &str) -> String {
-    let kinds = "CONSTINT OFFSETINT NEGINT PUSH EQ BRANCHIF ACC0 STOP";
-    let compared = "2 PUSH -\n3 CONSTINT -2147483648\n4 EQ -\n5 BRANCHIF 7\n6 ACC0 -\n7 STOP -\n";
-    file(99, kinds, "1 1 1 1 1 1 1 1", "ACCU", "0", &format!("0 {first}\n1 {then}\n{compared}"))
+/// Two lines of code over an accumulator and an entry of 1, then a branch that tells whether the accumulator is the number wanted.
+fn gives(first: &str, then: &str, wanted: &str) -> String {
+    let kinds = "CONSTINT ADDINT SUBINT OFFSETINT NEGINT BOOLNOT PUSH EQ BRANCHIF ACC0 STOP";
+    let compared = format!("2 PUSH -\n3 CONSTINT {wanted}\n4 EQ -\n5 BRANCHIF 7\n6 ACC0 -\n7 STOP -\n");
+    let code = format!("0 {first}\n1 {then}\n{compared}");
+    file(99, kinds, "1 1 1 1 1 1 1 1 1 1 1", "ACCU S0", "0 1", &code)
+}
+
+/// A cell, a field, an argument and an answer at the ends of the range of numbers.
+fn at_the_ends() -> String {
+    let code = "0 OFFSETINT -1073741824\n1 STOP -\nANSWER\n1073741823\n";
+    file(99, "OFFSETINT STOP", "2 1", "ACCU", "1073741823", code).replacen("-\n-\nAT", "B0.0\n-1073741824\nAT", 1)
 }
 
 /// What `crates/cases` is run with: the published example (case 1, run: case 7), the cases that are not starred, each row's example, and
-/// what change requests 1, 3 and 6 add to them.
+/// what change requests 1, 3, 6 and 7 add to them.
 pub fn cases() -> Vec<Text> {
-    let lists = [published_example(), not_starred(), refusal_table(), taken_jumps(), compared_handles(), halves()];
+    let lists = [
+        published_example(),
+        not_starred(),
+        refusal_table(),
+        taken_jumps(),
+        compared_handles(),
+        halves(),
+        numbers_of_31_bits(),
+    ];
     let mut texts = made(lists.into_iter().flatten().collect());
     // the program lends a byte less for it
     texts.iter_mut().find(|text| text.name == "lent_127").unwrap().lent = MEMORY - 1;
@@ -202,16 +217,32 @@ fn halves() -> Vec<Entry> {
     ]
 }
 
-/// The other starred cases, 2 to 6, and those of change request 1, which `analyser` proves: the independent implementation must give
-/// these too.
+/// Change request 7: numbers at the ends of their range, and just outside it.
+fn numbers_of_31_bits() -> Vec<Entry> {
+    let ends: Base = File(at_the_ends);
+    vec![
+        ("numbers_at_the_ends", ends, Nothing, [Report("3 0 0 2 3 -"), Report("3 0 0 2")]),
+        ("cell_above_the_range", ends, word(11, 1, "1073741824"), refused(3, 11)),
+        ("field_below_the_range", ends, word(13, 1, "-1073741825"), refused(3, 13)),
+        ("argument_above_the_range", ends, word(15, 3, "1073741824"), refused(3, 15)),
+        ("answer_below_the_range", ends, word(18, 1, "-1073741825"), refused(3, 18)),
+    ]
+}
+
+/// The other starred cases, 2 to 6, and those of change requests 1 and 7, which `analyser` proves: the independent implementation must
+/// give these too.
 pub fn starred() -> Vec<Text> {
     let one_branch: Base = File(|| file(2, "BRANCHIF STOP", "5 1", "ACCU", "?", "0 BRANCHIF 1\n1 STOP -\n"));
     let two_calls: Base = File(|| {
         let code = "0 BRANCHIF 3\n1 C_CALL1 A\n2 STOP -\n3 C_CALL1 B\n4 STOP -\n";
         file(9, "BRANCHIF C_CALL1 STOP", "1 1 1", "ACCU", "?", code).replacen("-\n-\n-", "A B\n10 4\n1 9", 1)
     });
-    let plus_1: Base = File(|| gives_the_lowest("CONSTINT 2147483647", "OFFSETINT 1"));
-    let negated: Base = File(|| gives_the_lowest("CONSTINT -2147483648", "NEGINT -"));
+    let plus_1: Base = File(|| gives("CONSTINT 1073741823", "ADDINT -", "-1073741824"));
+    let negated: Base = File(|| gives("CONSTINT -1073741824", "NEGINT -", "-1073741824"));
+    let minus_1: Base = File(|| gives("CONSTINT -1073741824", "SUBINT -", "1073741823"));
+    let offset_up: Base = File(|| gives("CONSTINT 1073741823", "OFFSETINT 1", "-1073741824"));
+    let offset_down: Base = File(|| gives("CONSTINT -1073741824", "OFFSETINT -1", "1073741823"));
+    let complement: Base = File(|| gives("CONSTINT -1073741823", "BOOLNOT -", "-1073741824"));
     let pops: Base =
         File(|| file(9, "ADDINT ACC0 STOP", "1 1 1", "ACCU S0", "? 5", "0 ADDINT -\n1 ACC0 -\n2 STOP -\n"));
     made(vec![
@@ -236,7 +267,11 @@ pub fn starred() -> Vec<Text> {
         ("case_4_extra_6", two_calls, word(6, 1, "6"), [Report("13 9 0 5 13 T"), Refusal(11, 11)]),
         ("case_4_extra_7", two_calls, word(6, 1, "7"), [Report("14 9 0 5 14 T"), Refusal(11, 11)]),
         ("case_5_plus_1", plus_1, Nothing, [Report("7 0 1 7 7 -"), Report("7 0 1 7")]),
-        ("case_5_negated", negated, Nothing, [Report("7 0 1 7 7 -"), Report("7 0 1 7")]),
+        ("case_5_negated", negated, Nothing, [Report("7 0 2 7 7 -"), Report("7 0 2 7")]),
+        ("subint_wraps", minus_1, Nothing, [Report("7 0 1 7 7 -"), Report("7 0 1 7")]),
+        ("offsetint_wraps_up", offset_up, Nothing, [Report("7 0 2 7 7 -"), Report("7 0 2 7")]),
+        ("offsetint_wraps_down", offset_down, Nothing, [Report("7 0 2 7 7 -"), Report("7 0 2 7")]),
+        ("boolnot_wraps", complement, Nothing, [Report("7 0 2 7 7 -"), Report("7 0 2 7")]),
         ("case_6", pops, Nothing, [Refusal(7, 1), Refusal(11, 11)]),
     ])
 }

@@ -1,6 +1,7 @@
-//! What the words and the files compared have in them, of change request 2.
+//! What the words and the files compared have in them, of change request 2; and of 7, arguments that an import writes and a bound refuses.
 use independent::report::Answer;
 use independent::routine::{Argument, Refusal};
+use independent::tagged::is_number;
 use independent::word_draft::Import;
 use independent::words::{instructions, lines, primitives_line, target, Cause, Instruction};
 use std::collections::{BTreeMap, BTreeSet};
@@ -13,7 +14,7 @@ pub struct Causes {
 }
 
 /// What is counted.
-const COUNTED: [&str; 24] = [
+const COUNTED: [&str; 25] = [
     "imports accepted",
     "imports whose words came back",
     "exports accepted",
@@ -33,6 +34,7 @@ const COUNTED: [&str; 24] = [
     "an instruction without an argument",
     "a number",
     "a number below 0",
+    "a number that has more than 31 bits",
     "a forward offset",
     "a backward offset",
     "a primitive",
@@ -102,6 +104,10 @@ impl Causes {
         };
         let arguments: BTreeSet<&str> = code.iter().map(of_argument).collect();
         arguments.into_iter().for_each(|what| self.add(what));
+        if code.iter().any(|i| ["CONSTINT", "PUSHCONSTINT", "OFFSETINT"].contains(&i.kind) && !is_number(i.word as i64))
+        {
+            self.add("a number that has more than 31 bits");
+        }
         self.kinds.extend(code.iter().map(|i| i.kind));
     }
 
@@ -112,7 +118,7 @@ impl Causes {
         }
     }
 
-    pub fn counts(&self) -> [(&'static str, u64); 24] {
+    pub fn counts(&self) -> [(&'static str, u64); 25] {
         COUNTED.map(|what| (what, self.counts.get(what).copied().unwrap_or(0)))
     }
 

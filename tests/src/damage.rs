@@ -2,12 +2,14 @@
 use crate::draft::{Arg, Draft};
 use crate::random::Random;
 use crate::routine::{line as at, Argument, KINDS, TEXT_LIMIT};
+use crate::tagged::{HIGHEST, LOWEST};
 
 #[rustfmt::skip]
 const WORDS: &[&str] = &[
     "-", "?", "#", "#0", "#7", "#8", "#-1", "#01", "#?", "#-0", "-0", "00", "01", "+1", "0", "1", "-1", "63", "64",
     "65", "15", "16", "255", "256", "65535", "65536", "60000", "60001", "62000", "62001", "1000000", "1000001",
-    "4000000000", "4000000001", "2147483647", "2147483648", "-2147483648", "-2147483649", "9223372036854775807",
+    "4000000000", "4000000001", "1073741823", "1073741824", "-1073741824", "-1073741825", "2147483647", "2147483648",
+    "-2147483648", "-2147483649", "3221225472", "9223372036854775807",
     "9223372036854775808", "18446744073709551616", "18446744073709551617", "123456789012345678901234567890",
     "#123456789012345678901234567890", "BUDGET", "TICK", "ACCU", "S0", "S1", "S00", "S31", "S32", "B0.0", "B0.00",
     "B0.1", "B0.15", "B0.16", "B1.0", "B7.0", "B8.0", "AT", "OP", "ARG", "ANSWER", "STOP", "BRANCH", "BRANCHIF",
@@ -217,16 +219,46 @@ fn among_parts(random: &mut Random, draft: &mut Draft) {
     }
 }
 
+/// A number at an end of the range, or just beyond: a cell, a field, an argument or an answer.
+fn among_numbers(random: &mut Random, draft: &mut Draft) {
+    let (low, high) = (LOWEST as i64, HIGHEST as i64);
+    let number = *random.pick(&[low - 1, low - 1, low, high, high + 1, high + 1]);
+    match random.below(6) {
+        0 | 1 => {
+            if draft.blocks.is_empty() {
+                draft.blocks.push(vec!["0".to_string()]);
+            }
+            let block = random.below(draft.blocks.len());
+            let field = random.below(draft.blocks[block].len());
+            draft.blocks[block][field] = number.to_string();
+        }
+        2 => {
+            let name = *random.pick(&["CONSTINT", "PUSHCONSTINT", "OFFSETINT"]);
+            let n = random.below(draft.code.len());
+            draft.code[n] = (name, Arg::Number(number));
+            draft.price(name);
+        }
+        3 | 4 => {
+            let n = random.below(draft.answers.len() + 1);
+            draft.answers.insert(n, number as i32);
+        }
+        _ => {
+            let n = random.below(draft.cells.len());
+            draft.cells[n] = number.to_string();
+        }
+    }
+}
+
 /// A text of nearly the most bytes, or a few more, by numbers of code that take more bytes or fewer.
 fn near_limit(random: &mut Random, draft: &mut Draft) -> Vec<u8> {
     let wanted = TEXT_LIMIT + random.below(5) - 2;
     draft.first = 60_000;
-    draft.code = vec![("CONSTINT", Arg::Number(i32::MIN as i64)); 1023];
+    draft.code = vec![("CONSTINT", Arg::Number(LOWEST as i64)); 1023];
     draft.code.push(("STOP", Arg::Nothing));
     for name in ["CONSTINT", "PUSHCONSTINT", "STOP"] {
         draft.price(name);
     }
-    draft.answers = vec![i32::MIN; 64];
+    draft.answers = vec![LOWEST; 64];
     draft.budget = 1023 + random.below(4) as u64;
     let stack = draft.cells.len() - 1;
     let mut over = draft.text().len() as i64 - wanted as i64;
@@ -249,9 +281,12 @@ pub fn damaged(random: &mut Random, draft: &mut Draft) -> Vec<u8> {
         return near_limit(random, draft);
     }
     let faults = if random.one_in(2) { 1 } else { random.within(2, 3) };
-    let kinds: Vec<usize> = (0..faults).map(|_| random.below(9)).collect();
+    let kinds: Vec<usize> = (0..faults).map(|_| random.below(11)).collect();
     for _ in kinds.iter().filter(|k| **k < 4) {
         among_parts(random, draft);
+    }
+    for _ in kinds.iter().filter(|k| **k >= 9) {
+        among_numbers(random, draft);
     }
     let mut words = lines(&draft.text());
     for _ in kinds.iter().filter(|k| (4..7).contains(*k)) {

@@ -34,7 +34,7 @@ impl Extras {
                     tie |= extra > 0 && not_taken == extra + taken;
                     decided |= not_taken > taken && not_taken < extra + taken;
                 }
-                Event::Met { .. } => {}
+                _ => {}
             });
             self.known += known as u64;
             self.ties += tie as u64;

@@ -170,8 +170,8 @@ fn file_of(draft: &mut Draft, lines: &[u8], run: &compiled::Run, unknown: bool) 
 /// Whether a run of a compiled function ends as its source says, on the independent side.
 fn ends_as_it_must(file: &[u8], wanted: &compiled::Run) -> Result<(), String> {
     let end = read(file, true).and_then(|routine| run(&routine)).map_err(|r| refusal(&r))?;
-    let fields = wanted.fields_after.split_whitespace().map(|n| Cell::Number(n.parse().unwrap())).collect::<Vec<_>>();
-    if end.state.accumulator == Cell::Number(wanted.result) && end.state.fields.starts_with(&fields) {
+    let fields = wanted.fields_after.split_whitespace().map(|n| Cell::number(n.parse().unwrap())).collect::<Vec<_>>();
+    if end.state.accumulator == Cell::number(wanted.result) && end.state.fields.starts_with(&fields) {
         return Ok(());
     }
     Err(format!("with {} it ends with {:?} and other fields", wanted.arguments, end.state.accumulator))

@@ -15,6 +15,7 @@ pub mod replay_cases;
 pub mod report;
 pub mod routine;
 pub mod run;
+pub mod tagged;
 pub mod texts;
 pub mod trace_draft;
 pub mod word_cases;

@@ -1,5 +1,6 @@
 //! Cells, the machine's state and its step.
 use crate::routine::Line;
+use crate::tagged::{is_number, Tagged};
 
 pub const STACK: usize = 64;
 pub const BLOCKS: usize = 8;
@@ -7,9 +8,15 @@ pub const FIELDS: usize = 16;
 
 #[derive(Clone, Copy, PartialEq, Debug)]
 pub enum Cell {
-    Number(i32),
+    Number(Tagged),
     Unknown,
     Handle(u8),
+}
+
+impl Cell {
+    pub fn number(n: i32) -> Cell {
+        Cell::Number(Tagged::of(n))
+    }
 }
 
 #[derive(Clone, Copy)]
@@ -67,6 +74,16 @@ pub enum Handles {
     WithAnother,
 }
 
+/// An operation whose result is outside the range of numbers.
+#[derive(Clone, Copy, PartialEq)]
+pub enum Wrap {
+    Add,
+    Subtract,
+    Offset,
+    Negate,
+    Not,
+}
+
 /// What follows a step.
 pub enum Next {
     /// the state as it now is
@@ -80,7 +97,7 @@ pub enum Next {
 
 impl State {
     pub fn new(at: u32, accumulator: Cell) -> State {
-        let zero = Cell::Number(0);
+        let zero = Cell::number(0);
         State { at, accumulator, stack: [zero; STACK], height: 0, sizes: [0; BLOCKS], fields: [zero; BLOCKS * FIELDS] }
     }
 
@@ -119,6 +136,27 @@ impl State {
         }
     }
 
+    /// The operation of a line, where its result must wrap.
+    pub fn wraps(&self, line: &Line) -> Option<Wrap> {
+        let Cell::Number(v) = self.accumulator else {
+            return None;
+        };
+        let entry = || match self.stack[self.height.checked_sub(1)?] {
+            Cell::Number(v) => Some(v.number() as i64),
+            _ => None,
+        };
+        let v = v.number() as i64;
+        let (wrap, exact) = match line.instruction {
+            Instruction::Binary(Operator::Add) => (Wrap::Add, v + entry()?),
+            Instruction::Binary(Operator::Subtract) => (Wrap::Subtract, v - entry()?),
+            Instruction::Offset(i) => (Wrap::Offset, v + i as i64),
+            Instruction::Negate => (Wrap::Negate, -v),
+            Instruction::Not => (Wrap::Not, 1 - v),
+            _ => return None,
+        };
+        (!is_number(exact)).then_some(wrap)
+    }
+
     /// The place of a field of the block that the accumulator handles.
     fn field(&self, n: usize) -> Option<usize> {
         let Cell::Handle(block) = self.accumulator else {
@@ -129,7 +167,7 @@ impl State {
     }
 
     /// The accumulator with a function done to its number.
-    fn change(&mut self, function: impl FnOnce(i32) -> i32) -> Option<()> {
+    fn change(&mut self, function: impl FnOnce(Tagged) -> Tagged) -> Option<()> {
         self.accumulator = match self.accumulator {
             Cell::Number(v) => Cell::Number(function(v)),
             Cell::Unknown => Cell::Unknown,
@@ -141,7 +179,7 @@ impl State {
     /// One step by the instruction at the address; none is stuck, and the state is then of no more use. `answer` is what a
     /// primitive answers.
     pub fn step(&mut self, line: &Line, answer: impl FnOnce() -> Cell) -> Option<Next> {
-        let zero = Cell::Number(0);
+        let zero = Cell::number(0);
         self.at += 1;
         match line.instruction {
             Instruction::Acc(n) => self.accumulator = self.stack[self.entry(n)?],
@@ -156,20 +194,20 @@ impl State {
                 self.stack[entry] = self.accumulator;
                 self.accumulator = zero;
             }
-            Instruction::Const(i) => self.accumulator = Cell::Number(i),
+            Instruction::Const(i) => self.accumulator = Cell::number(i),
             Instruction::PushConst(i) => {
                 self.push()?;
-                self.accumulator = Cell::Number(i);
+                self.accumulator = Cell::number(i);
             }
-            Instruction::Offset(i) => self.change(|v| v.wrapping_add(i))?,
-            Instruction::Negate => self.change(i32::wrapping_neg)?,
-            Instruction::Not => self.change(|v| 1i32.wrapping_sub(v))?,
+            Instruction::Offset(i) => self.change(|v| v.offset(i))?,
+            Instruction::Negate => self.change(Tagged::negated)?,
+            Instruction::Not => self.change(Tagged::complement)?,
             Instruction::Binary(operator) => {
                 let right = self.pop()?;
                 self.accumulator = match (self.accumulator, right) {
                     (Cell::Handle(j), Cell::Handle(k)) => match operator {
-                        Operator::Equal => Cell::Number((j == k) as i32),
-                        Operator::Unequal => Cell::Number((j != k) as i32),
+                        Operator::Equal => Cell::Number(Tagged::of_truth(j == k)),
+                        Operator::Unequal => Cell::Number(Tagged::of_truth(j != k)),
                         _ => return None,
                     },
                     (Cell::Handle(_), _) | (_, Cell::Handle(_)) => return None,
@@ -197,7 +235,7 @@ impl State {
 
     fn branch(&mut self, target: u32, on_non_zero: bool) -> Option<Next> {
         match self.accumulator {
-            Cell::Number(v) if (v != 0) == on_non_zero => {
+            Cell::Number(v) if (v != Tagged::of(0)) == on_non_zero => {
                 self.at = target;
                 Some(Next::Jumps)
             }
@@ -209,16 +247,17 @@ impl State {
 }
 
 impl Operator {
-    fn of(self, x: i32, y: i32) -> i32 {
-        match self {
-            Operator::Add => x.wrapping_add(y),
-            Operator::Subtract => x.wrapping_sub(y),
-            Operator::Equal => (x == y) as i32,
-            Operator::Unequal => (x != y) as i32,
-            Operator::Less => (x < y) as i32,
-            Operator::LessOrEqual => (x <= y) as i32,
-            Operator::Greater => (x > y) as i32,
-            Operator::GreaterOrEqual => (x >= y) as i32,
-        }
+    fn of(self, x: Tagged, y: Tagged) -> Tagged {
+        let truth = match self {
+            Operator::Add => return x.plus(y),
+            Operator::Subtract => return x.minus(y),
+            Operator::Equal => x == y,
+            Operator::Unequal => x != y,
+            Operator::Less => x < y,
+            Operator::LessOrEqual => x <= y,
+            Operator::Greater => x > y,
+            Operator::GreaterOrEqual => x >= y,
+        };
+        Tagged::of_truth(truth)
     }
 }

@@ -10,6 +10,7 @@ mod pinned;
 mod replays;
 mod shares;
 mod traces;
+mod wraps;
 
 use causes::Causes;
 use compare::{by_programs, file};
@@ -34,6 +35,7 @@ use shares::Shares;
 use std::collections::{BTreeMap, BTreeSet};
 use std::path::Path;
 use traces::Traces;
+use wraps::Wraps;
 
 /// Disagreements shown in full; all are counted.
 const SHOWN: u64 = 5;
@@ -53,6 +55,7 @@ struct Tally {
     extras: Extras,
     handles: Compared,
     shares: Shares,
+    wraps: Wraps,
     causes: Causes,
     traces: Traces,
 }
@@ -82,11 +85,13 @@ impl Tally {
         self.extras.note(text, bound, run);
         self.handles.note(text, bound, run);
         self.shares.note(text, bound);
+        self.wraps.note(text, bound, run);
     }
 
     /// What a report depends on, and how many files had it.
     fn counts(&self) -> impl Iterator<Item = (&'static str, u64)> {
-        self.extras.counts().into_iter().chain(self.handles.counts()).chain(self.shares.counts())
+        let of_cells = self.extras.counts().into_iter().chain(self.handles.counts()).chain(self.wraps.counts());
+        of_cells.chain(self.shares.counts())
     }
 
     /// All comparisons on one file; with the programs too, if they are given.
@@ -181,13 +186,13 @@ fn compare_program_files(tally: &mut Tally) {
     }
 }
 
-/// Files enough that every kind, every refusal of a text, every use of an extra, every pair with a handle, SHARE on each side of a half,
-/// every cause and every way in which a trace compares must come up.
+/// Files enough that every kind, every refusal of a text, every use of an extra, every pair with a handle, every operation that wraps,
+/// SHARE on each side of a half, every cause and every way in which a trace compares must come up.
 const MANY: u64 = 5_000;
 
 /// Whether what was compared had all kinds in accepted code and in accepted words, reports, each refusal of a text, extras wherever they
-/// count, handles in operations on two cells, SHARE at a half and next to it, each cause by which words are refused, and traces that
-/// agree, differ and are refused by each cause.
+/// count, handles in operations on two cells, numbers that wrap and numbers just outside their range, SHARE at a half and next to it,
+/// each cause by which words are refused, and traces that agree, differ and are refused by each cause.
 fn covers(tally: &Tally) -> Result<(), String> {
     let missing: Vec<u32> = (0..=11).filter(|n| *n != 10 && !tally.answers.contains_key(n)).collect();
     let counts = tally.counts().chain(tally.causes.counts()).chain(tally.traces.counts());

@@ -1,4 +1,6 @@
 //! Numbers from a seed (xorshift64*).
+use crate::tagged::{HIGHEST, LOWEST};
+
 pub struct Random(u64);
 
 impl Random {
@@ -36,14 +38,36 @@ impl Random {
         &list[self.below(list.len())]
     }
 
-    /// Any number of 32 bits; mostly a small one or one at an end of the range.
+    /// Any number; mostly a small one or one at an end of the range.
     pub fn number(&mut self) -> i32 {
         match self.below(8) {
-            0 => self.next() as i32,
-            1 => i32::MAX - self.below(3) as i32,
-            2 => i32::MIN + self.below(3) as i32,
+            0 => self.next() as i32 >> 1,
+            1 | 2 => self.end(),
             3 | 4 => 0,
             _ => self.below(7) as i32 - 3,
+        }
+    }
+
+    /// A number at an end of the range.
+    pub fn end(&mut self) -> i32 {
+        let n = self.below(3) as i32;
+        if self.one_in(2) {
+            HIGHEST - n
+        } else {
+            LOWEST + n
+        }
+    }
+
+    /// A word of 32 bits, as often as not outside the range of numbers: just there, or at an end of the words.
+    pub fn word(&mut self) -> i32 {
+        let n = self.below(3) as i32;
+        match self.below(8) {
+            0 => self.next() as i32,
+            1 => HIGHEST + 1 + n,
+            2 => LOWEST - 1 - n,
+            3 => i32::MAX - n,
+            4 => i32::MIN + n,
+            _ => self.number(),
         }
     }
 }

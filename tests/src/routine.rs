@@ -1,5 +1,6 @@
 //! The routine file: its reader, with refusals 1 to 6 and 11.
 use crate::machine::{Cell, Instruction, Operator, State, FIELDS};
+use crate::tagged::{is_number as in_range, HIGHEST, LOWEST};
 
 pub const TEXT_LIMIT: usize = 32_768;
 /// The most primitives and the most lines of code.
@@ -47,7 +48,7 @@ pub enum Argument {
 }
 
 use Argument::{Nothing, Number, Primitive, Target};
-const INTEGER: Argument = Number(i32::MIN as i64, i32::MAX as i64);
+const INTEGER: Argument = Number(LOWEST as i64, HIGHEST as i64);
 
 pub const KINDS: [(&str, Argument); 61] = [
     ("ACC0", Nothing),
@@ -311,7 +312,7 @@ fn ranges(file: &Layout) -> Result<(), Refusal> {
                 (0..=most).contains(&number(w).unwrap())
             }),
             line::CELLS | line::FIELDS => file.list(n).iter().all(|w| match cell(w).unwrap() {
-                Spelt::Number(v) => i32::try_from(v).is_ok(),
+                Spelt::Number(v) => in_range(v),
                 Spelt::Unknown => true,
                 Spelt::Handle(k) => (0..=7).contains(&k),
             }),
@@ -324,7 +325,7 @@ fn ranges(file: &Layout) -> Result<(), Refusal> {
                         _ => true,
                     }
             }
-            _ if file.answers().contains(&n) => i32::try_from(file.number(n, 0)).is_ok(),
+            _ if file.answers().contains(&n) => in_range(file.number(n, 0)),
             _ => true,
         };
         if !good {
@@ -449,7 +450,7 @@ fn routine(file: &Layout) -> Routine {
         file.list(n)
             .iter()
             .map(|w| match cell(w).unwrap() {
-                Spelt::Number(v) => Cell::Number(v as i32),
+                Spelt::Number(v) => Cell::number(v as i32),
                 Spelt::Unknown => Cell::Unknown,
                 Spelt::Handle(k) => Cell::Handle(k as u8),
             })

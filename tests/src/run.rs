@@ -26,7 +26,7 @@ impl Run {
         }
         let line = routine.code.get(self.state.at.wrapping_sub(routine.first) as usize)?;
         let answers = &mut self.answers;
-        match self.state.step(line, || Cell::Number(answers.pop_front().unwrap_or(0)))? {
+        match self.state.step(line, || Cell::number(answers.pop_front().unwrap_or(0)))? {
             Next::Goes => self.depth = self.depth.max(self.state.height),
             Next::Jumps => self.cycles += line.extra,
             Next::Stops => self.stopped = true,

@@ -8,9 +8,10 @@ use crate::change::Told::{Refusal, Report};
 use crate::change::{append, line, lines, made, refused, word, Base, Entry, Text};
 use crate::draft::{Arg, Draft};
 use crate::routine::KINDS;
+use crate::tagged::LOWEST;
 
 /// How many there are.
-pub const TEXTS: usize = 307;
+pub const TEXTS: usize = 314;
 
 const PUBLISHED: Base = File(published);
 /// Two blocks, two primitives, answers, and numbers at the ends of their ranges; stuck at 60001, its second line.
@@ -37,21 +38,21 @@ READ STOP
 65535 0
 255 0
 ACCU S0 S1
-5 7 -2147483648
+5 7 -1073741824
 B0.0 B0.1 B1.0
-2147483647 #0 #1
+1073741823 #0 #1
 AT OP ARG
 60000 PUSH -
 60001 ACC 63
 60002 BRANCHIFNOT 60005
-60003 OFFSETINT -2147483648
+60003 OFFSETINT -1073741824
 60004 BRANCH 60001
 60005 SETFIELD 15
 60006 C_CALL2 STOP
 60007 STOP -
 ANSWER
-2147483647
--2147483648
+1073741823
+-1073741824
 ";
 
 const STOP_ALONE: &str = "\
@@ -91,8 +92,8 @@ AT OP ARG
 1 PUSHACC 63
 2 ASSIGN 63
 3 POP 64
-4 CONSTINT 2147483647
-5 PUSHCONSTINT -2147483648
+4 CONSTINT 1073741823
+5 PUSHCONSTINT -1073741824
 6 GETFIELD 15
 7 SETFIELD 0
 ";
@@ -129,8 +130,8 @@ fn full() -> String {
         cells: vec!["0".to_string()],
         blocks: Vec::new(),
         first: 10_000,
-        code: vec![("PUSHCONSTINT", Arg::Number(i32::MIN as i64)); 1024],
-        answers: vec![i32::MIN; 64],
+        code: vec![("PUSHCONSTINT", Arg::Number(LOWEST as i64)); 1024],
+        answers: vec![LOWEST; 64],
     }
     .text()
 }
@@ -381,8 +382,16 @@ fn ranges() -> Vec<Entry> {
         ("words_256", PUBLISHED, word(5, 3, "256"), refused(3, 5)),
         ("primitive_cycles_65536", PUBLISHED, word(8, 1, "65536"), refused(3, 8)),
         ("primitive_words_256", PUBLISHED, word(9, 1, "256"), refused(3, 9)),
-        ("cell_2147483648", PUBLISHED, word(11, 1, "2147483648"), refused(3, 11)),
-        ("cell_minus_2147483649", PUBLISHED, word(11, 2, "-2147483649"), refused(3, 11)),
+        ("cell_1073741824", PUBLISHED, word(11, 1, "1073741824"), refused(3, 11)),
+        ("cell_minus_1073741825", PUBLISHED, word(11, 2, "-1073741825"), refused(3, 11)),
+        // numbers of 32 bits, which were within the range before change request 7
+        ("cell_2147483647", PUBLISHED, word(11, 1, "2147483647"), refused(3, 11)),
+        ("field_1073741824", LARGER, word(13, 1, "1073741824"), refused(3, 13)),
+        ("field_minus_2147483648", LARGER, word(13, 1, "-2147483648"), refused(3, 13)),
+        ("constint_1073741824", ENDS, word(19, 3, "1073741824"), refused(3, 19)),
+        ("pushconstint_minus_1073741825", ENDS, word(20, 3, "-1073741825"), refused(3, 20)),
+        ("offsetint_minus_2147483648", LARGER, word(18, 3, "-2147483648"), refused(3, 18)),
+        ("answer_2147483647", LARGER, word(24, 1, "2147483647"), refused(3, 24)),
         ("cell_of_minus_thirty_digits", PUBLISHED, word(11, 2, "-123456789012345678901234567890"), refused(3, 11)),
         ("handle_8", PUBLISHED, word(11, 1, "#8"), refused(3, 11)),
         ("handle_minus_1", PUBLISHED, word(11, 1, "#-1"), refused(3, 11)),
@@ -403,10 +412,10 @@ fn ranges() -> Vec<Entry> {
         ("pushacc_64", LARGER, line(16, "60001 PUSHACC 64"), refused(3, 16)),
         ("getfield_16", LARGER, line(20, "60005 GETFIELD 16"), refused(3, 20)),
         ("setfield_16", LARGER, word(20, 3, "16"), refused(3, 20)),
-        ("offsetint_2147483648", LARGER, word(18, 3, "2147483648"), refused(3, 18)),
-        ("constint_minus_2147483649", LARGER, line(18, "60003 CONSTINT -2147483649"), refused(3, 18)),
-        ("answer_2147483648", LARGER, word(24, 1, "2147483648"), refused(3, 24)),
-        ("answer_minus_2147483649", LARGER, word(25, 1, "-2147483649"), refused(3, 25)),
+        ("offsetint_1073741824", LARGER, word(18, 3, "1073741824"), refused(3, 18)),
+        ("constint_minus_1073741825", LARGER, line(18, "60003 CONSTINT -1073741825"), refused(3, 18)),
+        ("answer_1073741824", LARGER, word(24, 1, "1073741824"), refused(3, 24)),
+        ("answer_minus_1073741825", LARGER, word(25, 1, "-1073741825"), refused(3, 25)),
     ]
 }
 
@@ -640,8 +649,8 @@ fn rows_in_order() -> Vec<Entry> {
         ("name_then_range", Named("primitive_words_256"), word(7, 1, "read"), refused(3, 9)),
         ("name_and_its_price", Named("primitive_cycles_65536"), word(7, 1, "read"), refused(3, 8)),
         ("repeated_name_and_its_price", LARGER, lines(7, 9, "READ READ\n65535 0\n0 256"), refused(3, 9)),
-        ("target_then_range", Named("target_5"), line(18, "3 CONSTINT 2147483648"), refused(3, 18)),
-        ("target_then_answer", Named("target_0"), word(25, 1, "2147483648"), refused(3, 25)),
+        ("target_then_range", Named("target_5"), line(18, "3 CONSTINT 1073741824"), refused(3, 18)),
+        ("target_then_answer", Named("target_0"), word(25, 1, "1073741824"), refused(3, 25)),
         ("price_then_name", Named("unpriced_first_line"), word(19, 1, "5"), refused(4, 19)),
         ("target_then_price", Named("target_5"), word(18, 2, "SUBINT"), refused(5, 18)),
         ("unknown_then_price", Named("unknown_first_field"), word(22, 2, "NEGINT"), refused(5, 22)),
@@ -655,7 +664,7 @@ fn lines_in_order() -> Vec<Entry> {
         ("two_misspelt", Named("leading_zero_in_words"), word(15, 1, "00"), refused(2, 9)),
         ("wrong_word_and_missing_line", Named("answer_in_place_of_stop"), line(14, "AT"), refused(2, 14)),
         ("two_out_of_range", Named("target_62001"), word(9, 1, "256"), refused(3, 9)),
-        ("two_answers", Named("answer_2147483648"), word(25, 1, "-2147483649"), refused(3, 24)),
+        ("two_answers", Named("answer_1073741824"), word(25, 1, "-1073741825"), refused(3, 24)),
         ("two_names", Named("unknown_op"), word(7, 1, "read"), refused(4, 7)),
         ("handle_before_a_name", Named("block_left_out"), line(11, "#1 7 0"), refused(4, 11)),
         ("two_unpriced", PUBLISHED, lines(17, 18, "2 CONST3 -\n3 SUBINT -"), refused(5, 17)),

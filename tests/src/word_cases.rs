@@ -1,13 +1,14 @@
-//! Imports and exports with the answers that change request 2 gives them.
+//! Imports and exports with the answers that change request 2 gives them, and 7, which leaves the words as they are.
 use crate::cases::published;
 use crate::report::Answer;
 use crate::routine::{refused, CODE_LINES, PRIMITIVES};
+use crate::tagged::LOWEST;
 use crate::texts::LARGER_FILE;
 use crate::word_draft::Import;
 use crate::words::{bytes, MEMORY};
 
 /// How many imports and how many exports there are.
-pub const CASES: [usize; 2] = [122, 12];
+pub const CASES: [usize; 2] = [124, 13];
 
 /// A name that says what is tried, what is read, the memory lent, and what is told.
 pub struct Case<T> {
@@ -24,7 +25,7 @@ type ImportEntry = (&'static str, Vec<u8>, &'static str, Answer);
 const ALL_KINDS: [i32; 78] = [
     0, 1, 2, 3, 4, 5, 6, 7, 8, 5, 9, 10, 11, 12, 13, 14, 15, 16, 17, 18, 63, 19, 64, 20, 0,
     67, 68, 69, 70, 71, 15, 73, 74, 75, 76, 77, 4, 84, 39, 85, -40, 86, -1, 88,
-    93, 0, 94, 1, 95, 0, 96, 1, 97, 0, 99, 100, 101, 102, 103, -2147483648, 104, 105, 106, 107, 108, 2147483647,
+    93, 0, 94, 1, 95, 0, 96, 1, 97, 0, 99, 100, 101, 102, 103, -1073741824, 104, 105, 106, 107, 108, 1073741823,
     109, 110, 111, 121, 122, 123, 124, 125, 126, 127, -1, 143,
 ];
 
@@ -73,12 +74,12 @@ const ALL_KINDS_LINES: &str = "\
 41 CONST1 -
 42 CONST2 -
 43 CONST3 -
-44 CONSTINT -2147483648
+44 CONSTINT -1073741824
 45 PUSHCONST0 -
 46 PUSHCONST1 -
 47 PUSHCONST2 -
 48 PUSHCONST3 -
-49 PUSHCONSTINT 2147483647
+49 PUSHCONSTINT 1073741823
 50 NEGINT -
 51 ADDINT -
 52 SUBINT -
@@ -154,6 +155,8 @@ fn accepted() -> Vec<ImportEntry> {
         // the bound refuses these, not the import
         ("acc_100", bytes(&[8, 100]), "-", lines("0 ACC 100\n")),
         ("pop_minus_1", bytes(&[19, -1]), "-", lines("0 POP -1\n")),
+        ("constint_1073741824", bytes(&[103, 1073741824]), "-", lines("0 CONSTINT 1073741824\n")),
+        ("offsetint_minus_1073741825", bytes(&[127, -1073741825]), "-", lines("0 OFFSETINT -1073741825\n")),
         ("getfield_lowest", bytes(&[71, -2147483648]), "-", lines("0 GETFIELD -2147483648\n")),
         (
             "short_and_long",
@@ -353,7 +356,7 @@ pub fn exports() -> Vec<Case<Vec<u8>>> {
         (
             "larger_file_from_60000_on",
             LARGER_FILE.to_string(),
-            words(&[9, 8, 63, 86, 5, 127, i32::MIN, 84, -7, 77, 15, 94, 1, 143]),
+            words(&[9, 8, 63, 86, 5, 127, LOWEST, 84, -7, 77, 15, 94, 1, 143]),
         ),
         ("all_61_kinds", file("READ STOP", ALL_KINDS_LINES), words(&ALL_KINDS)),
         ("stuck", file("-", "0 PUSH -\n"), words(&[9])),
@@ -361,6 +364,7 @@ pub fn exports() -> Vec<Case<Vec<u8>>> {
         ("place_31", file(NAMES_32, "7 C_CALL4 A6\n8 C_CALL1 A\n"), words(&[96, PRIMITIVES as i32 - 1, 93, 0])),
         ("with_answers", file("-", "0 STOP -\nANSWER\n99\n"), words(&[143])),
         ("lines_1024", file("-", &numbered("ACC 63", most)), Ok(repeated(&[], &[8, 63], most, &[]))),
+        ("offsetint_1073741824", file("-", "0 OFFSETINT 1073741824\n"), refused(3, 15)),
         ("empty", String::new(), refused(2, 1)),
     ];
     let mut cases: Vec<Case<Vec<u8>>> = entries

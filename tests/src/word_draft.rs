@@ -49,7 +49,8 @@ fn instruction(random: &mut Random, lines: usize, primitives: usize, in_range: b
         Argument::Number(low, high) if in_range && high < 100 => {
             Arg::Number(random.within(low as usize, high as usize) as i64)
         }
-        Argument::Number(..) => Arg::Number(random.number() as i64),
+        Argument::Number(..) if in_range => Arg::Number(random.number() as i64),
+        Argument::Number(..) => Arg::Number(random.word() as i64),
         Argument::Target => Arg::Line(random.below(lines)),
         Argument::Primitive => Arg::Primitive(random.below(primitives)),
     };

@@ -75,7 +75,7 @@ impl Writer<'_> {
     fn atom(&mut self) {
         let height = self.shapes.stack.len();
         let accumulator = self.shapes.accumulator;
-        match self.random.below(15) {
+        match self.random.below(16) {
             0 | 1 if height > 0 => {
                 let n = self.random.below(height);
                 self.shapes.accumulator = self.shapes.stack[self.entry(n)];
@@ -130,6 +130,9 @@ impl Writer<'_> {
             14 => {
                 self.handles();
             }
+            15 => {
+                self.at_an_end();
+            }
             _ => {}
         }
     }
@@ -172,6 +175,35 @@ impl Writer<'_> {
         }
         let others = ["ADDINT", "SUBINT", "LTINT", "LEINT", "GTINT", "GEINT"];
         let operator = *if rare { self.random.pick(&others) } else { self.random.pick(&["EQ", "NEQ"]) };
+        self.emit(operator, Arg::Nothing);
+        self.shapes.accumulator = Shape::Number;
+        true
+    }
+
+    /// A sum, a difference or a negation at an end of the range, and the sign that wrapping may have turned.
+    fn at_an_end(&mut self) -> bool {
+        if self.full() {
+            return false;
+        }
+        let end = |random: &mut Random| Arg::Number(random.end() as i64);
+        let first = end(self.random);
+        self.emit("CONSTINT", first);
+        match self.random.below(5) {
+            0 => self.emit("NEGINT", Arg::Nothing),
+            1 => self.emit("BOOLNOT", Arg::Nothing),
+            2 => {
+                let i = self.random.number();
+                self.emit("OFFSETINT", Arg::Number(i as i64));
+            }
+            _ => {
+                let second = end(self.random);
+                self.emit("PUSHCONSTINT", second);
+                let operator = *self.random.pick(&["ADDINT", "SUBINT"]);
+                self.emit(operator, Arg::Nothing);
+            }
+        }
+        self.emit("PUSHCONST0", Arg::Nothing);
+        let operator = *self.random.pick(&["LTINT", "LEINT", "GTINT", "GEINT"]);
         self.emit(operator, Arg::Nothing);
         self.shapes.accumulator = Shape::Number;
         true
@@ -229,7 +261,12 @@ impl Writer<'_> {
     }
 
     fn branch(&mut self) -> usize {
-        if !self.random.one_in(5) || !self.handles() {
+        let written = match self.random.below(10) {
+            0 | 1 => self.handles(),
+            2 => self.at_an_end(),
+            _ => false,
+        };
+        if !written {
             self.condition();
         }
         let name = if self.random.one_in(2) { "BRANCHIF" } else { "BRANCHIFNOT" };
