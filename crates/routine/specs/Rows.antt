@@ -298,7 +298,7 @@ laidOut ls (answer k) text = ltb k 64 && isNumeral (numeral text)
 unfoldable pub codeInRange : ℕ → List ℕ → Bool
 codeInRange k text = within (atRange k) (value (at text)) && onArgument (argumentInRange (arg text)) text
 
--- row 3: "number outside its range"; an answer is any 32-bit number
+-- row 3: "number outside its range"; an answer is any number, "An argument, start or block cell, or answer outside that is refusal 3."
 unfoldable pub inRange : List Line → Role → List ℕ → Bool
 inRange ls (names s) text = true
 inRange ls (values s c) text = columnInRange c (listed (names s) ls) (list text)
