@@ -2,31 +2,36 @@
 use mathlib.Core.Path.{_≡_, refl, sym, ap}
 use mathlib.Core.Bool.{true}
 use mathlib.Core.List.{List, [], _∷_}
+use mathlib.Core.Logic.{inl, inr}
 use Prim.Native.Nat.{ℕ, _≤_, _<_}
 use native.Mathlib.Omega.{arith}
 use lib.Dec.{ltb}
-use lib.ListN.{length}
+use lib.ListN.{length, length-map}
 use borrow.Author.Tests.{lt-ltb, le-ltb}
 use Rattle.refusals.specs.declared.Refusal.{Refusal}
 use Rattle.refusals.specs.Refusals.{place}
-use Rattle.text.specs.Text.{lines, all}
+use Rattle.text.specs.Text.{Line, lines, all}
 use Rattle.text.proofs.TextLaws.{Every, more}
 use Rattle.cells.specs.Try.{done}
 use Rattle.machine.specs.Machine.{height, Instruction, fetch}
+use Rattle.machine.specs.Forward.{Forward}
 use Rattle.machine.proofs.FetchLaws.{fetch-every}
 use Rattle.machine.proofs.HeightLaws.{Low}
 use Rattle.machine.proofs.PriceLaws.{AtMost, Both}
 use Rattle.bounds.specs.Tree.{Report, Verdict, openingLimit, bound}
 use Rattle.bounds.specs.Tree as verdicts
 use Rattle.bounds.specs.Run.{run}
-use Rattle.bounds.specs.Promises.{NoGreater}
+use Rattle.bounds.specs.Promises.{NoGreater, SinglePass}
 use Rattle.bounds.proofs.PromiseLaws.{interruptible, bound-exact, run-within-bound}
 use Rattle.bounds.proofs.FigureLaws.{Bounded, bound-bounded, run-bounded}
 use Rattle.bounds.proofs.PlaceLaws.{bound-place, run-place}
-use Rattle.routine.specs.Routine.{Routine, routineOf, readBound, readRun}
+use Rattle.bounds.proofs.ForwardLaws.{forward-once}
+use Rattle.routine.specs.Layout.{body, codeLines}
+use Rattle.routine.specs.Routine.{Routine, codeIn, routineOf, readBound, readRun}
 use Rattle.routine.specs.Rows.{Passes}
 use Rattle.routine.proofs.RowLaws.{read-passes, run-passes}
 use Rattle.routine.proofs.RangeLaws.{prices-small, budget-small, tick-positive, start-low}
+use Rattle.routine.proofs.BranchLaws.{passing-forward}
 use Rattle.routine.proofs.PlaceLaws.{read-bound-place, read-run-place, confined, start-small}
 use Rattle.routine.proofs.SpellingLaws.{accepted-ascii}
 use Rattle.routine.proofs.AnswerLaws.{SameButAnswers, same-but-answers}
@@ -38,7 +43,7 @@ use Rattle.conversions.proofs.FunctionLaws.{import-reported, import-place, expo
 use Rattle.conformance.proofs.FunctionLaws.{replay-reported, replay-place}
 use Rattle.analyser.specs.Answers.{ofVerdict, boundRoutine, runRoutine, boundAnswer, runAnswer}
 use Rattle.analyser.specs.Functions.{reportLength}
-use Rattle.analyser.specs.Promises.{BoundReported, WithinReport, RunAccepted, FilledIn, ReportsKept, RunsKept, AnswersIrrelevant, PassingIsAscii, ReportsFit, PlacesSmall}
+use Rattle.analyser.specs.Promises.{BoundReported, WithinReport, RunAccepted, FilledIn, ReportsKept, RunsKept, AnswersIrrelevant, PassingIsAscii, PassingIsSinglePass, ReportsFit, PlacesSmall}
 
 -- ---- what a report comes from
 
@@ -111,6 +116,20 @@ every-all (b ∷ bs) (more h hs) = rw (lt-ltb b 128 h) (every-all bs hs)
 
 pub passing-is-ascii : PassingIsAscii
 passing-is-ascii text x e = every-all text (accepted-ascii text (read-passes text x e .0))
+
+-- ---- no jump backwards
+
+-- as many instructions as code lines
+code-length : (ls : List Line) → length (routineOf ls .code .instructions) ≡ length (codeLines (body ls))
+unfolding routineOf codeIn
+code-length ls = simp length-map refl
+
+passes-once : (ls : List Line) → Passes ls → Forward (routineOf ls .code) × SinglePass (routineOf ls .code) (length (codeLines (body ls)))
+passes-once ls p = let f = passing-forward ls p in (f, rw (code-length ls) at (forward-once (routineOf ls .code) f))
+
+pub passing-is-single-pass : PassingIsSinglePass
+passing-is-single-pass text x (inl e) = let p = read-passes text x e in rw (p .1) (passes-once (lines text) (p .0))
+passing-is-single-pass text x (inr e) = let p = run-passes text x e in rw (p .2) (passes-once (lines text) (p .0))
 
 -- ---- 128 bytes, and 32,768
 

@@ -183,6 +183,20 @@ argument-outside = numbered "0" "0" "0 OFFSETINT 1073741824" "0"
 pub answer-outside : List ℕ
 answer-outside = numbered "0" "0" "0 OFFSETINT 0" "-1073741825"
 
+-- document 02 §8: case 2 with a branch to its own address, where the number 0 would end the loop and where its cell is unknown; and with a
+-- later branch past the code
+abbrev own-address : String → List String → List ℕ
+own-address accu rest = small "1000 1000" "BRANCHIF STOP" "5 1" "0 0" "0 0" "ACCU" accu ("0 BRANCHIF 0" ∷ rest)
+
+pub back-known : List ℕ
+back-known = own-address "0" ("1 STOP -" ∷ [])
+
+pub back-unknown : List ℕ
+back-unknown = own-address "?" ("1 STOP -" ∷ [])
+
+pub back-outside : List ℕ
+back-outside = own-address "0" ("1 BRANCHIF 2" ∷ [])
+
 -- what the bound or the run prints for a file with 128 lent bytes
 abbrev Bounds : List ℕ → List String → Type 0
 Bounds text expected = analyser.printed (analyser.boundAnswer text 128) ≡ file expected
@@ -255,6 +269,11 @@ Starred =
     × (reports.share 4000000000 8589934590000000 ≡ 2147483648)
     × (reports.share 4000000000 8589934586000000 ≡ 2147483646)
     × (reports.share 1 8589934592000000 ≡ 8589934592000000000)
+    -- after 6 and before 11, at the line
+    × Bounds back-known ("REFUSED 13 15" ∷ [])
+    × Runs back-known ("REFUSED 13 15" ∷ [])
+    × Runs back-unknown ("REFUSED 13 15" ∷ [])
+    × Bounds back-outside ("REFUSED 6 16" ∷ [])
 
 -- ---- demand 3 of a file: case 1, and its file with S0 known and one answer (case 7)
 
@@ -273,8 +292,8 @@ Published =
     × (routines.readRun case7 ≡ routines.routine (holding (state 0 (pos 0) (cell (pos 0) ∷ [])) (pos 7 ∷ [])))
 
 computed : Starred × Published
-unfolding case1 case1-half case2 case2-spent case2-exact case3 case4 case6 case7 jump-bound jump-taken jump-not-taken jump-below jump-tie jump-above eq-equal eq-unlike neq-equal neq-unlike eq-number eq-unknown geint-handles at-the-ends cell-outside field-outside argument-outside answer-outside share-34 refusals.number refusals.place text.equals text.split text.words text.linesOf text.lines text.find text.among text.all text.distinct decimals.digitsFrom decimals.natural decimals.numeral decimals.digits decimals.decimal numbers.wrap numbers.holds try._>>=_ cells.calculate₁ cells.calculate₂ cells.map₁ cells.compareHandles cells.combineHandles cells.map₂ cells.operate₁ cells.operate₂ cells.conditionIn cells.condition cells.handled cells.block kinds.kinds kinds.kindNames kinds.operand lists.nth lists.put lists.without machine.height machine.priceOf machine.fetch machine.jump machine.load machine.restack machine.store machine.push machine.pop machine.getField machine.setField machine.advance machine.ahead machine.withExtra machine.ways machine.opposite machine.perform machine.prepare machine.execute machine.step machine.takes machine.takesAnswer tree.expand tree.tree tree.address tree.steps tree.size tree.cycles tree.words tree.depth tree.worse tree.path tree.report tree.refusal tree.judge tree.verdict tree.explore tree.bound run.begin run.answer run.remaining run.moved run.leads run.once run.after run.stuckAt run.isStuck run.boundedAfresh run.judgeRun run.run layout.isAnswer layout.body layout.upToAnswer layout.pastAnswer layout.codeLines layout.answerLines layout.answerRoles layout.codeRoles layout.bodyRoles layout.roles layout.list layout.textAt layout.listed rows.isNumeral rows.valueOf rows.value rows.knownOf rows.blockOf rows.hashed rows.cellWord rows.isCell rows.cellInRange rows.cellPresent rows.isName rows.stackNames rows.cellNames rows.equalLists rows.isField rows.sizesFrom rows.blockSizes rows.total rows.argumentOf rows.onArgument rows.argumentLaidOut rows.argumentInRange rows.argumentNamed rows.argumentReaches rows.extraRange rows.extrasInRange rows.columnInRange rows.columnLaidOut rows.onCells rows.onCode rows.namesLaidOut rows.valuesLaidOut rows.codeLaidOut rows.laidOut rows.codeInRange rows.inRange rows.wellNamed rows.firstAt rows.codeNamed rows.named rows.priced rows.reaches rows.allKnown rows.test rows.earliest rows.refusedLine routines.inside routines.priceList routines.argumentValue routines.instructionOf columns.kindAt machine.instruction interrupted.code routines.codeIn routines.cellOf routines.cellsOf routines.blocksInLine routines.startOf routines.routineOf routines.orElse routines.checked routines.limited routines.readBound routines.readRun reports.share reports.pathText reports.figures reports.boundText reports.runText reports.refusalLine reports.refusalText analyser.ofVerdict answers.ofReading analyser.boundRoutine analyser.runRoutine analyser.boundAnswer analyser.runAnswer answers.memory analyser.printed
-computed = ((refl, refl, refl, refl, refl, refl, refl, refl, refl, refl, refl, refl, refl, refl, refl, refl, refl, refl, refl, refl, refl, refl, refl, refl, refl, refl, refl, refl, refl, refl, refl, refl, refl, refl, refl, refl, refl, refl, refl), (refl, refl, refl))
+unfolding case1 case1-half case2 case2-spent case2-exact case3 case4 case6 case7 jump-bound jump-taken jump-not-taken jump-below jump-tie jump-above eq-equal eq-unlike neq-equal neq-unlike eq-number eq-unknown geint-handles back-known back-unknown back-outside at-the-ends cell-outside field-outside argument-outside answer-outside share-34 refusals.number refusals.place text.equals text.split text.words text.linesOf text.lines text.find text.among text.all text.distinct decimals.digitsFrom decimals.natural decimals.numeral decimals.digits decimals.decimal numbers.wrap numbers.holds try._>>=_ cells.calculate₁ cells.calculate₂ cells.map₁ cells.compareHandles cells.combineHandles cells.map₂ cells.operate₁ cells.operate₂ cells.conditionIn cells.condition cells.handled cells.block kinds.kinds kinds.kindNames kinds.operand lists.nth lists.put lists.without machine.height machine.priceOf machine.fetch machine.jump machine.load machine.restack machine.store machine.push machine.pop machine.getField machine.setField machine.advance machine.ahead machine.withExtra machine.ways machine.opposite machine.perform machine.prepare machine.execute machine.step machine.takes machine.takesAnswer tree.expand tree.tree tree.address tree.steps tree.size tree.cycles tree.words tree.depth tree.worse tree.path tree.report tree.refusal tree.judge tree.verdict tree.explore tree.bound run.begin run.answer run.remaining run.moved run.leads run.once run.after run.stuckAt run.isStuck run.boundedAfresh run.judgeRun run.run layout.isAnswer layout.body layout.upToAnswer layout.pastAnswer layout.codeLines layout.answerLines layout.answerRoles layout.codeRoles layout.bodyRoles layout.roles layout.list layout.textAt layout.listed rows.isNumeral rows.valueOf rows.value rows.knownOf rows.blockOf rows.hashed rows.cellWord rows.isCell rows.cellInRange rows.cellPresent rows.isName rows.stackNames rows.cellNames rows.equalLists rows.isField rows.sizesFrom rows.blockSizes rows.total rows.argumentOf rows.onArgument rows.argumentLaidOut rows.argumentInRange rows.argumentNamed rows.argumentReaches rows.extraRange rows.extrasInRange rows.columnInRange rows.columnLaidOut rows.onCells rows.onCode rows.namesLaidOut rows.valuesLaidOut rows.codeLaidOut rows.laidOut rows.codeInRange rows.inRange rows.wellNamed rows.firstAt rows.codeNamed rows.named rows.priced rows.reaches rows.argumentForward rows.codeForward rows.forward rows.allKnown rows.test rows.earliest rows.refusedLine routines.inside routines.priceList routines.argumentValue routines.instructionOf columns.kindAt machine.instruction interrupted.code routines.codeIn routines.cellOf routines.cellsOf routines.blocksInLine routines.startOf routines.routineOf routines.orElse routines.checked routines.limited routines.readBound routines.readRun reports.share reports.pathText reports.figures reports.boundText reports.runText reports.refusalLine reports.refusalText analyser.ofVerdict answers.ofReading analyser.boundRoutine analyser.runRoutine analyser.boundAnswer analyser.runAnswer answers.memory analyser.printed
+computed = ((refl, refl, refl, refl, refl, refl, refl, refl, refl, refl, refl, refl, refl, refl, refl, refl, refl, refl, refl, refl, refl, refl, refl, refl, refl, refl, refl, refl, refl, refl, refl, refl, refl, refl, refl, refl, refl, refl, refl, refl, refl, refl, refl), (refl, refl, refl))
 
 pub starred : Starred
 starred = computed .0

@@ -193,8 +193,8 @@ module _ (text : List ℕ) (n : ℕ) (former out : List ℕ) (r : code.Answer) w
 
 -- ---- for C
 
--- no number of a refusal is above 12
-pub number-small : (r : Refusal) → number r ≤ 12
+-- no number of a refusal is above 13
+pub number-small : (r : Refusal) → number r ≤ 13
 unfolding number
 number-small refusals.ReportMemory = omega arith
 number-small refusals.TextLength = omega arith
@@ -203,6 +203,7 @@ number-small (refusals.OutOfRange n) = omega arith
 number-small (refusals.BadName n) = omega arith
 number-small (refusals.Unpriced n) = omega arith
 number-small (refusals.NoTarget n) = omega arith
+number-small (refusals.Backward n) = omega arith
 number-small (refusals.UnknownCell n) = omega arith
 number-small (refusals.Stuck a) = omega arith
 number-small (refusals.Openings a) = omega arith
@@ -223,7 +224,7 @@ refusalAt n p =
     getD
     (refusals.ReportMemory ∷ refusals.TextLength ∷ refusals.Layout p ∷ refusals.OutOfRange p ∷ refusals.BadName p ∷ refusals.Unpriced p
     ∷ refusals.NoTarget p ∷ refusals.Stuck p ∷ refusals.Openings p ∷ refusals.Spent p ∷ refusals.ReportMemory ∷ refusals.UnknownCell p
-    ∷ refusals.BadWord p ∷ [])
+    ∷ refusals.BadWord p ∷ refusals.Backward p ∷ [])
     n refusals.ReportMemory
 
 refusal-told : (r : Refusal) → r ≡ refusalAt (number r) (place r)
@@ -235,6 +236,7 @@ refusal-told (refusals.OutOfRange n) = refl
 refusal-told (refusals.BadName n) = refl
 refusal-told (refusals.Unpriced n) = refl
 refusal-told (refusals.NoTarget n) = refl
+refusal-told (refusals.Backward n) = refl
 refusal-told (refusals.UnknownCell n) = refl
 refusal-told (refusals.Stuck a) = refl
 refusal-told (refusals.Openings a) = refl

@@ -19,6 +19,7 @@ use Rattle.bounds.proofs.PromiseLaws as promise-laws
 use Rattle.bounds.proofs.RunLaws as run-laws
 use Rattle.bounds.proofs.TraceLaws as trace-laws
 use Rattle.bounds.proofs.RunVerdictLaws as run-verdict-laws
+use Rattle.bounds.proofs.ForwardLaws as forward-laws
 use Rattle.report.proofs.ReportLaws.{share-nearest, share-unique}
 use Rattle.conversions.specs.Promises as conversions
 use Rattle.conversions.proofs.Theorems as conversion-theorems
@@ -90,6 +91,10 @@ run-refused-where = run-verdict-laws.run-refused-where
 pub fuel-irrelevant : bounds.FuelIrrelevant
 fuel-irrelevant = promise-laws.fuel-irrelevant
 
+-- code without jumps backwards
+pub forward-once : bounds.ForwardOnce
+forward-once = forward-laws.forward-once
+
 -- ---- the answers to a text
 
 -- demands 2 and 3, of the file
@@ -104,6 +109,10 @@ answers-irrelevant = answer-laws.answers-irrelevant
 
 pub passing-is-ascii : answers.PassingIsAscii
 passing-is-ascii = answer-laws.passing-is-ascii
+
+-- no jump backwards, of the file (document 02 §8)
+pub passing-is-single-pass : answers.PassingIsSinglePass
+passing-is-single-pass = answer-laws.passing-is-single-pass
 
 pub reports-fit : answers.ReportsFit
 reports-fit = answer-laws.reports-fit

@@ -3,6 +3,7 @@ use mathlib.Core.Path.{_≡_}
 use mathlib.Core.Bool.{true}
 use mathlib.Core.List.{List}
 use mathlib.Core.Option.{Option, some}
+use mathlib.Core.Logic.{_⊎_}
 use Prim.Native.Nat.{ℕ, _≤_}
 use lib.Dec.{ltb}
 use lib.IntN.{ℤ, pos}
@@ -15,9 +16,10 @@ use Rattle.text.specs.Decimal.{numeral, decimal}
 use Rattle.cells.specs.Order.{Allowed}
 use Rattle.machine.specs.Machine.{State}
 use Rattle.machine.specs.Order.{Cellwise}
+use Rattle.machine.specs.Forward.{Forward}
 use Rattle.bounds.specs.Tree.{openingLimit, Report, accepted, bound}
 use Rattle.bounds.specs.Run.{begin, after, run}
-use Rattle.bounds.specs.Promises.{Exact, Safe, NoGreater}
+use Rattle.bounds.specs.Promises.{Exact, Safe, NoGreater, SinglePass}
 use Rattle.routine.specs.Layout.{layout, body, codeLines}
 use Rattle.routine.specs.Routine.{Routine, readBound, readRun}
 use Rattle.routine.specs.Routine as readings
@@ -99,6 +101,13 @@ AnswersIrrelevant =
 -- "ASCII": no byte of a text that passes is 128 or more
 abbrev pub PassingIsAscii : Type 0
 PassingIsAscii = (text : List ℕ) (x : Routine) → readBound text ≡ readings.routine x → all (λ b. ltb b 128) text ≡ true
+
+-- "only single-pass ticks" (document 02 §8): the code of a text that passes has no jump backwards, and runs, traces and trees end within as
+-- many steps as the text has code lines
+abbrev pub PassingIsSinglePass : Type 0
+PassingIsSinglePass =
+    (text : List ℕ) (x : Routine) → (readBound text ≡ readings.routine x) ⊎ (readRun text ≡ readings.routine x) →
+    Forward (x .code) × SinglePass (x .code) (length (codeLines (body (lines text))))
 
 -- of an answer with n bytes lent: a report is within the limit, and is not given with fewer lent
 abbrev pub ReportFits : ℕ → ℕ → Answer → Type 0

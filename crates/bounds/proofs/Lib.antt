@@ -13,3 +13,4 @@ pub mod PromiseLaws
 pub mod FigureLaws
 pub mod Interrupted
 pub mod PlaceLaws
+pub mod ForwardLaws

@@ -11,19 +11,13 @@ use Rattle.refusals.specs.declared.Refusal.the-variants.{Stuck, Spent}
 use Rattle.refusals.specs.Refusals.{place}
 use Rattle.cells.specs.Try.{Try, stuck, done}
 use Rattle.cells.specs.Cells.{unknown}
-use Rattle.machine.specs.Machine.{State, Price, Next, stops, goes, opens, Code, step}
-use Rattle.machine.proofs.LeadLaws.{Leads, goes-to, opens-to}
+use Rattle.machine.specs.Machine.{State, Next, stops, goes, opens, Code, step}
+use Rattle.machine.proofs.LeadLaws.{Leads, goes-there, opens-there}
 use Rattle.machine.proofs.AddressLaws.{Confined, AddressAtMost, step-at-most}
 use Rattle.bounds.specs.Tree.{Report, accepted, refused, bound}
 use Rattle.bounds.specs.Traces.{Comes, here, next, not-taken, taken, Listed, is-stuck, opens-too-many, is-spent}
 use Rattle.bounds.specs.Run.{Run, begin, answer, moved, leads, once, after, judgeRun, run}
 use Rattle.bounds.proofs.PromiseLaws.{refused-where}
-
-goes-there : {Q : State → Type 0} {p : Price} {t : State} → Leads Q (goes p t) → Q t
-goes-there (goes-to h) = h
-
-opens-there : {Q : State → Type 0} {p q : Price} {t u : State} → Leads Q (opens p t q u) → Q t × Q u
-opens-there (opens-to h k) = (h, k)
 
 module _ (B : ℕ) (c : Code) (confined : Confined B c) where
   -- ---- the bound

@@ -3,19 +3,21 @@ use mathlib.Core.Path.{_≡_}
 use mathlib.Core.Bool.{true, false}
 use mathlib.Core.List.{List}
 use mathlib.Core.Logic.{_↔_}
-use Prim.Native.Nat.{ℕ, _+_, _≤_, _<_}
+use Prim.Native.Nat.{ℕ, suc, _+_, _≤_, _<_}
 use lib.IntN.{ℤ}
 use lib.ListN.{length}
 use Rattle.refusals.specs.declared.Refusal.{Refusal}
 use Rattle.refusals.specs.declared.Refusal.the-variants.{Stuck, Spent}
+use Rattle.cells.specs.declared.Cell.{Cell}
 use Rattle.cells.specs.Order.{Refines, Allowed}
 use Rattle.cells.specs.Cells.{unknown}
 use Rattle.machine.specs.Machine.{State, Next, Code, height, step}
 use Rattle.cells.specs.Try.{Try, done}
 use Rattle.machine.specs.Lists.{nth}
 use Rattle.machine.specs.Order.{Cellwise}
-use Rattle.bounds.specs.Tree.{tree, steps, verdict, Report, Verdict, accepted, refused, openingLimit, bound}
-use Rattle.bounds.specs.Traces.{Move, cost, wordSum, decisions, Trace, Path, CostMax, RunMax, Finite, Listed}
+use Rattle.machine.specs.Forward.{Forward}
+use Rattle.bounds.specs.Tree.{tree, steps, levels, verdict, Report, Verdict, accepted, refused, openingLimit, bound}
+use Rattle.bounds.specs.Traces.{Move, cost, wordSum, decisions, Transition, Trace, Path, CostMax, RunMax, Finite, Listed}
 use Rattle.bounds.specs.Run.{Run, begin, after, isStuck, boundedAfresh, DeterministicTrace, run}
 
 -- no figure of the first report is greater than that of the second
@@ -153,3 +155,20 @@ abbrev pub RunWithinBound : Type 0
 RunWithinBound =
     (c : Code) (budget : ℕ) (t : State) (q : Report) → bound c budget t ≡ accepted q →
     (s : State) → Cellwise Allowed s t → (answers : List ℤ) → (r : Report) × (run c budget s answers ≡ accepted r) × NoGreater r q
+
+-- what holds of code without jumps backwards (document 02 §8), which has n lines
+pub record SinglePass (c : Code) (n : ℕ) : Type 0 where
+  -- every step that goes on leads to a higher address
+  pub rises : (r : Cell) (s : State) (m : Move) (t : State) → Transition (step c r) s m t → s .at < t .at
+  -- a run makes at most n steps, however many are asked for
+  pub steps : (s : State) (answers : List ℤ) (k : ℕ) → after c k (begin s answers) .steps ≤ n
+  -- a trace has at most n moves: the deterministic one (Definition 2), a nondeterministic one (Definition 7), and one that ends in STOP
+  pub deterministic : (s : State) (answers : List ℤ) (trace : List Move) → DeterministicTrace c s answers trace → length trace ≤ n
+  pub trace : (r : Cell) (s : State) (moves : List Move) (t : State) → Trace (step c r) s moves t → length moves ≤ n
+  pub path : (r : Cell) (s : State) (moves : List Move) → Path (step c r) s moves → length moves ≤ n
+  -- the tree, with a step that is not made, is at most n + 1 high, wherever it is cut off and with any number of openings
+  pub tree : (r : Cell) (fuel openings : ℕ) (s : State) → levels (tree (step c r) fuel openings s) ≤ suc n
+
+-- so of all such code
+abbrev pub ForwardOnce : Type 0
+ForwardOnce = (c : Code) → Forward c → SinglePass c (length (c .instructions))

@@ -58,6 +58,13 @@ size (stop s p) = 1
 size (next s p t) = suc (size t)
 size (fork s p t q u) = suc (size t + size u)
 
+-- how many steps there are on the longest way down the tree, one that is not made among them
+unfoldable pub levels : Tree → ℕ
+levels (unmade r s) = 1
+levels (stop s p) = 1
+levels (next s p t) = suc (levels t)
+levels (fork s p t q u) = suc (max (levels t) (levels u))
+
 -- "CYCLES is the maximum cost of Definition 5." (`CostMax` in Traces)
 unfoldable pub cycles : Tree → ℕ
 cycles (unmade r s) = 0

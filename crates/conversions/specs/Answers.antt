@@ -16,6 +16,6 @@ conversionLimit = 32768
 unfoldable pub importAnswer : List ℕ → List ℕ → ℕ → Answer
 importAnswer words primitives n = lending conversionLimit n (ofVerdict (importText words primitives) (importVerdict words primitives))
 
--- "An export then has the file's refusals 1 to 6"; else it makes the words
+-- "An export then has the file's refusals 1 to 6", and 13 after them (document 02 §8); else it makes the words
 unfoldable pub exportAnswer : List ℕ → ℕ → Answer
 exportAnswer text n = lending conversionLimit n (ofReading (λ x. reported (exportBytes (lines text))) (readBound text))

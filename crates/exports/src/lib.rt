@@ -127,7 +127,7 @@ fn put_lines(out: &mut [u8], primitives: &[u8], indices: &[u16], first: usize, b
     4 * index
 }
 
-// Puts the words of the code of a text that passes refusals 1 to 6 at the start of out, and answers how many bytes they are.
+// Puts the words of the code of a text that passes refusals 1 to 6 and 13 at the start of out, and answers how many bytes they are.
 pub fn put_export(text: &[u8], out: &mut [u8]) -> usize
     requires { ⌜ Passes (lines (now text)) × (32768 ≤ length (now out)) ⌝ }
     ensures { λ r. ⌜ r ≡ length (exportBytes (lines (now (text .entry)))) ⌝ }

@@ -26,7 +26,7 @@ use Rattle.instructions.proofs.Argument.{the-type}
 use Rattle.instructions.specs.Kinds.{Kind, kinds, kindNames}
 use Rattle.instructions.specs.Columns.{kindAt, rangeOf}
 use Rattle.instructions.proofs.ColumnLaws.{column-at}
-use Rattle.routine.specs.Rows.{argumentOf, op, onArgument, argumentInRange, argumentReaches, firstAddresses, atRange, value}
+use Rattle.routine.specs.Rows.{argumentOf, op, onArgument, argumentInRange, argumentReaches, argumentForward, firstAddresses, atRange, value}
 use Rattle.text.proofs.TextLaws.{and-left, and-right, isFound, among-place}
 use Rattle.values.specs.Values.{Near}
 use Rattle.routine.proofs.RangeLaws.{Natural, natural-within}
@@ -70,6 +70,13 @@ no-target first n w Absent o = refl
 no-target first n w Target o = absurd (miss (0 ∷ 2 ∷ 3 ∷ []) 1 tt o)
 no-target first n w Primitive o = refl
 no-target first n w (Within r) o = refl
+
+pub no-jump : (own : ℤ) (w : List ℕ) (a : Argument) → OneOf (0 ∷ 2 ∷ 3 ∷ []) (tagOf the-type a) → true ≡ argumentForward own w a
+unfolding argumentForward
+no-jump own w Absent o = refl
+no-jump own w Target o = absurd (miss (0 ∷ 2 ∷ 3 ∷ []) 1 tt o)
+no-jump own w Primitive o = refl
+no-jump own w (Within r) o = refl
 
 -- ---- the ranges of the table
 
@@ -180,6 +187,13 @@ abbrev summed : ℤ → ℕ → ℤ
 summed first m = toZ w64 (ofZ w64 (toZ w64 (ofZ w64 first) +ℤ toZ w64 m))
 
 module _ (first : ℤ) (k : ℕ) (h : within firstAddresses first ≡ true) (l : k ≤ 32768) where
+  -- the address of code line k
+  pub own-near : mag (summed first k) < most
+  own-near = subst (λ z. mag z < most) (sym (sum-read first k h l)) (sum-near first k h l)
+
+  pub own-is : summed first k ≡ first +ℤ pos k
+  own-is = sum-read first k h l ∙ sum-exact first k h l
+
   pub sum-range : Near (record { low = summed first k; high = summed first k })
   sum-range =
       subst (λ z. Near (record { low = z; high = z })) (sym (sum-read first k h l)) (record { low = sum-near first k h l; high = sum-near first k h l })

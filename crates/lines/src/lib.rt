@@ -19,7 +19,7 @@ ghost use Rattle.instructions.specs.Kinds.{kindNames};
 ghost use Rattle.instructions.specs.declared.Argument.the-variants.{Target};
 ghost use Rattle.routine.specs.declared.Column.the-variants.{Limit};
 ghost use Rattle.routine.specs.Layout.{list};
-ghost use Rattle.routine.specs.Rows.{isNumeral, value, op, arg, onArgument, argumentLaidOut, argumentInRange, argumentNamed, argumentReaches, firstAddresses, extraRange, extrasInRange, columnInRange, columnLaidOut, onCells, namesLaidOut, valuesLaidOut, codeLaidOut, codeInRange, codeNamed};
+ghost use Rattle.routine.specs.Rows.{isNumeral, value, op, arg, onArgument, argumentLaidOut, argumentInRange, argumentNamed, argumentReaches, firstAddresses, extraRange, extrasInRange, columnInRange, columnLaidOut, onCells, namesLaidOut, valuesLaidOut, codeLaidOut, codeInRange, codeNamed, codeForward};
 ghost use Rattle.lines.specs.Lines.{wordTest};
 
 // What a word is tested for: that it is not empty, spells a number, one of a price's cycles or words, a cell, a cell in range, a
@@ -348,6 +348,22 @@ pub fn code_reaches(first: i64, n: usize, line: &[u8]) -> bool
         return true;
     };
     is_reached(first, n, text::word_at(line, 2))
+}
+
+// Row 13 on code line k, where the first address is `first`.
+pub fn code_forward(first: i64, k: usize, line: &[u8]) -> bool
+    requires { ⌜ within firstAddresses first ≡ true ⌝ }
+    requires { ⌜ k ≤ 32768 ⌝ }
+    ensures { λ r. ⌜ r ≡ codeForward first k (now (line .entry)) ⌝ }
+{
+    let Place::At(i) = kind_of(line) else {
+        return true;
+    };
+    let Argument::Target = instructions::argument_at(i) else {
+        return true;
+    };
+    let own = first + (k as i64);
+    values::is_above(own, text::word_at(line, 2))
 }
 
 // ---- answers

@@ -1,19 +1,21 @@
 -- A step leads to the next address of the code, to the one past its end, or to a target. Assumes nothing.
 use mathlib.Core.Path.{_≡_}
+use mathlib.Core.Bool.{true}
 use Prim.Native.Nat.{ℕ, _+_, _≤_, _<_}
 use native.Mathlib.Omega.{arith}
 use lib.ListN.{length}
 use Rattle.text.proofs.TextLaws.{Every}
 use Rattle.cells.specs.Try.{done}
 use Rattle.cells.specs.declared.Cell.{Cell}
-use Rattle.machine.specs.Machine.{State, Instruction, Code, Next, jump, load, restack, reblock, advance, step}
+use Rattle.machine.specs.Machine.{index, State, Instruction, Code, Next, jump, load, restack, reblock, advance, step}
+use Rattle.machine.specs.Forward.{branches}
 use Rattle.machine.proofs.FetchLaws.{fetch-below, fetch-every}
-use Rattle.machine.proofs.LeadLaws.{Leads, Keeps, target, step-leads}
+use Rattle.machine.proofs.LeadLaws.{Leads, Keeps, step-leads}
 
 -- no address of the code, nor that past its end, nor a target, is above B
 pub record Confined (B : ℕ) (c : Code) : Type 0 where
   pub past : c .first + length (c .instructions) ≤ B
-  pub targets : Every (λ (i : Instruction). target (i .operation) (i .operand) ≤ B) (c .instructions)
+  pub targets : Every (λ (i : Instruction). branches (i .operation) ≡ true → index (i .operand) ≤ B) (c .instructions)
 
 pub record AddressAtMost (B : ℕ) (s : State) : Type 0 where
   pub address : s .at ≤ B

@@ -22,4 +22,4 @@ low-kept = record {
 }
 
 pub step-low : (c : Code) (r : Cell) (s : State) (n : Next) → step c r s ≡ done n → Low s → Leads Low n
-step-low c r s n e h = step-leads low-kept c r s n e (λ i f. (h, tt))
+step-low c r s n e h = step-leads low-kept c r s n e (λ i f. (h, λ b. tt))

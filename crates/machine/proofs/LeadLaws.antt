@@ -16,6 +16,7 @@ use Rattle.cells.specs.declared.Condition.the-variants.{IsZero, IsNonzero, IsUn
 use Rattle.instructions.specs.declared.Operation.{Operation}
 use Rattle.instructions.specs.declared.Operation.the-variants.{Nothing, Access, Drop, Assign, Constant, GetField, SetField, Branch, BranchIf, BranchIfNot, Call, Stop, Alter, Combine}
 use Rattle.machine.specs.Lists.{nth, put, without}
+use Rattle.machine.specs.Forward.{branches}
 use Rattle.machine.specs.Machine.{index, State, stackLimit, height, Price, Instruction, Code, fetch, Next, stops, goes, opens, jump, load, restack, reblock, push, pop, store, getField, setField, advance, ahead, ways, opposite, perform, prepare, execute, step}
 
 -- what an action gives, if it gives anything, has a property
@@ -54,27 +55,13 @@ pub data Leads (Q : State → Type 0) : Next → Type 0 where
   goes-to : {p : Price} {t : State} → Q t → Leads Q (goes p t)
   opens-to : {p q : Price} {t u : State} → Q t → Q u → Leads Q (opens p t q u)
 
-abbrev pub branches : Operation → Bool
-branches Nothing = false
-branches Access = false
-branches Drop = false
-branches Assign = false
-branches Constant = false
-branches (Alter u) = false
-branches (Combine b) = false
-branches GetField = false
-branches SetField = false
-branches Branch = true
-branches BranchIf = true
-branches BranchIfNot = true
-branches Call = false
-branches Stop = false
+pub goes-there : {Q : State → Type 0} {p : Price} {t : State} → Leads Q (goes p t) → Q t
+goes-there (goes-to h) = h
 
--- the address that a branch jumps to; 0 for other operations
-abbrev pub target : Operation → ℤ → ℕ
-target o i = cond (branches o) (index i) 0
+pub opens-there : {Q : State → Type 0} {p q : Price} {t u : State} → Leads Q (opens p t q u) → Q t × Q u
+opens-there (opens-to h k) = (h, k)
 
--- P is kept by every change but that of the address, and gives Q of the next address and of a target with the property T
+-- P is kept by every change but that of the address, and gives Q of the next address and of an address with the property T that is jumped to
 pub record Keeps (P Q : State → Type 0) (T : ℕ → Type 0) : Type 0 where
   pub loads : (c : Cell) (s : State) → P s → P (load c s)
   pub restacks : (cs : List Cell) (s : State) → length cs ≤ max (height s) stackLimit → P s → P (restack cs s)
@@ -114,7 +101,7 @@ module _ {P Q : State → Type 0} {T : ℕ → Type 0} (keeps : Keeps P Q T) whe
   ways-lead p n a s IsNonzero t h = goes-to (keeps .jumps a s t h)
   ways-lead p n a s IsUnknown t h = opens-to (keeps .advances s h) (keeps .jumps a s t h)
 
-  perform-leads : (p : Price) (n : ℕ) (r : Cell) (o : Operation) (i : ℤ) (s : State) → T (target o i) → P s → Gives (Leads Q) (perform p n r o i s)
+  perform-leads : (p : Price) (n : ℕ) (r : Cell) (o : Operation) (i : ℤ) (s : State) → (branches o ≡ true → T (index i)) → P s → Gives (Leads Q) (perform p n r o i s)
   unfolding perform store height
   perform-leads p n r Nothing i s t h = ahead-leads p (given h)
   perform-leads p n r Access i s t h = ahead-leads p (bind (itself (nth (index i) (s .stack))) (λ c u. given (keeps .loads c s h)))
@@ -136,9 +123,9 @@ module _ {P Q : State → Type 0} {T : ℕ → Type 0} (keeps : Keeps P Q T) whe
       bind (pop-keeps 1 s h) (λ t l.
       bind (setField-keeps (index i) c t l) (λ v m.
       given (keeps .loads _ v m)))))
-  perform-leads p n r Branch i s t h = given (goes-to (keeps .jumps (index i) s t h))
-  perform-leads p n r BranchIf i s t h = bind (itself (condition (s .accu))) (λ x u. given (ways-lead p n (index i) s x t h))
-  perform-leads p n r BranchIfNot i s t h = bind (itself (condition (s .accu))) (λ x u. given (ways-lead p n (index i) s (opposite x) t h))
+  perform-leads p n r Branch i s t h = given (goes-to (keeps .jumps (index i) s (t refl) h))
+  perform-leads p n r BranchIf i s t h = bind (itself (condition (s .accu))) (λ x u. given (ways-lead p n (index i) s x (t refl) h))
+  perform-leads p n r BranchIfNot i s t h = bind (itself (condition (s .accu))) (λ x u. given (ways-lead p n (index i) s (opposite x) (t refl) h))
   perform-leads p n r Call i s t h = ahead-leads p (bind (pop-keeps (index i) s h) (λ t l. given (keeps .loads r t l)))
   perform-leads p n r Stop i s t h = given stops-there
 
@@ -147,15 +134,15 @@ module _ {P Q : State → Type 0} {T : ℕ → Type 0} (keeps : Keeps P Q T) whe
   prepare-keeps true s h = push-keeps s h
   prepare-keeps false s h = given h
 
-  step-gives : (c : Code) (r : Cell) (s : State) → ((i : Instruction) → fetch c (s .at) ≡ done i → P s × T (target (i .operation) (i .operand))) → Gives (Leads Q) (step c r s)
+  step-gives : (c : Code) (r : Cell) (s : State) → ((i : Instruction) → fetch c (s .at) ≡ done i → P s × (branches (i .operation) ≡ true → T (index (i .operand)))) → Gives (Leads Q) (step c r s)
   unfolding step execute
   step-gives c r s h =
       bind (itself (fetch c (s .at))) (λ i e.
       bind (prepare-keeps (i .pushes) s (h i e .0)) (λ t l.
       perform-leads (i .price) (i .extra) r (i .operation) (i .operand) t (h i e .1) l))
 
-  -- where P holds of a state that is not outside the code, and T of what its instruction jumps to
-  pub step-leads : (c : Code) (r : Cell) (s : State) (n : Next) → step c r s ≡ done n → ((i : Instruction) → fetch c (s .at) ≡ done i → P s × T (target (i .operation) (i .operand))) → Leads Q n
+  -- where P holds of a state that is not outside the code, and T of the address that its instruction, if it is a branch, jumps to
+  pub step-leads : (c : Code) (r : Cell) (s : State) (n : Next) → step c r s ≡ done n → ((i : Instruction) → fetch c (s .at) ≡ done i → P s × (branches (i .operation) ≡ true → T (index (i .operand)))) → Leads Q n
   step-leads c r s n e h = out (rw e at (step-gives c r s h))
     where
       out : {n : Next} → Gives (Leads Q) (done n) → Leads Q n

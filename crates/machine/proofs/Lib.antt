@@ -8,4 +8,5 @@ pub mod FetchLaws
 pub mod LeadLaws
 pub mod HeightLaws
 pub mod AddressLaws
+pub mod ForwardLaws
 pub mod ApartLaws

@@ -1,3 +1,4 @@
 pub mod Lists
 pub mod Machine
 pub mod Order
+pub mod Forward

@@ -1,7 +1,7 @@
 -- The refusal table of document 01, and the new numbers of document 02: the number and the place of each refusal.
 use Prim.Native.Nat.{ℕ}
 use Rattle.refusals.specs.declared.Refusal.{Refusal}
-use Rattle.refusals.specs.declared.Refusal.the-variants.{ReportMemory, TextLength, Layout, OutOfRange, BadName, Unpriced, NoTarget, UnknownCell, Stuck, Openings, Spent, BadWord}
+use Rattle.refusals.specs.declared.Refusal.the-variants.{ReportMemory, TextLength, Layout, OutOfRange, BadName, Unpriced, NoTarget, Backward, UnknownCell, Stuck, Openings, Spent, BadWord}
 
 -- column "No."
 unfoldable pub number : Refusal → ℕ
@@ -12,6 +12,7 @@ number (OutOfRange line) = 3
 number (BadName line) = 4
 number (Unpriced line) = 5
 number (NoTarget line) = 6
+number (Backward line) = 13
 number (UnknownCell line) = 11
 number (Stuck address) = 7
 number (Openings address) = 8
@@ -27,6 +28,7 @@ place (OutOfRange line) = line
 place (BadName line) = line
 place (Unpriced line) = line
 place (NoTarget line) = line
+place (Backward line) = line
 place (UnknownCell line) = line
 place (Stuck address) = address
 place (Openings address) = address

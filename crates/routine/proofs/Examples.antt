@@ -4,7 +4,7 @@ use mathlib.Core.Path.{_≡_, refl}
 use mathlib.Core.List.{List, [], _++_}
 use Prim.Native.Nat.{ℕ}
 use Prim.Native.String.{String}
-use Rattle.refusals.specs.declared.Refusal.the-variants.{Layout, OutOfRange, BadName, Unpriced, NoTarget, UnknownCell}
+use Rattle.refusals.specs.declared.Refusal.the-variants.{Layout, OutOfRange, BadName, Unpriced, NoTarget, Backward, UnknownCell}
 use Rattle.text.specs.Text as text
 use Rattle.text.specs.Decimal as decimals
 use Rattle.instructions.specs.Kinds as table
@@ -38,7 +38,14 @@ pub examples :
     × (readBound (file "9 5" "HALT" "1" "0" "0 STOP -") ≡ refused (OutOfRange 6))
     × (readBound (file "9 5" "BRANCHIF" "1" "0" "0 STOP -") ≡ refused (Unpriced 15))
     × (readBound (file "9 5" "BRANCHIFNOT" "65536" "0" "0 STOP -") ≡ refused (OutOfRange 6))
+    -- "A branch to its own address or a lower one", of each of the three kinds and whatever the first address is; the place is the line
+    × (readBound (file "9 5" "BRANCH" "0" "0" "7 BRANCH 7") ≡ refused (Backward 15))
+    × (readBound (file "9 5" "BRANCHIF" "0" "0" "0 BRANCHIF 1\n1 BRANCHIF 0") ≡ refused (Backward 16))
+    × (readBound (file "9 5" "BRANCHIFNOT" "0" "0" "0 BRANCHIFNOT 1\n1 BRANCHIFNOT 1") ≡ refused (Backward 16))
+    -- "after 6 and before 11": a target past the code on line 16 and a jump backwards on line 15; a jump backwards and a `?` on line 11, of the run
+    × (readBound (file "9 5" "BRANCH" "0" "0" "0 BRANCH 0\n1 BRANCH 2") ≡ refused (NoTarget 16))
+    × (readRun (file "9 5" "BRANCH" "0" "?" "0 BRANCH 0") ≡ refused (Backward 15))
     -- "ACCU `?`", of the run
     × (readRun (file "9 5" "STOP" "0" "?" "0 STOP -") ≡ refused (UnknownCell 11))
-unfolding text.equals text.split text.words text.linesOf text.lines text.find text.among text.all text.distinct decimals.digitsFrom decimals.natural decimals.numeral decimals.digits decimals.decimal table.kinds table.kindNames layout.isAnswer layout.body layout.upToAnswer layout.codeLines layout.answerRoles layout.codeRoles layout.bodyRoles layout.roles layout.list layout.textAt layout.listed rows.isNumeral rows.valueOf rows.value rows.knownOf rows.blockOf rows.hashed rows.cellWord rows.isCell rows.cellInRange rows.cellPresent rows.isName rows.stackNames rows.cellNames rows.equalLists rows.isField rows.sizesFrom rows.blockSizes rows.total columns.kindAt rows.argumentOf rows.onArgument rows.argumentLaidOut rows.argumentInRange rows.argumentNamed rows.argumentReaches rows.extraRange rows.extrasInRange rows.columnInRange rows.columnLaidOut rows.onCells rows.onCode rows.namesLaidOut rows.valuesLaidOut rows.codeLaidOut rows.laidOut rows.codeInRange rows.inRange rows.wellNamed rows.firstAt rows.codeNamed rows.named rows.priced rows.reaches rows.allKnown rows.test rows.earliest rows.refusedLine routines.orElse routines.checked routines.limited routines.readBound routines.readRun
-examples = (refl, refl, refl, refl, refl, refl, refl, refl, refl, refl, refl)
+unfolding text.equals text.split text.words text.linesOf text.lines text.find text.among text.all text.distinct decimals.digitsFrom decimals.natural decimals.numeral decimals.digits decimals.decimal table.kinds table.kindNames layout.isAnswer layout.body layout.upToAnswer layout.codeLines layout.answerRoles layout.codeRoles layout.bodyRoles layout.roles layout.list layout.textAt layout.listed rows.isNumeral rows.valueOf rows.value rows.knownOf rows.blockOf rows.hashed rows.cellWord rows.isCell rows.cellInRange rows.cellPresent rows.isName rows.stackNames rows.cellNames rows.equalLists rows.isField rows.sizesFrom rows.blockSizes rows.total columns.kindAt rows.argumentOf rows.onArgument rows.argumentLaidOut rows.argumentInRange rows.argumentNamed rows.argumentReaches rows.extraRange rows.extrasInRange rows.columnInRange rows.columnLaidOut rows.onCells rows.onCode rows.namesLaidOut rows.valuesLaidOut rows.codeLaidOut rows.laidOut rows.codeInRange rows.inRange rows.wellNamed rows.firstAt rows.codeNamed rows.named rows.priced rows.reaches rows.argumentForward rows.codeForward rows.forward rows.allKnown rows.test rows.earliest rows.refusedLine routines.orElse routines.checked routines.limited routines.readBound routines.readRun
+examples = (refl, refl, refl, refl, refl, refl, refl, refl, refl, refl, refl, refl, refl, refl, refl, refl)

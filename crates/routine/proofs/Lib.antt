@@ -7,4 +7,5 @@ pub mod SpellingLaws
 pub mod LayoutLaws
 pub mod CodeLineLaws
 pub mod PassingLaws
+pub mod BranchLaws
 pub mod PlaceLaws

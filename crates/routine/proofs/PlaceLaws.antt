@@ -1,7 +1,7 @@
 -- How large a place can be: the line that a row refuses, and the addresses of a passing text. Assumes nothing.
 use Prim.Native.Nat.{ℕ, suc, _+_, _≤_}
 use mathlib.Core.Path.{_≡_, refl}
-use mathlib.Core.Bool.{Bool, true, false, cond, false≢true}
+use mathlib.Core.Bool.{Bool, true, false, cond}
 use mathlib.Core.List.{List, [], _∷_}
 use native.Mathlib.Omega.{arith}
 use lib.Dec.{ltb}
@@ -11,22 +11,20 @@ use borrow.Author.Tests.{ltb-false}
 use Rattle.refusals.specs.declared.Refusal.{Refusal}
 use Rattle.refusals.specs.declared.Refusal.the-variants.{TextLength}
 use Rattle.refusals.specs.Refusals.{place}
-use Rattle.text.specs.Text.{Line, lines, all, find}
-use Rattle.text.proofs.TextLaws.{Every, none, more, every-append, every-getD, all-every}
-use Rattle.instructions.specs.Kinds.{addresses, Kind, kinds, kindNames, operand}
-use Rattle.instructions.specs.Columns.{kindAt}
-use Rattle.instructions.specs.declared.Argument.{Argument}
-use Rattle.instructions.specs.declared.Argument.the-variants.{Absent, Target, Primitive, Within}
-use Rattle.machine.specs.Machine.{index, instruction}
-use Rattle.machine.proofs.LeadLaws.{branches, target}
+use Rattle.text.specs.Text.{Line, lines}
+use Rattle.text.proofs.TextLaws.{Every, none, more, every-append}
+use Rattle.instructions.specs.Kinds.{addresses}
+use Rattle.machine.specs.Machine.{index}
+use Rattle.machine.specs.Forward.{branches}
 use Rattle.machine.proofs.AddressLaws.{Confined}
 use Rattle.routine.specs.declared.Role.{Role}
 use Rattle.routine.specs.declared.RefusedLine.{RefusedLine}
 use Rattle.routine.specs.declared.RefusedLine.the-variants.{Nowhere as nowhere, Line as line}
 use Rattle.routine.specs.Layout.{body, codeLines, roles}
-use Rattle.routine.specs.Rows.{Passes, value, op, arg, isTarget, firstAt, test, earliest, refusedLine}
-use Rattle.routine.specs.Routine.{inside, argumentValue, PriceList, instructionOf, codeIn, startOf, routineOf, refused, orElse, Check, boundChecks, runChecks, checked, textLimit, limited, readBound, readRun}
+use Rattle.routine.specs.Rows.{Passes, value, arg, firstAt, test, earliest, refusedLine}
+use Rattle.routine.specs.Routine.{inside, PriceList, instructionOf, codeIn, startOf, routineOf, refused, orElse, Check, boundChecks, runChecks, checked, textLimit, limited, readBound, readRun}
 use Rattle.routine.proofs.RangeLaws.{natural-inside, every-mapped}
+use Rattle.routine.proofs.BranchLaws.{branch-operand}
 use Rattle.routine.proofs.PassingLaws.{first-small, lines-count, code-few}
 
 -- ---- lines
@@ -48,7 +46,7 @@ AtLine c = (n : ℕ) → place (c .refusal n) ≡ n
 
 bound-lines : Every AtLine boundChecks
 unfolding place
-bound-lines = more (λ n. refl) (more (λ n. refl) (more (λ n. refl) (more (λ n. refl) (more (λ n. refl) none))))
+bound-lines = more (λ n. refl) (more (λ n. refl) (more (λ n. refl) (more (λ n. refl) (more (λ n. refl) (more (λ n. refl) none)))))
 
 run-lines : Every AtLine runChecks
 unfolding place
@@ -87,31 +85,11 @@ index-small : (z : ℤ) (n : ℕ) → natAbs z ≤ n → index z ≤ n
 index-small (pos m) n h = h
 index-small (negsuc m) n h = omega arith
 
--- a kind that branches takes a target
-abbrev targeted : Kind → Bool
-targeted k = cond (branches (k .operation)) (isTarget (k .argument)) true
-
-kinds-targeted : (i : ℕ) → targeted (kindAt i) ≡ true
-unfolding kinds kindAt all
-kinds-targeted i = every-getD (all-every targeted kinds refl) refl i
-
 -- "Targets are addresses, 0 to 62,000."
-target-small : (ps : List (List ℕ)) (w : List ℕ) (k : Kind) → targeted k ≡ true → target (k .operation) (operand k (argumentValue ps w (k .argument))) ≤ 62000
-unfolding operand argumentValue
-target-small ps w k e = go (branches (k .operation)) (k .argument) refl e
-  where
-    go : (b : Bool) (a : Argument) → k .argument ≡ a → cond b (isTarget a) true ≡ true → cond b (index (operand k (argumentValue ps w (k .argument)))) 0 ≤ 62000
-    go false a q e = omega arith
-    go true Absent q e = absurd (false≢true e)
-    go true Target q e = rw q (index-small (inside addresses (value w)) 62000 (natural-inside 0 62000 (value w) .below))
-    go true Primitive q e = absurd (false≢true e)
-    go true (Within r) q e = absurd (false≢true e)
-
-instruction-target : (ks : PriceList) (xs : List (List ℕ)) (ps : PriceList) (text : List ℕ) → target (instructionOf ks xs ps text .operation) (instructionOf ks xs ps text .operand) ≤ 62000
-unfolding instructionOf instruction
-instruction-target ks xs ps text =
-    let i = find (op text) kindNames in
-    target-small (ps .names) (arg text) (kindAt i) (kinds-targeted i)
+instruction-target : (ks : PriceList) (xs : List (List ℕ)) (ps : PriceList) (text : List ℕ) → branches (instructionOf ks xs ps text .operation) ≡ true
+    → index (instructionOf ks xs ps text .operand) ≤ 62000
+instruction-target ks xs ps text b =
+    rw (branch-operand ks xs ps text b) (index-small (inside addresses (value (arg text))) 62000 (natural-inside 0 62000 (value (arg text)) .below))
 
 module _ (ls : List Line) (passes : Passes ls) where
   pub confined : Confined 62000 (routineOf ls .code)

@@ -97,15 +97,16 @@ module _ (text : List ℕ) where
 
 module _ (ls : List Line) where
   passing : {cs : List Check} → Unrefused ls (boundChecks ++ cs) → Passes ls × Unrefused ls cs
-  passing (more a (more b (more c (more d (more e es))))) = (record { layout = a; range = b; names = c; prices = d; targets = e }, es)
+  passing (more a (more b (more c (more d (more e (more f es)))))) =
+      (record { layout = a; range = b; names = c; prices = d; targets = e; forward = f }, es)
 
   cleared : {cs : List Check} → Passes ls → Unrefused ls cs → Unrefused ls (boundChecks ++ cs)
-  cleared p es = more (p .layout) (more (p .range) (more (p .names) (more (p .prices) (more (p .targets) es))))
+  cleared p es = more (p .layout) (more (p .range) (more (p .names) (more (p .prices) (more (p .targets) (more (p .forward) es)))))
 
   only : {c : Check} → Unrefused ls (c ∷ []) → refusedLine (c .row) ls ≡ nowhere
   only (more e none) = e
 
--- the bound reads a text exactly if rows 2 to 6 refuse no line, the run exactly if row 11 does not either
+-- the bound reads a text exactly if rows 2 to 6 and 13 refuse no line, the run exactly if row 11 does not either
 pub read-passes : (text : List ℕ) (x : Routine) → readBound text ≡ routine x → Passes (lines text) × (x ≡ routineOf (lines text)) × (length text ≤ textLimit)
 read-passes text x e =
     let r = read-unrefused text boundChecks x (sym (bound-checked text) ∙ e) in

@@ -1,4 +1,4 @@
--- The routine of a text that passes refusals 1 to 6, and which refusal a text has that does not.
+-- The routine of a text that passes refusals 1 to 6 and 13, and which refusal a text has that does not.
 -- Every definition is total: what a passing text never needs is 0 or empty.
 use Prim.Native.Nat.{ℕ}
 use mathlib.Core.Bool.{cond}
@@ -7,7 +7,7 @@ use lib.Dec.{ltb}
 use lib.IntN.{ℤ, pos, natAbs}
 use lib.ListN.{length, getD, take, drop}
 use Rattle.refusals.specs.declared.Refusal.{Refusal}
-use Rattle.refusals.specs.declared.Refusal.the-variants.{TextLength, Layout, OutOfRange, BadName, Unpriced, NoTarget, UnknownCell}
+use Rattle.refusals.specs.declared.Refusal.the-variants.{TextLength, Layout, OutOfRange, BadName, Unpriced, NoTarget, Backward, UnknownCell}
 use Rattle.text.specs.Text.{Line, lines, find}
 use Rattle.cells.specs.declared.Cell.{Cell}
 use Rattle.cells.specs.Cells.{number, handle}
@@ -27,7 +27,7 @@ use Rattle.routine.specs.Layout.{body, codeLines, answerLines, listed}
 use Rattle.routine.specs.declared.CellWord.{CellWord}
 use Rattle.routine.specs.declared.CellWord.the-variants.{Wrong as wrong, Unknown as unknown, Known as known, Block as block}
 use Rattle.routine.specs.declared.Row.{Row}
-use Rattle.routine.specs.declared.Row.the-variants.{Layout as layout-row, Range as range-row, Name as name-row, Price as price-row, Target as target-row, Known as known-row}
+use Rattle.routine.specs.declared.Row.the-variants.{Layout as layout-row, Range as range-row, Name as name-row, Price as price-row, Target as target-row, Forward as forward-row, Known as known-row}
 use Rattle.routine.specs.declared.RefusedLine.{RefusedLine}
 use Rattle.routine.specs.declared.RefusedLine.the-variants.{Nowhere as nowhere, Line as line}
 use Rattle.routine.specs.Rows.{value, cellWord, handles, blockSizes, op, arg, firstAddresses, budgets, ticks, cycleCounts, wordCounts, extraCounts, firstAt, refusedLine}
@@ -155,9 +155,10 @@ pub record Check : Type 0 where
 abbrev pub check : Row → (ℕ → Refusal) → Check
 check r f = record { row = r; refusal = f }
 
--- "Checked in the order of the rows"
+-- "Checked in the order of the rows"; "13, checked over the whole file after 6 and before 11" (document 02 §8)
 abbrev pub boundChecks : List Check
-boundChecks = check layout-row Layout ∷ check range-row OutOfRange ∷ check name-row BadName ∷ check price-row Unpriced ∷ check target-row NoTarget ∷ []
+boundChecks =
+    check layout-row Layout ∷ check range-row OutOfRange ∷ check name-row BadName ∷ check price-row Unpriced ∷ check target-row NoTarget ∷ check forward-row Backward ∷ []
 
 -- "run only: a `?` on line 10, then 12"
 abbrev pub runChecks : List Check

@@ -1,5 +1,5 @@
--- Refusals 2 to 6 and 11: each row of the refusal table is a test of one line, and refuses the earliest line that fails it.
--- (document 01, The routine file and Refusal table)
+-- Refusals 2 to 6, 13 and 11: each row of the refusal table is a test of one line, and refuses the earliest line that fails it.
+-- (document 01, The routine file and Refusal table; document 02 §8)
 use Prim.Native.Nat.{ℕ, zero, suc, _+_}
 use mathlib.Core.Path.{_≡_}
 use mathlib.Core.Bool.{Bool, true, false, cond, not, _&&_}
@@ -29,7 +29,7 @@ use Rattle.routine.specs.declared.Role.the-variants.{Names as names, Val
 use Rattle.routine.specs.declared.CellWord.{CellWord}
 use Rattle.routine.specs.declared.CellWord.the-variants.{Wrong as wrong, Unknown as unknown, Known as known, Block as block}
 use Rattle.routine.specs.declared.Row.{Row}
-use Rattle.routine.specs.declared.Row.the-variants.{Layout as layout-row, Range as range-row, Name as name-row, Price as price-row, Target as target-row, Known as known-row}
+use Rattle.routine.specs.declared.Row.the-variants.{Layout as layout-row, Range as range-row, Name as name-row, Price as price-row, Target as target-row, Forward as forward-row, Known as known-row}
 use Rattle.routine.specs.declared.RefusedLine.{RefusedLine}
 use Rattle.routine.specs.declared.RefusedLine.the-variants.{Nowhere as nowhere, Line as line}
 use Rattle.routine.specs.Layout.{body, codeLines, roles, list, holdsCells, listed}
@@ -196,6 +196,10 @@ isTarget (Within r) = false
 unfoldable pub argumentReaches : ℤ → ℕ → List ℕ → Argument → Bool
 argumentReaches first n w a = cond (isTarget a) (leZ first (value w) && ltZ (value w) (first +ℤ pos n)) true
 
+-- "A branch to its own address or a lower one is refused": a target is above the address `own` (document 02 §8)
+unfoldable pub argumentForward : ℤ → List ℕ → Argument → Bool
+argumentForward own w a = cond (isTarget a) (ltZ own (value w)) true
+
 -- ---- ranges and counts of the table
 
 -- "AT starts anywhere from 0 to 60,000 and rises by one"
@@ -340,6 +344,17 @@ priced ls r text = onCode (λ t. among (op t) (listed (names kinds) ls)) r text
 unfoldable pub reaches : List Line → Role → List ℕ → Bool
 reaches ls r text = onCode (λ t. onArgument (argumentReaches (firstAt (body ls)) (length (codeLines (body ls))) (arg t)) t) r text
 
+-- row 13 on code line k, where the first address is `first`
+unfoldable pub codeForward : ℤ → ℕ → List ℕ → Bool
+codeForward first k text = onArgument (argumentForward (first +ℤ pos k) (arg text)) text
+
+-- row 13: "A branch to its own address or a lower one is refused, even where known numbers would end the loop."
+unfoldable pub forward : List Line → Role → List ℕ → Bool
+forward ls (names s) text = true
+forward ls (values s c) text = true
+forward ls (code k) text = codeForward (firstAt (body ls)) k text
+forward ls (answer k) text = true
+
 -- row 11: "run only: a `?` on line 10, then 12"
 unfoldable pub allKnown : Role → List ℕ → Bool
 allKnown r text = onCells (λ w. not (equals w (bytes "?"))) r text
@@ -351,6 +366,7 @@ test range-row ls r l = inRange ls r (l .text)
 test name-row ls r l = named ls r (l .text)
 test price-row ls r l = priced ls r (l .text)
 test target-row ls r l = reaches ls r (l .text)
+test forward-row ls r l = forward ls r (l .text)
 test known-row ls r l = allKnown r (l .text)
 
 -- the earliest line that fails a test, counted from n; "A missing line has the number it would have."
@@ -363,10 +379,11 @@ earliest t n (r ∷ rs) (l ∷ ls) = cond (t r l) (earliest t (suc n) rs ls) (li
 unfoldable pub refusedLine : Row → List Line → RefusedLine
 refusedLine row ls = earliest (test row ls) 1 (roles ls) ls
 
--- a text that refusals 2 to 6 let through
+-- a text that refusals 2 to 6 and 13 let through
 pub record Passes (ls : List Line) : Type 0 where
   pub layout : refusedLine layout-row ls ≡ nowhere
   pub range : refusedLine range-row ls ≡ nowhere
   pub names : refusedLine name-row ls ≡ nowhere
   pub prices : refusedLine price-row ls ≡ nowhere
   pub targets : refusedLine target-row ls ≡ nowhere
+  pub forward : refusedLine forward-row ls ≡ nowhere

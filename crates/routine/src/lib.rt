@@ -38,13 +38,14 @@ pub enum CellWord {
     Block(i64),
 }
 
-// The rows of the refusal table that look at lines: 2, 3, 4, 5, 6 and 11.
+// The rows of the refusal table that look at lines: 2, 3, 4, 5, 6, 13 and 11.
 pub enum Row {
     Layout,
     Range,
     Name,
     Price,
     Target,
+    Forward,
     Known,
 }
 

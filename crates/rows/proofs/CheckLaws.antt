@@ -6,11 +6,11 @@ use native.Mathlib.Omega.{arith}
 use lib.ListN.{length}
 use borrow.Author.Tests.{le-ltb}
 use Rattle.refusals.specs.declared.Refusal.{Refusal}
-use Rattle.refusals.specs.declared.Refusal.the-variants.{TextLength, Layout, OutOfRange, BadName, Unpriced, NoTarget, UnknownCell}
+use Rattle.refusals.specs.declared.Refusal.the-variants.{TextLength, Layout, OutOfRange, BadName, Unpriced, NoTarget, Backward, UnknownCell}
 use Rattle.text.specs.Text.{Line, lines}
 use Rattle.text.proofs.TextLaws.{none, more}
 use Rattle.routine.specs.declared.Row.{Row}
-use Rattle.routine.specs.declared.Row.the-variants.{Layout as layout-row, Range as range-row, Name as name-row, Price as price-row, Target as target-row, Known as known-row}
+use Rattle.routine.specs.declared.Row.the-variants.{Layout as layout-row, Range as range-row, Name as name-row, Price as price-row, Target as target-row, Forward as forward-row, Known as known-row}
 use Rattle.routine.specs.declared.RefusedLine.the-variants.{Nowhere as nowhere, Line as line}
 use Rattle.routine.specs.Rows.{refusedLine, Passes}
 use Rattle.routine.specs.Routine.{Routine, routineOf, Reading, refused, routine, Check, check, boundChecks, runChecks, checked, orElse, limited, readRun}
@@ -23,16 +23,16 @@ use Rattle.rows.specs.declared.Reader.the-variants.{Bound, Run}
 -- when a row is due
 
 pub due-layout : (ls : List Line) → Due layout-row ls
-due-layout ls = record { names-row = λ e. let z : _≡_ {A = ℕ} 0 1 = cc in absurd (omega arith); targets-row = λ e. let z : _≡_ {A = ℕ} 0 1 = cc in absurd (omega arith) }
+due-layout ls = record { names-row = λ e. let z : _≡_ {A = ℕ} 0 1 = cc in absurd (omega arith); targets-row = λ e. let z : _≡_ {A = ℕ} 0 1 = cc in absurd (omega arith); jumps-row = λ e. let z : _≡_ {A = ℕ} 0 1 = cc in absurd (omega arith) }
 
 pub due-range : (ls : List Line) → Due range-row ls
-due-range ls = record { names-row = λ e. let z : _≡_ {A = ℕ} 0 1 = cc in absurd (omega arith); targets-row = λ e. let z : _≡_ {A = ℕ} 0 1 = cc in absurd (omega arith) }
+due-range ls = record { names-row = λ e. let z : _≡_ {A = ℕ} 0 1 = cc in absurd (omega arith); targets-row = λ e. let z : _≡_ {A = ℕ} 0 1 = cc in absurd (omega arith); jumps-row = λ e. let z : _≡_ {A = ℕ} 0 1 = cc in absurd (omega arith) }
 
 pub due-known : (ls : List Line) → Due known-row ls
-due-known ls = record { names-row = λ e. let z : _≡_ {A = ℕ} 0 1 = cc in absurd (omega arith); targets-row = λ e. let z : _≡_ {A = ℕ} 0 1 = cc in absurd (omega arith) }
+due-known ls = record { names-row = λ e. let z : _≡_ {A = ℕ} 0 1 = cc in absurd (omega arith); targets-row = λ e. let z : _≡_ {A = ℕ} 0 1 = cc in absurd (omega arith); jumps-row = λ e. let z : _≡_ {A = ℕ} 0 1 = cc in absurd (omega arith) }
 
 pub due-after : (row : Row) {ls : List Line} → refusedLine range-row ls ≡ nowhere → Due row ls
-due-after row h = record { names-row = λ e. h; targets-row = λ e. h }
+due-after row h = record { names-row = λ e. h; targets-row = λ e. h; jumps-row = λ e. h }
 
 -- a text that is too long
 pub check-long : (text : List ℕ) (r : Reader) → 32768 < length text → Refused TextLength ≡ checkOf (readBy r text)
@@ -68,12 +68,18 @@ module _ (text : List ℕ) (r : Reader) (h : length text ≤ 32768) (n : ℕ) wh
             check-row text r h (check layout-row Layout ∷ check range-row OutOfRange ∷ check name-row BadName ∷ []) (check price-row Unpriced) _ _ n refl refl
             (more a (more b (more c none))) e
 
-        pub check-target : refusedLine price-row (lines text) ≡ nowhere → refusedLine target-row (lines text) ≡ line n → Refused (NoTarget n) ≡ checkOf (readBy r text)
-        check-target d e =
-            check-row text r h (check layout-row Layout ∷ check range-row OutOfRange ∷ check name-row BadName ∷ check price-row Unpriced ∷ [])
-            (check target-row NoTarget) _ _ n refl refl (more a (more b (more c (more d none)))) e
+        module _ (d : refusedLine price-row (lines text) ≡ nowhere) where
+          pub check-target : refusedLine target-row (lines text) ≡ line n → Refused (NoTarget n) ≡ checkOf (readBy r text)
+          check-target e =
+              check-row text r h (check layout-row Layout ∷ check range-row OutOfRange ∷ check name-row BadName ∷ check price-row Unpriced ∷ [])
+              (check target-row NoTarget) _ _ n refl refl (more a (more b (more c (more d none)))) e
 
--- rows 2 to 6 refuse no line: all that the bound asks, and row 11 decides for the run
+          pub check-forward : refusedLine target-row (lines text) ≡ nowhere → refusedLine forward-row (lines text) ≡ line n → Refused (Backward n) ≡ checkOf (readBy r text)
+          check-forward f e =
+              check-row text r h (check layout-row Layout ∷ check range-row OutOfRange ∷ check name-row BadName ∷ check price-row Unpriced ∷ check target-row NoTarget ∷ [])
+              (check forward-row Backward) _ _ n refl refl (more a (more b (more c (more d (more f none))))) e
+
+-- rows 2 to 6 and 13 refuse no line: all that the bound asks, and row 11 decides for the run
 
 pub check-bound : (text : List ℕ) (r : Reader) → r ≡ Bound → length text ≤ 32768 → Passes (lines text) → Accepted ≡ checkOf (readBy r text)
 unfolding readBy checkOf
@@ -81,7 +87,7 @@ check-bound text r e h p = rw (e, passes-read text p h) refl
 
 pub check-run : (text : List ℕ) (r : Reader) → r ≡ Run → length text ≤ 32768 → Passes (lines text) → checkOf (checked knownChecks (lines text)) ≡ checkOf (readBy r text)
 unfolding readBy readRun limited checked orElse
-check-run text r e h p = rw (e, le-ltb 32768 (length text) h, p .layout, p .range, p .names, p .prices, p .targets) refl
+check-run text r e h p = rw (e, le-ltb 32768 (length text) h, p .layout, p .range, p .names, p .prices, p .targets, p .forward) refl
 
 -- row 11
 

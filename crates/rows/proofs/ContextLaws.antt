@@ -16,18 +16,19 @@ use Rattle.routine.specs.declared.Section.{Section}
 use Rattle.routine.specs.declared.Section.the-variants.{Limits as limits, Kinds as kinds, Primitives as primitives, Cells as cells, Fields as fields, Instructions as instructions, Answers as answers}
 use Rattle.routine.specs.declared.Column.{Column}
 use Rattle.routine.specs.declared.Role.{Role}
-use Rattle.routine.specs.declared.Role.the-variants.{Names as names, Values as values, Code as code}
+use Rattle.routine.specs.declared.Role.the-variants.{Names as names, Values as values, Code as code, Answer as answer}
 use Rattle.routine.specs.declared.Row.the-variants.{Layout as layout-row}
 use Rattle.routine.specs.Layout.{layout, body, list, textAt, listed}
-use Rattle.routine.specs.Rows.{equalLists, blockSizes, total, wellNamed, test, valuesLaidOut, laidOut, onCells, onCode, codeNamed, named, op, arg, onArgument, argumentReaches, priced, reaches, firstAddresses, firstAt, columnInRange, inRange}
+use Rattle.routine.specs.Rows.{equalLists, blockSizes, total, wellNamed, test, valuesLaidOut, laidOut, onCells, onCode, codeNamed, named, op, arg, onArgument, argumentReaches, priced, reaches, codeForward, forward, firstAddresses, firstAt, columnInRange, inRange}
 use Rattle.names.specs.declared.Blocks.{Blocks}
 use Rattle.names.specs.Names.{BlocksOf}
 use Rattle.lines.specs.Lines.{wordTest}
 use Rattle.lines.specs.declared.WordTest.the-variants.{Filled, Present, Kind, Primitive}
 use Rattle.lines.proofs.LineLaws.{and-true, and-false, and-through, and-stop}
 use Rattle.routine.proofs.Section.{the-type}
+use Rattle.routine.proofs.Role as roles
 use Rattle.routine.proofs.LayoutLaws.{list-none, list-words}
-use Rattle.rows.specs.Scan.{NameContext, TargetContext, Small, lineWith}
+use Rattle.rows.specs.Scan.{NameContext, TargetContext, ForwardContext, Small, lineWith}
 use Rattle.rows.proofs.ArmLaws.{not-true, not-false}
 
 -- the first address is in its range
@@ -58,6 +59,18 @@ module _ (ls : List Line) (text : List ℕ) (r : Bool) where
   pub reaches-code : {f n : ℕ} → TargetContext ls f n → (z : ℤ) → z ≡ pos f → (k : ℕ) → r ≡ onArgument (argumentReaches z n (arg text)) text → r ≡ reaches ls (code k) text
   unfolding reaches onCode
   reaches-code {f} {n} x z e k h = h ∙ ap₂ (λ w m. onArgument (argumentReaches w m (arg text)) text) (e ∙ x .first-address) (x .code-lines)
+
+  pub forward-code : {f : ℕ} → ForwardContext ls f → (z : ℤ) → z ≡ pos f → (k : ℕ) → r ≡ codeForward z k text → r ≡ forward ls (code k) text
+  unfolding forward
+  forward-code x z e k h = h ∙ ap (λ w. codeForward w k text) (e ∙ x .first-address)
+
+-- any line but one of code is let through by row 13, by the variants' numbers
+pub forward-other : (ls : List Line) (o : Role) (text : List ℕ) → OneOf (0 ∷ 1 ∷ 3 ∷ []) (tagOf roles.the-type o) → true ≡ forward ls o text
+unfolding forward
+forward-other ls (names s) text h = refl
+forward-other ls (values s c) text h = refl
+forward-other ls (code k) text h = absurd (miss (0 ∷ 1 ∷ 3 ∷ []) 2 tt h)
+forward-other ls (answer k) text h = refl
 
 pub small-code : (o : Role) (k : ℕ) → o ≡ code k → Small o → k ≤ 32768
 small-code o k e h = subst Small e h

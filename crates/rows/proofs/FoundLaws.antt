@@ -17,7 +17,7 @@ use Rattle.routine.proofs.PassingLaws.{first-natural, first-small}
 use Rattle.routine.proofs.PassingLaws as passing
 use Rattle.names.specs.declared.Blocks.{Blocks}
 use Rattle.names.specs.Names.{BlocksOf}
-use Rattle.rows.specs.Scan.{Context, NameContext, TargetContext}
+use Rattle.rows.specs.Scan.{Context, NameContext, TargetContext, ForwardContext}
 
 -- as many blocks as sizes are held
 block-count : (ns : List ℕ) (b : Blocks) → BlocksOf ns b → length (b .sizes) ≡ 8 → b .count ≡ length ns
@@ -58,3 +58,6 @@ module _ {ls : List Line} {ks ps : List ℕ} {blocks first count : ℕ} (x : Con
 
   pub target-context : TargetContext ls first count
   target-context = record { first-address = address-is; low = address-low; code-lines = x .code-lines; few = x .few-lines }
+
+  pub forward-context : ForwardContext ls first
+  forward-context = record { first-address = address-is; low = address-low }

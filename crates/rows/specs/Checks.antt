@@ -5,7 +5,7 @@ use mathlib.Core.List.{List, [], _∷_}
 use Rattle.refusals.specs.declared.Refusal.the-variants.{UnknownCell}
 use Rattle.text.specs.Text.{Line}
 use Rattle.routine.specs.declared.Row.{Row}
-use Rattle.routine.specs.declared.Row.the-variants.{Range as range-row, Name as name-row, Target as target-row, Known as known-row}
+use Rattle.routine.specs.declared.Row.the-variants.{Range as range-row, Name as name-row, Target as target-row, Forward as forward-row, Known as known-row}
 use Rattle.routine.specs.declared.RefusedLine.the-variants.{Nowhere as nowhere}
 use Rattle.routine.specs.Rows.{refusedLine}
 use Rattle.routine.specs.Routine.{Reading, refused, routine, Check, check, readBound, readRun}
@@ -28,7 +28,8 @@ checkOf (routine x) = Accepted
 abbrev pub knownChecks : List Check
 knownChecks = check known-row UnknownCell ∷ []
 
--- rows 4 and 6 are checked after row 3
+-- rows 4, 6 and 13 are checked after row 3
 pub record Due (row : Row) (ls : List Line) : Type 0 where
   pub names-row : row ≡ name-row → refusedLine range-row ls ≡ nowhere
   pub targets-row : row ≡ target-row → refusedLine range-row ls ≡ nowhere
+  pub jumps-row : row ≡ forward-row → refusedLine range-row ls ≡ nowhere

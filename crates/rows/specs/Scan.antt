@@ -40,6 +40,11 @@ pub record TargetContext (ls : List Line) (first count : ℕ) : Type 0 where
   pub code-lines : count ≡ length (codeLines (body ls))
   pub few : count ≤ 32768
 
+-- and for row 13
+pub record ForwardContext (ls : List Line) (first : ℕ) : Type 0 where
+  pub first-address : pos first ≡ firstAt (body ls)
+  pub low : first ≤ 60000
+
 -- a code line's number is small
 abbrev pub Small : Role → Type 0
 Small (names s) = Unit {0}

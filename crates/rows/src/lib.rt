@@ -16,8 +16,8 @@ ghost use Rattle.routine.specs.declared.Role.the-variants.{Names};
 ghost use Rattle.routine.specs.declared.Section.the-variants.{Kinds};
 ghost use Rattle.routine.specs.declared.Row.the-variants.{Layout};
 ghost use Rattle.routine.specs.Layout.{layout, list, textAt};
-ghost use Rattle.routine.specs.Rows.{wellNamed, laidOut, inRange, named, priced, reaches, allKnown, test, refusedLine};
-ghost use Rattle.rows.specs.Scan.{NameContext, TargetContext, Context, Small, HeadingBefore, lineWith, isHeading, roleOf, headingAfter, missing};
+ghost use Rattle.routine.specs.Rows.{wellNamed, laidOut, inRange, named, priced, reaches, forward, allKnown, test, refusedLine};
+ghost use Rattle.rows.specs.Scan.{NameContext, TargetContext, ForwardContext, Context, Small, HeadingBefore, lineWith, isHeading, roleOf, headingAfter, missing};
 ghost use Rattle.routine.specs.Routine.{checked};
 ghost use Rattle.rows.specs.Checks.{readBy, checkOf, knownChecks, Due};
 
@@ -133,6 +133,18 @@ fn reaches(text: &[u8], first: usize, count: usize, role: Role, line: &[u8]) -> 
     lines::code_reaches(first as i64, count, line)
 }
 
+// Row 13 on a line.
+fn forward(text: &[u8], first: usize, role: Role, line: &[u8]) -> bool
+    requires { ⌜ ForwardContext (lines (now text)) first ⌝ }
+    requires { ⌜ Small role ⌝ }
+    ensures { λ r. ⌜ r ≡ forward (lines (now (text .entry))) role (now (line .entry)) ⌝ }
+{
+    let Role::Code(k) = role else {
+        return true;
+    };
+    lines::code_forward(first as i64, k, line)
+}
+
 // Row 11 on a line.
 fn all_known(role: Role, line: &[u8]) -> bool
     ensures { λ r. ⌜ r ≡ allKnown role (now (line .entry)) ⌝ }
@@ -177,6 +189,7 @@ fn passes(
         Row::Name => named(text, primitives, blocks, first, role, line),
         Row::Price => priced(text, kinds, role, line),
         Row::Target => reaches(text, first, count, role, line),
+        Row::Forward => forward(text, first, role, line),
         Row::Known => all_known(role, line),
     }
 }
@@ -330,6 +343,10 @@ fn check_rows(
     let target = earliest(Row::Target, text, kinds, primitives, blocks, first, count);
     if let RefusedLine::Line(n) = target {
         return Verdict::Refused(Refusal::NoTarget(n));
+    }
+    let forward = earliest(Row::Forward, text, kinds, primitives, blocks, first, count);
+    if let RefusedLine::Line(n) = forward {
+        return Verdict::Refused(Refusal::Backward(n));
     }
     match reader {
         Reader::Bound => Verdict::Accepted,

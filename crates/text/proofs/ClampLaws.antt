@@ -5,7 +5,7 @@ use mathlib.Core.Path.{_≡_, refl, sym, ap, _∙_}
 use native.Mathlib.Omega.{arith}
 use lib.Dec.{leb, ltb}
 use lib.IntN.{ℤ, pos, negsuc, natAbs}
-use lib.Signed.{mag, leZ}
+use lib.Signed.{mag, leZ, ltZ}
 use Rattle.text.specs.Decimal.{most, clamp}
 use Rattle.text.proofs.TextLaws.{ltb-agree, leb-agree}
 
@@ -19,6 +19,9 @@ leb-min m n h = leb-agree (min most m) n m n (λ k. omega arith) (λ k. omega ar
 
 leb-min-right : (m n : ℕ) → m ≤ most → leb m (min most n) ≡ leb m n
 leb-min-right m n h = leb-agree m (min most n) m n (λ k. omega arith) (λ k. omega arith)
+
+ltb-min-right : (m n : ℕ) → m < most → ltb m (min most n) ≡ ltb m n
+ltb-min-right m n h = ltb-agree m (min most n) m n (λ k. omega arith) (λ k. omega arith)
 
 -- ---- what is near 0 is kept
 
@@ -42,6 +45,13 @@ le-clamp (pos m) (pos n) h = leb-min-right m n (omega arith)
 le-clamp (pos m) (negsuc n) h = refl
 le-clamp (negsuc m) (pos n) h = refl
 le-clamp (negsuc m) (negsuc n) h = leb-min n m h
+
+pub lt-clamp : (x z : ℤ) → mag x < most → ltZ x (clamp z) ≡ ltZ x z
+unfolding clamp
+lt-clamp (pos m) (pos n) h = ltb-min-right m n h
+lt-clamp (pos m) (negsuc n) h = refl
+lt-clamp (negsuc m) (pos n) h = refl
+lt-clamp (negsuc m) (negsuc n) h = ltb-min n m (omega arith)
 
 -- ---- how far a number is from 0
 

@@ -5,9 +5,10 @@ use routine::CellWord;
 use routine::layout;
 use text::Numeral;
 ghost use mathlib.Core.Path.{_≡_};
-ghost use Prim.Native.Nat.{_≤_};
+ghost use Prim.Native.Nat.{_<_, _≤_};
 ghost use lib.Dec.{ltb};
 ghost use lib.IntN.{natAbs};
+ghost use lib.Signed.{mag, ltZ};
 ghost use Rattle.text.specs.Text.{lines};
 ghost use Rattle.text.specs.Decimal.{numeral, most, clamp};
 ghost use Rattle.numbers.specs.Numbers.{range, within, numbers};
@@ -44,6 +45,14 @@ pub fn is_within(range: Range, w: &[u8]) -> bool
     ensures { λ r. ⌜ r ≡ within range (value (now (w .entry))) ⌝ }
 {
     numbers::within(range, held_value(w))
+}
+
+// Whether the number that w spells is above another.
+pub fn is_above(low: i64, w: &[u8]) -> bool
+    requires { ⌜ mag low < most ⌝ }
+    ensures { λ r. ⌜ r ≡ ltZ low (value (now (w .entry))) ⌝ }
+{
+    low < held_value(w)
 }
 
 // A number of a range; one outside it counts 0.

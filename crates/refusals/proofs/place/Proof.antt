@@ -49,6 +49,9 @@ cast-result-6 c = search needs
 enum-known-refusal-7 : tie.Need-enum-known-refusal-7
 enum-known-refusal-7 c = search needs
 
+cast-result-7 : tie.Need-cast-result-7
+cast-result-7 c = search needs
+
 enum-known-refusal-8 : tie.Need-enum-known-refusal-8
 enum-known-refusal-8 c = search needs
 
@@ -57,6 +60,9 @@ enum-known-refusal-9 c = search needs
 
 enum-known-refusal-10 : tie.Need-enum-known-refusal-10
 enum-known-refusal-10 c = search needs
+
+enum-known-refusal-11 : tie.Need-enum-known-refusal-11
+enum-known-refusal-11 c = search needs
 
 returns : tie.Need-returns
 unfolding place
@@ -106,6 +112,10 @@ returns-12 : tie.Need-returns-12
 unfolding place
 returns-12 c = search needs
 
+returns-13 : tie.Need-returns-13
+unfolding place
+returns-13 c = search needs
+
 pub place-spec : {M : Type 1} → statement M
 place-spec =
     tie.close
@@ -125,9 +135,11 @@ place-spec =
     enum-known-refusal-6
     cast-result-6
     enum-known-refusal-7
+    cast-result-7
     enum-known-refusal-8
     enum-known-refusal-9
     enum-known-refusal-10
+    enum-known-refusal-11
     returns
     returns-2
     returns-3
@@ -139,4 +151,5 @@ place-spec =
     returns-9
     returns-10
     returns-11
-    returns-12)
+    returns-12
+    returns-13)

@@ -1,10 +1,10 @@
 -- `rows::check_rows` meets its contract. Assumes nothing.
 use mathlib.Core.Path.{_≡_, sym, _∙_}
 use Rattle.text.specs.Text.{lines}
-use Rattle.routine.specs.declared.Row.the-variants.{Layout, Range, Name, Price, Target}
+use Rattle.routine.specs.declared.Row.the-variants.{Layout, Range, Name, Price, Target, Forward}
 use Rattle.routine.specs.declared.RefusedLine.the-variants.{Nowhere}
 use Rattle.routine.specs.Rows.{refusedLine}
-use Rattle.rows.proofs.CheckLaws.{due-layout, due-range, due-after, check-layout, check-range, check-name, check-price, check-target, check-bound, check-run}
+use Rattle.rows.proofs.CheckLaws.{due-layout, due-range, due-after, check-layout, check-range, check-name, check-price, check-target, check-forward, check-bound, check-run}
 use borrow.Author.Needs.{needs}
 use Rattle.rows.proofs.check_rows.Statement.{statement}
 use Rattle.rows.proofs.check_rows.Tie as tie
@@ -25,6 +25,9 @@ row-price c = sym (c .before .before .earliest4 .ensures) ∙ c .enum-told4 .giv
 
 row-target : (c : tie.After-enum-told5) → refusedLine Target (lines (c .before .before .before .before .before .before .before .before .before .before .before .before .before .before .before .before .before .before .args .text .now)) ≡ Nowhere
 row-target c = sym (c .before .before .earliest5 .ensures) ∙ c .enum-told5 .given .1
+
+row-forward : (c : tie.After-enum-told6) → refusedLine Forward (lines (c .before .before .before .before .before .before .before .before .before .before .before .before .before .before .before .before .before .before .before .before .before .args .text .now)) ≡ Nowhere
+row-forward c = sym (c .before .before .earliest6 .ensures) ∙ c .enum-told6 .given .1
 
 earliest-requires : tie.Need-earliest-requires
 earliest-requires c κs = let p = c .before .before .before .pre in (p .0, (p .1, due-layout _))
@@ -86,20 +89,32 @@ returns-5 c = check-target _ _ (c .before .before .before .before .before .befor
 enum-told-5 : tie.Need-enum-told-5
 enum-told-5 c = search needs
 
+earliest-requires-6 : tie.Need-earliest-requires-6
+earliest-requires-6 c κs = let p = c .before .before .before .before .before .before .before .before .before .before .before .before .before .before .before .before .before .before .pre in (p .0, (p .1, due-after _ (row-range (c .before .before .before .before .before .before .before .before .before))))
+
+enum-known-forward : tie.Need-enum-known-forward
+enum-known-forward c = search needs
+
+returns-6 : tie.Need-returns-6
+returns-6 c = check-forward _ _ (c .before .before .before .before .before .before .before .before .before .before .before .before .before .before .before .before .before .before .before .before .before .before .pre .0) _ (row-layout (c .before .before .before .before .before .before .before .before .before .before .before .before .before .before .before .before)) (row-range (c .before .before .before .before .before .before .before .before .before .before .before .before .before)) (row-name (c .before .before .before .before .before .before .before .before .before .before)) (row-price (c .before .before .before .before .before .before .before)) (row-target (c .before .before .before .before)) (sym (c .before .before .before .earliest6 .ensures) ∙ c .before .forward .given .1)
+
 enum-told-6 : tie.Need-enum-told-6
 enum-told-6 c = search needs
 
 enum-told-7 : tie.Need-enum-told-7
 enum-told-7 c = search needs
 
-check-known-requires : tie.Need-check-known-requires
-check-known-requires c κs = let p = c .before .before .before .before .before .before .before .before .before .before .before .before .before .before .before .before .before .before .before .before .pre in (p .0, p .1)
+enum-told-8 : tie.Need-enum-told-8
+enum-told-8 c = search needs
 
-returns-6 : tie.Need-returns-6
-returns-6 c = check-bound _ _ (c .enum-told6 .given .1) (c .before .before .before .before .before .before .before .before .before .before .before .before .before .before .before .before .before .before .before .before .pre .0) (record { layout = row-layout (c .before .before .before .before .before .before .before .before .before .before .before .before .before .before); range = row-range (c .before .before .before .before .before .before .before .before .before .before .before); names = row-name (c .before .before .before .before .before .before .before .before); prices = row-price (c .before .before .before .before .before); targets = row-target (c .before .before) })
+check-known-requires : tie.Need-check-known-requires
+check-known-requires c κs = let p = c .before .before .before .before .before .before .before .before .before .before .before .before .before .before .before .before .before .before .before .before .before .before .before .pre in (p .0, p .1)
 
 returns-7 : tie.Need-returns-7
-returns-7 c = c .check-known .ensures ∙ check-run _ _ (c .before .enum-told7 .given .1) (c .before .before .before .before .before .before .before .before .before .before .before .before .before .before .before .before .before .before .before .before .before .pre .0) (record { layout = row-layout (c .before .before .before .before .before .before .before .before .before .before .before .before .before .before .before); range = row-range (c .before .before .before .before .before .before .before .before .before .before .before .before); names = row-name (c .before .before .before .before .before .before .before .before .before); prices = row-price (c .before .before .before .before .before .before); targets = row-target (c .before .before .before) })
+returns-7 c = check-bound _ _ (c .enum-told7 .given .1) (c .before .before .before .before .before .before .before .before .before .before .before .before .before .before .before .before .before .before .before .before .before .before .before .pre .0) (record { layout = row-layout (c .before .before .before .before .before .before .before .before .before .before .before .before .before .before .before .before .before); range = row-range (c .before .before .before .before .before .before .before .before .before .before .before .before .before .before); names = row-name (c .before .before .before .before .before .before .before .before .before .before .before); prices = row-price (c .before .before .before .before .before .before .before .before); targets = row-target (c .before .before .before .before .before); forward = row-forward (c .before .before) })
+
+returns-8 : tie.Need-returns-8
+returns-8 c = c .check-known .ensures ∙ check-run _ _ (c .before .enum-told8 .given .1) (c .before .before .before .before .before .before .before .before .before .before .before .before .before .before .before .before .before .before .before .before .before .before .before .before .pre .0) (record { layout = row-layout (c .before .before .before .before .before .before .before .before .before .before .before .before .before .before .before .before .before .before); range = row-range (c .before .before .before .before .before .before .before .before .before .before .before .before .before .before .before); names = row-name (c .before .before .before .before .before .before .before .before .before .before .before .before); prices = row-price (c .before .before .before .before .before .before .before .before .before); targets = row-target (c .before .before .before .before .before .before); forward = row-forward (c .before .before .before) })
 
 pub check-rows-spec : {M : Type 1} → statement M
 check-rows-spec =
@@ -125,8 +140,12 @@ check-rows-spec =
     enum-known-target
     returns-5
     enum-told-5
+    earliest-requires-6
+    enum-known-forward
+    returns-6
     enum-told-6
     enum-told-7
+    enum-told-8
     check-known-requires
-    returns-6
-    returns-7)
+    returns-7
+    returns-8)

@@ -3,7 +3,7 @@ use Rattle.rows.specs.Scan.{lineWith}
 use Rattle.routine.specs.Rows.{test}
 use Rattle.text.specs.Text.{lines}
 use denote.Ref.{now}
-use Rattle.rows.proofs.FoundLaws.{name-context, target-context}
+use Rattle.rows.proofs.FoundLaws.{name-context, target-context, forward-context}
 use Rattle.lines.proofs.LineLaws.{arm}
 use borrow.Author.Needs.{needs}
 use Rattle.rows.proofs.passes.Statement.{statement}
@@ -42,6 +42,12 @@ reaches-requires c κs = let p = c .before .before .before .before .before .befo
 enum-told-6 : tie.Need-enum-told-6
 enum-told-6 c = search needs
 
+forward-requires : tie.Need-forward-requires
+forward-requires c κs = let p = c .before .before .before .before .before .before .pre in (forward-context (p .0) (p .1 .0 .jumps-row (c .enum-told6 .given .1)), p .1 .1)
+
+enum-told-7 : tie.Need-enum-told-7
+enum-told-7 c = search needs
+
 all-known-requires : tie.Need-all-known-requires
 all-known-requires c κs = search needs
 
@@ -66,7 +72,11 @@ returns-5 c = arm (λ r. test r (lines (now (c .before .before .before .before .
 
 returns-6 : tie.Need-returns-6
 unfolding test
-returns-6 c = arm (λ r. test r (lines (now (c .before .before .before .before .before .before .before .args .text))) (c .before .before .before .before .before .before .before .args .role) (lineWith (now (c .before .before .before .before .before .before .before .args .line)) (c .before .before .before .before .before .before .before .args .ended))) (c .before .enum-told6 .given .1) (c .all-known .ensures)
+returns-6 c = arm (λ r. test r (lines (now (c .before .before .before .before .before .before .before .args .text))) (c .before .before .before .before .before .before .before .args .role) (lineWith (now (c .before .before .before .before .before .before .before .args .line)) (c .before .before .before .before .before .before .before .args .ended))) (c .before .enum-told6 .given .1) (c .forward .ensures)
+
+returns-7 : tie.Need-returns-7
+unfolding test
+returns-7 c = arm (λ r. test r (lines (now (c .before .before .before .before .before .before .before .args .text))) (c .before .before .before .before .before .before .before .args .role) (lineWith (now (c .before .before .before .before .before .before .before .args .line)) (c .before .before .before .before .before .before .before .args .ended))) (c .before .enum-told7 .given .1) (c .all-known .ensures)
 
 pub passes-spec : {M : Type 1} → statement M
 passes-spec =
@@ -83,10 +93,13 @@ passes-spec =
     enum-told-5
     reaches-requires
     enum-told-6
+    forward-requires
+    enum-told-7
     all-known-requires
     returns
     returns-2
     returns-3
     returns-4
     returns-5
-    returns-6)
+    returns-6
+    returns-7)
