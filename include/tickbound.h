@@ -63,7 +63,7 @@ extern "C" {
 /* The most letters that a path has. */
 #define TICKBOUND_PATH_LIMIT 32
 
-/* The numbers of the refusals. The place is 0 for 10 and 1, a line of the text for 2 to 6 and 11, an address of
+/* The numbers of the refusals. The place is 0 for 10 and 1, a line of the text for 2 to 6, 13 and 11, an address of
  * the code for 7, 8 and 9, and for 12 the index of a word, from 0. An import refuses its primitives line by 2 or 4
  * at place 1. A replay refuses its trace by 1, 2 or 3, after its routine file: a line is then one of the trace. */
 enum {
@@ -78,7 +78,8 @@ enum {
     TICKBOUND_SPENT = 9,
     TICKBOUND_LENT_TOO_LITTLE = 10,
     TICKBOUND_UNKNOWN_CELL = 11,
-    TICKBOUND_BAD_WORD = 12
+    TICKBOUND_BAD_WORD = 12,
+    TICKBOUND_BACKWARD = 13
 };
 
 /* The report of the bound: `CYCLES WORDS DEPTH STEPS SHARE PATH` and their values. */
@@ -91,9 +92,9 @@ uint64_t tickbound_run(const uint8_t *text, size_t text_length, uint8_t *report,
  * or `DIFFERS` and the number of the first line of the trace that differs, its line of names being line 1. A trace may
  * end before the run does. BUDGET plays no part.
  *
- * Refused by 10; then by 1 to 6 and 11, as a run of the file is; then by 1 (at place 0), 2 and 3 (at a line of the
+ * Refused by 10; then by 1 to 6, 13 and 11, as a run of the file is; then by 1 (at place 0), 2 and 3 (at a line of the
  * trace) for the trace. So of a refusal by 1, 2 or 3 the place is in the routine file where `tickbound_run` refuses
- * that file by any of 1 to 6 or by 11, and else in the trace. */
+ * that file by any of 1 to 6, by 13 or by 11, and else in the trace. */
 uint64_t tickbound_replay(const uint8_t *text, size_t text_length, const uint8_t *trace, size_t trace_length,
                           uint8_t *report, size_t report_length);
 
