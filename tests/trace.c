@@ -24,7 +24,8 @@ static bool read_file(const char *name, uint8_t *bytes, size_t most, size_t *len
 /* Whether the run of a routine file is refused before it begins. */
 static bool is_unread(uint64_t answer) {
     unsigned number = tickbound_number(answer);
-    return (number >= TICKBOUND_TEXT_TOO_LONG && number <= TICKBOUND_NO_TARGET) || number == TICKBOUND_UNKNOWN_CELL;
+    return (number >= TICKBOUND_TEXT_TOO_LONG && number <= TICKBOUND_NO_TARGET) || number == TICKBOUND_BACKWARD ||
+           number == TICKBOUND_UNKNOWN_CELL;
 }
 
 int main(int argc, char **argv) {

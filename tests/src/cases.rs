@@ -1,5 +1,5 @@
 //! The cases on the edges and the small examples of document 01, with the answers given there and zeros on the line of extras; those of
-//! change requests 1, 3, 6 and 7; and the files that the programs of `crates/` are run with, which are made of them.
+//! change requests 1, 3, 6, 7 and 8; and the files that the programs of `crates/` are run with, which are made of them.
 use crate::change::Base::{File, Named};
 use crate::change::Change::{FirstBytes, Nothing, Without};
 use crate::change::Told::{Refusal, Report};
@@ -18,6 +18,8 @@ const PUBLISHED_KNOWN: Base = File(|| published().replace("0 ?", "0 0"));
 /// With BRANCH in the place of BRANCHIF.
 const PUBLISHED_BRANCH: Base = File(|| published().replace("BRANCHIF", "BRANCH"));
 const FIGURE_4: Base = File(|| include_str!("../../examples/figure4.txt").to_string());
+/// Case 2 with BUDGET 2.
+const ONE_BRANCH: Base = File(|| file(2, "BRANCHIF STOP", "5 1", "ACCU", "?", "0 BRANCHIF 1\n1 STOP -\n"));
 const STOP: Base = File(|| file(1000, "STOP", "1", "ACCU", "0", "0 STOP -\n"));
 
 /// A file from its budget, kinds with cycles, cells and code; TICK is 1000, words and extras are 0.
@@ -68,7 +70,7 @@ fn at_the_ends() -> String {
 }
 
 /// What `crates/cases` is run with: the published example (case 1, run: case 7), the cases that are not starred, each row's example, and
-/// what change requests 1, 3, 6 and 7 add to them.
+/// what change requests 1, 3, 6, 7 and 8 add to them.
 pub fn cases() -> Vec<Text> {
     let lists = [
         published_example(),
@@ -78,6 +80,7 @@ pub fn cases() -> Vec<Text> {
         compared_handles(),
         halves(),
         numbers_of_31_bits(),
+        jumps_backwards(),
     ];
     let mut texts = made(lists.into_iter().flatten().collect());
     // the program lends a byte less for it
@@ -117,13 +120,12 @@ fn not_starred() -> Vec<Entry> {
     ]
 }
 
-/// The small examples of the refusal table; beside two of them the nearest text that this row does not refuse.
+/// The small examples of the refusal table, where that of 9 is case 2 with BUDGET 2 (change request 8); beside two of them the nearest text
+/// that this row does not refuse. That of 8 is case 8.
 fn refusal_table() -> Vec<Entry> {
     let too_long = "A".repeat(TEXT_LIMIT + 1 - published().len());
     let stop_unpriced = "C_CALL1 BRANCHIF CONST2 ADDINT\n10 5 2 7\n0 0 0 0\n0 0 0 0";
     let push: Base = File(|| file(1000, "PUSH", "1", "ACCU", "0", "0 PUSH -\n"));
-    let for_ever: Base = File(|| file(1000, "BRANCH", "1", "ACCU", "0", "0 BRANCH 0\n"));
-    let opens_for_ever: Base = File(|| file(1000, "BRANCHIF STOP", "5 1", "ACCU", "?", "0 BRANCHIF 0\n1 STOP -\n"));
     vec![
         ("lent_127", PUBLISHED, Nothing, refused(10, 0)),
         ("bytes_32769", PUBLISHED, append(too_long), refused(1, 0)),
@@ -137,8 +139,13 @@ fn refusal_table() -> Vec<Entry> {
         ("unknown_accumulator_in_a_run", STOP, word(11, 1, "?"), [Report("1 0 0 1 1 -"), Refusal(11, 11)]),
         ("unknown_field_in_a_run", STOP, lines(12, 13, "B0.0\n?"), [Report("1 0 0 1 1 -"), Refusal(11, 13)]),
         ("push_as_the_whole_code", push, Nothing, refused(7, 1)),
-        ("thirty_third_opening", opens_for_ever, Nothing, [Refusal(8, 0), Refusal(11, 11)]),
-        ("branch_0_at_0", for_ever, Nothing, refused(9, 0)),
+        ("case_2_with_budget_2", ONE_BRANCH, Nothing, [Refusal(9, 1), Refusal(11, 11)]),
+        (
+            "case_2_with_budget_1_and_a_number",
+            ONE_BRANCH,
+            lines(2, 11, "1 1000\nBRANCHIF STOP\n5 1\n0 0\n0 0\n-\n-\n-\nACCU\n0"),
+            refused(9, 1),
+        ),
     ]
 }
 
@@ -229,10 +236,29 @@ fn numbers_of_31_bits() -> Vec<Entry> {
     ]
 }
 
+/// Change request 8: "A branch to its own address or a lower one is refused, even where known numbers would end the loop."; 13 "after 6 and
+/// before 11"; "the place is the line".
+fn jumps_backwards() -> Vec<Entry> {
+    let for_ever: Base = File(|| file(1000, "BRANCH", "1", "ACCU", "0", "0 BRANCH 0\n"));
+    let down_from_3: Base = File(|| {
+        let code = "7 OFFSETINT -1\n8 BRANCHIF 7\n9 STOP -\n";
+        file(1000, "OFFSETINT BRANCHIF STOP", "1 1 1", "ACCU", "3", code)
+    });
+    let to_the_next = [Report("3 0 0 3 3 -"), Report("3 0 0 3")];
+    vec![
+        ("branch_0_at_0", for_ever, Nothing, refused(13, 15)),
+        ("branch_0_at_0_not_reached", PUBLISHED_BRANCH, line(19, "4 STOP -\n5 BRANCH 0"), refused(13, 20)),
+        ("loop_that_ends", down_from_3, Nothing, refused(13, 16)),
+        ("loop_to_its_own_address", down_from_3, word(16, 3, "8"), refused(13, 16)),
+        ("branch_to_the_next", down_from_3, word(16, 3, "9"), to_the_next),
+        ("target_outside_before_a_loop", down_from_3, line(17, "9 BRANCHIF 10"), refused(6, 17)),
+        ("loop_before_an_unknown_cell", down_from_3, word(11, 1, "?"), refused(13, 16)),
+    ]
+}
+
 /// The other starred cases, 2 to 6, and those of change requests 1 and 7, which `analyser` proves: the independent implementation must
 /// give these too.
 pub fn starred() -> Vec<Text> {
-    let one_branch: Base = File(|| file(2, "BRANCHIF STOP", "5 1", "ACCU", "?", "0 BRANCHIF 1\n1 STOP -\n"));
     let two_calls: Base = File(|| {
         let code = "0 BRANCHIF 3\n1 C_CALL1 A\n2 STOP -\n3 C_CALL1 B\n4 STOP -\n";
         file(9, "BRANCHIF C_CALL1 STOP", "1 1 1", "ACCU", "?", code).replacen("-\n-\n-", "A B\n10 4\n1 9", 1)
@@ -246,8 +272,8 @@ pub fn starred() -> Vec<Text> {
     let pops: Base =
         File(|| file(9, "ADDINT ACC0 STOP", "1 1 1", "ACCU S0", "? 5", "0 ADDINT -\n1 ACC0 -\n2 STOP -\n"));
     made(vec![
-        ("case_2_budget_2", one_branch, Nothing, [Refusal(9, 1), Refusal(11, 11)]),
-        ("case_2_budget_3", one_branch, word(2, 1, "3"), [Report("6 0 0 3 6 T"), Refusal(11, 11)]),
+        ("case_2_budget_2", ONE_BRANCH, Nothing, [Refusal(9, 1), Refusal(11, 11)]),
+        ("case_2_budget_3", ONE_BRANCH, word(2, 1, "3"), [Report("6 0 0 3 6 T"), Refusal(11, 11)]),
         ("case_2_extra_3", Named("case_2_budget_3"), word(6, 1, "3"), [Report("9 0 0 3 9 T"), Refusal(11, 11)]),
         (
             "case_2_extra_3_accu_1",

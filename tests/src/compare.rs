@@ -85,7 +85,7 @@ pub fn figures(report: &[u8]) -> Vec<u64> {
     values.split(' ').take(4).map(|w| w.parse().unwrap()).collect()
 }
 
-/// A file that passes refusals 1 to 6, with numbers for each `?` and other answers.
+/// A file that passes refusals 1 to 6 and 13, with numbers for each `?` and other answers.
 pub fn filled(random: &mut Random, text: &[u8]) -> Vec<u8> {
     let text = std::str::from_utf8(text).unwrap();
     // a primitive may be named ANSWER: the heading is looked for after the first line of code

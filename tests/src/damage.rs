@@ -134,7 +134,7 @@ fn among_bytes(random: &mut Random, text: &mut Vec<u8>) {
 fn among_parts(random: &mut Random, draft: &mut Draft) {
     let lines = draft.code.len();
     let code = random.below(lines);
-    match random.below(20) {
+    match random.below(24) {
         0 if draft.kinds.len() > 1 => {
             // 5
             let n = random.below(draft.kinds.len());
@@ -146,6 +146,17 @@ fn among_parts(random: &mut Random, draft: &mut Draft) {
             let beyond = *random.pick(&[3, 3, 3, 70_000]);
             let n = lines + random.below(beyond);
             draft.code[code] = (*random.pick(&["BRANCH", "BRANCHIF", "BRANCHIFNOT"]), Arg::Line(n));
+        }
+        19..=22 => {
+            // 13, and sometimes 6 on a later line
+            let n = if random.one_in(2) { code } else { random.below(code + 1) };
+            let name = *random.pick(&["BRANCH", "BRANCH", "BRANCHIF", "BRANCHIFNOT"]);
+            draft.code[code] = (name, Arg::Line(n));
+            draft.price(name);
+            if code + 1 < lines && random.one_in(2) {
+                let other = random.within(code + 1, lines - 1);
+                draft.code[other] = (name, Arg::Line(lines + random.below(3)));
+            }
         }
         4 => draft.budget = *random.pick(&[0, 1_000_001]),
         5 => draft.tick = *random.pick(&[0, 4_000_000_001]),

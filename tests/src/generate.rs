@@ -42,7 +42,7 @@ fn shape(cell: &str) -> Shape {
     cell.strip_prefix('#').map_or(Shape::Number, |k| Shape::Handle(k.parse().unwrap()))
 }
 
-/// A routine file that passes refusals 1 to 6.
+/// A routine file that passes refusals 1 to 6, and mostly 13.
 pub fn draft(random: &mut Random) -> Draft {
     let unknown = *random.pick(&[0, 0, 3, 5, 8]);
     let block_count = if random.one_in(2) { 0 } else { random.within(1, 8) };
@@ -83,12 +83,14 @@ pub fn draft(random: &mut Random) -> Draft {
         blocks: blocks.iter().map(|b| b.iter().map(|c| shape(c)).collect()).collect(),
     };
     let longest = if random.one_in(100) { 980 } else { 60 };
+    let loops = random.one_in(12);
     let mut writer = Writer {
         random,
         code: Vec::new(),
         shapes,
         base: 0,
         in_loop: false,
+        loops,
         counters: Vec::new(),
         primitives: primitive_count,
         exits: Vec::new(),

@@ -6,6 +6,7 @@ mod compare;
 mod extras;
 mod handles;
 mod imports;
+mod jumps;
 mod pinned;
 mod replays;
 mod shares;
@@ -29,6 +30,7 @@ use independent::routine::{line, read, KINDS};
 use independent::texts::{texts, TEXTS};
 use independent::word_cases::{self, CASES};
 use independent::word_draft;
+use jumps::Jumps;
 use pinned::{pinned, pinned_export, pinned_import, pinned_replay};
 use replays::{replay_by_program, replayed};
 use shares::Shares;
@@ -56,6 +58,7 @@ struct Tally {
     handles: Compared,
     shares: Shares,
     wraps: Wraps,
+    jumps: Jumps,
     causes: Causes,
     traces: Traces,
 }
@@ -86,12 +89,13 @@ impl Tally {
         self.handles.note(text, bound, run);
         self.shares.note(text, bound);
         self.wraps.note(text, bound, run);
+        self.jumps.note(text, bound);
     }
 
     /// What a report depends on, and how many files had it.
     fn counts(&self) -> impl Iterator<Item = (&'static str, u64)> {
         let of_cells = self.extras.counts().into_iter().chain(self.handles.counts()).chain(self.wraps.counts());
-        of_cells.chain(self.shares.counts())
+        of_cells.chain(self.shares.counts()).chain(self.jumps.counts())
     }
 
     /// All comparisons on one file; with the programs too, if they are given.
@@ -187,14 +191,14 @@ fn compare_program_files(tally: &mut Tally) {
 }
 
 /// Files enough that every kind, every refusal of a text, every use of an extra, every pair with a handle, every operation that wraps,
-/// SHARE on each side of a half, every cause and every way in which a trace compares must come up.
+/// SHARE on each side of a half, every jump, every cause and every way in which a trace compares must come up.
 const MANY: u64 = 5_000;
 
 /// Whether what was compared had all kinds in accepted code and in accepted words, reports, each refusal of a text, extras wherever they
 /// count, handles in operations on two cells, numbers that wrap and numbers just outside their range, SHARE at a half and next to it,
-/// each cause by which words are refused, and traces that agree, differ and are refused by each cause.
+/// jumps forward and backward, each cause by which words are refused, and traces that agree, differ and are refused by each cause.
 fn covers(tally: &Tally) -> Result<(), String> {
-    let missing: Vec<u32> = (0..=11).filter(|n| *n != 10 && !tally.answers.contains_key(n)).collect();
+    let missing: Vec<u32> = (0..=13).filter(|n| ![10, 12].contains(n) && !tally.answers.contains_key(n)).collect();
     let counts = tally.counts().chain(tally.causes.counts()).chain(tally.traces.counts());
     let too_few = counts.filter(|(_, count)| *count < MANY / 200);
     let rare: Vec<_> =

@@ -32,9 +32,9 @@ pub fn pinned(programs: &Path, random: &mut Random, text: &Text) -> Result<(), S
     }
     let answers = compare(random, &text.bytes)?;
     let exported = exported(random, &text.bytes, &answers.0)?;
-    // the export refuses by 1 to 6 as the bound does, and by nothing else
+    // the export refuses by 1 to 6 and 13 as the bound does, and by nothing else
     let bound = &text.printed()[0];
-    let refused = (1..=6).any(|number| bound.starts_with(&format!("REFUSED {number} ")));
+    let refused = (1..=6).chain([13]).any(|number| bound.starts_with(&format!("REFUSED {number} ")));
     if exported.is_ok() == refused || refused && printed(&exported) != bound.as_bytes() {
         return Err(format!("export says {}\nthe bound: {bound}", shown(&exported)));
     }

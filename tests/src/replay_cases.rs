@@ -1,13 +1,13 @@
-//! Replays with the answers that change request 4 gives them.
+//! Replays with the answers that change request 4 gives them, with change request 8.
 use crate::cases::{file, published, pushes};
 use crate::replay::{agrees, differs, TRACE_LIMIT, TRACE_LINES};
 use crate::report::{Answer, MEMORY};
-use crate::routine::{refused, TEXT_LIMIT};
+use crate::routine::{refused, CODE_LINES, TEXT_LIMIT};
 use crate::trace_draft::Replay;
 use crate::word_cases::Case;
 
 /// How many there are.
-pub const CASES: usize = 145;
+pub const CASES: usize = 153;
 
 /// A name that says what is tried, the routine file, the trace, and what is told.
 type Entry = (&'static str, String, Vec<u8>, Answer);
@@ -83,7 +83,7 @@ fn costs() -> Vec<Entry> {
             .replacen("-\n-\n-", "READ\n65535\n0", 1)
             .replacen("0 0 0\n0 0 0\n", "0 0 0\n0 65535 0\n", 1)
     };
-    let (call, jump) = (most("0 C_CALL1 READ\n1 STOP -\n"), most("60000 BRANCHIF 60000\n60001 STOP -\n"));
+    let (call, jump) = (most("0 C_CALL1 READ\n1 STOP -\n"), most("60000 BRANCHIF 60001\n60001 STOP -\n"));
     vec![
         ("the_kinds_price_alone", jumps(), trace("0 10\n1 5\n4 1\n"), agrees()),
         ("one_more_than_the_kinds_price", jumps(), trace("0 11\n1 5\n4 1\n"), agrees()),
@@ -94,8 +94,8 @@ fn costs() -> Vec<Entry> {
         ("an_extra_at_another_kind", extra_10(jumps()), trace("0 51\n1 15\n4 1\n"), differs(2)),
         ("the_largest_call", call.clone(), trace("0 131070\n1 1\n"), agrees()),
         ("a_cycle_more_than_the_largest_call", call, trace("0 131071\n1 1\n"), differs(2)),
-        ("the_largest_jump", jump.clone(), trace("60000 131070\n60000 131070\n"), agrees()),
-        ("a_cycle_more_than_the_largest_jump", jump, trace("60000 131070\n60000 131071\n"), differs(3)),
+        ("the_largest_jump", jump.clone(), trace("60000 131070\n60001 1\n"), agrees()),
+        ("a_cycle_more_than_the_largest_jump", jump, trace("60000 131071\n60001 1\n"), differs(2)),
     ]
 }
 
@@ -107,7 +107,8 @@ fn answers() -> Vec<Entry> {
         kinds.replacen("-\n-\n-", "READ\n40\n4", 1) + answers
     };
     let twice = |answers| with(code, answers);
-    let until_0 = |answers| with("0 C_CALL1 READ\n1 BRANCHIF 0\n2 STOP -\n", answers);
+    let three = "0 C_CALL1 READ\n1 BRANCHIF 3\n2 STOP -\n3 C_CALL1 READ\n4 BRANCHIF 6\n5 STOP -\n6 C_CALL1 READ\n7 BRANCHIF 9\n8 STOP -\n9 STOP -\n";
+    let thrice = |answers| with(three, answers);
     let second = "0 50\n1 5\n2 50\n3 5\n5 1\n";
     let neither = "0 50\n1 5\n2 50\n3 5\n4 1\n";
     vec![
@@ -119,8 +120,8 @@ fn answers() -> Vec<Entry> {
         ("answers_0_and_0", twice("ANSWER\n0\n0\n"), trace(neither), agrees()),
         ("answers_used_up", twice("ANSWER\n0\n"), trace(neither), agrees()),
         ("answers_7_and_0", twice("ANSWER\n7\n0\n"), trace("0 50\n1 5\n5 1\n"), agrees()),
-        ("two_turns", until_0("ANSWER\n7\n-1\n"), trace("0 50\n1 5\n0 50\n1 5\n0 50\n1 5\n2 1\n"), agrees()),
-        ("a_third_turn", until_0("ANSWER\n7\n-1\n"), trace("0 50\n1 5\n0 50\n1 5\n0 50\n1 5\n0 50\n"), differs(8)),
+        ("two_answers_of_three", thrice("ANSWER\n7\n-1\n"), trace("0 50\n1 5\n3 50\n4 5\n6 50\n7 5\n8 1\n"), agrees()),
+        ("a_third_answer", thrice("ANSWER\n7\n-1\n"), trace("0 50\n1 5\n3 50\n4 5\n6 50\n7 5\n9 1\n"), differs(8)),
     ]
 }
 
@@ -131,7 +132,7 @@ fn ends() -> Vec<Entry> {
     let push = || file(9, "PUSH", "1", "ACCU", "0", "0 PUSH -\n");
     let add = || file(9, "ADDINT STOP", "1 1", "ACCU", "0", "0 ADDINT -\n1 STOP -\n");
     let on_a_handle = || {
-        let code = "7 CONST1 -\n8 ACC0 -\n9 BRANCHIF 7\n10 STOP -\n";
+        let code = "7 CONST1 -\n8 ACC0 -\n9 BRANCHIF 10\n10 STOP -\n";
         file(9, "CONST1 ACC0 BRANCHIF STOP", "1 1 1 1", "ACCU S0", "0 #0", code).replacen("-\n-\nAT", "B0.0\n0\nAT", 1)
     };
     let pushed = |count: usize| trace((0..count).map(|i| format!("{i} 1\n")).collect::<String>());
@@ -155,34 +156,41 @@ fn ends() -> Vec<Entry> {
     ]
 }
 
-/// "A trace has at most 4,096 lines after its names line, else refusal 2 at the first line too many", and at most 131,072 bytes.
+/// "A trace has at most 4,096 lines after its names line, else refusal 2 at the first line too many", and at most 131,072 bytes. No run of
+/// code without jumps backwards makes more than 1,024 steps (change request 8).
 fn long() -> Vec<Entry> {
-    let for_ever = || file(1, "BRANCH", "3", "ACCU", "0", "0 BRANCH 0\n");
-    let turns = |count: usize, then: &str| trace("0 3\n".repeat(count) + then);
+    let straight = || {
+        let code: String = (0..CODE_LINES - 1).map(|i| format!("{i} CONST0 -\n")).collect();
+        file(1, "CONST0 STOP", "3 3", "ACCU", "0", &format!("{code}{} STOP -\n", CODE_LINES - 1))
+    };
+    let steps = |count: usize, then: &str| trace((0..count).map(|i| format!("{i} 3\n")).collect::<String>() + then);
     // a number that is spelt right and fills the trace
     let filled = |bytes: usize| trace(format!("0 1{}\n", "0".repeat(bytes - "AT CYCLES\n0 1\n".len())));
     let too_long = filled(TRACE_LIMIT + 1);
     let ends_early = [trace(STEPS), vec![b'\n'; TRACE_LIMIT]].concat();
     vec![
-        ("lines_4096", for_ever(), turns(TRACE_LINES, ""), agrees()),
-        ("lines_4096_a_cycle_more_in_the_last", for_ever(), turns(TRACE_LINES - 1, "0 4\n"), differs(4097)),
-        ("lines_4096_out_of_range_in_the_last", for_ever(), turns(TRACE_LINES - 1, "62001 3\n"), refused(3, 4097)),
-        ("lines_4096_ill_laid_in_the_last", for_ever(), turns(TRACE_LINES - 1, "0 3"), refused(2, 4097)),
+        ("lines_1024", straight(), steps(CODE_LINES, ""), agrees()),
+        ("lines_1024_a_cycle_more_in_the_last", straight(), steps(CODE_LINES - 1, "1023 4\n"), differs(1025)),
+        ("lines_1025", straight(), steps(CODE_LINES + 1, ""), differs(1026)),
+        ("lines_4096", straight(), steps(TRACE_LINES, ""), differs(1026)),
+        ("lines_4096_another_address_in_the_first", straight(), trace("1 3\n".repeat(TRACE_LINES)), differs(2)),
+        ("lines_4096_out_of_range_in_the_last", straight(), steps(TRACE_LINES - 1, "62001 3\n"), refused(3, 4097)),
+        ("lines_4096_ill_laid_in_the_last", straight(), steps(TRACE_LINES - 1, "0 3"), refused(2, 4097)),
         ("lines_4096_after_stop", jumps(), trace(STEPS.to_string() + &"4 0\n".repeat(TRACE_LINES - 3)), differs(5)),
-        ("lines_4097", for_ever(), turns(TRACE_LINES + 1, ""), refused(2, 4098)),
-        ("lines_4097_no_line_feed", for_ever(), turns(TRACE_LINES, "0"), refused(2, 4098)),
-        ("lines_4097_an_empty_one", for_ever(), turns(TRACE_LINES, "\n"), refused(2, 4098)),
-        ("lines_4097_that_differ", jumps(), turns(TRACE_LINES + 1, ""), refused(2, 4098)),
-        ("lines_5000", for_ever(), turns(5000, ""), refused(2, 4098)),
+        ("lines_4097", straight(), steps(TRACE_LINES + 1, ""), refused(2, 4098)),
+        ("lines_4097_no_line_feed", straight(), steps(TRACE_LINES, "0"), refused(2, 4098)),
+        ("lines_4097_an_empty_one", straight(), steps(TRACE_LINES, "\n"), refused(2, 4098)),
+        ("lines_4097_that_differ", jumps(), steps(TRACE_LINES + 1, ""), refused(2, 4098)),
+        ("lines_5000", straight(), steps(5000, ""), refused(2, 4098)),
         (
             "lines_4097_ill_laid_before",
-            for_ever(),
+            straight(),
             trace("0 3\n0\n".to_string() + &"0 3\n".repeat(4095)),
             refused(2, 3),
         ),
         (
             "lines_4097_out_of_range_before",
-            for_ever(),
+            straight(),
             trace("62001 3\n".to_string() + &"0 3\n".repeat(TRACE_LINES)),
             refused(2, 4098),
         ),
@@ -260,7 +268,7 @@ fn numbers() -> Vec<Entry> {
     ]
 }
 
-/// "These are checked after the routine file's refusals, 11 included"; 1, 2 and 3 of the trace in this order, each over all lines.
+/// "These are checked after the routine file's refusals, 11 included", and 13 before 11 (change request 8); 1, 2 and 3 of the trace in this order, each over all lines.
 fn order() -> Vec<Entry> {
     let of = |name, lines: &str, told| (name, jumps(), trace(lines), told);
     let too_long = || vec![b'A'; TRACE_LIMIT + 1];
@@ -282,6 +290,16 @@ fn order() -> Vec<Entry> {
         ("routine_5_then_range", change("CONST2", "CONST3"), trace("0 -1\n"), refused(5, 17)),
         ("routine_6_then_range", change("BRANCHIF 4", "BRANCHIF 5"), trace("62001 0\n"), refused(6, 16)),
         ("routine_6_then_differs", change("BRANCHIF 4", "BRANCHIF 5"), trace("9 9\n"), refused(6, 16)),
+        ("routine_13_then_length", change("BRANCHIF 4", "BRANCHIF 1"), too_long(), refused(13, 16)),
+        ("routine_13_then_layout", change("BRANCHIF 4", "BRANCHIF 0"), Vec::new(), refused(13, 16)),
+        ("routine_13_then_agrees", change("BRANCHIF 4", "BRANCHIF 1"), trace("0 50\n1 5\n"), refused(13, 16)),
+        ("routine_13_and_11", published().replacen("BRANCHIF 4", "BRANCHIF 0", 1), trace(STEPS), refused(13, 16)),
+        (
+            "routine_6_and_13",
+            change("BRANCHIF 4", "BRANCHIF 0").replacen("4 STOP -\n", "4 BRANCHIF 5\n", 1),
+            trace(STEPS),
+            refused(6, 19),
+        ),
         ("routine_11_then_length", published(), too_long(), refused(11, 11)),
         ("routine_11_then_layout", published(), Vec::new(), refused(11, 11)),
         ("routine_11_then_agrees", published(), trace(STEPS), refused(11, 11)),

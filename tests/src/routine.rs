@@ -1,4 +1,4 @@
-//! The routine file: its reader, with refusals 1 to 6 and 11.
+//! The routine file: its reader, with refusals 1 to 6, 13 and 11.
 use crate::machine::{Cell, Instruction, Operator, State, FIELDS};
 use crate::tagged::{is_number as in_range, HIGHEST, LOWEST};
 
@@ -419,7 +419,13 @@ fn prices_and_targets(file: &Layout) -> Result<(), Refusal> {
     Ok(())
 }
 
-/// Rows 1 to 6.
+/// Row 13: a branch to its own address or a lower one.
+fn jumps_backwards(file: &Layout) -> Result<(), Refusal> {
+    let back = |n: &usize| argument(file.line(*n)[1]) == Some(Target) && file.number(*n, 2) <= file.number(*n, 0);
+    file.code().find(back).map_or(Ok(()), |n| refused(13, n))
+}
+
+/// Rows 1 to 6 and 13.
 pub(crate) fn checked(text: &[u8]) -> Result<Layout<'_>, Refusal> {
     if text.len() > TEXT_LIMIT {
         return refused(1, 0);
@@ -428,6 +434,7 @@ pub(crate) fn checked(text: &[u8]) -> Result<Layout<'_>, Refusal> {
     ranges(&file)?;
     names(&file)?;
     prices_and_targets(&file)?;
+    jumps_backwards(&file)?;
     Ok(file)
 }
 

@@ -1,5 +1,5 @@
-//! Texts that the reader must tell apart: valid ones, and one with a fault for each sentence of document 01 and of change request 1 on
-//! the routine file; and routines in which a jump costs more. Each is a base with one change, and beside it stands the answer read from
+//! Texts that the reader must tell apart: valid ones, and one with a fault for each sentence of document 01 and of change requests 1 and 8
+//! on the routine file; and routines in which a jump costs more. Each is a base with one change, and beside it stands the answer read from
 //! these papers; a base may itself be a text with a fault.
 use crate::cases::published;
 use crate::change::Base::{File, Named};
@@ -11,7 +11,7 @@ use crate::routine::KINDS;
 use crate::tagged::LOWEST;
 
 /// How many there are.
-pub const TEXTS: usize = 314;
+pub const TEXTS: usize = 340;
 
 const PUBLISHED: Base = File(published);
 /// Two blocks, two primitives, answers, and numbers at the ends of their ranges; stuck at 60001, its second line.
@@ -46,7 +46,7 @@ AT OP ARG
 60001 ACC 63
 60002 BRANCHIFNOT 60005
 60003 OFFSETINT -1073741824
-60004 BRANCH 60001
+60004 BRANCH 60006
 60005 SETFIELD 15
 60006 C_CALL2 STOP
 60007 STOP -
@@ -196,6 +196,7 @@ pub fn texts() -> Vec<Text> {
             prices_and_targets(),
             extras(),
             taken_jumps(),
+            jumps_backwards(),
             unknowns(),
             rows_in_order(),
             lines_in_order(),
@@ -239,8 +240,8 @@ fn accepted() -> Vec<Entry> {
         (
             "first_address_60000",
             PUBLISHED,
-            lines(15, 19, "60000 STOP -\n60001 BRANCHIF 60000"),
-            [Report("1 0 1 1 1 -"), Refusal(11, 11)],
+            lines(15, 19, "60000 BRANCHIF 60001\n60001 STOP -"),
+            [Report("6 0 1 2 6 -"), Refusal(11, 11)],
         ),
         ("one_answer", PUBLISHED, append("ANSWER\n0\n"), [Report("65 4 1 6 65 N"), Refusal(11, 11)]),
         ("arguments_at_their_ends", ENDS, Nothing, refused(7, 0)),
@@ -563,7 +564,8 @@ fn taken_jumps() -> Vec<Entry> {
     let known = |accumulator: &str| word(11, 1, accumulator);
     let code = |code: &str| lines(15, 19, code);
     let unknown = |figures| [Report(figures), Refusal(11, 11)];
-    let down_from_3 = "3\n-\n-\nAT OP ARG\n0 OFFSETINT -1\n1 BRANCHIF 0\n2 STOP -";
+    let three =
+        "1\n-\n-\nAT OP ARG\n0 BRANCHIF 2\n1 STOP -\n2 BRANCHIF 3\n3 OFFSETINT -1\n4 BRANCHIF 6\n5 STOP -\n6 STOP -";
     vec![
         // N costs 5 + 1, T 2 + 1 + 3 + 1
         ("both_jump", BRANCHES, Nothing, unknown("8 2 0 6 8 TT")),
@@ -606,16 +608,39 @@ fn taken_jumps() -> Vec<Entry> {
             lines(11, 19, "0\n-\n-\nAT OP ARG\n0 BRANCH 2\n1 STOP -\n2 STOP -"),
             [Report("2 0 0 2 2 -"), Report("2 0 0 2")],
         ),
-        // three turns, of which two jump back
-        ("two_jumps_of_three", BRANCHES, lines(11, 19, down_from_3), [Report("23 6 0 7 23 -"), Report("23 6 0 7")]),
+        // three branches, of which two jump
+        ("two_jumps_of_three", BRANCHES, lines(11, 19, three), [Report("13 6 0 5 13 -"), Report("13 6 0 5")]),
         (
             "two_jumps_of_65535",
             Named("two_jumps_of_three"),
             word(6, 1, "65535"),
-            [Report("131089 6 0 7 131089 -"), Report("131089 6 0 7")],
+            [Report("131079 6 0 5 131079 -"), Report("131079 6 0 5")],
         ),
         ("jump_over_a_line", BRANCHES, code("0 BRANCHIF 2\n1 STOP -\n2 STOP -"), unknown("4 2 0 3 4 T")),
         ("no_jump_over_a_line", Named("jump_over_a_line"), known("0"), [Report("2 2 0 2 2 -"), Report("2 2 0 2")]),
+    ]
+}
+
+/// Change request 8: "A branch to its own address or a lower one is refused, even where known numbers would end the loop."
+fn jumps_backwards() -> Vec<Entry> {
+    vec![
+        ("branchif_2_at_1", PUBLISHED, word(16, 3, "2"), [Report("65 4 1 8 65 T"), Refusal(11, 11)]),
+        ("branchif_1_at_1", PUBLISHED, word(16, 3, "1"), refused(13, 16)),
+        ("branchif_0_at_1", PUBLISHED, word(16, 3, "0"), refused(13, 16)),
+        ("branchifnot_1_at_1", PUBLISHED_NOT, word(16, 3, "1"), refused(13, 16)),
+        ("branchifnot_0_at_1", PUBLISHED_NOT, word(16, 3, "0"), refused(13, 16)),
+        ("branch_1_at_1", PUBLISHED_BRANCH, word(16, 3, "1"), refused(13, 16)),
+        ("branch_0_at_1", PUBLISHED_BRANCH, word(16, 3, "0"), refused(13, 16)),
+        ("branchif_1_at_1_all_known", Named("branchif_1_at_1"), word(11, 2, "0"), refused(13, 16)),
+        ("backwards_and_not_reached", PUBLISHED, append("5 BRANCHIF 4\n"), refused(13, 20)),
+        ("its_own_address_and_not_reached", PUBLISHED, append("5 BRANCHIF 5\n"), refused(13, 20)),
+        ("backwards_before_answers", PUBLISHED, append("5 BRANCHIF 0\nANSWER\n7\n"), refused(13, 20)),
+        ("branch_60005_at_60004", LARGER, word(19, 3, "60005"), refused(7, 60001)),
+        ("branch_60004_at_60004", LARGER, word(19, 3, "60004"), refused(13, 19)),
+        ("branch_60000_at_60004", LARGER, word(19, 3, "60000"), refused(13, 19)),
+        ("branchifnot_60003_at_60002", LARGER, word(17, 3, "60003"), refused(7, 60001)),
+        ("branchifnot_60002_at_60002", LARGER, word(17, 3, "60002"), refused(13, 17)),
+        ("a_number_below_the_address", LARGER, line(15, "60000 OFFSETINT 5"), refused(7, 60001)),
     ]
 }
 
@@ -655,6 +680,13 @@ fn rows_in_order() -> Vec<Entry> {
         ("target_then_price", Named("target_5"), word(18, 2, "SUBINT"), refused(5, 18)),
         ("unknown_then_price", Named("unknown_first_field"), word(22, 2, "NEGINT"), refused(5, 22)),
         ("unknown_then_target", Named("unknown_first_cell"), word(19, 3, "0"), refused(6, 19)),
+        ("backwards_then_range", Named("branchif_0_at_1"), line(18, "3 CONSTINT 2147483648"), refused(3, 18)),
+        ("backwards_then_name", Named("branchif_1_at_1"), word(19, 1, "5"), refused(4, 19)),
+        ("backwards_then_price", Named("branchif_1_at_1"), word(18, 2, "SUBINT"), refused(5, 18)),
+        ("backwards_then_target", Named("branchifnot_60002_at_60002"), word(19, 3, "60008"), refused(6, 19)),
+        ("target_then_backwards", Named("branch_60000_at_60004"), word(17, 3, "62000"), refused(6, 17)),
+        ("unknown_then_backwards", Named("unknown_first_cell"), word(19, 3, "60001"), refused(13, 19)),
+        ("unknown_field_then_backwards", Named("unknown_last_field"), word(17, 3, "60000"), refused(13, 17)),
     ]
 }
 
@@ -669,6 +701,7 @@ fn lines_in_order() -> Vec<Entry> {
         ("handle_before_a_name", Named("block_left_out"), line(11, "#1 7 0"), refused(4, 11)),
         ("two_unpriced", PUBLISHED, lines(17, 18, "2 CONST3 -\n3 SUBINT -"), refused(5, 17)),
         ("two_targets", Named("target_0"), word(17, 3, "0"), refused(6, 17)),
+        ("two_backwards", Named("branch_60004_at_60004"), word(17, 3, "60001"), refused(13, 17)),
     ]
 }
 
@@ -679,6 +712,7 @@ fn one_line() -> Vec<Entry> {
         ("out_of_range_and_unknown_op", PUBLISHED, line(19, "62001 CONST4 -"), refused(3, 19)),
         ("not_following_and_out_of_range", PUBLISHED, line(19, "5 POP 65"), refused(3, 19)),
         ("not_following_and_unpriced", PUBLISHED, line(19, "5 PUSH -"), refused(4, 19)),
+        ("unpriced_and_backwards", LARGER, line(19, "60004 BRANCHIF 60000"), refused(5, 19)),
         ("unpriced_and_no_target", LARGER, line(19, "60004 BRANCHIF 0"), refused(5, 19)),
         ("unknown_and_absent", LARGER, line(11, "? 7 #2"), refused(4, 11)),
     ]

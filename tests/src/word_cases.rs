@@ -8,7 +8,7 @@ use crate::word_draft::Import;
 use crate::words::{bytes, MEMORY};
 
 /// How many imports and how many exports there are.
-pub const CASES: [usize; 2] = [124, 13];
+pub const CASES: [usize; 2] = [124, 15];
 
 /// A name that says what is tried, what is read, the memory lent, and what is told.
 pub struct Case<T> {
@@ -24,7 +24,7 @@ type ImportEntry = (&'static str, Vec<u8>, &'static str, Answer);
 #[rustfmt::skip]
 const ALL_KINDS: [i32; 78] = [
     0, 1, 2, 3, 4, 5, 6, 7, 8, 5, 9, 10, 11, 12, 13, 14, 15, 16, 17, 18, 63, 19, 64, 20, 0,
-    67, 68, 69, 70, 71, 15, 73, 74, 75, 76, 77, 4, 84, 39, 85, -40, 86, -1, 88,
+    67, 68, 69, 70, 71, 15, 73, 74, 75, 76, 77, 4, 84, 39, 85, 37, 86, 1, 88,
     93, 0, 94, 1, 95, 0, 96, 1, 97, 0, 99, 100, 101, 102, 103, -1073741824, 104, 105, 106, 107, 108, 1073741823,
     109, 110, 111, 121, 122, 123, 124, 125, 126, 127, -1, 143,
 ];
@@ -62,8 +62,8 @@ const ALL_KINDS_LINES: &str = "\
 29 SETFIELD3 -
 30 SETFIELD 4
 31 BRANCH 60
-32 BRANCHIF 0
-33 BRANCHIFNOT 33
+32 BRANCHIF 60
+33 BRANCHIFNOT 34
 34 BOOLNOT -
 35 C_CALL1 READ
 36 C_CALL2 STOP
@@ -343,7 +343,7 @@ fn file(primitives: &str, code: &str) -> String {
     format!("BUDGET TICK\n9 9\n{prices}\n{primitives}\n{values}\n{values}\nACCU\n?\n-\n-\nAT OP ARG\n{code}")
 }
 
-/// "An export then has the file's refusals 1 to 6"; those of the texts are compared beside these.
+/// "An export then has the file's refusals 1 to 6", and 13 after them (change request 8); those of the texts are compared beside these.
 pub fn exports() -> Vec<Case<Vec<u8>>> {
     let most = CODE_LINES;
     let entries: Vec<ExportEntry> = vec![
@@ -356,11 +356,13 @@ pub fn exports() -> Vec<Case<Vec<u8>>> {
         (
             "larger_file_from_60000_on",
             LARGER_FILE.to_string(),
-            words(&[9, 8, 63, 86, 5, 127, LOWEST, 84, -7, 77, 15, 94, 1, 143]),
+            words(&[9, 8, 63, 86, 5, 127, LOWEST, 84, 3, 77, 15, 94, 1, 143]),
         ),
         ("all_61_kinds", file("READ STOP", ALL_KINDS_LINES), words(&ALL_KINDS)),
         ("stuck", file("-", "0 PUSH -\n"), words(&[9])),
-        ("for_ever", file("-", "60000 BRANCH 60000\n"), words(&[84, -1])),
+        ("to_the_next", file("-", "60000 BRANCH 60001\n60001 STOP -\n"), words(&[84, 1, 143])),
+        ("to_itself", file("-", "60000 BRANCH 60000\n"), refused(13, 15)),
+        ("backward", file("-", "7 CONST0 -\n8 BRANCHIF 7\n9 STOP -\n"), refused(13, 16)),
         ("place_31", file(NAMES_32, "7 C_CALL4 A6\n8 C_CALL1 A\n"), words(&[96, PRIMITIVES as i32 - 1, 93, 0])),
         ("with_answers", file("-", "0 STOP -\nANSWER\n99\n"), words(&[143])),
         ("lines_1024", file("-", &numbered("ACC 63", most)), Ok(repeated(&[], &[8, 63], most, &[]))),

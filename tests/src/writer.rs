@@ -30,9 +30,11 @@ pub struct Writer<'a> {
     pub shapes: Shapes,
     /// entries under this height are not popped
     pub base: usize,
-    /// in a loop no shape under the base may change
+    /// in a loop, or in turns that may end early, no shape under the base may change
     pub in_loop: bool,
-    /// counters of loops, by their height
+    /// whether loops jump back; else their turns stand one after the other
+    pub loops: bool,
+    /// counters of turns, by their height
     pub counters: Vec<usize>,
     pub primitives: usize,
     /// branches to the last line, which is STOP
@@ -327,19 +329,26 @@ impl Writer<'_> {
         let base = std::mem::replace(&mut self.base, counter + 1);
         let in_loop = std::mem::replace(&mut self.in_loop, true);
         let top = self.code.len();
-        self.statements(nested + 1);
-        self.level(counter + 1);
-        if self.random.one_in(12) {
-            // as often as an unknown says
-            self.condition();
-        } else {
-            self.emit("ACC0", Arg::Nothing);
-            self.emit("OFFSETINT", Arg::Number(-1));
-            self.emit("ASSIGN", Arg::Number(0));
-            self.emit("ACC0", Arg::Nothing);
+        let mut ends = Vec::new();
+        for _ in 0..if self.loops { 1 } else { times } {
+            self.statements(nested + 1);
+            self.level(counter + 1);
+            if self.random.one_in(12) {
+                // as often as an unknown says
+                self.condition();
+            } else {
+                self.emit("ACC0", Arg::Nothing);
+                self.emit("OFFSETINT", Arg::Number(-1));
+                self.emit("ASSIGN", Arg::Number(0));
+                self.emit("ACC0", Arg::Nothing);
+            }
+            ends.push(self.code.len());
+            self.emit(if self.loops { "BRANCHIF" } else { "BRANCHIFNOT" }, Arg::Line(top));
+            self.shapes.accumulator = Shape::Number;
         }
-        self.emit("BRANCHIF", Arg::Line(top));
-        self.shapes.accumulator = Shape::Number;
+        if !self.loops {
+            ends.into_iter().for_each(|end| self.here(end));
+        }
         self.counters.pop();
         self.base = base;
         self.in_loop = in_loop;
@@ -354,7 +363,8 @@ impl Writer<'_> {
                 Arg::Number(low + self.random.below((high - low) as usize + 1) as i64)
             }
             Argument::Number(..) => Arg::Number(self.random.number() as i64),
-            Argument::Target => Arg::Line(self.random.below(self.code.len() + 1)),
+            Argument::Target if self.random.one_in(6) => Arg::Line(self.random.below(self.code.len() + 1)),
+            Argument::Target => Arg::Line(self.code.len() + self.random.within(1, 5)),
             Argument::Primitive if self.primitives == 0 => return,
             Argument::Primitive => Arg::Primitive(self.random.below(self.primitives)),
         };
