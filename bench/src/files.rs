@@ -31,10 +31,10 @@ fn blocks(fields: usize) -> Vec<Vec<String>> {
     vec![vec!["7".to_string(); fields]; 8]
 }
 
-/// A loop with every operation and no unknown branch: all of BUDGET in steps, the last of them STOP.
-pub fn straight_path() -> Vec<u8> {
+/// Every operation and no unknown branch, from a line on: 43 steps of 44 lines, which leave the stack as it was.
+fn turn(from: usize) -> Code {
     use Arg::{Line, Nothing, Number, Primitive};
-    let turn: Code = vec![
+    vec![
         ("ACC0", Nothing),
         ("OFFSETINT", Number(-1)),
         ("ASSIGN", Number(0)),
@@ -72,41 +72,62 @@ pub fn straight_path() -> Vec<u8> {
         ("C_CALL2", Primitive(0)),
         ("OFFSETINT", Number(4)),
         ("CONST0", Nothing),
-        ("BRANCHIF", Line(0)),
+        ("BRANCHIF", Line(from + 41)),
         ("BOOLNOT", Nothing),
-        ("BRANCHIFNOT", Line(0)),
-        ("BRANCH", Line(42)),
+        ("BRANCHIFNOT", Line(from + 41)),
+        ("BRANCH", Line(from + 42)),
         // passed over
         ("STOP", Nothing),
         ("ACC0", Nothing),
-        ("BRANCHIF", Line(0)),
-    ];
-    let steps = turn.len() - 1;
-    let (turns, rest) = ((BUDGET - 1) / steps, (BUDGET - 1) % steps);
-    let mut code = turn;
-    code.extend(repeat_n(("CONST0", Nothing), rest));
-    code.push(("STOP", Nothing));
-    draft(&["0", &turns.to_string(), "#0"], blocks(4), code).text().into_bytes()
+        ("BRANCHIF", Line(from + 44)),
+    ]
 }
 
-/// The routine file of that loop, made once.
-pub fn looping() -> &'static [u8] {
+/// So many openings, each to the next line, then so many turns and lines of CONST0, and STOP.
+fn straight(openings: usize, turns: usize, rest: usize) -> Vec<u8> {
+    let mut code = openings_to_the_next(openings);
+    for _ in 0..turns {
+        code.extend(turn(code.len()));
+    }
+    code.extend(repeat_n(("CONST0", Arg::Nothing), rest));
+    code.push(("STOP", Arg::Nothing));
+    draft(&["0", "1000", "#0"], blocks(4), code).text().into_bytes()
+}
+
+/// As long a path as code can have: 1,024 lines.
+pub fn straight_path() -> Vec<u8> {
+    straight(0, 23, 11)
+}
+
+/// 1,024 paths of 974 steps behind 10 openings: nearly all of BUDGET in steps.
+pub fn long_paths() -> Vec<u8> {
+    straight(10, 22, 27)
+}
+
+/// The routine file of the straight path, made once.
+pub fn straight_file() -> &'static [u8] {
     static TEXT: OnceLock<Vec<u8>> = OnceLock::new();
     TEXT.get_or_init(straight_path)
 }
 
-/// The trace of that loop, with a step for each 8 bytes of these: 4,096 of 32,768.
+/// The trace of that path, with a step for each 32 bytes of these: all 1,001 of 32,768.
 pub fn trace(bytes: usize) -> Vec<u8> {
-    trace_draft::text(&walk(&read(looping(), true).unwrap(), bytes / 8).steps)
+    trace_draft::text(&walk(&read(straight_file(), true).unwrap(), bytes / 32).steps)
+}
+
+/// Unknown branches to the next line.
+fn openings_to_the_next(count: usize) -> Code {
+    let mut code: Code = Vec::new();
+    for _ in 0..count {
+        code.push(("C_CALL1", Arg::Primitive(0)));
+        code.push(("BRANCHIF", Arg::Line(code.len() + 1)));
+    }
+    code
 }
 
 /// 18 openings on each path, then STOP: all 2^18 paths. The wide one has 32 entries and 128 fields.
 pub fn tree(wide: bool) -> Vec<u8> {
-    let mut code: Code = Vec::new();
-    for _ in 0..18 {
-        code.push(("C_CALL1", Arg::Primitive(0)));
-        code.push(("BRANCHIF", Arg::Line(code.len() + 1)));
-    }
+    let mut code = openings_to_the_next(18);
     code.push(("STOP", Arg::Nothing));
     let draft = if wide { draft(&["0"; 33], blocks(16), code) } else { draft(&["0"], Vec::new(), code) };
     draft.text().into_bytes()
@@ -150,13 +171,13 @@ pub fn long_calls(bytes: usize) -> Vec<u8> {
     Draft { primitives: primitives(), ..draft(&["0"], Vec::new(), code) }.text().into_bytes()
 }
 
-/// Instructions of all kinds in turn, one for each 32 bytes, with targets all over the code and 32 primitives.
+/// Instructions of all kinds in turn, one for each 32 bytes, with targets all over the code behind them and 32 primitives.
 pub fn instructions(bytes: usize) -> Vec<u8> {
     let count = bytes / 32;
     let arg = |i: usize| match KINDS[i % KINDS.len()].1 {
         Argument::Nothing => Arg::Nothing,
         Argument::Number(low, high) => Arg::Number(if i % 2 == 0 { low } else { high }),
-        Argument::Target => Arg::Line(i * 389 % count),
+        Argument::Target => Arg::Line(i + 1 + i * 389 % (count - 1 - i)),
         Argument::Primitive => Arg::Primitive(i % 32),
     };
     let code = (0..count).map(|i| (KINDS[i % KINDS.len()].0, arg(i))).collect();
@@ -168,10 +189,12 @@ pub fn words(bytes: usize) -> Vec<u8> {
     export_answer(&instructions(bytes), MEMORY).unwrap()
 }
 
-/// Branches to the last line, one for each 32 bytes.
+/// Branches to the last line, which is STOP, one for each 32 bytes.
 pub fn branches(bytes: usize) -> Vec<u8> {
-    let count = bytes / 32;
-    draft(&["0"], Vec::new(), vec![("BRANCHIFNOT", Arg::Line(count - 1)); count]).text().into_bytes()
+    let last = bytes / 32 - 1;
+    let mut code: Code = vec![("BRANCHIFNOT", Arg::Line(last)); last];
+    code.push(("STOP", Arg::Nothing));
+    draft(&["0"], Vec::new(), code).text().into_bytes()
 }
 
 /// The words of these branches.

@@ -30,10 +30,10 @@ const IMPORT: Pair = Pair {
     lent: words::MEMORY,
 };
 const EXPORT: Pair = Pair { proved: analyser::export, independent: export_answer, lent: words::MEMORY };
-/// Of a trace, against the file of the loop.
+/// Of a trace, against the file of the straight path.
 const REPLAY: Pair = Pair {
-    proved: |trace, report| analyser::replay(files::looping(), trace, report),
-    independent: |trace, lent| replay_answer(files::looping(), trace, lent),
+    proved: |trace, report| analyser::replay(files::straight_file(), trace, report),
+    independent: |trace, lent| replay_answer(files::straight_file(), trace, lent),
     lent: MEMORY,
 };
 
@@ -125,12 +125,13 @@ fn main() {
         ("1,024 lines that call the last of 32 primitives", files::long_calls, BOUND),
         ("the import of 1,024 instructions", files::words, IMPORT),
         ("the export of 1,024 instructions", files::instructions, EXPORT),
-        ("the import of 1,024 branches to the last", files::branch_words, IMPORT),
-        ("the export of 1,024 branches to the last", files::branches, EXPORT),
-        ("the replay of 4,096 lines", files::trace, REPLAY),
+        ("the import of 1,023 branches to the last", files::branch_words, IMPORT),
+        ("the export of 1,023 branches to the last", files::branches, EXPORT),
+        ("the replay of a straight path", files::trace, REPLAY),
     ];
     let mut explored = vec![
-        Measured::new("a straight path of 1,000,000 steps", files::straight_path(), BOUND),
+        Measured::new("1,024 paths of 974 steps, 10 openings on each", files::long_paths(), BOUND),
+        Measured::new("a straight path of 1,024 lines", files::straight_path(), BOUND),
         Measured::new("the run of that path", files::straight_path(), RUN),
         Measured::new("a full tree of 18 openings, narrow", files::tree(false), BOUND),
         Measured::new("a full tree of 18 openings, wide", files::tree(true), BOUND),
@@ -138,7 +139,7 @@ fn main() {
         Measured::new("a file of 32,768 bytes", files::long_code(TEXT_LIMIT), BOUND),
         Measured::new("the import of 1,024 instructions", files::words(TEXT_LIMIT), IMPORT),
         Measured::new("the export of 1,024 instructions", files::instructions(TEXT_LIMIT), EXPORT),
-        Measured::new("the replay of 4,096 lines", files::trace(TEXT_LIMIT), REPLAY),
+        Measured::new("the replay of that path", files::trace(TEXT_LIMIT), REPLAY),
     ];
     let of_length = |bytes| scanned.map(|(name, text, pair)| Measured::new(name, text(bytes), pair));
     let (mut whole, mut half) = (of_length(TEXT_LIMIT), of_length(TEXT_LIMIT / 2));
