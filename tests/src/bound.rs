@@ -1,6 +1,6 @@
 //! The bound: the tree of steps explored, with refusals 7, 8 and 9.
-use crate::machine::{Cell, Handles, Next, State, Wrap};
-use crate::routine::{refused, Refusal, Routine};
+use crate::machine::{Cell, Handles, Next, State};
+use crate::routine::{refused, Line, Refusal, Routine};
 
 pub const OPENINGS: u32 = 32;
 
@@ -22,15 +22,15 @@ pub struct Figures {
 }
 
 /// What is noted of a step in the bound.
-pub enum Event {
+pub enum Event<'a> {
+    /// a step is about to be made
+    Steps { state: &'a State, line: &'a Line },
     /// a conditional branch jumps on a known condition
     Jumped { extra: u64 },
     /// it opens two ways on an unknown one, with the cycles of both, the extra not counted
     Opened { at: u32, extra: u64, not_taken: u64, taken: u64 },
     /// an operation on two cells meets a handle
     Met { handles: Handles, stuck: bool },
-    /// an operation wraps
-    Wrapped(Wrap),
 }
 
 struct Explorer<'a, F> {
@@ -45,7 +45,7 @@ pub fn bound(routine: &Routine, state: State) -> Result<Figures, Refusal> {
 }
 
 /// The bound, and how many steps were looked at, also where it is refused; `note` is told of each event.
-pub fn explored(routine: &Routine, state: State, note: impl FnMut(Event)) -> (Result<Figures, Refusal>, u64) {
+pub fn explored(routine: &Routine, state: State, note: impl FnMut(Event<'_>)) -> (Result<Figures, Refusal>, u64) {
     let mut explorer = Explorer { routine, steps: 0, note };
     let mut answer = explorer.walk(state, OPENINGS);
     if let Ok(figures) = &mut answer {
@@ -54,7 +54,7 @@ pub fn explored(routine: &Routine, state: State, note: impl FnMut(Event)) -> (Re
     (answer, explorer.steps)
 }
 
-impl<F: FnMut(Event)> Explorer<'_, F> {
+impl<F: FnMut(Event<'_>)> Explorer<'_, F> {
     fn walk(&mut self, mut state: State, openings: u32) -> Result<Figures, Refusal> {
         let (mut cycles, mut words, mut depth) = (0, 0, state.height);
         loop {
@@ -68,10 +68,8 @@ impl<F: FnMut(Event)> Explorer<'_, F> {
             };
             cycles += line.cycles;
             words += line.words;
+            (self.note)(Event::Steps { state: &state, line });
             let handles = state.handles(line);
-            if let Some(wrap) = state.wraps(line) {
-                (self.note)(Event::Wrapped(wrap));
-            }
             let next = state.step(line, || Cell::Unknown);
             if let Some(handles) = handles {
                 (self.note)(Event::Met { handles, stuck: next.is_none() });

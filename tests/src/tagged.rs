@@ -47,10 +47,6 @@ impl Tagged {
     }
 
     pub fn of_truth(truth: bool) -> Tagged {
-        if truth {
-            Tagged::of(1)
-        } else {
-            Tagged::of(0)
-        }
+        Tagged::of(truth as i32)
     }
 }

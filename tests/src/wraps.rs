@@ -4,6 +4,7 @@ use independent::machine::Wrap;
 use independent::report::Answer;
 use independent::routine::{line, read};
 use independent::run::Run;
+use independent::tagged::{HIGHEST, LOWEST};
 
 const OPERATIONS: [(Wrap, &str); 5] = [
     (Wrap::Add, "ADDINT that wraps"),
@@ -31,6 +32,10 @@ pub struct Wraps {
     places: [u64; 4],
 }
 
+fn place_of(wrap: Wrap) -> usize {
+    OPERATIONS.iter().position(|o| o.0 == wrap).unwrap()
+}
+
 /// Whether the run of a file has an operation that wraps.
 fn run_wraps(text: &[u8]) -> bool {
     let routine = read(text, true).unwrap();
@@ -50,8 +55,8 @@ impl Wraps {
             let routine = read(text, false).unwrap();
             let mut met = [false; 5];
             let _ = explored(&routine, routine.start.clone(), |event| {
-                if let Event::Wrapped(wrap) = event {
-                    met[OPERATIONS.iter().position(|o| o.0 == wrap).unwrap()] = true;
+                if let Event::Steps { state, line } = event {
+                    state.wraps(line).into_iter().for_each(|wrap| met[place_of(wrap)] = true);
                 }
             });
             (0..5).for_each(|i| self.operations[i] += met[i] as u64);
@@ -61,7 +66,8 @@ impl Wraps {
             let lines: Vec<&[u8]> = text.split(|b| *b == b'\n').collect();
             let n = refusal.place as usize;
             let words: Vec<&[u8]> = lines[n - 1].split(|b| *b == b' ').collect();
-            if words.iter().any(|w| [&b"1073741824"[..], b"-1073741825"].contains(w)) {
+            let outside = [HIGHEST as i64 + 1, LOWEST as i64 - 1].map(|number| number.to_string());
+            if words.iter().any(|w| outside.iter().any(|number| number.as_bytes() == *w)) {
                 let place = match n {
                     line::CELLS => Some(0),
                     line::FIELDS => Some(1),
