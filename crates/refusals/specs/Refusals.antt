@@ -1,7 +1,7 @@
 -- The refusal table of document 01, and the new numbers of document 02: the number and the place of each refusal.
 use Prim.Native.Nat.{ℕ}
 use Rattle.refusals.specs.declared.Refusal.{Refusal}
-use Rattle.refusals.specs.declared.Refusal.the-variants.{ReportMemory, TextLength, Layout, OutOfRange, BadName, Unpriced, NoTarget, Backward, UnknownCell, Stuck, Openings, Spent, BadWord}
+use Rattle.refusals.specs.declared.Refusal.the-variants.{ReportMemory, TextLength, Layout, OutOfRange, BadName, Unpriced, NoTarget, Backward, UnknownCell, Stuck, Openings, Spent, BadWord, NoMeeting}
 
 -- column "No."
 unfoldable pub number : Refusal → ℕ
@@ -18,6 +18,7 @@ number (Stuck address) = 7
 number (Openings address) = 8
 number (Spent address) = 9
 number (BadWord index) = 12
+number (NoMeeting address) = 14
 
 -- column "Place"
 unfoldable pub place : Refusal → ℕ
@@ -34,3 +35,4 @@ place (Stuck address) = address
 place (Openings address) = address
 place (Spent address) = address
 place (BadWord index) = index
+place (NoMeeting address) = address

@@ -17,6 +17,7 @@ pub enum Refusal {
     Openings(usize),
     Spent(usize),
     BadWord(usize),
+    NoMeeting(usize),
 }
 
 // How a check of a text, a bound or a run ends.
@@ -43,6 +44,7 @@ pub fn number(refusal: Refusal) -> u64
         Refusal::Openings(_) => 8,
         Refusal::Spent(_) => 9,
         Refusal::BadWord(_) => 12,
+        Refusal::NoMeeting(_) => 14,
     }
 }
 
@@ -64,5 +66,6 @@ pub fn place(refusal: Refusal) -> u64
         Refusal::Openings(address) => address as u64,
         Refusal::Spent(address) => address as u64,
         Refusal::BadWord(index) => index as u64,
+        Refusal::NoMeeting(address) => address as u64,
     }
 }

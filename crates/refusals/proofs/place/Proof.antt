@@ -64,6 +64,9 @@ enum-known-refusal-10 c = search needs
 enum-known-refusal-11 : tie.Need-enum-known-refusal-11
 enum-known-refusal-11 c = search needs
 
+enum-known-refusal-12 : tie.Need-enum-known-refusal-12
+enum-known-refusal-12 c = search needs
+
 returns : tie.Need-returns
 unfolding place
 returns c = search needs
@@ -116,6 +119,10 @@ returns-13 : tie.Need-returns-13
 unfolding place
 returns-13 c = search needs
 
+returns-14 : tie.Need-returns-14
+unfolding place
+returns-14 c = search needs
+
 pub place-spec : {M : Type 1} → statement M
 place-spec =
     tie.close
@@ -140,6 +147,7 @@ place-spec =
     enum-known-refusal-9
     enum-known-refusal-10
     enum-known-refusal-11
+    enum-known-refusal-12
     returns
     returns-2
     returns-3
@@ -152,4 +160,5 @@ place-spec =
     returns-10
     returns-11
     returns-12
-    returns-13)
+    returns-13
+    returns-14)
