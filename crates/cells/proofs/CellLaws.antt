@@ -27,11 +27,11 @@ pub record Lawful (R : Cell → Cell → Type 0) (two : Type 0) : Type 0 where
 
 pub refines-trans : {a b c : Cell} → Refines a b → Refines b c → Refines a c
 refines-trans same q = q
-refines-trans (erased h) same = erased h
+refines-trans erased same = erased
 
 pub allowed-refines : {a b : Cell} → Allowed a b → Refines a b
 allowed-refines known = same
-allowed-refines (some-number h) = erased h
+allowed-refines (some-number h) = erased
 allowed-refines same-handle = same
 
 -- an allowed cell allows itself: it is plain
@@ -43,15 +43,12 @@ allowed-plain same-handle = same-handle
 pub number-allowed : (n : ℤ) → Allowed (number n) unknown
 number-allowed n = some-number (wrap-number n)
 
-wrapped : (n : ℤ) → Refines (number n) unknown
-wrapped n = erased (wrap-number n)
-
 -- the operations
 
 map₁-refines : (f : ℤ → ℤ) {a a′ : Cell} → Refines a a′ → Covered Refines (map₁ f (a .value)) (map₁ f (a′ .value))
 unfolding map₁
 map₁-refines f same = covered-self (λ c. same) _
-map₁-refines f (erased {n} h) = both (wrapped (f n))
+map₁-refines f erased = both erased
 
 map₁-allowed : (f : ℤ → ℤ) {a a′ : Cell} → Allowed a a′ → Covered Allowed (map₁ f (a .value)) (map₁ f (a′ .value))
 unfolding map₁
@@ -62,22 +59,22 @@ map₁-allowed f same-handle = by-stuck
 -- with one operand erased
 map₂-left : (b : Binary) (m : ℤ) (w : Value) → Covered Refines (map₂ b (Number m) w) (map₂ b Unknown w)
 unfolding map₂
-map₂-left b m (Number n) = both (wrapped (calculate₂ b m n))
+map₂-left b m (Number n) = both erased
 map₂-left b m Unknown = both same
 map₂-left b m (Handle k) = by-stuck
 
 map₂-right : (b : Binary) (v : Value) (n : ℤ) → Covered Refines (map₂ b v (Number n)) (map₂ b v Unknown)
 unfolding map₂
-map₂-right b (Number m) n = both (wrapped (calculate₂ b m n))
+map₂-right b (Number m) n = both erased
 map₂-right b Unknown n = both same
 map₂-right b (Handle k) n = by-stuck
 
 map₂-refines : (b : Binary) {a c a′ c′ : Cell} → Refines a a′ → Refines c c′ → Covered Refines (map₂ b (a .value) (c .value)) (map₂ b (a′ .value) (c′ .value))
 unfolding map₂
 map₂-refines b same same = covered-self (λ c. same) _
-map₂-refines b (same {a}) (erased {n} h) = map₂-right b (a .value) n
-map₂-refines b (erased {n} h) (same {a}) = map₂-left b n (a .value)
-map₂-refines b (erased {n = m} h) (erased {n} k) = both (wrapped (calculate₂ b m n))
+map₂-refines b (same {a}) (erased {n}) = map₂-right b (a .value) n
+map₂-refines b (erased {n}) (same {a}) = map₂-left b n (a .value)
+map₂-refines b erased erased = both erased
 
 -- what two handles give is plain
 handles-allowed : (b : Binary) (j k : ℕ) → Covered Allowed (combineHandles b j k) (combineHandles b j k)
@@ -126,7 +123,7 @@ condition-self (Handle k) = by-stuck
 condition-refines : {a a′ : Cell} → Refines a a′ → Covered (Narrower (Unit {0})) (condition a) (condition a′)
 unfolding condition
 condition-refines (same {a}) = condition-self (a .value)
-condition-refines (erased {n} h) = condition-erased n
+condition-refines (erased {n}) = condition-erased n
 
 condition-allowed : {a a′ : Cell} → Allowed a a′ → Covered (Narrower ⊥) (condition a) (condition a′)
 unfolding condition conditionIn
@@ -137,7 +134,7 @@ condition-allowed same-handle = by-stuck
 block-refines : {a a′ : Cell} → Refines a a′ → Covered _≡_ (block a) (block a′)
 unfolding block handled
 block-refines same = covered-self (λ k. refl) _
-block-refines (erased h) = by-stuck
+block-refines erased = by-stuck
 
 pub refines-lawful : Lawful Refines (Unit {0})
 unfolding operate₁ operate₂

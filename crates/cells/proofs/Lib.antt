@@ -1,3 +1,4 @@
 pub mod Covering
 pub mod CellLaws
+pub mod MergeLaws
 pub mod AnswerLaws

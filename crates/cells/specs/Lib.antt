@@ -2,3 +2,4 @@ pub mod Try
 pub mod Cells
 pub mod Answers
 pub mod Order
+pub mod Merge

@@ -10,7 +10,7 @@ use Rattle.cells.specs.Cells.{cell, unknown, handle}
 -- Erasure (Definition 3 of document 000, from right to left): b is a, or unknown where a is a number
 pub data Refines : Cell → Cell → Type 0 where
   same : {a : Cell} → Refines a a
-  erased : {n : ℤ} → IsNumber n → Refines (cell (Number n)) unknown
+  erased : {n : ℤ} → Refines (cell (Number n)) unknown
 
 -- a plain cell, and b allows it: "a known number or a handle is the same in it, and a `?` is some number";
 -- "An unknown stands for any number and never for a handle."
