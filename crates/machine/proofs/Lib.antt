@@ -9,4 +9,5 @@ pub mod LeadLaws
 pub mod HeightLaws
 pub mod AddressLaws
 pub mod ForwardLaws
+pub mod TargetLaws
 pub mod ApartLaws

@@ -2,3 +2,4 @@ pub mod Lists
 pub mod Machine
 pub mod Order
 pub mod Forward
+pub mod Targets

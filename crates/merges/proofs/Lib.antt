@@ -1,1 +1,4 @@
+pub mod MergeLaws
+pub mod SweepLaws
+pub mod StepwiseLaws
 pub mod Examples
