@@ -184,3 +184,15 @@ clash-stuck (there {k} {a} h) = other-right k (a .value) h
 pub cells-clash : (a b : Cell) → (mergeCells a b ≡ stuck) ↔ Clash a b
 unfolding mergeCells
 cells-clash a b = (values-clash (a .value) (b .value), clash-stuck)
+
+-- what clashes with a cell clashes with all below it
+stuck-down : (n : ℤ) (w : Value) → mergeValues Unknown w ≡ stuck → mergeValues (Number n) w ≡ stuck
+unfolding mergeValues
+stuck-down n (Number m) e = made-not _ e
+stuck-down n Unknown e = made-not _ e
+stuck-down n (Handle k) e = refl
+
+pub clash-down : {a b c : Cell} → Refines a b → Clash b c → Clash a c
+unfolding mergeCells
+clash-down order.same k = k
+clash-down {c = c} (erased {n}) k = cells-clash (cell (Number n)) c .0 (stuck-down n (c .value) (cells-clash unknown c .1 k))

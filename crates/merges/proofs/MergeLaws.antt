@@ -3,12 +3,14 @@
 use mathlib.Core.Path.{_≡_}
 use mathlib.Core.List.{List, [], _∷_}
 use Rattle.cells.specs.Try.{Try, stuck, done, _>>=_}
-use Rattle.cells.specs.Order.{Refines, Pointwise, end, cons}
+use Rattle.cells.specs.Order.{Refines, same, Pointwise, end, cons}
 use Rattle.cells.proofs.Covering.{Covered, by-stuck, both}
 use Rattle.cells.proofs.MergeLaws.{Merging, cell-merging}
 use Rattle.machine.specs.Machine.{State}
 use Rattle.machine.specs.Order.{Cellwise}
+use Rattle.machine.proofs.StateLaws.{cellwise-refl}
 use Rattle.merges.specs.Merge.{mergeLists, mergeStates}
+use Rattle.merges.specs.Ways.{Under}
 
 -- merging is monotone
 module _ {A : Type 0} {R : A → A → Type 0} {f : A → A → Try A} (M : Merging R f) where
@@ -57,13 +59,11 @@ module _ {A : Type 0} {R : A → A → Type 0} {f : A → A → Try A} (M : Merg
 
 -- states, whatever their addresses
 
-pub record Under (s t : State) : Type 0 where
-  pub accu : Refines (s .accu) (t .accu)
-  pub stack : Pointwise Refines (s .stack) (t .stack)
-  pub blocks : Pointwise (Pointwise Refines) (s .blocks) (t .blocks)
-
 pub cellwise-under : {s t : State} → Cellwise Refines s t → Under s t
 cellwise-under e = record { accu = e .accu; stack = e .stack; blocks = e .blocks }
+
+pub under-self : (s : State) → Under s s
+under-self s = cellwise-under (cellwise-refl (λ a. same) s)
 
 pub states-merging : Merging Under mergeStates
 unfolding mergeStates

@@ -25,6 +25,7 @@ use Rattle.bounds.specs.Promises.{NoGreater, Interruptible, Monotone}
 use Rattle.bounds.proofs.TreeLaws.{contradiction}
 use Rattle.bounds.proofs.RunLaws.{Leaves, Ways, stopping, going, opening, Stepwise, stepwise-interruptible}
 use Rattle.merges.specs.Merge.{mergeStates, Arrival, arrival, Slot, empty, unlike, held, larger, settle, join, slot, Table, nowhere, arrive, send, reach, finish, carry, visit, sweep, end, span, only, none, merged}
+use Rattle.merges.specs.Ways.{NoMore}
 use Rattle.merges.proofs.SweepLaws.{Within, below-empty, Tables, arrive-law, arrive-up, Less, Verdicts, refused-there, accepted-both, sweep-law}
 
 -- where a visit goes on: nothing has come to the address, or its step is made
@@ -65,10 +66,6 @@ grows act zero a tab r q e = let h : r ≡ q = cc in rw h (omega arith)
 grows act (suc n) a tab r q e = visit-grows (grows act n (suc a)) (visited act (sweep act n (suc a)) a tab r q (slot (tab a)) e)
 
 -- what the ways to an address have cost is no more than the figures
-
-pub record NoMore (p q : Price) : Type 0 where
-  pub cycles : p .cycles ≤ q .cycles
-  pub words : p .words ≤ q .words
 
 data AtLeast (p : Price) : Slot → Type 0 where
   at-unlike : AtLeast p unlike
@@ -197,12 +194,14 @@ module _ (act : State → Try Next) where
           let k : a ≢ t .at = eqb-false a (t .at) h in
           skip-one t n a r k ∙ ih (omega arith)
 
-module _ (c : Code) (forward : Forward c) (closed : Closed c) where
+-- nothing is spent
+abbrev free : Price
+free = record { cycles = 0; words = 0 }
+
+module _ (c : Code) where
+  -- the action of the bound
   abbrev act : State → Try Next
   act = step c unknown
-
-  rising : (s : State) (n : Next) → act s ≡ done n → Leads (Onward (s .at) (end c)) n
-  rising s n e = step-onward c forward closed unknown s n e
 
   compare : (d : Price) (k n a : ℕ) (x y : Table) (r q : Report) → Tables d x y → Less d k r q → Verdicts d k (sweep act n a x r) (sweep act n a y q)
   compare d k n a x y r q h l = sweep-law d k act (λ s t e. step-law refines-lawful c same e) n a x y r q h l
@@ -216,9 +215,6 @@ module _ (c : Code) (forward : Forward c) (closed : Closed c) where
   through d k q refused-there e = contradiction _ _ e
   through d k q (accepted-both {r} {q = u} l) e = let h : u ≡ q = cc in (r, refl, rw h at l)
 
-  abbrev free : Price
-  free = record { cycles = 0; words = 0 }
-
   nothing-less : (d : Price) → Within d free (sum free d)
   nothing-less d = omega arith
 
@@ -230,10 +226,14 @@ module _ (c : Code) (forward : Forward c) (closed : Closed c) where
       let (r, b, k) = through free 0 q (compare free 0 (span c t) (t .at) (only s) (only t) none none (arrive-law free _ _ h w (empty-below free nowhere)) l) e in
       (r, ap (λ a. sweep act (suc (end c - a)) a (only s) none) (h .at) ∙ b, omega (arith, k))
 
+module _ (c : Code) (forward : Forward c) (closed : Closed c) where
+  rising : (s : State) (n : Next) → act c s ≡ done n → Leads (Onward (s .at) (end c)) n
+  rising s n e = step-onward c forward closed unknown s n e
+
   -- the sweep from s, by what its step leads to
-  begins : (s : State) (q : Report) → merged c s ≡ accepted q → Visited act (sweep act (end c - s .at) (suc (s .at))) (s .at) (only s) none q (held s free)
+  begins : (s : State) (q : Report) → merged c s ≡ accepted q → Visited (act c) (sweep (act c) (end c - s .at) (suc (s .at))) (s .at) (only s) none q (held s free)
   unfolding merged sweep
-  begins s q e = visited act (sweep act (end c - s .at) (suc (s .at))) (s .at) (only s) none q _ (rw (at-home s) at e)
+  begins s q e = visited (act c) (sweep (act c) (end c - s .at) (suc (s .at))) (s .at) (only s) none q _ (rw (at-home s) at e)
 
   root : (s : State) (q : Report) → merged c s ≡ accepted q → (height s ≤ q .depth) × (1 ≤ q .steps)
   unfolding finish reach
@@ -244,8 +244,8 @@ module _ (c : Code) (forward : Forward c) (closed : Closed c) where
       higher (goes z t) r h = omega (arith, h)
       higher (opens z t z′ u) r h = omega (arith, h)
 
-      go : Visited act (sweep act (end c - s .at) (suc (s .at))) (s .at) (only s) none q (held s free) → (height s ≤ q .depth) × (1 ≤ q .steps)
-      go (carried n h f) = higher n q (grows act (end c - s .at) (suc (s .at)) _ _ q f)
+      go : Visited (act c) (sweep (act c) (end c - s .at) (suc (s .at))) (s .at) (only s) none q (held s free) → (height s ≤ q .depth) × (1 ≤ q .steps)
+      go (carried n h f) = higher n q (grows (act c) (end c - s .at) (suc (s .at)) _ _ q f)
 
   less-begun : (d : Price) (s : State) → Less d 1 none (reach s none)
   unfolding reach
@@ -253,18 +253,18 @@ module _ (c : Code) (forward : Forward c) (closed : Closed c) where
 
   -- a way to t, among those that the sweep goes on with
   leaves : (s t : State) (p : Price) (q : Report) (tab : Table) → Onward (s .at) (end c) t → Tables p (only t) tab → AtLeast p (slot (tab (t .at))) →
-      sweep act (end c - s .at) (suc (s .at)) tab (reach s none) ≡ accepted q → Leaves c (merged c) q p t
+      sweep (act c) (end c - s .at) (suc (s .at)) tab (reach s none) ≡ accepted q → Leaves c (merged c) q p t
   unfolding merged
   leaves s t p q tab o h m e =
       let n = end c - s .at in
       let above : s .at < t .at = o .above in
       let inside : t .at ≤ end c = o .inside in
       let last : suc (s .at) + n ≡ suc (end c) = omega arith in
-      let (r, b, l) = through p 1 q (compare p 1 n (suc (s .at)) (only t) tab none (reach s none) h (less-begun p s)) e in
-      let k = paid act (end c) rising n (suc (s .at)) last tab (reach s none) q e (t .at) p above inside m in
+      let (r, b, l) = through c p 1 q (compare c p 1 n (suc (s .at)) (only t) tab none (reach s none) h (less-begun p s)) e in
+      let k = paid (act c) (end c) rising n (suc (s .at)) last tab (reach s none) q e (t .at) p above inside m in
       record {
         fresh = r;
-        accepts = sym (skip act t n (span c t) (suc (s .at)) none (omega arith) above) ∙ b;
+        accepts = sym (skip (act c) t n (span c t) (suc (s .at)) none (omega arith) above) ∙ b;
         cycles = omega (arith, l, k);
         words = omega (arith, l, k);
         depth = omega (arith, l);
@@ -274,15 +274,15 @@ module _ (c : Code) (forward : Forward c) (closed : Closed c) where
   -- the way to t is there, whatever else is
   here : (t : State) (p : Price) (tab : Table) → Tables p (only t) (arrive (arrival t (sum free p)) tab)
   unfolding only
-  here t p tab = arrive-law p _ _ (cellwise-refl (λ a. same) t) (nothing-less p) (empty-below p tab)
+  here t p tab = arrive-law p _ _ (cellwise-refl (λ a. same) t) (nothing-less c p) (empty-below c p tab)
 
   arrived : (t : State) (p : Price) (tab : Table) → AtLeast p (slot (arrive (arrival t (sum free p)) tab (t .at)))
   arrived t p tab = less-than (omega arith) (arrive-new (arrival t (sum free p)) tab)
 
   each-way : (s : State) (q : Report) (n : Next) → Leads (Onward (s .at) (end c)) n →
-      sweep act (end c - s .at) (suc (s .at)) (send free n (only s)) (finish free n (reach s none)) ≡ accepted q → Ways c (merged c) q (done n)
+      sweep (act c) (end c - s .at) (suc (s .at)) (send free n (only s)) (finish free n (reach s none)) ≡ accepted q → Ways c (merged c) q (done n)
   unfolding send finish reach
-  each-way s q (stops p) l e = let g = grows act (end c - s .at) (suc (s .at)) _ _ q e in stopping {p = p} (omega (arith, g)) (omega (arith, g))
+  each-way s q (stops p) l e = let g = grows (act c) (end c - s .at) (suc (s .at)) _ _ q e in stopping {p = p} (omega (arith, g)) (omega (arith, g))
   each-way s q (goes p t) (goes-to o) e = going (leaves s t p q _ o (here t p (only s)) (arrived t p (only s)) e)
   each-way s q (opens p t p′ u) (opens-to o o′) e =
       let tab = arrive (arrival u (sum free p′)) (only s) in
@@ -290,15 +290,15 @@ module _ (c : Code) (forward : Forward c) (closed : Closed c) where
       (leaves s t p q _ o (here t p tab) (arrived t p tab) e)
       (leaves s u p′ q _ o′ (arrive-up p′ _ (here u p′ (only s))) (arrive-old _ tab (u .at) (arrived u p′ (only s))) e)
 
-  ways : (s : State) (q : Report) → merged c s ≡ accepted q → Ways c (merged c) q (act s)
+  ways : (s : State) (q : Report) → merged c s ≡ accepted q → Ways c (merged c) q (act c s)
   unfolding jump
   ways s q e = go (begins s q e)
     where
-      go : Visited act (sweep act (end c - s .at) (suc (s .at))) (s .at) (only s) none q (held s free) → Ways c (merged c) q (act s)
+      go : Visited (act c) (sweep (act c) (end c - s .at) (suc (s .at))) (s .at) (only s) none q (held s free) → Ways c (merged c) q (act c s)
       go (carried n h f) = subst (Ways c (merged c) q) (sym h) (each-way s q n (rising s n h) f)
 
   pub stepwise : Stepwise c (merged c)
-  stepwise = record { monotone = monotone; root = root; ways = λ s q r e. ways s q e }
+  stepwise = record { monotone = monotone c; root = root; ways = λ s q r e. ways s q e }
 
   -- demand 3
   pub interruptible : Interruptible c (merged c)

@@ -17,7 +17,8 @@ use Rattle.machine.proofs.StateLaws.{height-law}
 use Rattle.bounds.specs.Tree.{Report, Verdict, accepted, refused}
 use Rattle.cells.proofs.MergeLaws.{Merging}
 use Rattle.merges.specs.Merge.{mergeStates, Arrival, arrival, Slot, empty, unlike, held, larger, settle, join, slot, Table, arrive, send, reach, finish, carry, visit, sweep}
-use Rattle.merges.proofs.MergeLaws.{merging-monotone, Under, cellwise-under, states-merging}
+use Rattle.merges.specs.Ways.{Under}
+use Rattle.merges.proofs.MergeLaws.{merging-monotone, cellwise-under, states-merging}
 
 -- d and p together are at most q
 pub record Within (d p q : Price) : Type 0 where

@@ -1,1 +1,3 @@
 pub mod Merge
+pub mod Ways
+pub mod Promises
