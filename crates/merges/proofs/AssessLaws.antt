@@ -39,7 +39,7 @@ pub record Measure : Type 0 where
   pub more : {p q : Price} → NoMore p q → of p ≤ of q
   pub attained : {xs : List Arrival} {m : State} {p : Price} → Together xs m p → (x : Arrival) × Among x xs × (of (x .spent) ≡ of p)
 
-pub in-cycles : Measure
+unfoldable pub in-cycles : Measure
 unfolding cost reach finish
 in-cycles = record {
   of = λ p. p .cycles;
@@ -57,7 +57,7 @@ in-cycles = record {
   attained = λ h. h .cycles;
 }
 
-pub in-words : Measure
+unfoldable pub in-words : Measure
 unfolding wordSum reach finish
 in-words = record {
   of = λ p. p .words;

@@ -17,14 +17,34 @@ use Rattle.bounds.specs.Tree.{Report, Verdict, accepted, refused}
 use Rattle.bounds.specs.Traces.{Move, move, Transition, goes-on, not-taken, taken}
 use Rattle.bounds.specs.Promises.{NoGreater, LargestOver}
 use Rattle.merges.specs.Merge.{Arrival, arrival, Slot, empty, unlike, held, slot, Table, nowhere, arrive, reach, finish, sweep, only, none}
-use Rattle.merges.specs.Ways.{fill, Among, first, later, NoMore, Together, MergedPath, stop, go-on, Comes, begins, follows, Fault, count}
+use Rattle.merges.specs.Ways.{fill, Among, first, later, NoMore, Together, MergedPath, stop, go-on, Comes, begins, follows, Fault, FirstFault, LargestMerged, count}
 use Rattle.merges.specs.Ways as ways
 use Rattle.merges.proofs.FillLaws.{assess, arrive-has, New, itself, former, arrive-new, From, from, fill-keeps, fill-has, Source, before, by-way, fill-from, swept}
 use Rattle.merges.proofs.SlotLaws.{Summary, of-none, of-unlike, of-held, nobody, summary, slot-held, slot-unlike}
-use Rattle.merges.proofs.AssessLaws.{free, Measure, Fine, unreached, carried, fine, AtStop, at-stop, stopped, AtHeight, at-height, deepest, Bad, no-meeting, is-stuck, bad-unique, fine-good, Lowest, lowest}
+use Rattle.merges.proofs.AssessLaws.{free, Measure, Fine, unreached, carried, fine, AtStop, at-stop, stopped, AtHeight, at-height, deepest, counted, pathless, Bad, no-meeting, is-stuck, bad-unique, fine-good, Lowest, lowest}
 
-module _ (act : State → Try Next) (z : ℕ) (rising : (s : State) (n : Next) → act s ≡ done n → Leads (Onward (s .at) z) n)
-    (start : State) (n : ℕ) (inside : start .at ≤ z) (last : start .at + n ≡ suc z) where
+-- a sweep from a state on, which goes through so many addresses, up to the top; no way leads down, to its own address or over the top
+pub record Pass (act : State → Try Next) : Type 0 where
+  pub start : State
+  pub many : ℕ
+  pub top : ℕ
+  pub inside : start .at ≤ top
+  pub last : start .at + many ≡ suc top
+  pub rising : (s : State) (n : Next) → act s ≡ done n → Leads (Onward (s .at) top) n
+
+module _ (act : State → Try Next) (pass : Pass act) where
+  abbrev pub start : State
+  start = pass .start
+
+  abbrev pub n : ℕ
+  n = pass .many
+
+  abbrev z : ℕ
+  z = pass .top
+
+  rising : (s : State) (n : Next) → act s ≡ done n → Leads (Onward (s .at) z) n
+  rising = pass .rising
+
   unfoldable pub came : Table
   came = fill act n (start .at) (only start)
 
@@ -67,7 +87,7 @@ module _ (act : State → Try Next) (z : ℕ) (rising : (s : State) (n : Next) �
       go (is-start e f) = omega arith
       go (on-way a lo k hi e w f g) = omega arith
 
-  together : (b : ℕ) {s : State} {p : Price} → slot (came b) ≡ held s p → Together (came b) s p
+  pub together : (b : ℕ) {s : State} {p : Price} → slot (came b) ≡ held s p → Together (came b) s p
   together b e = slot-held (summary (came b)) e
 
   held-range : (b : ℕ) {s : State} {p : Price} → slot (came b) ≡ held s p → (start .at ≤ b) × (b ≤ z)
@@ -80,6 +100,26 @@ module _ (act : State → Try Next) (z : ℕ) (rising : (s : State) (n : Next) �
   way-comes : (b : ℕ) (s : State) {t : State} {p : Price} {m : Move} → slot (came b) ≡ held s p → Transition act (jump b s) m t → Among (arrival t (sum p (m .price))) (came (t .at))
   unfolding came
   way-comes b s {p = p} e w = let (lo, hi) = held-range b e in fill-has act z rising n (start .at) (only start) b s p lo (omega arith) e w
+
+  pub comes-where : (b : ℕ) (x : Arrival) → Among x (came b) ↔ ((x .state .at ≡ b) × Comes act came start x)
+  comes-where b x = (λ h. out (origin b x h), λ (e, k). subst (λ b. Among x (came b)) e (in-table k))
+    where
+      out : Origin b x → (x .state .at ≡ b) × Comes act came start x
+      out (is-start e f) = (ap (λ (y : Arrival). y .state .at) e ∙ sym f, begins e)
+      out (on-way a lo k hi e w f g) = (ap (λ (y : Arrival). y .state .at) f ∙ sym g, follows a e w f)
+
+      in-table : Comes act came start x → Among x (came (x .state .at))
+      in-table (begins e) = subst (λ (y : Arrival). Among y (came (y .state .at))) (sym e) start-comes
+      in-table (follows a {s} e w f) = subst (λ (y : Arrival). Among y (came (y .state .at))) (sym f) (way-comes a s e w)
+
+  pub nothing-where : (b : ℕ) → (slot (came b) ≡ empty) ↔ (came b ≡ [])
+  unfolding slot
+  nothing-where b = (λ e. out (summary (came b)) e, λ e. ap slot e)
+    where
+      out : {i : Slot} → Summary (came b) i → i ≡ empty → came b ≡ []
+      out (of-none h) e = h
+      out (of-unlike x y u) e = let z : _≡_ {A = ℕ} 0 1 = cc in absurd (omega arith)
+      out (of-held h) e = let z : _≡_ {A = ℕ} 0 1 = cc in absurd (omega arith)
 
   -- ---- the refusal
 
@@ -110,13 +150,7 @@ module _ (act : State → Try Next) (z : ℕ) (rising : (s : State) (n : Next) �
       let (lo, hi) = fault-range f in
       fine-good act came (fine act came n (start .at) none q (sym assessed ∙ e) a lo (omega arith)) x (fault-bad f)
 
-  -- a fault, and none at a lower address
-  pub record First (x : Refusal) : Type 0 where
-    pub address : ℕ
-    pub fault : Fault act came address x
-    pub lower : (b : ℕ) (y : Refusal) → b < address → Fault act came b y → ⊥
-
-  pub first-fault : (x : Refusal) → sweep act n (start .at) (only start) none ≡ refused x → First x
+  pub first-fault : (x : Refusal) → sweep act n (start .at) (only start) none ≡ refused x → FirstFault act came x
   first-fault x e =
       let l = lowest act came n (start .at) none x (sym assessed ∙ e) in
       record {
@@ -125,10 +159,10 @@ module _ (act : State → Try Next) (z : ℕ) (rising : (s : State) (n : Next) �
         lower = λ b y h f. l .good b (fault-range f .0) h y (fault-bad f);
       }
 
-  pub fault-refused : (x : Refusal) → First x → sweep act n (start .at) (only start) none ≡ refused x
+  pub fault-refused : (x : Refusal) → FirstFault act came x → sweep act n (start .at) (only start) none ≡ refused x
   fault-refused x f = go (sweep act n (start .at) (only start) none) refl
     where
-      same : (y : Refusal) → First y → y ≡ x
+      same : (y : Refusal) → FirstFault act came y → y ≡ x
       same y g = by (ltb (g .address) (f .address)) refl (ltb (f .address) (g .address)) refl
         where
           by : (s : Bool) → ltb (g .address) (f .address) ≡ s → (t : Bool) → ltb (f .address) (g .address) ≡ t → y ≡ x
@@ -143,6 +177,13 @@ module _ (act : State → Try Next) (z : ℕ) (rising : (s : State) (n : Next) �
       go : (v : Verdict) → sweep act n (start .at) (only start) none ≡ v → v ≡ refused x
       go (accepted q) e = absurd (no-fault q e (f .address) x (f .fault))
       go (refused y) e = ap refused (same y (first-fault y e))
+
+  pub faultless : ((a : ℕ) (x : Refusal) → Fault act came a x → ⊥) → (q : Report) × (sweep act n (start .at) (only start) none ≡ accepted q)
+  faultless h = go (sweep act n (start .at) (only start) none) refl
+    where
+      go : (v : Verdict) → sweep act n (start .at) (only start) none ≡ v → (q : Report) × (v ≡ accepted q)
+      go (accepted q) e = (q, refl)
+      go (refused x) e = let f = first-fault x e in absurd (h (f .address) x (f .fault))
 
   -- ---- the figures
 
@@ -176,7 +217,7 @@ module _ (act : State → Try Next) (z : ℕ) (rising : (s : State) (n : Next) �
             (k, rw i at g, subst (λ r. NoGreater (finish r k (reach s none)) q) j (subst (λ t. NoGreater (finish r k (reach t none)) q) i u))
 
     -- DEPTH
-    pub no-higher : (b : ℕ) {s : State} {p : Price} → slot (came b) ≡ held s p → height s ≤ q .depth
+    no-higher : (b : ℕ) {s : State} {p : Price} → slot (came b) ≡ held s p → height s ≤ q .depth
     unfolding finish reach
     no-higher b {s = s} {p = p} e = let (k, f, g) = held-made b s e in go k g
       where
@@ -191,12 +232,25 @@ module _ (act : State → Try Next) (z : ℕ) (rising : (s : State) (n : Next) �
         go : Made (start .at) (arrival start free) → (s : State) × (p : Price) × (slot (came (start .at)) ≡ held s p)
         go (makes {s} {p} k e l f g) = (s, p, e)
 
-    pub highest : AtHeight act came (q .depth)
+    highest : AtHeight act came (q .depth)
     highest = go (deepest act came n (start .at) none q weighed)
       where
         go : (q .depth ≡ 0) ⊎ AtHeight act came (q .depth) → AtHeight act came (q .depth)
         go (inl e) = let (s, p, f) = start-held in let h = no-higher (start .at) f in at-height (start .at) f (omega arith)
         go (inr h) = h
+
+    pub depth-exact : LargestMerged act came (q .depth)
+    depth-exact = go highest
+      where
+        go : AtHeight act came (q .depth) → LargestMerged act came (q .depth)
+        go (at-height b {s} {p} e h) = record { address = b; deepest = s; spent = p; merges = e; attains = h; most = λ a s p e. no-higher a e }
+
+    -- STEPS, PATH
+    pub steps-exact : count came n (start .at) ≡ q .steps
+    steps-exact = omega (arith, counted act came n (start .at) none q weighed)
+
+    pub path-exact : q .path ≡ []
+    path-exact = pathless act came n (start .at) none q refl weighed
 
     -- the ways
 

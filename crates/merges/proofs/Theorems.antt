@@ -1,8 +1,24 @@
 -- What is proved of the merging bound, by the names of specs/Promises. Nothing else needs to be read of proofs/. Assumes nothing.
-use Rattle.merges.specs.Merge.{merged}
-use Rattle.merges.specs.Promises.{MergedInterruptible, MergedMonotone, MergedNotSmaller, RefusedForSize}
+use mathlib.Core.Path.{_≡_, refl}
+use Prim.Native.Nat.{ℕ, suc, _+_, _-_, _≤_}
+use native.Mathlib.Omega.{arith}
+use Rattle.refusals.specs.declared.Refusal.{Refusal}
+use Rattle.cells.specs.Try.{done}
+use Rattle.cells.specs.Cells.{unknown}
+use Rattle.machine.specs.Machine.{State, Next, Code, step}
+use Rattle.machine.specs.Forward.{Forward}
+use Rattle.machine.specs.Targets.{Closed}
+use Rattle.machine.proofs.LeadLaws.{Leads, stops-there, goes-to, opens-to}
+use Rattle.machine.proofs.TargetLaws.{Onward, step-onward}
+use Rattle.bounds.specs.Tree.{Report, Verdict, accepted, refused}
+use Rattle.merges.specs.Merge.{end, span, merged}
+use Rattle.merges.specs.Ways.{table}
+use Rattle.merges.specs.Promises.{MergedInterruptible, MergedMonotone, MergedNotSmaller, RefusedForSize, TableGathered, MergedExact, MergedRefusedWhere, MergedAcceptedWhere}
 use Rattle.merges.proofs.StepwiseLaws as stepwise-laws
 use Rattle.merges.proofs.CompareLaws as compare-laws
+use Rattle.merges.proofs.AssessLaws.{in-cycles, in-words}
+use Rattle.merges.proofs.ExactLaws as exact-laws
+use Rattle.merges.proofs.ExactLaws.{Pass}
 
 pub merged-interruptible : MergedInterruptible
 merged-interruptible c f g = stepwise-laws.interruptible c f g
@@ -15,3 +31,57 @@ merged-not-smaller c f g = compare-laws.not-smaller c (merged c) (stepwise-laws.
 
 pub refused-for-size : RefusedForSize
 refused-for-size c f g = compare-laws.refused-for-size c (merged c) (stepwise-laws.stepwise c f g)
+
+widen : (c : Code) (s : State) {a : ℕ} {n : Next} → Leads (Onward a (end c)) n → Leads (Onward a (s .at + (end c - s .at))) n
+widen c s l = go l
+  where
+    wide : {a : ℕ} {u : State} → Onward a (end c) u → Onward a (s .at + (end c - s .at)) u
+    wide o = record { above = o .above; inside = omega (arith, o .inside) }
+
+    go : {a : ℕ} {n : Next} → Leads (Onward a (end c)) n → Leads (Onward a (s .at + (end c - s .at))) n
+    go stops-there = stops-there
+    go (goes-to o) = goes-to (wide o)
+    go (opens-to o o′) = opens-to (wide o) (wide o′)
+
+-- the pass from s over the addresses up to that after the last
+abbrev pass : (c : Code) → Forward c → Closed c → (s : State) → Pass (step c unknown)
+pass c forward closed s = record {
+  start = s;
+  many = span c s;
+  top = s .at + (end c - s .at);
+  inside = omega arith;
+  last = omega arith;
+  rising = λ t n e. widen c s (step-onward c forward closed unknown t n e);
+}
+
+pub table-gathered : TableGathered
+unfolding table exact-laws.came
+table-gathered c f g s = record {
+  comes = exact-laws.comes-where (step c unknown) (pass c f g s);
+  merges = λ a m p e. exact-laws.together (step c unknown) (pass c f g s) a e;
+  nothing = exact-laws.nothing-where (step c unknown) (pass c f g s);
+}
+
+pub merged-exact : MergedExact
+unfolding merged table exact-laws.came in-cycles in-words
+merged-exact c f g s q e = record {
+  cycles = exact-laws.largest (step c unknown) (pass c f g s) q e in-cycles;
+  words = exact-laws.largest (step c unknown) (pass c f g s) q e in-words;
+  depth = exact-laws.depth-exact (step c unknown) (pass c f g s) q e;
+  steps = exact-laws.steps-exact (step c unknown) (pass c f g s) q e;
+  path = exact-laws.path-exact (step c unknown) (pass c f g s) q e;
+}
+
+pub merged-refused-where : MergedRefusedWhere
+unfolding merged table exact-laws.came
+merged-refused-where c f g s r = (
+  exact-laws.first-fault (step c unknown) (pass c f g s) r,
+  exact-laws.fault-refused (step c unknown) (pass c f g s) r,
+)
+
+pub merged-accepted-where : MergedAcceptedWhere
+unfolding merged table exact-laws.came
+merged-accepted-where c f g s = (
+  λ (q, e). exact-laws.no-fault (step c unknown) (pass c f g s) q e,
+  exact-laws.faultless (step c unknown) (pass c f g s),
+)

@@ -2,7 +2,7 @@
 -- (document 02 §9)
 use mathlib.Core.Path.{_≡_}
 use mathlib.Core.List.{List, [], _∷_}
-use Prim.Native.Nat.{ℕ, zero, suc, _+_, _≤_}
+use Prim.Native.Nat.{ℕ, zero, suc, _+_, _≤_, _<_}
 use Rattle.refusals.specs.declared.Refusal.{Refusal}
 use Rattle.refusals.specs.declared.Refusal.the-variants.{Stuck, NoMeeting}
 use Rattle.cells.specs.Try.{Try, stuck, done}
@@ -88,6 +88,21 @@ module _ (act : State → Try Next) (came : Table) where
   pub data Fault (a : ℕ) : Refusal → Type 0 where
     no-meeting : {x y : Arrival} → Among x (came a) → Among y (came a) → Unlike (x .state) (y .state) → Fault a (NoMeeting a)
     is-stuck : {s : State} {p : Price} → slot (came a) ≡ held s p → act (jump a s) ≡ stuck → Fault a (Stuck a)
+
+  -- "the lowest address with a 14 or a 7 decides"
+  pub record FirstFault (x : Refusal) : Type 0 where
+    pub address : ℕ
+    pub fault : Fault address x
+    pub lower : (b : ℕ) (y : Refusal) → b < address → Fault b y → ⊥
+
+  -- a number is the height of some merged state, and none is higher
+  pub record LargestMerged (largest : ℕ) : Type 0 where
+    pub address : ℕ
+    pub deepest : State
+    pub spent : Price
+    pub merges : slot (came address) ≡ held deepest spent
+    pub attains : height deepest ≡ largest
+    pub most : (a : ℕ) (s : State) (p : Price) → slot (came a) ≡ held s p → height s ≤ largest
 
 -- whether an address is reached, as a number
 unfoldable pub one : Slot → ℕ
