@@ -16,12 +16,16 @@ use Rattle.machine.proofs.TargetLaws.{Onward}
 use Rattle.bounds.specs.Tree.{Report, Verdict, accepted, refused}
 use Rattle.bounds.specs.Traces.{Move, move, Transition, goes-on, not-taken, taken}
 use Rattle.bounds.specs.Promises.{NoGreater, LargestOver}
-use Rattle.merges.specs.Merge.{Arrival, arrival, Slot, empty, unlike, held, slot, Table, nowhere, arrive, reach, finish, sweep, only, none}
+use Rattle.merges.specs.Merge.{Arrival, arrival, Slot, empty, unlike, held, slot, Table, nowhere, join, arrive, reach, finish, sweep, only, none}
 use Rattle.merges.specs.Ways.{fill, Among, first, later, NoMore, Together, MergedPath, stop, go-on, Comes, begins, follows, Fault, FirstFault, LargestMerged, count}
 use Rattle.merges.specs.Ways as ways
-use Rattle.merges.proofs.FillLaws.{assess, arrive-has, New, itself, former, arrive-new, From, from, fill-keeps, fill-has, Source, before, by-way, fill-from, swept}
+use Rattle.merges.proofs.FillLaws.{assess, arrive-own, arrive-has, New, itself, former, arrive-new, From, from, fill-keeps, fill-start, fill-has, Source, before, by-way, fill-from, swept}
 use Rattle.merges.proofs.SlotLaws.{Summary, of-none, of-unlike, of-held, nobody, summary, slot-held, slot-unlike}
 use Rattle.merges.proofs.AssessLaws.{free, Measure, Fine, unreached, carried, fine, AtStop, at-stop, stopped, AtHeight, at-height, deepest, counted, pathless, Bad, no-meeting, is-stuck, bad-unique, fine-good, Lowest, lowest}
+
+pub only-slot : (s : State) → slot (only s (s .at)) ≡ held s free
+unfolding only nowhere slot join
+only-slot s = ap slot (arrive-own (arrival s free) nowhere)
 
 -- a sweep from a state on, which goes through so many addresses, up to the top; no way leads down, to its own address or over the top
 pub record Pass (act : State → Try Next) : Type 0 where
@@ -97,7 +101,7 @@ module _ (act : State → Try Next) (pass : Pass act) where
   unfolding came only
   start-comes = fill-keeps act n (start .at) _ (start .at) _ (arrive-has (arrival start free) nowhere)
 
-  way-comes : (b : ℕ) (s : State) {t : State} {p : Price} {m : Move} → slot (came b) ≡ held s p → Transition act (jump b s) m t → Among (arrival t (sum p (m .price))) (came (t .at))
+  pub way-comes : (b : ℕ) (s : State) {t : State} {p : Price} {m : Move} → slot (came b) ≡ held s p → Transition act (jump b s) m t → Among (arrival t (sum p (m .price))) (came (t .at))
   unfolding came
   way-comes b s {p = p} e w = let (lo, hi) = held-range b e in fill-has act z rising n (start .at) (only start) b s p lo (omega arith) e w
 
@@ -120,6 +124,11 @@ module _ (act : State → Try Next) (pass : Pass act) where
       out (of-none h) e = h
       out (of-unlike x y u) e = let z : _≡_ {A = ℕ} 0 1 = cc in absurd (omega arith)
       out (of-held h) e = let z : _≡_ {A = ℕ} 0 1 = cc in absurd (omega arith)
+
+  -- nothing but the start comes to its address
+  pub start-slot : slot (came (start .at)) ≡ held start free
+  unfolding came
+  start-slot = ap slot (fill-start act z rising n (start .at) (only start)) ∙ only-slot start
 
   -- ---- the refusal
 
@@ -207,7 +216,7 @@ module _ (act : State → Try Next) (pass : Pass act) where
         go empty e unreached = absurd (vacant (summary (came b)) e)
         go (held s p) e (carried k f g) = makes k e (together b e .sums x h) f g
 
-    held-made : (b : ℕ) (s : State) {p : Price} → slot (came b) ≡ held s p → (k : Next) × (act (jump b s) ≡ done k) × NoGreater (finish p k (reach s none)) q
+    pub held-made : (b : ℕ) (s : State) {p : Price} → slot (came b) ≡ held s p → (k : Next) × (act (jump b s) ≡ done k) × NoGreater (finish p k (reach s none)) q
     held-made b s {p} e = let (x, h, f) = together b e .cycles in go (made b x h)
       where
         go : {x : Arrival} → Made b x → (k : Next) × (act (jump b s) ≡ done k) × NoGreater (finish p k (reach s none)) q
@@ -288,6 +297,13 @@ module _ (act : State → Try Next) (pass : Pass act) where
           let v = M .cons m ms in
           let r = M .more (together b e .sums x h) in
           omega arith
+
+      -- nor do the ways to an address that something comes to
+      pub spent-within : (b : ℕ) (x : Arrival) → Among x (came b) → M .of (x .spent) ≤ M .figure q
+      spent-within b x h = go (made b x h)
+        where
+          go : Made b x → M .of (x .spent) ≤ M .figure q
+          go (makes {s} {p} k e l f g) = let (ms, path) = way-on (suc z) b s p (omega arith) e in let i = most path x h in omega arith
 
       -- each way from a merged state is the end of one from the start that costs what the ways there have cost at most
       back : (k b : ℕ) (x : Arrival) (ms : List Move) → b < k → Among x (came b) → MergedPath act came b ms → (ls : List Move) × MergedPath act came (start .at) ls × (M .total ls ≡ M .of (x .spent) + M .total ms)

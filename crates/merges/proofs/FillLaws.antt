@@ -175,6 +175,11 @@ module _ (act : State → Try Next) (z : ℕ) (rising : (s : State) (n : Next) �
   unfolding fill
   fill-own n a tab = fill-below n (suc a) _ a (omega arith) ∙ sends-other a (slot (tab a)) tab a (λ t o e. omega (arith, o .above))
 
+  pub fill-start : (n a : ℕ) (tab : Table) → fill act n a tab a ≡ tab a
+  unfolding fill
+  fill-start zero a tab = refl
+  fill-start (suc n) a tab = fill-own n a tab
+
   pub swept : (n a : ℕ) (tab : Table) (r : Report) → sweep act n a tab r ≡ assess act (fill act n a tab) n a r
   unfolding sweep assess visit inspect carry weigh fill sends sent
   swept zero a tab r = refl

@@ -1,10 +1,10 @@
 pub mod MergeLaws
 pub mod SweepLaws
-pub mod StepwiseLaws
-pub mod CompareLaws
 pub mod FillLaws
 pub mod SlotLaws
 pub mod AssessLaws
 pub mod ExactLaws
+pub mod StepwiseLaws
+pub mod CompareLaws
 pub mod Theorems
 pub mod Examples

@@ -15,10 +15,10 @@ use Rattle.merges.specs.Merge.{end, span, merged}
 use Rattle.merges.specs.Ways.{table}
 use Rattle.merges.specs.Promises.{MergedInterruptible, MergedMonotone, MergedNotSmaller, RefusedForSize, TableGathered, MergedExact, MergedRefusedWhere, MergedAcceptedWhere}
 use Rattle.merges.proofs.StepwiseLaws as stepwise-laws
+use Rattle.merges.proofs.StepwiseLaws.{pass}
 use Rattle.merges.proofs.CompareLaws as compare-laws
 use Rattle.merges.proofs.AssessLaws.{in-cycles, in-words}
 use Rattle.merges.proofs.ExactLaws as exact-laws
-use Rattle.merges.proofs.ExactLaws.{Pass}
 
 pub merged-interruptible : MergedInterruptible
 merged-interruptible c f g = stepwise-laws.interruptible c f g
@@ -31,28 +31,6 @@ merged-not-smaller c f g = compare-laws.not-smaller c (merged c) (stepwise-laws.
 
 pub refused-for-size : RefusedForSize
 refused-for-size c f g = compare-laws.refused-for-size c (merged c) (stepwise-laws.stepwise c f g)
-
-widen : (c : Code) (s : State) {a : ℕ} {n : Next} → Leads (Onward a (end c)) n → Leads (Onward a (s .at + (end c - s .at))) n
-widen c s l = go l
-  where
-    wide : {a : ℕ} {u : State} → Onward a (end c) u → Onward a (s .at + (end c - s .at)) u
-    wide o = record { above = o .above; inside = omega (arith, o .inside) }
-
-    go : {a : ℕ} {n : Next} → Leads (Onward a (end c)) n → Leads (Onward a (s .at + (end c - s .at))) n
-    go stops-there = stops-there
-    go (goes-to o) = goes-to (wide o)
-    go (opens-to o o′) = opens-to (wide o) (wide o′)
-
--- the pass from s over the addresses up to that after the last
-abbrev pass : (c : Code) → Forward c → Closed c → (s : State) → Pass (step c unknown)
-pass c forward closed s = record {
-  start = s;
-  many = span c s;
-  top = s .at + (end c - s .at);
-  inside = omega arith;
-  last = omega arith;
-  rising = λ t n e. widen c s (step-onward c forward closed unknown t n e);
-}
 
 pub table-gathered : TableGathered
 unfolding table exact-laws.came
