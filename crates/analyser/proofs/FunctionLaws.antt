@@ -193,8 +193,8 @@ module _ (text : List ℕ) (n : ℕ) (former out : List ℕ) (r : code.Answer) w
 
 -- ---- for C
 
--- no number of a refusal is above 13
-pub number-small : (r : Refusal) → number r ≤ 13
+-- no number of a refusal is above 14
+pub number-small : (r : Refusal) → number r ≤ 14
 unfolding number
 number-small refusals.ReportMemory = omega arith
 number-small refusals.TextLength = omega arith
@@ -209,6 +209,7 @@ number-small (refusals.Stuck a) = omega arith
 number-small (refusals.Openings a) = omega arith
 number-small (refusals.Spent a) = omega arith
 number-small (refusals.BadWord i) = omega arith
+number-small (refusals.NoMeeting a) = omega arith
 
 pub word-refused : (r : Refusal) (n p : ℕ) → n ≡ number r → p ≡ place r → 9223372036854775808 + n * 4294967296 + p % 4294967296 ≡ wordOf (Refused r)
 unfolding wordOf
@@ -224,7 +225,7 @@ refusalAt n p =
     getD
     (refusals.ReportMemory ∷ refusals.TextLength ∷ refusals.Layout p ∷ refusals.OutOfRange p ∷ refusals.BadName p ∷ refusals.Unpriced p
     ∷ refusals.NoTarget p ∷ refusals.Stuck p ∷ refusals.Openings p ∷ refusals.Spent p ∷ refusals.ReportMemory ∷ refusals.UnknownCell p
-    ∷ refusals.BadWord p ∷ refusals.Backward p ∷ [])
+    ∷ refusals.BadWord p ∷ refusals.Backward p ∷ refusals.NoMeeting p ∷ [])
     n refusals.ReportMemory
 
 refusal-told : (r : Refusal) → r ≡ refusalAt (number r) (place r)
@@ -242,6 +243,7 @@ refusal-told (refusals.Stuck a) = refl
 refusal-told (refusals.Openings a) = refl
 refusal-told (refusals.Spent a) = refl
 refusal-told (refusals.BadWord i) = refl
+refusal-told (refusals.NoMeeting a) = refl
 
 -- a report of 1 to `most` bytes, or a refusal whose place is at most 62,000
 record WithinLimits (most : ℕ) (a : Answer) : Type 0 where

@@ -6,5 +6,6 @@ pub mod AssessLaws
 pub mod ExactLaws
 pub mod StepwiseLaws
 pub mod CompareLaws
+pub mod PassLaws
 pub mod Theorems
 pub mod Examples

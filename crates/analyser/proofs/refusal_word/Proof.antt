@@ -13,13 +13,13 @@ place-requires : tie.Need-place-requires
 place-requires c κs = search needs
 
 mul-result : tie.Need-mul-result
-mul-result c = let n : c .before .number .result ≤ 13 = (rw (c .before .number .ensures) (number-small (c .before .before .args .r))) in omega arith
+mul-result c = let n : c .before .number .result ≤ 14 = (rw (c .before .number .ensures) (number-small (c .before .before .args .r))) in omega arith
 
 add-result : tie.Need-add-result
-add-result c = let n : c .before .number .result ≤ 13 = (rw (c .before .number .ensures) (number-small (c .before .before .args .r))) in omega arith
+add-result c = let n : c .before .number .result ≤ 14 = (rw (c .before .number .ensures) (number-small (c .before .before .args .r))) in omega arith
 
 add-result-2 : tie.Need-add-result-2
-add-result-2 c = let n : c .before .number .result ≤ 13 = (rw (c .before .number .ensures) (number-small (c .before .before .args .r))) in omega arith
+add-result-2 c = let n : c .before .number .result ≤ 14 = (rw (c .before .number .ensures) (number-small (c .before .before .args .r))) in omega arith
 
 returns : tie.Need-returns
 returns c = word-refused _ _ _ (c .before .number .ensures) (c .place .ensures)
