@@ -96,6 +96,24 @@ finish-alone s p (stops z) r = omega arith
 finish-alone s p (goes z t) r = omega arith
 finish-alone s p (opens z t z′ u) r = omega arith
 
+pub finish-depth : (p : Price) (n : Next) (r : Report) → finish p n r .depth ≡ r .depth
+unfolding finish
+finish-depth p (stops q) r = refl
+finish-depth p (goes q t) r = refl
+finish-depth p (opens q t q′ u) r = refl
+
+pub finish-steps : (p : Price) (n : Next) (r : Report) → finish p n r .steps ≡ r .steps
+unfolding finish
+finish-steps p (stops q) r = refl
+finish-steps p (goes q t) r = refl
+finish-steps p (opens q t q′ u) r = refl
+
+pub finish-path : (s : State) (p : Price) (n : Next) (r : Report) → finish p n (reach s r) .path ≡ []
+unfolding finish reach
+finish-path s p (stops q) r = refl
+finish-path s p (goes q t) r = refl
+finish-path s p (opens q t q′ u) r = refl
+
 self : (r : Report) → NoGreater r r
 self r = omega arith
 
@@ -185,12 +203,6 @@ module _ (act : State → Try Next) (came : Table) where
   pub data AtHeight (k : ℕ) : Type 0 where
     at-height : (b : ℕ) {s : State} {p : Price} → slot (came b) ≡ held s p → height s ≡ k → AtHeight k
 
-  finish-depth : (p : Price) (n : Next) (r : Report) → finish p n r .depth ≡ r .depth
-  unfolding finish
-  finish-depth p (stops q) r = refl
-  finish-depth p (goes q t) r = refl
-  finish-depth p (opens q t q′ u) r = refl
-
   pub deepest : (n a : ℕ) (r q : Report) → assess act came n a r ≡ accepted q → (q .depth ≡ r .depth) ⊎ AtHeight (q .depth)
   unfolding assess reach
   deepest zero a r q e = let h : r ≡ q = cc in inl (ap (λ x. x .depth) (sym h))
@@ -209,18 +221,6 @@ module _ (act : State → Try Next) (came : Table) where
       go (held s p) x (made k h f) ih = here s p k x (ih _ q f)
 
   -- STEPS is the number of addresses reached, and PATH is empty
-  finish-steps : (p : Price) (n : Next) (r : Report) → finish p n r .steps ≡ r .steps
-  unfolding finish
-  finish-steps p (stops q) r = refl
-  finish-steps p (goes q t) r = refl
-  finish-steps p (opens q t q′ u) r = refl
-
-  finish-path : (s : State) (p : Price) (n : Next) (r : Report) → finish p n (reach s r) .path ≡ []
-  unfolding finish reach
-  finish-path s p (stops q) r = refl
-  finish-path s p (goes q t) r = refl
-  finish-path s p (opens q t q′ u) r = refl
-
   pub counted : (n a : ℕ) (r q : Report) → assess act came n a r ≡ accepted q → q .steps ≡ r .steps + count came n a
   unfolding assess count one reach
   counted zero a r q e = let h : r ≡ q = cc in let k = ap (λ x. x .steps) h in omega arith

@@ -7,5 +7,6 @@ pub mod ExactLaws
 pub mod StepwiseLaws
 pub mod CompareLaws
 pub mod PassLaws
+pub mod FigureLaws
 pub mod Theorems
 pub mod Examples
