@@ -1,12 +1,13 @@
 -- The branches: each kind of them takes a target, which is the operand of its instruction; and the code of a passing text has no jump
--- backwards. Assumes nothing.
+-- backwards, and all its targets inside. Assumes nothing.
 use Prim.Native.Nat.{ℕ, zero, suc, _+_, _-_, _<_}
-use mathlib.Core.Path.{_≡_, refl, sym, subst}
-use mathlib.Core.Bool.{Bool, true, false, cond, false≢true}
+use mathlib.Core.Path.{_≡_, refl, sym, _∙_, subst}
+use mathlib.Core.Bool.{Bool, true, false, cond, _&&_, false≢true}
 use mathlib.Core.List.{List, [], _∷_, map}
 use native.Mathlib.Omega.{arith}
 use lib.IntN.{ℤ, pos, negsuc, _+ℤ_}
-use lib.Signed.{ltZ}
+use lib.ListN.{length, length-map}
+use lib.Signed.{leZ, ltZ}
 use borrow.Author.Tests.{ltb-true}
 use Rattle.text.specs.Text.{Line, all, find}
 use Rattle.text.proofs.TextLaws.{and-right, every-getD, all-every}
@@ -19,11 +20,13 @@ use Rattle.instructions.specs.declared.Argument.the-variants.{Absent, Target, P
 use Rattle.machine.specs.Lists.{nth}
 use Rattle.machine.specs.Machine.{index, instruction, Instruction}
 use Rattle.machine.specs.Forward.{branches, Forward}
+use Rattle.machine.specs.Targets.{Closed}
 use Rattle.machine.proofs.FetchLaws.{stuck-not, from-first}
 use Rattle.routine.specs.declared.Role.the-variants.{Code as code}
-use Rattle.routine.specs.declared.Row.the-variants.{Range as range-row, Name as name-row, Forward as forward-row}
+use Rattle.routine.specs.declared.Row.{Row}
+use Rattle.routine.specs.declared.Row.the-variants.{Range as range-row, Name as name-row, Target as target-row, Forward as forward-row}
 use Rattle.routine.specs.Layout.{body, codeLines}
-use Rattle.routine.specs.Rows.{Passes, value, at, op, arg, isTarget, onArgument, argumentInRange, argumentForward, atRange, codeInRange, inRange, firstAt, codeForward, forward, test}
+use Rattle.routine.specs.Rows.{Passes, value, at, op, arg, isTarget, onArgument, argumentInRange, argumentReaches, argumentForward, atRange, codeInRange, inRange, firstAt, onCode, reaches, codeForward, forward, test}
 use Rattle.routine.specs.Routine.{inside, argumentValue, PriceList, instructionOf, firstAddress, codeIn, routineOf}
 use Rattle.routine.proofs.RangeLaws.{inside-is}
 use Rattle.routine.proofs.CodeLaws.{code-named, kind-there, on-kind}
@@ -62,43 +65,90 @@ module _ (ks : PriceList) (xs : List (List ℕ)) (ps : PriceList) where
   unfolding instructionOf instruction
   branch-operand text b = operand-target (ps .names) (arg text) (kindAt (find (op text) kindNames)) (argument-target text b)
 
-  -- ---- no jump backwards
+  -- ---- what the rows say of it
 
-  above : (f k : ℕ) (v : ℤ) → ltZ (pos f +ℤ pos k) v ≡ true → f + k < index v
-  above f k (pos n) e = ltb-true (f + k) n e
-  above f k (negsuc n) e = absurd (false≢true e)
+  -- of code line k, where it branches: its target's word is an address, and passes the test of the row on it
+  record Targeted (k : ℕ) (l : Line) (test′ : Argument → Bool) : Type 0 where
+    operand : instructionOf ks xs ps (l .text) .operand ≡ value (arg (l .text))
+    passes : test′ Target ≡ true
+
+  targeted-line : (ls : List Line) (k : ℕ) (l : Line) (t : Argument → Bool) → test range-row ls (code k) l ≡ true → test name-row ls (code k) l ≡ true → onArgument t (l .text) ≡ true
+      → branches (instructionOf ks xs ps (l .text) .operation) ≡ true → Targeted k l t
+  unfolding test inRange codeInRange argumentInRange find
+  targeted-line ls k l t r n f b =
+      let text = l .text in
+      let w = arg text in
+      let (i, e) = kind-there (op text) (code-named ls k text n .kind) in
+      let a : kindAt i .argument ≡ Target = rw e at (argument-target text b) in
+      let g = and-right (within (atRange k) (value (at text))) (onArgument (argumentInRange w) text) r in
+      let h : within addresses (value w) ≡ true = subst (λ a. argumentInRange w a ≡ true) a (on-kind (argumentInRange w) text i e g) in
+      record {
+        operand = branch-operand text b ∙ inside-is addresses (value w) h;
+        passes = subst (λ a. t a ≡ true) a (on-kind t text i e f);
+      }
+
+  -- of the code lines from number k on: what holds of the number and the target of each that branches
+  lines-each : (ls : List Line) (row : Row) (Q : ℕ → ℕ → Type 0)
+      → ((k : ℕ) (l : Line) → test range-row ls (code k) l ≡ true → test name-row ls (code k) l ≡ true → test row ls (code k) l ≡ true
+      → branches (instructionOf ks xs ps (l .text) .operation) ≡ true → Q k (index (instructionOf ks xs ps (l .text) .operand)))
+      → (k : ℕ) (ms : List Line) → Coded (test range-row ls) k ms → Coded (test name-row ls) k ms → Coded (test row ls) k ms
+      → (j : ℕ) (i : Instruction) → nth j (map (λ l. instructionOf ks xs ps (l .text)) ms) ≡ done i → branches (i .operation) ≡ true → Q (k + j) (index (i .operand))
+  unfolding nth
+  lines-each ls row Q line k [] r n f j i e b = stuck-not i e
+  lines-each ls row Q line k (l ∷ ms) (next r rs) (next n ns) (next f fs) zero i e b =
+      let q : instructionOf ks xs ps (l .text) ≡ i = cc in
+      let z : k ≡ k + 0 = omega arith in
+      subst (λ k. Q k (index (i .operand))) z (subst (λ (i : Instruction). branches (i .operation) ≡ true → Q k (index (i .operand))) q (line k l r n f) b)
+  lines-each ls row Q line k (l ∷ ms) (next r rs) (next n ns) (next f fs) (suc j) i e b =
+      let z : suc k + j ≡ k + suc j = omega arith in
+      subst (λ k. Q k (index (i .operand))) z (lines-each ls row Q line (suc k) ms rs ns fs j i e b)
 
   module _ (ls : List Line) (p : Passes ls) where
-    -- of code line k
+    -- row 13: above its own address
+    above : (f k : ℕ) (v : ℤ) → ltZ (pos f +ℤ pos k) v ≡ true → f + k < index v
+    above f k (pos n) e = ltb-true (f + k) n e
+    above f k (negsuc n) e = absurd (false≢true e)
+
     line-forward : (k : ℕ) (l : Line) → test range-row ls (code k) l ≡ true → test name-row ls (code k) l ≡ true → test forward-row ls (code k) l ≡ true
         → branches (instructionOf ks xs ps (l .text) .operation) ≡ true → firstAddress (body ls) + k < index (instructionOf ks xs ps (l .text) .operand)
-    unfolding test inRange codeInRange forward codeForward argumentInRange argumentForward find
+    unfolding test forward codeForward argumentForward
     line-forward k l r n f b =
-        let text = l .text in
-        let w = arg text in
-        let first = firstAt (body ls) in
-        let (i, e) = kind-there (op text) (code-named ls k text n .kind) in
-        let t : kindAt i .argument ≡ Target = rw e at (argument-target text b) in
-        let g = and-right (within (atRange k) (value (at text))) (onArgument (argumentInRange w) text) r in
-        let h : within addresses (value w) ≡ true = subst (λ a. argumentInRange w a ≡ true) t (on-kind (argumentInRange w) text i e g) in
-        let m : ltZ (first +ℤ pos k) (value w) ≡ true = subst (λ a. argumentForward (first +ℤ pos k) w a ≡ true) t (on-kind (argumentForward (first +ℤ pos k) w) text i e f) in
-        rw (branch-operand text b, inside-is addresses (value w) h)
-        (above (firstAddress (body ls)) k (value w) (subst (λ z. ltZ (z +ℤ pos k) (value w) ≡ true) (sym (first-natural ls (p .range))) m))
+        let w = arg (l .text) in
+        let t = targeted-line ls k l (argumentForward (firstAt (body ls) +ℤ pos k) w) r n f b in
+        rw (t .operand) (above (firstAddress (body ls)) k (value w) (subst (λ z. ltZ (z +ℤ pos k) (value w) ≡ true) (sym (first-natural ls (p .range))) (t .passes)))
 
-    -- of the code lines from number k on
-    lines-forward : (k : ℕ) (ms : List Line) → Coded (test range-row ls) k ms → Coded (test name-row ls) k ms → Coded (test forward-row ls) k ms
-        → (j : ℕ) (i : Instruction) → nth j (map (λ l. instructionOf ks xs ps (l .text)) ms) ≡ done i → branches (i .operation) ≡ true → firstAddress (body ls) + (k + j) < index (i .operand)
-    unfolding nth
-    lines-forward k [] r n f j i e b = stuck-not i e
-    lines-forward k (l ∷ ms) (next r rs) (next n ns) (next f fs) zero i e b =
-        let q : instructionOf ks xs ps (l .text) ≡ i = cc in
-        omega (arith, subst (λ (i : Instruction). branches (i .operation) ≡ true → firstAddress (body ls) + k < index (i .operand)) q (line-forward k l r n f) b)
-    lines-forward k (l ∷ ms) (next r rs) (next n ns) (next f fs) (suc j) i e b = omega (arith, lines-forward (suc k) ms rs ns fs j i e b)
+    -- row 6: an address of the code
+    below : (f m : ℕ) (v : ℤ) → (leZ (pos f) v && ltZ v (pos f +ℤ pos m)) ≡ true → index v < f + m
+    below f m (pos n) e = ltb-true n (f + m) (and-right (leZ (pos f) (pos n)) (ltZ (pos n) (pos f +ℤ pos m)) e)
+    below f m (negsuc n) e = absurd (false≢true e)
 
+    line-closed : (k : ℕ) (l : Line) → test range-row ls (code k) l ≡ true → test name-row ls (code k) l ≡ true → test target-row ls (code k) l ≡ true
+        → branches (instructionOf ks xs ps (l .text) .operation) ≡ true → index (instructionOf ks xs ps (l .text) .operand) < firstAddress (body ls) + length (codeLines (body ls))
+    unfolding test reaches onCode argumentReaches
+    line-closed k l r n f b =
+        let w = arg (l .text) in
+        let m = length (codeLines (body ls)) in
+        let t = targeted-line ls k l (argumentReaches (firstAt (body ls)) m w) r n f b in
+        rw (t .operand) (below (firstAddress (body ls)) m (value w) (subst (λ z. (leZ z (value w) && ltZ (value w) (z +ℤ pos m)) ≡ true) (sym (first-natural ls (p .range))) (t .passes)))
+
+-- the code of a passing text has no jump backwards
 pub passing-forward : (ls : List Line) → Passes ls → Forward (routineOf ls .code)
 unfolding routineOf codeIn
 passing-forward ls p = record {
   above = λ a i e b.
       let q = from-first (codeIn ls) a i e in
-      omega (arith, q .0, lines-forward _ _ _ ls p 0 (codeLines (body ls)) (code-passed range-row ls (p .range)) (code-passed name-row ls (p .names)) (code-passed forward-row ls (p .forward)) (a - firstAddress (body ls)) i (q .1) b);
+      let h = lines-each _ _ _ ls forward-row (λ k x. firstAddress (body ls) + k < x) (line-forward _ _ _ ls p) 0 (codeLines (body ls))
+      (code-passed range-row ls (p .range)) (code-passed name-row ls (p .names)) (code-passed forward-row ls (p .forward)) (a - firstAddress (body ls)) i (q .1) b in
+      omega (arith, q .0, h);
+}
+
+-- and all its targets are inside it
+pub passing-closed : (ls : List Line) → Passes ls → Closed (routineOf ls .code)
+unfolding routineOf codeIn
+passing-closed ls p = record {
+  inside = λ a i e b.
+      let q = from-first (codeIn ls) a i e in
+      let h = lines-each _ _ _ ls target-row (λ k x. x < firstAddress (body ls) + length (codeLines (body ls))) (line-closed _ _ _ ls p) 0 (codeLines (body ls))
+      (code-passed range-row ls (p .range)) (code-passed name-row ls (p .names)) (code-passed target-row ls (p .targets)) (a - firstAddress (body ls)) i (q .1) b in
+      simp length-map h;
 }
