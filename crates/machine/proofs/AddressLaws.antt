@@ -28,7 +28,7 @@ unfolding load restack reblock advance jump
 address-kept B = record {
   loads = λ c s h. record { address = h .address };
   restacks = λ cs s l h. record { address = h .address };
-  reblocks = λ bs s h. record { address = h .address };
+  reblocks = λ bs s l h. record { address = h .address };
   advances = λ s h. record { address = omega (arith, h .address) };
   jumps = λ a s t h. record { address = t };
 }

@@ -22,7 +22,7 @@ unfolding load restack reblock advance jump
 above-kept a = record {
   loads = λ c s h. record { address = h .address };
   restacks = λ cs s l h. record { address = h .address };
-  reblocks = λ bs s h. record { address = h .address };
+  reblocks = λ bs s l h. record { address = h .address };
   advances = λ s h. record { address = omega (arith, h .address) };
   jumps = λ b s t h. record { address = t };
 }

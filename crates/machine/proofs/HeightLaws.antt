@@ -16,7 +16,7 @@ unfolding load restack reblock advance jump height
 low-kept = record {
   loads = λ c s h. record { low = h .low };
   restacks = λ cs s l h. record { low = omega (arith, h .low) };
-  reblocks = λ bs s h. record { low = h .low };
+  reblocks = λ bs s l h. record { low = h .low };
   advances = λ s h. record { low = h .low };
   jumps = λ a s t h. record { low = h .low };
 }

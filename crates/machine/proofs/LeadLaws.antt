@@ -1,7 +1,7 @@
 -- The states that a step leads to: a property that the parts of a step keep holds of all of them. Assumes nothing.
-use mathlib.Core.Path.{_≡_, refl}
+use mathlib.Core.Path.{_≡_, refl, sym, _∙_, ap}
 use mathlib.Core.Bool.{Bool, true, false, cond}
-use mathlib.Core.List.{List, [], _∷_}
+use mathlib.Core.List.{List, [], _∷_, map}
 use Prim.Native.Nat.{ℕ, zero, suc, max, _≤_}
 use native.Mathlib.Omega.{arith}
 use lib.Dec.{ltb}
@@ -39,6 +39,13 @@ put-length n a [] = nothing-given
 put-length zero a (x ∷ xs) = given refl
 put-length (suc n) a (x ∷ xs) = bind (put-length n a xs) (λ ys e. given (omega arith))
 
+-- a list in the place of one as long
+put-sizes : {A : Type 0} (n : ℕ) (x : List A) (xs : List (List A)) {y : List A} → nth n xs ≡ done y → length x ≡ length y → Gives (λ ys. map length ys ≡ map length xs) (put n x xs)
+unfolding put nth
+put-sizes n x [] e l = nothing-given
+put-sizes zero x (z ∷ zs) {y} e l = let h : z ≡ y = cc in given (ap (λ k. k ∷ map length zs) (l ∙ ap length (sym h)))
+put-sizes (suc n) x (z ∷ zs) e l = bind (put-sizes n x zs e l) (λ ys h. given (ap (λ ks. length z ∷ ks) h))
+
 without-length : {A : Type 0} (n : ℕ) (xs : List A) → Gives (λ ys. length ys ≤ length xs) (without n xs)
 unfolding without
 without-length zero xs = given {a = xs} (omega arith)
@@ -65,7 +72,7 @@ opens-there (opens-to h k) = (h, k)
 pub record Keeps (P Q : State → Type 0) (T : ℕ → Type 0) : Type 0 where
   pub loads : (c : Cell) (s : State) → P s → P (load c s)
   pub restacks : (cs : List Cell) (s : State) → length cs ≤ max (height s) stackLimit → P s → P (restack cs s)
-  pub reblocks : (bs : List (List Cell)) (s : State) → P s → P (reblock bs s)
+  pub reblocks : (bs : List (List Cell)) (s : State) → map length bs ≡ map length (s .blocks) → P s → P (reblock bs s)
   pub advances : (s : State) → P s → Q (advance s)
   pub jumps : (a : ℕ) (s : State) → T a → P s → Q (jump a s)
 
@@ -87,9 +94,9 @@ module _ {P Q : State → Type 0} {T : ℕ → Type 0} (keeps : Keeps P Q T) whe
   setField-keeps n c s h =
       bind (itself (block (s .accu))) (λ k u.
       bind (itself (nth k (s .blocks))) (λ b v.
-      bind (itself (put n c b)) (λ d w.
-      bind (itself (put k d (s .blocks))) (λ bs x.
-      given (keeps .reblocks bs s h)))))
+      bind (put-length n c b) (λ d w.
+      bind (put-sizes k d (s .blocks) v w) (λ bs x.
+      given (keeps .reblocks bs s x h)))))
 
   ahead-leads : (p : Price) {m : Try State} → Gives P m → Gives (Leads Q) (ahead p m)
   unfolding ahead

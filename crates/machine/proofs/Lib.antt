@@ -7,6 +7,7 @@ pub mod PriceLaws
 pub mod FetchLaws
 pub mod LeadLaws
 pub mod HeightLaws
+pub mod SizeLaws
 pub mod AddressLaws
 pub mod ForwardLaws
 pub mod TargetLaws

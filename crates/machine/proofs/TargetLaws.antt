@@ -25,7 +25,7 @@ unfolding load restack reblock advance jump
 onward-kept a z = record {
   loads = λ c s h. record { address = h .address; below = h .below };
   restacks = λ cs s l h. record { address = h .address; below = h .below };
-  reblocks = λ bs s h. record { address = h .address; below = h .below };
+  reblocks = λ bs s l h. record { address = h .address; below = h .below };
   advances = λ s h. record { above = omega (arith, h .address); inside = omega (arith, h .address, h .below) };
   jumps = λ b s t h. record { above = t .0; inside = omega (arith, t .1) };
 }

@@ -2,10 +2,11 @@
 use mathlib.Core.Path.{_≡_, refl, sym, _∙_, ap, subst}
 use mathlib.Core.Bool.{Bool, true, false}
 use mathlib.Core.Logic.{_≢_, _⊎_, inl, inr, _↔_}
-use mathlib.Core.List.{List, [], _∷_}
+use mathlib.Core.List.{List, [], _∷_, map}
 use Prim.Native.Nat.{ℕ, zero, suc, _+_, max, _≤_, _<_}
 use native.Mathlib.Omega.{arith}
 use lib.Dec.{ltb}
+use lib.ListN.{length}
 use borrow.Author.Tests.{ltb-true, ltb-false}
 use Rattle.refusals.specs.declared.Refusal.{Refusal}
 use Rattle.refusals.specs.declared.Refusal.the-variants.{Stuck, NoMeeting}
@@ -13,14 +14,16 @@ use Rattle.cells.specs.Try.{Try, stuck, done}
 use Rattle.machine.specs.Machine.{State, Price, Next, stops, goes, opens, height, jump, sum}
 use Rattle.machine.proofs.LeadLaws.{Leads, goes-there, opens-there}
 use Rattle.machine.proofs.TargetLaws.{Onward}
+use Rattle.machine.proofs.SizeLaws.{Sized}
 use Rattle.bounds.specs.Tree.{Report, Verdict, accepted, refused}
 use Rattle.bounds.specs.Traces.{Move, move, Transition, goes-on, not-taken, taken}
 use Rattle.bounds.specs.Promises.{NoGreater, LargestOver}
 use Rattle.merges.specs.Merge.{Arrival, arrival, Slot, empty, unlike, held, slot, Table, nowhere, join, arrive, reach, finish, sweep, only, none}
-use Rattle.merges.specs.Ways.{fill, Among, first, later, NoMore, Together, MergedPath, stop, go-on, Comes, begins, follows, Fault, FirstFault, LargestMerged, count}
+use Rattle.merges.specs.Ways.{fill, Among, first, later, Under, NoMore, Together, MergedPath, stop, go-on, Comes, begins, follows, Fault, FirstFault, LargestMerged, count}
 use Rattle.merges.specs.Ways as ways
 use Rattle.merges.proofs.FillLaws.{assess, arrive-own, arrive-has, New, itself, former, arrive-new, From, from, fill-keeps, fill-start, fill-has, Source, before, by-way, fill-from, swept}
-use Rattle.merges.proofs.SlotLaws.{Summary, of-none, of-unlike, of-held, nobody, summary, slot-held, slot-unlike}
+use Rattle.merges.proofs.SlotLaws.{Summary, of-none, of-unlike, of-held, nobody, summary, slot-held, slot-unlike, parted-unlike, unlike-parted}
+use Rattle.merges.proofs.MergeLaws.{under-sizes}
 use Rattle.merges.proofs.AssessLaws.{free, Measure, Fine, unreached, carried, fine, AtStop, at-stop, stopped, AtHeight, at-height, deepest, counted, pathless, Bad, no-meeting, is-stuck, bad-unique, fine-good, Lowest, lowest}
 
 pub only-slot : (s : State) → slot (only s (s .at)) ≡ held s free
@@ -35,6 +38,8 @@ pub record Pass (act : State → Try Next) : Type 0 where
   pub inside : start .at ≤ top
   pub last : start .at + many ≡ suc top
   pub rising : (s : State) (n : Next) → act s ≡ done n → Leads (Onward (s .at) top) n
+  -- and blocks keep their sizes
+  pub sized : (ns : List ℕ) (s : State) (n : Next) → act s ≡ done n → Sized ns s → Leads (Sized ns) n
 
 module _ (act : State → Try Next) (pass : Pass act) where
   abbrev pub start : State
@@ -125,6 +130,27 @@ module _ (act : State → Try Next) (pass : Pass act) where
       out (of-unlike x y u) e = let z : _≡_ {A = ℕ} 0 1 = cc in absurd (omega arith)
       out (of-held h) e = let z : _≡_ {A = ℕ} 0 1 = cc in absurd (omega arith)
 
+  -- every state that comes has blocks of the start's sizes
+  transition-sized : (ns : List ℕ) (s : State) {t : State} {m : Move} → Transition act s m t → Sized ns s → Sized ns t
+  transition-sized ns s (goes-on e) h = goes-there (pass .sized ns s _ e h)
+  transition-sized ns s (not-taken e) h = opens-there (pass .sized ns s _ e h) .0
+  transition-sized ns s (taken e) h = opens-there (pass .sized ns s _ e h) .1
+
+  sized : (k b : ℕ) (x : Arrival) → b < k → Among x (came b) → Sized (map length (start .blocks)) (x .state)
+  unfolding jump
+  sized zero b x l h = absurd (omega arith)
+  sized (suc k) b x l h = go (origin b x h) (sized k)
+    where
+      merged-sized : (a : ℕ) {s t : State} → Under t s → Sized (map length (start .blocks)) t → Sized (map length (start .blocks)) (jump a s)
+      merged-sized a u i = record { sizes = sym (under-sizes u) ∙ i .sizes }
+
+      go : Origin b x → ((b : ℕ) (x : Arrival) → b < k → Among x (came b) → Sized (map length (start .blocks)) (x .state)) → Sized (map length (start .blocks)) (x .state)
+      go (is-start e f) ih = rw e (record { sizes = refl })
+      go (on-way a {s} lo lt hi e w f g) ih =
+          let (y, j, r) = together a e .cycles in
+          let i = ih a y (omega arith) j in
+          rw f (transition-sized _ (jump a s) w (merged-sized a (together a e .covers y j) i))
+
   -- nothing but the start comes to its address
   pub start-slot : slot (came (start .at)) ≡ held start free
   unfolding came
@@ -133,7 +159,7 @@ module _ (act : State → Try Next) (pass : Pass act) where
   -- ---- the refusal
 
   fault-bad : {a : ℕ} {x : Refusal} → Fault act came a x → Bad act came a x (slot (came a))
-  fault-bad {a} (ways.no-meeting x y u) = rw (slot-unlike (summary (came a)) x y u) no-meeting
+  fault-bad {a} (ways.no-meeting {x} {y} h k u) = rw (slot-unlike (summary (came a)) h k (unlike-parted (x .state) (y .state) u)) no-meeting
   fault-bad (ways.is-stuck e f) = rw e (is-stuck f)
 
   bad-fault : {a : ℕ} {x : Refusal} {i : Slot} → slot (came a) ≡ i → Bad act came a x i → Fault act came a x
@@ -141,7 +167,8 @@ module _ (act : State → Try Next) (pass : Pass act) where
     where
       go : {i : Slot} → Summary (came a) i → i ≡ unlike → Fault act came a (NoMeeting a)
       go (of-none h) f = let z : _≡_ {A = ℕ} 0 1 = cc in absurd (omega arith)
-      go (of-unlike x y u) f = ways.no-meeting x y u
+      go (of-unlike {x} {y} h k u) f =
+          ways.no-meeting h k (parted-unlike (x .state) (y .state) (sized (suc a) a x (omega arith) h .sizes ∙ sym (sized (suc a) a y (omega arith) k .sizes)) u)
       go (of-held h) f = let z : _≡_ {A = ℕ} 0 1 = cc in absurd (omega arith)
   bad-fault e (is-stuck f) = ways.is-stuck e f
 

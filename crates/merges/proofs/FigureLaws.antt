@@ -12,29 +12,20 @@ use Rattle.refusals.specs.declared.Refusal.{Refusal}
 use Rattle.refusals.specs.declared.Refusal.the-variants.{Stuck, NoMeeting}
 use Rattle.cells.specs.Try.{Try, stuck, done}
 use Rattle.cells.specs.Cells.{unknown}
-use Rattle.cells.specs.Order.{Refines}
 use Rattle.cells.proofs.Covering.{Covered, by-stuck, both}
 use Rattle.machine.specs.Machine.{State, Price, Instruction, Code, fetch, Next, stops, goes, opens, stackLimit, height, jump, sum, step}
-use Rattle.machine.specs.Order.{Cellwise}
 use Rattle.machine.proofs.PriceLaws.{AtMost, Both, Priced, is-stuck, stops-at, goes-at, opens-at, step-price}
 use Rattle.machine.proofs.LeadLaws.{Leads, stops-there, goes-to, opens-to}
 use Rattle.machine.proofs.HeightLaws.{Low, step-low}
-use Rattle.machine.proofs.StateLaws.{height-law}
 use Rattle.bounds.specs.Tree.{Report, Verdict, accepted, refused}
 use Rattle.bounds.proofs.TreeLaws.{contradiction}
 use Rattle.bounds.proofs.FigureLaws.{Bounded}
 use Rattle.merges.specs.Merge.{mergeStates, Arrival, arrival, Slot, empty, unlike, held, larger, settle, join, slot, Table, nowhere, arrive, send, reach, finish, carry, visit, sweep, end, span, only, none, merged}
 use Rattle.merges.specs.Ways.{Under}
-use Rattle.merges.proofs.MergeLaws.{under-self, states-merging}
+use Rattle.merges.proofs.MergeLaws.{under-self, under-height, states-merging}
 use Rattle.merges.proofs.AssessLaws.{finish-steps}
 
 -- ---- figures
-
-under-height : (s t : State) → Under s t → height s ≡ height t
-unfolding jump height
-under-height s t u =
-    let e : Cellwise Refines (jump 0 s) (jump 0 t) = record { at = refl; accu = u .accu; stack = u .stack; blocks = u .blocks } in
-    height-law e
 
 module _ (C W : ℕ) where
   -- what comes after at most n addresses
@@ -65,7 +56,7 @@ module _ (C W : ℕ) where
     where
       go : {m : Try State} → Covered Under (done s) m → MildSlot n (settle (larger p (x .spent)) m)
       go by-stuck = mild-unlike
-      go (both {b = m} u) = mild-held (larger-mild m (record { low = omega (arith, under-height s m u, k .low .low) }) k h)
+      go (both {b = m} u) = mild-held (larger-mild m (record { low = omega (arith, under-height u, k .low .low) }) k h)
 
   pub record MildTable (n : ℕ) (tab : Table) : Type 0 where
     pub slots : (b : ℕ) → MildSlot n (slot (tab b))

@@ -1,12 +1,14 @@
 -- Merging lists and states: the merge covers both, and what covers both covers it. Only the laws of merging cells are used.
 -- Assumes nothing.
-use mathlib.Core.Path.{_≡_}
-use mathlib.Core.List.{List, [], _∷_}
+use mathlib.Core.Path.{_≡_, refl, ap, ap₂}
+use mathlib.Core.List.{List, [], _∷_, map}
+use Prim.Native.Nat.{suc}
+use lib.ListN.{length}
 use Rattle.cells.specs.Try.{Try, stuck, done, _>>=_}
 use Rattle.cells.specs.Order.{Refines, same, Pointwise, end, cons}
 use Rattle.cells.proofs.Covering.{Covered, by-stuck, both}
 use Rattle.cells.proofs.MergeLaws.{Merging, cell-merging}
-use Rattle.machine.specs.Machine.{State}
+use Rattle.machine.specs.Machine.{State, height}
 use Rattle.machine.specs.Order.{Cellwise}
 use Rattle.machine.proofs.StateLaws.{cellwise-refl}
 use Rattle.merges.specs.Merge.{mergeLists, mergeStates}
@@ -64,6 +66,22 @@ cellwise-under e = record { accu = e .accu; stack = e .stack; blocks = e .blocks
 
 pub under-self : (s : State) → Under s s
 under-self s = cellwise-under (cellwise-refl (λ a. same) s)
+
+pointwise-length : {A : Type 0} {R : A → A → Type 0} {xs ys : List A} → Pointwise R xs ys → length xs ≡ length ys
+pointwise-length end = refl
+pointwise-length (cons r rs) = ap suc (pointwise-length rs)
+
+pointwise-sizes : {A : Type 0} {R : A → A → Type 0} {xs ys : List (List A)} → Pointwise (Pointwise R) xs ys → map length xs ≡ map length ys
+pointwise-sizes end = refl
+pointwise-sizes (cons r rs) = ap₂ _∷_ (pointwise-length r) (pointwise-sizes rs)
+
+-- what one state is under has as many entries, and blocks of the same sizes
+pub under-height : {s t : State} → Under s t → height s ≡ height t
+unfolding height
+under-height u = pointwise-length (u .stack)
+
+pub under-sizes : {s t : State} → Under s t → map length (s .blocks) ≡ map length (t .blocks)
+under-sizes u = pointwise-sizes (u .blocks)
 
 pub states-merging : Merging Under mergeStates
 unfolding mergeStates

@@ -17,6 +17,7 @@ use Rattle.machine.specs.Forward.{Forward}
 use Rattle.machine.specs.Targets.{Closed}
 use Rattle.machine.proofs.LeadLaws.{Leads, stops-there, goes-to, opens-to}
 use Rattle.machine.proofs.TargetLaws.{Onward, step-onward}
+use Rattle.machine.proofs.SizeLaws.{step-sized}
 use Rattle.machine.proofs.StateLaws.{cellwise-refl}
 use Rattle.machine.proofs.StepLaws.{step-law}
 use Rattle.bounds.specs.Tree.{Report, Verdict, accepted}
@@ -114,6 +115,7 @@ pass c forward closed s = record {
   inside = omega arith;
   last = omega arith;
   rising = λ t n e. widen c s (step-onward c forward closed unknown t n e);
+  sized = λ ns t n e h. step-sized ns c unknown t n e h;
 }
 
 module _ (c : Code) (forward : Forward c) (closed : Closed c) where

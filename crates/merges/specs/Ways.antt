@@ -59,19 +59,17 @@ pub record Together (xs : List Arrival) (m : State) (p : Price) : Type 0 where
   pub cycles : (x : Arrival) × Among x xs × (x .spent .cycles ≡ p .cycles)
   pub words : (x : Arrival) × Among x xs × (x .spent .words ≡ p .words)
 
--- two lists that have not one length, or somewhere two entries that are apart
-pub data Apart {A : Type 0} (R : A → A → Type 0) : List A → List A → Type 0 where
-  shorter : {y : A} {ys : List A} → Apart R [] (y ∷ ys)
-  longer : {x : A} {xs : List A} → Apart R (x ∷ xs) []
-  here : {x y : A} {xs ys : List A} → R x y → Apart R (x ∷ xs) (y ∷ ys)
-  there : {x y : A} {xs ys : List A} → Apart R xs ys → Apart R (x ∷ xs) (y ∷ ys)
+-- two lists with entries that R relates, at one place
+pub data Somewhere {A : Type 0} (R : A → A → Type 0) : List A → List A → Type 0 where
+  here : {x y : A} {xs ys : List A} → R x y → Somewhere R (x ∷ xs) (y ∷ ys)
+  there : {x y : A} {xs ys : List A} → Somewhere R xs ys → Somewhere R (x ∷ xs) (y ∷ ys)
 
--- "stack heights differ at a meeting or a cell is a handle on one way and anything else on the other"; no step changes how many blocks
--- there are or how many fields one has
+-- "stack heights differ at a meeting or a cell is a handle on one way and anything else on the other"
 pub data Unlike (s t : State) : Type 0 where
+  heights : (height s ≡ height t → ⊥) → Unlike s t
   in-accu : Clash (s .accu) (t .accu) → Unlike s t
-  in-stack : Apart Clash (s .stack) (t .stack) → Unlike s t
-  in-blocks : Apart (Apart Clash) (s .blocks) (t .blocks) → Unlike s t
+  in-stack : Somewhere Clash (s .stack) (t .stack) → Unlike s t
+  in-blocks : Somewhere (Somewhere Clash) (s .blocks) (t .blocks) → Unlike s t
 
 module _ (act : State → Try Next) (came : Table) where
   -- a way through the merged states from the address a to a STOP
