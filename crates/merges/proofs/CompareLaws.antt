@@ -1,20 +1,20 @@
 -- Where any bound that goes by a step's ways accepts, no figure of the tree is greater, and no step of the tree is stuck. Assumes nothing.
-use mathlib.Core.Path.{_≡_, refl, sym, subst}
+use mathlib.Core.Path.{_≡_, refl}
 use mathlib.Core.Logic.{_⊎_, inl, inr}
-use Prim.Native.Nat.{ℕ, zero, suc, _+_, max, _≤_}
+use Prim.Native.Nat.{ℕ, zero, suc, _≤_}
 use native.Mathlib.Omega.{arith}
 use Rattle.refusals.specs.Refusals.{number}
 use Rattle.refusals.specs.declared.Refusal.{Refusal}
 use Rattle.cells.specs.Try.{Try, stuck, done}
 use Rattle.cells.specs.Cells.{unknown}
 use Rattle.cells.specs.Order.{same}
-use Rattle.machine.specs.Machine.{State, Price, Next, stops, goes, opens, Code, height, step}
+use Rattle.machine.specs.Machine.{State, Price, Next, goes, opens, Code, height, step}
 use Rattle.machine.proofs.StateLaws.{cellwise-refl}
 use Rattle.bounds.specs.Tree.{Tree, expand, tree, cycles, words, depth, Report, report, Verdict, accepted, refused, explore, verdict, openingLimit, bound}
 use Rattle.bounds.specs.Traces.{Comes, here, next, not-taken, taken, Listed, is-stuck, opens-too-many, is-spent}
 use Rattle.bounds.proofs.TreeLaws.{Complete, accepted-complete}
 use Rattle.bounds.proofs.PromiseLaws.{refused-where}
-use Rattle.bounds.proofs.RunLaws.{Leaves, Ways, stopping, going, opening, Stepwise}
+use Rattle.bounds.proofs.RunLaws.{Ways, stopping, going, opening, Stepwise}
 use Rattle.merges.specs.Promises.{NotSmaller}
 
 module _ (c : Code) (M : State → Verdict) (by-steps : Stepwise c M) where

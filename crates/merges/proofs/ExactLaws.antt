@@ -1,16 +1,16 @@
 -- The figures of a sweep are settled by the ways through the merged states, and its refusal is the lowest fault. Assumes nothing.
 use mathlib.Core.Path.{_≡_, refl, sym, _∙_, ap, subst}
 use mathlib.Core.Bool.{Bool, true, false}
-use mathlib.Core.Logic.{_≢_, _⊎_, inl, inr, _↔_}
+use mathlib.Core.Logic.{_⊎_, inl, inr, _↔_}
 use mathlib.Core.List.{List, [], _∷_, map}
-use Prim.Native.Nat.{ℕ, zero, suc, _+_, max, _≤_, _<_}
+use Prim.Native.Nat.{ℕ, zero, suc, _+_, _≤_, _<_}
 use native.Mathlib.Omega.{arith}
 use lib.Dec.{ltb}
 use lib.ListN.{length}
 use borrow.Author.Tests.{ltb-true, ltb-false}
 use Rattle.refusals.specs.declared.Refusal.{Refusal}
-use Rattle.refusals.specs.declared.Refusal.the-variants.{Stuck, NoMeeting}
-use Rattle.cells.specs.Try.{Try, stuck, done}
+use Rattle.refusals.specs.declared.Refusal.the-variants.{NoMeeting}
+use Rattle.cells.specs.Try.{Try, done}
 use Rattle.machine.specs.Machine.{State, Price, Next, stops, goes, opens, height, jump, sum}
 use Rattle.machine.proofs.LeadLaws.{Leads, goes-there, opens-there}
 use Rattle.machine.proofs.TargetLaws.{Onward}
@@ -18,13 +18,13 @@ use Rattle.machine.proofs.SizeLaws.{Sized}
 use Rattle.bounds.specs.Tree.{Report, Verdict, accepted, refused}
 use Rattle.bounds.specs.Traces.{Move, move, Transition, goes-on, not-taken, taken}
 use Rattle.bounds.specs.Promises.{NoGreater, LargestOver}
-use Rattle.merges.specs.Merge.{Arrival, arrival, Slot, empty, unlike, held, slot, Table, nowhere, join, arrive, reach, finish, sweep, only, none}
-use Rattle.merges.specs.Ways.{fill, Among, first, later, Under, NoMore, Together, MergedPath, stop, go-on, Comes, begins, follows, Fault, FirstFault, LargestMerged, count}
+use Rattle.merges.specs.Merge.{Arrival, arrival, Slot, empty, unlike, held, slot, Table, nowhere, join, reach, finish, sweep, only, none}
+use Rattle.merges.specs.Ways.{fill, Among, Under, NoMore, Together, MergedPath, stop, go-on, Comes, begins, follows, Fault, FirstFault, LargestMerged, count}
 use Rattle.merges.specs.Ways as ways
 use Rattle.merges.proofs.FillLaws.{assess, arrive-own, arrive-has, New, itself, former, arrive-new, From, from, fill-keeps, fill-start, fill-has, Source, before, by-way, fill-from, swept}
 use Rattle.merges.proofs.SlotLaws.{Summary, of-none, of-unlike, of-held, nobody, summary, slot-held, slot-unlike, parted-unlike, unlike-parted}
 use Rattle.merges.proofs.MergeLaws.{under-sizes}
-use Rattle.merges.proofs.AssessLaws.{free, Measure, Fine, unreached, carried, fine, AtStop, at-stop, stopped, AtHeight, at-height, deepest, counted, pathless, Bad, no-meeting, is-stuck, bad-unique, fine-good, Lowest, lowest}
+use Rattle.merges.proofs.AssessLaws.{free, Measure, Fine, unreached, carried, fine, AtStop, at-stop, stopped, AtHeight, at-height, deepest, counted, pathless, Bad, no-meeting, is-stuck, bad-unique, fine-good, lowest}
 
 pub only-slot : (s : State) → slot (only s (s .at)) ≡ held s free
 unfolding only nowhere slot join

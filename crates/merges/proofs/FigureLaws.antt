@@ -1,12 +1,11 @@
 -- How large the figures of the merging bound can be, by the largest price, the addresses reached and the stack's limit; and where a
 -- refusal can be. What the ways to an address have cost keeps the same limits on the way. Assumes nothing.
-use mathlib.Core.Path.{_≡_, refl, sym, _∙_, ap, subst}
+use mathlib.Core.Path.{_≡_, refl, sym, ap, subst}
 use mathlib.Core.Bool.{Bool, true, false, cond}
-use mathlib.Core.List.{List, [], _∷_}
-use Prim.Native.Nat.{ℕ, zero, suc, _+_, _*_, _-_, max, _≤_, _<_}
+use mathlib.Core.List.{[], _∷_}
+use Prim.Native.Nat.{ℕ, zero, suc, _+_, _*_, _-_, _≤_, _<_}
 use native.Mathlib.Omega.{arith}
 use lib.Dec.{eqb}
-use lib.ListN.{length}
 use Rattle.refusals.specs.Refusals.{place}
 use Rattle.refusals.specs.declared.Refusal.{Refusal}
 use Rattle.refusals.specs.declared.Refusal.the-variants.{Stuck, NoMeeting}
@@ -14,13 +13,13 @@ use Rattle.cells.specs.Try.{Try, stuck, done}
 use Rattle.cells.specs.Cells.{unknown}
 use Rattle.cells.proofs.Covering.{Covered, by-stuck, both}
 use Rattle.machine.specs.Machine.{State, Price, Instruction, Code, fetch, Next, stops, goes, opens, stackLimit, height, jump, sum, step}
-use Rattle.machine.proofs.PriceLaws.{AtMost, Both, Priced, is-stuck, stops-at, goes-at, opens-at, step-price}
-use Rattle.machine.proofs.LeadLaws.{Leads, stops-there, goes-to, opens-to}
+use Rattle.machine.proofs.PriceLaws.{AtMost, Both, Priced, stops-at, goes-at, opens-at, step-price}
+use Rattle.machine.proofs.LeadLaws.{Leads, goes-to, opens-to}
 use Rattle.machine.proofs.HeightLaws.{Low, step-low}
-use Rattle.bounds.specs.Tree.{Report, Verdict, accepted, refused}
+use Rattle.bounds.specs.Tree.{Report, accepted, refused}
 use Rattle.bounds.proofs.TreeLaws.{contradiction}
 use Rattle.bounds.proofs.FigureLaws.{Bounded}
-use Rattle.merges.specs.Merge.{mergeStates, Arrival, arrival, Slot, empty, unlike, held, larger, settle, join, slot, Table, nowhere, arrive, send, reach, finish, carry, visit, sweep, end, span, only, none, merged}
+use Rattle.merges.specs.Merge.{Arrival, Slot, empty, unlike, held, larger, settle, join, slot, Table, nowhere, arrive, send, reach, finish, carry, visit, sweep, end, span, only, none, merged}
 use Rattle.merges.specs.Ways.{Under}
 use Rattle.merges.proofs.MergeLaws.{under-self, under-height, states-merging}
 use Rattle.merges.proofs.AssessLaws.{finish-steps}
@@ -82,13 +81,13 @@ module _ (C W : ℕ) where
   paid : {n : ℕ} (s t : State) (p q : Price) → Low t → Mild n s p → AtMost C W q → Mild (suc n) t (sum p q)
   paid s t p q l h a = record { low = l; cycles = omega (arith, h .cycles, a .cycles); words = omega (arith, h .words, a .words) }
 
-  send-mild : {n : ℕ} {tab : Table} (s : State) (p : Price) (k : Next) → Mild n s p → Priced (AtMost C W) (done k) → Leads Low k → MildTable n tab → MildTable (suc n) (send p k tab)
+  pub send-mild : {n : ℕ} {tab : Table} (s : State) (p : Price) (k : Next) → Mild n s p → Priced (AtMost C W) (done k) → Leads Low k → MildTable n tab → MildTable (suc n) (send p k tab)
   unfolding send
   send-mild s p (stops q) h a l t = table-longer t
   send-mild s p (goes q u) h (goes-at a) (goes-to l) t = arrive-mild _ (paid s u p q l h a) (table-longer t)
   send-mild s p (opens q u q′ v) h (opens-at x e a b) (opens-to l l′) t = arrive-mild _ (paid s u p q l h a) (arrive-mild _ (paid s v p q′ l′ h b) (table-longer t))
 
-  finish-mild : (s : State) (p : Price) (k : Next) (r : Report) → Mild (r .steps) s p → Priced (AtMost C W) (done k) → MildFigures r → MildFigures (finish p k (reach s r))
+  pub finish-mild : (s : State) (p : Price) (k : Next) (r : Report) → Mild (r .steps) s p → Priced (AtMost C W) (done k) → MildFigures r → MildFigures (finish p k (reach s r))
   unfolding finish reach
   finish-mild s p (stops q) r h (stops-at a) f = record { cycles = omega (arith, h .cycles, a .cycles, f .cycles); words = omega (arith, h .words, a .words, f .words); depth = omega (arith, h .low .low, f .depth); path = refl }
   finish-mild s p (goes q t) r h a f = record { cycles = omega (arith, f .cycles); words = omega (arith, f .words); depth = omega (arith, h .low .low, f .depth); path = refl }
@@ -125,7 +124,7 @@ module _ (C W : ℕ) where
         each mild-unlike e ih = contradiction _ _ e
         each (mild-held {s} {p} m) e ih = made s p (act (jump a s)) refl m e ih
 
-  only-mild : (s : State) → Low s → MildTable 0 (only s)
+  pub only-mild : (s : State) → Low s → MildTable 0 (only s)
   unfolding only nowhere slot
   only-mild s h = arrive-mild _ (record { low = h; cycles = omega arith; words = omega arith }) (record { slots = λ b. mild-empty })
 

@@ -2,13 +2,13 @@
 -- of them. Assumes nothing.
 use mathlib.Core.Path.{_≡_, refl, sym, _∙_, ap}
 use mathlib.Core.Bool.{Bool, true, false, cond}
-use mathlib.Core.List.{List, [], _∷_}
+use mathlib.Core.List.{_∷_}
 use Prim.Native.Nat.{ℕ, zero, suc, _+_, _≤_, _<_}
 use native.Mathlib.Omega.{arith}
 use lib.Dec.{eqb}
 use Rattle.cells.specs.Try.{Try, stuck, done}
 use Rattle.machine.specs.Machine.{State, Price, Next, stops, goes, opens, jump}
-use Rattle.bounds.specs.Tree.{Report, Verdict}
+use Rattle.bounds.specs.Tree.{Report}
 use Rattle.merges.specs.Merge.{Arrival, Slot, empty, unlike, held, join, slot, Table, arrive, send, carry, visit, sweep}
 use Rattle.merges.proofs.FillLaws.{arrive-other}
 

@@ -1,6 +1,6 @@
 -- What the states that come to an address are together: their merge covers them and is the least that does, its sums are the largest, and
 -- there is none exactly where two of them are unlike. Assumes nothing.
-use mathlib.Core.Path.{_≡_, refl, sym, _∙_, ap, subst}
+use mathlib.Core.Path.{_≡_, refl, ap, subst}
 use mathlib.Core.Bool.{Bool, true, false}
 use mathlib.Core.Logic.{_⊎_, inl, inr}
 use mathlib.Core.List.{List, [], _∷_, map}
@@ -10,10 +10,10 @@ use lib.Dec.{eqb, ltb}
 use lib.ListN.{length}
 use borrow.Author.Tests.{eqb-true, eqb-false, ltb-true, ltb-false}
 use Rattle.cells.specs.Try.{Try, stuck, done, _>>=_}
-use Rattle.cells.specs.Order.{Refines, same, Pointwise, end, cons}
+use Rattle.cells.specs.Order.{Pointwise, end, cons}
 use Rattle.cells.specs.Merge.{mergeCells, Clash}
 use Rattle.cells.proofs.Covering.{Covered, by-stuck, both}
-use Rattle.cells.proofs.MergeLaws.{Merging, cells-clash, clash-down}
+use Rattle.cells.proofs.MergeLaws.{cells-clash, clash-down}
 use Rattle.machine.specs.Machine.{State, Price, height}
 use Rattle.merges.specs.Merge.{mergeLists, mergeStates, Arrival, Slot, empty, unlike, held, larger, settle, join, slot}
 use Rattle.merges.specs.Ways as ways

@@ -9,10 +9,9 @@ use lib.Dec.{eqb}
 use borrow.Author.Tests.{eqb-true, eqb-false}
 use Rattle.cells.specs.Try.{Try, done}
 use Rattle.cells.specs.Cells.{unknown}
-use Rattle.cells.specs.Order.{Refines, same}
+use Rattle.cells.specs.Order.{same}
 use Rattle.cells.proofs.CellLaws.{refines-lawful}
 use Rattle.machine.specs.Machine.{State, Price, Next, stops, goes, opens, Code, height, jump, sum, step}
-use Rattle.machine.specs.Order.{Cellwise}
 use Rattle.machine.specs.Forward.{Forward}
 use Rattle.machine.specs.Targets.{Closed}
 use Rattle.machine.proofs.LeadLaws.{Leads, stops-there, goes-to, opens-to}

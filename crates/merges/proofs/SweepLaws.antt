@@ -2,8 +2,8 @@
 -- refused that the other is not. Assumes nothing.
 use mathlib.Core.Path.{_≡_, refl, ap}
 use mathlib.Core.Bool.{Bool, true, false, cond, true≢false, false≢true}
-use mathlib.Core.List.{List, [], _∷_}
-use Prim.Native.Nat.{ℕ, zero, suc, _+_, _-_, max, _≤_}
+use mathlib.Core.List.{List, _∷_}
+use Prim.Native.Nat.{ℕ, zero, suc, _+_, _-_, _≤_}
 use native.Mathlib.Omega.{arith}
 use lib.Dec.{eqb}
 use Rattle.refusals.specs.declared.Refusal.{Refusal}
@@ -15,8 +15,7 @@ use Rattle.machine.specs.Order.{Cellwise}
 use Rattle.machine.proofs.NextCovering.{NextCovered, stops-too, goes-too, opens-too, goes-not-taken, goes-taken}
 use Rattle.machine.proofs.StateLaws.{height-law}
 use Rattle.bounds.specs.Tree.{Report, Verdict, accepted, refused}
-use Rattle.cells.proofs.MergeLaws.{Merging}
-use Rattle.merges.specs.Merge.{mergeStates, Arrival, arrival, Slot, empty, unlike, held, larger, settle, join, slot, Table, arrive, send, reach, finish, carry, visit, sweep}
+use Rattle.merges.specs.Merge.{Arrival, Slot, empty, unlike, held, larger, settle, join, slot, Table, arrive, send, reach, finish, carry, visit, sweep}
 use Rattle.merges.specs.Ways.{Under}
 use Rattle.merges.proofs.MergeLaws.{merging-monotone, cellwise-under, states-merging}
 

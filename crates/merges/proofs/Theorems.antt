@@ -1,19 +1,13 @@
 -- What is proved of the merging bound, by the names of specs/Promises. Nothing else needs to be read of proofs/. Assumes nothing.
-use mathlib.Core.Path.{_≡_, refl}
-use Prim.Native.Nat.{ℕ, suc, _+_, _-_, _≤_}
+use mathlib.Core.List.{[]}
 use native.Mathlib.Omega.{arith}
-use Rattle.refusals.specs.declared.Refusal.{Refusal}
-use Rattle.cells.specs.Try.{done}
 use Rattle.cells.specs.Cells.{unknown}
-use Rattle.machine.specs.Machine.{State, Next, Code, step}
-use Rattle.machine.specs.Forward.{Forward}
-use Rattle.machine.specs.Targets.{Closed}
-use Rattle.machine.proofs.LeadLaws.{Leads, stops-there, goes-to, opens-to}
-use Rattle.machine.proofs.TargetLaws.{Onward, step-onward}
-use Rattle.bounds.specs.Tree.{Report, Verdict, accepted, refused}
-use Rattle.merges.specs.Merge.{end, span, merged}
+use Rattle.machine.specs.Machine.{step}
+use Rattle.bounds.specs.Run.{begin, after, run}
+use Rattle.bounds.proofs.RunLaws.{stopped-verdict}
+use Rattle.merges.specs.Merge.{merged}
 use Rattle.merges.specs.Ways.{table}
-use Rattle.merges.specs.Promises.{MergedInterruptible, MergedMonotone, MergedNotSmaller, RefusedForSize, TableGathered, MergedExact, MergedRefusedWhere, MergedAcceptedWhere}
+use Rattle.merges.specs.Promises.{MergedInterruptible, RunWithinMerged, MergedMonotone, MergedNotSmaller, RefusedForSize, TableGathered, MergedExact, MergedRefusedWhere, MergedAcceptedWhere}
 use Rattle.merges.proofs.StepwiseLaws as stepwise-laws
 use Rattle.merges.proofs.StepwiseLaws.{pass}
 use Rattle.merges.proofs.CompareLaws as compare-laws
@@ -22,6 +16,16 @@ use Rattle.merges.proofs.ExactLaws as exact-laws
 
 pub merged-interruptible : MergedInterruptible
 merged-interruptible c f g = stepwise-laws.interruptible c f g
+
+pub run-within-merged : RunWithinMerged
+unfolding run
+run-within-merged c f g t q a budget le s e answers =
+    let r = after c budget (begin s answers) in
+    let safe = stepwise-laws.interruptible c f g t q a s e answers budget in (
+      record { cycles = r .cycles; words = r .words; depth = r .depth; steps = r .steps; path = [] },
+      stopped-verdict budget r (safe .stops le),
+      record { cycles = omega (arith, safe .cycles); words = omega (arith, safe .words); depth = safe .depth; steps = safe .steps },
+    )
 
 pub merged-monotone : MergedMonotone
 merged-monotone c = stepwise-laws.monotone c

@@ -1,17 +1,21 @@
 -- What is promised of the merging bound, as statements. The file Theorems in proofs/ proves each by its name. (document 02 §9)
 use mathlib.Core.Path.{_≡_}
-use mathlib.Core.List.{[]}
+use mathlib.Core.List.{List, []}
 use mathlib.Core.Logic.{_⊎_, _↔_}
 use Prim.Native.Nat.{ℕ, _≤_}
+use lib.IntN.{ℤ}
 use Rattle.refusals.specs.Refusals.{number}
 use Rattle.refusals.specs.declared.Refusal.{Refusal}
 use Rattle.cells.specs.Cells.{unknown}
+use Rattle.cells.specs.Order.{Allowed}
 use Rattle.machine.specs.Machine.{State, Price, Code, step}
+use Rattle.machine.specs.Order.{Cellwise}
 use Rattle.machine.specs.Forward.{Forward}
 use Rattle.machine.specs.Targets.{Closed}
-use Rattle.bounds.specs.Tree.{Report, Verdict, accepted, refused, bound}
+use Rattle.bounds.specs.Tree.{Report, accepted, refused, bound}
 use Rattle.bounds.specs.Traces.{cost, wordSum}
-use Rattle.bounds.specs.Promises.{Interruptible, Monotone, LargestOver}
+use Rattle.bounds.specs.Run.{run}
+use Rattle.bounds.specs.Promises.{NoGreater, Interruptible, Monotone, LargestOver}
 use Rattle.merges.specs.Merge.{Arrival, empty, held, slot, span, merged}
 use Rattle.merges.specs.Ways.{table, Among, Together, MergedPath, Comes, Fault, FirstFault, LargestMerged, count}
 
@@ -22,6 +26,12 @@ OfSinglePass P = (c : Code) → Forward c → Closed c → P c
 -- Demand 3: "An interrupted run of a routine accepted here has all that the third demand gives, with the afresh bound being this one."
 abbrev pub MergedInterruptible : Type 0
 MergedInterruptible = OfSinglePass (λ c. Interruptible c (merged c))
+
+-- a run of a start that t allows is, under a BUDGET of at least STEPS, refused by neither 7 nor 9 and within the report's four figures
+abbrev pub RunWithinMerged : Type 0
+RunWithinMerged =
+    OfSinglePass (λ c. (t : State) (q : Report) → merged c t ≡ accepted q → (budget : ℕ) → q .steps ≤ budget →
+    (s : State) → Cellwise Allowed s t → (answers : List ℤ) → (r : Report) × (run c budget s answers ≡ accepted r) × NoGreater r q)
 
 -- knowing more never costs more, of all code
 abbrev pub MergedMonotone : Type 0
