@@ -3,3 +3,4 @@ pub mod Cells
 pub mod Answers
 pub mod Order
 pub mod Merge
+pub mod Codes

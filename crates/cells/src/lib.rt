@@ -4,6 +4,8 @@ ghost use mathlib.Core.Path.{_≡_};
 ghost use Rattle.numbers.specs.Numbers.{wrap, bit};
 ghost use Rattle.cells.specs.Cells.{number, unknown, handle, calculate₁, calculate₂, compareHandles, combineHandles, operate₁, operate₂, condition, block};
 ghost use Rattle.cells.specs.Answers.{ofOperand, ofTested, ofHandled};
+ghost use Rattle.cells.specs.Merge.{mergeCells};
+ghost use Rattle.cells.specs.Codes.{cellOf};
 
 // "A cell holds a number, an unknown number or a block handle."
 pub enum Value {
@@ -200,4 +202,81 @@ pub fn block(a: Cell) -> Handled
         return Handled::Stuck;
     };
     Handled::Block(k)
+}
+
+// "equal cells stay, unlike numbers become unknown"; a handle and anything else cannot be merged. (document 02 §9)
+pub fn merge(a: Cell, b: Cell) -> Operand
+    ensures { λ r. ⌜ ofOperand r ≡ mergeCells a b ⌝ }
+{
+    let left = a.value;
+    let right = b.value;
+    match left {
+        Value::Number(m) => match right {
+            Value::Number(n) => {
+                if m == n {
+                    Operand::Is(Cell {
+                        value: Value::Number(m),
+                    })
+                } else {
+                    Operand::Is(unknown())
+                }
+            }
+            Value::Unknown => Operand::Is(unknown()),
+            Value::Handle(_) => Operand::Stuck,
+        },
+        Value::Unknown => match right {
+            Value::Number(_) => Operand::Is(unknown()),
+            Value::Unknown => Operand::Is(unknown()),
+            Value::Handle(_) => Operand::Stuck,
+        },
+        Value::Handle(j) => match right {
+            Value::Number(_) => Operand::Stuck,
+            Value::Unknown => Operand::Stuck,
+            Value::Handle(k) => {
+                if j == k {
+                    Operand::Is(handle(j))
+                } else {
+                    Operand::Stuck
+                }
+            }
+        },
+    }
+}
+
+// A cell as a number: the numbers of 32 bits in two's complement, then the unknown, then the handles.
+pub fn encode(c: Cell) -> u64
+    ensures { λ r. ⌜ cellOf r ≡ c ⌝ }
+{
+    let value = c.value;
+    match value {
+        Value::Number(n) => {
+            if n < 0 {
+                4294967295 - (-1 - n) as u64
+            } else {
+                n as u64
+            }
+        }
+        Value::Unknown => 4294967296,
+        Value::Handle(k) => 4294967552 + k as u64,
+    }
+}
+
+// The cell that a number stands for: any number stands for one.
+pub fn decode(x: u64) -> Cell
+    ensures { λ r. ⌜ r ≡ cellOf x ⌝ }
+{
+    if x < 2147483648 {
+        return Cell {
+            value: Value::Number(x as i32),
+        };
+    }
+    if x < 4294967296 {
+        return Cell {
+            value: Value::Number(-1 - (4294967295 - x) as i32),
+        };
+    }
+    if x == 4294967296 {
+        return unknown();
+    }
+    handle((x % 256) as u8)
 }
