@@ -23,7 +23,8 @@ pub struct Tally {
     pub depth: u64,
 }
 
-fn larger(a: u64, b: u64) -> u64
+// The larger of two numbers.
+pub fn larger(a: u64, b: u64) -> u64
     ensures { λ r. ⌜ r ≡ max a b ⌝ }
 {
     if a < b { b } else { a }

@@ -1,0 +1,22 @@
+-- `merging::unused` meets its contract. Assumes nothing.
+use mathlib.Core.Path.{_≡_, refl, sym, ap}
+use mathlib.Core.Bool.{Bool, cond}
+use native.Mathlib.Omega.{arith}
+use borrow.Author.Tests.{lt-ltb, le-ltb}
+use Rattle.merging.specs.Rows.{unusedOf}
+use borrow.Author.Needs.{needs}
+use Rattle.merging.proofs.unused.Statement.{statement}
+use Rattle.merging.proofs.unused.Tie as tie
+use Rattle.merging.proofs.unused.Reads as reads
+use Rattle.merging.proofs.unused.Lts as lts
+
+returns : tie.Need-returns
+unfolding unusedOf
+returns c = rw (lt-ltb (c .before .args .n) 64 (omega arith)) refl
+
+returns-2 : tie.Need-returns-2
+unfolding unusedOf
+returns-2 c = rw (le-ltb (c .before .args .n) 64 (omega arith)) refl
+
+pub unused-spec : {M : Type 1} → statement M
+unused-spec = tie.close (tie.spec returns returns-2)
