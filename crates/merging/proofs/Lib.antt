@@ -4,3 +4,5 @@ pub mod FillLaws
 pub mod RowLaws
 pub mod MeetLaws
 pub mod PartLaws
+pub mod PassLaws
+pub mod CarryLaws

@@ -86,7 +86,11 @@ slotAt ns first hs es fs b = slotIn ns (first + b) (part (5 * b) 5 hs) (part (64
 unfoldable pub joinAt : ℕ → Arrival → Slot → Slot
 joinAt a x s = cond (eqb a (x .state .at)) (join s x) s
 
--- what has come to the address of row b, where the way w comes to that of row j too, if `here` says so
+-- what has come to an address, with the way w if `here` says so
+unfoldable pub with : List ℕ → Bool → Way → Slot → Slot
+with ns true w s = join s (arrivalOf ns w)
+with ns false w s = s
+
+-- what has come to the address of row b, where the way w goes to that of row j if `here` says so
 unfoldable pub waiting : List ℕ → Bool → Way → ℕ → ℕ → Slot → Slot
-waiting ns true w j b s = cond (eqb b j) (join s (arrivalOf ns w)) s
-waiting ns false w j b s = s
+waiting ns here w j b s = cond (eqb b j) (with ns here w s) s

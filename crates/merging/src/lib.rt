@@ -1,16 +1,30 @@
 // The merging bound: one pass over the code's addresses in rising order, which merges the states where ways meet. The meaning is in specs/.
 use cells::Cell;
 use cells::Operand;
+use findings::Found;
+use refusals::Refusal;
+use refusals::Verdict;
 use states::State;
+use steps::Next;
+use steps::Price;
 ghost use mathlib.Core.Path.{_≡_};
 ghost use mathlib.Core.List.{List};
-ghost use Prim.Native.Nat.{ℕ, _+_, _<_, _≤_};
+ghost use mathlib.Core.Bool.{true};
+ghost use Prim.Native.Nat.{ℕ, suc, _+_, _<_, _≤_, max};
 ghost use lib.ListN.{length, getD, take};
 ghost use Rattle.cells.specs.Merge.{mergeCells};
 ghost use Rattle.cells.specs.Codes.{cellsOf};
-ghost use Rattle.states.specs.View.{blocksOf};
-ghost use Rattle.merges.specs.Merge.{mergeLists, mergeStates, settle, larger, join};
-ghost use Rattle.merging.specs.Rows.{Small, Formed, Row, Rows, unusedOf, ofCells, ofBlocks, ofStates, arrivalOf, stateIn, priceIn, arrivalIn, slotIn, slotAt, joinAt, waiting};
+ghost use Rattle.cells.specs.Cells.{unknown};
+ghost use Rattle.machine.specs.Machine.{step};
+ghost use Rattle.states.specs.Columns.{codeOf, Sized};
+ghost use Rattle.states.specs.View.{WellFormed, blocksOf, whole};
+ghost use Rattle.bounds.specs.Tree.{Report};
+ghost use Rattle.steps.specs.Step.{SmallPrice};
+ghost use Rattle.findings.specs.Found.{acceptedAs, Shows};
+ghost use Rattle.refusals.specs.declared.Verdict.the-variants.{Accepted};
+ghost use Rattle.merges.specs.Merge.{mergeLists, mergeStates, settle, larger, join, Table, slot, carry, visit, merged};
+ghost use Rattle.merging.specs.Rows.{Small, Formed, Row, Rows, unusedOf, ofCells, ofBlocks, ofStates, arrivalOf, stateIn, priceIn, arrivalIn, slotIn, slotAt, joinAt, with, waiting};
+ghost use Rattle.merging.specs.Pass.{cameAs, Held, Comes, Spent, most, Figures, Ready, Agrees, Moved, spentOf};
 
 // A way to an address: the state that comes to it, with its blocks, and the largest sums of the ways to it.
 pub struct Way {
@@ -268,4 +282,365 @@ fn send(
         sizes,
         w,
     );
+}
+
+// A way goes on from the address of row `j`: whether to the next. To any other it is sent.
+fn onward(
+    heads: &mut [u64],
+    entries: &mut [u64],
+    fields: &mut [u64],
+    sizes: &[u8],
+    first: usize,
+    n: usize,
+    j: usize,
+    w: Way,
+) -> bool
+    requires { ⌜ Rows (now heads) (now entries) (now fields) × (n ≤ 1025) × (first ≤ 65536) × (j < n) × Formed w × Small (now sizes) ⌝ }
+    ensures { λ r. ⌜ ((b : ℕ) → j < b → b < n → waiting (now (sizes .entry)) r w (j + 1) b (slotAt (now (sizes .entry)) first (now (heads .exit)) (now (entries .exit)) (now (fields .exit)) b) ≡ joinAt (first + b) (arrivalOf (now (sizes .entry)) w) (slotAt (now (sizes .entry)) first (now (heads .entry)) (now (entries .entry)) (now (fields .entry)) b)) ⌝ }
+    ensures { λ r. ⌜ Comes r w (first + (j + 1)) ⌝ }
+{
+    let s = w.state;
+    let at = s.at;
+    if at == first + j + 1 {
+        return true;
+    }
+    send(heads, entries, fields, sizes, first, n, w);
+    false
+}
+
+// What has come to an address: nothing, states that cannot be merged, or a way.
+pub enum Mark {
+    Nothing,
+    Unlike,
+    Is,
+}
+
+pub struct Came {
+    pub mark: Mark,
+    pub way: Way,
+}
+
+// What a row holds, that of the address `at`; where it is no way, `w` stands beside it.
+fn found(at: usize, head: &[u64], entries: &[u64], fields: &[u64], w: Way) -> Came
+    requires { ⌜ Row (now head) (now entries) (now fields) ⌝ }
+    ensures { λ r. ⌜ ((ns : List ℕ) → cameAs ns (r .mark) (r .way) ≡ slotIn ns at (now (head .entry)) (now (entries .entry)) (now (fields .entry))) ⌝ }
+    ensures { λ r. ⌜ Held (r .mark) (r .way) at ⌝ }
+{
+    let mark = head[0];
+    if mark == 0 {
+        return Came {
+            mark: Mark::Nothing,
+            way: w,
+        };
+    }
+    if mark == 1 {
+        let held = take(at, head, entries, fields);
+        return Came {
+            mark: Mark::Is,
+            way: held,
+        };
+    }
+    Came {
+        mark: Mark::Unlike,
+        way: w,
+    }
+}
+
+// What has come to the address `at`: what its row holds, and the way `w` if `here` says so.
+fn reach(
+    head: &mut [u64],
+    entries: &mut [u64],
+    fields: &mut [u64],
+    sizes: &[u8],
+    at: usize,
+    here: bool,
+    w: Way,
+) -> Came
+    requires { ⌜ Row (now head) (now entries) (now fields) × Comes here w at × Small (now sizes) ⌝ }
+    ensures { λ r. ⌜ cameAs (now (sizes .entry)) (r .mark) (r .way) ≡ with (now (sizes .entry)) here w (slotIn (now (sizes .entry)) at (now (head .entry)) (now (entries .entry)) (now (fields .entry))) ⌝ }
+    ensures { λ r. ⌜ Held (r .mark) (r .way) at ⌝ }
+{
+    if !here {
+        return found(at, head, entries, fields, w);
+    }
+    let mark = head[0];
+    if mark == 0 {
+        return Came {
+            mark: Mark::Is,
+            way: w,
+        };
+    }
+    join(head, entries, fields, sizes, w);
+    found(at, head, entries, fields, w)
+}
+
+// A way after a step at the price `p`, which leaves `state` and `blocks`.
+fn paid(w: Way, state: State, blocks: [Cell; 128], p: Price) -> Way
+    requires { ⌜ (w .cycles ≤ most 1025) × (w .words ≤ most 1025) × SmallPrice p ⌝ }
+    ensures { λ r. ⌜ (r .state ≡ state) × (r .blocks ≡ blocks) × (r .cycles ≡ w .cycles + p .cycles) × (r .words ≡ w .words + p .words) ⌝ }
+{
+    let cycles = w.cycles + p.cycles;
+    let words = w.words + p.words;
+    Way {
+        state: state,
+        blocks: blocks,
+        cycles: cycles,
+        words: words,
+    }
+}
+
+// An address more is reached, where the stack's height is `h`.
+fn reached(f: Found, h: usize) -> Found
+    requires { ⌜ (f .used ≤ 1025) × (h ≤ 64) ⌝ }
+    ensures { λ r. ⌜ (r .verdict ≡ Accepted) × (r .used ≡ suc (f .used)) × (r .cycles ≡ f .cycles) × (r .words ≡ f .words) × (r .depth ≡ max (f .depth) h) × (r .path ≡ 1) ⌝ }
+{
+    let depth = findings::larger(f.depth, h as u64);
+    Found {
+        verdict: Verdict::Accepted,
+        used: f.used + 1,
+        cycles: f.cycles,
+        words: f.words,
+        depth: depth,
+        path: 1,
+    }
+}
+
+// A way ends in STOP.
+fn ended(f: Found, w: Way) -> Found
+    ensures { λ r. ⌜ (r .verdict ≡ Accepted) × (r .used ≡ f .used) × (r .cycles ≡ max (f .cycles) (w .cycles)) × (r .words ≡ max (f .words) (w .words)) × (r .depth ≡ f .depth) × (r .path ≡ 1) ⌝ }
+{
+    let cycles = findings::larger(f.cycles, w.cycles);
+    let words = findings::larger(f.words, w.words);
+    Found {
+        verdict: Verdict::Accepted,
+        used: f.used,
+        cycles: cycles,
+        words: words,
+        depth: f.depth,
+        path: 1,
+    }
+}
+
+// A pass so far: its figures, and the way that goes to the next address, if `here` says so.
+pub struct Pass {
+    pub found: Found,
+    pub here: bool,
+    pub way: Way,
+}
+
+// The way `w`, which is all that has come to the address of row `j`, is carried out there.
+fn carry(
+    codes: &[u8],
+    operands: &[i32],
+    cycles: &[u32],
+    words: &[u32],
+    extras: &[u32],
+    heads: &mut [u64],
+    entries: &mut [u64],
+    fields: &mut [u64],
+    sizes: &[u8],
+    first: usize,
+    n: usize,
+    j: usize,
+    f: Found,
+    w: Way,
+) -> Pass
+    requires { ⌜ Sized (now codes) (now operands) (now cycles) (now words) (now extras) ⌝ }
+    requires { ⌜ Rows (now heads) (now entries) (now fields) × (n ≤ 1025) × (first + length (now codes) ≤ 65536) × (j < n) × Small (now sizes) ⌝ }
+    requires { ⌜ Formed w × (w .state .at ≡ first + j) × (w .cycles ≤ most j) × (w .words ≤ most j) × Figures j f ⌝ }
+    requires { ⌜ ((b : ℕ) → j < b → b < n → Spent (most j) (slotAt (now sizes) first (now heads) (now entries) (now fields) b)) ⌝ }
+    ensures { λ r. ⌜ Ready (now (sizes .entry)) first n (j + 1) (now (heads .exit)) (now (entries .exit)) (now (fields .exit)) r ⌝ }
+    ensures { λ r. ⌜ ((tab : Table) (q : Report) → f ≡ acceptedAs q → ((b : ℕ) → j < b → b < n → slot (tab (first + b)) ≡ slotAt (now (sizes .entry)) first (now (heads .entry)) (now (entries .entry)) (now (fields .entry)) b) → Moved (now (sizes .entry)) first n (j + 1) (λ rest. carry rest (first + j) tab q (whole (now (sizes .entry)) (w .blocks) (w .state)) (spentOf w) (step (codeOf first (now (codes .entry)) (now (operands .entry)) (now (cycles .entry)) (now (words .entry)) (now (extras .entry))) unknown (whole (now (sizes .entry)) (w .blocks) (w .state)))) (now (heads .exit)) (now (entries .exit)) (now (fields .exit)) r) ⌝ }
+{
+    let s = w.state;
+    let b = w.blocks;
+    let answer = cells::unknown();
+    let stepped = steps::step(
+        codes,
+        operands,
+        cycles,
+        words,
+        extras,
+        sizes,
+        first,
+        answer,
+        s,
+        b,
+    );
+    let next = stepped.next;
+    let state = stepped.state;
+    let blocks = stepped.blocks;
+    let g = reached(f, 64 - s.free);
+    match next {
+        Next::Stuck => Pass {
+            found: findings::refused(Refusal::Stuck(first + j), 0),
+            here: false,
+            way: w,
+        },
+        Next::Stops(p) => Pass {
+            found: ended(g, paid(w, state, blocks, p)),
+            here: false,
+            way: w,
+        },
+        Next::Goes(p) => {
+            let v = paid(w, state, blocks, p);
+            let here = onward(heads, entries, fields, sizes, first, n, j, v);
+            Pass {
+                found: g,
+                here: here,
+                way: v,
+            }
+        }
+        Next::Opens(p, place, q) => {
+            let taken = paid(w, state.jump(place), blocks, q);
+            send(heads, entries, fields, sizes, first, n, taken);
+            let v = paid(w, state, blocks, p);
+            let here = onward(heads, entries, fields, sizes, first, n, j, v);
+            Pass {
+                found: g,
+                here: here,
+                way: v,
+            }
+        }
+    }
+}
+
+// The address of row `j`.
+fn visit(
+    codes: &[u8],
+    operands: &[i32],
+    cycles: &[u32],
+    words: &[u32],
+    extras: &[u32],
+    heads: &mut [u64],
+    entries: &mut [u64],
+    fields: &mut [u64],
+    sizes: &[u8],
+    first: usize,
+    n: usize,
+    j: usize,
+    p: Pass,
+) -> Pass
+    requires { ⌜ Sized (now codes) (now operands) (now cycles) (now words) (now extras) ⌝ }
+    requires { ⌜ (n ≤ 1025) × (first + length (now codes) ≤ 65536) × (j < n) × Small (now sizes) ⌝ }
+    requires { ⌜ Ready (now sizes) first n j (now heads) (now entries) (now fields) p ⌝ }
+    ensures { λ r. ⌜ Ready (now (sizes .entry)) first n (j + 1) (now (heads .exit)) (now (entries .exit)) (now (fields .exit)) r ⌝ }
+    ensures { λ r. ⌜ ((tab : Table) (q : Report) → p .found ≡ acceptedAs q → Agrees (now (sizes .entry)) first n j tab (now (heads .entry)) (now (entries .entry)) (now (fields .entry)) (p .here) (p .way) → Moved (now (sizes .entry)) first n (j + 1) (λ rest. visit (step (codeOf first (now (codes .entry)) (now (operands .entry)) (now (cycles .entry)) (now (words .entry)) (now (extras .entry))) unknown) rest (first + j) tab q (slot (tab (first + j)))) (now (heads .exit)) (now (entries .exit)) (now (fields .exit)) r) ⌝ }
+{
+    let at = first + j;
+    let head = 5 * j;
+    let entry = 64 * j;
+    let field = 128 * j;
+    let head_end = head + 5;
+    let entry_end = entry + 64;
+    let field_end = field + 128;
+    let w = p.way;
+    let came = reach(
+        &mut heads[head..head_end],
+        &mut entries[entry..entry_end],
+        &mut fields[field..field_end],
+        sizes,
+        at,
+        p.here,
+        w,
+    );
+    let v = came.way;
+    let f = p.found;
+    let mark = came.mark;
+    match mark {
+        Mark::Nothing => Pass {
+            found: f,
+            here: false,
+            way: v,
+        },
+        Mark::Unlike => Pass {
+            found: findings::refused(Refusal::NoMeeting(at), 0),
+            here: false,
+            way: v,
+        },
+        Mark::Is => carry(
+            codes,
+            operands,
+            cycles,
+            words,
+            extras,
+            heads,
+            entries,
+            fields,
+            sizes,
+            first,
+            n,
+            j,
+            f,
+            v,
+        ),
+    }
+}
+
+// The merging bound from `start` with `blocks`. Ways over jumps wait in the rows of three arrays, one row for each address up to that after
+// the last; the way from the address before is at hand.
+pub fn merge(
+    codes: &[u8],
+    operands: &[i32],
+    cycles: &[u32],
+    words: &[u32],
+    extras: &[u32],
+    sizes: &[u8],
+    first: usize,
+    start: State,
+    blocks: [Cell; 128],
+) -> Found
+    requires { ⌜ Sized (now codes) (now operands) (now cycles) (now words) (now extras) ⌝ }
+    requires { ⌜ (first + length (now codes) ≤ 65536) × Small (now sizes) × WellFormed start × (length blocks ≡ 128) × (first ≤ start .at) × (start .at ≤ first + length (now codes)) ⌝ }
+    ensures { λ r. ⌜ Shows r (merged (codeOf first (now (codes .entry)) (now (operands .entry)) (now (cycles .entry)) (now (words .entry)) (now (extras .entry))) (whole (now (sizes .entry)) blocks start)) ⌝ }
+    ensures { λ r. ⌜ Figures 1025 r ⌝ }
+{
+    let mut heads = [0; 5125];
+    let mut entries = [0; 65600];
+    let mut fields = [0; 131200];
+    let n = codes.len() + 1;
+    let mut j = start.at - first;
+    let way = Way {
+        state: start,
+        blocks: blocks,
+        cycles: 0,
+        words: 0,
+    };
+    let nothing = Found {
+        verdict: Verdict::Accepted,
+        used: 0,
+        cycles: 0,
+        words: 0,
+        depth: 0,
+        path: 1,
+    };
+    let mut p = Pass {
+        found: nothing,
+        here: true,
+        way: way,
+    };
+    while j < n {
+        p = visit(
+            codes,
+            operands,
+            cycles,
+            words,
+            extras,
+            &mut heads,
+            &mut entries,
+            &mut fields,
+            sizes,
+            first,
+            n,
+            j,
+            p,
+        );
+        let f = p.found;
+        let verdict = f.verdict;
+        let Verdict::Accepted = verdict else {
+            return f;
+        };
+        j += 1;
+    }
+    p.found
 }

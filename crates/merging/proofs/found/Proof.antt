@@ -1,0 +1,39 @@
+-- `merging::found` meets its contract. Assumes nothing.
+use mathlib.Core.Path.{_≡_}
+use lib.ListN.{getD}
+use Rattle.merging.proofs.PassLaws.{came-nothing, came-way, came-unlike}
+use borrow.Author.Needs.{needs}
+use Rattle.merging.proofs.found.Statement.{statement}
+use Rattle.merging.proofs.found.Tie as tie
+use Rattle.merging.proofs.found.Reads as reads
+use Rattle.merging.proofs.found.Lts as lts
+use Rattle.merging.proofs.take.Reads as take-reads
+
+shared-slice-read-mark : tie.Need-shared-slice-read-mark
+shared-slice-read-mark c = search needs
+
+returns : tie.Need-returns
+returns c =
+    let a = c .before .before .before .before .before .args in
+    let e : getD (a .head .now) 0 0 ≡ 0 = c .if1 .taken in
+    (λ ns. came-nothing ns (a .at) (a .head .now) (a .entries .now) (a .fields .now) (a .w) e, tt)
+
+take-requires : tie.Need-take-requires
+take-requires c κs = search needs
+
+returns-2 : tie.Need-returns-2
+returns-2 c =
+    let a = c .before .before .before .before .before .before .before .args in
+    let e : getD (a .head .now) 0 0 ≡ 1 = c .before .if2 .taken in
+    let t = c .take in
+    (λ ns. came-way ns (a .at) (a .head .now) (a .entries .now) (a .fields .now) (t .result) e (t .ensures .0 ns), (t .ensures .1 .1, t .ensures .1 .0))
+
+returns-3 : tie.Need-returns-3
+returns-3 c =
+    let a = c .before .before .before .before .before .before .args in
+    let n : getD (a .head .now) 0 0 ≡ 0 → ⊥ = search needs in
+    let m : getD (a .head .now) 0 0 ≡ 1 → ⊥ = search needs in
+    (λ ns. came-unlike ns (a .at) (a .head .now) (a .entries .now) (a .fields .now) (a .w) n m, tt)
+
+pub found-spec : {M : Type 1} → statement M
+found-spec = tie.close (tie.spec shared-slice-read-mark returns take-requires returns-2 returns-3)

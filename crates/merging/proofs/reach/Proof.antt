@@ -1,0 +1,92 @@
+-- `merging::reach` meets its contract. Assumes nothing.
+use mathlib.Core.Path.{_≡_, _∙_}
+use lib.ListN.{getD}
+use borrow.Author.Tests.{not-true, not-false}
+use Rattle.merging.specs.Rows.{slotIn}
+use Rattle.merging.proofs.RowLaws.{slot-empty}
+use Rattle.merging.proofs.PassLaws.{with-none, with-first, with-next, comes-here}
+use borrow.Author.Needs.{needs}
+use Rattle.merging.proofs.reach.Statement.{statement}
+use Rattle.merging.proofs.reach.Tie as tie
+use Rattle.merging.proofs.reach.Reads as reads
+use Rattle.merging.proofs.reach.Lts as lts
+use Rattle.merging.proofs.found.Reads as found-reads
+use Rattle.merging.proofs.join.Reads as join-reads
+
+found-requires : tie.Need-found-requires
+found-requires c κs = search needs
+
+same-length : tie.Need-same-length
+same-length c = search needs
+
+same-length-2 : tie.Need-same-length-2
+same-length-2 c = search needs
+
+same-length-3 : tie.Need-same-length-3
+same-length-3 c = search needs
+
+returns : tie.Need-returns
+returns c =
+    let a = c .before .before .before .before .before .before .before .before .before .args in
+    (c .found .ensures .0 (a .sizes .now) ∙ with-none (a .sizes .now) (a .here) (a .w) _ (not-true (a .here) (c .before .before .before .before .if1 .taken)), c .found .ensures .1)
+
+slice-read-mark : tie.Need-slice-read-mark
+slice-read-mark c = search needs
+
+returns-2 : tie.Need-returns-2
+returns-2 c =
+    let start = c .before .before .before .before .before .before .before in
+    let a = start .args in
+    let e : getD (a .head .now) 0 0 ≡ 0 = c .if2 .taken in
+    let h = not-false (a .here) (c .before .before .if1 .left) in (
+      with-first (a .sizes .now) (a .here) (a .w) _ h (slot-empty (a .sizes .now) (a .at) (a .head .now) (a .entries .now) (a .fields .now) e),
+      comes-here (a .here) (a .w) (a .at) h (start .pre .1),
+    )
+
+join-requires : tie.Need-join-requires
+join-requires c κs =
+    let start = c .before .before .before .before .before .before .before .before .before .before in
+    let a = start .args in
+    (start .pre .0, comes-here (a .here) (a .w) (a .at) (not-false (a .here) (c .before .before .before .before .before .if1 .left)) (start .pre .1) .1, start .pre .2)
+
+found-requires-2 : tie.Need-found-requires-2
+found-requires-2 c κs = search needs
+
+same-length-4 : tie.Need-same-length-4
+same-length-4 c = search needs
+
+same-length-5 : tie.Need-same-length-5
+same-length-5 c = search needs
+
+same-length-6 : tie.Need-same-length-6
+same-length-6 c = search needs
+
+returns-3 : tie.Need-returns-3
+returns-3 c =
+    let start = c .before .before .before .before .before .before .before .before .before .before .before .before .before .before .before .before .before .before .before .before .before in
+    let a = start .args in
+    let j = c .before .before .before .before .before .before .before .before .before .before .join in
+    let h = not-false (a .here) (c .before .before .before .before .before .before .before .before .before .before .before .before .before .before .before .before .if1 .left) in (
+      c .found2 .ensures .0 (a .sizes .now)
+          ∙ with-next (a .sizes .now) (a .here) (a .w) (a .at) (λ i. slotIn (a .sizes .now) i (a .head .now) (a .entries .now) (a .fields .now))
+          (λ i. slotIn (a .sizes .now) i (j .last .0) (j .last .1 .0) (j .last .1 .1 .0)) h (comes-here (a .here) (a .w) (a .at) h (start .pre .1) .0) (j .ensures),
+      c .found2 .ensures .1,
+    )
+
+pub reach-spec : {M : Type 1} → statement M
+reach-spec =
+    tie.close
+    (tie.spec
+    found-requires
+    same-length
+    same-length-2
+    same-length-3
+    returns
+    slice-read-mark
+    returns-2
+    join-requires
+    found-requires-2
+    same-length-4
+    same-length-5
+    same-length-6
+    returns-3)

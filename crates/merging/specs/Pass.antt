@@ -1,0 +1,76 @@
+-- One address of the pass: what is asked before it, and what holds after it.
+use Prim.Native.Nat.{ℕ, _+_, _*_, _<_, _≤_}
+use mathlib.Core.Path.{_≡_}
+use mathlib.Core.Bool.{Bool, true, false}
+use mathlib.Core.List.{List}
+use Rattle.refusals.specs.declared.Refusal.{Refusal}
+use Rattle.refusals.specs.declared.Verdict.the-variants.{Refused}
+use Rattle.machine.specs.Machine.{Price, sum}
+use Rattle.bounds.specs.Tree.{Report, Verdict, refused}
+use Rattle.steps.specs.declared.Price as code
+use Rattle.steps.specs.Step.{ofPrice}
+use Rattle.findings.specs.declared.Found.{Found}
+use Rattle.findings.specs.Found.{acceptedAs}
+use Rattle.merges.specs.Merge.{Slot, empty, unlike, held, Table, slot}
+use Rattle.merging.specs.declared.Way.{Way}
+use Rattle.merging.specs.declared.Mark.{Mark}
+use Rattle.merging.specs.declared.Mark.the-variants.{Nothing, Unlike, Is}
+use Rattle.merging.specs.declared.Came.{Came}
+use Rattle.merging.specs.declared.Pass.{Pass}
+use Rattle.merging.specs.Rows.{Formed, Rows, arrivalOf, slotAt, waiting}
+
+-- what the code's answer stands for
+unfoldable pub cameAs : List ℕ → Mark → Way → Slot
+cameAs ns Nothing w = empty
+cameAs ns Unlike w = unlike
+cameAs ns Is w = held (arrivalOf ns w .state) (arrivalOf ns w .spent)
+
+-- a way that has come is at the address a
+abbrev pub Held : Mark → Way → ℕ → Type 0
+Held Nothing w a = Unit {0}
+Held Unlike w a = Unit {0}
+Held Is w a = (w .state .at ≡ a) × Formed w
+
+-- the way goes to the address a, if `here` says so
+abbrev pub Comes : Bool → Way → ℕ → Type 0
+Comes true w a = (w .state .at ≡ a) × Formed w
+Comes false w a = Unit {0}
+
+-- sums of at most m
+abbrev pub Spent : ℕ → Slot → Type 0
+Spent m empty = Unit {0}
+Spent m unlike = Unit {0}
+Spent m (held s p) = (p .cycles ≤ m) × (p .words ≤ m)
+
+-- what j steps can cost
+abbrev pub most : ℕ → ℕ
+most j = 8589934592 * j
+
+-- the figures after j addresses
+pub record Figures (j : ℕ) (f : Found) : Type 0 where
+  pub used : f .used ≤ j
+  pub cycles : f .cycles ≤ most j
+  pub words : f .words ≤ most j
+  pub depth : f .depth ≤ 64
+
+-- before the address of row j, of n rows from the address `first` on
+pub record Ready (ns : List ℕ) (first n j : ℕ) (hs es fs : List ℕ) (p : Pass) : Type 0 where
+  pub rows : Rows hs es fs
+  pub figures : Figures j (p .found)
+  pub comes : Comes (p .here) (p .way) (first + j)
+  pub sums : (b : ℕ) → j ≤ b → b < n → Spent (most j) (waiting ns (p .here) (p .way) j b (slotAt ns first hs es fs b))
+
+-- the table of the definition has what the rows from j on hold
+abbrev pub Agrees : List ℕ → ℕ → ℕ → ℕ → Table → List ℕ → List ℕ → List ℕ → Bool → Way → Type 0
+Agrees ns first n j tab hs es fs here w = (b : ℕ) → j ≤ b → b < n → slot (tab (first + b)) ≡ waiting ns here w j b (slotAt ns first hs es fs b)
+
+-- the address before that of row j was gone through, and v says how the definition goes on there: it is refused, or goes on with the same
+-- figures and a table that has what the rows from j on hold
+pub data Moved (ns : List ℕ) (first n j : ℕ) (v : (Table → Report → Verdict) → Verdict) (hs es fs : List ℕ) (r : Pass) : Type 0 where
+  stopped : (x : Refusal) → r .found .verdict ≡ Refused x → ((rest : Table → Report → Verdict) → v rest ≡ refused x) → Moved ns first n j v hs es fs r
+  moved : (tab : Table) (q : Report) → r .found ≡ acceptedAs q → ((rest : Table → Report → Verdict) → v rest ≡ rest tab q)
+      → Agrees ns first n j tab hs es fs (r .here) (r .way) → Moved ns first n j v hs es fs r
+
+-- a way after a step at the price p
+abbrev pub spentOf : Way → Price
+spentOf w = record { cycles = w .cycles; words = w .words }
