@@ -6,3 +6,4 @@ pub mod MeetLaws
 pub mod PartLaws
 pub mod PassLaws
 pub mod CarryLaws
+pub mod VisitLaws

@@ -92,7 +92,7 @@ module _ (ns : List ℕ) (first k : ℕ) (hs es fs h e f : List ℕ) (few : k < 
         )
         refl
 
-    slot-other : (b : ℕ) → (b ≡ k → ⊥) → slotAt ns first hs′ es′ fs′ b ≡ slotAt ns first hs es fs b
+    pub slot-other : (b : ℕ) → (b ≡ k → ⊥) → slotAt ns first hs′ es′ fs′ b ≡ slotAt ns first hs es fs b
     slot-other b n = go (ltb b k) refl
       where
         go : (t : Bool) → ltb b k ≡ t → slotAt ns first hs′ es′ fs′ b ≡ slotAt ns first hs es fs b
