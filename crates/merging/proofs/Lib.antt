@@ -7,3 +7,4 @@ pub mod PartLaws
 pub mod PassLaws
 pub mod CarryLaws
 pub mod VisitLaws
+pub mod SweepLaws

@@ -1,0 +1,189 @@
+-- Laws of the pass over all addresses: where it begins, one address more, and where it ends. Assumes nothing.
+use Prim.Native.Nat.{ℕ, zero, suc, _+_, _*_, _-_, _<_, _≤_}
+use mathlib.Core.Path.{_≡_, refl, sym, ap, ap₂, subst, _∙_}
+use mathlib.Core.Bool.{Bool, true, false, cond}
+use mathlib.Core.List.{List, [], _∷_}
+use native.Mathlib.Omega.{arith}
+use lib.Dec.{eqb}
+use lib.IntN.{ℤ}
+use lib.ListN.{length, getD, take, drop, replicate, length-replicate}
+use lib.Seq.{getD-take, getD-drop}
+use Rattle.refusals.specs.declared.Refusal.{Refusal}
+use Rattle.refusals.specs.declared.Verdict.the-variants.{Accepted, Refused}
+use Rattle.cells.specs.declared.Cell.{Cell}
+use Rattle.cells.specs.Cells.{unknown}
+use Rattle.machine.specs.Machine.{State, Code, step, reblock}
+use Rattle.states.specs.declared.State as code
+use Rattle.states.specs.Columns.{instructionsOf, codeOf}
+use Rattle.states.specs.View.{WellFormed, whole}
+use Rattle.bounds.specs.Tree.{Report, Verdict, accepted, refused}
+use Rattle.findings.specs.declared.Found.{Found}
+use Rattle.findings.specs.Found.{acceptedAs, encode, Shows}
+use Rattle.merges.specs.Merge.{Arrival, Slot, empty, join, Table, slot, nowhere, only, none, visit, sweep, merged}
+use Rattle.merging.specs.declared.Way.{Way}
+use Rattle.merging.specs.declared.Pass.{Pass}
+use Rattle.merging.specs.Rows.{Formed, Rows, arrivalOf, part, slotAt, joinAt, with, waiting}
+use Rattle.merging.specs.Pass.{Comes, Spent, most, Figures, Ready, Agrees, Moved, stopped, moved}
+use Rattle.merging.proofs.RowLaws.{slot-empty}
+use Rattle.merging.proofs.PassLaws.{arrived, same-test}
+use Rattle.merging.proofs.PartLaws.{comes-to}
+
+-- the pass before the address of row j: what is left of it gives the verdict v
+pub record Going (c : Code) (ns : List ℕ) (first n : ℕ) (v : Verdict) (hs es fs : List ℕ) (j : ℕ) (p : Pass) : Type 0 where
+  pub ready : Ready ns first n j hs es fs p
+  pub within : j ≤ n
+  pub tab : Table
+  pub report : Report
+  pub found : p .found ≡ acceptedAs report
+  pub agrees : Agrees ns first n j tab hs es fs (p .here) (p .way)
+  pub rest : sweep (step c unknown) (n - j) (first + j) tab report ≡ v
+
+-- ---- an empty table
+
+zeros : (n i : ℕ) → _≡_ {A = ℕ} (getD (replicate n 0) i 0) 0
+zeros zero i = refl
+zeros (suc n) zero = refl
+zeros (suc n) (suc i) = zeros n i
+
+nothing-at : (ns : List ℕ) (first n b : ℕ) (es fs : List ℕ) → slotAt ns first (replicate n 0) es fs b ≡ empty
+unfolding slotAt
+nothing-at ns first n b es fs =
+    slot-empty ns (first + b) (part (5 * b) 5 (replicate n 0)) (part (64 * b) 64 es) (part (128 * b) 128 fs)
+    (getD-take 5 (drop (5 * b) (replicate n 0)) 0 0 (omega arith) ∙ getD-drop (5 * b) (replicate n 0) 0 0 ∙ zeros n (5 * b + 0))
+
+-- ---- the code of columns
+
+pub lines-count : (bs : List ℕ) (is : List ℤ) (cs ws xs : List ℕ) → length (instructionsOf bs is cs ws xs) ≡ length bs
+unfolding instructionsOf
+lines-count [] is cs ws xs = refl
+lines-count (b ∷ bs) is cs ws xs = ap suc (lines-count bs (drop 1 is) (drop 1 cs) (drop 1 ws) (drop 1 xs))
+
+pub code-count : (first : ℕ) (bs : List ℕ) (is : List ℤ) (cs ws xs : List ℕ) → length (codeOf first bs is cs ws xs .instructions) ≡ length bs
+unfolding codeOf
+code-count first bs is cs ws xs = lines-count bs is cs ws xs
+
+pub code-first : (first : ℕ) (bs : List ℕ) (is : List ℤ) (cs ws xs : List ℕ) → codeOf first bs is cs ws xs .first ≡ first
+unfolding codeOf
+code-first first bs is cs ws xs = refl
+
+-- ---- where it begins
+
+-- the way from the start, and the pass with it
+abbrev pub begun : code.State → List Cell → Pass
+begun s bl = record {
+  found = record { verdict = Accepted; used = 0; cycles = 0; words = 0; depth = 0; path = 1 };
+  here = true;
+  way = record { state = s; blocks = bl; cycles = 0; words = 0 };
+}
+
+module _ (c : Code) (ns : List ℕ) (first l : ℕ) (hn en fn : ℕ) (s : code.State) (bl : List Cell)
+    (from : c .first ≡ first) (count : length (c .instructions) ≡ l) (low : first ≤ s .at) (high : s .at ≤ first + l) where
+  abbrev w : Way
+  w = begun s bl .way
+
+  abbrev j : ℕ
+  j = s .at - first
+
+  abbrev hs : List ℕ
+  hs = replicate hn 0
+
+  abbrev es : List ℕ
+  es = replicate en 0
+
+  abbrev fs : List ℕ
+  fs = replicate fn 0
+
+  begun-slot : (b : ℕ) → waiting ns true w j b (slotAt ns first hs es fs b) ≡ joinAt (first + b) (arrivalOf ns w) empty
+  unfolding waiting with joinAt
+  begun-slot b =
+      let at : arrivalOf ns w .state .at ≡ s .at = comes-to ns w in
+      ap (λ (x : Slot). cond (eqb b j) (join x (arrivalOf ns w)) x) (nothing-at ns first hn b es fs)
+      ∙ ap (λ (t : Bool). cond t (join empty (arrivalOf ns w)) empty) (same-test b j (first + b) (arrivalOf ns w .state .at) (λ e. omega arith) (λ e. omega arith))
+
+  begun-spent : (b : ℕ) → Spent (most j) (joinAt (first + b) (arrivalOf ns w) empty)
+  unfolding joinAt join arrivalOf
+  begun-spent b = go (eqb (first + b) (arrivalOf ns w .state .at))
+    where
+      go : (t : Bool) → Spent (most j) (cond t (join empty (arrivalOf ns w)) empty)
+      go true = (omega arith, omega arith)
+      go false = tt
+
+  begun-agrees : Agrees ns first (l + 1) j (only (whole ns bl s)) hs es fs true w
+  unfolding only nowhere arrivalOf slot
+  begun-agrees b h k = arrived (arrivalOf ns w) nowhere (first + b) ∙ sym (begun-slot b)
+
+  begun-found : begun s bl .found ≡ acceptedAs none
+  unfolding acceptedAs encode
+  begun-found = refl
+
+  begun-rest : sweep (step c unknown) (l + 1 - j) (first + j) (only (whole ns bl s)) none ≡ merged c (whole ns bl s)
+  unfolding merged whole reblock
+  begun-rest =
+      let many : l + 1 - j ≡ suc (c .first + length (c .instructions) - s .at) = omega arith in
+      let at : first + j ≡ s .at = omega arith in
+      ap₂ (λ (n a : ℕ). sweep (step c unknown) n a (only (whole ns bl s)) none) many at
+
+  pub begins : hn ≡ 5125 → en ≡ 65600 → fn ≡ 131200 → WellFormed s → length bl ≡ 128 → Going c ns first (l + 1) (merged c (whole ns bl s)) hs es fs j (begun s bl)
+  begins hl el fl formed fields = record {
+    ready = record {
+      rows = (length-replicate hn 0 ∙ hl, length-replicate en 0 ∙ el, length-replicate fn 0 ∙ fl);
+      figures = record { used = omega arith; cycles = omega arith; words = omega arith; depth = omega arith };
+      comes = (omega arith, record { state = formed; fields = fields });
+      sums = λ b h k. rw (begun-slot b) (begun-spent b);
+    };
+    within = omega arith;
+    tab = only (whole ns bl s);
+    report = none;
+    found = begun-found;
+    agrees = begun-agrees;
+    rest = begun-rest;
+  }
+
+-- ---- one address more
+
+module _ {c : Code} {ns : List ℕ} {first n : ℕ} {v : Verdict} {hs es fs : List ℕ} {j : ℕ} {p : Pass} (g : Going c ns first n v hs es fs j p) (inside : j < n) (hs′ es′ fs′ : List ℕ) (r : Pass) where
+  -- how the definition goes on there
+  abbrev there : (Table → Report → Verdict) → Verdict
+  there rest = visit (step c unknown) rest (first + j) (g .tab) (g .report) (slot (g .tab (first + j)))
+
+  ahead : there (sweep (step c unknown) (n - (j + 1)) (suc (first + j))) ≡ v
+  unfolding sweep
+  ahead =
+      let m : n - j ≡ suc (n - (j + 1)) = omega arith in
+      sym (ap (λ (i : ℕ). sweep (step c unknown) i (first + j) (g .tab) (g .report)) m) ∙ g .rest
+
+  never : {A : Type 0} (x : Refusal) → r .found .verdict ≡ Accepted → r .found .verdict ≡ Refused x → A
+  never x e h = let z : _≡_ {A = ℕ} 0 1 = cc in absurd (omega arith)
+
+  pub goes-on : Ready ns first n (j + 1) hs′ es′ fs′ r → r .found .verdict ≡ Accepted → Moved ns first n (j + 1) there hs′ es′ fs′ r → Going c ns first n v hs′ es′ fs′ (j + 1) r
+  goes-on ready e (stopped x h k) = never x e h
+  goes-on ready e (moved tab q f k a) = record {
+    ready = ready;
+    within = omega arith;
+    tab = tab;
+    report = q;
+    found = f;
+    agrees = a;
+    rest =
+        let at : first + (j + 1) ≡ suc (first + j) = omega arith in
+        ap (λ (i : ℕ). sweep (step c unknown) (n - (j + 1)) i tab q) at ∙ sym (k _) ∙ ahead;
+  }
+
+  accepted-verdict : (q : Report) → r .found ≡ acceptedAs q → r .found .verdict ≡ Accepted
+  unfolding acceptedAs
+  accepted-verdict q e = ap (λ (f : Found). f .verdict) e
+
+  pub ends : (x : Refusal) → r .found .verdict ≡ Refused x → Moved ns first n (j + 1) there hs′ es′ fs′ r → Shows (r .found) v
+  ends y e (stopped x h k) = subst (Shows (r .found)) (sym (k _) ∙ ahead) h
+  ends y e (moved tab q f k a) = never y (accepted-verdict q f) e
+
+-- ---- where it ends
+
+pub finishes : {c : Code} {ns : List ℕ} {first n : ℕ} {v : Verdict} {hs es fs : List ℕ} {j : ℕ} {p : Pass} → Going c ns first n v hs es fs j p → n ≤ j → Shows (p .found) v
+unfolding sweep
+finishes {c} {first = first} {n = n} {j = j} {p = p} g h =
+    let m : n - j ≡ 0 = omega arith in
+    subst (Shows (p .found)) (sym (ap (λ (i : ℕ). sweep (step c unknown) i (first + j) (g .tab) (g .report)) m) ∙ g .rest) (g .found)
+
+pub figures-all : (j : ℕ) (f : Found) → j ≤ 1025 → Figures j f → Figures 1025 f
+figures-all j f h i = record { used = omega (arith, i .used); cycles = omega (arith, i .cycles); words = omega (arith, i .words); depth = i .depth }

@@ -1,0 +1,122 @@
+-- `merging::merge` meets its contract. The invariant: what is left of the pass gives the verdict of the definition (`Going`). The measure is
+-- the number of addresses left. Assumes nothing.
+use Prim.Native.Nat.{_+_, _-_, _<_, _≤_}
+use mathlib.Core.Path.{refl}
+use native.Mathlib.Omega.{arith}
+use lib.ListN.{length}
+use Rattle.states.specs.Columns.{codeOf}
+use Rattle.states.specs.View.{whole}
+use Rattle.merges.specs.Merge.{merged}
+use Rattle.merging.proofs.SweepLaws.{Going, code-count, code-first, begins, goes-on, ends, finishes, figures-all}
+use borrow.Author.Needs.{needs}
+use Rattle.merging.proofs.merge.Statement.{statement}
+use Rattle.merging.proofs.merge.Tie as tie
+use Rattle.merging.proofs.merge.Reads as reads
+use Rattle.merging.proofs.merge.Lts as lts
+use Rattle.merging.proofs.visit.Reads as visit-reads
+
+abbrev Inv-loop : tie.InvT-loop
+Inv-loop codes operands cycles words extras sizes first heads₀ entries₀ fields₀ n j₀ p₀ heads entries fields j p =
+    Going (codeOf first codes operands cycles words extras) sizes first n (merged (codeOf first codes operands cycles words extras) (whole sizes (p₀ .way .blocks) (p₀ .way .state))) heads entries fields j p
+
+abbrev μ-loop : tie.MeasureT-loop
+μ-loop codes operands cycles words extras sizes first heads₀ entries₀ fields₀ n j₀ p₀ heads entries fields j p =
+    n - j
+
+add-n : tie.Need-add-n Inv-loop μ-loop
+add-n c = search needs
+
+sub-j : tie.Need-sub-j Inv-loop μ-loop
+sub-j c = search needs
+
+loop-holds : tie.Need-loop-holds Inv-loop μ-loop
+loop-holds c =
+    let start = c .before .before .before .before .before .before in
+    let a = start .args in
+    let limits = start .pre .1 in
+    begins (codeOf (a .first) (a .codes .now) (a .operands .now) (a .cycles .now) (a .words .now) (a .extras .now)) (a .sizes .now) (a .first) (length (a .codes .now)) 5125 65600 131200 (a .start) (a .blocks) (code-first (a .first) (a .codes .now) (a .operands .now) (a .cycles .now) (a .words .now) (a .extras .now)) (code-count (a .first) (a .codes .now) (a .operands .now) (a .cycles .now) (a .words .now) (a .extras .now)) (limits .4) (limits .5) refl refl refl (limits .2) (limits .3)
+
+slice-aggregate-visit : tie.Need-slice-aggregate-visit Inv-loop μ-loop
+slice-aggregate-visit c = search needs
+
+slice-aggregate-visit-2 : tie.Need-slice-aggregate-visit-2 Inv-loop μ-loop
+slice-aggregate-visit-2 c = search needs
+
+slice-aggregate-visit-3 : tie.Need-slice-aggregate-visit-3 Inv-loop μ-loop
+slice-aggregate-visit-3 c = search needs
+
+visit-requires : tie.Need-visit-requires Inv-loop μ-loop
+visit-requires c κs =
+    let start = c .before .before .before .before .before .before .before .before .before .before .before in
+    let a = start .args in
+    let limits = start .pre .1 in
+    let few : length (a .codes .now) ≤ 1024 = start .pre .0 .few in
+    (start .pre .0, ((omega arith, limits .0, c .before .before .before .loop-test .taken, limits .1), c .before .before .before .before .loop .inv .ready))
+
+enum-told : tie.Need-enum-told Inv-loop μ-loop
+enum-told c = search needs
+
+enum-told-2 : tie.Need-enum-told-2 Inv-loop μ-loop
+enum-told-2 c = search needs
+
+returns : tie.Need-returns Inv-loop μ-loop
+returns c =
+    let start = c .before .before .before .before .before .before .before .before .before .before .before .before .before .before .before .before .before .before in
+    let a = start .args in
+    let l = c .before .before .before .before .before .before .before .before .before .before .before .loop in
+    let v = c .before .before .before .before .before .before .visit in
+    let i = l .inv in
+    let t : l .j < length (a .codes .now) + 1 = c .before .before .before .before .before .before .before .before .before .before .loop-test .taken in
+    let few : length (a .codes .now) ≤ 1024 = start .pre .0 .few in (
+      ends i t _ _ _ (v .result) _ (c .enum-told2 .given .1) (v .ensures .1 (i .tab) (i .report) (i .found) (i .agrees)),
+      figures-all (l .j + 1) _ (omega arith) (v .ensures .0 .figures),
+    )
+
+add-j : tie.Need-add-j Inv-loop μ-loop
+add-j c =
+    let start = c .before .before .before .before .before .before .before .before .before .before .before .before .before .before .before .before .before .before in
+    let t : c .before .before .before .before .before .before .before .before .before .before .before .loop .j < length (start .args .codes .now) + 1 = c .before .before .before .before .before .before .before .before .before .before .loop-test .taken in
+    let few : length (start .args .codes .now) ≤ 1024 = start .pre .0 .few in
+    search needs
+
+loop-less : tie.Need-loop-less Inv-loop μ-loop
+loop-less c = search needs
+
+loop-again : tie.Need-loop-again Inv-loop μ-loop
+loop-again c =
+    let start = c .before .before .before .before .before .before .before .before .before .before .before .before .before .before .before .before .before .before in
+    let l = c .before .before .before .before .before .before .before .before .before .before .before .loop in
+    let v = c .before .before .before .before .before .before .visit in
+    let i = l .inv in
+    goes-on i (c .before .before .before .before .before .before .before .before .before .before .loop-test .taken) _ _ _ (v .result) (v .ensures .0) (c .enum-told .given .1) (v .ensures .1 (i .tab) (i .report) (i .found) (i .agrees))
+
+returns-2 : tie.Need-returns-2 Inv-loop μ-loop
+returns-2 c =
+    let start = c .before .before .before .before .before .before .before .before .before in
+    let a = start .args in
+    let l = c .before .before .loop in
+    let i = l .inv in
+    let few : length (a .codes .now) ≤ 1024 = start .pre .0 .few in
+    let within : l .j ≤ length (a .codes .now) + 1 = i .within in
+    (finishes i (omega arith), figures-all (l .j) _ (omega arith) (i .ready .figures))
+
+pub merge-spec : {M : Type 1} → statement M
+merge-spec =
+    tie.close
+    (tie.spec
+    Inv-loop
+    μ-loop
+    add-n
+    sub-j
+    loop-holds
+    slice-aggregate-visit
+    slice-aggregate-visit-2
+    slice-aggregate-visit-3
+    visit-requires
+    enum-told
+    enum-told-2
+    returns
+    add-j
+    loop-less
+    loop-again
+    returns-2)
