@@ -26,12 +26,15 @@ use Rattle.bounds.proofs.PromiseLaws.{interruptible, bound-exact, run-within-bo
 use Rattle.bounds.proofs.FigureLaws.{Bounded, bound-bounded, run-bounded}
 use Rattle.bounds.proofs.PlaceLaws.{bound-place, run-place}
 use Rattle.bounds.proofs.ForwardLaws.{forward-once}
+use Rattle.merges.specs.Merge.{merged, span}
+use Rattle.merges.proofs.Theorems.{merged-interruptible, merged-exact}
+use Rattle.merges.proofs.FigureLaws.{merged-bounded, merged-place}
 use Rattle.routine.specs.Layout.{body, codeLines}
 use Rattle.routine.specs.Routine.{Routine, codeIn, routineOf, readBound, readRun}
 use Rattle.routine.specs.Rows.{Passes}
 use Rattle.routine.proofs.RowLaws.{read-passes, run-passes}
 use Rattle.routine.proofs.RangeLaws.{prices-small, budget-small, tick-positive, start-low}
-use Rattle.routine.proofs.BranchLaws.{passing-forward}
+use Rattle.routine.proofs.BranchLaws.{passing-forward, passing-closed}
 use Rattle.routine.proofs.PlaceLaws.{read-bound-place, read-run-place, confined, start-small}
 use Rattle.routine.proofs.SpellingLaws.{accepted-ascii}
 use Rattle.routine.proofs.AnswerLaws.{SameButAnswers, same-but-answers}
@@ -41,9 +44,9 @@ use Rattle.answers.specs.Answers.{reported, refused, memoryLimit, ofReading, an
 use Rattle.answers.proofs.AnswerLaws.{never, from-reading, place-from}
 use Rattle.conversions.proofs.FunctionLaws.{import-reported, import-place, export-reported, export-place}
 use Rattle.conformance.proofs.FunctionLaws.{replay-reported, replay-place}
-use Rattle.analyser.specs.Answers.{ofVerdict, boundRoutine, runRoutine, boundAnswer, runAnswer}
+use Rattle.analyser.specs.Answers.{ofVerdict, boundRoutine, mergeRoutine, runRoutine, boundAnswer, mergeAnswer, runAnswer}
 use Rattle.analyser.specs.Functions.{reportLength}
-use Rattle.analyser.specs.Promises.{BoundReported, WithinReport, RunAccepted, FilledIn, ReportsKept, RunsKept, AnswersIrrelevant, PassingIsAscii, PassingIsSinglePass, ReportsFit, PlacesSmall}
+use Rattle.analyser.specs.Promises.{BoundReported, MergeReported, WithinReport, RunAccepted, FilledIn, ReportsKept, MergesKept, RunsKept, AnswersIrrelevant, PassingIsAscii, PassingIsSinglePass, ReportsFit, PlacesSmall}
 
 -- ---- what a report comes from
 
@@ -68,6 +71,20 @@ reports-kept text n bs e =
     let is : BoundReported text bs x (v .report) = record { reads = a .reads; accepts = v .accepts; prints = sym (v .prints) } in (
       (x, v .report, is, λ s h answers m. interruptible (x .code) openingLimit (x .budget) (x .start) (v .report) (v .accepts) s h answers m),
       (x, v .report, is, bound-exact (x .code) (x .budget) (x .start) (v .report) (v .accepts)),
+    )
+
+pub merges-kept : MergesKept
+unfolding mergeAnswer mergeRoutine
+merges-kept text n bs e =
+    let a = from-reading mergeRoutine (readBound text) memoryLimit n bs e in
+    let x = a .routine in
+    let v = from-verdict (boundText (x .tick)) (merged (x .code) (x .start)) bs (a .gives) in
+    let p = read-passes text x (a .reads) in
+    let forward = rw (← p .1) at (passing-forward (lines text) (p .0)) in
+    let closed = rw (← p .1) at (passing-closed (lines text) (p .0)) in
+    let is : MergeReported text bs x (v .report) = record { reads = a .reads; accepts = v .accepts; prints = sym (v .prints) } in (
+      (x, v .report, is, λ s h answers m. merged-interruptible (x .code) forward closed (x .start) (v .report) (v .accepts) s h answers m),
+      (x, v .report, is, merged-exact (x .code) forward closed (x .start) (v .report) (v .accepts)),
     )
 
 -- ---- two files
@@ -100,12 +117,12 @@ runs-kept = (within, accepts)
         (length (runText r), rw (le-ltb n memoryLimit lent, e, b) refl)
 
 pub answers-irrelevant : AnswersIrrelevant
-unfolding boundAnswer ofReading boundRoutine
+unfolding boundAnswer mergeAnswer ofReading boundRoutine mergeRoutine
 answers-irrelevant text text′ x x′ e e′ h k n =
     let p = read-passes text x e .1 in
     let p′ = read-passes text′ x′ e′ .1 in
     let s : SameButAnswers x x′ = rw (p, p′) (same-but-answers (lines text) (lines text′) h k) in
-    rw (e, e′, s .0, s .1, s .2, s .3) refl
+    (rw (e, e′, s .0, s .1, s .2, s .3) refl, rw (e, e′, s .1, s .2, s .3) refl)
 
 -- ---- ASCII
 
@@ -144,6 +161,9 @@ module _ (text : List ℕ) (x : Routine) (passes : Passes (lines text)) (is : x 
   within : x .budget ≤ 1000000
   within = rw (← is) at (budget-small passes)
 
+  spanned : span (x .code) (x .start) ≤ 1000000
+  spanned = let h = rw (← is) at (confined (lines text) passes .past) in omega arith
+
   ticks : 1 ≤ x .tick
   ticks = rw (← is) at (tick-positive passes)
 
@@ -158,13 +178,14 @@ bound-small tick budget q t h b = record {
 }
 
 pub reports-fit : ReportsFit
-unfolding boundAnswer boundRoutine runAnswer runRoutine
+unfolding boundAnswer boundRoutine mergeAnswer mergeRoutine runAnswer runRoutine
 reports-fit = (
   λ text n bs e. of-bound text n bs e,
   λ text n bs e. of-run text n bs e,
   λ words primitives n bs e. let r = import-reported words primitives n bs e in (r .1, r .2),
   λ text n bs e. let r = export-reported text n bs e in (r .1, r .2),
   λ text trace n bs e. let r = replay-reported text trace n bs e in (r .1, r .2),
+  λ text n bs e. of-merge text n bs e,
 )
   where
     of-bound : (text : List ℕ) (n : ℕ) (bs : List ℕ) → boundAnswer text n ≡ reported bs → (length bs ≤ memoryLimit) × (memoryLimit ≤ n)
@@ -175,6 +196,16 @@ reports-fit = (
         let p = read-passes text x (a .reads) in
         let b = bound-bounded 196605 510 (x .code) (priced text x (p .0) (p .1)) (x .budget) (x .start) (low text x (p .0) (p .1)) (v .report) (v .accepts) in
         let s = bound-small (x .tick) (x .budget) (v .report) (ticks text x (p .0) (p .1)) (within text x (p .0) (p .1)) b in
+        (rw (← v .prints) (bound-fits (x .tick) (v .report) s), a .lent)
+
+    of-merge : (text : List ℕ) (n : ℕ) (bs : List ℕ) → mergeAnswer text n ≡ reported bs → (length bs ≤ memoryLimit) × (memoryLimit ≤ n)
+    of-merge text n bs e =
+        let a = from-reading mergeRoutine (readBound text) memoryLimit n bs e in
+        let x = a .routine in
+        let v = from-verdict (boundText (x .tick)) (merged (x .code) (x .start)) bs (a .gives) in
+        let p = read-passes text x (a .reads) in
+        let b = merged-bounded 196605 510 (x .code) (priced text x (p .0) (p .1)) (x .start) (low text x (p .0) (p .1)) (v .report) (v .accepts) in
+        let s = bound-small (x .tick) (span (x .code) (x .start)) (v .report) (ticks text x (p .0) (p .1)) (spanned text x (p .0) (p .1)) b in
         (rw (← v .prints) (bound-fits (x .tick) (v .report) s), a .lent)
 
     of-run : (text : List ℕ) (n : ℕ) (bs : List ℕ) → runAnswer text n ≡ reported bs → (length bs ≤ memoryLimit) × (memoryLimit ≤ n)
@@ -200,6 +231,9 @@ run-some q = omega arith
 pub bound-reports-some : (text : List ℕ) (n : ℕ) (bs : List ℕ) → boundAnswer text n ≡ reported bs → 1 ≤ length bs
 bound-reports-some text n bs e = let (x, q, is, safe) = reports-kept text n bs e .0 in rw (is .prints) (bound-some (x .tick) q)
 
+pub merge-reports-some : (text : List ℕ) (n : ℕ) (bs : List ℕ) → mergeAnswer text n ≡ reported bs → 1 ≤ length bs
+merge-reports-some text n bs e = let (x, q, is, safe) = merges-kept text n bs e .0 in rw (is .prints) (bound-some (x .tick) q)
+
 pub run-reports-some : (text : List ℕ) (n : ℕ) (bs : List ℕ) → runAnswer text n ≡ reported bs → 1 ≤ length bs
 run-reports-some text n bs e = let (y, r, is, within) = runs-kept .0 text n bs e in rw (is .prints) (run-some r)
 
@@ -211,13 +245,14 @@ from-refused text (verdicts.accepted q) r e = never r (text q) (sym e)
 from-refused text (verdicts.refused x) r e = let h : x ≡ r = cc in ap verdicts.refused h
 
 pub places-small : PlacesSmall
-unfolding boundAnswer boundRoutine runAnswer runRoutine
+unfolding boundAnswer boundRoutine mergeAnswer mergeRoutine runAnswer runRoutine
 places-small = (
   of-bound,
   of-run,
   λ words primitives n r e. omega (arith, import-place words primitives n r e),
   λ text n r e. omega (arith, export-place text n r e),
   λ text trace n r e. omega (arith, replay-place text trace n r e),
+  of-merge,
 )
   where
     of-bound : (text : List ℕ) (n : ℕ) (r : Refusal) → boundAnswer text n ≡ refused r → place r ≤ 62000
@@ -226,6 +261,13 @@ places-small = (
         let (p, is, short) = read-passes text x e in
         let v = from-refused (boundText (x .tick)) (bound (x .code) (x .budget) (x .start)) r f in
         bound-place 62000 (x .code) (rw is (confined (lines text) p)) (x .budget) (x .start) (rw is (start-small (lines text) p)) r v)
+
+    of-merge : (text : List ℕ) (n : ℕ) (r : Refusal) → mergeAnswer text n ≡ refused r → place r ≤ 62000
+    of-merge text n r =
+        place-from 62000 mergeRoutine (readBound text) memoryLimit n r (λ r e. omega (arith, read-bound-place text r e)) (λ x e f.
+        let (p, is, short) = read-passes text x e in
+        let v = from-refused (boundText (x .tick)) (merged (x .code) (x .start)) r f in
+        merged-place 62000 (x .code) (rw is (confined (lines text) p .past)) (x .start) (rw is (start-small (lines text) p)) r v)
 
     of-run : (text : List ℕ) (n : ℕ) (r : Refusal) → runAnswer text n ≡ refused r → place r ≤ 62000
     of-run text n r =

@@ -18,6 +18,8 @@ use Rattle.findings.specs.Found.{Shows, acceptedAs}
 use Rattle.runs.specs.declared.Ran.{Ran}
 use Rattle.runs.specs.Contract.{Runnable, judged, verdictOf}
 use Rattle.explore.specs.Contract.{Explorable, Explores, Bounded}
+use Rattle.merging.specs.Rows.{Small}
+use Rattle.merging.specs.Pass.{Figures}
 use Rattle.routine.specs.Routine.{readBound, readRun}
 use Rattle.routine.specs.Routine as readings
 use Rattle.routine.proofs.RowLaws.{read-passes, run-passes}
@@ -26,6 +28,7 @@ use Rattle.refusals.specs.declared.Verdict.the-variants as verdicts
 use Rattle.refusals.specs.declared.Verdict.the-variants.{Accepted}
 use Rattle.reader.specs.declared.Routine.{Routine}
 use Rattle.reader.specs.Reader.{codes, sizes, Holds, Limited}
+use Rattle.reader.proofs.ReaderLaws.{taken}
 use Rattle.report.specs.Decode.{reportOf}
 use Rattle.report.proofs.DecodeLaws.{report-of, report-of-run}
 use Rattle.answers.specs.Answers.{Answer, reported, memoryLimit, memory, answerOf}
@@ -37,11 +40,11 @@ use Rattle.conversions.specs.Answers.{conversionLimit, importAnswer, exportAnsw
 use Rattle.conversions.proofs.FunctionLaws.{import-reported, export-reported}
 use Rattle.conformance.specs.Answers.{replayAnswer}
 use Rattle.conformance.proofs.FunctionLaws.{replay-reported}
-use Rattle.analyser.specs.Answers.{ofVerdict, boundRoutine, runRoutine, boundAnswer, runAnswer}
+use Rattle.analyser.specs.Answers.{ofVerdict, boundRoutine, mergeRoutine, runRoutine, boundAnswer, mergeAnswer, runAnswer}
 use Rattle.analyser.specs.Held.{routineIn, Printable, Shareable}
 use Rattle.analyser.specs.Functions.{reportLength, Delivers, toldLength, wordOf, Tells, AnswerTold, AnswersTold}
-use Rattle.analyser.specs.Promises.{SafeReport, ExactReport, WithinReport, RunAccepted}
-use Rattle.analyser.proofs.AnswerLaws.{reports-kept, reports-fit, runs-kept, bound-reports-some, run-reports-some, places-small}
+use Rattle.analyser.specs.Promises.{SafeReport, ExactReport, SafeMerge, ExactMerge, WithinReport, RunAccepted}
+use Rattle.analyser.proofs.AnswerLaws.{reports-kept, merges-kept, reports-fit, runs-kept, bound-reports-some, merge-reports-some, run-reports-some, places-small}
 
 -- ---- a verdict is of one case
 
@@ -54,7 +57,7 @@ same-refused x y e = cc
 -- ---- the routine that the arrays hold
 
 module _ (x : Routine) (l : Limited x) where
-  addresses-fit : x .first + length (codes x) ≤ 65536
+  pub addresses-fit : x .first + length (codes x) ≤ 65536
   addresses-fit = let n = l .sized .few in let f = l .first in omega arith
 
   pub explorable : Explorable (codes x) (sizes x) (x .first) (x .fields) (x .start) 32 (x .budget)
@@ -70,6 +73,12 @@ module _ (x : Routine) (l : Limited x) where
 
   pub explored-shareable : (r : Found) → Bounded 32 (x .budget) r → Shareable r
   explored-shareable r m = record { cycles = let a = m .cycles in let b = m .used in let d = l .budget in omega arith }
+
+  pub swept-small : x .blocks ≤ length (x .sizes) → Small (sizes x)
+  swept-small h = record { blocks = let e = taken (x .blocks) (x .sizes) h in let p = l .present in omega arith; few = l .fits .few }
+
+  pub swept-shareable : (r : Found) → Figures 1025 r → Shareable r
+  swept-shareable r f = record { cycles = omega (arith, f .cycles) }
 
 -- ---- what the explorer's answer gives
 
@@ -112,6 +121,10 @@ module _ (text : List ℕ) (n : ℕ) where
   unfolding boundAnswer
   bound-short = lent-short memoryLimit n _
 
+  pub merge-short : n < 128 → mergeAnswer text n ≡ answers.refused ReportMemory
+  unfolding mergeAnswer
+  merge-short = lent-short memoryLimit n _
+
   pub run-short : n < 128 → runAnswer text n ≡ answers.refused ReportMemory
   unfolding runAnswer
   run-short = lent-short memoryLimit n _
@@ -122,6 +135,10 @@ module _ (text : List ℕ) (n : ℕ) where
   unfolding boundAnswer
   bound-refused = reading-refused boundRoutine (readBound text) memoryLimit n
 
+  pub merge-refused : 128 ≤ n → (x : Refusal) → readBound text ≡ readings.refused x → mergeAnswer text n ≡ answers.refused x
+  unfolding mergeAnswer
+  merge-refused = reading-refused mergeRoutine (readBound text) memoryLimit n
+
   pub run-refused : 128 ≤ n → (x : Refusal) → readRun text ≡ readings.refused x → runAnswer text n ≡ answers.refused x
   unfolding runAnswer
   run-refused = reading-refused runRoutine (readRun text) memoryLimit n
@@ -129,6 +146,10 @@ module _ (text : List ℕ) (n : ℕ) where
   pub bound-passed : 128 ≤ n → (x : readings.Routine) → readBound text ≡ readings.routine x → boundAnswer text n ≡ boundRoutine x
   unfolding boundAnswer
   bound-passed = reading-passed boundRoutine (readBound text) memoryLimit n
+
+  pub merge-passed : 128 ≤ n → (x : readings.Routine) → readBound text ≡ readings.routine x → mergeAnswer text n ≡ mergeRoutine x
+  unfolding mergeAnswer
+  merge-passed = reading-passed mergeRoutine (readBound text) memoryLimit n
 
   pub run-passed : 128 ≤ n → (x : readings.Routine) → readRun text ≡ readings.routine x → runAnswer text n ≡ runRoutine x
   unfolding runAnswer
@@ -140,6 +161,14 @@ module _ (text : List ℕ) (n : ℕ) where
         positive = rw (p .1) (tick-positive (p .0));
         small = rw (p .1) (tick-small (p .0));
         fits = λ bs q. let k = reports-fit .0 text n bs (bound-passed h x e ∙ q) in omega (arith, k .0, k .1);
+      }
+
+  pub merge-printable : 128 ≤ n → (x : readings.Routine) → readBound text ≡ readings.routine x → Printable (mergeRoutine x) (x .tick) n
+  merge-printable h x e =
+      let p = read-passes text x e in record {
+        positive = rw (p .1) (tick-positive (p .0));
+        small = rw (p .1) (tick-small (p .0));
+        fits = λ bs q. let k = reports-fit .5 text n bs (merge-passed h x e ∙ q) in omega (arith, k .0, k .1);
       }
 
   pub run-printable : 128 ≤ n → (x : readings.Routine) → readRun text ≡ readings.routine x → Printable (runRoutine x) (x .tick) n
@@ -173,6 +202,20 @@ module _ (text : List ℕ) (n : ℕ) (former out : List ℕ) (r : code.Answer) w
       (
         delivers (SafeReport text) (boundAnswer text n) (λ bs q. reports-kept text n bs q .0) r e former out m,
         delivers (ExactReport text) (boundAnswer text n) (λ bs q. reports-kept text n bs q .1) r e former out m,
+      ),
+    ),
+  )
+
+  pub merge-keeps : (r ≡ answerOf (mergeAnswer text n)) × (out ≡ memory (mergeAnswer text n) former) →
+      (r ≡ answerOf (mergeAnswer text n)) × ((out ≡ memory (mergeAnswer text n) former)
+      × (Delivers (reportLength r) out (SafeMerge text) × Delivers (reportLength r) out (ExactMerge text)))
+  merge-keeps (e, m) = (
+    e,
+    (
+      m,
+      (
+        delivers (SafeMerge text) (mergeAnswer text n) (λ bs q. merges-kept text n bs q .0) r e former out m,
+        delivers (ExactMerge text) (mergeAnswer text n) (λ bs q. merges-kept text n bs q .1) r e former out m,
       ),
     ),
   )
@@ -258,6 +301,13 @@ bound-limits text n = record {
   refusal = places-small .0 text n;
 }
 
+merge-limits : (text : List ℕ) (n : ℕ) → WithinLimits memoryLimit (mergeAnswer text n)
+merge-limits text n = record {
+  small = omega arith;
+  report = λ bs e. (merge-reports-some text n bs e, reports-fit .5 text n bs e .0);
+  refusal = places-small .5 text n;
+}
+
 run-limits : (text : List ℕ) (n : ℕ) → WithinLimits memoryLimit (runAnswer text n)
 run-limits text n = record {
   small = omega arith;
@@ -320,6 +370,7 @@ answers-told = (
   λ words words′ primitives primitives′ n n′. told conversionLimit _ _ (import-limits words primitives n) (import-limits words′ primitives′ n′),
   λ text text′ n n′. told conversionLimit _ _ (export-limits text n) (export-limits text′ n′),
   λ text text′ trace trace′ n n′. told memoryLimit _ _ (replay-limits text trace n) (replay-limits text′ trace′ n′),
+  λ text text′ n n′. told memoryLimit _ _ (merge-limits text n) (merge-limits text′ n′),
 )
 
 module _ (text : List ℕ) (n : ℕ) where
@@ -328,6 +379,12 @@ module _ (text : List ℕ) (n : ℕ) where
 
   pub bound-length : (r : code.Answer) → r ≡ answerOf (boundAnswer text n) → (w : ℕ) → w ≡ wordOf r → reportLength r ≡ toldLength w
   bound-length r e w f = rw (f, e) (sym (told-length memoryLimit (boundAnswer text n) (bound-limits text n)))
+
+  pub merge-tells : (w : ℕ) → w ≡ wordOf (answerOf (mergeAnswer text n)) → Tells memoryLimit (mergeAnswer text n) w
+  merge-tells = tells (merge-limits text n)
+
+  pub merge-length : (r : code.Answer) → r ≡ answerOf (mergeAnswer text n) → (w : ℕ) → w ≡ wordOf r → reportLength r ≡ toldLength w
+  merge-length r e w f = rw (f, e) (sym (told-length memoryLimit (mergeAnswer text n) (merge-limits text n)))
 
   pub run-tells : (w : ℕ) → w ≡ wordOf (answerOf (runAnswer text n)) → Tells memoryLimit (runAnswer text n) w
   run-tells = tells (run-limits text n)

@@ -23,7 +23,7 @@ use Rattle.bounds.proofs.ForwardLaws as forward-laws
 use Rattle.report.proofs.ReportLaws.{share-nearest, share-unique}
 use Rattle.conversions.specs.Promises as conversions
 use Rattle.conversions.proofs.Theorems as conversion-theorems
-use Rattle.analyser.specs.Answers.{boundAnswer, runAnswer}
+use Rattle.analyser.specs.Answers.{boundAnswer, mergeAnswer, runAnswer}
 use Rattle.analyser.specs.Promises as answers
 use Rattle.analyser.specs.Functions as functions
 use Rattle.analyser.proofs.AnswerLaws as answer-laws
@@ -101,6 +101,10 @@ forward-once = forward-laws.forward-once
 pub reports-kept : answers.ReportsKept
 reports-kept = answer-laws.reports-kept
 
+-- the same of the merging bound; what holds of it at code that passes is in `merges/proofs/Theorems`
+pub merges-kept : answers.MergesKept
+merges-kept = answer-laws.merges-kept
+
 pub runs-kept : answers.RunsKept
 runs-kept = answer-laws.runs-kept
 
@@ -137,7 +141,7 @@ imports-export = conversion-theorems.imports-export
 pub imports-bound : answers.ImportsBound
 imports-bound text words made n m k b e g =
     let f = imports-replace text words made n m b e g in
-    (ap (λ t. boundAnswer t k) f, ap (λ t. runAnswer t k) f)
+    (ap (λ t. boundAnswer t k) f, ap (λ t. runAnswer t k) f, ap (λ t. mergeAnswer t k) f)
 
 pub written-reads-back : answers.WrittenReadsBack
 written-reads-back = decimal-read

@@ -1,10 +1,11 @@
--- The answer of the bound and of the run to a text and a length of lent report memory, and what a program prints of it.
+-- The answer of the bound, of the merging bound and of the run to a text and a length of lent report memory, and what a program prints of it.
 -- (document 01, Refusal table; demands 1 and 2)
 use Prim.Native.Nat.{ℕ}
 use mathlib.Core.List.{List}
 use Rattle.bounds.specs.Tree.{Report, Verdict, bound}
 use Rattle.bounds.specs.Tree as verdicts
 use Rattle.bounds.specs.Run.{run}
+use Rattle.merges.specs.Merge.{merged}
 use Rattle.routine.specs.Routine.{Routine, readBound, readRun}
 use Rattle.answers.specs.Answers.{Answer, reported, refused, memoryLimit, lending, ofReading}
 use Rattle.report.specs.Report.{boundText, runText, refusalText}
@@ -18,6 +19,10 @@ ofVerdict text (verdicts.refused r) = refused r
 unfoldable pub boundRoutine : Routine → Answer
 boundRoutine x = ofVerdict (boundText (x .tick)) (bound (x .code) (x .budget) (x .start))
 
+-- the merging bound's: its report, or 14 or 7; "It takes no BUDGET" (document 02 §9)
+unfoldable pub mergeRoutine : Routine → Answer
+mergeRoutine x = ofVerdict (boundText (x .tick)) (merged (x .code) (x .start))
+
 -- the run's: its report, or 7 or 9
 unfoldable pub runRoutine : Routine → Answer
 runRoutine x = ofVerdict runText (run (x .code) (x .budget) (x .start) (x .answers))
@@ -25,6 +30,10 @@ runRoutine x = ofVerdict runText (run (x .code) (x .budget) (x .start) (x .answe
 -- the answer to a text and to n lent bytes
 unfoldable pub boundAnswer : List ℕ → ℕ → Answer
 boundAnswer text n = lending memoryLimit n (ofReading boundRoutine (readBound text))
+
+-- the same of the merging bound
+unfoldable pub mergeAnswer : List ℕ → ℕ → Answer
+mergeAnswer text n = lending memoryLimit n (ofReading mergeRoutine (readBound text))
 
 -- the same of the run
 unfoldable pub runAnswer : List ℕ → ℕ → Answer

@@ -13,7 +13,7 @@ use Rattle.answers.specs.declared.Answer as code
 use Rattle.answers.specs.declared.Answer.the-variants.{Reported, Refused}
 use Rattle.conversions.specs.Answers.{importAnswer, exportAnswer}
 use Rattle.conformance.specs.Answers.{replayAnswer}
-use Rattle.analyser.specs.Answers.{boundAnswer, runAnswer}
+use Rattle.analyser.specs.Answers.{boundAnswer, mergeAnswer, runAnswer}
 
 -- ---- what an answer says of the lent memory
 
@@ -54,3 +54,4 @@ AnswersTold =
     × ((words words′ primitives primitives′ : List ℕ) (n n′ : ℕ) → AnswerTold (importAnswer words primitives n) (importAnswer words′ primitives′ n′))
     × ((text text′ : List ℕ) (n n′ : ℕ) → AnswerTold (exportAnswer text n) (exportAnswer text′ n′))
     × ((text text′ trace trace′ : List ℕ) (n n′ : ℕ) → AnswerTold (replayAnswer text trace n) (replayAnswer text′ trace′ n′))
+    × ((text text′ : List ℕ) (n n′ : ℕ) → AnswerTold (mergeAnswer text n) (mergeAnswer text′ n′))

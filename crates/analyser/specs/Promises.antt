@@ -20,6 +20,8 @@ use Rattle.machine.specs.Forward.{Forward}
 use Rattle.bounds.specs.Tree.{openingLimit, Report, accepted, bound}
 use Rattle.bounds.specs.Run.{begin, after, run}
 use Rattle.bounds.specs.Promises.{Exact, Safe, NoGreater, SinglePass}
+use Rattle.merges.specs.Merge.{merged}
+use Rattle.merges.specs.Promises.{MergedFigures}
 use Rattle.routine.specs.Layout.{layout, body, codeLines}
 use Rattle.routine.specs.Routine.{Routine, readBound, readRun}
 use Rattle.routine.specs.Routine as readings
@@ -29,13 +31,19 @@ use Rattle.inverses.specs.Sections.{replaced, primitivesLine}
 use Rattle.conversions.specs.Answers.{conversionLimit, importAnswer, exportAnswer}
 use Rattle.conversions.specs.Promises.{BeginsAtZero}
 use Rattle.conformance.specs.Answers.{replayAnswer}
-use Rattle.analyser.specs.Answers.{boundAnswer, runAnswer}
+use Rattle.analyser.specs.Answers.{boundAnswer, mergeAnswer, runAnswer}
 use Rattle.analyser.specs.Functions.{reportLength}
 
 -- the bytes are the bound's report, with the figures q, of the routine x that the text holds
 pub record BoundReported (text bytes : List ℕ) (x : Routine) (q : Report) : Type 0 where
   pub reads : readBound text ≡ readings.routine x
   pub accepts : bound (x .code) (x .budget) (x .start) ≡ accepted q
+  pub prints : bytes ≡ boundText (x .tick) q
+
+-- the bytes are the merging bound's report, likewise
+pub record MergeReported (text bytes : List ℕ) (x : Routine) (q : Report) : Type 0 where
+  pub reads : readBound text ≡ readings.routine x
+  pub accepts : merged (x .code) (x .start) ≡ accepted q
   pub prints : bytes ≡ boundText (x .tick) q
 
 -- the bytes are the run's report, likewise
@@ -50,6 +58,12 @@ abbrev pub SafeRuns : Routine → Report → Type 0
 SafeRuns x q =
     (s : State) → Cellwise Allowed s (x .start) → (answers : List ℤ) (n : ℕ) →
     Safe (x .code) (bound (x .code) (x .budget)) q (begin s answers) n (after (x .code) n (begin s answers))
+
+-- the same under a report of the merging bound, "with the afresh bound being this one" (document 02 §9)
+abbrev pub SafeMergedRuns : Routine → Report → Type 0
+SafeMergedRuns x q =
+    (s : State) → Cellwise Allowed s (x .start) → (answers : List ℤ) (n : ℕ) →
+    Safe (x .code) (merged (x .code)) q (begin s answers) n (after (x .code) n (begin s answers))
 
 -- two files: y is x with numbers for its `?`, and with any answers
 pub record FilledIn (y x : Routine) : Type 0 where
@@ -66,6 +80,13 @@ SafeReport text bytes = (x : Routine) × (q : Report) × BoundReported text byte
 -- demand 2
 abbrev pub ExactReport : List ℕ → List ℕ → Type 0
 ExactReport text bytes = (x : Routine) × (q : Report) × BoundReported text bytes x q × Exact (x .code) openingLimit (x .start) q
+
+-- the same of the merging bound
+abbrev pub SafeMerge : List ℕ → List ℕ → Type 0
+SafeMerge text bytes = (x : Routine) × (q : Report) × MergeReported text bytes x q × SafeMergedRuns x q
+
+abbrev pub ExactMerge : List ℕ → List ℕ → Type 0
+ExactMerge text bytes = (x : Routine) × (q : Report) × MergeReported text bytes x q × MergedFigures (x .code) (x .start) q
 
 -- the run's figures are no greater than those of a bound that accepts a file which this one fills in
 abbrev pub WithinReport : List ℕ → List ℕ → Type 0
@@ -85,6 +106,9 @@ RunAccepted text lent told =
 abbrev pub ReportsKept : Type 0
 ReportsKept = (text : List ℕ) (n : ℕ) (bytes : List ℕ) → boundAnswer text n ≡ reported bytes → SafeReport text bytes × ExactReport text bytes
 
+abbrev pub MergesKept : Type 0
+MergesKept = (text : List ℕ) (n : ℕ) (bytes : List ℕ) → mergeAnswer text n ≡ reported bytes → SafeMerge text bytes × ExactMerge text bytes
+
 -- every run of a file that fills in a bounded one is accepted, and within its report
 abbrev pub RunsKept : Type 0
 RunsKept =
@@ -96,7 +120,7 @@ abbrev pub AnswersIrrelevant : Type 0
 AnswersIrrelevant =
     (text text′ : List ℕ) (x x′ : Routine) → readBound text ≡ readings.routine x → readBound text′ ≡ readings.routine x′ →
     take (length layout) (lines text) ≡ take (length layout) (lines text′) → codeLines (body (lines text)) ≡ codeLines (body (lines text′)) →
-    (n : ℕ) → boundAnswer text n ≡ boundAnswer text′ n
+    (n : ℕ) → (boundAnswer text n ≡ boundAnswer text′ n) × (mergeAnswer text n ≡ mergeAnswer text′ n)
 
 -- "ASCII": no byte of a text that passes is 128 or more
 abbrev pub PassingIsAscii : Type 0
@@ -121,6 +145,7 @@ ReportsFit =
     × ((words primitives : List ℕ) (n : ℕ) → ReportFits conversionLimit n (importAnswer words primitives n))
     × ((text : List ℕ) (n : ℕ) → ReportFits conversionLimit n (exportAnswer text n))
     × ((text trace : List ℕ) (n : ℕ) → ReportFits memoryLimit n (replayAnswer text trace n))
+    × ((text : List ℕ) (n : ℕ) → ReportFits memoryLimit n (mergeAnswer text n))
 
 -- the place of a refusal is 62,000 at most
 abbrev pub PlaceSmall : Answer → Type 0
@@ -134,12 +159,13 @@ PlacesSmall =
     × ((words primitives : List ℕ) (n : ℕ) → PlaceSmall (importAnswer words primitives n))
     × ((text : List ℕ) (n : ℕ) → PlaceSmall (exportAnswer text n))
     × ((text trace : List ℕ) (n : ℕ) → PlaceSmall (replayAnswer text trace n))
+    × ((text : List ℕ) (n : ℕ) → PlaceSmall (mergeAnswer text n))
 
--- "An import followed by a bound gives what the written file gives": the file with the lines made of its own words has its bound and its run
+-- "An import followed by a bound gives what the written file gives": the file with the lines made of its own words has its bounds and its run
 abbrev pub ImportsBound : Type 0
 ImportsBound =
     (text words made : List ℕ) (n m k : ℕ) → BeginsAtZero text → exportAnswer text n ≡ reported words → importAnswer words (primitivesLine (lines text)) m ≡ reported made →
-    (boundAnswer (replaced (lines text) made) k ≡ boundAnswer text k) × (runAnswer (replaced (lines text) made) k ≡ runAnswer text k)
+    (boundAnswer (replaced (lines text) made) k ≡ boundAnswer text k) × (runAnswer (replaced (lines text) made) k ≡ runAnswer text k) × (mergeAnswer (replaced (lines text) made) k ≡ mergeAnswer text k)
 
 -- reading a decimal number that was written gives it back
 abbrev pub WrittenReadsBack : Type 0

@@ -10,6 +10,7 @@ ghost use mathlib.Core.Path.{_≡_};
 ghost use lib.ListN.{length};
 ghost use Rattle.bounds.specs.Tree.{bound};
 ghost use Rattle.bounds.specs.Run.{run};
+ghost use Rattle.merges.specs.Merge.{merged};
 ghost use Rattle.findings.specs.Found.{Shows};
 ghost use Rattle.runs.specs.Contract.{verdictOf};
 ghost use Rattle.reader.specs.Reader.{Limited};
@@ -17,10 +18,10 @@ ghost use Rattle.answers.specs.Answers.{memoryLimit, memory, answerOf};
 ghost use Rattle.answers.specs.declared.Answer.the-variants.{Refused};
 ghost use Rattle.conversions.specs.Answers.{conversionLimit, importAnswer, exportAnswer};
 ghost use Rattle.conformance.specs.Answers.{replayAnswer};
-ghost use Rattle.analyser.specs.Answers.{boundRoutine, runRoutine, boundAnswer, runAnswer};
+ghost use Rattle.analyser.specs.Answers.{boundRoutine, mergeRoutine, runRoutine, boundAnswer, mergeAnswer, runAnswer};
 ghost use Rattle.analyser.specs.Functions.{reportLength, Delivers, wordOf, toldLength, Tells};
 ghost use Rattle.analyser.specs.Held.{routineIn, Printable, Shareable};
-ghost use Rattle.analyser.specs.Promises.{SafeReport, ExactReport, WithinReport, RunAccepted};
+ghost use Rattle.analyser.specs.Promises.{SafeReport, ExactReport, SafeMerge, ExactMerge, WithinReport, RunAccepted};
 
 // The routine's bound.
 fn explored(routine: Routine) -> Found
@@ -51,6 +52,36 @@ fn explored(routine: Routine) -> Found
         fields,
         32,
         routine.budget,
+    )
+}
+
+// The routine's merging bound.
+fn swept(routine: Routine) -> Found
+    requires { ⌜ Limited routine ⌝ }
+    ensures { λ r. ⌜ Shows r (merged (routineIn routine .code) (routineIn routine .start)) ⌝ }
+    ensures { λ r. ⌜ Shareable r ⌝ }
+{
+    let columns = routine.columns;
+    let codes = columns.codes;
+    let operands = columns.operands;
+    let cycles = columns.cycles;
+    let words = columns.words;
+    let extras = columns.extras;
+    let sizes = routine.sizes;
+    let fields = routine.fields;
+    let start = routine.start;
+    let count = routine.count;
+    let blocks = routine.blocks;
+    merging::merge(
+        &codes[..count],
+        &operands[..count],
+        &cycles[..count],
+        &words[..count],
+        &extras[..count],
+        &sizes[..blocks],
+        routine.first,
+        start,
+        fields,
     )
 }
 
@@ -116,6 +147,34 @@ fn bound_routine(routine: Routine, out: &mut [u8]) -> Answer
     }
 }
 
+// The answer of the merging bound to a routine.
+fn merge_routine(routine: Routine, out: &mut [u8]) -> Answer
+    requires { ⌜ Limited routine ⌝ }
+    requires { ⌜ Printable (mergeRoutine (routineIn routine)) (routine .tick) (length (now out)) ⌝ }
+    ensures { λ r. ⌜ r ≡ answerOf (mergeRoutine (routineIn routine)) ⌝ }
+    ensures { λ _. ⌜ now (out .exit) ≡ memory (mergeRoutine (routineIn routine)) (now (out .entry)) ⌝ }
+{
+    let tick = routine.tick;
+    let found = swept(routine);
+    let steps = found.used as u64;
+    let verdict = found.verdict;
+    match verdict {
+        Verdict::Accepted => {
+            let n = report::put_bound(
+                out,
+                tick,
+                found.cycles,
+                found.words,
+                found.depth,
+                steps,
+                found.path,
+            );
+            Answer::Reported(n)
+        }
+        Verdict::Refused(refusal) => Answer::Refused(refusal),
+    }
+}
+
 // The answer of the run to a routine.
 fn run_routine(routine: Routine, out: &mut [u8]) -> Answer
     requires { ⌜ Limited routine ⌝ }
@@ -152,6 +211,27 @@ pub fn bound(text: &[u8], out: &mut [u8]) -> Answer
         Verdict::Accepted => {
             let routine = reader::routine_of(text);
             bound_routine(routine, out)
+        }
+        Verdict::Refused(refusal) => Answer::Refused(refusal),
+    }
+}
+
+// The merging bound of a routine file: the report in the lent memory, or a refusal.
+pub fn merge(text: &[u8], out: &mut [u8]) -> Answer
+    ensures { λ r. ⌜ r ≡ answerOf (mergeAnswer (now (text .entry)) (length (now (out .entry)))) ⌝ }
+    ensures { λ _. ⌜ now (out .exit) ≡ memory (mergeAnswer (now (text .entry)) (length (now (out .entry)))) (now (out .entry)) ⌝ }
+    ensures safe { λ r. ⌜ Delivers (reportLength r) (now (out .exit)) (SafeMerge (now (text .entry))) ⌝ }
+    ensures exact { λ r. ⌜ Delivers (reportLength r) (now (out .exit)) (ExactMerge (now (text .entry))) ⌝ }
+{
+    let lent = out.len();
+    if lent < 128 {
+        return Answer::Refused(Refusal::ReportMemory); // the first row, before the text is read
+    }
+    let verdict = rows::check(Reader::Bound, text);
+    match verdict {
+        Verdict::Accepted => {
+            let routine = reader::routine_of(text);
+            merge_routine(routine, out)
         }
         Verdict::Refused(refusal) => Answer::Refused(refusal),
     }
@@ -206,6 +286,19 @@ pub extern "C" fn tickbound_bound(text: &[u8], out: &mut [u8]) -> u64
     ensures exact { λ r. ⌜ Delivers (toldLength r) (now (out .exit)) (ExactReport (now (text .entry))) ⌝ }
 {
     let answer = bound(text, out);
+    word_of(answer)
+}
+
+// `merge` for C.
+#[no_mangle]
+pub extern "C" fn tickbound_merge(text: &[u8], out: &mut [u8]) -> u64
+    ensures { λ r. ⌜ r ≡ wordOf (answerOf (mergeAnswer (now (text .entry)) (length (now (out .entry))))) ⌝ }
+    ensures { λ _. ⌜ now (out .exit) ≡ memory (mergeAnswer (now (text .entry)) (length (now (out .entry)))) (now (out .entry)) ⌝ }
+    ensures tells { λ r. ⌜ Tells memoryLimit (mergeAnswer (now (text .entry)) (length (now (out .entry)))) r ⌝ }
+    ensures safe { λ r. ⌜ Delivers (toldLength r) (now (out .exit)) (SafeMerge (now (text .entry))) ⌝ }
+    ensures exact { λ r. ⌜ Delivers (toldLength r) (now (out .exit)) (ExactMerge (now (text .entry))) ⌝ }
+{
+    let answer = merge(text, out);
     word_of(answer)
 }
 
