@@ -1,13 +1,13 @@
-/* The bound of a routine, the run of a routine, its code from and to the compiler's words, and a card's trace held
+/* The two bounds of a routine, the run of a routine, its code from and to the compiler's words, and a card's trace held
  * against its run, for a loader in C.
  *
  * `tickbound install PREFIX` puts this header into PREFIX/include and the library to link with into PREFIX/lib:
  * `cc -I PREFIX/include .. -L PREFIX/lib -ltickbound`, on x86-64 Linux. In the repository `rt staticlib analyser`
  * writes the same library to target/staticlib/libanalyser.a.
  *
- * `tickbound_bound` and `tickbound_run` read a routine file of `text_length` bytes at `text`, and write a report
- * into the `report_length` bytes lent at `report`. `tickbound_replay` reads a trace of `trace_length` bytes at `trace`
- * beside it. `tickbound_import` and `tickbound_export` write lines and words in the same way.
+ * `tickbound_bound`, `tickbound_merge` and `tickbound_run` read a routine file of `text_length` bytes at `text`, and
+ * write a report into the `report_length` bytes lent at `report`. `tickbound_replay` reads a trace of `trace_length`
+ * bytes at `trace` beside it. `tickbound_import` and `tickbound_export` write lines and words in the same way.
  *
  * - The memory that is lent for writing must not overlap what is read, and nothing else may write either during
  *   the call.
@@ -19,7 +19,8 @@
  * - After a report (lines, words), the memory holds its bytes and then its former bytes. After a refusal it is
  *   unchanged. A report is text (two lines, one of a replay, each ending in a line feed); no 0 byte ends it.
  * - The functions keep nothing between calls, allocate nothing and may be called from several threads.
- *   Leave a call 256 KB of stack: it took under 144 KB at 32 openings. This is measured, not proved.
+ *   Leave a call of `tickbound_merge` 2 MB of stack, and a call of another function 256 KB: the bound took under
+ *   144 KB at 32 openings. This is measured, not proved.
  *
  * The answer is one number that is a length or a refusal, and never both:
  *
@@ -64,7 +65,7 @@ extern "C" {
 #define TICKBOUND_PATH_LIMIT 32
 
 /* The numbers of the refusals. The place is 0 for 10 and 1, a line of the text for 2 to 6, 13 and 11, an address of
- * the code for 7, 8 and 9, and for 12 the index of a word, from 0. An import refuses its primitives line by 2 or 4
+ * the code for 7, 8, 9 and 14, and for 12 the index of a word, from 0. An import refuses its primitives line by 2 or 4
  * at place 1. A replay refuses its trace by 1, 2 or 3, after its routine file: a line is then one of the trace. */
 enum {
     TICKBOUND_TEXT_TOO_LONG = 1,
@@ -79,11 +80,24 @@ enum {
     TICKBOUND_LENT_TOO_LITTLE = 10,
     TICKBOUND_UNKNOWN_CELL = 11,
     TICKBOUND_BAD_WORD = 12,
-    TICKBOUND_BACKWARD = 13
+    TICKBOUND_BACKWARD = 13,
+    TICKBOUND_NO_MEETING = 14
 };
 
 /* The report of the bound: `CYCLES WORDS DEPTH STEPS SHARE PATH` and their values. */
 uint64_t tickbound_bound(const uint8_t *text, size_t text_length, uint8_t *report, size_t report_length);
+
+/* The report of the merging bound, for a routine with too many paths to walk. It goes through the addresses once, in
+ * rising order, and merges the states where ways meet: equal cells stay, unlike numbers become unknown. The report has
+ * the same names and is read by `tickbound_read_report`; `steps` is the number of addresses reached, and PATH is `-`,
+ * so that `path` is empty. Neither BUDGET nor a limit on openings plays a part. Every run is within this report too.
+ * Where both bounds report, its cycles, words and depth are at least those of `tickbound_bound`.
+ *
+ * Refused by 10; then by 1 to 6 and 13, as the bound is; then at the lowest address that has one of these two, 14
+ * before 7: 14, where ways meet with stacks of unlike heights or with a cell that is a handle on one of them and
+ * anything else, another handle too, on another; 7, where the step of the merged state is stuck. Never by 8, 9 or
+ * 11. */
+uint64_t tickbound_merge(const uint8_t *text, size_t text_length, uint8_t *report, size_t report_length);
 
 /* The report of the one run that the file gives: `CYCLES WORDS DEPTH STEPS` and their values. */
 uint64_t tickbound_run(const uint8_t *text, size_t text_length, uint8_t *report, size_t report_length);
@@ -127,9 +141,9 @@ static inline uint32_t tickbound_place(uint64_t answer) {
     return tickbound_is_refused(answer) ? (uint32_t)(answer & 0xffffffff) : 0;
 }
 
-/* The figures of a bound. `share` is the cycles in thousandths of TICK, to the nearest whole number, at an exact half
- * the even one. `path` is the letters of the decisions, N or T, ended by a 0; where there is none, it is empty (the
- * report has `-` there). */
+/* The figures of a bound, of either. `share` is the cycles in thousandths of TICK, to the nearest whole number, at an
+ * exact half the even one. `path` is the letters of the decisions, N or T, ended by a 0; where there is none, it is
+ * empty (the report has `-` there). */
 struct tickbound_report {
     uint64_t cycles, words, depth, steps, share;
     char path[TICKBOUND_PATH_LIMIT + 1];
@@ -204,8 +218,8 @@ static inline bool tickbound_take_path(struct tickbound_bytes *bytes, char *path
     return tickbound_take_string(bytes, length == 0 ? "-\n" : "\n");
 }
 
-/* Reads the report of a bound. False, with `report` unchanged, where the bytes are not exactly a report: its line of
- * names, then five numbers and a path, parted by one space, and a line feed. */
+/* Reads the report of a bound, of either. False, with `report` unchanged, where the bytes are not exactly a report: its
+ * line of names, then five numbers and a path, parted by one space, and a line feed. */
 static inline bool tickbound_read_report(const uint8_t *bytes, size_t length, struct tickbound_report *report) {
     struct tickbound_bytes left = {bytes, length};
     struct tickbound_report read;
