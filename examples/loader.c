@@ -1,5 +1,6 @@
 /* A loader: reads a routine file, asks for its bound and decides whether the routine is loaded. It prints the figures
- * of a routine that is, and otherwise why it is not.
+ * of a routine that is, and otherwise why it is not. Where the routine has too many paths to walk (refusals 8 and 9) it
+ * goes by the merging bound.
  *
  *   ./tickbound install PREFIX
  *   cc -I PREFIX/include -o loader examples/loader.c -L PREFIX/lib -ltickbound
@@ -22,6 +23,7 @@ static const char *place_of(unsigned number) {
     case TICKBOUND_STUCK:
     case TICKBOUND_OPENINGS:
     case TICKBOUND_SPENT:
+    case TICKBOUND_NO_MEETING:
         return "address";
     default:
         return "line";
@@ -51,6 +53,9 @@ int main(int argc, char **argv) {
 
     uint8_t bytes[TICKBOUND_REPORT_MEMORY];
     uint64_t answer = tickbound_bound(text, length, bytes, sizeof bytes);
+    if (tickbound_number(answer) == TICKBOUND_OPENINGS || tickbound_number(answer) == TICKBOUND_SPENT) {
+        answer = tickbound_merge(text, length, bytes, sizeof bytes);
+    }
     if (tickbound_is_refused(answer)) {
         unsigned number = tickbound_number(answer);
         printf("not loaded: refusal %u at %s %" PRIu32 "\n", number, place_of(number), tickbound_place(answer));
