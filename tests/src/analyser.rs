@@ -2,6 +2,7 @@
 #[link(name = "analyser", kind = "static")]
 extern "C" {
     fn tickbound_bound(text: *const u8, text_length: usize, report: *mut u8, report_length: usize) -> u64;
+    fn tickbound_merge(text: *const u8, text_length: usize, report: *mut u8, report_length: usize) -> u64;
     fn tickbound_run(text: *const u8, text_length: usize, report: *mut u8, report_length: usize) -> u64;
     fn tickbound_import(
         words: *const u8,
@@ -36,6 +37,11 @@ pub type Function = fn(&[u8], &mut [u8]) -> u64;
 pub fn bound(text: &[u8], report: &mut [u8]) -> u64 {
     // SAFETY: both memories are there with these lengths and do not overlap; null is allowed where a length is 0.
     unsafe { tickbound_bound(start(text), text.len(), start_mut(report), report.len()) }
+}
+
+pub fn merge(text: &[u8], report: &mut [u8]) -> u64 {
+    // SAFETY: as above.
+    unsafe { tickbound_merge(start(text), text.len(), start_mut(report), report.len()) }
 }
 
 pub fn run(text: &[u8], report: &mut [u8]) -> u64 {

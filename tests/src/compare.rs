@@ -2,8 +2,9 @@
 use independent::analyser::{self, Function, NUMBERS};
 use independent::bound::{bound, Figures, Path as Decisions};
 use independent::machine::State;
+use independent::merge::merge;
 use independent::random::Random;
-use independent::report::{bound_answer, printed, run_answer, told, Answer, MEMORY};
+use independent::report::{bound_answer, merge_answer, printed, run_answer, told, Answer, MEMORY};
 use independent::routine::{line, read, Refusal, Routine, TEXT_LIMIT};
 use independent::run::Run;
 use std::ffi::OsStr;
@@ -60,8 +61,15 @@ pub fn compare_report(
     found.map_or_else(|| Ok(wanted.clone()), |what| Err(format!("{what}\nwanted: {}", shown(&wanted))))
 }
 
-/// Compares both functions on a text; gives the answers wanted.
-pub fn compare(random: &mut Random, text: &[u8]) -> Result<(Answer, Answer), String> {
+/// What the bound, the run and the merging bound answer for a text.
+pub struct Answers {
+    pub bound: Answer,
+    pub run: Answer,
+    pub merge: Answer,
+}
+
+/// Compares the three functions on a text; gives the answers wanted.
+pub fn compare(random: &mut Random, text: &[u8]) -> Result<Answers, String> {
     let mut of = |name: &str, function: Function, own: fn(&[u8], usize) -> Answer| {
         let copy = text.to_vec();
         let answer = compare_report(random, &|memory| function(&copy, memory), &|lent| own(text, lent))
@@ -72,7 +80,34 @@ pub fn compare(random: &mut Random, text: &[u8]) -> Result<(Answer, Answer), Str
             Err(format!("{name} wrote the text"))
         }
     };
-    Ok((of("bound", analyser::bound, bound_answer)?, of("run", analyser::run, run_answer)?))
+    let answers = Answers {
+        bound: of("bound", analyser::bound, bound_answer)?,
+        run: of("run", analyser::run, run_answer)?,
+        merge: of("merge", analyser::merge, merge_answer)?,
+    };
+    beside(&answers.bound, &answers.merge)?;
+    Ok(answers)
+}
+
+/// The number of a refusal; 0 is a report.
+pub fn number(answer: &Answer) -> u32 {
+    answer.as_ref().err().map_or(0, |refusal| refusal.number)
+}
+
+/// The merging bound beside the first: "Where both bounds accept, this one is never the smaller in cycles, words or depth"; where this one
+/// accepts, the first is refused by 8 or 9, if at all; both refuse a file alike; and this one is never refused by 8, 9 or 11.
+fn beside(bound: &Answer, merge: &Answer) -> Result<(), String> {
+    let fits = match (bound, merge) {
+        (Ok(first), Ok(second)) => figures(first).iter().zip(figures(second)).take(3).all(|(a, b)| *a <= b),
+        (Err(first), Ok(_)) => [8, 9].contains(&first.number),
+        (_, Err(second)) if [7, 14].contains(&second.number) => [0, 7, 8, 9].contains(&number(bound)),
+        (first, second) => first == second,
+    };
+    if fits {
+        Ok(())
+    } else {
+        Err(format!("the bound says {}\nand the merging bound {}", shown(bound), shown(merge)))
+    }
 }
 
 pub fn shown(answer: &Answer) -> String {
@@ -105,9 +140,17 @@ pub fn filled(random: &mut Random, text: &[u8]) -> Vec<u8> {
     lines.iter().flat_map(|l| [l, "\n"]).collect::<String>().into_bytes()
 }
 
-/// Runs of an accepted file, through the C functions: each is accepted, and within the report.
-fn runs_within(random: &mut Random, text: &[u8], report: &[u8]) -> Result<(), String> {
-    let most = figures(report);
+/// A file that passes, with the largest BUDGET.
+fn with_all_steps(text: &[u8]) -> Vec<u8> {
+    let lines: Vec<&[u8]> = text.splitn(3, |b| *b == b'\n').collect();
+    let tick = lines[1].split(|b| *b == b' ').nth(1).unwrap();
+    [lines[0], &[b"1000000 ", tick].concat(), lines[2]].join(&b'\n')
+}
+
+/// Runs of an accepted file, through the C functions: each is accepted, and within all of these reports.
+fn runs_within(random: &mut Random, text: &[u8], reports: &[&[u8]]) -> Result<(), String> {
+    let all: Vec<Vec<u64>> = reports.iter().map(|report| figures(report)).collect();
+    let most: Vec<u64> = (0..4).map(|i| all.iter().map(|figures| figures[i]).min().unwrap()).collect();
     for _ in 0..20 {
         let file = filled(random, text);
         if file.len() > TEXT_LIMIT {
@@ -131,8 +174,17 @@ fn runs_within(random: &mut Random, text: &[u8], report: &[u8]) -> Result<(), St
 /// Nothing is left of a run that has made its STOP.
 const NOTHING: Figures = Figures { cycles: 0, words: 0, depth: 0, steps: 0, path: Decisions { taken: 0, length: 0 } };
 
+/// A bound from a state.
+type Bound = fn(&Routine, State) -> Result<Figures, Refusal>;
+
 /// A run of an accepted file, interrupted after `n` steps, and its state bounded afresh.
-fn interrupt(routine: &Routine, start: State, answers: &[i32], n: usize) -> Result<(Run, Figures), String> {
+fn interrupt(
+    bound: Bound,
+    routine: &Routine,
+    start: State,
+    answers: &[i32],
+    n: usize,
+) -> Result<(Run, Figures), String> {
     let mut run = Run::new(start, answers);
     for _ in 0..n {
         run.step(routine).ok_or("a run of an accepted file is stuck")?;
@@ -220,16 +272,35 @@ fn interrupted(random: &mut Random, text: &[u8]) -> Result<u64, String> {
         }
         let filled = read(&file, true).unwrap();
         let n = random.below(most.steps as usize + 2);
-        let (run, afresh) = interrupt(&filled, filled.start.clone(), &filled.answers, n)?;
+        let (run, afresh) = interrupt(bound, &filled, filled.start.clone(), &filled.answers, n)?;
         compare_after(&file, n as u64, Ok(numbers(&run, &Ok(afresh))))?;
         let longer: Vec<i32> = (0..100).map(|_| random.number()).collect();
-        let (other, left) = interrupt(&filled, filled.start.clone(), &longer, n)?;
+        let (other, left) = interrupt(bound, &filled, filled.start.clone(), &longer, n)?;
         if !within(&run, &afresh, &most) || !within(&other, &left, &most) {
             return Err(format!("a run interrupted after {n} steps is not within the report"));
         }
         compared += 1;
     }
     Ok(compared)
+}
+
+/// "An interrupted run of a routine accepted here has all that the third demand gives, with the afresh bound being this one": runs
+/// interrupted anywhere, 0 steps and beyond STOP included, on the independent side alone.
+fn interrupted_and_merged(random: &mut Random, text: &[u8]) -> Result<(), String> {
+    let routine = read(text, false).unwrap();
+    let most = merge(&routine, routine.start.clone()).unwrap();
+    for _ in 0..3 {
+        let filled = read(&filled(random, text), true);
+        let Ok(filled) = filled else {
+            continue;
+        };
+        let n = random.below(most.steps as usize + 2);
+        let (run, afresh) = interrupt(merge, &filled, filled.start.clone(), &filled.answers, n)?;
+        if !within(&run, &afresh, &most) || run.steps + afresh.steps > most.steps {
+            return Err(format!("a run interrupted after {n} steps is not within the report of the merging bound"));
+        }
+    }
+    Ok(())
 }
 
 /// Compares what a program prints for arguments and an input: the bytes made or the line of the refusal, and nothing else.
@@ -253,18 +324,28 @@ pub fn program(program: &Path, arguments: &[&OsStr], input: &[u8], wanted: &Answ
 }
 
 /// What the programs print for a text, compared.
-pub fn by_programs(programs: &Path, text: &[u8], answers: &(Answer, Answer)) -> Result<(), String> {
-    program(&programs.join("bound"), &[], text, &answers.0)?;
-    program(&programs.join("run"), &[], text, &answers.1)
+pub fn by_programs(programs: &Path, text: &[u8], answers: &Answers) -> Result<(), String> {
+    program(&programs.join("bound"), &[], text, &answers.bound)?;
+    program(&programs.join("run"), &[], text, &answers.run)?;
+    program(&programs.join("merge"), &[], text, &answers.merge)
 }
 
-/// All comparisons on one file; gives the answers of the bound and the run, and the number of interruptions compared.
-pub fn file(random: &mut Random, text: &[u8]) -> Result<((Answer, Answer), u64), String> {
+/// All comparisons on one file; gives the answers, and the number of interruptions compared.
+pub fn file(random: &mut Random, text: &[u8]) -> Result<(Answers, u64), String> {
     let answers = compare(random, text)?;
     let mut interruptions = interrupted_as_it_stands(random, text)?;
-    if let Ok(report) = &answers.0 {
-        runs_within(random, text, report)?;
+    match (&answers.bound, &answers.merge) {
+        (Ok(bound), Ok(merge)) => runs_within(random, text, &[bound, merge])?,
+        (Ok(bound), Err(_)) => runs_within(random, text, &[bound])?,
+        // the first bound may be refused for its BUDGET
+        (Err(_), Ok(merge)) => runs_within(random, &with_all_steps(text), &[merge])?,
+        (Err(_), Err(_)) => {}
+    }
+    if answers.bound.is_ok() {
         interruptions += interrupted(random, text)?;
+    }
+    if answers.merge.is_ok() {
+        interrupted_and_merged(random, text)?;
     }
     Ok((answers, interruptions))
 }

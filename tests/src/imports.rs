@@ -186,13 +186,13 @@ pub fn compiled(programs: &Path, random: &mut Random, function: &compiled::Funct
     let mut draft = priced(random, &primitives_line(&import.primitives).unwrap());
     for run in &function.runs {
         let file = file_of(&mut draft, &lines, run, true);
-        let (bound, _) = compare(random, &file)?;
+        let bound = compare(random, &file)?.bound;
         bound.as_ref().map_err(refusal)?;
         if exported(random, &file, &bound)?.as_ref() != Ok(&import.words) {
             return Err("its file does not give its words back".to_string());
         }
         let file = file_of(&mut draft, &lines, run, false);
-        compare(random, &file)?.1.map_err(|r| refusal(&r))?;
+        compare(random, &file)?.run.map_err(|r| refusal(&r))?;
         ends_as_it_must(&file, run)?;
     }
     Ok(())

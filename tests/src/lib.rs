@@ -9,6 +9,7 @@ pub mod damage;
 pub mod draft;
 pub mod generate;
 pub mod machine;
+pub mod merge;
 pub mod random;
 pub mod replay;
 pub mod replay_cases;

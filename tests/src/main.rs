@@ -7,6 +7,7 @@ mod extras;
 mod handles;
 mod imports;
 mod jumps;
+mod merges;
 mod pinned;
 mod replays;
 mod shares;
@@ -14,7 +15,7 @@ mod traces;
 mod wraps;
 
 use causes::Causes;
-use compare::{by_programs, file};
+use compare::{by_programs, file, number, Answers};
 use extras::Extras;
 use handles::Compared;
 use imports::{compiled, export_by_program, exported, import_by_program, imported};
@@ -25,12 +26,13 @@ use independent::damage::damaged;
 use independent::generate::draft;
 use independent::random::Random;
 use independent::replay_cases;
-use independent::report::{bound_answer, told, Answer, MEMORY};
+use independent::report::{bound_answer, merge_answer, told, MEMORY};
 use independent::routine::{line, read, KINDS};
 use independent::texts::{texts, TEXTS};
 use independent::word_cases::{self, CASES};
 use independent::word_draft;
 use jumps::Jumps;
+use merges::Merges;
 use pinned::{pinned, pinned_export, pinned_import, pinned_replay};
 use replays::{replay_by_program, replayed};
 use shares::Shares;
@@ -52,13 +54,14 @@ struct Tally {
     interruptions: u64,
     /// kinds in the code of accepted files
     kinds: BTreeSet<Vec<u8>>,
-    /// answers of the bound and of the run, by the number of the refusal; 0 for a report
-    answers: BTreeMap<u32, [u64; 2]>,
+    /// answers of the bound, of the run and of the merging bound, by the number of the refusal; 0 for a report
+    answers: BTreeMap<u32, [u64; 3]>,
     extras: Extras,
     handles: Compared,
     shares: Shares,
     wraps: Wraps,
     jumps: Jumps,
+    merges: Merges,
     causes: Causes,
     traces: Traces,
 }
@@ -77,25 +80,27 @@ impl Tally {
         }
     }
 
-    fn note(&mut self, text: &[u8], (bound, run): &(Answer, Answer)) {
+    fn note(&mut self, text: &[u8], answers: &Answers) {
+        let Answers { bound, run, merge } = answers;
         if bound.is_ok() {
             let code = text.split(|b| *b == b'\n').skip(line::CODE - 1);
             self.kinds.extend(code.filter_map(|l| l.split(|b| *b == b' ').nth(1)).map(Vec::from));
         }
-        for (i, answer) in [bound, run].into_iter().enumerate() {
-            self.answers.entry(answer.as_ref().err().map_or(0, |r| r.number)).or_default()[i] += 1;
+        for (i, answer) in [bound, run, merge].into_iter().enumerate() {
+            self.answers.entry(number(answer)).or_default()[i] += 1;
         }
         self.extras.note(text, bound, run);
         self.handles.note(text, bound, run);
         self.shares.note(text, bound);
         self.wraps.note(text, bound, run);
         self.jumps.note(text, bound);
+        self.merges.note(text, answers);
     }
 
     /// What a report depends on, and how many files had it.
     fn counts(&self) -> impl Iterator<Item = (&'static str, u64)> {
         let of_cells = self.extras.counts().into_iter().chain(self.handles.counts()).chain(self.wraps.counts());
-        of_cells.chain(self.shares.counts()).chain(self.jumps.counts())
+        of_cells.chain(self.shares.counts()).chain(self.jumps.counts()).chain(self.merges.counts())
     }
 
     /// All comparisons on one file; with the programs too, if they are given.
@@ -103,7 +108,7 @@ impl Tally {
         let (answers, interruptions) = file(random, text)?;
         self.interruptions += interruptions;
         self.note(text, &answers);
-        let exported = exported(random, text, &answers.0)?;
+        let exported = exported(random, text, &answers.bound)?;
         if exported.is_ok() {
             self.causes.note_export(read(text, false).unwrap().first);
         }
@@ -191,14 +196,14 @@ fn compare_program_files(tally: &mut Tally) {
 }
 
 /// Files enough that every kind, every refusal of a text, every use of an extra, every pair with a handle, every operation that wraps,
-/// SHARE on each side of a half, every jump, every cause and every way in which a trace compares must come up.
+/// SHARE on each side of a half, every jump, every meeting of ways, every cause and every way in which a trace compares must come up.
 const MANY: u64 = 5_000;
 
 /// Whether what was compared had all kinds in accepted code and in accepted words, reports, each refusal of a text, extras wherever they
 /// count, handles in operations on two cells, numbers that wrap and numbers just outside their range, SHARE at a half and next to it,
-/// jumps forward and backward, each cause by which words are refused, and traces that agree, differ and are refused by each cause.
+/// jumps forward and backward, ways that meet and ways that do not, each cause by which words are refused, and traces that agree, differ and are refused by each cause.
 fn covers(tally: &Tally) -> Result<(), String> {
-    let missing: Vec<u32> = (0..=13).filter(|n| ![10, 12].contains(n) && !tally.answers.contains_key(n)).collect();
+    let missing: Vec<u32> = (0..=14).filter(|n| ![10, 12].contains(n) && !tally.answers.contains_key(n)).collect();
     let counts = tally.counts().chain(tally.causes.counts()).chain(tally.traces.counts());
     let too_few = counts.filter(|(_, count)| *count < MANY / 200);
     let rare: Vec<_> =
@@ -260,10 +265,10 @@ fn main() {
         tally.count("what the files cover", &[], found);
     }
 
-    println!("answer       bound     run");
-    for (number, [bound, run]) in &tally.answers {
+    println!("answer       bound     run   merge");
+    for (number, [bound, run, merge]) in &tally.answers {
         let name = if *number == 0 { "report".to_string() } else { format!("refusal {number}") };
-        println!("{name:<10} {bound:>7} {run:>7}");
+        println!("{name:<10} {bound:>7} {run:>7} {merge:>7}");
     }
     println!("kinds in the code of accepted files: {}", tally.kinds.len());
     for (what, count) in tally.counts() {

@@ -31,7 +31,7 @@ pub fn pinned(programs: &Path, random: &mut Random, text: &Text) -> Result<(), S
         both(name, &|memory| function(&text.bytes, memory), text.lent, &own, wanted.as_bytes())?;
     }
     let answers = compare(random, &text.bytes)?;
-    let exported = exported(random, &text.bytes, &answers.0)?;
+    let exported = exported(random, &text.bytes, &answers.bound)?;
     // the export refuses by 1 to 6 and 13 as the bound does, and by nothing else
     let bound = &text.printed()[0];
     let refused = (1..=6).chain([13]).any(|number| bound.starts_with(&format!("REFUSED {number} ")));

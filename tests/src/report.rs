@@ -1,5 +1,6 @@
 //! What is answered: a report's bytes, or a refusal.
 use crate::bound::{bound, Figures};
+use crate::merge::merge;
 use crate::routine::{read, refused, Refusal};
 use crate::run::run;
 
@@ -14,6 +15,16 @@ pub fn bound_answer(text: &[u8], lent: usize) -> Answer {
     }
     let routine = read(text, false)?;
     let figures = bound(&routine, routine.start.clone())?;
+    Ok(bound_report(&figures, routine.tick).into_bytes())
+}
+
+/// The answer of the merging bound for a text and a length of report memory.
+pub fn merge_answer(text: &[u8], lent: usize) -> Answer {
+    if lent < MEMORY {
+        return refused(10, 0);
+    }
+    let routine = read(text, false)?;
+    let figures = merge(&routine, routine.start.clone())?;
     Ok(bound_report(&figures, routine.tick).into_bytes())
 }
 

@@ -1,0 +1,129 @@
+//! The merging bound of change request 9: first the states that come to each address, in rising order, merged where ways meet; then, from
+//! the last address back to the first, what can still be spent.
+use crate::bound::{Figures, Path};
+use crate::machine::{Cell, Next, State};
+use crate::routine::{refused, Line, Refusal, Routine};
+
+/// Why states that meet are not merged.
+#[derive(Clone, Copy, PartialEq, Debug)]
+pub enum Clash {
+    Heights,
+    UnlikeHandles,
+    HandleBesideNumber,
+    HandleBesideUnknown,
+}
+
+/// What is noted in the pass.
+pub enum Event<'a> {
+    /// these states have come to an address, all that will
+    Came { at: u32, states: &'a [State] },
+    /// a branch opens two ways
+    Opens { at: u32 },
+}
+
+/// An address that is reached, by its line, and the places in the code where its ways go on; STOP has none.
+struct Reached<'a> {
+    line: &'a Line,
+    next: Option<usize>,
+    /// after a conditional branch that has jumped
+    jump: Option<usize>,
+}
+
+/// "equal cells stay, unlike numbers become unknown"; "a cell is a handle on one way and anything else on the other" is a clash.
+pub fn cell(cells: impl Iterator<Item = Cell> + Clone) -> Result<Cell, Clash> {
+    let first = cells.clone().next().unwrap();
+    if cells.clone().all(|cell| cell == first) {
+        return Ok(first);
+    }
+    let some = |is: fn(&Cell) -> bool| cells.clone().any(|cell| is(&cell));
+    match some(|cell| matches!(cell, Cell::Handle(_))) {
+        false => Ok(Cell::Unknown),
+        true if some(|cell| *cell == Cell::Unknown) => Err(Clash::HandleBesideUnknown),
+        true if some(|cell| matches!(cell, Cell::Number(_))) => Err(Clash::HandleBesideNumber),
+        true => Err(Clash::UnlikeHandles),
+    }
+}
+
+/// The merge of all states that have come to an address, of which there is one at least.
+pub fn merged(mut states: Vec<State>) -> Result<State, Clash> {
+    if states.len() == 1 {
+        return Ok(states.remove(0));
+    }
+    let mut state = states[0].clone();
+    if states.iter().any(|other| other.height != state.height) {
+        return Err(Clash::Heights);
+    }
+    state.accumulator = cell(states.iter().map(|s| s.accumulator))?;
+    for entry in 0..state.height {
+        state.stack[entry] = cell(states.iter().map(|s| s.stack[entry]))?;
+    }
+    for field in 0..state.fields.len() {
+        state.fields[field] = cell(states.iter().map(|s| s.fields[field]))?;
+    }
+    Ok(state)
+}
+
+/// The merging bound from a state.
+pub fn merge(routine: &Routine, start: State) -> Result<Figures, Refusal> {
+    passed(routine, start, |_| ())
+}
+
+/// The same; `note` is told of each event.
+pub fn passed(routine: &Routine, start: State, mut note: impl FnMut(Event<'_>)) -> Result<Figures, Refusal> {
+    let place = |at: u32| (at - routine.first) as usize;
+    // one place more than there is code: after the last address
+    let mut coming: Vec<Vec<State>> = vec![Vec::new(); routine.code.len() + 1];
+    let mut reached: Vec<Option<Reached>> = Vec::new();
+    let (begin, mut depth) = (place(start.at), 0);
+    coming[begin].push(start);
+    for n in 0..coming.len() {
+        reached.push(None);
+        let at = routine.first + n as u32;
+        let states = std::mem::take(&mut coming[n]);
+        if states.is_empty() {
+            continue;
+        }
+        note(Event::Came { at, states: &states });
+        let Ok(mut state) = merged(states) else {
+            return refused(14, at as usize);
+        };
+        depth = depth.max(state.height);
+        let Some(line) = routine.code.get(n) else {
+            return refused(7, at as usize);
+        };
+        let Some(next) = state.step(line, || Cell::Unknown) else {
+            return refused(7, at as usize);
+        };
+        let mut ways = Reached { line, next: None, jump: None };
+        match next {
+            Next::Stops => {}
+            Next::Goes => ways.next = Some(place(state.at)),
+            Next::Jumps => ways.jump = Some(place(state.at)),
+            Next::Opens(target) => {
+                note(Event::Opens { at });
+                (ways.next, ways.jump) = (Some(place(state.at)), Some(place(target)));
+            }
+        }
+        for to in [ways.next, ways.jump].into_iter().flatten() {
+            coming[to].push(State { at: routine.first + to as u32, ..state.clone() });
+        }
+        reached[n] = Some(ways);
+    }
+    let [cycles, words] = spent(&reached)[begin];
+    let steps = reached.iter().flatten().count() as u64;
+    Ok(Figures { cycles, words, depth, steps, path: Path { taken: 0, length: 0 } })
+}
+
+/// The most cycles and the most words from each place to any STOP; 0 where nothing comes.
+fn spent(reached: &[Option<Reached>]) -> Vec<[u64; 2]> {
+    let mut most = vec![[0, 0]; reached.len()];
+    for (n, ways) in reached.iter().enumerate().rev() {
+        let Some(Reached { line, next, jump }) = ways else {
+            continue;
+        };
+        let next = next.map_or([0, 0], |to| most[to]);
+        let jump = jump.map_or([0, 0], |to| [line.extra + most[to][0], most[to][1]]);
+        most[n] = [line.cycles + next[0].max(jump[0]), line.words + next[1].max(jump[1])];
+    }
+    most
+}
