@@ -99,7 +99,11 @@ pub fn draft(random: &mut Random) -> Draft {
     };
     let rounds = if longest > 60 { 150 } else { writer.random.within(1, 4) };
     let wild = if writer.random.one_in(4) { writer.random.within(1, 2) } else { 0 };
+    let meetings = writer.random.one_in(3);
     for _ in 0..rounds {
+        if meetings && writer.random.one_in(2) {
+            writer.meeting();
+        }
         writer.statements(0);
         if wild > 0 && writer.random.one_in(2) {
             writer.wild();

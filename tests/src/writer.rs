@@ -315,6 +315,113 @@ impl Writer<'_> {
         self.base = base;
     }
 
+    /// The answer of a primitive, nothing popped; a number where there is no primitive.
+    fn unknown(&mut self) {
+        if self.primitives == 0 {
+            return self.condition();
+        }
+        let primitive = self.random.below(self.primitives);
+        self.emit("C_CALL1", Arg::Primitive(primitive));
+        self.shapes.accumulator = Shape::Number;
+    }
+
+    /// A branch on an unknown, with these lines on its two ways, which meet after them.
+    fn two_ways(&mut self, not_taken: &[(&str, Arg)], taken: &[(&str, Arg)]) {
+        self.unknown();
+        let to_taken = self.code.len();
+        self.emit("BRANCHIF", Arg::Line(0));
+        not_taken.iter().for_each(|(name, arg)| self.emit(name, *arg));
+        let to_end = self.code.len();
+        self.emit("BRANCH", Arg::Line(0));
+        self.here(to_taken);
+        taken.iter().for_each(|(name, arg)| self.emit(name, *arg));
+        self.here(to_end);
+    }
+
+    /// Ways that meet: with unlike numbers, with a handle on one of them, or again and again.
+    pub fn meeting(&mut self) {
+        if self.shapes.stack.len() > 56 {
+            return;
+        }
+        match self.random.below(8) {
+            0 => self.panel(),
+            1..=3 => self.unlike_numbers(),
+            _ => self.unlike_cells(),
+        }
+    }
+
+    /// Tests one after the other, near the most openings.
+    fn panel(&mut self) {
+        for _ in 0..self.random.within(31, 36) {
+            self.unknown();
+            let name = if self.random.one_in(2) { "BRANCHIF" } else { "BRANCHIFNOT" };
+            self.emit(name, Arg::Line(self.code.len() + 2));
+            let n = self.random.below(4);
+            self.emit(&format!("CONST{n}"), Arg::Nothing);
+        }
+    }
+
+    /// A branch on unlike numbers that meet. Where both jump, only the merge opens the way not taken, which costs, pushes or is stuck.
+    fn unlike_numbers(&mut self) {
+        let [a, b] = *self.random.pick(&[[1, 2], [3, 1], [-1, 1], [0, 1], [1, 0]]);
+        let constant = |n: i64| [("CONSTINT", Arg::Number(n))];
+        self.two_ways(&constant(a), &constant(b));
+        let from = self.code.len();
+        self.emit("BRANCHIF", Arg::Line(0));
+        match self.random.below(4) {
+            0 => self.emit("ACC", Arg::Number(63)),
+            1 => self.unknown(),
+            _ => {
+                let pushed = self.random.within(3, 7);
+                (0..pushed).for_each(|_| self.emit("PUSH", Arg::Nothing));
+                self.emit("POP", Arg::Number(pushed as i64));
+            }
+        }
+        self.here(from);
+        self.shapes.accumulator = Shape::Number;
+    }
+
+    /// A cell that is a handle on one way and another handle, a number or an unknown on the other; now and then stuck on both behind it.
+    fn unlike_cells(&mut self) {
+        let of_entry = |entry: &Shape| if let Shape::Handle(block) = entry { Some(*block) } else { None };
+        let handles: Vec<(usize, usize)> =
+            self.shapes.stack.iter().enumerate().filter_map(|(e, s)| Some((e, of_entry(s)?))).collect();
+        if handles.is_empty() {
+            return self.unlike_numbers();
+        }
+        let (entry, block) = *self.random.pick(&handles);
+        let others: Vec<(usize, usize)> = handles.iter().copied().filter(|h| h.1 != block).collect();
+        // one entry more is on the stack where it is the cell
+        let place = self.random.below(3);
+        if place == 1 {
+            self.emit("PUSHCONST0", Arg::Nothing);
+            self.shapes.stack.push(Shape::Either);
+        }
+        let read = |entry: usize, height: usize| ("ACC", Arg::Number((height - 1 - entry) as i64));
+        let height = self.shapes.stack.len();
+        let other = match self.random.below(3) {
+            _ if !others.is_empty() && !self.random.one_in(3) => read(self.random.pick(&others).0, height),
+            0 | 1 if self.primitives > 0 => ("C_CALL1", Arg::Primitive(0)),
+            _ => ("CONST1", Arg::Nothing),
+        };
+        let kept: &[(&str, Arg)] = match place {
+            0 => &[],
+            1 => &[("ASSIGN", Arg::Number(0))],
+            _ => &[("PUSHACC", Arg::Number((height - entry) as i64)), ("SETFIELD0", Arg::Nothing)],
+        };
+        let way = |first| [&[first], kept].concat();
+        let ways = [way(read(entry, height)), way(other)];
+        let swapped = self.random.one_in(2) as usize;
+        self.two_ways(&ways[swapped], &ways[1 - swapped]);
+        self.shapes.accumulator = if place == 0 { Shape::Either } else { Shape::Number };
+        if place == 2 {
+            self.shapes.blocks[block][0] = Shape::Either;
+        }
+        if self.random.one_in(2) {
+            self.emit("ACC", Arg::Number(63));
+        }
+    }
+
     fn repeat(&mut self, nested: usize) {
         if self.full() {
             return;
