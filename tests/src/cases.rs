@@ -4,6 +4,7 @@ use crate::change::Base::{File, Named};
 use crate::change::Change::{FirstBytes, Nothing, Without};
 use crate::change::Told::{Refusal, Report};
 use crate::change::{append, line, lines, made, refused, word, Base, Entry, Text};
+use crate::merge_cases;
 use crate::report::MEMORY;
 use crate::routine::TEXT_LIMIT;
 
@@ -30,7 +31,7 @@ pub(crate) fn file(budget: u32, kinds: &str, cycles: &str, names: &str, cells: &
 }
 
 /// As many BRANCHIF, each to STOP behind them, with an unknown accumulator.
-fn branches(count: usize) -> String {
+pub(crate) fn branches(count: usize) -> String {
     let code: String = (0..count).map(|i| format!("{i} BRANCHIF {count}\n")).collect();
     file(1000, "BRANCHIF STOP", "5 1", "ACCU", "?", &format!("{code}{count} STOP -\n"))
 }
@@ -307,7 +308,7 @@ pub fn starred() -> Vec<Text> {
 pub fn program_files() -> Vec<(&'static str, Vec<u8>)> {
     let cases = cases();
     let named = |name| cases.iter().find(|text| text.name == name).unwrap();
-    let (bound, run) = (named("published"), named("published_run"));
+    let (bound, run, merge) = (named("published"), named("published_run"), named("openings_33"));
     let (mut stdin, mut stdout) = (Vec::new(), Vec::new());
     for text in &cases {
         stdin.extend([format!("{} {}\n", text.name, text.bytes.len()).as_bytes(), &text.bytes, b"\n"].concat());
@@ -318,6 +319,8 @@ pub fn program_files() -> Vec<(&'static str, Vec<u8>)> {
         ("crates/bound/stdout", bound.printed()[0].clone().into_bytes()),
         ("crates/run/stdin", run.bytes.clone()),
         ("crates/run/stdout", run.printed()[1].clone().into_bytes()),
+        ("crates/merge/stdin", merge.bytes.clone()),
+        ("crates/merge/stdout", merge_cases::printed(merge).unwrap().into_bytes()),
         ("crates/cases/stdin", stdin),
         ("crates/cases/stdout", stdout),
     ]

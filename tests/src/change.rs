@@ -75,6 +75,10 @@ pub fn refused(number: u32, place: u32) -> [Told; 2] {
 }
 
 impl Told {
+    pub fn printed_by_a_bound(&self) -> String {
+        self.printed(BOUND_NAMES)
+    }
+
     /// What is printed, with the names over a report.
     fn printed(&self, names: &str) -> String {
         match self {
@@ -85,27 +89,42 @@ impl Told {
 }
 
 /// A name that says what is tried, the base, the change, and what the bound and the run tell.
-pub type Entry = (&'static str, Base, Change, [Told; 2]);
+pub type Entry<T = [Told; 2]> = (&'static str, Base, Change, T);
 
-pub struct Text {
+/// A text, and what is told of it.
+pub struct Text<T = [Told; 2]> {
     pub name: &'static str,
     pub bytes: Vec<u8>,
     /// report memory lent
     pub lent: usize,
-    told: [Told; 2],
+    pub told: T,
 }
+
+/// The names over a report of a bound.
+const BOUND_NAMES: &str = "CYCLES WORDS DEPTH STEPS SHARE PATH";
 
 impl Text {
     /// What the bound and the run print.
     pub fn printed(&self) -> [String; 2] {
         let [bound, run] = &self.told;
-        [bound.printed("CYCLES WORDS DEPTH STEPS SHARE PATH"), run.printed("CYCLES WORDS DEPTH STEPS")]
+        [bound.printed(BOUND_NAMES), run.printed("CYCLES WORDS DEPTH STEPS")]
+    }
+}
+
+/// What the bound and the merging bound tell.
+#[derive(Clone, Copy)]
+pub struct Bounds(pub Told, pub Told);
+
+impl Text<Bounds> {
+    /// What the bound and the merging bound print.
+    pub fn printed(&self) -> [String; 2] {
+        [self.told.0, self.told.1].map(|told| told.printed_by_a_bound())
     }
 }
 
 /// The texts of a list. No two have one name, and each change changes something.
-pub fn made(entries: Vec<Entry>) -> Vec<Text> {
-    let mut texts: Vec<Text> = Vec::new();
+pub fn made<T>(entries: Vec<Entry<T>>) -> Vec<Text<T>> {
+    let mut texts: Vec<Text<T>> = Vec::new();
     for (name, base, change, told) in entries {
         let named = |name| texts.iter().find(|text| text.name == name);
         assert!(named(name).is_none(), "{name} is there twice");

@@ -10,6 +10,7 @@ pub mod draft;
 pub mod generate;
 pub mod machine;
 pub mod merge;
+pub mod merge_cases;
 pub mod random;
 pub mod replay;
 pub mod replay_cases;

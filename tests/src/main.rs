@@ -19,21 +19,22 @@ use compare::{by_programs, file, number, Answers};
 use extras::Extras;
 use handles::Compared;
 use imports::{compiled, export_by_program, exported, import_by_program, imported};
-use independent::analyser;
+use independent::analyser::{self, Function};
 use independent::cases::{cases, program_files, starred};
 use independent::compiled::functions;
 use independent::damage::damaged;
 use independent::generate::draft;
+use independent::merge_cases::{self, merges, MERGES};
 use independent::random::Random;
 use independent::replay_cases;
-use independent::report::{bound_answer, merge_answer, told, MEMORY};
+use independent::report::{bound_answer, merge_answer, told, Answer, MEMORY};
 use independent::routine::{line, read, KINDS};
 use independent::texts::{texts, TEXTS};
 use independent::word_cases::{self, CASES};
 use independent::word_draft;
 use jumps::Jumps;
 use merges::Merges;
-use pinned::{pinned, pinned_export, pinned_import, pinned_replay};
+use pinned::{pinned, pinned_export, pinned_import, pinned_merge, pinned_replay};
 use replays::{replay_by_program, replayed};
 use shares::Shares;
 use std::collections::{BTreeMap, BTreeSet};
@@ -147,6 +148,35 @@ fn compare_pinned(tally: &mut Tally, programs: &Path, random: &mut Random) {
     }
 }
 
+/// The texts with the answers of both bounds, the cases' answers of the merging bound, and the examples, of which one is a panel of ninety
+/// tests: the first bound refuses it by 8, the merging bound accepts it.
+fn compare_merges(tally: &mut Tally, programs: &Path, random: &mut Random) {
+    let texts = merges();
+    let count = if texts.len() == MERGES { Ok(()) } else { Err(format!("{}, not {MERGES}", texts.len())) };
+    tally.count("the count of the texts of both bounds", &[], count);
+    for text in &texts {
+        let found = pinned_merge(programs, random, text);
+        tally.count(&format!("the merge {}", text.name), &text.bytes, found);
+    }
+    for text in cases().iter().chain(&starred()) {
+        let pinned = merge_cases::printed(text).is_some();
+        let found = if pinned { Ok(()) } else { Err("no answer of the merging bound is pinned".to_string()) };
+        tally.count(&format!("the case {}", text.name), &text.bytes, found);
+    }
+    let examples = std::fs::read_dir("examples").unwrap().map(|file| file.unwrap().path());
+    let mut examples: Vec<_> = examples.filter(|path| path.extension().is_some_and(|e| e == "txt")).collect();
+    examples.sort();
+    for path in &examples {
+        let text = std::fs::read(path).unwrap();
+        let found = file(random, &text).and_then(|(answers, _)| by_programs(programs, &text, &answers));
+        tally.count(&path.display().to_string(), &text, found);
+    }
+    let panel = std::fs::read("examples/ninety-tests.txt").unwrap_or_default();
+    let numbers = [bound_answer(&panel, MEMORY), merge_answer(&panel, MEMORY)].map(|answer| number(&answer));
+    let found = if numbers == [8, 0] { Ok(()) } else { Err(format!("refusals {numbers:?}, not 8 and none")) };
+    tally.count("the example of ninety tests", &panel, found);
+}
+
 /// The imports and exports with pinned answers, and the compiled functions.
 fn compare_words(tally: &mut Tally, programs: &Path, random: &mut Random) {
     let (imports, exports) = (word_cases::imports(), word_cases::exports());
@@ -219,16 +249,28 @@ fn covers(tally: &Tally) -> Result<(), String> {
     }
 }
 
-/// The stack that the header asks for is enough at 32 openings: a call that needs more ends this program.
+/// The stack that the header asks for is enough, at 32 openings and for a merging bound of 1,024 lines: a call that needs more ends this
+/// program.
 fn small_stack(tally: &mut Tally) {
-    const STACK: usize = 256 * 1024;
     let deepest = cases().into_iter().find(|text| text.name == "openings_32").unwrap().bytes;
-    let text = deepest.clone();
-    let call = move || analyser::bound(&text, &mut [0; MEMORY]);
-    let answer = std::thread::Builder::new().stack_size(STACK).spawn(call).unwrap().join().unwrap();
-    let found =
-        if answer == told(&bound_answer(&deepest, MEMORY)) { Ok(()) } else { Err("another answer".to_string()) };
-    tally.count("32 openings on a stack of 256 KB", &deepest, found);
+    let longest = merges().into_iter().find(|text| text.name == "tests_in_1024_lines").unwrap().bytes;
+    let calls: [(&str, usize, Vec<u8>, Function, Answer); 2] = [
+        ("32 openings on a stack of 256 KB", 256, deepest.clone(), analyser::bound, bound_answer(&deepest, MEMORY)),
+        (
+            "a merge of 1,024 lines on a stack of 2 MB",
+            2048,
+            longest.clone(),
+            analyser::merge,
+            merge_answer(&longest, MEMORY),
+        ),
+    ];
+    for (name, kilobytes, text, function, wanted) in calls {
+        let copy = text.clone();
+        let call = move || function(&copy, &mut [0; MEMORY]);
+        let answer = std::thread::Builder::new().stack_size(kilobytes * 1024).spawn(call).unwrap().join().unwrap();
+        let found = if answer == told(&wanted) { Ok(()) } else { Err("another answer".to_string()) };
+        tally.count(name, &text, found);
+    }
 }
 
 fn main() {
@@ -245,6 +287,7 @@ fn main() {
     small_stack(&mut tally);
     compare_program_files(&mut tally);
     compare_pinned(&mut tally, programs, &mut Random::new(seed));
+    compare_merges(&mut tally, programs, &mut Random::new(seed));
     compare_words(&mut tally, programs, &mut Random::new(seed));
     compare_replays(&mut tally, programs, &mut Random::new(seed));
     for number in 0..count {

@@ -1,13 +1,14 @@
 //! Texts whose answers are read from document 01 and the change requests: the C functions, the independent implementation and the
 //! programs must give these.
-use crate::compare::{by_programs, compare, shown};
+use crate::compare::{by_programs, compare, file, shown};
 use crate::imports::{export_by_program, exported, import_by_program, imported};
 use crate::replays::{compare_replay, replay_by_program};
 use independent::analyser::{self, Function};
-use independent::change::Text;
+use independent::change::{Bounds, Text};
+use independent::merge_cases;
 use independent::random::Random;
 use independent::replay::replay_answer;
-use independent::report::{bound_answer, printed, run_answer, Answer};
+use independent::report::{bound_answer, merge_answer, printed, run_answer, Answer};
 use independent::trace_draft::Replay;
 use independent::word_cases::Case;
 use independent::word_draft::Import;
@@ -30,6 +31,9 @@ pub fn pinned(programs: &Path, random: &mut Random, text: &Text) -> Result<(), S
         let own = own(&text.bytes, text.lent);
         both(name, &|memory| function(&text.bytes, memory), text.lent, &own, wanted.as_bytes())?;
     }
+    if let Some(wanted) = merge_cases::printed(text) {
+        both_merge(&text.bytes, text.lent, &wanted)?;
+    }
     let answers = compare(random, &text.bytes)?;
     let exported = exported(random, &text.bytes, &answers.bound)?;
     // the export refuses by 1 to 6 and 13 as the bound does, and by nothing else
@@ -39,6 +43,20 @@ pub fn pinned(programs: &Path, random: &mut Random, text: &Text) -> Result<(), S
         return Err(format!("export says {}\nthe bound: {bound}", shown(&exported)));
     }
     by_programs(programs, &text.bytes, &answers)
+}
+
+fn both_merge(text: &[u8], lent: usize, wanted: &str) -> Result<(), String> {
+    let own = merge_answer(text, lent);
+    both("merge", &|memory| analyser::merge(text, memory), lent, &own, wanted.as_bytes())
+}
+
+/// A text with the answers of both bounds.
+pub fn pinned_merge(programs: &Path, random: &mut Random, text: &Text<Bounds>) -> Result<(), String> {
+    let [bound, merge] = text.printed();
+    let own = bound_answer(&text.bytes, text.lent);
+    both("bound", &|memory| analyser::bound(&text.bytes, memory), text.lent, &own, bound.as_bytes())?;
+    both_merge(&text.bytes, text.lent, &merge)?;
+    by_programs(programs, &text.bytes, &file(random, &text.bytes)?.0)
 }
 
 /// Whether a function and the independent implementation say what is wanted.
