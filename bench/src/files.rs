@@ -115,6 +115,22 @@ pub fn trace(bytes: usize) -> Vec<u8> {
     trace_draft::text(&walk(&read(straight_file(), true).unwrap(), bytes / 32).steps)
 }
 
+/// So many lines, with an unknown branch on every third one, over the line after it, and STOP: ways that meet again and again, with 16
+/// entries and 8 blocks of 8 fields. Where it ends at once, its first line is STOP: nearly all of the time is the reader's.
+pub fn tests(lines: usize, ends_at_once: bool) -> Vec<u8> {
+    let line = |i: usize| match i % 3 {
+        0 => ("C_CALL1", Arg::Primitive(0)),
+        1 => ("BRANCHIF", Arg::Line((i + 2).min(lines - 1))),
+        _ => ("CONST0", Arg::Nothing),
+    };
+    let mut code: Code = (0..lines).map(line).collect();
+    code[lines - 1] = ("STOP", Arg::Nothing);
+    if ends_at_once {
+        code[0] = ("STOP", Arg::Nothing);
+    }
+    draft(&["?"; 17], blocks(8), code).text().into_bytes()
+}
+
 /// Unknown branches to the next line.
 fn openings_to_the_next(count: usize) -> Code {
     let mut code: Code = Vec::new();

@@ -1,11 +1,11 @@
-//! The speed of the analyser's bound, run, import, export and replay, as a ratio against the independent implementation in the same run.
+//! The speed of the analyser's bound, merging bound, run, import, export and replay, as a ratio against the independent implementation in the same run.
 mod clock;
 mod files;
 
 use clock::now;
 use independent::analyser::{self, Function};
 use independent::replay::replay_answer;
-use independent::report::{bound_answer, printed, run_answer, told, Answer, MEMORY};
+use independent::report::{bound_answer, merge_answer, printed, run_answer, told, Answer, MEMORY};
 use independent::routine::TEXT_LIMIT;
 use independent::words::{self, export_answer, import_answer};
 use std::hint::black_box;
@@ -23,6 +23,7 @@ struct Pair {
 }
 
 const BOUND: Pair = Pair { proved: analyser::bound, independent: bound_answer, lent: MEMORY };
+const MERGE: Pair = Pair { proved: analyser::merge, independent: merge_answer, lent: MEMORY };
 const RUN: Pair = Pair { proved: analyser::run, independent: run_answer, lent: MEMORY };
 const IMPORT: Pair = Pair {
     proved: |words, lines| analyser::import(words, files::primitives_line(), lines),
@@ -115,6 +116,42 @@ fn head(name: &str, second: &str) {
     println!("{name:<48} {:>6} {:>9} {second:>9} {:>6}  answer", "bytes", "ours, ms", "ratio");
 }
 
+/// The merging bound of so many lines: the whole call, and that of the same lines with STOP first, which reads them and merges nothing.
+struct Merged {
+    lines: usize,
+    whole: Measured,
+    read: Measured,
+}
+
+impl Merged {
+    fn new(lines: usize) -> Merged {
+        let of = |ends_at_once| Measured::new("tests that meet", files::tests(lines, ends_at_once), MERGE);
+        Merged { lines, whole: of(false), read: of(true) }
+    }
+
+    fn head() {
+        let name = "the merging bound, a branch on every third line";
+        println!(
+            "{name:<48} {:>9} {:>9} {:>6} {:>15} {:>9} {:>11} {:>9} {:>6}  answer",
+            "ours, ms", "other, ms", "ratio", "ours, µs a line", "pass, ms", "of the call", "other, ms", "ratio"
+        );
+    }
+
+    /// The whole call beside the independent one, its time for each line, and what is left without the reader's time: the pass.
+    fn row(&self) {
+        let (ours, other) = (milliseconds(self.whole.proved), milliseconds(self.whole.independent));
+        let pass = ours - milliseconds(self.read.proved);
+        let other_pass = other - milliseconds(self.read.independent);
+        let line = ours * 1e3 / self.lines as f64;
+        let name = format!("{} lines", self.lines);
+        let (ratio, share, of_pass) = (ours / other, pass / ours, pass / other_pass);
+        let answer = answer(MERGE, &self.whole.text);
+        println!(
+            "{name:<48} {ours:>9.3} {other:>9.3} {ratio:>6.2} {line:>15.2} {pass:>9.3} {share:>11.2} {other_pass:>9.3} {of_pass:>6.2}  {answer}"
+        );
+    }
+}
+
 fn main() {
     let scanned: [(&str, fn(usize) -> Vec<u8>, Pair); 11] = [
         ("names on line 3", files::names, BOUND),
@@ -143,13 +180,18 @@ fn main() {
     ];
     let of_length = |bytes| scanned.map(|(name, text, pair)| Measured::new(name, text(bytes), pair));
     let (mut whole, mut half) = (of_length(TEXT_LIMIT), of_length(TEXT_LIMIT / 2));
+    let mut merged = [128, 256, 512, 1024].map(Merged::new);
     for _ in 0..PASSES {
         explored.iter_mut().chain(&mut whole).chain(&mut half).for_each(Measured::measure);
+        merged.iter_mut().flat_map(|file| [&mut file.whole, &mut file.read]).for_each(Measured::measure);
     }
     head("file", "other, ms");
     for file in &explored {
         row(file, file.proved, file.independent);
     }
+    println!();
+    Merged::head();
+    merged.iter().for_each(Merged::row);
     println!();
     head("what makes a scan long", "half, ms");
     for (file, half) in whole.iter().zip(&half) {

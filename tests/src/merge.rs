@@ -30,12 +30,11 @@ struct Reached<'a> {
 }
 
 /// "equal cells stay, unlike numbers become unknown"; "a cell is a handle on one way and anything else on the other" is a clash.
-pub fn cell(cells: impl Iterator<Item = Cell> + Clone) -> Result<Cell, Clash> {
-    let first = cells.clone().next().unwrap();
-    if cells.clone().all(|cell| cell == first) {
+pub fn cell(first: Cell, others: impl Iterator<Item = Cell> + Clone) -> Result<Cell, Clash> {
+    if others.clone().all(|cell| cell == first) {
         return Ok(first);
     }
-    let some = |is: fn(&Cell) -> bool| cells.clone().any(|cell| is(&cell));
+    let some = |is: fn(&Cell) -> bool| is(&first) || others.clone().any(|cell| is(&cell));
     match some(|cell| matches!(cell, Cell::Handle(_))) {
         false => Ok(Cell::Unknown),
         true if some(|cell| *cell == Cell::Unknown) => Err(Clash::HandleBesideUnknown),
@@ -46,19 +45,19 @@ pub fn cell(cells: impl Iterator<Item = Cell> + Clone) -> Result<Cell, Clash> {
 
 /// The merge of all states that have come to an address, of which there is one at least.
 pub fn merged(mut states: Vec<State>) -> Result<State, Clash> {
-    if states.len() == 1 {
-        return Ok(states.remove(0));
-    }
-    let mut state = states[0].clone();
+    let mut state = states.pop().unwrap();
     if states.iter().any(|other| other.height != state.height) {
         return Err(Clash::Heights);
     }
-    state.accumulator = cell(states.iter().map(|s| s.accumulator))?;
+    if states.is_empty() {
+        return Ok(state);
+    }
+    state.accumulator = cell(state.accumulator, states.iter().map(|s| s.accumulator))?;
     for entry in 0..state.height {
-        state.stack[entry] = cell(states.iter().map(|s| s.stack[entry]))?;
+        state.stack[entry] = cell(state.stack[entry], states.iter().map(|s| s.stack[entry]))?;
     }
     for field in 0..state.fields.len() {
-        state.fields[field] = cell(states.iter().map(|s| s.fields[field]))?;
+        state.fields[field] = cell(state.fields[field], states.iter().map(|s| s.fields[field]))?;
     }
     Ok(state)
 }
@@ -102,10 +101,11 @@ pub fn passed(routine: &Routine, start: State, mut note: impl FnMut(Event<'_>)) 
             Next::Opens(target) => {
                 note(Event::Opens { at });
                 (ways.next, ways.jump) = (Some(place(state.at)), Some(place(target)));
+                coming[place(target)].push(State { at: target, ..state.clone() });
             }
         }
-        for to in [ways.next, ways.jump].into_iter().flatten() {
-            coming[to].push(State { at: routine.first + to as u32, ..state.clone() });
+        if let Some(to) = ways.next.or(ways.jump) {
+            coming[to].push(state);
         }
         reached[n] = Some(ways);
     }

@@ -50,7 +50,7 @@ fn clashes(states: &[State]) -> (Vec<Clash>, [bool; 3]) {
     let mut causes = Vec::new();
     let mut places = [false; 3];
     let mut look = |place: usize, of: &dyn Fn(&State) -> Cell| {
-        if let Err(clash) = cell(states.iter().map(of)) {
+        if let Err(clash) = cell(of(&states[0]), states[1..].iter().map(of)) {
             places[place] = true;
             if !causes.contains(&clash) {
                 causes.push(clash);
