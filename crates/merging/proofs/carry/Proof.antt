@@ -15,17 +15,6 @@ use Rattle.merging.proofs.CarryLaws.{fits-of, reached-as, ended-as, rea
 use borrow.Author.Needs.{needs}
 use Rattle.merging.proofs.carry.Statement.{statement}
 use Rattle.merging.proofs.carry.Tie as tie
-use Rattle.merging.proofs.carry.Reads as reads
-use Rattle.merging.proofs.carry.Lts as lts
-use Rattle.cells.proofs.unknown.Reads as unknown-reads
-use Rattle.findings.proofs.refused.Reads as refused-reads
-use Rattle.merging.proofs.ended.Reads as ended-reads
-use Rattle.merging.proofs.onward.Reads as onward-reads
-use Rattle.merging.proofs.paid.Reads as paid-reads
-use Rattle.merging.proofs.reached.Reads as reached-reads
-use Rattle.merging.proofs.send.Reads as send-reads
-use Rattle.states.proofs.State.jump.Reads as jump-reads
-use Rattle.steps.proofs.step.Reads as step-reads
 
 unknown-requires : tie.Need-unknown-requires
 unknown-requires c κs = search needs

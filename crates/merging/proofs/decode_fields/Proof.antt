@@ -9,10 +9,6 @@ use Rattle.merging.proofs.FillLaws.{decoded-next, decoded-all}
 use borrow.Author.Needs.{needs}
 use Rattle.merging.proofs.decode_fields.Statement.{statement}
 use Rattle.merging.proofs.decode_fields.Tie as tie
-use Rattle.merging.proofs.decode_fields.Reads as reads
-use Rattle.merging.proofs.decode_fields.Lts as lts
-use Rattle.cells.proofs.decode.Reads as decode-reads
-use Rattle.cells.proofs.unknown.Reads as unknown-reads
 
 abbrev Inv-loop : tie.InvT-loop
 Inv-loop fields blocks₀ i₀ blocks i = (i ≤ 128) × (length blocks ≡ 128) × (take i blocks ≡ cellsOf (take i fields))

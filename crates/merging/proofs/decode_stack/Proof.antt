@@ -9,10 +9,6 @@ use Rattle.merging.proofs.FillLaws.{decoded-next, decoded-all}
 use borrow.Author.Needs.{needs}
 use Rattle.merging.proofs.decode_stack.Statement.{statement}
 use Rattle.merging.proofs.decode_stack.Tie as tie
-use Rattle.merging.proofs.decode_stack.Reads as reads
-use Rattle.merging.proofs.decode_stack.Lts as lts
-use Rattle.cells.proofs.decode.Reads as decode-reads
-use Rattle.cells.proofs.unknown.Reads as unknown-reads
 
 abbrev Inv-loop : tie.InvT-loop
 Inv-loop entries stack₀ i₀ stack i = (i ≤ 64) × (length stack ≡ 64) × (take i stack ≡ cellsOf (take i entries))

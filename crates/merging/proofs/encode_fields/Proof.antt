@@ -9,9 +9,6 @@ use Rattle.merging.proofs.FillLaws.{encoded-next, encoded-all}
 use borrow.Author.Needs.{needs}
 use Rattle.merging.proofs.encode_fields.Statement.{statement}
 use Rattle.merging.proofs.encode_fields.Tie as tie
-use Rattle.merging.proofs.encode_fields.Reads as reads
-use Rattle.merging.proofs.encode_fields.Lts as lts
-use Rattle.cells.proofs.encode.Reads as encode-reads
 
 abbrev Inv-loop : tie.InvT-loop
 Inv-loop fields₀ blocks i₀ fields i = (i ≤ 128) × (length fields ≡ 128) × (cellsOf (take i fields) ≡ take i blocks)

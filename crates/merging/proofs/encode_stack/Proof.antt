@@ -9,9 +9,6 @@ use Rattle.merging.proofs.FillLaws.{encoded-next, encoded-all}
 use borrow.Author.Needs.{needs}
 use Rattle.merging.proofs.encode_stack.Statement.{statement}
 use Rattle.merging.proofs.encode_stack.Tie as tie
-use Rattle.merging.proofs.encode_stack.Reads as reads
-use Rattle.merging.proofs.encode_stack.Lts as lts
-use Rattle.cells.proofs.encode.Reads as encode-reads
 
 abbrev Inv-loop : tie.InvT-loop
 Inv-loop entries₀ stack i₀ entries i = (i ≤ 64) × (length entries ≡ 64) × (cellsOf (take i entries) ≡ take i stack)

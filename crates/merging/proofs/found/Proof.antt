@@ -5,9 +5,6 @@ use Rattle.merging.proofs.PassLaws.{came-nothing, came-way, came-unlike
 use borrow.Author.Needs.{needs}
 use Rattle.merging.proofs.found.Statement.{statement}
 use Rattle.merging.proofs.found.Tie as tie
-use Rattle.merging.proofs.found.Reads as reads
-use Rattle.merging.proofs.found.Lts as lts
-use Rattle.merging.proofs.take.Reads as take-reads
 
 shared-slice-read-mark : tie.Need-shared-slice-read-mark
 shared-slice-read-mark c = search needs

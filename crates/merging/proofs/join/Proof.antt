@@ -8,10 +8,6 @@ use Rattle.merging.proofs.RowLaws.{slot-empty, slot-held, slot-unlike, 
 use borrow.Author.Needs.{needs}
 use Rattle.merging.proofs.join.Statement.{statement}
 use Rattle.merging.proofs.join.Tie as tie
-use Rattle.merging.proofs.join.Reads as reads
-use Rattle.merging.proofs.join.Lts as lts
-use Rattle.merging.proofs.meet.Reads as meet-reads
-use Rattle.merging.proofs.put.Reads as put-reads
 
 slice-read-mark : tie.Need-slice-read-mark
 slice-read-mark c = search needs

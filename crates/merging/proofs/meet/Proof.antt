@@ -9,10 +9,6 @@ use Rattle.merging.proofs.RowLaws.{row-unlike, row-met}
 use borrow.Author.Needs.{needs}
 use Rattle.merging.proofs.meet.Statement.{statement}
 use Rattle.merging.proofs.meet.Tie as tie
-use Rattle.merging.proofs.meet.Reads as reads
-use Rattle.merging.proofs.meet.Lts as lts
-use Rattle.findings.proofs.larger.Reads as larger-reads
-use Rattle.merging.proofs.merge_states.Reads as merge-states-reads
 
 merge-states-requires : tie.Need-merge-states-requires
 merge-states-requires c κs = search needs

@@ -11,9 +11,6 @@ use Rattle.merging.proofs.SweepLaws.{Going, code-count, code-first, beg
 use borrow.Author.Needs.{needs}
 use Rattle.merging.proofs.merge.Statement.{statement}
 use Rattle.merging.proofs.merge.Tie as tie
-use Rattle.merging.proofs.merge.Reads as reads
-use Rattle.merging.proofs.merge.Lts as lts
-use Rattle.merging.proofs.visit.Reads as visit-reads
 
 abbrev Inv-loop : tie.InvT-loop
 Inv-loop codes operands cycles words extras sizes first heads₀ entries₀ fields₀ n j₀ p₀ heads entries fields j p =

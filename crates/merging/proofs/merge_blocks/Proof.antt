@@ -18,9 +18,6 @@ use Rattle.merging.proofs.FieldLaws.{blocks-length, block-merged, block
 use Rattle.merging.proofs.ZipLaws.{Partly, none-made, one-made, none-merged, all-made}
 use Rattle.merging.proofs.merge_blocks.Statement.{statement}
 use Rattle.merging.proofs.merge_blocks.Tie as tie
-use Rattle.merging.proofs.merge_blocks.Reads as reads
-use Rattle.merging.proofs.merge_blocks.Lts as lts
-use Rattle.merging.proofs.merge_cells.Reads as merge-cells-reads
 
 abbrev Inv-loop : tie.InvT-loop
 Inv-loop held₀ came sizes k₀ held k =

@@ -14,11 +14,6 @@ use Rattle.merging.proofs.ZipLaws.{Partly, none-made, one-made, none-me
 use borrow.Author.Needs.{needs}
 use Rattle.merging.proofs.merge_cells.Statement.{statement}
 use Rattle.merging.proofs.merge_cells.Tie as tie
-use Rattle.merging.proofs.merge_cells.Reads as reads
-use Rattle.merging.proofs.merge_cells.Lts as lts
-use Rattle.cells.proofs.decode.Reads as decode-reads
-use Rattle.cells.proofs.encode.Reads as encode-reads
-use Rattle.cells.proofs.merge.Reads as merge-reads
 
 abbrev Inv-loop : tie.InvT-loop
 Inv-loop held₀ came i₀ held i = (i ≤ length came) × (length held ≡ length held₀) × Partly mergeCells (cellOf 0) (mergeLists mergeCells (cellsOf held₀) (cellsOf came)) i (cellsOf held) (cellsOf came)

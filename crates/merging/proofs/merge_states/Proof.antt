@@ -14,14 +14,6 @@ use Rattle.merging.proofs.MeetLaws.{heights-unlike, accus-unlike, stack
 use borrow.Author.Needs.{needs}
 use Rattle.merging.proofs.merge_states.Statement.{statement}
 use Rattle.merging.proofs.merge_states.Tie as tie
-use Rattle.merging.proofs.merge_states.Reads as reads
-use Rattle.merging.proofs.merge_states.Lts as lts
-use Rattle.cells.proofs.decode.Reads as decode-reads
-use Rattle.cells.proofs.encode.Reads as encode-reads
-use Rattle.cells.proofs.merge.Reads as merge-reads
-use Rattle.merging.proofs.merge_blocks.Reads as merge-blocks-reads
-use Rattle.merging.proofs.merge_cells.Reads as merge-cells-reads
-use Rattle.merging.proofs.unused.Reads as unused-reads
 
 slice-read-unused : tie.Need-slice-read-unused
 slice-read-unused c = search needs

@@ -6,9 +6,6 @@ use Rattle.merging.proofs.PassLaws.{falls, alone}
 use borrow.Author.Needs.{needs}
 use Rattle.merging.proofs.onward.Statement.{statement}
 use Rattle.merging.proofs.onward.Tie as tie
-use Rattle.merging.proofs.onward.Reads as reads
-use Rattle.merging.proofs.onward.Lts as lts
-use Rattle.merging.proofs.send.Reads as send-reads
 
 add-if1 : tie.Need-add-if1
 add-if1 c = search needs

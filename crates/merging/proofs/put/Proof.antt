@@ -9,11 +9,6 @@ use Rattle.merging.proofs.RowLaws.{head-written, put-holds}
 use borrow.Author.Needs.{needs}
 use Rattle.merging.proofs.put.Statement.{statement}
 use Rattle.merging.proofs.put.Tie as tie
-use Rattle.merging.proofs.put.Reads as reads
-use Rattle.merging.proofs.put.Lts as lts
-use Rattle.cells.proofs.encode.Reads as encode-reads
-use Rattle.merging.proofs.encode_fields.Reads as encode-fields-reads
-use Rattle.merging.proofs.encode_stack.Reads as encode-stack-reads
 
 encode-requires : tie.Need-encode-requires
 encode-requires c κs = search needs

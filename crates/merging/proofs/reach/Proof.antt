@@ -8,10 +8,6 @@ use Rattle.merging.proofs.PassLaws.{with-none, with-first, with-next, c
 use borrow.Author.Needs.{needs}
 use Rattle.merging.proofs.reach.Statement.{statement}
 use Rattle.merging.proofs.reach.Tie as tie
-use Rattle.merging.proofs.reach.Reads as reads
-use Rattle.merging.proofs.reach.Lts as lts
-use Rattle.merging.proofs.found.Reads as found-reads
-use Rattle.merging.proofs.join.Reads as join-reads
 
 found-requires : tie.Need-found-requires
 found-requires c κs = search needs

@@ -7,9 +7,6 @@ use Rattle.merging.proofs.PartLaws.{not-joined, row-length, sent}
 use borrow.Author.Needs.{needs}
 use Rattle.merging.proofs.send.Statement.{statement}
 use Rattle.merging.proofs.send.Tie as tie
-use Rattle.merging.proofs.send.Reads as reads
-use Rattle.merging.proofs.send.Lts as lts
-use Rattle.merging.proofs.join.Reads as join-reads
 
 returns : tie.Need-returns
 returns c =

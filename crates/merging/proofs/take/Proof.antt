@@ -4,12 +4,6 @@ use Rattle.merging.proofs.RowLaws.{take-holds, take-formed}
 use borrow.Author.Needs.{needs}
 use Rattle.merging.proofs.take.Statement.{statement}
 use Rattle.merging.proofs.take.Tie as tie
-use Rattle.merging.proofs.take.Reads as reads
-use Rattle.merging.proofs.take.Lts as lts
-use Rattle.cells.proofs.decode.Reads as decode-reads
-use Rattle.merging.proofs.decode_fields.Reads as decode-fields-reads
-use Rattle.merging.proofs.decode_stack.Reads as decode-stack-reads
-use Rattle.merging.proofs.unused.Reads as unused-reads
 
 shared-slice-read-decode : tie.Need-shared-slice-read-decode
 shared-slice-read-decode c = search needs

@@ -7,8 +7,6 @@ use Rattle.merging.specs.Rows.{unusedOf}
 use borrow.Author.Needs.{needs}
 use Rattle.merging.proofs.unused.Statement.{statement}
 use Rattle.merging.proofs.unused.Tie as tie
-use Rattle.merging.proofs.unused.Reads as reads
-use Rattle.merging.proofs.unused.Lts as lts
 
 returns : tie.Need-returns
 unfolding unusedOf

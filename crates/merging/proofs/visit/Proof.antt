@@ -16,11 +16,6 @@ use Rattle.merging.proofs.VisitLaws.{figures-more, moved-as, rows-back,
 use borrow.Author.Needs.{needs}
 use Rattle.merging.proofs.visit.Statement.{statement}
 use Rattle.merging.proofs.visit.Tie as tie
-use Rattle.merging.proofs.visit.Reads as reads
-use Rattle.merging.proofs.visit.Lts as lts
-use Rattle.findings.proofs.refused.Reads as refused-reads
-use Rattle.merging.proofs.carry.Reads as carry-reads
-use Rattle.merging.proofs.reach.Reads as reach-reads
 
 add-at : tie.Need-add-at
 add-at c = search needs
