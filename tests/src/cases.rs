@@ -308,7 +308,7 @@ pub fn starred() -> Vec<Text> {
 pub fn program_files() -> Vec<(&'static str, Vec<u8>)> {
     let cases = cases();
     let named = |name| cases.iter().find(|text| text.name == name).unwrap();
-    let (bound, run, merge) = (named("published"), named("published_run"), named("openings_33"));
+    let (bound, run) = (named("published"), named("published_run"));
     let (mut stdin, mut stdout) = (Vec::new(), Vec::new());
     for text in &cases {
         stdin.extend([format!("{} {}\n", text.name, text.bytes.len()).as_bytes(), &text.bytes, b"\n"].concat());
@@ -319,8 +319,8 @@ pub fn program_files() -> Vec<(&'static str, Vec<u8>)> {
         ("crates/bound/stdout", bound.printed()[0].clone().into_bytes()),
         ("crates/run/stdin", run.bytes.clone()),
         ("crates/run/stdout", run.printed()[1].clone().into_bytes()),
-        ("crates/merge/stdin", merge.bytes.clone()),
-        ("crates/merge/stdout", merge_cases::printed(merge).unwrap().into_bytes()),
+        ("crates/merge/stdin", bound.bytes.clone()),
+        ("crates/merge/stdout", merge_cases::printed(bound).unwrap().into_bytes()),
         ("crates/cases/stdin", stdin),
         ("crates/cases/stdout", stdout),
     ]
