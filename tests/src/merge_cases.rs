@@ -6,7 +6,7 @@ use crate::change::Told::{self, Refusal, Report};
 use crate::change::{line, lines, made, word, Base, Bounds, Entry, Text};
 
 /// How many texts there are.
-pub const MERGES: usize = 67;
+pub const MERGES: usize = 68;
 
 /// Cases in which ways meet, or which the first bound refuses by 7, 8 or 9.
 const CASES: [(&str, Told); 33] = [
@@ -63,7 +63,7 @@ pub fn printed(text: &Text) -> Option<String> {
 /// Code over cells, of which the first is the accumulator, and two blocks of one field each that holds 5; each kind costs 1 cycle.
 fn meeting(cells: &str, code: &[&str]) -> String {
     let kinds = "BRANCHIF BRANCHIFNOT BRANCH PUSH PUSHACC0 PUSHACC1 POP ACC0 ACC1 ASSIGN CONST0 CONST1 CONST2 NEGINT SETFIELD0 \
-                 SETFIELD C_CALL1 STOP";
+                 SETFIELD C_CALL1 STOP GETFIELD0";
     let ones = vec!["1"; kinds.split(' ').count()].join(" ");
     let entries: String = (0..cells.split(' ').count() - 1).map(|i| format!(" S{i}")).collect();
     let code: String = code.iter().enumerate().map(|(at, line)| format!("{at} {line}\n")).collect();
@@ -219,6 +219,8 @@ fn handles() -> Vec<Entry<Bounds>> {
 
 /// "equal cells stay, unlike numbers become unknown"
 fn numbers() -> Vec<Entry<Bounds>> {
+    let in_a_field =
+        "1 ACC1 -\n2 PUSHACC1 -\n3 SETFIELD0 -\n4 ACC0 -\n5 GETFIELD0 -\n6 BRANCHIF 8\n7 CONST0 -\n8 STOP -";
     let first = Report("5 0 0 8 5 N");
     let three = "0 BRANCHIF 6\n1 BRANCHIF 4\n2 CONST1 -\n3 BRANCH 7\n4 CONST1 -\n5 BRANCH 7\n6 CONST0 -\n7 BRANCHIF 9\n8 CONST2 -\n\
                  9 STOP -";
@@ -226,6 +228,12 @@ fn numbers() -> Vec<Entry<Bounds>> {
     let in_an_entry: Base =
         File(|| meeting("? 2", &["BRANCHIF 3", "CONST1 -", "ASSIGN 0", "ACC0 -", "BRANCHIF 6", "CONST0 -", "STOP -"]));
     vec![
+        (
+            "unlike_numbers_in_a_field_branch",
+            FIELDS,
+            lines(16, 19, in_a_field),
+            Bounds(Report("8 0 3 12 8 N"), Report("9 0 3 9 9 -")),
+        ),
         ("unlike_numbers", NUMBERS, Nothing, Bounds(first, Report("7 0 1 8 7 -"))),
         ("unlike_numbers_tick_16", NUMBERS, word(2, 2, "16"), Bounds(Report("5 0 0 8 312 N"), Report("7 0 1 8 438 -"))),
         ("equal_numbers", NUMBERS, lines(15, 22, kept), Bounds(first, Report("5 0 0 6 5 -"))),
@@ -331,14 +339,14 @@ fn sums() -> Vec<Entry<Bounds>> {
         (
             "branches_to_the_next_at_extras",
             next,
-            line(6, "5 7 0 0 0 0 0 0 0 0 0 0 0 0 0 0 0 0"),
+            line(6, "5 7 0 0 0 0 0 0 0 0 0 0 0 0 0 0 0 0 0"),
             Bounds(Report("15 0 0 7 15 TT"), Report("15 0 0 3 15 -")),
         ),
         ("words_on_other_ways_than_cycles", two, Nothing, Bounds(Report("27 18 0 16 27 NN"), Report("27 18 0 9 27 -"))),
         (
             "words_of_kinds",
             Named("words_on_other_ways_than_cycles"),
-            line(5, "1 0 2 0 0 0 0 0 0 0 0 0 0 0 0 0 3 4"),
+            line(5, "1 0 2 0 0 0 0 0 0 0 0 0 0 0 0 0 3 4 0"),
             // 1 of BRANCHIF and 12 of B, or 6 of A and BRANCH; STOP's 4
             Bounds(Report("27 30 0 16 27 NN"), Report("27 30 0 9 27 -")),
         ),
