@@ -154,20 +154,20 @@ fn merge_routine(routine: Routine, out: &mut [u8]) -> Answer
     ensures { λ r. ⌜ r ≡ answerOf (mergeRoutine (routineIn routine)) ⌝ }
     ensures { λ _. ⌜ now (out .exit) ≡ memory (mergeRoutine (routineIn routine)) (now (out .entry)) ⌝ }
 {
-    let tick = routine.tick;
-    let found = swept(routine);
-    let steps = found.used as u64;
-    let verdict = found.verdict;
+    let cycles_per_tick = routine.tick;
+    let merged = swept(routine);
+    let reached = merged.used as u64;
+    let verdict = merged.verdict;
     match verdict {
         Verdict::Accepted => {
             let n = report::put_bound(
                 out,
-                tick,
-                found.cycles,
-                found.words,
-                found.depth,
-                steps,
-                found.path,
+                cycles_per_tick,
+                merged.cycles,
+                merged.words,
+                merged.depth,
+                reached,
+                merged.path,
             );
             Answer::Reported(n)
         }
@@ -223,12 +223,12 @@ pub fn merge(text: &[u8], out: &mut [u8]) -> Answer
     ensures safe { λ r. ⌜ Delivers (reportLength r) (now (out .exit)) (SafeMerge (now (text .entry))) ⌝ }
     ensures exact { λ r. ⌜ Delivers (reportLength r) (now (out .exit)) (ExactMerge (now (text .entry))) ⌝ }
 {
-    let lent = out.len();
-    if lent < 128 {
-        return Answer::Refused(Refusal::ReportMemory); // the first row, before the text is read
+    let length = out.len();
+    if length < 128 {
+        return Answer::Refused(Refusal::ReportMemory);
     }
-    let verdict = rows::check(Reader::Bound, text);
-    match verdict {
+    let checked = rows::check(Reader::Bound, text);
+    match checked {
         Verdict::Accepted => {
             let routine = reader::routine_of(text);
             merge_routine(routine, out)

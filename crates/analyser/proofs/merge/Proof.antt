@@ -36,8 +36,8 @@ merge-routine-requires c κs =
     let e = held-routine (routineOf (lines text)) (c .before .routine-of .result) (c .before .routine-of .ensures .0) (readBound text) (a .1) in
     (c .before .routine-of .ensures .1, merge-printable text (length (start .args .out .now)) (c .before .before .before .before .before .if1 .left) _ e)
 
-enum-known-verdict : tie.Need-enum-known-verdict
-enum-known-verdict c = search needs
+enum-known-checked : tie.Need-enum-known-checked
+enum-known-checked c = search needs
 
 same-length : tie.Need-same-length
 same-length c = search needs
@@ -59,7 +59,7 @@ unfolding readBy
 returns-3 c =
     let start = c .before .before .before .before .before .before .before in
     let text = start .args .text .now in
-    let e = refused-reading (readBound text) _ (sym (c .before .before .before .check .ensures) ∙ c .before .verdict .given .1) in
+    let e = refused-reading (readBound text) _ (sym (c .before .before .before .check .ensures) ∙ c .before .checked .given .1) in
     merge-keeps _ _ _ _ _ (gives-refusal _ _ (merge-refused text (length (start .args .out .now)) (c .before .before .before .before .if1 .left) _ e) _)
 
 pub merge-spec : {M : Type 1} → statement M
@@ -71,7 +71,7 @@ merge-spec =
     enum-told
     routine-of-requires
     merge-routine-requires
-    enum-known-verdict
+    enum-known-checked
     same-length
     returns-2
     returns-3)
