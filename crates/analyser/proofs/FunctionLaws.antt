@@ -11,24 +11,18 @@ use Rattle.refusals.specs.declared.Refusal.{Refusal}
 use Rattle.refusals.specs.declared.Refusal.the-variants.{ReportMemory}
 use Rattle.refusals.specs.declared.Refusal.the-variants as refusals
 use Rattle.refusals.specs.Refusals.{number, place}
-use Rattle.bounds.specs.Tree.{Report, accepted, refused, bound}
+use Rattle.bounds.specs.Tree.{Report, accepted, refused}
 use Rattle.bounds.specs.Tree as bounds
 use Rattle.findings.specs.declared.Found.{Found}
 use Rattle.findings.specs.Found.{Shows, acceptedAs}
 use Rattle.runs.specs.declared.Ran.{Ran}
-use Rattle.runs.specs.Contract.{Runnable, judged, verdictOf}
-use Rattle.explore.specs.Contract.{Explorable, Explores, Bounded}
-use Rattle.merging.specs.Rows.{Small}
-use Rattle.merging.specs.Pass.{Figures}
+use Rattle.runs.specs.Contract.{judged, verdictOf}
 use Rattle.routine.specs.Routine.{readBound, readRun}
 use Rattle.routine.specs.Routine as readings
 use Rattle.routine.proofs.RowLaws.{read-passes, run-passes}
 use Rattle.routine.proofs.RangeLaws.{tick-positive, tick-small}
 use Rattle.refusals.specs.declared.Verdict.the-variants as verdicts
 use Rattle.refusals.specs.declared.Verdict.the-variants.{Accepted}
-use Rattle.reader.specs.declared.Routine.{Routine}
-use Rattle.reader.specs.Reader.{codes, sizes, Holds, Limited}
-use Rattle.reader.proofs.ReaderLaws.{taken}
 use Rattle.report.specs.Decode.{reportOf}
 use Rattle.report.proofs.DecodeLaws.{report-of, report-of-run}
 use Rattle.answers.specs.Answers.{Answer, reported, memoryLimit, memory, answerOf}
@@ -41,7 +35,7 @@ use Rattle.conversions.proofs.FunctionLaws.{import-reported, export-reported}
 use Rattle.conformance.specs.Answers.{replayAnswer}
 use Rattle.conformance.proofs.FunctionLaws.{replay-reported}
 use Rattle.analyser.specs.Answers.{ofVerdict, boundRoutine, mergeRoutine, runRoutine, boundAnswer, mergeAnswer, runAnswer}
-use Rattle.analyser.specs.Held.{routineIn, Printable, Shareable}
+use Rattle.analyser.specs.Held.{Printable}
 use Rattle.analyser.specs.Functions.{reportLength, Delivers, toldLength, wordOf, Tells, AnswerTold, AnswersTold}
 use Rattle.analyser.specs.Promises.{SafeReport, ExactReport, SafeMerge, ExactMerge, WithinReport, RunAccepted}
 use Rattle.analyser.proofs.AnswerLaws.{reports-kept, merges-kept, reports-fit, runs-kept, bound-reports-some, merge-reports-some, run-reports-some, places-small}
@@ -53,32 +47,6 @@ passes-not x e = let z : _≡_ {A = ℕ} 0 1 = cc in absurd (omega arith)
 
 pub same-refused : (x y : Refusal) → verdicts.Refused x ≡ verdicts.Refused y → x ≡ y
 same-refused x y e = cc
-
--- ---- the routine that the arrays hold
-
-module _ (x : Routine) (l : Limited x) where
-  pub addresses-fit : x .first + length (codes x) ≤ 65536
-  addresses-fit = let n = l .sized .few in let f = l .first in omega arith
-
-  pub explorable : Explorable (codes x) (sizes x) (x .first) (x .fields) (x .start) 32 (x .budget)
-  explorable = record { addresses = addresses-fit; formed = l .formed; budget-fits = l .budget; openings-fit = omega arith; fits = l .fits }
-
-  pub runnable : Runnable (codes x) (sizes x) (x .first) (x .start) (x .fields) (x .budget)
-  runnable = record { addresses = addresses-fit; formed = l .formed; fits = l .fits; steps = l .budget }
-
-  pub explored-shows : (r : Found) → Explores (routineIn x .code) (sizes x) (x .fields) (x .start) 32 (x .budget) r
-      → Shows r (bound (routineIn x .code) (routineIn x .budget) (routineIn x .start))
-  unfolding bound
-  explored-shows r e = e .shows
-
-  pub explored-shareable : (r : Found) → Bounded 32 (x .budget) r → Shareable r
-  explored-shareable r m = record { cycles = let a = m .cycles in let b = m .used in let d = l .budget in omega arith }
-
-  pub swept-small : x .blocks ≤ length (x .sizes) → Small (sizes x)
-  swept-small h = record { blocks = let e = taken (x .blocks) (x .sizes) h in let p = l .present in omega arith; few = l .fits .few }
-
-  pub swept-shareable : (r : Found) → Figures 1025 r → Shareable r
-  swept-shareable r f = record { cycles = omega (arith, f .cycles) }
 
 -- ---- what the explorer's answer gives
 
@@ -107,13 +75,6 @@ module _ (text : Report → List ℕ) (r : Ran) (v : bounds.Verdict) (e : verdic
   ran-refused x s = ap (ofVerdict text) (sym e) ∙ ap (λ d. ofVerdict text (judged d r)) s
 
 -- ---- a text
-
--- the routine that is held is the routine
-holds-is : (x : readings.Routine) (r : Routine) → Holds x r → routineIn r ≡ x
-holds-is x r h = λ i. record { budget = h .budget i; tick = h .tick i; code = h .code i; start = h .start i; answers = h .answered i }
-
-pub held-routine : (x : readings.Routine) (r : Routine) → Holds x r → (m : readings.Reading) → m ≡ readings.routine x → m ≡ readings.routine (routineIn r)
-held-routine x r h m e = e ∙ ap readings.routine (sym (holds-is x r h))
 
 module _ (text : List ℕ) (n : ℕ) where
   -- too little memory

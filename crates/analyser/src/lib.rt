@@ -1,18 +1,11 @@
 // The public functions on texts and lent memory. The meaning is in specs/.
 use answers::Answer;
-use findings::Found;
 use reader::Routine;
 use refusals::Refusal;
 use refusals::Verdict;
 use rows::Reader;
-use runs::Ran;
 ghost use mathlib.Core.Path.{_≡_};
 ghost use lib.ListN.{length};
-ghost use Rattle.bounds.specs.Tree.{bound};
-ghost use Rattle.bounds.specs.Run.{run};
-ghost use Rattle.merges.specs.Merge.{merged};
-ghost use Rattle.findings.specs.Found.{Shows};
-ghost use Rattle.runs.specs.Contract.{verdictOf};
 ghost use Rattle.reader.specs.Reader.{Limited};
 ghost use Rattle.answers.specs.Answers.{memoryLimit, memory, answerOf};
 ghost use Rattle.answers.specs.declared.Answer.the-variants.{Refused};
@@ -20,104 +13,9 @@ ghost use Rattle.conversions.specs.Answers.{conversionLimit, importAnswer, expo
 ghost use Rattle.conformance.specs.Answers.{replayAnswer};
 ghost use Rattle.analyser.specs.Answers.{boundRoutine, mergeRoutine, runRoutine, boundAnswer, mergeAnswer, runAnswer};
 ghost use Rattle.analyser.specs.Functions.{reportLength, Delivers, wordOf, toldLength, Tells};
-ghost use Rattle.analyser.specs.Held.{routineIn, Printable, Shareable};
+ghost use Rattle.evaluations.specs.Held.{routineIn};
+ghost use Rattle.analyser.specs.Held.{Printable};
 ghost use Rattle.analyser.specs.Promises.{SafeReport, ExactReport, SafeMerge, ExactMerge, WithinReport, RunAccepted};
-
-// The routine's bound.
-fn explored(routine: Routine) -> Found
-    requires { ⌜ Limited routine ⌝ }
-    ensures { λ r. ⌜ Shows r (bound (routineIn routine .code) (routineIn routine .budget) (routineIn routine .start)) ⌝ }
-    ensures { λ r. ⌜ Shareable r ⌝ }
-{
-    let columns = routine.columns;
-    let codes = columns.codes;
-    let operands = columns.operands;
-    let cycles = columns.cycles;
-    let words = columns.words;
-    let extras = columns.extras;
-    let sizes = routine.sizes;
-    let fields = routine.fields;
-    let start = routine.start;
-    let count = routine.count;
-    let blocks = routine.blocks;
-    explore::explore(
-        &codes[..count],
-        &operands[..count],
-        &cycles[..count],
-        &words[..count],
-        &extras[..count],
-        &sizes[..blocks],
-        routine.first,
-        start,
-        fields,
-        32,
-        routine.budget,
-    )
-}
-
-// The routine's merging bound.
-fn swept(routine: Routine) -> Found
-    requires { ⌜ Limited routine ⌝ }
-    ensures { λ r. ⌜ Shows r (merged (routineIn routine .code) (routineIn routine .start)) ⌝ }
-    ensures { λ r. ⌜ Shareable r ⌝ }
-{
-    let columns = routine.columns;
-    let codes = columns.codes;
-    let operands = columns.operands;
-    let cycles = columns.cycles;
-    let words = columns.words;
-    let extras = columns.extras;
-    let sizes = routine.sizes;
-    let fields = routine.fields;
-    let start = routine.start;
-    let count = routine.count;
-    let blocks = routine.blocks;
-    merging::merge(
-        &codes[..count],
-        &operands[..count],
-        &cycles[..count],
-        &words[..count],
-        &extras[..count],
-        &sizes[..blocks],
-        routine.first,
-        start,
-        fields,
-    )
-}
-
-// The routine's run.
-fn ran(routine: Routine) -> Ran
-    requires { ⌜ Limited routine ⌝ }
-    ensures { λ r. ⌜ verdictOf r ≡ run (routineIn routine .code) (routineIn routine .budget) (routineIn routine .start) (routineIn routine .answers) ⌝ }
-{
-    let columns = routine.columns;
-    let codes = columns.codes;
-    let operands = columns.operands;
-    let cycles = columns.cycles;
-    let words = columns.words;
-    let extras = columns.extras;
-    let sizes = routine.sizes;
-    let fields = routine.fields;
-    let start = routine.start;
-    let answers = routine.answers;
-    let values = answers.values;
-    let given = answers.count;
-    let count = routine.count;
-    let blocks = routine.blocks;
-    runs::run(
-        &codes[..count],
-        &operands[..count],
-        &cycles[..count],
-        &words[..count],
-        &extras[..count],
-        &sizes[..blocks],
-        routine.first,
-        start,
-        fields,
-        &values[..given],
-        routine.budget,
-    )
-}
 
 // The answer of the bound to a routine.
 fn bound_routine(routine: Routine, out: &mut [u8]) -> Answer
@@ -127,7 +25,7 @@ fn bound_routine(routine: Routine, out: &mut [u8]) -> Answer
     ensures { λ _. ⌜ now (out .exit) ≡ memory (boundRoutine (routineIn routine)) (now (out .entry)) ⌝ }
 {
     let tick = routine.tick;
-    let found = explored(routine);
+    let found = evaluations::explored(routine);
     let steps = found.used as u64;
     let verdict = found.verdict;
     match verdict {
@@ -155,7 +53,7 @@ fn merge_routine(routine: Routine, out: &mut [u8]) -> Answer
     ensures { λ _. ⌜ now (out .exit) ≡ memory (mergeRoutine (routineIn routine)) (now (out .entry)) ⌝ }
 {
     let cycles_per_tick = routine.tick;
-    let merged = swept(routine);
+    let merged = evaluations::swept(routine);
     let reached = merged.used as u64;
     let verdict = merged.verdict;
     match verdict {
@@ -182,7 +80,7 @@ fn run_routine(routine: Routine, out: &mut [u8]) -> Answer
     ensures { λ r. ⌜ r ≡ answerOf (runRoutine (routineIn routine)) ⌝ }
     ensures { λ _. ⌜ now (out .exit) ≡ memory (runRoutine (routineIn routine)) (now (out .entry)) ⌝ }
 {
-    let ran = ran(routine);
+    let ran = evaluations::ran(routine);
     let steps = ran.steps as u64;
     let depth = ran.depth as u64;
     let verdict = ran.verdict;

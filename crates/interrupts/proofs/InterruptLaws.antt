@@ -33,8 +33,9 @@ use Rattle.reader.specs.Reader.{codes, sizes, Limited}
 use Rattle.answers.specs.Answers.{Answer, reported, memory}
 use Rattle.answers.specs.Answers as answers
 use Rattle.answers.proofs.AnswerLaws.{lent-short, reading-refused, reading-passed}
-use Rattle.analyser.specs.Held.{routineIn}
-use Rattle.analyser.proofs.FunctionLaws.{passes-not, same-refused, runnable}
+use Rattle.evaluations.specs.Held.{routineIn}
+use Rattle.evaluations.proofs.EvaluationLaws.{runnable}
+use Rattle.analyser.proofs.FunctionLaws.{passes-not, same-refused}
 use Rattle.interrupts.specs.Interrupts.{numbersOfRun, numbersOfVerdict, numbersOf, stepsOf, interrupted, interruptAnswer, numberOf, Numbered}
 
 -- ---- bounded afresh

@@ -8,7 +8,8 @@ use Rattle.rows.specs.declared.Reader.the-variants.{Bound}
 use Rattle.rows.proofs.CheckLaws.{refused-reading, accepted-reading}
 use Rattle.answers.specs.Answers.{memory, answerOf}
 use Rattle.answers.proofs.AnswerLaws.{gives-refusal}
-use Rattle.analyser.proofs.FunctionLaws.{held-routine, merge-short, merge-refused, merge-passed, merge-printable, merge-keeps}
+use Rattle.evaluations.proofs.EvaluationLaws.{held-routine}
+use Rattle.analyser.proofs.FunctionLaws.{merge-short, merge-refused, merge-passed, merge-printable, merge-keeps}
 use borrow.Author.Needs.{needs}
 use Rattle.analyser.proofs.merge.Statement.{statement}
 use Rattle.analyser.proofs.merge.Tie as tie

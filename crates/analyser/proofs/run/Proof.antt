@@ -8,7 +8,8 @@ use Rattle.rows.specs.declared.Reader.the-variants.{Run}
 use Rattle.rows.proofs.CheckLaws.{refused-reading, accepted-reading}
 use Rattle.answers.specs.Answers.{memory, answerOf}
 use Rattle.answers.proofs.AnswerLaws.{gives-refusal}
-use Rattle.analyser.proofs.FunctionLaws.{held-routine, run-short, run-refused, run-passed, run-printable, run-keeps}
+use Rattle.evaluations.proofs.EvaluationLaws.{held-routine}
+use Rattle.analyser.proofs.FunctionLaws.{run-short, run-refused, run-passed, run-printable, run-keeps}
 use borrow.Author.Needs.{needs}
 use Rattle.analyser.proofs.run.Statement.{statement}
 use Rattle.analyser.proofs.run.Tie as tie

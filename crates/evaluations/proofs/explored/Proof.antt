@@ -1,13 +1,13 @@
--- `analyser::explored` meets its contract. Assumes nothing.
+-- `evaluations::explored` meets its contract. Assumes nothing.
 use borrow.Author.Needs.{needs}
 use native.Mathlib.Omega.{arith}
 use mathlib.Core.Path.{_≡_, sym}
 use lib.ListN.{length}
 use Rattle.states.proofs.Stack.{length-images}
 use Rattle.reader.proofs.ReaderLaws.{taken}
-use Rattle.analyser.proofs.FunctionLaws.{explorable, explored-shows, explored-shareable}
-use Rattle.analyser.proofs.explored.Statement.{statement}
-use Rattle.analyser.proofs.explored.Tie as tie
+use Rattle.evaluations.proofs.EvaluationLaws.{explorable, explored-shows, explored-shareable}
+use Rattle.evaluations.proofs.explored.Statement.{statement}
+use Rattle.evaluations.proofs.explored.Tie as tie
 
 array-share-prefix-codes : tie.Need-array-share-prefix-codes
 array-share-prefix-codes c = let s = c .before .before .before .before .before .before .before .before .before in let n = s .pre .full .codes in let h = s .pre .few in omega arith

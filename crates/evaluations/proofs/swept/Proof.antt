@@ -1,13 +1,13 @@
--- `analyser::swept` meets its contract. Assumes nothing.
+-- `evaluations::swept` meets its contract. Assumes nothing.
 use borrow.Author.Needs.{needs}
 use native.Mathlib.Omega.{arith}
 use mathlib.Core.Path.{_≡_, sym}
 use lib.ListN.{length}
 use Rattle.states.proofs.Stack.{length-images}
 use Rattle.reader.proofs.ReaderLaws.{taken}
-use Rattle.analyser.proofs.FunctionLaws.{addresses-fit, swept-small, swept-shareable}
-use Rattle.analyser.proofs.swept.Statement.{statement}
-use Rattle.analyser.proofs.swept.Tie as tie
+use Rattle.evaluations.proofs.EvaluationLaws.{addresses-fit, swept-small, swept-shareable}
+use Rattle.evaluations.proofs.swept.Statement.{statement}
+use Rattle.evaluations.proofs.swept.Tie as tie
 
 array-share-prefix-codes : tie.Need-array-share-prefix-codes
 array-share-prefix-codes c = let s = c .before .before .before .before .before .before .before .before .before in let n = s .pre .full .codes in let h = s .pre .few in omega arith

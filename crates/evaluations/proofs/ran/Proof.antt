@@ -1,13 +1,13 @@
--- `analyser::ran` meets its contract. Assumes nothing.
+-- `evaluations::ran` meets its contract. Assumes nothing.
 use native.Mathlib.Omega.{arith}
 use mathlib.Core.Path.{_≡_, sym}
 use lib.ListN.{length}
 use Rattle.states.proofs.Stack.{length-images}
 use Rattle.reader.proofs.ReaderLaws.{taken}
-use Rattle.analyser.proofs.FunctionLaws.{runnable}
+use Rattle.evaluations.proofs.EvaluationLaws.{runnable}
 use borrow.Author.Needs.{needs}
-use Rattle.analyser.proofs.ran.Statement.{statement}
-use Rattle.analyser.proofs.ran.Tie as tie
+use Rattle.evaluations.proofs.ran.Statement.{statement}
+use Rattle.evaluations.proofs.ran.Tie as tie
 
 all-sizes : (s : tie.Start) → length (s .args .routine .sizes) ≡ 8
 all-sizes s = search (s .good, needs, length-images)

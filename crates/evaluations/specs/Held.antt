@@ -1,0 +1,22 @@
+-- The routine that the code's arrays hold, and how large CYCLES can be.
+use Prim.Native.Nat.{_≤_}
+use Rattle.states.specs.Columns.{codeOf}
+use Rattle.states.specs.View.{whole}
+use Rattle.routine.specs.Routine as readings
+use Rattle.reader.specs.declared.Routine.{Routine}
+use Rattle.reader.specs.Reader.{codes, operands, cycles, words, extras, sizes, answers}
+use Rattle.findings.specs.declared.Found.{Found}
+
+-- the routine that the code's arrays hold
+abbrev pub routineIn : Routine → readings.Routine
+routineIn x = record {
+  budget = x .budget;
+  tick = x .tick;
+  code = codeOf (x .first) (codes x) (operands x) (cycles x) (words x) (extras x);
+  start = whole (sizes x) (x .fields) (x .start);
+  answers = answers x;
+}
+
+-- CYCLES is small enough for the numbers that SHARE is computed with
+pub record Shareable (found : Found) : Type 0 where
+  pub cycles : found .cycles ≤ 8589934592000000

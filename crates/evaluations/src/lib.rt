@@ -1,0 +1,109 @@
+// The routine that was read, bounded and run: its arrays lent to the explorer, to the pass of the merging bound and to the run. The meaning
+// is in specs/.
+use findings::Found;
+use reader::Routine;
+use runs::Ran;
+ghost use mathlib.Core.Path.{_≡_};
+ghost use Rattle.bounds.specs.Tree.{bound};
+ghost use Rattle.bounds.specs.Run.{run};
+ghost use Rattle.merges.specs.Merge.{merged};
+ghost use Rattle.findings.specs.Found.{Shows};
+ghost use Rattle.runs.specs.Contract.{verdictOf};
+ghost use Rattle.reader.specs.Reader.{Limited};
+ghost use Rattle.evaluations.specs.Held.{routineIn, Shareable};
+
+// The routine's bound.
+pub fn explored(routine: Routine) -> Found
+    requires { ⌜ Limited routine ⌝ }
+    ensures { λ r. ⌜ Shows r (bound (routineIn routine .code) (routineIn routine .budget) (routineIn routine .start)) ⌝ }
+    ensures { λ r. ⌜ Shareable r ⌝ }
+{
+    let columns = routine.columns;
+    let codes = columns.codes;
+    let operands = columns.operands;
+    let cycles = columns.cycles;
+    let words = columns.words;
+    let extras = columns.extras;
+    let sizes = routine.sizes;
+    let fields = routine.fields;
+    let start = routine.start;
+    let count = routine.count;
+    let blocks = routine.blocks;
+    explore::explore(
+        &codes[..count],
+        &operands[..count],
+        &cycles[..count],
+        &words[..count],
+        &extras[..count],
+        &sizes[..blocks],
+        routine.first,
+        start,
+        fields,
+        32,
+        routine.budget,
+    )
+}
+
+// The routine's merging bound.
+pub fn swept(routine: Routine) -> Found
+    requires { ⌜ Limited routine ⌝ }
+    ensures { λ r. ⌜ Shows r (merged (routineIn routine .code) (routineIn routine .start)) ⌝ }
+    ensures { λ r. ⌜ Shareable r ⌝ }
+{
+    let columns = routine.columns;
+    let codes = columns.codes;
+    let operands = columns.operands;
+    let cycles = columns.cycles;
+    let words = columns.words;
+    let extras = columns.extras;
+    let sizes = routine.sizes;
+    let fields = routine.fields;
+    let start = routine.start;
+    let count = routine.count;
+    let blocks = routine.blocks;
+    merging::merge(
+        &codes[..count],
+        &operands[..count],
+        &cycles[..count],
+        &words[..count],
+        &extras[..count],
+        &sizes[..blocks],
+        routine.first,
+        start,
+        fields,
+    )
+}
+
+// The routine's run.
+pub fn ran(routine: Routine) -> Ran
+    requires { ⌜ Limited routine ⌝ }
+    ensures { λ r. ⌜ verdictOf r ≡ run (routineIn routine .code) (routineIn routine .budget) (routineIn routine .start) (routineIn routine .answers) ⌝ }
+{
+    let columns = routine.columns;
+    let codes = columns.codes;
+    let operands = columns.operands;
+    let cycles = columns.cycles;
+    let words = columns.words;
+    let extras = columns.extras;
+    let sizes = routine.sizes;
+    let fields = routine.fields;
+    let start = routine.start;
+    let answers = routine.answers;
+    let values = answers.values;
+    let given = answers.count;
+    let count = routine.count;
+    let blocks = routine.blocks;
+    runs::run(
+        &codes[..count],
+        &operands[..count],
+        &cycles[..count],
+        &words[..count],
+        &extras[..count],
+        &sizes[..blocks],
+        routine.first,
+        start,
+        fields,
+        &values[..given],
+        routine.budget,
+    )
+}
