@@ -8,7 +8,7 @@ use Rattle.findings.specs.declared.Found.{Found}
 use Rattle.findings.specs.Found.{Shows}
 use Rattle.runs.specs.Contract.{Runnable}
 use Rattle.explore.specs.Contract.{Explorable, Explores, Bounded}
-use Rattle.merging.specs.Rows.{Small}
+use Rattle.arrivals.specs.Rows.{Small}
 use Rattle.merging.specs.Pass.{Figures}
 use Rattle.routine.specs.Routine as readings
 use Rattle.reader.specs.declared.Routine.{Routine}

@@ -27,9 +27,9 @@ use Rattle.steps.specs.Step.{ofPrice, SmallPrice, ofNext, Differs}
 use Rattle.findings.specs.declared.Found.{Found}
 use Rattle.findings.specs.Found.{acceptedAs, encode, refusedAs}
 use Rattle.merges.specs.Merge.{Arrival, arrival, Slot, Table, slot, arrive, send, reach, finish, carry}
-use Rattle.merging.specs.declared.Way.{Way}
+use Rattle.arrivals.specs.declared.Way.{Way}
 use Rattle.merging.specs.declared.Pass.{Pass}
-use Rattle.merging.specs.Rows.{Small, Formed, Rows, arrivalOf, slotAt, joinAt, waiting}
+use Rattle.arrivals.specs.Rows.{Small, Formed, Rows, arrivalOf, slotAt, joinAt, waiting}
 use Rattle.merging.specs.Pass.{Comes, Spent, most, Figures, Ready, Agrees, Moved, stopped, moved, spentOf}
 use Rattle.merging.proofs.PassLaws.{alone, arrived, spent-more, spent-at}
 

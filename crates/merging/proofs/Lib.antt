@@ -1,9 +1,3 @@
-pub mod ZipLaws
-pub mod FieldLaws
-pub mod FillLaws
-pub mod RowLaws
-pub mod MeetLaws
-pub mod PartLaws
 pub mod PassLaws
 pub mod CarryLaws
 pub mod VisitLaws

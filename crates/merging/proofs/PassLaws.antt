@@ -11,12 +11,12 @@ use borrow.Author.Tests.{eqb-true, eqb-false, eq-eqb, ne-eqb}
 use Rattle.cells.specs.Try.{Try, stuck, done}
 use Rattle.machine.specs.Machine.{State, Price}
 use Rattle.merges.specs.Merge.{Arrival, Slot, empty, unlike, held, larger, settle, mergeStates, join, Table, slot, arrive}
-use Rattle.merging.specs.declared.Way.{Way}
+use Rattle.arrivals.specs.declared.Way.{Way}
 use Rattle.merging.specs.declared.Mark.the-variants.{Nothing, Unlike, Is}
-use Rattle.merging.specs.Rows.{Formed, arrivalOf, slotIn, stateIn, priceIn, arrivalIn, joinAt, with, waiting}
+use Rattle.arrivals.specs.Rows.{Formed, arrivalOf, slotIn, stateIn, priceIn, arrivalIn, joinAt, with, waiting}
 use Rattle.merging.specs.Pass.{cameAs, Comes, Spent}
-use Rattle.merging.proofs.RowLaws.{slot-empty, slot-held, slot-unlike}
-use Rattle.merging.proofs.PartLaws.{comes-to}
+use Rattle.arrivals.proofs.RowLaws.{slot-empty, slot-held, slot-unlike}
+use Rattle.arrivals.proofs.PartLaws.{comes-to}
 
 -- ---- the way at hand
 

@@ -20,13 +20,13 @@ use Rattle.bounds.specs.Tree.{Report, Verdict, accepted, refused}
 use Rattle.findings.specs.declared.Found.{Found}
 use Rattle.findings.specs.Found.{acceptedAs, encode, Shows}
 use Rattle.merges.specs.Merge.{Arrival, Slot, empty, join, Table, slot, nowhere, only, none, visit, sweep, merged}
-use Rattle.merging.specs.declared.Way.{Way}
+use Rattle.arrivals.specs.declared.Way.{Way}
 use Rattle.merging.specs.declared.Pass.{Pass}
-use Rattle.merging.specs.Rows.{Formed, Rows, arrivalOf, part, slotAt, joinAt, with, waiting}
+use Rattle.arrivals.specs.Rows.{Formed, Rows, arrivalOf, part, slotAt, joinAt, with, waiting}
 use Rattle.merging.specs.Pass.{Comes, Spent, most, Figures, Ready, Agrees, Moved, stopped, moved}
-use Rattle.merging.proofs.RowLaws.{slot-empty}
+use Rattle.arrivals.proofs.RowLaws.{slot-empty}
 use Rattle.merging.proofs.PassLaws.{arrived, same-test}
-use Rattle.merging.proofs.PartLaws.{comes-to}
+use Rattle.arrivals.proofs.PartLaws.{comes-to}
 
 -- the pass before the address of row j: what is left of it gives the verdict v
 pub record Going (c : Code) (ns : List ℕ) (first n : ℕ) (v : Verdict) (hs es fs : List ℕ) (j : ℕ) (p : Pass) : Type 0 where

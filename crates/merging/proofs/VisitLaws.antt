@@ -13,14 +13,14 @@ use Rattle.states.specs.View.{whole}
 use Rattle.bounds.specs.Tree.{Report, Verdict, refused}
 use Rattle.findings.specs.declared.Found.{Found}
 use Rattle.merges.specs.Merge.{Slot, empty, unlike, held, Table, slot, carry, visit}
-use Rattle.merging.specs.declared.Way.{Way}
+use Rattle.arrivals.specs.declared.Way.{Way}
 use Rattle.merging.specs.declared.Mark.{Mark}
 use Rattle.merging.specs.declared.Mark.the-variants.{Nothing, Unlike, Is}
 use Rattle.merging.specs.declared.Pass.{Pass}
-use Rattle.merging.specs.Rows.{Rows, arrivalOf, part, slotIn, slotAt, with, waiting}
+use Rattle.arrivals.specs.Rows.{Rows, arrivalOf, part, slotIn, slotAt, with, waiting}
 use Rattle.merging.specs.Pass.{cameAs, Spent, most, Figures, Ready, Agrees, Moved, stopped, moved, spentOf}
 use Rattle.merging.proofs.PassLaws.{waiting-here, waiting-other}
-use Rattle.merging.proofs.PartLaws.{sub-same, row-length, slot-other}
+use Rattle.arrivals.proofs.PartLaws.{sub-same, row-length, slot-other}
 use Rattle.merging.proofs.CarryLaws.{Under}
 
 pub figures-more : (j : ℕ) (f : Found) → Figures j f → Figures (j + 1) f

@@ -12,12 +12,12 @@ use Rattle.steps.specs.Step.{ofPrice}
 use Rattle.findings.specs.declared.Found.{Found}
 use Rattle.findings.specs.Found.{acceptedAs}
 use Rattle.merges.specs.Merge.{Slot, empty, unlike, held, Table, slot}
-use Rattle.merging.specs.declared.Way.{Way}
+use Rattle.arrivals.specs.declared.Way.{Way}
 use Rattle.merging.specs.declared.Mark.{Mark}
 use Rattle.merging.specs.declared.Mark.the-variants.{Nothing, Unlike, Is}
 use Rattle.merging.specs.declared.Came.{Came}
 use Rattle.merging.specs.declared.Pass.{Pass}
-use Rattle.merging.specs.Rows.{Formed, Rows, arrivalOf, slotAt, waiting}
+use Rattle.arrivals.specs.Rows.{Formed, Rows, arrivalOf, slotAt, waiting}
 
 -- what the code's answer stands for
 unfoldable pub cameAs : List ℕ → Mark → Way → Slot

@@ -9,7 +9,7 @@ use Rattle.states.specs.Columns.{codeOf}
 use Rattle.states.specs.View.{whole}
 use Rattle.steps.specs.Step.{ofPrice, Small}
 use Rattle.merges.specs.Merge.{arrive, reach, finish}
-use Rattle.merging.specs.Rows.{arrivalOf}
+use Rattle.arrivals.specs.Rows.{arrivalOf}
 use Rattle.merging.specs.Pass.{stopped, moved, spentOf}
 use Rattle.merging.proofs.CarryLaws.{fits-of, reached-as, ended-as, reached-figures, ended-figures, refused-figures, refused-verdict, paid-as, paid-formed, paid-cycles, paid-words, raised, stays-ready, stays-agree, goes-ready, goes-agree, sent-sums, sent-agree, leads-stuck, leads-stops, leads-goes, leads-opens, same-fields, way-height, jumped-as, carried-stuck, carried-stops, carried-goes, carried-opens}
 use borrow.Author.Needs.{needs}

@@ -2,8 +2,8 @@
 use mathlib.Core.Path.{_≡_, _∙_}
 use lib.ListN.{getD}
 use borrow.Author.Tests.{not-true, not-false}
-use Rattle.merging.specs.Rows.{slotIn}
-use Rattle.merging.proofs.RowLaws.{slot-empty}
+use Rattle.arrivals.specs.Rows.{slotIn}
+use Rattle.arrivals.proofs.RowLaws.{slot-empty}
 use Rattle.merging.proofs.PassLaws.{with-none, with-first, with-next, comes-here}
 use borrow.Author.Needs.{needs}
 use Rattle.merging.proofs.reach.Statement.{statement}

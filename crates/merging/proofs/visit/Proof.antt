@@ -10,7 +10,7 @@ use Rattle.machine.specs.Machine.{step}
 use Rattle.states.specs.Columns.{codeOf}
 use Rattle.merging.specs.declared.Mark.{Mark}
 use Rattle.merging.specs.Pass.{Held, most, stopped, moved}
-use Rattle.merging.proofs.PartLaws.{row-length}
+use Rattle.arrivals.proofs.PartLaws.{row-length}
 use Rattle.merging.proofs.CarryLaws.{raised, stays-ready, stays-agree, refused-figures, refused-verdict}
 use Rattle.merging.proofs.VisitLaws.{figures-more, moved-as, rows-back, back-under, back-agree, here-slot, here-spent, visit-nothing, visit-unlike, visit-way, way-spent}
 use borrow.Author.Needs.{needs}

@@ -1,0 +1,125 @@
+-- `arrivals::merge_cells` meets its contract. The loop's invariant: the first i cells are merged. The measure is what is left of them.
+-- Assumes nothing.
+use Prim.Native.Nat.{_-_, _≤_}
+use mathlib.Core.Path.{_≡_, refl, sym, ap, ap₂, _∙_}
+use native.Mathlib.Omega.{arith}
+use lib.ListN.{length, take, length-set}
+use Rattle.cells.specs.Try.{done}
+use Rattle.cells.specs.Answers.{ofOperand}
+use Rattle.cells.specs.Merge.{mergeCells}
+use Rattle.cells.specs.Codes.{cellOf, cellsOf}
+use Rattle.merges.specs.Merge.{mergeLists}
+use Rattle.cells.proofs.CodeLaws.{cells-length, cells-at, cells-set}
+use Rattle.arrivals.proofs.ZipLaws.{Partly, none-made, one-made, none-merged, all-made}
+use borrow.Author.Needs.{needs}
+use Rattle.arrivals.proofs.merge_cells.Statement.{statement}
+use Rattle.arrivals.proofs.merge_cells.Tie as tie
+
+abbrev Inv-loop : tie.InvT-loop
+Inv-loop held₀ came i₀ held i = (i ≤ length came) × (length held ≡ length held₀) × Partly mergeCells (cellOf 0) (mergeLists mergeCells (cellsOf held₀) (cellsOf came)) i (cellsOf held) (cellsOf came)
+
+abbrev μ-loop : tie.MeasureT-loop
+μ-loop held₀ came i₀ held i = length came - i
+
+loop-holds : tie.Need-loop-holds Inv-loop μ-loop
+loop-holds c = (omega arith, refl, none-made mergeCells (cellOf 0) _ _)
+
+mul-decode : tie.Need-mul-decode Inv-loop μ-loop
+mul-decode c = search needs
+
+slice-read-decode : tie.Need-slice-read-decode Inv-loop μ-loop
+slice-read-decode c = search needs
+
+decode-requires : tie.Need-decode-requires Inv-loop μ-loop
+decode-requires c κs = search needs
+
+mul-decode-2 : tie.Need-mul-decode-2 Inv-loop μ-loop
+mul-decode-2 c = search needs
+
+shared-slice-read-decode : tie.Need-shared-slice-read-decode Inv-loop μ-loop
+shared-slice-read-decode c = search needs
+
+decode-requires-2 : tie.Need-decode-requires-2 Inv-loop μ-loop
+decode-requires-2 c κs = search needs
+
+merge-requires : tie.Need-merge-requires Inv-loop μ-loop
+merge-requires c κs = search needs
+
+enum-known-merged : tie.Need-enum-known-merged Inv-loop μ-loop
+enum-known-merged c = search needs
+
+enum-told : tie.Need-enum-told Inv-loop μ-loop
+enum-told c = search needs
+
+same-length : tie.Need-same-length Inv-loop μ-loop
+same-length c = c .before .before .before .before .before .before .before .before .loop .inv .1
+
+returns : tie.Need-returns Inv-loop μ-loop
+returns c =
+    let m = c .before .before in
+    let l = m .before .before .before .before .before .before .loop in
+    let came = m .before .before .before .before .before .before .before .before .before .args .came .now in
+    let e = ap ofOperand (sym (c .enum-told .given .1)) ∙ m .merge .ensures ∙ ap₂ mergeCells (m .before .before .before .decode .ensures) (m .before .decode2 .ensures) ∙ sym (ap₂ mergeCells (cells-at (l .held) (l .i)) (cells-at came (l .i))) in
+    sym (none-merged mergeCells (cellOf 0) _ (cellsOf (l .held)) (cellsOf came) (l .i) (rw cells-length (omega arith)) (rw cells-length (omega arith)) e (l .inv .2))
+
+encode-requires : tie.Need-encode-requires Inv-loop μ-loop
+encode-requires c κs = search needs
+
+mul-held : tie.Need-mul-held Inv-loop μ-loop
+mul-held c = search needs
+
+slice-write-held : tie.Need-slice-write-held Inv-loop μ-loop
+slice-write-held c = search needs
+
+add-i : tie.Need-add-i Inv-loop μ-loop
+add-i c = search needs
+
+loop-less : tie.Need-loop-less Inv-loop μ-loop
+loop-less c = search needs
+
+loop-again : tie.Need-loop-again Inv-loop μ-loop
+loop-again c =
+    let m = c .before .before .before .before in
+    let l = m .before .before .before .before .before .before .loop in
+    let came = m .before .before .before .before .before .before .before .before .before .args .came .now in
+    let e = ap done (c .encode .ensures) ∙ ap ofOperand (sym (c .before .before .merged .given .1)) ∙ m .merge .ensures ∙ ap₂ mergeCells (m .before .before .before .decode .ensures) (m .before .decode2 .ensures) ∙ sym (ap₂ mergeCells (cells-at (l .held) (l .i)) (cells-at came (l .i))) in (
+      omega arith,
+      rw length-set (l .inv .1),
+      rw cells-set
+          (one-made mergeCells (cellOf 0) _ (cellsOf (l .held)) (cellsOf came) (l .i) _ (rw cells-length (omega arith)) (rw cells-length (omega arith)) e (l .inv .2)),
+    )
+
+same-length-2 : tie.Need-same-length-2 Inv-loop μ-loop
+same-length-2 c = c .before .loop .inv .1
+
+returns-2 : tie.Need-returns-2 Inv-loop μ-loop
+returns-2 c =
+    let l = c .before .loop in
+    sym (all-made mergeCells (cellOf 0) _ (cellsOf (l .held)) _ (l .i) (rw cells-length (omega arith)) (rw cells-length (omega arith)) (l .inv .2))
+
+pub merge-cells-spec : {M : Type 1} → statement M
+merge-cells-spec =
+    tie.close
+    (tie.spec
+    Inv-loop
+    μ-loop
+    loop-holds
+    mul-decode
+    slice-read-decode
+    decode-requires
+    mul-decode-2
+    shared-slice-read-decode
+    decode-requires-2
+    merge-requires
+    enum-known-merged
+    enum-told
+    same-length
+    returns
+    encode-requires
+    mul-held
+    slice-write-held
+    add-i
+    loop-less
+    loop-again
+    same-length-2
+    returns-2)
