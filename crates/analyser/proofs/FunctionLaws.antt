@@ -23,6 +23,7 @@ use Rattle.routine.proofs.RowLaws.{read-passes, run-passes}
 use Rattle.routine.proofs.RangeLaws.{tick-positive, tick-small}
 use Rattle.refusals.specs.declared.Verdict.the-variants as verdicts
 use Rattle.refusals.specs.declared.Verdict.the-variants.{Accepted}
+use Rattle.report.specs.Report.{boundText}
 use Rattle.report.specs.Decode.{reportOf}
 use Rattle.report.proofs.DecodeLaws.{report-of, report-of-run}
 use Rattle.answers.specs.Answers.{Answer, reported, memoryLimit, memory, answerOf}
@@ -35,7 +36,7 @@ use Rattle.conversions.proofs.FunctionLaws.{import-reported, export-reported}
 use Rattle.conformance.specs.Answers.{replayAnswer}
 use Rattle.conformance.proofs.FunctionLaws.{replay-reported}
 use Rattle.analyser.specs.Answers.{ofVerdict, boundRoutine, mergeRoutine, runRoutine, boundAnswer, mergeAnswer, runAnswer}
-use Rattle.analyser.specs.Held.{Printable}
+use Rattle.analyser.specs.Held.{Printable, judgedAs, foundAnswer}
 use Rattle.analyser.specs.Functions.{reportLength, Delivers, toldLength, wordOf, Tells, AnswerTold, AnswersTold}
 use Rattle.analyser.specs.Promises.{SafeReport, ExactReport, SafeMerge, ExactMerge, WithinReport, RunAccepted}
 use Rattle.analyser.proofs.AnswerLaws.{reports-kept, merges-kept, reports-fit, runs-kept, bound-reports-some, merge-reports-some, run-reports-some, places-small}
@@ -48,19 +49,30 @@ passes-not x e = let z : _≡_ {A = ℕ} 0 1 = cc in absurd (omega arith)
 pub same-refused : (x y : Refusal) → verdicts.Refused x ≡ verdicts.Refused y → x ≡ y
 same-refused x y e = cc
 
--- ---- what the explorer's answer gives
+-- ---- what was found
 
-module _ (text : Report → List ℕ) (r : Found) where
-  pub found-reported : (v : bounds.Verdict) → Shows r v → r .verdict ≡ Accepted
-      → ofVerdict text v ≡ reported (text (reportOf (r .cycles) (r .words) (r .depth) (r .used) (r .path)))
-  unfolding ofVerdict acceptedAs
-  found-reported (accepted q) s e = ap (λ z. reported (text z)) (sym (ap (λ f. reportOf (f .cycles) (f .words) (f .depth) (f .used) (f .path)) s ∙ report-of q))
-  found-reported (refused x) s e = passes-not x (sym e ∙ s)
+pub judged-accepted : (tick : ℕ) (f : Found) → f .verdict ≡ Accepted
+    → foundAnswer tick f ≡ reported (boundText tick (reportOf (f .cycles) (f .words) (f .depth) (f .used) (f .path)))
+unfolding judgedAs
+judged-accepted tick f e = ap (judgedAs tick f) e
 
-  pub found-refused : (v : bounds.Verdict) → Shows r v → (x : Refusal) → r .verdict ≡ verdicts.Refused x → ofVerdict text v ≡ answers.refused x
-  unfolding ofVerdict acceptedAs
-  found-refused (accepted q) s x e = passes-not x (sym (ap (λ f. f .verdict) s) ∙ e)
-  found-refused (refused y) s x e = ap answers.refused (same-refused y x (sym s ∙ e))
+pub judged-refused : (tick : ℕ) (f : Found) (x : Refusal) → f .verdict ≡ verdicts.Refused x → foundAnswer tick f ≡ answers.refused x
+unfolding judgedAs
+judged-refused tick f x e = ap (judgedAs tick f) e
+
+-- it is the answer of the verdict that it shows
+pub found-answer : (tick : ℕ) (f : Found) (v : bounds.Verdict) → Shows f v → foundAnswer tick f ≡ ofVerdict (boundText tick) v
+unfolding ofVerdict acceptedAs judgedAs
+found-answer tick f (accepted q) s = ap (foundAnswer tick) s ∙ ap (λ z. reported (boundText tick z)) (report-of q)
+found-answer tick f (refused x) s = ap (judgedAs tick f) s
+
+module _ (tick n : ℕ) (f : Found) (v : bounds.Verdict) (s : Shows f v) where
+  pub found-printable : Printable (ofVerdict (boundText tick) v) tick n → Printable (foundAnswer tick f) tick n
+  found-printable p = rw (found-answer tick f v s) p
+
+  pub found-gives : (r : code.Answer) (former out : List ℕ) → (r ≡ answerOf (foundAnswer tick f)) × (out ≡ memory (foundAnswer tick f) former)
+      → (r ≡ answerOf (ofVerdict (boundText tick) v)) × (out ≡ memory (ofVerdict (boundText tick) v) former)
+  found-gives r former out h = rw (← found-answer tick f v s) h
 
 -- ---- what the run's answer gives
 

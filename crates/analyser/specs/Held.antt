@@ -1,12 +1,26 @@
--- What the internal functions ask of a report.
+-- What the internal functions ask of a report, and what they answer of the figures found.
 use Prim.Native.Nat.{ℕ, _≤_}
 use mathlib.Core.Path.{_≡_}
 use mathlib.Core.List.{List}
 use lib.ListN.{length}
-use Rattle.answers.specs.Answers.{Answer, reported}
+use Rattle.refusals.specs.declared.Verdict as code
+use Rattle.refusals.specs.declared.Verdict.the-variants.{Accepted, Refused}
+use Rattle.findings.specs.declared.Found.{Found}
+use Rattle.answers.specs.Answers.{Answer, reported, refused}
+use Rattle.report.specs.Report.{boundText}
+use Rattle.report.specs.Decode.{reportOf}
 
 -- a report, if it is one, can be printed into n bytes
 pub record Printable (a : Answer) (tick n : ℕ) : Type 0 where
   pub positive : 1 ≤ tick
   pub small : tick ≤ 4000000000
   pub fits : (bs : List ℕ) → a ≡ reported bs → length bs ≤ n
+
+-- the figures found with a verdict: their report, or the refusal
+unfoldable pub judgedAs : ℕ → Found → code.Verdict → Answer
+judgedAs tick f Accepted = reported (boundText tick (reportOf (f .cycles) (f .words) (f .depth) (f .used) (f .path)))
+judgedAs tick f (Refused x) = refused x
+
+-- with their own
+abbrev pub foundAnswer : ℕ → Found → Answer
+foundAnswer tick f = judgedAs tick f (f .verdict)

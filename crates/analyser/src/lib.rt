@@ -1,5 +1,6 @@
 // The public functions on texts and lent memory. The meaning is in specs/.
 use answers::Answer;
+use findings::Found;
 use reader::Routine;
 use refusals::Refusal;
 use refusals::Verdict;
@@ -13,19 +14,17 @@ ghost use Rattle.conversions.specs.Answers.{conversionLimit, importAnswer, expo
 ghost use Rattle.conformance.specs.Answers.{replayAnswer};
 ghost use Rattle.analyser.specs.Answers.{boundRoutine, mergeRoutine, runRoutine, boundAnswer, mergeAnswer, runAnswer};
 ghost use Rattle.analyser.specs.Functions.{reportLength, Delivers, wordOf, toldLength, Tells};
-ghost use Rattle.evaluations.specs.Held.{routineIn};
-ghost use Rattle.analyser.specs.Held.{Printable};
+ghost use Rattle.evaluations.specs.Held.{routineIn, Shareable};
+ghost use Rattle.analyser.specs.Held.{Printable, foundAnswer};
 ghost use Rattle.analyser.specs.Promises.{SafeReport, ExactReport, SafeMerge, ExactMerge, WithinReport, RunAccepted};
 
-// The answer of the bound to a routine.
-fn bound_routine(routine: Routine, out: &mut [u8]) -> Answer
-    requires { ⌜ Limited routine ⌝ }
-    requires { ⌜ Printable (boundRoutine (routineIn routine)) (routine .tick) (length (now out)) ⌝ }
-    ensures { λ r. ⌜ r ≡ answerOf (boundRoutine (routineIn routine)) ⌝ }
-    ensures { λ _. ⌜ now (out .exit) ≡ memory (boundRoutine (routineIn routine)) (now (out .entry)) ⌝ }
+// What was found of a routine with this TICK: its report, or its refusal.
+fn put_found(found: Found, tick: u64, out: &mut [u8]) -> Answer
+    requires { ⌜ Shareable found ⌝ }
+    requires { ⌜ Printable (foundAnswer tick found) tick (length (now out)) ⌝ }
+    ensures { λ r. ⌜ r ≡ answerOf (foundAnswer tick found) ⌝ }
+    ensures { λ _. ⌜ now (out .exit) ≡ memory (foundAnswer tick found) (now (out .entry)) ⌝ }
 {
-    let tick = routine.tick;
-    let found = evaluations::explored(routine);
     let steps = found.used as u64;
     let verdict = found.verdict;
     match verdict {
@@ -45,6 +44,18 @@ fn bound_routine(routine: Routine, out: &mut [u8]) -> Answer
     }
 }
 
+// The answer of the bound to a routine.
+fn bound_routine(routine: Routine, out: &mut [u8]) -> Answer
+    requires { ⌜ Limited routine ⌝ }
+    requires { ⌜ Printable (boundRoutine (routineIn routine)) (routine .tick) (length (now out)) ⌝ }
+    ensures { λ r. ⌜ r ≡ answerOf (boundRoutine (routineIn routine)) ⌝ }
+    ensures { λ _. ⌜ now (out .exit) ≡ memory (boundRoutine (routineIn routine)) (now (out .entry)) ⌝ }
+{
+    let tick = routine.tick;
+    let found = evaluations::explored(routine);
+    put_found(found, tick, out)
+}
+
 // The answer of the merging bound to a routine.
 fn merge_routine(routine: Routine, out: &mut [u8]) -> Answer
     requires { ⌜ Limited routine ⌝ }
@@ -52,25 +63,9 @@ fn merge_routine(routine: Routine, out: &mut [u8]) -> Answer
     ensures { λ r. ⌜ r ≡ answerOf (mergeRoutine (routineIn routine)) ⌝ }
     ensures { λ _. ⌜ now (out .exit) ≡ memory (mergeRoutine (routineIn routine)) (now (out .entry)) ⌝ }
 {
-    let cycles_per_tick = routine.tick;
-    let merged = evaluations::swept(routine);
-    let reached = merged.used as u64;
-    let verdict = merged.verdict;
-    match verdict {
-        Verdict::Accepted => {
-            let n = report::put_bound(
-                out,
-                cycles_per_tick,
-                merged.cycles,
-                merged.words,
-                merged.depth,
-                reached,
-                merged.path,
-            );
-            Answer::Reported(n)
-        }
-        Verdict::Refused(refusal) => Answer::Refused(refusal),
-    }
+    let tick = routine.tick;
+    let found = evaluations::swept(routine);
+    put_found(found, tick, out)
 }
 
 // The answer of the run to a routine.
