@@ -1,0 +1,185 @@
+-- Laws of a copy whose new instruction has no line feed: its lines are those of the file with another one in one place, and so is its
+-- routine. Assumes nothing.
+use mathlib.Core.Path.{_≡_, refl, sym, ap, ap₂, subst, _∙_}
+use mathlib.Core.Bool.{Bool, true, false, cond, not, false≢true}
+use mathlib.Core.List.{List, [], _∷_, _++_, append-assoc, map}
+use Prim.Native.Nat.{ℕ, zero, suc, _+_, _-_, _<_, _≤_}
+use native.Mathlib.Omega.{arith}
+use lib.Dec.{eqb}
+use lib.ListN.{length, getD, set, take, drop, length-set, length-map}
+use lib.Seq.{set-split, drop-set-add, getD-drop}
+use borrow.Author.Tests.{eqb-true}
+use Rattle.text.specs.Text.{bytes, equals, split, words, Line, noLine, lines, all}
+use Rattle.text.specs.Decimal.{digitsFrom, natural, numeral}
+use Rattle.text.proofs.TextLaws.{Every, none, more, every-append, every-left, every-getD}
+use Rattle.text.proofs.LineLaws.{endedLine}
+use Rattle.machine.specs.Machine.{Instruction}
+use Rattle.routine.specs.declared.Section.{Section}
+use Rattle.routine.specs.declared.Role.{Role}
+use Rattle.routine.specs.Layout.{layout, isAnswer, body, upToAnswer, pastAnswer, codeLines, answerLines, list, isRole, textAt, listed}
+use Rattle.routine.specs.Rows.{isNumeral, at, op, arg, firstAt, value, Passes}
+use Rattle.routine.specs.Routine.{Routine, priceList, codeIn, routineOf}
+use Rattle.routine.proofs.RowLaws.{lines-ended}
+use Rattle.inverses.specs.Sections.{linesText}
+use Rattle.inverses.proofs.JoinLaws.{Free, text-free, lines-append, split-free, lines-free, lines-of-text, split-first}
+use Rattle.patches.specs.Patch.{patchedAt}
+use Rattle.patches.specs.Promises.{OneReplaced}
+use Rattle.patches.proofs.PatchLaws.{CodeLine, InCode, line-there, line-coded}
+
+-- ---- one place of a list
+
+module _ {A : Type 0} {P : A → Type 0} where
+  every-set : {xs : List A} {x : A} → Every P xs → P x → (i : ℕ) → Every P (set xs i x)
+  every-set none q i = none
+  every-set (more p ps) q zero = more q ps
+  every-set (more p ps) q (suc i) = more p (every-set ps q i)
+
+map-other : {A B : Type 0} (f : A → B) (xs : List A) (i j : ℕ) (x : A) (d : B) → (j ≡ i → ⊥) → getD (map f (set xs i x)) j d ≡ getD (map f xs) j d
+map-other f [] i j x d h = refl
+map-other f (y ∷ ys) zero zero x d h = absurd (h refl)
+map-other f (y ∷ ys) zero (suc j) x d h = refl
+map-other f (y ∷ ys) (suc i) zero x d h = refl
+map-other f (y ∷ ys) (suc i) (suc j) x d h = map-other f ys i j x d (λ e. h (ap suc e))
+
+-- ---- the lines of the copy
+
+-- the new line
+abbrev pub replacedLine : List Line → ℕ → List ℕ → Line
+replacedLine ls k instruction = endedLine (at (getD ls k noLine .text) ++ bytes " " ++ instruction)
+
+module _ (ls : List Line) (k : ℕ) (instruction : List ℕ) (h : k < length ls) where
+  pub patched-lines : patchedAt ls k instruction ≡ linesText (set ls k (replacedLine ls k instruction))
+  unfolding patchedAt linesText
+  patched-lines = sym (ap linesText (set-split ls k (replacedLine ls k instruction) h) ∙ lines-append (take k ls) (replacedLine ls k instruction ∷ drop (suc k) ls) ∙ simp append-assoc) ∙ simp append-assoc
+
+-- lines that are ended, by their texts
+ended-lines : {ls : List Line} → Every (λ l. l .ended ≡ true) ls → map (λ l. endedLine (l .text)) ls ≡ ls
+ended-lines none = refl
+ended-lines (more {x = l} e es) = ap₂ (λ b ms. record { text = l .text; ended = b } ∷ ms) (sym e) (ended-lines es)
+
+-- the address, a space and the instruction have no line feed
+at-free : (line : List ℕ) → CodeLine line → Free 10 line → Free 10 (at line)
+at-free line c f = every-left (at line) (bytes " " ++ op line ++ bytes " " ++ arg line) (subst (Free 10) (c .three ∙ simp append-assoc) f)
+
+module _ (text : List ℕ) (p : Passes (lines text)) (k : ℕ) (h : InCode (lines text) k) (instruction : List ℕ) (f : all (λ b. not (eqb b 10)) instruction ≡ true) where
+  pub lines-replaced : lines (patchedAt (lines text) k instruction) ≡ set (lines text) k (replacedLine (lines text) k instruction)
+  unfolding all
+  lines-replaced =
+      let ls = lines text in
+      let t = line-there ls p k h in
+      let c = line-coded ls p k h in
+      let own = every-getD (lines-free text) none k in
+      let new : Free 10 (replacedLine ls k instruction .text) = every-append (every-append (at-free (getD ls k noLine .text) c own) (text-free 10 (bytes " ") refl)) (text-free 10 instruction f) in
+      ap lines (patched-lines ls k instruction t)
+      ∙ lines-of-text (every-set (lines-free text) new k)
+      ∙ ended-lines (every-set (lines-ended ls (p .layout)) refl k)
+
+-- ---- the routine of the copy
+
+-- a line that begins with a number is not ANSWER
+number-first : (w : List ℕ) (r : List ℕ) → isNumeral (numeral w) ≡ true → equals (w ++ r) (bytes "ANSWER") ≡ false
+unfolding isNumeral numeral natural digitsFrom equals
+number-first [] r e = absurd (false≢true e)
+number-first (d ∷ ds) r e = go (eqb d 65) refl
+  where
+    go : (b : Bool) → eqb d 65 ≡ b → cond b (equals (ds ++ r) (bytes "NSWER")) false ≡ false
+    go true q = absurd (false≢true (subst (λ x. isNumeral (numeral (x ∷ ds)) ≡ true) (eqb-true d 65 q) e))
+    go false q = refl
+
+-- and its first word is that number
+at-number : (line r : List ℕ) → CodeLine line → at (at line ++ bytes " " ++ r) ≡ at line
+unfolding words
+at-number line r c = ap (λ t. getD (split 32 t) 0 []) (append-assoc (at line) (bytes " ") r) ∙ ap (λ (ws : List (List ℕ)). getD ws 0 []) (split-first 32 r (every-getD (split-free 32 line) none 0))
+
+-- the layout stays
+text-kept : (r : Role) (rs : List Role) (ls : List Line) (k : ℕ) (l : Line) → length rs ≤ k → textAt r rs (set ls k l) ≡ textAt r rs ls
+unfolding textAt
+text-kept r [] ls k l h = refl
+text-kept r (x ∷ xs) [] k l h = refl
+text-kept r (x ∷ xs) (m ∷ ms) zero l h = absurd (omega arith)
+text-kept r (x ∷ xs) (m ∷ ms) (suc k) l h = ap (cond (isRole r x) (m .text)) (text-kept r xs ms k l (omega arith))
+
+-- a code line in the place of another, of the lines before ANSWER
+module _ (l : Line) (n : isAnswer l ≡ false) where
+  up-to-set : (bs : List Line) (j : ℕ) → j < length (upToAnswer bs) → (upToAnswer (set bs j l) ≡ set (upToAnswer bs) j l) × (pastAnswer (set bs j l) ≡ pastAnswer bs)
+  unfolding upToAnswer pastAnswer
+  up-to-set [] j h = absurd (omega arith)
+  up-to-set (b ∷ bs) zero h = go (isAnswer b) h
+    where
+      go : (a : Bool) → 0 < length (cond a [] (b ∷ upToAnswer bs)) → (cond (isAnswer l) [] (l ∷ upToAnswer bs) ≡ set (cond a [] (b ∷ upToAnswer bs)) 0 l) × (cond (isAnswer l) bs (pastAnswer bs) ≡ cond a bs (pastAnswer bs))
+      go true h = absurd (omega arith)
+      go false h = rw n (refl, refl)
+  up-to-set (b ∷ bs) (suc j) h = go (isAnswer b) h (up-to-set bs j)
+    where
+      go : (a : Bool) → suc j < length (cond a [] (b ∷ upToAnswer bs)) → (j < length (upToAnswer bs) → (upToAnswer (set bs j l) ≡ set (upToAnswer bs) j l) × (pastAnswer (set bs j l) ≡ pastAnswer bs)) →
+          (cond a [] (b ∷ upToAnswer (set bs j l)) ≡ set (cond a [] (b ∷ upToAnswer bs)) (suc j) l) × (cond a (set bs j l) (pastAnswer (set bs j l)) ≡ cond a bs (pastAnswer bs))
+      go true h ih = absurd (omega arith)
+      go false h ih = let i = ih (omega arith) in (ap (λ ms. b ∷ ms) (i .0), i .1)
+
+  code-set : (bs : List Line) (j : ℕ) → j < length (codeLines bs) → (codeLines (set bs j l) ≡ set (codeLines bs) j l) × (answerLines (set bs j l) ≡ answerLines bs)
+  unfolding codeLines answerLines
+  code-set [] j h = absurd (omega arith)
+  code-set (b ∷ bs) zero h = (refl, refl)
+  code-set (b ∷ bs) (suc j) h = let i = up-to-set bs j (omega arith) in (ap (λ ms. b ∷ ms) (i .0), i .1)
+
+-- the first address stays, where the new line has that of the old
+first-kept : (bs : List Line) (j : ℕ) (l : Line) → at (l .text) ≡ at (getD bs j noLine .text) → firstAt (set bs j l) ≡ firstAt bs
+unfolding firstAt
+first-kept [] j l e = refl
+first-kept (b ∷ bs) zero l e = ap value e
+first-kept (b ∷ bs) (suc j) l e = refl
+
+module _ (ls : List Line) (j : ℕ) (l : Line) (e : at (l .text) ≡ at (getD (body ls) j noLine .text)) (n : isAnswer l ≡ false) (h : j < length (codeLines (body ls))) where
+  listed-kept : (r : Role) → listed r (set ls (length layout + j) l) ≡ listed r ls
+  unfolding listed
+  listed-kept r = ap list (text-kept r layout ls (length layout + j) l (omega arith))
+
+  prices-kept : (s : Section) → priceList s (set ls (length layout + j) l) ≡ priceList s ls
+  unfolding priceList
+  prices-kept s = simp listed-kept
+
+  body-set : body (set ls (length layout + j) l) ≡ set (body ls) j l
+  unfolding body
+  body-set = drop-set-add (length layout) ls j l
+
+  first-stays : firstAt (body (set ls (length layout + j) l)) ≡ firstAt (body ls)
+  first-stays = ap firstAt body-set ∙ first-kept (body ls) j l e
+
+  codes-set : codeLines (body (set ls (length layout + j) l)) ≡ set (codeLines (body ls)) j l
+  codes-set = ap codeLines body-set ∙ code-set l n (body ls) j h .0
+
+  answers-kept : answerLines (body (set ls (length layout + j) l)) ≡ answerLines (body ls)
+  answers-kept = ap answerLines body-set ∙ code-set l n (body ls) j h .1
+
+  routine-replaced : OneReplaced j (routineOf ls) (routineOf (set ls (length layout + j) l))
+  unfolding routineOf codeIn
+  routine-replaced = record {
+    budget = simp listed-kept;
+    tick = simp listed-kept;
+    first = simp first-stays;
+    count = simp (codes-set, length-map, length-set);
+    others = λ i d x. simp (listed-kept, prices-kept, codes-set) (map-other _ (codeLines (body ls)) j i l x d);
+    start = simp (first-stays, listed-kept);
+    answers = simp answers-kept;
+  }
+
+-- the new line as it stands
+module _ (ls : List Line) (p : Passes ls) (j : ℕ) (h : j < length (codeLines (body ls))) (instruction : List ℕ) where
+  there : InCode ls (length layout + j)
+  there = (omega arith, omega arith)
+
+  own : CodeLine (getD ls (length layout + j) noLine .text)
+  own = line-coded ls p (length layout + j) there
+
+  new-address : at (replacedLine ls (length layout + j) instruction .text) ≡ at (getD (body ls) j noLine .text)
+  unfolding body
+  new-address = at-number (getD ls (length layout + j) noLine .text) instruction own ∙ ap (λ (l : Line). at (l .text)) (sym (getD-drop (length layout) ls j noLine))
+
+  new-code : isAnswer (replacedLine ls (length layout + j) instruction) ≡ false
+  unfolding isAnswer
+  new-code =
+      let w = at (getD ls (length layout + j) noLine .text) in
+      ap (λ t. equals t (bytes "ANSWER")) (append-assoc w (bytes " ") instruction) ∙ number-first w (bytes " " ++ instruction) (own .spelt)
+
+  pub one-replaced : OneReplaced j (routineOf ls) (routineOf (set ls (length layout + j) (replacedLine ls (length layout + j) instruction)))
+  one-replaced = routine-replaced ls j (replacedLine ls (length layout + j) instruction) new-address new-code h

@@ -1,0 +1,71 @@
+-- The statements of `specs/Promises`, each proved by its name. Assumes nothing.
+use mathlib.Core.Path.{_≡_, refl, sym, ap, subst, _∙_}
+use mathlib.Core.Bool.{true}
+use mathlib.Core.List.{List, _++_, append-assoc}
+use Prim.Native.Nat.{ℕ, zero, suc, _+_, _-_, _<_}
+use native.Mathlib.Omega.{arith}
+use lib.Dec.{leb, ltb}
+use lib.ListN.{length, getD, set}
+use lib.Seq.{set-getD}
+use borrow.Author.Tests.{ltb-true}
+use Rattle.text.specs.Text.{bytes, Line, noLine, lines}
+use Rattle.text.proofs.TextLaws.{Every, none, more, and-right}
+use Rattle.text.proofs.LineLaws.{endedLine}
+use Rattle.routine.specs.Layout.{layout, body, codeLines}
+use Rattle.routine.specs.Rows.{op, arg, Passes}
+use Rattle.routine.specs.Routine.{Routine, codeIn, routineOf, readBound}
+use Rattle.routine.proofs.RowLaws.{read-passes, lines-ended}
+use Rattle.inverses.specs.Sections.{linesText}
+use Rattle.inverses.proofs.JoinLaws.{text-of-lines}
+use Rattle.patches.specs.Patch.{inCode, lineOf, patchedAt, patched}
+use Rattle.patches.specs.Promises.{OneReplaced, CopyReplacesOne, SameInstructionKeeps}
+use Rattle.patches.proofs.PatchLaws.{code-count, line-there, line-coded}
+use Rattle.patches.proofs.ReplacedLaws.{replacedLine, patched-lines, lines-replaced, one-replaced}
+
+-- an address of the code by its place in it
+place-in : (ls : List Line) (address : ℕ) → inCode (codeIn ls) address ≡ true → address - codeIn ls .first < length (codeLines (body ls))
+unfolding inCode
+place-in ls address e =
+    let c = codeIn ls in
+    omega (arith, code-count ls, ltb-true (address - c .first) (length (c .instructions)) (and-right (leb (c .first) address) (ltb (address - c .first) (length (c .instructions))) e))
+
+routine-code : (ls : List Line) → routineOf ls .code ≡ codeIn ls
+unfolding routineOf
+routine-code ls = refl
+
+pub copy-replaces-one : CopyReplacesOne
+unfolding patched routineOf
+copy-replaces-one text instruction address x y e a f g =
+    let ls = lines text in
+    let r = read-passes text x e in
+    let q : x .code ≡ codeIn ls = ap (λ (z : Routine). z .code) (r .1) ∙ routine-code ls in
+    let j = address - codeIn ls .first in
+    let h : j < length (codeLines (body ls)) = place-in ls address (subst (λ c. inCode c address ≡ true) q a) in
+    let new = set ls (length layout + j) (replacedLine ls (length layout + j) instruction) in
+    let m : lines (patchedAt ls (length layout + j) instruction) ≡ new = lines-replaced text (r .0) (length layout + j) (omega arith, omega arith) instruction f in
+    let z : y ≡ routineOf new = read-passes (patchedAt ls (length layout + j) instruction) y g .1 ∙ ap routineOf m in
+    rw (z, r .1, routine-code ls) (one-replaced ls (r .0) j h instruction)
+
+-- a line that is ended, by its text
+ended-at : {ls : List Line} → Every (λ l. l .ended ≡ true) ls → (k : ℕ) → k < length ls → endedLine (getD ls k noLine .text) ≡ getD ls k noLine
+ended-at none k h = absurd (omega arith)
+ended-at (more {x = l} e es) zero h = ap (λ b. record { text = l .text; ended = b }) (sym e)
+ended-at (more e es) (suc k) h = ended-at es k (omega arith)
+
+pub same-instruction-keeps : SameInstructionKeeps
+unfolding patched
+same-instruction-keeps text address x e a =
+    let ls = lines text in
+    let r = read-passes text x e in
+    let q : x .code ≡ codeIn ls = ap (λ (z : Routine). z .code) (r .1) ∙ routine-code ls in
+    let j = address - codeIn ls .first in
+    let h : j < length (codeLines (body ls)) = place-in ls address (subst (λ c. inCode c address ≡ true) q a) in
+    let k = length layout + j in
+    let t = line-there ls (r .0) k (omega arith, omega arith) in
+    let c = line-coded ls (r .0) k (omega arith, omega arith) in
+    let l = getD ls k noLine in
+    let same : replacedLine ls k (op (l .text) ++ bytes " " ++ arg (l .text)) ≡ l =
+    ap endedLine (sym (c .three ∙ simp append-assoc)) ∙ ended-at (lines-ended ls (r .0 .layout)) k t in
+    patched-lines ls k (op (l .text) ++ bytes " " ++ arg (l .text)) t
+    ∙ ap linesText (ap (set ls k) same ∙ set-getD ls k noLine)
+    ∙ text-of-lines text (lines-ended ls (r .0 .layout))

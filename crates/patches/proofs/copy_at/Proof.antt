@@ -1,0 +1,65 @@
+-- `patches::copy_at` meets its contract. Assumes nothing.
+use mathlib.Core.Path.{_≡_, ap, sym, _∙_}
+use native.Mathlib.Omega.{arith}
+use Rattle.answers.specs.Answers.{memory, answerOf}
+use Rattle.answers.proofs.AnswerLaws.{gives-refusal}
+use Rattle.patches.proofs.PatchLaws.{copy-below, copy-above, copy-inside}
+use borrow.Author.Needs.{needs}
+use Rattle.patches.proofs.copy_at.Statement.{statement}
+use Rattle.patches.proofs.copy_at.Tie as tie
+
+body-of-requires : tie.Need-body-of-requires
+body-of-requires c κs = search needs
+
+first-address-requires : tie.Need-first-address-requires
+first-address-requires c κs = search needs
+
+count-code-requires : tie.Need-count-code-requires
+count-code-requires c κs = search needs
+
+returns : tie.Need-returns
+returns c =
+    let d = c .before in
+    let s = d .before .before .before .before .before .before in
+    gives-refusal _ _ (copy-below (s .args .text .now) (s .pre .0) (s .pre .1) (s .args .address) (s .args .instruction .now) _ (d .before .before .body-of .ensures) _ _ (d .before .first-address .ensures) (d .count-code .ensures) (omega (arith, c .if1 .taken))) _
+
+returns-2 : tie.Need-returns-2
+returns-2 c =
+    let d = c .before .before in
+    let s = d .before .before .before .before .before .before in
+    gives-refusal _ _ (copy-above (s .args .text .now) (s .pre .0) (s .pre .1) (s .args .address) (s .args .instruction .now) _ (d .before .before .body-of .ensures) _ _ (d .before .first-address .ensures) (d .count-code .ensures) (omega (arith, c .before .if1 .left)) (omega (arith, c .if2 .taken))) _
+
+add-put-copy : tie.Need-add-put-copy
+add-put-copy c = search needs
+
+put-copy-requires : tie.Need-put-copy-requires
+put-copy-requires c κs =
+    let d = c .before .before .before in
+    let s = d .before .before .before .before .before .before in
+    let i = copy-inside (s .args .text .now) (s .pre .0) (s .pre .1) (s .args .address) (s .args .instruction .now) _ (d .before .before .body-of .ensures) _ _ (d .before .first-address .ensures) (d .count-code .ensures) (omega (arith, c .before .before .if1 .left)) (omega (arith, c .before .if2 .left)) in
+    (s .pre .0, s .pre .1, i .0 .0, i .0 .1, s .pre .2)
+
+same-length : tie.Need-same-length
+same-length c = search needs
+
+returns-3 : tie.Need-returns-3
+returns-3 c =
+    let e = c .before .before in
+    let d = e .before .before .before .before in
+    let s = d .before .before .before .before .before .before in
+    let i = copy-inside (s .args .text .now) (s .pre .0) (s .pre .1) (s .args .address) (s .args .instruction .now) _ (d .before .before .body-of .ensures) _ _ (d .before .first-address .ensures) (d .count-code .ensures) (omega (arith, e .before .before .before .if1 .left)) (omega (arith, e .before .before .if2 .left)) in
+    (e .put-copy .ensures .0 ∙ ap answerOf (sym (i .1)), e .put-copy .ensures .1 ∙ ap (λ a. memory a (s .args .out .now)) (sym (i .1)))
+
+pub copy-at-spec : {M : Type 1} → statement M
+copy-at-spec =
+    tie.close
+    (tie.spec
+    body-of-requires
+    first-address-requires
+    count-code-requires
+    returns
+    returns-2
+    add-put-copy
+    put-copy-requires
+    same-length
+    returns-3)
