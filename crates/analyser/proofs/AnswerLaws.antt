@@ -1,14 +1,15 @@
 -- The promises of the answers to a text, from the laws of the layers below. Assumes nothing.
-use mathlib.Core.Path.{_≡_, refl, sym, ap}
-use mathlib.Core.Bool.{true}
+use mathlib.Core.Path.{_≡_, refl, sym, ap, _∙_}
+use mathlib.Core.Bool.{Bool, true, false, cond}
 use mathlib.Core.List.{List, [], _∷_}
-use mathlib.Core.Logic.{inl, inr}
+use mathlib.Core.Logic.{_⊎_, inl, inr}
 use Prim.Native.Nat.{ℕ, _≤_, _<_}
 use native.Mathlib.Omega.{arith}
 use lib.Dec.{ltb}
 use lib.ListN.{length, length-map}
 use borrow.Author.Tests.{lt-ltb, le-ltb}
 use Rattle.refusals.specs.declared.Refusal.{Refusal}
+use Rattle.refusals.specs.declared.Refusal.the-variants.{ReportMemory, BadName}
 use Rattle.refusals.specs.Refusals.{place}
 use Rattle.text.specs.Text.{Line, lines, all}
 use Rattle.text.proofs.TextLaws.{Every, more}
@@ -30,7 +31,8 @@ use Rattle.merges.specs.Merge.{merged, span}
 use Rattle.merges.proofs.Theorems.{merged-interruptible, merged-exact}
 use Rattle.merges.proofs.FigureLaws.{merged-bounded, merged-place}
 use Rattle.routine.specs.Layout.{body, codeLines}
-use Rattle.routine.specs.Routine.{Routine, codeIn, routineOf, readBound, readRun}
+use Rattle.routine.specs.Routine.{Routine, Reading, codeIn, routineOf, readBound, readRun}
+use Rattle.routine.specs.Routine as readings
 use Rattle.routine.specs.Rows.{Passes}
 use Rattle.routine.proofs.RowLaws.{read-passes, run-passes}
 use Rattle.routine.proofs.RangeLaws.{prices-small, budget-small, tick-positive, start-low}
@@ -40,13 +42,14 @@ use Rattle.routine.proofs.SpellingLaws.{accepted-ascii}
 use Rattle.routine.proofs.AnswerLaws.{SameButAnswers, same-but-answers}
 use Rattle.report.specs.Report.{boundText, runText}
 use Rattle.report.proofs.ReportLaws.{Small, bound-fits, run-fits}
-use Rattle.answers.specs.Answers.{reported, refused, memoryLimit, ofReading, answerOf}
+use Rattle.answers.specs.Answers.{Answer, reported, refused, memoryLimit, ofReading, answerOf}
 use Rattle.answers.proofs.AnswerLaws.{never, from-reading, place-from}
 use Rattle.conversions.proofs.FunctionLaws.{import-reported, import-place, export-reported, export-place}
 use Rattle.conformance.proofs.FunctionLaws.{replay-reported, replay-place}
-use Rattle.analyser.specs.Answers.{ofVerdict, boundRoutine, mergeRoutine, runRoutine, boundAnswer, mergeAnswer, runAnswer}
+use Rattle.patches.specs.Patch.{inCode, patched}
+use Rattle.analyser.specs.Answers.{ofVerdict, boundRoutine, mergeRoutine, runRoutine, boundAnswer, mergeAnswer, runAnswer, previewAnswer}
 use Rattle.analyser.specs.Functions.{reportLength}
-use Rattle.analyser.specs.Promises.{BoundReported, MergeReported, WithinReport, RunAccepted, FilledIn, ReportsKept, MergesKept, RunsKept, AnswersIrrelevant, PassingIsAscii, PassingIsSinglePass, ReportsFit, PlacesSmall}
+use Rattle.analyser.specs.Promises.{BoundReported, MergeReported, WithinReport, RunAccepted, FilledIn, ReportsKept, MergesKept, RunsKept, AnswersIrrelevant, PassingIsAscii, PassingIsSinglePass, ReportsFit, PlacesSmall, PreviewsKept}
 
 -- ---- what a report comes from
 
@@ -86,6 +89,26 @@ merges-kept text n bs e =
       (x, v .report, is, λ s h answers m. merged-interruptible (x .code) forward closed (x .start) (v .report) (v .accepts) s h answers m),
       (x, v .report, is, merged-exact (x .code) forward closed (x .start) (v .report) (v .accepts)),
     )
+
+-- ---- a preview
+
+-- what is told of a file that passes, by whether the address is one of its code
+previewed : List ℕ → ℕ → List ℕ → ℕ → Bool → Answer
+previewed text address instruction n b = cond b (boundAnswer (patched (lines text) address instruction) n) (refused (BadName address))
+
+-- a report is the bound's of the copy
+preview-bound : (text instruction : List ℕ) (address n : ℕ) (bs : List ℕ) → previewAnswer text address instruction n ≡ reported bs → boundAnswer (patched (lines text) address instruction) n ≡ reported bs
+unfolding previewAnswer previewed
+preview-bound text instruction address n bs e =
+    let a = from-reading (λ x. previewed text address instruction n (inCode (x .code) address)) (readBound text) memoryLimit n bs e in
+    go (inCode (a .routine .code) address) (a .gives)
+  where
+    go : (b : Bool) → previewed text address instruction n b ≡ reported bs → boundAnswer (patched (lines text) address instruction) n ≡ reported bs
+    go true h = h
+    go false h = never (BadName address) bs h
+
+pub previews-kept : PreviewsKept
+previews-kept text instruction address n bs e = reports-kept (patched (lines text) address instruction) n bs (preview-bound text instruction address n bs e)
 
 -- ---- two files
 
@@ -186,6 +209,7 @@ reports-fit = (
   λ text n bs e. let r = export-reported text n bs e in (r .1, r .2),
   λ text trace n bs e. let r = replay-reported text trace n bs e in (r .1, r .2),
   λ text n bs e. of-merge text n bs e,
+  λ text instruction address n bs e. of-bound (patched (lines text) address instruction) n bs (preview-bound text instruction address n bs e),
 )
   where
     of-bound : (text : List ℕ) (n : ℕ) (bs : List ℕ) → boundAnswer text n ≡ reported bs → (length bs ≤ memoryLimit) × (memoryLimit ≤ n)
@@ -231,6 +255,9 @@ run-some q = omega arith
 pub bound-reports-some : (text : List ℕ) (n : ℕ) (bs : List ℕ) → boundAnswer text n ≡ reported bs → 1 ≤ length bs
 bound-reports-some text n bs e = let (x, q, is, safe) = reports-kept text n bs e .0 in rw (is .prints) (bound-some (x .tick) q)
 
+pub preview-reports-some : (text instruction : List ℕ) (address n : ℕ) (bs : List ℕ) → previewAnswer text address instruction n ≡ reported bs → 1 ≤ length bs
+preview-reports-some text instruction address n bs e = bound-reports-some (patched (lines text) address instruction) n bs (preview-bound text instruction address n bs e)
+
 pub merge-reports-some : (text : List ℕ) (n : ℕ) (bs : List ℕ) → mergeAnswer text n ≡ reported bs → 1 ≤ length bs
 merge-reports-some text n bs e = let (x, q, is, safe) = merges-kept text n bs e .0 in rw (is .prints) (bound-some (x .tick) q)
 
@@ -245,7 +272,7 @@ from-refused text (verdicts.accepted q) r e = never r (text q) (sym e)
 from-refused text (verdicts.refused x) r e = let h : x ≡ r = cc in ap verdicts.refused h
 
 pub places-small : PlacesSmall
-unfolding boundAnswer boundRoutine mergeAnswer mergeRoutine runAnswer runRoutine
+unfolding place ofReading previewAnswer previewed boundAnswer boundRoutine mergeAnswer mergeRoutine runAnswer runRoutine
 places-small = (
   of-bound,
   of-run,
@@ -253,6 +280,7 @@ places-small = (
   λ text n r e. omega (arith, export-place text n r e),
   λ text trace n r e. omega (arith, replay-place text trace n r e),
   of-merge,
+  of-preview,
 )
   where
     of-bound : (text : List ℕ) (n : ℕ) (r : Refusal) → boundAnswer text n ≡ refused r → place r ≤ 62000
@@ -261,6 +289,22 @@ places-small = (
         let (p, is, short) = read-passes text x e in
         let v = from-refused (boundText (x .tick)) (bound (x .code) (x .budget) (x .start)) r f in
         bound-place 62000 (x .code) (rw is (confined (lines text) p)) (x .budget) (x .start) (rw is (start-small (lines text) p)) r v)
+
+    of-preview : (text instruction : List ℕ) (address n : ℕ) (r : Refusal) → previewAnswer text address instruction n ≡ refused r → (place r ≤ 62000) ⊎ (r ≡ BadName address)
+    of-preview text instruction address n r = lent (ltb n memoryLimit)
+      where
+        of-copy : (b : Bool) → previewed text address instruction n b ≡ refused r → (place r ≤ 62000) ⊎ (r ≡ BadName address)
+        of-copy true e = inl (of-bound (patched (lines text) address instruction) n r e)
+        of-copy false e = let h : BadName address ≡ r = cc in inr (sym h)
+
+        read : (m : Reading) → readBound text ≡ m → ofReading (λ x. previewed text address instruction n (inCode (x .code) address)) m ≡ refused r → (place r ≤ 62000) ⊎ (r ≡ BadName address)
+        read (readings.refused x) q e = let h : x ≡ r = cc in inl (omega (arith, read-bound-place text r (q ∙ ap readings.refused h)))
+        read (readings.routine x) q e = of-copy (inCode (x .code) address) e
+
+        lent : (b : Bool) → cond b (refused ReportMemory) (ofReading (λ x. previewed text address instruction n (inCode (x .code) address)) (readBound text)) ≡ refused r
+            → (place r ≤ 62000) ⊎ (r ≡ BadName address)
+        lent true e = let h : ReportMemory ≡ r = cc in inl (rw (← h) (omega arith))
+        lent false e = read (readBound text) refl e
 
     of-merge : (text : List ℕ) (n : ℕ) (r : Refusal) → mergeAnswer text n ≡ refused r → place r ≤ 62000
     of-merge text n r =

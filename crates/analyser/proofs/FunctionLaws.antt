@@ -1,14 +1,17 @@
 -- The routine that the code's arrays hold is bounded and run as the definitions say, and so is a text. Assumes nothing.
 use Prim.Native.Nat.{ℕ, _+_, _*_, _%_, _≤_, _<_}
 use mathlib.Core.Path.{_≡_, refl, sym, ap, ap₂, _∙_}
+use mathlib.Core.Bool.{Bool, true, false, cond}
 use mathlib.Core.List.{List, [], _∷_}
+use mathlib.Core.Logic.{_⊎_, inl, inr}
 use native.Mathlib.Omega.{arith}
 use native.Mathlib.Nat.{mod-eq-of-lt}
+use lib.Dec.{ltb}
 use lib.ListN.{length, getD, drop, length-append}
 use lib.Seq.{take-append-seam}
-use borrow.Author.Tests.{lt-ltb, le-ltb}
+use borrow.Author.Tests.{lt-ltb, le-ltb, ltb-true}
 use Rattle.refusals.specs.declared.Refusal.{Refusal}
-use Rattle.refusals.specs.declared.Refusal.the-variants.{ReportMemory}
+use Rattle.refusals.specs.declared.Refusal.the-variants.{ReportMemory, TextLength, BadName}
 use Rattle.refusals.specs.declared.Refusal.the-variants as refusals
 use Rattle.refusals.specs.Refusals.{number, place}
 use Rattle.bounds.specs.Tree.{Report, accepted, refused}
@@ -17,29 +20,32 @@ use Rattle.findings.specs.declared.Found.{Found}
 use Rattle.findings.specs.Found.{Shows, acceptedAs}
 use Rattle.runs.specs.declared.Ran.{Ran}
 use Rattle.runs.specs.Contract.{judged, verdictOf}
-use Rattle.routine.specs.Routine.{readBound, readRun}
+use Rattle.text.specs.Text.{lines}
+use Rattle.routine.specs.Routine.{readBound, readRun, textLimit}
 use Rattle.routine.specs.Routine as readings
-use Rattle.routine.proofs.RowLaws.{read-passes, run-passes}
+use Rattle.routine.proofs.RowLaws.{read-passes, run-passes, too-long}
 use Rattle.routine.proofs.RangeLaws.{tick-positive, tick-small}
 use Rattle.refusals.specs.declared.Verdict.the-variants as verdicts
 use Rattle.refusals.specs.declared.Verdict.the-variants.{Accepted}
 use Rattle.report.specs.Report.{boundText}
 use Rattle.report.specs.Decode.{reportOf}
 use Rattle.report.proofs.DecodeLaws.{report-of, report-of-run}
-use Rattle.answers.specs.Answers.{Answer, reported, memoryLimit, memory, answerOf}
+use Rattle.answers.specs.Answers.{Answer, reported, memoryLimit, memory, answerOf, ofReading}
 use Rattle.answers.specs.Answers as answers
 use Rattle.answers.specs.declared.Answer as code
 use Rattle.answers.specs.declared.Answer.the-variants.{Reported, Refused}
-use Rattle.answers.proofs.AnswerLaws.{lent-short, reading-refused, reading-passed}
+use Rattle.answers.proofs.AnswerLaws.{lent-short, reading-refused, reading-passed, lent-enough}
 use Rattle.conversions.specs.Answers.{conversionLimit, importAnswer, exportAnswer}
 use Rattle.conversions.proofs.FunctionLaws.{import-reported, export-reported}
 use Rattle.conformance.specs.Answers.{replayAnswer}
 use Rattle.conformance.proofs.FunctionLaws.{replay-reported}
-use Rattle.analyser.specs.Answers.{ofVerdict, boundRoutine, mergeRoutine, runRoutine, boundAnswer, mergeAnswer, runAnswer}
+use Rattle.patches.specs.Patch.{inCode, patched}
+use Rattle.patches.specs.Held.{within, copyAnswer}
+use Rattle.analyser.specs.Answers.{ofVerdict, boundRoutine, mergeRoutine, runRoutine, boundAnswer, mergeAnswer, runAnswer, previewAnswer}
 use Rattle.analyser.specs.Held.{Printable, judgedAs, foundAnswer}
 use Rattle.analyser.specs.Functions.{reportLength, Delivers, toldLength, wordOf, Tells, AnswerTold, AnswersTold}
 use Rattle.analyser.specs.Promises.{SafeReport, ExactReport, SafeMerge, ExactMerge, WithinReport, RunAccepted}
-use Rattle.analyser.proofs.AnswerLaws.{reports-kept, merges-kept, reports-fit, runs-kept, bound-reports-some, merge-reports-some, run-reports-some, places-small}
+use Rattle.analyser.proofs.AnswerLaws.{reports-kept, merges-kept, reports-fit, runs-kept, bound-reports-some, merge-reports-some, run-reports-some, places-small, preview-reports-some}
 
 -- ---- a verdict is of one case
 
@@ -152,6 +158,50 @@ module _ (text : List ℕ) (n : ℕ) where
         fits = λ bs q. let k = reports-fit .1 text n bs (run-passed h x e ∙ q) in omega (arith, k .0, k .1);
       }
 
+-- ---- a preview
+
+-- what the bound says of a copy that is made; what is refused before it is made
+bounded : ℕ → Answer → Answer
+bounded n (reported bs) = boundAnswer bs n
+bounded n (answers.refused x) = answers.refused x
+
+module _ (text : List ℕ) (address : ℕ) (instruction : List ℕ) (n : ℕ) where
+  pub preview-short : n < 128 → previewAnswer text address instruction n ≡ answers.refused ReportMemory
+  unfolding previewAnswer
+  preview-short = lent-short memoryLimit n _
+
+  module _ (h : 128 ≤ n) where
+    -- "text over 32,768 bytes" is refused by the bound too
+    copy-bounded : (copy : List ℕ) → boundAnswer copy n ≡ bounded n (within copy)
+    unfolding within bounded
+    copy-bounded copy = go (ltb textLimit (length copy)) refl
+      where
+        go : (b : Bool) → ltb textLimit (length copy) ≡ b → boundAnswer copy n ≡ bounded n (cond b (answers.refused TextLength) (reported copy))
+        go true e = bound-refused copy n h TextLength (too-long copy (ltb-true textLimit (length copy) e) .0)
+        go false e = refl
+
+    preview-is : previewAnswer text address instruction n ≡ bounded n (copyAnswer text address instruction)
+    unfolding previewAnswer copyAnswer ofReading bounded
+    preview-is = lent-enough memoryLimit n _ h ∙ read (readBound text)
+      where
+        copied : (b : Bool) → cond b (boundAnswer (patched (lines text) address instruction) n) (answers.refused (BadName address))
+            ≡ bounded n (cond b (within (patched (lines text) address instruction)) (answers.refused (BadName address)))
+        copied true = copy-bounded (patched (lines text) address instruction)
+        copied false = refl
+
+        read : (m : readings.Reading) → ofReading (λ x. cond (inCode (x .code) address) (boundAnswer (patched (lines text) address instruction) n) (answers.refused (BadName address))) m
+            ≡ bounded n (ofReading (λ x. cond (inCode (x .code) address) (within (patched (lines text) address instruction)) (answers.refused (BadName address))) m)
+        read (readings.refused x) = refl
+        read (readings.routine x) = copied (inCode (x .code) address)
+
+    pub preview-copied : (bs : List ℕ) → copyAnswer text address instruction ≡ reported bs → previewAnswer text address instruction n ≡ boundAnswer bs n
+    unfolding bounded
+    preview-copied bs e = preview-is ∙ ap (bounded n) e
+
+    pub preview-refused : (x : Refusal) → copyAnswer text address instruction ≡ answers.refused x → previewAnswer text address instruction n ≡ answers.refused x
+    unfolding bounded
+    preview-refused x e = preview-is ∙ ap (bounded n) e
+
 -- ---- the promises
 
 -- what holds of the bytes of every report holds of those that are told
@@ -261,52 +311,65 @@ refusal-told (refusals.Spent a) = refl
 refusal-told (refusals.BadWord i) = refl
 refusal-told (refusals.NoMeeting a) = refl
 
--- a report of 1 to `most` bytes, or a refusal whose place is at most 62,000
+-- a report of 1 to `most` bytes, or a refusal whose place has 32 bits
 record WithinLimits (most : ℕ) (a : Answer) : Type 0 where
   small : most ≤ 32768
   report : (bs : List ℕ) → a ≡ reported bs → (1 ≤ length bs) × (length bs ≤ most)
-  refusal : (r : Refusal) → a ≡ answers.refused r → place r ≤ 62000
+  refusal : (r : Refusal) → a ≡ answers.refused r → place r < 4294967296
 
 bound-limits : (text : List ℕ) (n : ℕ) → WithinLimits memoryLimit (boundAnswer text n)
 bound-limits text n = record {
   small = omega arith;
   report = λ bs e. (bound-reports-some text n bs e, reports-fit .0 text n bs e .0);
-  refusal = places-small .0 text n;
+  refusal = λ r e. omega (arith, places-small .0 text n r e);
 }
 
 merge-limits : (text : List ℕ) (n : ℕ) → WithinLimits memoryLimit (mergeAnswer text n)
 merge-limits text n = record {
   small = omega arith;
   report = λ bs e. (merge-reports-some text n bs e, reports-fit .5 text n bs e .0);
-  refusal = places-small .5 text n;
+  refusal = λ r e. omega (arith, places-small .5 text n r e);
 }
 
 run-limits : (text : List ℕ) (n : ℕ) → WithinLimits memoryLimit (runAnswer text n)
 run-limits text n = record {
   small = omega arith;
   report = λ bs e. (run-reports-some text n bs e, reports-fit .1 text n bs e .0);
-  refusal = places-small .1 text n;
+  refusal = λ r e. omega (arith, places-small .1 text n r e);
 }
 
 import-limits : (words primitives : List ℕ) (n : ℕ) → WithinLimits conversionLimit (importAnswer words primitives n)
 import-limits words primitives n = record {
   small = omega arith;
   report = λ bs e. let r = import-reported words primitives n bs e in (r .0, r .1);
-  refusal = places-small .2 words primitives n;
+  refusal = λ r e. omega (arith, places-small .2 words primitives n r e);
 }
 
 export-limits : (text : List ℕ) (n : ℕ) → WithinLimits conversionLimit (exportAnswer text n)
 export-limits text n = record {
   small = omega arith;
   report = λ bs e. let r = export-reported text n bs e in (r .0, r .1);
-  refusal = places-small .3 text n;
+  refusal = λ r e. omega (arith, places-small .3 text n r e);
 }
 
 replay-limits : (text trace : List ℕ) (n : ℕ) → WithinLimits memoryLimit (replayAnswer text trace n)
 replay-limits text trace n = record {
   small = omega arith;
   report = λ bs e. let r = replay-reported text trace n bs e in (r .0, r .1);
-  refusal = places-small .4 text trace n;
+  refusal = λ r e. omega (arith, places-small .4 text trace n r e);
+}
+
+-- the address of a preview has 32 bits
+preview-place : (address : ℕ) → address < 4294967296 → (r : Refusal) → (place r ≤ 62000) ⊎ (r ≡ BadName address) → place r < 4294967296
+unfolding place
+preview-place address h r (inl k) = omega arith
+preview-place address h r (inr e) = rw e h
+
+preview-limits : (text instruction : List ℕ) (address n : ℕ) → address < 4294967296 → WithinLimits memoryLimit (previewAnswer text address instruction n)
+preview-limits text instruction address n h = record {
+  small = omega arith;
+  report = λ bs e. (preview-reports-some text instruction address n bs e, reports-fit .6 text instruction address n bs e .0);
+  refusal = λ r e. preview-place address h r (places-small .6 text instruction address n r e);
 }
 
 -- what holds of the number
@@ -344,6 +407,7 @@ answers-told = (
   λ text text′ n n′. told conversionLimit _ _ (export-limits text n) (export-limits text′ n′),
   λ text text′ trace trace′ n n′. told memoryLimit _ _ (replay-limits text trace n) (replay-limits text′ trace′ n′),
   λ text text′ n n′. told memoryLimit _ _ (merge-limits text n) (merge-limits text′ n′),
+  λ text text′ instruction instruction′ address address′ n n′ h h′. told memoryLimit _ _ (preview-limits text instruction address n h) (preview-limits text′ instruction′ address′ n′ h′),
 )
 
 module _ (text : List ℕ) (n : ℕ) where
@@ -373,3 +437,7 @@ import-tells words primitives n = tells (import-limits words primitives n)
 
 pub replay-tells : (text trace : List ℕ) (n w : ℕ) → w ≡ wordOf (answerOf (replayAnswer text trace n)) → Tells memoryLimit (replayAnswer text trace n) w
 replay-tells text trace n = tells (replay-limits text trace n)
+
+pub preview-tells : (text instruction : List ℕ) (address n : ℕ) → address < 4294967296 → (w : ℕ) → w ≡ wordOf (answerOf (previewAnswer text address instruction n)) →
+    Tells memoryLimit (previewAnswer text address instruction n) w
+preview-tells text instruction address n h = tells (preview-limits text instruction address n h)

@@ -23,6 +23,8 @@ use Rattle.bounds.proofs.ForwardLaws as forward-laws
 use Rattle.report.proofs.ReportLaws.{share-nearest, share-unique}
 use Rattle.conversions.specs.Promises as conversions
 use Rattle.conversions.proofs.Theorems as conversion-theorems
+use Rattle.patches.specs.Promises as patches
+use Rattle.patches.proofs.Theorems as patch-theorems
 use Rattle.analyser.specs.Answers.{boundAnswer, mergeAnswer, runAnswer}
 use Rattle.analyser.specs.Promises as answers
 use Rattle.analyser.specs.Functions as functions
@@ -142,6 +144,16 @@ pub imports-bound : answers.ImportsBound
 imports-bound text words made n m k b e g =
     let f = imports-replace text words made n m b e g in
     (ap (λ t. boundAnswer t k) f, ap (λ t. runAnswer t k) f, ap (λ t. mergeAnswer t k) f)
+
+-- a preview (document 02 §10): its report is the bound's of the copy, and a copy has one instruction replaced (`patches/specs/Promises`)
+pub previews-kept : answers.PreviewsKept
+previews-kept = answer-laws.previews-kept
+
+pub copy-replaces-one : patches.CopyReplacesOne
+copy-replaces-one = patch-theorems.copy-replaces-one
+
+pub same-instruction-keeps : patches.SameInstructionKeeps
+same-instruction-keeps = patch-theorems.same-instruction-keeps
 
 pub written-reads-back : answers.WrittenReadsBack
 written-reads-back = decimal-read

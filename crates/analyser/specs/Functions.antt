@@ -13,7 +13,7 @@ use Rattle.answers.specs.declared.Answer as code
 use Rattle.answers.specs.declared.Answer.the-variants.{Reported, Refused}
 use Rattle.conversions.specs.Answers.{importAnswer, exportAnswer}
 use Rattle.conformance.specs.Answers.{replayAnswer}
-use Rattle.analyser.specs.Answers.{boundAnswer, mergeAnswer, runAnswer}
+use Rattle.analyser.specs.Answers.{boundAnswer, mergeAnswer, runAnswer, previewAnswer}
 
 -- ---- what an answer says of the lent memory
 
@@ -46,7 +46,7 @@ pub record Tells (most : ℕ) (a : Answer) (w : ℕ) : Type 0 where
 abbrev pub AnswerTold : Answer → Answer → Type 0
 AnswerTold a b = wordOf (answerOf a) ≡ wordOf (answerOf b) → answerOf a ≡ answerOf b
 
--- so of any two answers of one function
+-- so of any two answers of one function; the address of a preview has 32 bits
 abbrev pub AnswersTold : Type 0
 AnswersTold =
     ((text text′ : List ℕ) (n n′ : ℕ) → AnswerTold (boundAnswer text n) (boundAnswer text′ n′))
@@ -55,3 +55,5 @@ AnswersTold =
     × ((text text′ : List ℕ) (n n′ : ℕ) → AnswerTold (exportAnswer text n) (exportAnswer text′ n′))
     × ((text text′ trace trace′ : List ℕ) (n n′ : ℕ) → AnswerTold (replayAnswer text trace n) (replayAnswer text′ trace′ n′))
     × ((text text′ : List ℕ) (n n′ : ℕ) → AnswerTold (mergeAnswer text n) (mergeAnswer text′ n′))
+    × ((text text′ instruction instruction′ : List ℕ) (address address′ n n′ : ℕ) → address < 4294967296 → address′ < 4294967296 →
+    AnswerTold (previewAnswer text address instruction n) (previewAnswer text′ address′ instruction′ n′))

@@ -9,6 +9,7 @@ use lib.Dec.{ltb}
 use lib.IntN.{ℤ, pos}
 use lib.ListN.{length, take}
 use Rattle.refusals.specs.declared.Refusal.{Refusal}
+use Rattle.refusals.specs.declared.Refusal.the-variants.{BadName}
 use Rattle.refusals.specs.Refusals.{place}
 use Rattle.text.specs.Text.{lines, all}
 use Rattle.text.specs.declared.Numeral.the-variants.{Number as number}
@@ -31,7 +32,8 @@ use Rattle.inverses.specs.Sections.{replaced, primitivesLine}
 use Rattle.conversions.specs.Answers.{conversionLimit, importAnswer, exportAnswer}
 use Rattle.conversions.specs.Promises.{BeginsAtZero}
 use Rattle.conformance.specs.Answers.{replayAnswer}
-use Rattle.analyser.specs.Answers.{boundAnswer, mergeAnswer, runAnswer}
+use Rattle.patches.specs.Patch.{patched}
+use Rattle.analyser.specs.Answers.{boundAnswer, mergeAnswer, runAnswer, previewAnswer}
 use Rattle.analyser.specs.Functions.{reportLength}
 
 -- the bytes are the bound's report, with the figures q, of the routine x that the text holds
@@ -146,12 +148,17 @@ ReportsFit =
     × ((text : List ℕ) (n : ℕ) → ReportFits conversionLimit n (exportAnswer text n))
     × ((text trace : List ℕ) (n : ℕ) → ReportFits memoryLimit n (replayAnswer text trace n))
     × ((text : List ℕ) (n : ℕ) → ReportFits memoryLimit n (mergeAnswer text n))
+    × ((text instruction : List ℕ) (address n : ℕ) → ReportFits memoryLimit n (previewAnswer text address instruction n))
 
 -- the place of a refusal is 62,000 at most
 abbrev pub PlaceSmall : Answer → Type 0
 PlaceSmall a = (r : Refusal) → a ≡ refused r → place r ≤ 62000
 
--- no place is above 62,000: a line is 32,769 at most, the code and its targets are within 0 to 62,000, and a word's index is 2,048 at most
+-- of a preview, it is so too, or the refusal is 4 with the address as the place, which has 32 bits
+abbrev pub PlaceOrAddress : ℕ → Answer → Type 0
+PlaceOrAddress address a = (r : Refusal) → a ≡ refused r → (place r ≤ 62000) ⊎ (r ≡ BadName address)
+
+-- no place is above 62,000 but a preview's address: a line is 32,769 at most, the code and its targets are within 0 to 62,000, and a word's index is 2,048 at most
 abbrev pub PlacesSmall : Type 0
 PlacesSmall =
     ((text : List ℕ) (n : ℕ) → PlaceSmall (boundAnswer text n))
@@ -160,12 +167,19 @@ PlacesSmall =
     × ((text : List ℕ) (n : ℕ) → PlaceSmall (exportAnswer text n))
     × ((text trace : List ℕ) (n : ℕ) → PlaceSmall (replayAnswer text trace n))
     × ((text : List ℕ) (n : ℕ) → PlaceSmall (mergeAnswer text n))
+    × ((text instruction : List ℕ) (address n : ℕ) → PlaceOrAddress address (previewAnswer text address instruction n))
 
 -- "An import followed by a bound gives what the written file gives": the file with the lines made of its own words has its bounds and its run
 abbrev pub ImportsBound : Type 0
 ImportsBound =
     (text words made : List ℕ) (n m k : ℕ) → BeginsAtZero text → exportAnswer text n ≡ reported words → importAnswer words (primitivesLine (lines text)) m ≡ reported made →
     (boundAnswer (replaced (lines text) made) k ≡ boundAnswer text k) × (runAnswer (replaced (lines text) made) k ≡ runAnswer text k) × (mergeAnswer (replaced (lines text) made) k ≡ mergeAnswer text k)
+
+-- a report of a preview is one of the copy, with all that is promised of it (document 02 §10)
+abbrev pub PreviewsKept : Type 0
+PreviewsKept =
+    (text instruction : List ℕ) (address n : ℕ) (bytes : List ℕ) → previewAnswer text address instruction n ≡ reported bytes →
+    SafeReport (patched (lines text) address instruction) bytes × ExactReport (patched (lines text) address instruction) bytes
 
 -- reading a decimal number that was written gives it back
 abbrev pub WrittenReadsBack : Type 0

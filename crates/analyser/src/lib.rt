@@ -12,7 +12,7 @@ ghost use Rattle.answers.specs.Answers.{memoryLimit, memory, answerOf};
 ghost use Rattle.answers.specs.declared.Answer.the-variants.{Refused};
 ghost use Rattle.conversions.specs.Answers.{conversionLimit, importAnswer, exportAnswer};
 ghost use Rattle.conformance.specs.Answers.{replayAnswer};
-ghost use Rattle.analyser.specs.Answers.{boundRoutine, mergeRoutine, runRoutine, boundAnswer, mergeAnswer, runAnswer};
+ghost use Rattle.analyser.specs.Answers.{boundRoutine, mergeRoutine, runRoutine, boundAnswer, mergeAnswer, runAnswer, previewAnswer};
 ghost use Rattle.analyser.specs.Functions.{reportLength, Delivers, wordOf, toldLength, Tells};
 ghost use Rattle.evaluations.specs.Held.{routineIn, Shareable};
 ghost use Rattle.analyser.specs.Held.{Printable, foundAnswer};
@@ -150,6 +150,23 @@ pub fn run(text: &[u8], out: &mut [u8]) -> Answer
     }
 }
 
+// The bound of a routine file with another instruction at an address: the report in the lent memory, or a refusal.
+pub fn preview(text: &[u8], address: u32, instruction: &[u8], out: &mut [u8]) -> Answer
+    ensures { λ r. ⌜ r ≡ answerOf (previewAnswer (now (text .entry)) address (now (instruction .entry)) (length (now (out .entry)))) ⌝ }
+    ensures { λ _. ⌜ now (out .exit) ≡ memory (previewAnswer (now (text .entry)) address (now (instruction .entry)) (length (now (out .entry)))) (now (out .entry)) ⌝ }
+{
+    let bytes = out.len();
+    if bytes < 128 {
+        return Answer::Refused(Refusal::ReportMemory);
+    }
+    let mut patched = [0u8; 32768];
+    let copied = patches::copy(text, address, instruction, &mut patched);
+    match copied {
+        Answer::Reported(n) => bound(&patched[..n], out),
+        Answer::Refused(refusal) => Answer::Refused(refusal),
+    }
+}
+
 // An answer as one number.
 fn word_of(answer: Answer) -> u64
     ensures { λ r. ⌜ r ≡ wordOf answer ⌝ }
@@ -239,4 +256,20 @@ pub extern "C" fn tickbound_replay(text: &[u8], trace: &[u8], out: &mut [u8]) ->
 {
     let replayed = conformance::replay(text, trace, out);
     word_of(replayed)
+}
+
+// `preview` for C.
+#[no_mangle]
+pub extern "C" fn tickbound_preview(
+    text: &[u8],
+    address: u32,
+    instruction: &[u8],
+    out: &mut [u8],
+) -> u64
+    ensures { λ r. ⌜ r ≡ wordOf (answerOf (previewAnswer (now (text .entry)) address (now (instruction .entry)) (length (now (out .entry))))) ⌝ }
+    ensures { λ _. ⌜ now (out .exit) ≡ memory (previewAnswer (now (text .entry)) address (now (instruction .entry)) (length (now (out .entry)))) (now (out .entry)) ⌝ }
+    ensures tells { λ r. ⌜ Tells memoryLimit (previewAnswer (now (text .entry)) address (now (instruction .entry)) (length (now (out .entry)))) r ⌝ }
+{
+    let previewed = preview(text, address, instruction, out);
+    word_of(previewed)
 }

@@ -27,7 +27,8 @@ use Rattle.routine.proofs.CodeLineLaws.{code-take}
 use Rattle.routine.proofs.PassingLaws.{Coded, none as no-code, next, code-passed, code-among}
 use Rattle.inverses.specs.Sections.{linesText}
 use Rattle.inverses.proofs.JoinLaws.{lines-append, text-of-lines, words-three}
-use Rattle.answers.specs.Answers.{reported, refused, ofReading}
+use Rattle.answers.specs.Answers.{Answer, reported, refused, ofReading, memory, answerOf}
+use Rattle.answers.specs.declared.Answer.the-variants.{Reported, Refused}
 use Rattle.patches.specs.Patch.{inCode, patchedAt, patched}
 use Rattle.patches.specs.Held.{within, copyAnswer}
 
@@ -199,3 +200,18 @@ module _ (text : List ℕ) (p : Passes (lines text)) (short : length text ≤ 32
 pub copy-refused : (text : List ℕ) (address : ℕ) (instruction : List ℕ) (x : Refusal) → readBound text ≡ readings.refused x → copyAnswer text address instruction ≡ refused x
 unfolding copyAnswer ofReading
 copy-refused text address instruction x e = rw e refl
+
+-- ---- what is told of the copy
+
+-- an answer by what the code tells of it, and by the memory
+pub told-copy : (a : Answer) (n : ℕ) → Reported n ≡ answerOf a → (former out : List ℕ) → out ≡ memory a former → (a ≡ reported (take n out)) × (n ≤ length out)
+unfolding answerOf memory
+told-copy (reported bs) n e former out m =
+    let l : n ≡ length bs = cc in
+    (ap reported (sym (ap₂ take l m ∙ take-append-seam bs (drop (length bs) former))), omega (arith, l, ap length m, length-append bs (drop (length bs) former)))
+told-copy (refused x) n e former out m = let z : _≡_ {A = ℕ} 0 1 = cc in absurd (omega arith)
+
+pub told-refusal : (a : Answer) (x : Refusal) → Refused x ≡ answerOf a → a ≡ refused x
+unfolding answerOf
+told-refusal (reported bs) x e = let z : _≡_ {A = ℕ} 0 1 = cc in absurd (omega arith)
+told-refusal (refused y) x e = let h : y ≡ x = cc in ap refused h
