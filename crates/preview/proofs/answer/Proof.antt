@@ -1,0 +1,32 @@
+-- `preview::answer` meets its contract: what is printed is what the answer and its memory say. Assumes nothing.
+use mathlib.Core.Path.{_∙_}
+use lib.ListN.{length}
+use borrow.Author.Needs.{needs}
+use Rattle.analyser.specs.Answers.{previewAnswer}
+use Rattle.console.proofs.PrintLaws.{line-held, line-printed}
+use Rattle.preview.proofs.answer.Statement.{statement}
+use Rattle.preview.proofs.answer.Tie as tie
+
+preview-requires : tie.Need-preview-requires
+preview-requires c κs = search needs
+
+put-line-requires : tie.Need-put-line-requires
+put-line-requires c κs =
+    let b = c .before .before .before in
+    let s = b .before .before .before .before .before in
+    let a = previewAnswer (s .args .text .now) (s .args .address) (s .args .instruction .now) (length (s .args .out .now)) in
+    line-held a (s .args .out .now) (b .preview .ensures .0) (b .preview .ensures .1) (s .pre)
+
+same-length : tie.Need-same-length
+same-length c = search needs
+
+returns : tie.Need-returns
+returns c =
+    let l = c .before .before in
+    let b = l .before .before .before .before in
+    let s = b .before .before .before .before .before in
+    let a = previewAnswer (s .args .text .now) (s .args .address) (s .args .instruction .now) (length (s .args .out .now)) in
+    (l .put-line .ensures .0, l .put-line .ensures .1 ∙ line-printed a (s .args .out .now) (b .preview .ensures .0) (b .preview .ensures .1))
+
+pub answer-spec : {M : Type 1} → statement M
+answer-spec = tie.close (tie.spec preview-requires put-line-requires same-length returns)
