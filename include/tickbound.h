@@ -1,5 +1,5 @@
-/* The two bounds of a routine, the run of a routine, its code from and to the compiler's words, and a card's trace held
- * against its run, for a loader in C.
+/* The two bounds of a routine, the run of a routine, its code from and to the compiler's words, a card's trace held
+ * against its run, and the bound of a routine with one instruction replaced, for a loader in C.
  *
  * `tickbound install PREFIX` puts this header into PREFIX/include and the library to link with into PREFIX/lib:
  * `cc -I PREFIX/include .. -L PREFIX/lib -ltickbound`, on x86-64 Linux. In the repository `rt staticlib analyser`
@@ -7,7 +7,8 @@
  *
  * `tickbound_bound`, `tickbound_merge` and `tickbound_run` read a routine file of `text_length` bytes at `text`, and
  * write a report into the `report_length` bytes lent at `report`. `tickbound_replay` reads a trace of `trace_length`
- * bytes at `trace` beside it. `tickbound_import` and `tickbound_export` write lines and words in the same way.
+ * bytes at `trace` beside it, and `tickbound_preview` an instruction of `instruction_length` bytes at `instruction`.
+ * `tickbound_import` and `tickbound_export` write lines and words in the same way.
  *
  * - The memory that is lent for writing must not overlap what is read, and nothing else may write either during
  *   the call.
@@ -26,7 +27,8 @@
  *
  *   a report    its length, 1 to TICKBOUND_REPORT_MEMORY; of lines or words, 1 to TICKBOUND_CODE_MEMORY
  *   a refusal   bit 63 is 1, bits 32 to 47 are the refusal's number, bits 0 to 31 its place;
- *               all other bits are 0. No place is above 62,000
+ *               all other bits are 0. No place is above 62,000, but for the address of a preview,
+ *               which may be any number of 32 bits
  *
  * So no answer is 0. A routine that costs nothing has a report (`0 0 0 1 0 -`), and its answer is that
  * report's length; a refused routine has no figures at all. Ask `tickbound_is_refused` before anything is
@@ -66,7 +68,8 @@ extern "C" {
 
 /* The numbers of the refusals. The place is 0 for 10 and 1, a line of the text for 2 to 6, 13 and 11, an address of
  * the code for 7, 8, 9 and 14, and for 12 the index of a word, from 0. An import refuses its primitives line by 2 or 4
- * at place 1. A replay refuses its trace by 1, 2 or 3, after its routine file: a line is then one of the trace. */
+ * at place 1. A replay refuses its trace by 1, 2 or 3, after its routine file: a line is then one of the trace. A preview
+ * refuses an address outside the code by 4 at that address. */
 enum {
     TICKBOUND_TEXT_TOO_LONG = 1,
     TICKBOUND_LAYOUT = 2,
@@ -111,6 +114,17 @@ uint64_t tickbound_run(const uint8_t *text, size_t text_length, uint8_t *report,
  * that file by any of 1 to 6, by 13 or by 11, and else in the trace. */
 uint64_t tickbound_replay(const uint8_t *text, size_t text_length, const uint8_t *trace, size_t trace_length,
                           uint8_t *report, size_t report_length);
+
+/* The report of the bound of a copy of the file in which the instruction's bytes stand after the address and a space, up
+ * to the line feed of that line. The bytes are taken as they are: line feeds and spaces are part of the copy. The file
+ * and the instruction stay as they are.
+ *
+ * Refused by 10; then by 1 to 6 and 13, as the bound of the file is; then by 4 at the address, where it is none of the
+ * code; then as the bound of the copy is, with a copy of more than TICKBOUND_TEXT_LIMIT bytes by 1. So of a refusal by 1
+ * to 6 or 13 the place is in the file where `tickbound_bound` refuses the file by one of these; else it is the address,
+ * where the address is outside the code; else it is in the copy. */
+uint64_t tickbound_preview(const uint8_t *text, size_t text_length, uint32_t address, const uint8_t *instruction,
+                           size_t instruction_length, uint8_t *report, size_t report_length);
 
 /* The lines of the code that the compiler's words hold: `AT OP ARG` and a line for each instruction, from address 0.
  * The words are 32 bits each, the lowest byte first, numbered as in OCaml 4.13.1; `primitives` is the line of
