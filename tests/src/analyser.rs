@@ -21,6 +21,15 @@ extern "C" {
         report: *mut u8,
         report_length: usize,
     ) -> u64;
+    fn tickbound_preview(
+        text: *const u8,
+        text_length: usize,
+        address: u32,
+        instruction: *const u8,
+        instruction_length: usize,
+        report: *mut u8,
+        report_length: usize,
+    ) -> u64;
 }
 
 #[link(name = "interrupts", kind = "static")]
@@ -64,6 +73,12 @@ pub fn replay(text: &[u8], trace: &[u8], report: &mut [u8]) -> u64 {
     let (length, lent) = (trace.len(), report.len());
     // SAFETY: as above, of three memories.
     unsafe { tickbound_replay(start(text), text.len(), start(trace), length, start_mut(report), lent) }
+}
+
+pub fn preview(text: &[u8], address: u32, instruction: &[u8], report: &mut [u8]) -> u64 {
+    let (length, lent) = (instruction.len(), report.len());
+    // SAFETY: as above, of three memories.
+    unsafe { tickbound_preview(start(text), text.len(), address, start(instruction), length, start_mut(report), lent) }
 }
 
 /// The run of a file, interrupted after `n` steps and bounded afresh; or the number of its refusal.

@@ -1,6 +1,6 @@
 //! The analyser's C functions and programs compared with the independent implementation: on the cases of document 01 and of the change
-//! requests, on texts, words and traces, with the answers that these papers give them; on functions that OCaml compiled; and on files,
-//! words and traces from a seed.
+//! requests, on texts, words, traces and previews, with the answers that these papers give them; on functions that OCaml compiled; and on
+//! files, words, traces and previews from a seed.
 mod causes;
 mod compare;
 mod extras;
@@ -9,6 +9,7 @@ mod imports;
 mod jumps;
 mod merges;
 mod pinned;
+mod previews;
 mod replays;
 mod shares;
 mod traces;
@@ -25,6 +26,8 @@ use independent::compiled::functions;
 use independent::damage::damaged;
 use independent::generate::draft;
 use independent::merge_cases::{self, merges, MERGES};
+use independent::preview_cases;
+use independent::preview_draft::{instruction_at, preview};
 use independent::random::Random;
 use independent::replay_cases;
 use independent::report::{bound_answer, merge_answer, told, Answer, MEMORY};
@@ -34,7 +37,8 @@ use independent::word_cases::{self, CASES};
 use independent::word_draft;
 use jumps::Jumps;
 use merges::Merges;
-use pinned::{pinned, pinned_export, pinned_import, pinned_merge, pinned_replay};
+use pinned::{pinned, pinned_export, pinned_import, pinned_merge, pinned_preview, pinned_replay};
+use previews::{compare_preview, preview_by_program, Previews};
 use replays::{replay_by_program, replayed};
 use shares::Shares;
 use std::collections::{BTreeMap, BTreeSet};
@@ -65,6 +69,7 @@ struct Tally {
     merges: Merges,
     causes: Causes,
     traces: Traces,
+    previews: Previews,
 }
 
 impl Tally {
@@ -134,6 +139,14 @@ impl Tally {
         let (replay, answer) = replayed(random, text)?;
         self.traces.note(&replay);
         programs.map_or(Ok(()), |programs| replay_by_program(programs, &replay, &answer))
+    }
+
+    /// All comparisons on a file with another instruction.
+    fn preview(&mut self, random: &mut Random, text: &[u8], programs: Option<&Path>) -> Result<(), String> {
+        let preview = preview(random, text);
+        let answer = compare_preview(random, &preview)?;
+        self.previews.note(&preview, &answer);
+        programs.map_or(Ok(()), |programs| preview_by_program(programs, &preview, &answer))
     }
 }
 
@@ -215,6 +228,18 @@ fn compare_replays(tally: &mut Tally, programs: &Path, random: &mut Random) {
     }
 }
 
+/// The previews with pinned answers.
+fn compare_previews(tally: &mut Tally, programs: &Path, random: &mut Random) {
+    let cases = preview_cases::previews();
+    let (found, wanted) = (cases.len(), preview_cases::CASES);
+    let count = if found == wanted { Ok(()) } else { Err(format!("{found}, not {wanted}")) };
+    tally.count("the count of the previews", &[], count);
+    for case in &cases {
+        let found = pinned_preview(programs, random, case);
+        tally.count(&format!("the preview {}", case.name), &[], found);
+    }
+}
+
 /// The files that the programs of `crates/` are run with stand as they are made.
 fn compare_program_files(tally: &mut Tally) {
     for (path, made) in program_files() {
@@ -226,18 +251,21 @@ fn compare_program_files(tally: &mut Tally) {
 }
 
 /// Files enough that every kind, every refusal of a text, every use of an extra, every pair with a handle, every operation that wraps,
-/// SHARE on each side of a half, every jump, every meeting of ways, every cause and every way in which a trace compares must come up.
+/// SHARE on each side of a half, every jump, every meeting of ways, every cause, every way in which a trace compares and all that a patch may come to must come up.
 const MANY: u64 = 5_000;
 
 /// Whether what was compared had all kinds in accepted code and in accepted words, reports, each refusal of a text, extras wherever they
 /// count, handles in operations on two cells, numbers that wrap and numbers just outside their range, SHARE at a half and next to it,
-/// jumps forward and backward, ways that meet and ways that do not, each cause by which words are refused, and traces that agree, differ and are refused by each cause.
+/// jumps forward and backward, ways that meet and ways that do not, each cause by which words are refused, traces that agree, differ and are
+/// refused by each cause, and previews with a report or a refusal of each kind.
 fn covers(tally: &Tally) -> Result<(), String> {
     let missing: Vec<u32> = (0..=14).filter(|n| ![10, 12].contains(n) && !tally.answers.contains_key(n)).collect();
-    let counts = tally.counts().chain(tally.causes.counts()).chain(tally.traces.counts());
+    let of_others = tally.causes.counts().into_iter().chain(tally.traces.counts()).chain(tally.previews.counts());
+    let counts = tally.counts().chain(of_others);
     let too_few = counts.filter(|(_, count)| *count < MANY / 200);
-    let rare: Vec<_> =
-        too_few.chain(tally.traces.rare().into_iter().filter(|(_, count)| *count < MANY / 1000)).collect();
+    let rare: Vec<_> = too_few
+        .chain(tally.traces.rare().into_iter().chain(tally.previews.rare()).filter(|(_, count)| *count < MANY / 1000))
+        .collect();
     let kinds = [tally.kinds.len(), tally.causes.kinds()];
     if kinds == [KINDS.len(); 2] && missing.is_empty() && rare.is_empty() && tally.interruptions >= MANY / 2 {
         Ok(())
@@ -254,8 +282,16 @@ fn covers(tally: &Tally) -> Result<(), String> {
 fn small_stack(tally: &mut Tally) {
     let deepest = cases().into_iter().find(|text| text.name == "openings_32").unwrap().bytes;
     let longest = merges().into_iter().find(|text| text.name == "tests_in_1024_lines").unwrap().bytes;
-    let calls: [(&str, usize, Vec<u8>, Function, Answer); 2] = [
+    let as_it_is: Function = |text, memory| analyser::preview(text, 0, &instruction_at(text, 0).unwrap(), memory);
+    let calls: [(&str, usize, Vec<u8>, Function, Answer); 3] = [
         ("32 openings on a stack of 256 KB", 256, deepest.clone(), analyser::bound, bound_answer(&deepest, MEMORY)),
+        (
+            "32 openings in a preview on a stack of 256 KB",
+            256,
+            deepest.clone(),
+            as_it_is,
+            bound_answer(&deepest, MEMORY),
+        ),
         (
             "a merge of 1,024 lines on a stack of 2 MB",
             2048,
@@ -290,6 +326,7 @@ fn main() {
     compare_merges(&mut tally, programs, &mut Random::new(seed));
     compare_words(&mut tally, programs, &mut Random::new(seed));
     compare_replays(&mut tally, programs, &mut Random::new(seed));
+    compare_previews(&mut tally, programs, &mut Random::new(seed));
     for number in 0..count {
         let mut random = Random::new(seed.wrapping_mul(1_000_003).wrapping_add(number));
         let mut parts = draft(&mut random);
@@ -301,6 +338,8 @@ fn main() {
         tally.count(&format!("words {number} of seed {seed}"), &[], found);
         let found = tally.trace(&mut random, &text, given);
         tally.count(&format!("trace {number} of seed {seed}"), &[], found);
+        let found = tally.preview(&mut random, &text, given);
+        tally.count(&format!("preview {number} of seed {seed}"), &[], found);
     }
 
     if count >= MANY {
@@ -319,7 +358,8 @@ fn main() {
     }
     println!("kinds in the words of accepted imports: {}", tally.causes.kinds());
     let traces = tally.traces.counts().into_iter().chain(tally.traces.rare());
-    for (what, count) in tally.causes.counts().into_iter().chain(traces) {
+    let previews = tally.previews.counts().into_iter().chain(tally.previews.rare());
+    for (what, count) in tally.causes.counts().into_iter().chain(traces).chain(previews) {
         println!("{what}: {count}");
     }
     println!("files given to the programs too: {}", tally.given_to_programs);

@@ -2,10 +2,12 @@
 //! programs must give these.
 use crate::compare::{by_programs, compare, file, shown};
 use crate::imports::{export_by_program, exported, import_by_program, imported};
+use crate::previews::{compare_preview, preview_by_program};
 use crate::replays::{compare_replay, replay_by_program};
 use independent::analyser::{self, Function};
 use independent::change::{Bounds, Text};
 use independent::merge_cases;
+use independent::preview::{preview_answer, Preview};
 use independent::random::Random;
 use independent::replay::replay_answer;
 use independent::report::{bound_answer, merge_answer, printed, run_answer, Answer};
@@ -97,4 +99,13 @@ pub fn pinned_replay(programs: &Path, random: &mut Random, case: &Case<Replay>) 
     both("replay", &call, case.lent, &own, &printed(&case.told))?;
     let answer = compare_replay(random, &case.read)?;
     replay_by_program(programs, &case.read, &answer)
+}
+
+pub fn pinned_preview(programs: &Path, random: &mut Random, case: &Case<Preview>) -> Result<(), String> {
+    let Preview { text, address, instruction } = &case.read;
+    let own = preview_answer(&case.read, case.lent);
+    let call = |memory: &mut [u8]| analyser::preview(text, *address, instruction, memory);
+    both("preview", &call, case.lent, &own, &printed(&case.told))?;
+    let answer = compare_preview(random, &case.read)?;
+    preview_by_program(programs, &case.read, &answer)
 }
