@@ -3,7 +3,7 @@
 use mathlib.Core.Path.{_≡_, refl, sym, ap, ap₂, subst, _∙_}
 use mathlib.Core.Bool.{Bool, true, false, cond, not, false≢true}
 use mathlib.Core.List.{List, [], _∷_, _++_, append-assoc, map}
-use Prim.Native.Nat.{ℕ, zero, suc, _+_, _-_, _<_, _≤_}
+use Prim.Native.Nat.{ℕ, zero, suc, _+_, _<_, _≤_}
 use native.Mathlib.Omega.{arith}
 use lib.Dec.{eqb}
 use lib.ListN.{length, getD, set, take, drop, length-set, length-map}
@@ -13,12 +13,11 @@ use Rattle.text.specs.Text.{bytes, equals, split, words, Line, noLine, lines, a
 use Rattle.text.specs.Decimal.{digitsFrom, natural, numeral}
 use Rattle.text.proofs.TextLaws.{Every, none, more, every-append, every-left, every-getD}
 use Rattle.text.proofs.LineLaws.{endedLine}
-use Rattle.machine.specs.Machine.{Instruction}
 use Rattle.routine.specs.declared.Section.{Section}
 use Rattle.routine.specs.declared.Role.{Role}
 use Rattle.routine.specs.Layout.{layout, isAnswer, body, upToAnswer, pastAnswer, codeLines, answerLines, list, isRole, textAt, listed}
 use Rattle.routine.specs.Rows.{isNumeral, at, op, arg, firstAt, value, Passes}
-use Rattle.routine.specs.Routine.{Routine, priceList, codeIn, routineOf}
+use Rattle.routine.specs.Routine.{priceList, codeIn, routineOf}
 use Rattle.routine.proofs.RowLaws.{lines-ended}
 use Rattle.inverses.specs.Sections.{linesText}
 use Rattle.inverses.proofs.JoinLaws.{Free, text-free, lines-append, split-free, lines-free, lines-of-text, split-first}

@@ -12,13 +12,13 @@ use Rattle.text.specs.Text.{bytes, Line, noLine, lines}
 use Rattle.text.proofs.TextLaws.{Every, none, more, and-right}
 use Rattle.text.proofs.LineLaws.{endedLine}
 use Rattle.routine.specs.Layout.{layout, body, codeLines}
-use Rattle.routine.specs.Rows.{op, arg, Passes}
-use Rattle.routine.specs.Routine.{Routine, codeIn, routineOf, readBound}
+use Rattle.routine.specs.Rows.{op, arg}
+use Rattle.routine.specs.Routine.{Routine, codeIn, routineOf}
 use Rattle.routine.proofs.RowLaws.{read-passes, lines-ended}
 use Rattle.inverses.specs.Sections.{linesText}
 use Rattle.inverses.proofs.JoinLaws.{text-of-lines}
-use Rattle.patches.specs.Patch.{inCode, lineOf, patchedAt, patched}
-use Rattle.patches.specs.Promises.{OneReplaced, CopyReplacesOne, SameInstructionKeeps}
+use Rattle.patches.specs.Patch.{inCode, patchedAt, patched}
+use Rattle.patches.specs.Promises.{CopyReplacesOne, SameInstructionKeeps}
 use Rattle.patches.proofs.PatchLaws.{code-count, line-there, line-coded}
 use Rattle.patches.proofs.ReplacedLaws.{replacedLine, patched-lines, lines-replaced, one-replaced}
 

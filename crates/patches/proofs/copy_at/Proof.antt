@@ -1,5 +1,5 @@
 -- `patches::copy_at` meets its contract. Assumes nothing.
-use mathlib.Core.Path.{_≡_, ap, sym, _∙_}
+use mathlib.Core.Path.{ap, sym, _∙_}
 use native.Mathlib.Omega.{arith}
 use Rattle.answers.specs.Answers.{memory, answerOf}
 use Rattle.answers.proofs.AnswerLaws.{gives-refusal}
