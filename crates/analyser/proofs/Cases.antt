@@ -3,7 +3,6 @@
 use mathlib.Core.Path.{_≡_, refl}
 use mathlib.Core.List.{List, [], _∷_, _++_}
 use Prim.Native.Nat.{ℕ}
-use native.Mathlib.Omega.{arith}
 use Prim.Native.String.{String}
 use lib.IntN.{ℤ, pos, negsuc}
 use Rattle.refusals.specs.Refusals as refusals
@@ -12,8 +11,8 @@ use Rattle.text.specs.Decimal as decimals
 use Rattle.numbers.specs.Numbers as numbers
 use Rattle.cells.specs.Try as try
 use Rattle.cells.specs.Cells as cells
-use Rattle.cells.specs.Order.{Allowed, known, some-number, end, cons}
-use Rattle.cells.specs.declared.Value.the-variants.{Number}
+use Rattle.cells.specs.Order.{Allowed, end, cons}
+use Rattle.cells.proofs.CellLaws.{known-allowed, number-allowed}
 use Rattle.cells.specs.declared.Cell.{Cell}
 use Rattle.instructions.specs.Kinds as kinds
 use Rattle.instructions.specs.Columns as columns
@@ -197,6 +196,46 @@ back-unknown = own-address "?" ("1 STOP -" ∷ [])
 pub back-outside : List ℕ
 back-outside = own-address "0" ("1 BRANCHIF 2" ∷ [])
 
+-- document 02 §12: a range in the accumulator or in S0, compared with a number, and a branch that shows what the comparison gives
+abbrev compared : String → List ℕ
+compared cells = operated "0 GEINT -" cells
+
+pub range-every : List ℕ
+range-every = compared "0..1008 0"
+
+pub range-none : List ℕ
+range-none = compared "0..1008 1009"
+
+pub range-some : List ℕ
+range-some = compared "0..1008 1008"
+
+pub unknown-every : List ℕ
+unknown-every = compared "? -1073741824"
+
+pub range-of-one : List ℕ
+range-of-one = compared "5..5 0"
+
+pub range-down : List ℕ
+range-down = compared "6..5 0"
+
+pub range-past : List ℕ
+range-past = compared "0 0..1073741824"
+
+pub three-stops : List ℕ
+three-stops = compared "1...2 0"
+
+pub one-end : List ℕ
+one-end = compared "1.. 0"
+
+pub unknown-end : List ℕ
+unknown-end = compared "?..2 0"
+
+pub handle-ends : List ℕ
+handle-ends = compared "#0..#1 0"
+
+pub field-range : List ℕ
+field-range = numbered "0" "0..1" "0 OFFSETINT 0" "0"
+
 -- what the bound or the run prints for a file with 128 lent bytes
 abbrev Bounds : List ℕ → List String → Type 0
 Bounds text expected = analyser.printed (analyser.boundAnswer text 128) ≡ file expected
@@ -212,7 +251,7 @@ run-report values = "CYCLES WORDS DEPTH STEPS" ∷ values ∷ []
 
 -- the cell with a number that stands as it is
 abbrev cell : ℤ → Cell
-cell z = cells.cell (Number z)
+cell z = cells.range z 0
 
 abbrev state : ℕ → ℤ → List Cell → machine.State
 state at accu stack = record { at = at; accu = cell accu; stack = stack; blocks = [] }
@@ -274,6 +313,22 @@ Starred =
     × Runs back-known ("REFUSED 13 15" ∷ [])
     × Runs back-unknown ("REFUSED 13 15" ∷ [])
     × Bounds back-outside ("REFUSED 6 16" ∷ [])
+    -- "1 if it holds for every pair of numbers in the two ranges, 0 if for none, else 0 to 1"
+    × Bounds range-every (report "8 0 1 3 8 -")
+    × Bounds range-none (report "15 0 1 4 15 -")
+    × Bounds range-some (report "15 0 1 5 15 N")
+    × Bounds unknown-every (report "8 0 1 3 8 -")
+    × Runs range-of-one (run-report "8 0 1 3")
+    -- "A run refuses a range of more than one number as it does `?`."
+    × Runs range-every ("REFUSED 11 11" ∷ [])
+    × Runs field-range ("REFUSED 11 13" ∷ [])
+    × Bounds field-range (report "3 0 0 2 3 -")
+    × Bounds range-down ("REFUSED 3 11" ∷ [])
+    × Bounds range-past ("REFUSED 3 11" ∷ [])
+    × Bounds three-stops ("REFUSED 2 11" ∷ [])
+    × Bounds one-end ("REFUSED 2 11" ∷ [])
+    × Bounds unknown-end ("REFUSED 2 11" ∷ [])
+    × Bounds handle-ends ("REFUSED 2 11" ∷ [])
 
 -- ---- demand 3 of a file: case 1, and its file with S0 known and one answer (case 7)
 
@@ -292,8 +347,8 @@ Published =
     × (routines.readRun case7 ≡ routines.routine (holding (state 0 (pos 0) (cell (pos 0) ∷ [])) (pos 7 ∷ [])))
 
 computed : Starred × Published
-unfolding case1 case1-half case2 case2-spent case2-exact case3 case4 case6 case7 jump-bound jump-taken jump-not-taken jump-below jump-tie jump-above eq-equal eq-unlike neq-equal neq-unlike eq-number eq-unknown geint-handles back-known back-unknown back-outside at-the-ends cell-outside field-outside argument-outside answer-outside share-34 refusals.number refusals.place text.equals text.split text.words text.linesOf text.lines text.find text.among text.all text.distinct decimals.digitsFrom decimals.natural decimals.numeral decimals.digits decimals.decimal numbers.wrap numbers.holds try._>>=_ cells.calculate₁ cells.calculate₂ cells.map₁ cells.compareHandles cells.combineHandles cells.map₂ cells.operate₁ cells.operate₂ cells.conditionIn cells.condition cells.handled cells.block kinds.kinds kinds.kindNames kinds.operand lists.nth lists.put lists.without machine.height machine.priceOf machine.fetch machine.jump machine.load machine.restack machine.store machine.push machine.pop machine.getField machine.setField machine.advance machine.ahead machine.withExtra machine.ways machine.opposite machine.perform machine.prepare machine.execute machine.step machine.takes machine.takesAnswer tree.expand tree.tree tree.address tree.steps tree.size tree.cycles tree.words tree.depth tree.worse tree.path tree.report tree.refusal tree.judge tree.verdict tree.explore tree.bound run.begin run.answer run.remaining run.moved run.leads run.once run.after run.stuckAt run.isStuck run.boundedAfresh run.judgeRun run.run layout.isAnswer layout.body layout.upToAnswer layout.pastAnswer layout.codeLines layout.answerLines layout.answerRoles layout.codeRoles layout.bodyRoles layout.roles layout.list layout.textAt layout.listed rows.isNumeral rows.valueOf rows.value rows.knownOf rows.blockOf rows.hashed rows.cellWord rows.isCell rows.cellInRange rows.cellPresent rows.isName rows.stackNames rows.cellNames rows.equalLists rows.isField rows.sizesFrom rows.blockSizes rows.total rows.argumentOf rows.onArgument rows.argumentLaidOut rows.argumentInRange rows.argumentNamed rows.argumentReaches rows.extraRange rows.extrasInRange rows.columnInRange rows.columnLaidOut rows.onCells rows.onCode rows.namesLaidOut rows.valuesLaidOut rows.codeLaidOut rows.laidOut rows.codeInRange rows.inRange rows.wellNamed rows.firstAt rows.codeNamed rows.named rows.priced rows.reaches rows.argumentForward rows.codeForward rows.forward rows.allKnown rows.test rows.earliest rows.refusedLine routines.inside routines.priceList routines.argumentValue routines.instructionOf columns.kindAt machine.instruction interrupted.code routines.codeIn routines.cellOf routines.cellsOf routines.blocksInLine routines.startOf routines.routineOf routines.orElse routines.checked routines.limited routines.readBound routines.readRun reports.share reports.pathText reports.figures reports.boundText reports.runText reports.refusalLine reports.refusalText analyser.ofVerdict answers.ofReading analyser.boundRoutine analyser.runRoutine analyser.boundAnswer analyser.runAnswer answers.memory analyser.printed
-computed = ((refl, refl, refl, refl, refl, refl, refl, refl, refl, refl, refl, refl, refl, refl, refl, refl, refl, refl, refl, refl, refl, refl, refl, refl, refl, refl, refl, refl, refl, refl, refl, refl, refl, refl, refl, refl, refl, refl, refl, refl, refl, refl, refl), (refl, refl, refl))
+unfolding case1 case1-half case2 case2-spent case2-exact case3 case4 case6 case7 jump-bound jump-taken jump-not-taken jump-below jump-tie jump-above eq-equal eq-unlike neq-equal neq-unlike eq-number eq-unknown geint-handles back-known back-unknown back-outside range-every range-none range-some unknown-every range-of-one range-down range-past three-stops one-end unknown-end handle-ends field-range at-the-ends cell-outside field-outside argument-outside answer-outside share-34 refusals.number refusals.place text.equals text.split text.words text.linesOf text.lines text.find text.among text.all text.distinct decimals.digitsFrom decimals.natural decimals.numeral decimals.digits decimals.decimal numbers.wrap numbers.holds try._>>=_ cells.between cells.calculate₁ cells.calculate₂ cells.results cells.least₁ cells.range₁ cells.always cells.opposite cells.judged cells.wider cells.range₂ cells.map₁ cells.compareHandles cells.combineHandles cells.map₂ cells.operate₁ cells.operate₂ cells.conditionIn cells.condition cells.handled cells.block kinds.kinds kinds.kindNames kinds.operand lists.nth lists.put lists.without machine.height machine.priceOf machine.fetch machine.jump machine.load machine.restack machine.store machine.push machine.pop machine.getField machine.setField machine.advance machine.ahead machine.withExtra machine.ways machine.opposite machine.perform machine.prepare machine.execute machine.step machine.takes machine.takesAnswer tree.expand tree.tree tree.address tree.steps tree.size tree.cycles tree.words tree.depth tree.worse tree.path tree.report tree.refusal tree.judge tree.verdict tree.explore tree.bound run.begin run.answer run.remaining run.moved run.leads run.once run.after run.stuckAt run.isStuck run.boundedAfresh run.judgeRun run.run layout.isAnswer layout.body layout.upToAnswer layout.pastAnswer layout.codeLines layout.answerLines layout.answerRoles layout.codeRoles layout.bodyRoles layout.roles layout.list layout.textAt layout.listed rows.isNumeral rows.valueOf rows.value rows.knownOf rows.blockOf rows.spanOf rows.spanned rows.hashed rows.cellWord rows.isCell rows.cellInRange rows.isSingle rows.cellPresent rows.isName rows.stackNames rows.cellNames rows.equalLists rows.isField rows.sizesFrom rows.blockSizes rows.total rows.argumentOf rows.onArgument rows.argumentLaidOut rows.argumentInRange rows.argumentNamed rows.argumentReaches rows.extraRange rows.extrasInRange rows.columnInRange rows.columnLaidOut rows.onCells rows.onCode rows.namesLaidOut rows.valuesLaidOut rows.codeLaidOut rows.laidOut rows.codeInRange rows.inRange rows.wellNamed rows.firstAt rows.codeNamed rows.named rows.priced rows.reaches rows.argumentForward rows.codeForward rows.forward rows.allKnown rows.test rows.earliest rows.refusedLine routines.inside routines.priceList routines.argumentValue routines.instructionOf columns.kindAt machine.instruction interrupted.code routines.codeIn routines.cellOf routines.cellsOf routines.blocksInLine routines.startOf routines.routineOf routines.orElse routines.checked routines.limited routines.readBound routines.readRun reports.share reports.pathText reports.figures reports.boundText reports.runText reports.refusalLine reports.refusalText analyser.ofVerdict answers.ofReading analyser.boundRoutine analyser.runRoutine analyser.boundAnswer analyser.runAnswer answers.memory analyser.printed
+computed = ((refl, refl, refl, refl, refl, refl, refl, refl, refl, refl, refl, refl, refl, refl, refl, refl, refl, refl, refl, refl, refl, refl, refl, refl, refl, refl, refl, refl, refl, refl, refl, refl, refl, refl, refl, refl, refl, refl, refl, refl, refl, refl, refl, refl, refl, refl, refl, refl, refl, refl, refl, refl, refl, refl, refl, refl, refl), (refl, refl, refl))
 
 pub starred : Starred
 starred = computed .0
@@ -308,7 +363,8 @@ safe-report x q bytes e f y p is safe =
     rw (same, alike) at safe
 
 is-allowed : Cellwise Allowed (state 0 (pos 0) (cell (pos 0) ∷ [])) (state 0 (pos 0) (cells.unknown ∷ []))
-is-allowed = record { at = refl; accu = known; stack = cons (some-number {n = pos 0} (record { fits = omega arith })) end; blocks = end }
+unfolding numbers.wrap
+is-allowed = record { at = refl; accu = known-allowed (pos 0); stack = cons (number-allowed (pos 0)) end; blocks = end }
 
 -- the published file, run with S0 0 and the answer 7, and interrupted after any number of steps: what is spent and what is bounded afresh are within
 -- 65 cycles and 4 words, the stack is nowhere higher than 1, and STOP is made within 6 steps

@@ -1,30 +1,34 @@
 -- Laws of a list that a loop fills from its start on. Assumes nothing.
 use Prim.Native.Nat.{ℕ, suc, _+_, _<_}
 use mathlib.Core.Path.{_≡_, refl, sym, ap, ap₂, _∙_}
-use mathlib.Core.List.{List, [], _∷_, _++_}
+use mathlib.Core.List.{List, [], _∷_, _++_, map}
 use native.Mathlib.Omega.{arith}
 use native.Mathlib.Numerals.{add-one}
 use lib.ListN.{length, getD, take, set}
 use lib.Seq.{take-all, take-suc, take-suc-set}
 use Rattle.cells.specs.declared.Cell.{Cell}
-use Rattle.cells.specs.Codes.{cellOf, cellsOf}
+use Rattle.cells.specs.Codes.{cellOf, cellsOf, confine}
 use Rattle.cells.proofs.CodeLaws.{cells-append, cells-take, cells-length, cells-at}
 
+map-append : (xs ys : List Cell) → map confine (xs ++ ys) ≡ map confine xs ++ map confine ys
+map-append [] ys = refl
+map-append (x ∷ xs) ys = ap (λ (l : List Cell). confine x ∷ l) (map-append xs ys)
+
 -- one cell more is put down as a number
-pub encoded-next : (xs : List ℕ) (cs : List Cell) (d : Cell) (i x : ℕ) → i < length xs → i < length cs → cellOf x ≡ getD cs i d
-    → cellsOf (take i xs) ≡ take i cs → cellsOf (take (i + 1) (set xs i x)) ≡ take (i + 1) cs
+pub encoded-next : (xs : List ℕ) (cs : List Cell) (d : Cell) (i x : ℕ) → i < length xs → i < length cs → cellOf x ≡ confine (getD cs i d)
+    → cellsOf (take i xs) ≡ map confine (take i cs) → cellsOf (take (i + 1) (set xs i x)) ≡ map confine (take (i + 1) cs)
 unfolding cellsOf
 encoded-next xs cs d i x h k e p =
     rw add-one
     (ap cellsOf (take-suc-set xs i x h)
     ∙ cells-append (take i xs) (x ∷ [])
     ∙ ap₂ (λ (l : List Cell) (c : Cell). l ++ (c ∷ [])) p e
-    ∙ sym (take-suc cs i d k))
+    ∙ sym (ap (map confine) (take-suc cs i d k) ∙ map-append (take i cs) (getD cs i d ∷ [])))
 
 -- all are
-pub encoded-all : (xs : List ℕ) (cs : List Cell) (n i : ℕ) → i ≡ n → length xs ≡ n → length cs ≡ n → cellsOf (take i xs) ≡ take i cs → cellsOf xs ≡ cs
+pub encoded-all : (xs : List ℕ) (cs : List Cell) (n i : ℕ) → i ≡ n → length xs ≡ n → length cs ≡ n → cellsOf (take i xs) ≡ map confine (take i cs) → cellsOf xs ≡ map confine cs
 encoded-all xs cs n i e h k p =
-    ap cellsOf (sym (take-all i xs (omega arith))) ∙ p ∙ take-all i cs (omega arith)
+    ap cellsOf (sym (take-all i xs (omega arith))) ∙ p ∙ ap (map confine) (take-all i cs (omega arith))
 
 -- one number more is read as a cell
 pub decoded-next : (xs : List ℕ) (cs : List Cell) (i : ℕ) (c : Cell) → i < length xs → i < length cs → c ≡ cellOf (getD xs i 0)

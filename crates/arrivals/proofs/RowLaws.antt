@@ -2,7 +2,7 @@
 use Prim.Native.Nat.{ℕ, zero, suc, _<_, _≤_, max}
 use mathlib.Core.Path.{_≡_, refl, sym, ap, ap₂, _∙_}
 use mathlib.Core.Bool.{Bool, true, false, cond}
-use mathlib.Core.List.{List, [], _∷_}
+use mathlib.Core.List.{List, [], _∷_, map}
 use native.Mathlib.Omega.{arith}
 use lib.Dec.{ltb}
 use lib.ListN.{length, getD, take, drop, set}
@@ -10,13 +10,15 @@ use lib.Seq.{getD-take}
 use borrow.Author.Tests.{ltb-true, ltb-false}
 use Rattle.cells.specs.Try.{Try, stuck, done}
 use Rattle.cells.specs.declared.Cell.{Cell}
-use Rattle.cells.specs.Codes.{cellOf, cellsOf}
-use Rattle.cells.proofs.CodeLaws.{cells-drop, cells-length}
+use Rattle.cells.specs.Codes.{cellOf, cellsOf, confine, Kept}
+use Rattle.cells.specs.Order.{Pointwise, end, cons}
+use Rattle.cells.proofs.CodeLaws.{cells-drop, cells-length, code-confined, codes-kept, kept-all}
+use Rattle.cells.proofs.CellLaws.{kept-self}
 use Rattle.machine.specs.Machine.{State, Price, reblock}
 use Rattle.states.specs.View.{blocksOf, whole}
 use Rattle.merges.specs.Merge.{Arrival, arrival, Slot, empty, unlike, held, larger, mergeStates, settle, join}
 use Rattle.arrivals.specs.declared.Way.{Way}
-use Rattle.arrivals.specs.Rows.{Formed, unusedOf, arrivalOf, stateIn, priceIn, arrivalIn, marked, slotIn}
+use Rattle.arrivals.specs.Rows.{Formed, Numeric, unusedOf, arrivalOf, stateIn, priceIn, arrivalIn, marked, slotIn}
 
 -- ---- the unused places of a stack
 
@@ -57,6 +59,44 @@ written (five m′ f′ c′ w′ x′) m f c w x = refl
 pub head-written : (h : List ℕ) → length h ≡ 5 → (m f c w x : ℕ) → set (set (set (set (set h 0 m) 1 f) 2 c) 3 w) 4 x ≡ m ∷ f ∷ c ∷ w ∷ x ∷ []
 head-written h e = written (five-of h e)
 
+-- ---- cells that are confined to numbers
+
+drop-map : (f : Cell → Cell) (n : ℕ) (xs : List Cell) → drop n (map f xs) ≡ map f (drop n xs)
+drop-map f zero xs = refl
+drop-map f (suc n) [] = refl
+drop-map f (suc n) (x ∷ xs) = drop-map f n xs
+
+take-map : (f : Cell → Cell) (n : ℕ) (xs : List Cell) → take n (map f xs) ≡ map f (take n xs)
+take-map f zero xs = refl
+take-map f (suc n) [] = refl
+take-map f (suc n) (x ∷ xs) = ap (λ (l : List Cell). f x ∷ l) (take-map f n xs)
+
+blocks-map : (f : Cell → Cell) (ns : List ℕ) (fs : List Cell) → blocksOf ns (map f fs) ≡ map (map f) (blocksOf ns fs)
+unfolding blocksOf
+blocks-map f [] fs = refl
+blocks-map f (n ∷ ns) fs =
+    ap₂ (λ (l : List Cell) (ls : List (List Cell)). l ∷ ls) (take-map f n fs) (ap (blocksOf ns) (drop-map f 16 fs) ∙ blocks-map f ns (drop 16 fs))
+
+kept-blocks : {xs ys : List (List Cell)} → Pointwise (Pointwise Kept) xs ys → map (map confine) xs ≡ xs
+kept-blocks end = refl
+kept-blocks (cons {a} {xs = xs} k ks) =
+    ap (λ (l : List Cell). l ∷ map (map confine) xs) (kept-all k) ∙ ap (λ (ls : List (List Cell)). a ∷ ls) (kept-blocks ks)
+
+kept-drop : (n : ℕ) {xs ys : List Cell} → Pointwise Kept xs ys → Pointwise Kept (drop n xs) (drop n ys)
+kept-drop zero k = k
+kept-drop (suc n) end = end
+kept-drop (suc n) (cons k ks) = kept-drop n ks
+
+kept-take : (n : ℕ) {xs ys : List Cell} → Pointwise Kept xs ys → Pointwise Kept (take n xs) (take n ys)
+kept-take zero k = end
+kept-take (suc n) end = end
+kept-take (suc n) (cons k ks) = cons k (kept-take n ks)
+
+blocks-kept : (ns : List ℕ) {xs ys : List Cell} → Pointwise Kept xs ys → Pointwise (Pointwise Kept) (blocksOf ns xs) (blocksOf ns ys)
+unfolding blocksOf
+blocks-kept [] k = end
+blocks-kept (n ∷ ns) k = cons (kept-take n k) (blocks-kept ns (kept-drop 16 k))
+
 -- ---- a way that is put down, and one that is taken
 
 arrivals : (n : ℕ) {a a′ : Cell} {s s′ : List Cell} {b b′ : List (List Cell)} (p : Price) → a ≡ a′ → s ≡ s′ → b ≡ b′
@@ -66,11 +106,14 @@ arrivals n {a} {a′} {s} {s′} {b} {b′} p e f g =
     ∙ ap (λ (x : List Cell). arrival (record { at = n; accu = a′; stack = x; blocks = b }) p) f
     ∙ ap (λ (x : List (List Cell)). arrival (record { at = n; accu = a′; stack = s′; blocks = x }) p) g
 
-pub put-holds : (ns : List ℕ) (w : Way) (es fs : List ℕ) (m x : ℕ) → Formed w → cellOf x ≡ w .state .accu → cellsOf es ≡ w .state .stack → cellsOf fs ≡ w .blocks
-    → arrivalIn ns (w .state .at) (m ∷ w .state .free ∷ w .cycles ∷ w .words ∷ x ∷ []) es fs ≡ arrivalOf ns w
+pub put-holds : (ns : List ℕ) (w : Way) (es fs : List ℕ) (m x : ℕ) → Formed w → Numeric ns w
+    → cellOf x ≡ confine (w .state .accu) → cellsOf es ≡ map confine (w .state .stack) → cellsOf fs ≡ map confine (w .blocks) → arrivalIn ns (w .state .at) (m ∷ w .state .free ∷ w .cycles ∷ w .words ∷ x ∷ []) es fs ≡ arrivalOf ns w
 unfolding stateIn priceIn arrivalOf whole reblock
-put-holds ns w es fs m x f e g h =
-    arrivals (w .state .at) _ e (cells-drop (unusedOf (w .state .free)) es ∙ ap₂ drop (unused-all (w .state .free) (f .state .free)) g) (ap (blocksOf ns) h)
+put-holds ns w es fs m x f k e g h =
+    arrivals (w .state .at) _
+    (e ∙ k .accu .kept .stays)
+    (cells-drop (unusedOf (w .state .free)) es ∙ ap₂ drop (unused-all (w .state .free) (f .state .free)) g ∙ drop-map confine (w .state .free) (w .state .stack) ∙ kept-all (k .stack))
+    (ap (blocksOf ns) h ∙ blocks-map confine ns (w .blocks) ∙ kept-blocks (k .blocks))
 
 module _ (at : ℕ) (h es fs : List ℕ) (a : Cell) (f : ℕ) (st bl : List Cell) (free : f ≡ unusedOf (getD h 1 0)) (stack : st ≡ cellsOf es) (blocks : bl ≡ cellsOf fs) where
   -- the way that is read of a row
@@ -86,6 +129,15 @@ module _ (at : ℕ) (h es fs : List ℕ) (a : Cell) (f : ℕ) (st bl : List Cell
   take-formed k l = record {
     state = record { free = rw free (unused-most (getD h 1 0)); places = ap length stack ∙ cells-length es ∙ k };
     fields = ap length blocks ∙ cells-length fs ∙ l;
+  }
+
+  pub take-numeric : (ns : List ℕ) → a ≡ cellOf (getD h 4 0) → Numeric ns read
+  unfolding whole reblock
+  take-numeric ns accu = record {
+    at = refl;
+    accu = rw accu (kept-self (code-confined (getD h 4 0)));
+    stack = rw stack (kept-drop f (codes-kept es));
+    blocks = rw blocks (blocks-kept ns (codes-kept fs));
   }
 
 -- ---- by the mark

@@ -7,8 +7,9 @@ use lib.Dec.{eqb, ltb}
 use lib.ListN.{length, getD, take, drop}
 use Rattle.cells.specs.Try.{Try, stuck, done}
 use Rattle.cells.specs.declared.Cell.{Cell}
-use Rattle.cells.specs.Codes.{cellOf, cellsOf}
+use Rattle.cells.specs.Codes.{cellOf, cellsOf, Kept}
 use Rattle.machine.specs.Machine.{State, Price}
+use Rattle.machine.specs.Order.{Cellwise}
 use Rattle.states.specs.View.{WellFormed, blocksOf, whole}
 use Rattle.merges.specs.Merge.{Arrival, arrival, Slot, empty, unlike, held, join}
 use Rattle.arrivals.specs.declared.Way.{Way}
@@ -22,6 +23,10 @@ pub record Small (ns : List ℕ) : Type 0 where
 pub record Formed (w : Way) : Type 0 where
   pub state : WellFormed (w .state)
   pub fields : length (w .blocks) ≡ 128
+
+-- the numbers in the cells of a way all have as many bits as numbers have
+abbrev pub Numeric : List ℕ → Way → Type 0
+Numeric ns w = Cellwise Kept (whole ns (w .blocks) (w .state)) (whole ns (w .blocks) (w .state))
 
 -- the lengths of a row
 abbrev pub Row : List ℕ → List ℕ → List ℕ → Type 0

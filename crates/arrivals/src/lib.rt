@@ -3,14 +3,14 @@ use cells::Cell;
 use cells::Operand;
 use states::State;
 ghost use mathlib.Core.Path.{_≡_};
-ghost use mathlib.Core.List.{List};
+ghost use mathlib.Core.List.{List, map};
 ghost use Prim.Native.Nat.{ℕ, _+_, _<_, _≤_};
 ghost use lib.ListN.{length, getD, take};
 ghost use Rattle.cells.specs.Merge.{mergeCells};
-ghost use Rattle.cells.specs.Codes.{cellsOf};
+ghost use Rattle.cells.specs.Codes.{cellsOf, confine};
 ghost use Rattle.states.specs.View.{blocksOf};
 ghost use Rattle.merges.specs.Merge.{mergeLists, mergeStates, settle, larger, join};
-ghost use Rattle.arrivals.specs.Rows.{Small, Formed, Row, Rows, unusedOf, ofCells, ofBlocks, ofStates, arrivalOf, stateIn, priceIn, arrivalIn, slotIn, slotAt, joinAt};
+ghost use Rattle.arrivals.specs.Rows.{Small, Formed, Numeric, Row, Rows, unusedOf, ofCells, ofBlocks, ofStates, arrivalOf, stateIn, priceIn, arrivalIn, slotIn, slotAt, joinAt};
 
 // A way to an address: the state that comes to it, with its blocks, and the largest sums of the ways to it.
 pub struct Way {
@@ -23,7 +23,7 @@ pub struct Way {
 // The numbers of the cells of a stack.
 fn encode_stack(stack: [Cell; 64], entries: &mut [u64])
     requires { ⌜ (length (now entries) ≡ 64) × (length stack ≡ 64) ⌝ }
-    ensures { λ _. ⌜ cellsOf (now (entries .exit)) ≡ stack ⌝ }
+    ensures { λ _. ⌜ cellsOf (now (entries .exit)) ≡ map confine stack ⌝ }
 {
     let mut i = 0;
     while i < 64 {
@@ -35,7 +35,7 @@ fn encode_stack(stack: [Cell; 64], entries: &mut [u64])
 // The numbers of the cells of the blocks.
 fn encode_fields(blocks: [Cell; 128], fields: &mut [u64])
     requires { ⌜ (length (now fields) ≡ 128) × (length blocks ≡ 128) ⌝ }
-    ensures { λ _. ⌜ cellsOf (now (fields .exit)) ≡ blocks ⌝ }
+    ensures { λ _. ⌜ cellsOf (now (fields .exit)) ≡ map confine blocks ⌝ }
 {
     let mut i = 0;
     while i < 128 {
@@ -121,7 +121,7 @@ fn merge_blocks(held: &mut [u64], came: &[u64], sizes: &[u8]) -> bool
 // A way is the first that comes.
 fn put(head: &mut [u64], entries: &mut [u64], fields: &mut [u64], w: Way)
     requires { ⌜ Row (now head) (now entries) (now fields) × Formed w ⌝ }
-    ensures { λ _. ⌜ (getD (now (head .exit)) 0 0 ≡ 1) × ((ns : List ℕ) → arrivalIn ns (w .state .at) (now (head .exit)) (now (entries .exit)) (now (fields .exit)) ≡ arrivalOf ns w) ⌝ }
+    ensures { λ _. ⌜ (getD (now (head .exit)) 0 0 ≡ 1) × ((ns : List ℕ) → Numeric ns w → arrivalIn ns (w .state .at) (now (head .exit)) (now (entries .exit)) (now (fields .exit)) ≡ arrivalOf ns w) ⌝ }
 {
     let s = w.state;
     let stack = s.stack;
@@ -140,7 +140,7 @@ fn put(head: &mut [u64], entries: &mut [u64], fields: &mut [u64], w: Way)
 pub fn take(at: usize, head: &[u64], entries: &[u64], fields: &[u64]) -> Way
     requires { ⌜ Row (now head) (now entries) (now fields) ⌝ }
     ensures { λ r. ⌜ ((ns : List ℕ) → arrivalOf ns r ≡ arrivalIn ns at (now (head .entry)) (now (entries .entry)) (now (fields .entry))) ⌝ }
-    ensures { λ r. ⌜ Formed r × (r .state .at ≡ at) ⌝ }
+    ensures { λ r. ⌜ (Formed r × ((ns : List ℕ) → Numeric ns r)) × (r .state .at ≡ at) ⌝ }
 {
     let accu = cells::decode(head[4]);
     let free = unused(head[1]);
@@ -216,7 +216,7 @@ fn meet(
 
 // A way comes to a row.
 pub fn join(head: &mut [u64], entries: &mut [u64], fields: &mut [u64], sizes: &[u8], w: Way)
-    requires { ⌜ Row (now head) (now entries) (now fields) × Formed w × Small (now sizes) ⌝ }
+    requires { ⌜ Row (now head) (now entries) (now fields) × (Formed w × Numeric (now sizes) w) × Small (now sizes) ⌝ }
     ensures { λ _. ⌜ slotIn (now (sizes .entry)) (w .state .at) (now (head .exit)) (now (entries .exit)) (now (fields .exit)) ≡ join (slotIn (now (sizes .entry)) (w .state .at) (now (head .entry)) (now (entries .entry)) (now (fields .entry))) (arrivalOf (now (sizes .entry)) w) ⌝ }
 {
     let mark = head[0];
@@ -243,7 +243,7 @@ pub fn send(
     n: usize,
     w: Way,
 )
-    requires { ⌜ Rows (now heads) (now entries) (now fields) × (n ≤ 1025) × (first ≤ 65536) × Formed w × Small (now sizes) ⌝ }
+    requires { ⌜ Rows (now heads) (now entries) (now fields) × (n ≤ 1025) × (first ≤ 65536) × (Formed w × Numeric (now sizes) w) × Small (now sizes) ⌝ }
     ensures { λ _. ⌜ ((b : ℕ) → b < n → slotAt (now (sizes .entry)) first (now (heads .exit)) (now (entries .exit)) (now (fields .exit)) b ≡ joinAt (first + b) (arrivalOf (now (sizes .entry)) w) (slotAt (now (sizes .entry)) first (now (heads .entry)) (now (entries .entry)) (now (fields .entry)) b)) ⌝ }
 {
     let s = w.state;

@@ -8,9 +8,9 @@ use lib.IntN.{pos}
 use Rattle.text.specs.Text.{bytes, equals, find}
 use Rattle.numbers.specs.Numbers.{wrap, holds}
 use Rattle.cells.specs.Try.{_>>=_}
-use Rattle.cells.specs.Cells.{number, unknown, calculate₂, map₂, operate₂, conditionIn, condition}
-use Rattle.cells.specs.Order.{Allowed, known, end, cons}
-use Rattle.cells.proofs.CellLaws.{number-allowed}
+use Rattle.cells.specs.Cells.{number, unknown, calculate₂, results, range₂, wider, map₂, operate₂, conditionIn, condition}
+use Rattle.cells.specs.Order.{Allowed, end, cons}
+use Rattle.cells.proofs.CellLaws.{number-allowed, known-allowed}
 use Rattle.instructions.specs.Kinds.{kinds, kindNames, operand}
 use Rattle.instructions.specs.Columns.{kindAt}
 use Rattle.machine.specs.Lists.{nth, without}
@@ -47,11 +47,11 @@ abbrev pub reported : Report
 reported = record { cycles = 65; words = 4; depth = 1; steps = 6; path = N ∷ [] }
 
 is-bounded : bound code 1000 bounded ≡ accepted reported
-unfolding code equals find wrap holds _>>=_ calculate₂ map₂ operate₂ conditionIn condition kinds kindNames operand kindAt instruction nth without fetch height jump load restack push pop advance ahead withExtra ways perform prepare execute step expand tree steps size cycles words depth worse path report judge verdict explore bound
+unfolding code equals find wrap holds _>>=_ calculate₂ results range₂ wider map₂ operate₂ conditionIn condition kinds kindNames operand kindAt instruction nth without fetch height jump load restack push pop advance ahead withExtra ways perform prepare execute step expand tree steps size cycles words depth worse path report judge verdict explore bound
 is-bounded = refl
 
 is-allowed : Cellwise Allowed plain bounded
-is-allowed = record { at = refl; accu = known; stack = cons (number-allowed (pos 0)) end; blocks = end }
+is-allowed = record { at = refl; accu = known-allowed _; stack = cons (number-allowed (pos 0)) end; blocks = end }
 
 is-safe : (n : ℕ) → Safe code (bound code 1000) reported (begin plain (pos 7 ∷ [])) n (after code n (begin plain (pos 7 ∷ [])))
 unfolding bound

@@ -7,11 +7,10 @@ use Rattle.numbers.specs.Numbers.{wrap}
 use Rattle.numbers.proofs.SignedLaws.{read, wrap-fits, result-read}
 use Rattle.numbers.specs.declared.Comparison.{Comparison}
 use Rattle.cells.specs.declared.Value.{Value}
-use Rattle.cells.specs.declared.Value.the-variants.{Number}
 use Rattle.cells.specs.declared.Cell.{Cell}
 use Rattle.cells.specs.declared.Unary.{Unary}
 use Rattle.cells.specs.declared.Binary.{Binary}
-use Rattle.cells.specs.Cells.{cell, number, calculate₁, map₁, compareHandles, combineHandles, map₂, operate₁, operate₂}
+use Rattle.cells.specs.Cells.{range, number, map₁, compareHandles, combineHandles, map₂, operate₁, operate₂}
 use Rattle.cells.specs.Merge.{mergeValues, mergeCells}
 use Rattle.cells.specs.Try.{Try, done}
 
@@ -20,12 +19,12 @@ pub calculated : {D : Type 0} (f : D → ℤ) (d : D) {e : D} {r m : ℤ} → d 
 calculated f d {r = r} {m = m} p q g = result-read (wrap-fits m) (sym q) ∙ ap wrap (g ∙ ap f (sym p))
 
 -- the cell of such a result
-pub entered : (n : ℤ) {r m : ℤ} → r ≡ wrap m → m ≡ n → done (cell (Number (read w32 r))) ≡ done (number n)
-entered n {r = r} {m = m} q e = ap (λ z. done (cell (Number z))) (result-read (wrap-fits m) (sym q) ∙ ap wrap e)
+pub entered : (n : ℤ) {r m : ℤ} → r ≡ wrap m → m ≡ n → range (read w32 r) 0 ≡ number n
+entered n {r = r} {m = m} q e = ap (λ z. range z 0) (result-read (wrap-fits m) (sym q) ∙ ap wrap e)
 
-pub operated₁ : (u : Unary) (i : ℤ) (a : Cell) {v : Value} {m : Try Cell} → a .value ≡ v → m ≡ map₁ (calculate₁ u i) v → m ≡ operate₁ u i a
+pub operated₁ : (u : Unary) (i : ℤ) (a : Cell) {v : Value} {m : Try Cell} → a .value ≡ v → m ≡ map₁ u i v → m ≡ operate₁ u i a
 unfolding operate₁
-operated₁ u i a p e = e ∙ ap (map₁ (calculate₁ u i)) (sym p)
+operated₁ u i a p e = e ∙ ap (map₁ u i) (sym p)
 
 pub operated₂ : (b : Binary) (a c : Cell) {v w : Value} {m : Try Cell} → a .value ≡ v → c .value ≡ w → m ≡ map₂ b v w → m ≡ operate₂ b a c
 unfolding operate₂

@@ -1,5 +1,9 @@
 pub mod Covering
+pub mod RangeLaws
+pub mod JudgeLaws
 pub mod CellLaws
 pub mod MergeLaws
 pub mod AnswerLaws
+pub mod ComputeLaws
 pub mod CodeLaws
+pub mod Theorems

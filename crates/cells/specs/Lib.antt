@@ -4,3 +4,5 @@ pub mod Answers
 pub mod Order
 pub mod Merge
 pub mod Codes
+pub mod Small
+pub mod Promises

@@ -1,26 +1,30 @@
--- Merging two cells, where ways meet. (document 02 §9)
+-- Merging two cells, where ways meet. (document 02 §9 and §12)
 use Prim.Native.Nat.{ℕ}
 use mathlib.Core.Bool.{cond}
 use lib.Dec.{eqb}
+use lib.IntN.{ℤ}
+use lib.Signed.{leZ}
 use mathlib.Core.Path.{_≡_}
-use Rattle.numbers.specs.Numbers.{same}
 use Rattle.cells.specs.Try.{Try, stuck, done}
 use Rattle.cells.specs.declared.Value.{Value}
-use Rattle.cells.specs.declared.Value.the-variants.{Number, Unknown, Handle}
+use Rattle.cells.specs.declared.Value.the-variants.{Range, Handle}
 use Rattle.cells.specs.declared.Cell.{Cell}
-use Rattle.cells.specs.Cells.{cell, unknown, handle}
+use Rattle.cells.specs.Cells.{high, between, handle}
 
--- "equal cells stay, unlike numbers become unknown"; stuck, which is refusal 14, where "a cell is a handle on one way and anything else
--- on the other"
+-- the smaller of two numbers
+abbrev pub lower : ℤ → ℤ → ℤ
+lower m n = cond (leZ m n) m n
+
+-- the larger
+abbrev pub upper : ℤ → ℤ → ℤ
+upper m n = cond (leZ m n) n m
+
+-- "A merge takes the smallest range that covers both."; stuck, which is refusal 14, where "a cell is a handle on one way and anything
+-- else on the other"
 unfoldable pub mergeValues : Value → Value → Try Cell
-mergeValues (Number m) (Number n) = done (cond (same m n) (cell (Number m)) unknown)
-mergeValues (Number m) Unknown = done unknown
-mergeValues (Number m) (Handle k) = stuck
-mergeValues Unknown (Number n) = done unknown
-mergeValues Unknown Unknown = done unknown
-mergeValues Unknown (Handle k) = stuck
-mergeValues (Handle j) (Number n) = stuck
-mergeValues (Handle j) Unknown = stuck
+mergeValues (Range low more) (Range low′ more′) = done (between (lower low low′) (upper (high low more) (high low′ more′)))
+mergeValues (Range low more) (Handle k) = stuck
+mergeValues (Handle j) (Range low more) = stuck
 mergeValues (Handle j) (Handle k) = cond (eqb j k) (done (handle j)) stuck
 
 -- the same of cells

@@ -1,22 +1,27 @@
 -- The erasure order of cells, and which plain cells a cell allows.
 use lib.IntN.{ℤ}
+use lib.Signed.{leZ}
 use Prim.Native.Nat.{ℕ}
+use mathlib.Core.Path.{_≡_}
+use mathlib.Core.Bool.{true}
 use mathlib.Core.List.{List, [], _∷_}
-use Rattle.numbers.specs.Numbers.{IsNumber}
-use Rattle.cells.specs.declared.Value.the-variants.{Number}
 use Rattle.cells.specs.declared.Cell.{Cell}
-use Rattle.cells.specs.Cells.{cell, unknown, handle}
+use Rattle.cells.specs.Cells.{range, high, handle}
 
--- Erasure (Definition 3 of document 000, from right to left): b is a, or unknown where a is a number
+-- the range of `low` and `more` beyond it lies in that of `low′` and `more′`
+pub record Inside (low : ℤ) (more : ℕ) (low′ : ℤ) (more′ : ℕ) : Type 0 where
+  pub least : leZ low′ low ≡ true
+  pub greatest : leZ (high low more) (high low′ more′) ≡ true
+
+-- Erasure (Definition 3 of document 000, from right to left): b is a, or both are ranges and b covers a
 pub data Refines : Cell → Cell → Type 0 where
   same : {a : Cell} → Refines a a
-  erased : {n : ℤ} → Refines (cell (Number n)) unknown
+  inside : {low low′ : ℤ} {more more′ : ℕ} → Inside low more low′ more′ → Refines (range low more) (range low′ more′)
 
--- a plain cell, and b allows it: "a known number or a handle is the same in it, and a `?` is some number";
--- "An unknown stands for any number and never for a handle."
+-- a plain cell, and b allows it: a single number of its range, or the same handle; "a known number or a handle is the same in it, and a
+-- `?` is some number"; "Any start within the ranges" (document 02 §12)
 pub data Allowed : Cell → Cell → Type 0 where
-  known : {n : ℤ} → Allowed (cell (Number n)) (cell (Number n))
-  some-number : {n : ℤ} → IsNumber n → Allowed (cell (Number n)) unknown
+  among : {n low : ℤ} {more : ℕ} → Inside n 0 low more → Allowed (range n 0) (range low more)
   same-handle : {k : ℕ} → Allowed (handle k) (handle k)
 
 -- a relation of cells, entry by entry, on lists of one length: "as many stack entries as the file"

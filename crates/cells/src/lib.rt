@@ -1,16 +1,20 @@
 // Cells, and the operations on them. The meaning is in specs/.
 use numbers::Comparison;
 ghost use mathlib.Core.Path.{_≡_};
-ghost use Rattle.numbers.specs.Numbers.{wrap, bit};
-ghost use Rattle.cells.specs.Cells.{number, unknown, handle, calculate₁, calculate₂, compareHandles, combineHandles, operate₁, operate₂, condition, block};
+ghost use Prim.Native.Nat.{_<_, _^_};
+ghost use lib.IntN.{pos, _+ℤ_};
+ghost use lib.Signed.{mag};
+ghost use Rattle.numbers.specs.Numbers.{wrap, bit, within, numbers};
+ghost use Rattle.cells.specs.Cells.{range, high, number, unknown, between, handle, calculate₁, calculate₂, results, least₁, range₁, always, opposite, judged, wider, range₂, compareHandles, combineHandles, operate₁, operate₂, condition, block};
 ghost use Rattle.cells.specs.Answers.{ofOperand, ofTested, ofHandled};
-ghost use Rattle.cells.specs.Merge.{mergeCells};
-ghost use Rattle.cells.specs.Codes.{cellOf};
+ghost use Rattle.cells.specs.Merge.{lower, upper, mergeCells};
+ghost use Rattle.cells.specs.Codes.{cellOf, confine, Confined};
+ghost use Rattle.cells.specs.Small.{Small};
 
-// "A cell holds a number, an unknown number or a block handle."
+// "A cell holds a number, an unknown number or a block handle"; "A start or block cell may be `lo..hi`": a range is its least number and
+// how many more there are above it.
 pub enum Value {
-    Number(i32),
-    Unknown,
+    Range(i32, u32),
     Handle(u8),
 }
 
@@ -62,15 +66,31 @@ pub fn number(n: i32) -> Cell
     ensures { λ r. ⌜ r ≡ number n ⌝ }
 {
     Cell {
-        value: Value::Number(numbers::narrow(n as i64)),
+        value: Value::Range(numbers::narrow(n as i64), 0),
     }
 }
 
+// "A `?` is the whole range."
 pub fn unknown() -> Cell
     ensures { λ r. ⌜ r ≡ unknown ⌝ }
 {
     Cell {
-        value: Value::Unknown,
+        value: Value::Range(numbers::LOWEST, numbers::OTHERS),
+    }
+}
+
+// The numbers from `low` to `high`.
+pub fn between(low: i32, high: i32) -> Cell
+    ensures { λ r. ⌜ r ≡ between low high ⌝ }
+{
+    if high < low {
+        return Cell {
+            value: Value::Range(low, 0),
+        };
+    }
+    let more = high as i64 - low as i64;
+    Cell {
+        value: Value::Range(low, more as u32),
     }
 }
 
@@ -104,16 +124,55 @@ fn calculate2(b: Binary, m: i32, n: i32) -> i32
     }
 }
 
-// "Arithmetic or comparison with an unknown gives an unknown"; with a handle it is stuck.
+// The greatest number of a range.
+fn high(low: i32, more: u32) -> i64
+    ensures { λ r. ⌜ r ≡ high low more ⌝ }
+{
+    low as i64 + more as i64
+}
+
+// "the least to the greatest result, or the whole range if some result would wrap"
+fn results(low: i64, more: u64) -> Cell
+    requires { ⌜ Small low more ⌝ }
+    ensures { λ r. ⌜ r ≡ results low more ⌝ }
+{
+    if low < numbers::LOWEST as i64 {
+        return unknown();
+    }
+    if low + more as i64 > numbers::HIGHEST as i64 {
+        return unknown();
+    }
+    Cell {
+        value: Value::Range(low as i32, more as u32),
+    }
+}
+
+// The least result of an operation on a range.
+fn least1(u: Unary, i: i32, low: i32, more: u32) -> i64
+    ensures { λ r. ⌜ r ≡ least₁ u i low more ⌝ }
+{
+    match u {
+        Unary::Offset => low as i64 + i as i64,
+        Unary::Negate => -high(low, more),
+        Unary::Complement => 1 - high(low, more),
+    }
+}
+
+// "Sums, differences and negations of single numbers stay exact and wrap"; with a handle it is stuck.
 pub fn operate1(u: Unary, i: i32, a: Cell) -> Operand
     ensures { λ r. ⌜ ofOperand r ≡ operate₁ u i a ⌝ }
 {
     let value = a.value;
     match value {
-        Value::Number(n) => Operand::Is(Cell {
-            value: Value::Number(calculate1(u, i, n)),
-        }),
-        Value::Unknown => Operand::Is(unknown()),
+        Value::Range(low, more) => {
+            if more == 0 {
+                Operand::Is(Cell {
+                    value: Value::Range(calculate1(u, i, low), 0),
+                })
+            } else {
+                Operand::Is(results(least1(u, i, low, more), more as u64))
+            }
+        }
         Value::Handle(_) => Operand::Stuck,
     }
 }
@@ -123,6 +182,77 @@ fn truth(b: bool) -> Cell
     ensures { λ r. ⌜ r ≡ number (bit b) ⌝ }
 {
     if b { number(1) } else { number(0) }
+}
+
+// Whether a comparison holds for every pair of a number from l to h and one from m to n.
+fn always(c: Comparison, l: i64, h: i64, m: i64, n: i64) -> bool
+    ensures { λ r. ⌜ r ≡ always c l h m n ⌝ }
+{
+    match c {
+        Comparison::Equal => l == n && h == m,
+        Comparison::Unequal => h < m || n < l,
+        Comparison::Less => h < m,
+        Comparison::AtMost => h <= m,
+        Comparison::Greater => n < l,
+        Comparison::AtLeast => n <= l,
+    }
+}
+
+fn opposite(c: Comparison) -> Comparison
+    ensures { λ r. ⌜ r ≡ opposite c ⌝ }
+{
+    match c {
+        Comparison::Equal => Comparison::Unequal,
+        Comparison::Unequal => Comparison::Equal,
+        Comparison::Less => Comparison::AtLeast,
+        Comparison::AtMost => Comparison::Greater,
+        Comparison::Greater => Comparison::AtMost,
+        Comparison::AtLeast => Comparison::Less,
+    }
+}
+
+// "1 if it holds for every pair of numbers in the two ranges, 0 if for none, else 0 to 1"
+fn judged(c: Comparison, l: i64, h: i64, m: i64, n: i64) -> Cell
+    ensures { λ r. ⌜ r ≡ judged c l h m n ⌝ }
+{
+    if always(c, l, h, m, n) {
+        return number(1);
+    }
+    if always(opposite(c), l, h, m, n) {
+        return number(0);
+    }
+    Cell {
+        value: Value::Range(0, 1),
+    }
+}
+
+// An operation on two ranges, not both of one number.
+fn wider(b: Binary, low: i32, more: u32, low2: i32, more2: u32) -> Cell
+    ensures { λ r. ⌜ r ≡ wider b low more low2 more2 ⌝ }
+{
+    match b {
+        Binary::Add => results(low as i64 + low2 as i64, more as u64 + more2 as u64),
+        Binary::Subtract => results(low as i64 - high(low2, more2), more as u64 + more2 as u64),
+        Binary::Compare(c) => judged(
+            c,
+            low as i64,
+            high(low, more),
+            low2 as i64,
+            high(low2, more2),
+        ),
+    }
+}
+
+// An operation on two ranges.
+fn combine_ranges(b: Binary, low: i32, more: u32, low2: i32, more2: u32) -> Cell
+    ensures { λ r. ⌜ r ≡ range₂ b low more low2 more2 ⌝ }
+{
+    if more as u64 + more2 as u64 == 0 {
+        return Cell {
+            value: Value::Range(calculate2(b, low, low2), 0),
+        };
+    }
+    wider(b, low, more, low2, more2)
 }
 
 // "EQ and NEQ of two handles now give a known 1 or 0 by block number"; the order of two handles is stuck.
@@ -156,40 +286,36 @@ pub fn operate2(b: Binary, a: Cell, c: Cell) -> Operand
     let left = a.value;
     let right = c.value;
     match left {
-        Value::Number(m) => match right {
-            Value::Number(n) => Operand::Is(Cell {
-                value: Value::Number(calculate2(b, m, n)),
-            }),
-            Value::Unknown => Operand::Is(unknown()),
-            Value::Handle(_) => Operand::Stuck,
-        },
-        Value::Unknown => match right {
-            Value::Number(_) => Operand::Is(unknown()),
-            Value::Unknown => Operand::Is(unknown()),
+        Value::Range(low, more) => match right {
+            Value::Range(low2, more2) => Operand::Is(combine_ranges(b, low, more, low2, more2)),
             Value::Handle(_) => Operand::Stuck,
         },
         Value::Handle(j) => match right {
-            Value::Number(_) => Operand::Stuck,
-            Value::Unknown => Operand::Stuck,
+            Value::Range(_, _) => Operand::Stuck,
             Value::Handle(k) => combine_handles(b, j, k),
         },
     }
 }
 
-// The branch condition of a cell.
+// "A condition whose range lacks 0, or is only 0, opens no second way."
 pub fn condition_of(a: Cell) -> Tested
     ensures { λ r. ⌜ ofTested r ≡ condition a ⌝ }
 {
     let value = a.value;
     match value {
-        Value::Number(n) => {
-            if n == 0 {
+        Value::Range(low, more) => {
+            if low > 0 {
+                return Tested::Is(Condition::IsNonzero);
+            }
+            if high(low, more) < 0 {
+                return Tested::Is(Condition::IsNonzero);
+            }
+            if more == 0 {
                 Tested::Is(Condition::IsZero)
             } else {
-                Tested::Is(Condition::IsNonzero)
+                Tested::Is(Condition::IsUnknown)
             }
         }
-        Value::Unknown => Tested::Is(Condition::IsUnknown),
         Value::Handle(_) => Tested::Stuck,
     }
 }
@@ -204,34 +330,35 @@ pub fn block(a: Cell) -> Handled
     Handled::Block(k)
 }
 
-// "equal cells stay, unlike numbers become unknown"; a handle and anything else cannot be merged. (document 02 §9)
+fn lower(m: i32, n: i32) -> i32
+    ensures { λ r. ⌜ r ≡ lower m n ⌝ }
+{
+    if m <= n { m } else { n }
+}
+
+fn upper(m: i32, n: i32) -> i32
+    ensures { λ r. ⌜ r ≡ upper m n ⌝ }
+{
+    if m <= n { n } else { m }
+}
+
+// "A merge takes the smallest range that covers both."; a handle and anything else cannot be merged. (document 02 §9 and §12)
 pub fn merge(a: Cell, b: Cell) -> Operand
+    requires { ⌜ Confined a × Confined b ⌝ }
     ensures { λ r. ⌜ ofOperand r ≡ mergeCells a b ⌝ }
 {
     let left = a.value;
     let right = b.value;
     match left {
-        Value::Number(m) => match right {
-            Value::Number(n) => {
-                if m == n {
-                    Operand::Is(Cell {
-                        value: Value::Number(m),
-                    })
-                } else {
-                    Operand::Is(unknown())
-                }
+        Value::Range(low, more) => match right {
+            Value::Range(low2, more2) => {
+                let high = upper(high(low, more) as i32, high(low2, more2) as i32);
+                Operand::Is(between(lower(low, low2), high))
             }
-            Value::Unknown => Operand::Is(unknown()),
-            Value::Handle(_) => Operand::Stuck,
-        },
-        Value::Unknown => match right {
-            Value::Number(_) => Operand::Is(unknown()),
-            Value::Unknown => Operand::Is(unknown()),
             Value::Handle(_) => Operand::Stuck,
         },
         Value::Handle(j) => match right {
-            Value::Number(_) => Operand::Stuck,
-            Value::Unknown => Operand::Stuck,
+            Value::Range(_, _) => Operand::Stuck,
             Value::Handle(k) => {
                 if j == k {
                     Operand::Is(handle(j))
@@ -243,21 +370,29 @@ pub fn merge(a: Cell, b: Cell) -> Operand
     }
 }
 
-// A cell as a number: the numbers of 32 bits in two's complement, then the unknown, then the handles.
+// A range as a number: its least and its greatest number, counted from the lowest on.
+fn encode_range(low: i32, more: u32) -> u64
+    ensures { λ r. ⌜ cellOf r ≡ results low more ⌝ }
+{
+    if low < numbers::LOWEST {
+        return numbers::OTHERS as u64;
+    }
+    let least = (low as i64 + 1073741824) as u64;
+    let greatest = least + more as u64;
+    if greatest > numbers::OTHERS as u64 {
+        return numbers::OTHERS as u64;
+    }
+    least * 2147483648 + greatest
+}
+
+// A cell as a number.
 pub fn encode(c: Cell) -> u64
-    ensures { λ r. ⌜ cellOf r ≡ c ⌝ }
+    ensures { λ r. ⌜ cellOf r ≡ confine c ⌝ }
 {
     let value = c.value;
     match value {
-        Value::Number(n) => {
-            if n < 0 {
-                4294967295 - (-1 - n) as u64
-            } else {
-                n as u64
-            }
-        }
-        Value::Unknown => 4294967296,
-        Value::Handle(k) => 4294967552 + k as u64,
+        Value::Range(low, more) => encode_range(low, more),
+        Value::Handle(k) => 549755813888 + k as u64,
     }
 }
 
@@ -265,18 +400,13 @@ pub fn encode(c: Cell) -> u64
 pub fn decode(x: u64) -> Cell
     ensures { λ r. ⌜ r ≡ cellOf x ⌝ }
 {
-    if x < 2147483648 {
-        return Cell {
-            value: Value::Number(x as i32),
-        };
+    let least = x / 2147483648;
+    let greatest = x % 2147483648;
+    if greatest < least {
+        return handle((x % 256) as u8);
     }
-    if x < 4294967296 {
-        return Cell {
-            value: Value::Number(-1 - (4294967295 - x) as i32),
-        };
+    let low = least as i64 - 1073741824;
+    Cell {
+        value: Value::Range(low as i32, (greatest - least) as u32),
     }
-    if x == 4294967296 {
-        return unknown();
-    }
-    handle((x % 256) as u8)
 }

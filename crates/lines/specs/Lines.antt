@@ -2,11 +2,11 @@
 use Prim.Native.Nat.{ℕ}
 use mathlib.Core.Bool.{Bool, not}
 use mathlib.Core.List.{List}
-use Rattle.text.specs.Text.{bytes, isEmpty, equals, among}
+use Rattle.text.specs.Text.{isEmpty, among}
 use Rattle.text.specs.Decimal.{numeral}
 use Rattle.numbers.specs.Numbers.{within}
 use Rattle.instructions.specs.Kinds.{kindNames}
-use Rattle.routine.specs.Rows.{isNumeral, value, cellWord, isCell, cellInRange, cellPresent, isName, cycleCounts, wordCounts}
+use Rattle.routine.specs.Rows.{isNumeral, value, cellWord, isCell, cellInRange, isSingle, cellPresent, isName, cycleCounts, wordCounts}
 use Rattle.lines.specs.declared.WordTest.{WordTest}
 use Rattle.lines.specs.declared.WordTest.the-variants.{Filled, Numeral, Cycles, Words, Cell, CellRange, Present, Known, Kind, Primitive}
 
@@ -19,6 +19,6 @@ wordTest Words w = within wordCounts (value w)
 wordTest Cell w = isCell (cellWord w)
 wordTest CellRange w = cellInRange (cellWord w)
 wordTest (Present n) w = cellPresent n (cellWord w)
-wordTest Known w = not (equals w (bytes "?"))
+wordTest Known w = isSingle (cellWord w)
 wordTest Kind w = among w kindNames
 wordTest Primitive w = isName w

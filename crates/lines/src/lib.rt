@@ -23,7 +23,7 @@ ghost use Rattle.routine.specs.Rows.{isNumeral, value, op, arg, onArgument, arg
 ghost use Rattle.lines.specs.Lines.{wordTest};
 
 // What a word is tested for: that it is not empty, spells a number, one of a price's cycles or words, a cell, a cell in range, a
-// handle of one of the blocks that are present, a cell that is known, the name of a kind, a name that a primitive may have.
+// handle of one of the blocks that are present, a cell that holds one number or a handle, the name of a kind, a name that a primitive may have.
 pub enum WordTest {
     Filled,
     Numeral,
@@ -50,7 +50,7 @@ fn word_passes(t: WordTest, w: &[u8]) -> bool
         WordTest::Cell => values::is_cell(w),
         WordTest::CellRange => values::cell_in_range(w),
         WordTest::Present(n) => values::cell_present(n as usize, w),
-        WordTest::Known => !text::same(w, b"?"),
+        WordTest::Known => values::is_single(w),
         WordTest::Kind => instructions::is_kind(w),
         WordTest::Primitive => names::is_name(w),
     }

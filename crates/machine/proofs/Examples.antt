@@ -7,7 +7,8 @@ use Rattle.text.specs.Text.{bytes, find, equals}
 use Rattle.numbers.specs.Numbers.{wrap, holds}
 use Rattle.cells.specs.Try.{stuck, done, _>>=_}
 use Rattle.cells.specs.declared.Cell.{Cell}
-use Rattle.cells.specs.Cells.{number, unknown, handle, calculate₁, calculate₂, map₁, map₂, operate₁, operate₂, conditionIn, condition, handled, block}
+use Rattle.cells.specs.Cells as cells
+use Rattle.cells.specs.Cells.{range, number, unknown, handle, calculate₁, calculate₂, results, range₂, wider, judged, always, map₁, map₂, operate₁, operate₂, conditionIn, condition, handled, block}
 use Rattle.instructions.specs.Kinds.{kinds, kindNames, operand}
 use Rattle.instructions.specs.Columns.{kindAt}
 use Rattle.machine.specs.Lists.{nth, put, without}
@@ -30,6 +31,13 @@ pub examples :
     -- "here ADDINT always pops", an unknown operand or not
     (step (one (bytes "ADDINT") (pos 0)) unknown (state 5 unknown (number (pos 4) ∷ handle 0 ∷ [])) ≡ done (goes price (state 6 unknown (handle 0 ∷ []))))
     × (step (one (bytes "ADDINT") (pos 0)) unknown (state 5 (number (pos 3)) (number (pos 4) ∷ [])) ≡ done (goes price (state 6 (number (pos 7)) [])))
+    -- "a comparison gives 1 if it holds for every pair of numbers in the two ranges, 0 if for none, else 0 to 1" (document 02 §12)
+    × (step (one (bytes "LTINT") (pos 0)) unknown (state 5 (range (pos 0) 1008) (number (pos 1009) ∷ [])) ≡ done (goes price (state 6 (number (pos 1)) [])))
+    × (step (one (bytes "EQ") (pos 0)) unknown (state 5 (range (pos 0) 1008) (number (pos 1009) ∷ [])) ≡ done (goes price (state 6 (number (pos 0)) [])))
+    × (step (one (bytes "LTINT") (pos 0)) unknown (state 5 (range (pos 0) 1008) (number (pos 1008) ∷ [])) ≡ done (goes price (state 6 (range (pos 0) 1) [])))
+    -- "A condition whose range lacks 0, or is only 0, opens no second way."; "the least to the greatest result"
+    × (step (one (bytes "BRANCHIF") (pos 9)) unknown (state 5 (range (pos 1) 7) []) ≡ done (goes jumping (state 9 (range (pos 1) 7) [])))
+    × (step (one (bytes "SUBINT") (pos 0)) unknown (state 5 (range (pos 10) 2) (range (pos 1) 3 ∷ [])) ≡ done (goes price (state 6 (range (pos 6) 5) [])))
     -- "push, then ACC n on the longer stack"
     × (step (one (bytes "PUSHACC0") (pos 0)) unknown (state 5 (number (pos 3)) (number (pos 4) ∷ [])) ≡ done (goes price (state 6 (number (pos 3)) (number (pos 3) ∷ number (pos 4) ∷ []))))
     × (step (one (bytes "PUSHACC") (pos 1)) unknown (state 5 (number (pos 3)) (number (pos 4) ∷ [])) ≡ done (goes price (state 6 (number (pos 4)) (number (pos 3) ∷ number (pos 4) ∷ []))))
@@ -49,5 +57,5 @@ pub examples :
     × (step (one (bytes "STOP") (pos 0)) unknown (state 4 unknown []) ≡ stuck)
     × (step (one (bytes "GETFIELD2") (pos 0)) unknown (state 5 (handle 0) []) ≡ stuck)
     × (step (one (bytes "ADDINT") (pos 0)) unknown (state 5 (handle 0) (unknown ∷ [])) ≡ stuck)
-unfolding equals find kindNames wrap holds _>>=_ calculate₁ calculate₂ map₁ map₂ operate₁ operate₂ conditionIn condition handled block kinds operand kindAt instruction nth put without fetch height jump load restack reblock push pop store getField setField advance ahead withExtra ways opposite perform prepare execute step
-examples = (refl, refl, refl, refl, refl, refl, refl, refl, refl, refl, refl, refl, refl, refl, refl)
+unfolding equals find kindNames wrap holds _>>=_ calculate₁ calculate₂ results range₂ wider judged always cells.opposite map₁ map₂ operate₁ operate₂ conditionIn condition handled block kinds operand kindAt instruction nth put without fetch height jump load restack reblock push pop store getField setField advance ahead withExtra ways opposite perform prepare execute step
+examples = (refl, refl, refl, refl, refl, refl, refl, refl, refl, refl, refl, refl, refl, refl, refl, refl, refl, refl, refl, refl)

@@ -8,7 +8,7 @@ use Rattle.numbers.specs.Numbers.{wrap, holds}
 use Rattle.refusals.specs.declared.Refusal.the-variants.{Stuck, NoMeeting}
 use Rattle.cells.specs.Try.{_>>=_}
 use Rattle.cells.specs.declared.Cell.{Cell}
-use Rattle.cells.specs.Cells.{number, unknown, handle, calculate₂, map₂, operate₂, conditionIn, condition}
+use Rattle.cells.specs.Cells.{number, unknown, between, handle, calculate₂, results, range₂, wider, map₂, operate₂, conditionIn, condition}
 use Rattle.cells.specs.Merge.{mergeValues, mergeCells}
 use Rattle.instructions.specs.Kinds.{kinds, kindNames, operand}
 use Rattle.instructions.specs.Columns.{kindAt}
@@ -56,8 +56,9 @@ pub examples :
     -- case 4: CYCLES and WORDS are those of different ways
     × (merged (code (line (bytes "BRANCHIF") 3 1 0 0 ∷ line (bytes "C_CALL1") 0 11 1 0 ∷ line (bytes "STOP") 0 1 0 0 ∷ line (bytes "C_CALL1") 0 5 9 0 ∷ line (bytes "STOP") 0 1 0 0 ∷ []))
     (begins unknown []) ≡ figures 13 9 0 5)
-    -- "unlike numbers become unknown", and the branch opens both ways; "equal cells stay", and it opens one
-    × (merged (constants (bytes "CONST1") (bytes "CONST2")) (begins unknown []) ≡ figures 5 0 0 7)
+    -- "A merge takes the smallest range that covers both.": from 0 to 2 the branch opens both ways, from 1 to 2 one; "equal cells stay"
+    × (merged (constants (bytes "CONST0") (bytes "CONST2")) (begins unknown []) ≡ figures 5 0 0 7)
+    × (merged (constants (bytes "CONST1") (bytes "CONST2")) (begins unknown []) ≡ figures 5 0 0 6)
     × (merged (constants (bytes "CONST1") (bytes "CONST1")) (begins unknown []) ≡ figures 5 0 0 6)
     -- "stack heights differ at a meeting"
     × (merged (code (plain (bytes "BRANCHIF") 2 ∷ plain (bytes "PUSH") 0 ∷ plain (bytes "STOP") 0 ∷ [])) (begins unknown []) ≡ refused (NoMeeting 2))
@@ -72,5 +73,5 @@ pub examples :
     × (merged (code (plain (bytes "PUSH") 0 ∷ [])) (begins unknown []) ≡ refused (Stuck 1))
     -- ninety tests, each to the STOP after them: 91 addresses
     × (merged (code (repeat 90 (plain (bytes "BRANCHIF") 90) (plain (bytes "STOP") 0 ∷ []))) (begins unknown []) ≡ figures 91 0 0 91)
-unfolding case-1.code repeat equals find wrap holds _>>=_ calculate₂ map₂ operate₂ conditionIn condition kinds kindNames operand kindAt instruction nth without fetch height jump load restack push pop advance ahead withExtra ways perform prepare execute step mergeValues mergeCells mergeLists mergeStates larger settle join slot nowhere arrive send reach finish carry visit sweep only merged
-examples = (refl, refl, refl, refl, refl, refl, refl, refl, refl, refl, refl, refl, refl, refl)
+unfolding case-1.code repeat equals find wrap holds _>>=_ calculate₂ results range₂ wider map₂ operate₂ conditionIn condition kinds kindNames operand kindAt instruction nth without fetch height jump load restack push pop advance ahead withExtra ways perform prepare execute step between mergeValues mergeCells mergeLists mergeStates larger settle join slot nowhere arrive send reach finish carry visit sweep only merged
+examples = (refl, refl, refl, refl, refl, refl, refl, refl, refl, refl, refl, refl, refl, refl, refl)

@@ -13,7 +13,12 @@ use Rattle.refusals.specs.declared.Verdict.the-variants.{Accepted, Refused}
 use Rattle.cells.specs.Try.{Try, stuck, done}
 use Rattle.cells.specs.declared.Cell.{Cell}
 use Rattle.cells.specs.Cells.{unknown}
-use Rattle.machine.specs.Machine.{State, Price, Next, stops, goes, opens, height, jump, sum, reblock}
+use Rattle.cells.specs.Codes.{Kept}
+use Rattle.cells.proofs.CellLaws.{kept-lawful, unknown-kept}
+use Rattle.machine.specs.Machine.{State, Price, Next, stops, goes, opens, Code, height, jump, sum, reblock, step}
+use Rattle.machine.specs.Order.{Cellwise}
+use Rattle.machine.proofs.NextCovering.{Leads, leads-self}
+use Rattle.machine.proofs.StepLaws.{step-law}
 use Rattle.states.specs.declared.State as code
 use Rattle.states.specs.View.{view, WellFormed, Fits, whole}
 use Rattle.states.proofs.StateLaws.{height-is, jump-whole}
@@ -29,7 +34,7 @@ use Rattle.findings.specs.Found.{acceptedAs, encode, refusedAs}
 use Rattle.merges.specs.Merge.{Arrival, arrival, Slot, Table, slot, arrive, send, reach, finish, carry}
 use Rattle.arrivals.specs.declared.Way.{Way}
 use Rattle.merging.specs.declared.Pass.{Pass}
-use Rattle.arrivals.specs.Rows.{Small, Formed, Rows, arrivalOf, slotAt, joinAt, waiting}
+use Rattle.arrivals.specs.Rows.{Small, Formed, Numeric, Rows, arrivalOf, slotAt, joinAt, waiting}
 use Rattle.merging.specs.Pass.{Comes, Spent, most, Figures, Ready, Agrees, Moved, stopped, moved, spentOf}
 use Rattle.merging.proofs.PassLaws.{alone, arrived, spent-more, spent-at}
 
@@ -101,6 +106,9 @@ paid-as ns w v s bl p e = rw (e .0, e .1, e .2, e .3) refl
 pub paid-formed : (w v : Way) (s : code.State) (bl : List Cell) (p : steps.Price) → Paid w s bl p v → WellFormed s → length bl ≡ 128 → Formed v
 paid-formed w v s bl p e f l = record { state = rw (e .0) f; fields = rw (e .1) l }
 
+pub paid-numeric : (ns : List ℕ) (w v : Way) (s : code.State) (bl : List Cell) (p : steps.Price) → Paid w s bl p v → Cellwise Kept (whole ns bl s) (whole ns bl s) → Numeric ns v
+paid-numeric ns w v s bl p e k = rw (e .0, e .1) k
+
 -- its sums
 pub paid-cycles : (j : ℕ) (w v : Way) (s : code.State) (bl : List Cell) (p : steps.Price) → Paid w s bl p v → w .cycles ≤ most j → SmallPrice p → v .cycles ≤ most (j + 1)
 paid-cycles j w v s bl p e h k = rw (e .2) (omega (arith, k .cycles))
@@ -141,7 +149,7 @@ module _ (ns : List ℕ) (first n j : ℕ) (hs es fs : List ℕ) (sums : Under n
   -- one way goes on, v
   module _ (hs′ es′ fs′ : List ℕ) (v : Way) (here : Bool)
       (on : (b : ℕ) → j < b → b < n → waiting ns here v (j + 1) b (slotAt ns first hs′ es′ fs′ b) ≡ joinAt (first + b) (arrivalOf ns v) (slotAt ns first hs es fs b)) where
-    pub goes-ready : Rows hs′ es′ fs′ → (g : Found) → Figures (j + 1) g → Comes here v (first + (j + 1)) → v .cycles ≤ most (j + 1) → v .words ≤ most (j + 1)
+    pub goes-ready : Rows hs′ es′ fs′ → (g : Found) → Figures (j + 1) g → Comes ns here v (first + (j + 1)) → v .cycles ≤ most (j + 1) → v .words ≤ most (j + 1)
         → Ready ns first n (j + 1) hs′ es′ fs′ (record { found = g; here = here; way = v })
     goes-ready rows g i c m l = record {
       rows = rows;
@@ -199,6 +207,21 @@ way-height ns w f = sym (height-is (w .state) f)
 pub jumped-as : (ns : List ℕ) (w v : Way) (s t : code.State) (bl : List Cell) (p : steps.Price) (a : ℕ) → view t ≡ jump a (view s) → Paid w t bl p v
     → arrival (jump a (whole ns bl s)) (sum (spentOf w) (ofPrice p)) ≡ arrivalOf ns v
 jumped-as ns w v s t bl p a e g = ap (λ (u : State). arrival u (sum (spentOf w) (ofPrice p))) (sym (jump-whole ns bl s t a e)) ∙ paid-as ns w v t bl p g
+
+-- the numbers of the states that a step leads to have as many bits as numbers have
+
+module _ (c : Code) (s : State) where
+  leads-numeric : Cellwise Kept s s → {m : Try Next} → m ≡ step c unknown s → Leads (λ (u : State). Cellwise Kept u u) m
+  leads-numeric k e = subst (Leads (λ (u : State). Cellwise Kept u u)) (sym e) (leads-self refl (step-law kept-lawful c unknown-kept k))
+
+  pub goes-numeric : (t : State) (p : Price) → Cellwise Kept s s → done (goes p t) ≡ step c unknown s → Cellwise Kept t t
+  goes-numeric t p k e = leads-numeric k e
+
+  pub opens-numeric : (t u : State) (p q : Price) → Cellwise Kept s s → done (opens p t q u) ≡ step c unknown s → Cellwise Kept t t × Cellwise Kept u u
+  opens-numeric t u p q k e = leads-numeric k e
+
+pub jump-numeric : (ns : List ℕ) (bl : List Cell) (s t : code.State) (a : ℕ) → view t ≡ jump a (view s) → Cellwise Kept (jump a (whole ns bl s)) (jump a (whole ns bl s)) → Cellwise Kept (whole ns bl t) (whole ns bl t)
+jump-numeric ns bl s t a e k = rw (jump-whole ns bl s t a e) k
 
 -- ---- what the definition goes on with
 

@@ -83,8 +83,8 @@ unfolding with
 with-next ns here w at s t e a q =
     ap t (sym a) ∙ q ∙ ap (λ (i : ℕ). join (s i) (arrivalOf ns w)) a ∙ ap (λ (b : Bool). with ns b w (s at)) (sym e)
 
-pub comes-here : (here : Bool) (w : Way) (at : ℕ) → here ≡ true → Comes here w at → Comes true w at
-comes-here here w at e c = subst (λ (b : Bool). Comes b w at) e c
+pub comes-here : (ns : List ℕ) (here : Bool) (w : Way) (at : ℕ) → here ≡ true → Comes ns here w at → Comes ns true w at
+comes-here ns here w at e c = subst (λ (b : Bool). Comes ns b w at) e c
 
 -- ---- the table of the definition
 

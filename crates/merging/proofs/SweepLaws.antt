@@ -22,7 +22,7 @@ use Rattle.findings.specs.Found.{acceptedAs, encode, Shows}
 use Rattle.merges.specs.Merge.{Arrival, Slot, empty, join, Table, slot, nowhere, only, none, visit, sweep, merged}
 use Rattle.arrivals.specs.declared.Way.{Way}
 use Rattle.merging.specs.declared.Pass.{Pass}
-use Rattle.arrivals.specs.Rows.{Formed, Rows, arrivalOf, part, slotAt, joinAt, with, waiting}
+use Rattle.arrivals.specs.Rows.{Formed, Numeric, Rows, arrivalOf, part, slotAt, joinAt, with, waiting}
 use Rattle.merging.specs.Pass.{Comes, Spent, most, Figures, Ready, Agrees, Moved, stopped, moved}
 use Rattle.arrivals.proofs.RowLaws.{slot-empty}
 use Rattle.merging.proofs.PassLaws.{arrived, same-test}
@@ -123,12 +123,12 @@ module _ (c : Code) (ns : List ℕ) (first l : ℕ) (hn en fn : ℕ) (s : code.S
       let at : first + j ≡ s .at = omega arith in
       ap₂ (λ (n a : ℕ). sweep (step c unknown) n a (only (whole ns bl s)) none) many at
 
-  pub begins : hn ≡ 5125 → en ≡ 65600 → fn ≡ 131200 → WellFormed s → length bl ≡ 128 → Going c ns first (l + 1) (merged c (whole ns bl s)) hs es fs j (begun s bl)
-  begins hl el fl formed fields = record {
+  pub begins : hn ≡ 5125 → en ≡ 65600 → fn ≡ 131200 → WellFormed s → length bl ≡ 128 → Numeric ns w → Going c ns first (l + 1) (merged c (whole ns bl s)) hs es fs j (begun s bl)
+  begins hl el fl formed fields numeric = record {
     ready = record {
       rows = (length-replicate hn 0 ∙ hl, length-replicate en 0 ∙ el, length-replicate fn 0 ∙ fl);
       figures = record { used = omega arith; cycles = omega arith; words = omega arith; depth = omega arith };
-      comes = (omega arith, record { state = formed; fields = fields });
+      comes = (omega arith, (record { state = formed; fields = fields }, numeric));
       sums = λ b h k. rw (begun-slot b) (begun-spent b);
     };
     within = omega arith;

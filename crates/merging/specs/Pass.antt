@@ -17,7 +17,7 @@ use Rattle.merging.specs.declared.Mark.{Mark}
 use Rattle.merging.specs.declared.Mark.the-variants.{Nothing, Unlike, Is}
 use Rattle.merging.specs.declared.Came.{Came}
 use Rattle.merging.specs.declared.Pass.{Pass}
-use Rattle.arrivals.specs.Rows.{Formed, Rows, arrivalOf, slotAt, waiting}
+use Rattle.arrivals.specs.Rows.{Formed, Numeric, Rows, arrivalOf, slotAt, waiting}
 
 -- what the code's answer stands for
 unfoldable pub cameAs : List ℕ → Mark → Way → Slot
@@ -26,15 +26,15 @@ cameAs ns Unlike w = unlike
 cameAs ns Is w = held (arrivalOf ns w .state) (arrivalOf ns w .spent)
 
 -- a way that has come is at the address a
-abbrev pub Held : Mark → Way → ℕ → Type 0
-Held Nothing w a = Unit {0}
-Held Unlike w a = Unit {0}
-Held Is w a = (w .state .at ≡ a) × Formed w
+abbrev pub Held : List ℕ → Mark → Way → ℕ → Type 0
+Held ns Nothing w a = Unit {0}
+Held ns Unlike w a = Unit {0}
+Held ns Is w a = (w .state .at ≡ a) × (Formed w × Numeric ns w)
 
 -- the way goes to the address a, if `here` says so
-abbrev pub Comes : Bool → Way → ℕ → Type 0
-Comes true w a = (w .state .at ≡ a) × Formed w
-Comes false w a = Unit {0}
+abbrev pub Comes : List ℕ → Bool → Way → ℕ → Type 0
+Comes ns true w a = (w .state .at ≡ a) × (Formed w × Numeric ns w)
+Comes ns false w a = Unit {0}
 
 -- sums of at most m
 abbrev pub Spent : ℕ → Slot → Type 0
@@ -57,7 +57,7 @@ pub record Figures (j : ℕ) (f : Found) : Type 0 where
 pub record Ready (ns : List ℕ) (first n j : ℕ) (hs es fs : List ℕ) (p : Pass) : Type 0 where
   pub rows : Rows hs es fs
   pub figures : Figures j (p .found)
-  pub comes : Comes (p .here) (p .way) (first + j)
+  pub comes : Comes ns (p .here) (p .way) (first + j)
   pub sums : (b : ℕ) → j ≤ b → b < n → Spent (most j) (waiting ns (p .here) (p .way) j b (slotAt ns first hs es fs b))
 
 -- the table of the definition has what the rows from j on hold

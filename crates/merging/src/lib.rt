@@ -12,8 +12,10 @@ ghost use mathlib.Core.List.{List};
 ghost use mathlib.Core.Bool.{true};
 ghost use Prim.Native.Nat.{ℕ, suc, _+_, _<_, _≤_, max};
 ghost use lib.ListN.{length};
+ghost use Rattle.cells.specs.Codes.{Kept};
 ghost use Rattle.cells.specs.Cells.{unknown};
 ghost use Rattle.machine.specs.Machine.{step};
+ghost use Rattle.machine.specs.Order.{Cellwise};
 ghost use Rattle.states.specs.Columns.{codeOf, Sized};
 ghost use Rattle.states.specs.View.{WellFormed, whole};
 ghost use Rattle.bounds.specs.Tree.{Report};
@@ -21,7 +23,7 @@ ghost use Rattle.steps.specs.Step.{SmallPrice};
 ghost use Rattle.findings.specs.Found.{acceptedAs, Shows};
 ghost use Rattle.refusals.specs.declared.Verdict.the-variants.{Accepted};
 ghost use Rattle.merges.specs.Merge.{Table, slot, carry, visit, merged};
-ghost use Rattle.arrivals.specs.Rows.{Small, Formed, Row, Rows, arrivalOf, slotIn, slotAt, joinAt, with, waiting};
+ghost use Rattle.arrivals.specs.Rows.{Small, Formed, Numeric, Row, Rows, arrivalOf, slotIn, slotAt, joinAt, with, waiting};
 ghost use Rattle.merging.specs.Pass.{cameAs, Held, Comes, Spent, most, Figures, Ready, Agrees, Moved, spentOf};
 
 // A way goes on from the address of row `j`: whether to the next. To any other it is sent.
@@ -35,9 +37,9 @@ fn onward(
     j: usize,
     w: Way,
 ) -> bool
-    requires { ⌜ Rows (now heads) (now entries) (now fields) × (n ≤ 1025) × (first ≤ 65536) × (j < n) × Formed w × Small (now sizes) ⌝ }
+    requires { ⌜ Rows (now heads) (now entries) (now fields) × (n ≤ 1025) × (first ≤ 65536) × (j < n) × (Formed w × Numeric (now sizes) w) × Small (now sizes) ⌝ }
     ensures { λ r. ⌜ ((b : ℕ) → j < b → b < n → waiting (now (sizes .entry)) r w (j + 1) b (slotAt (now (sizes .entry)) first (now (heads .exit)) (now (entries .exit)) (now (fields .exit)) b) ≡ joinAt (first + b) (arrivalOf (now (sizes .entry)) w) (slotAt (now (sizes .entry)) first (now (heads .entry)) (now (entries .entry)) (now (fields .entry)) b)) ⌝ }
-    ensures { λ r. ⌜ Comes r w (first + (j + 1)) ⌝ }
+    ensures { λ r. ⌜ Comes (now (sizes .entry)) r w (first + (j + 1)) ⌝ }
 {
     let s = w.state;
     let at = s.at;
@@ -64,7 +66,7 @@ pub struct Came {
 fn found(at: usize, head: &[u64], entries: &[u64], fields: &[u64], w: Way) -> Came
     requires { ⌜ Row (now head) (now entries) (now fields) ⌝ }
     ensures { λ r. ⌜ ((ns : List ℕ) → cameAs ns (r .mark) (r .way) ≡ slotIn ns at (now (head .entry)) (now (entries .entry)) (now (fields .entry))) ⌝ }
-    ensures { λ r. ⌜ Held (r .mark) (r .way) at ⌝ }
+    ensures { λ r. ⌜ ((ns : List ℕ) → Held ns (r .mark) (r .way) at) ⌝ }
 {
     let mark = head[0];
     if mark == 0 {
@@ -96,9 +98,9 @@ fn reach(
     here: bool,
     w: Way,
 ) -> Came
-    requires { ⌜ Row (now head) (now entries) (now fields) × Comes here w at × Small (now sizes) ⌝ }
+    requires { ⌜ Row (now head) (now entries) (now fields) × Comes (now sizes) here w at × Small (now sizes) ⌝ }
     ensures { λ r. ⌜ cameAs (now (sizes .entry)) (r .mark) (r .way) ≡ with (now (sizes .entry)) here w (slotIn (now (sizes .entry)) at (now (head .entry)) (now (entries .entry)) (now (fields .entry))) ⌝ }
-    ensures { λ r. ⌜ Held (r .mark) (r .way) at ⌝ }
+    ensures { λ r. ⌜ Held (now (sizes .entry)) (r .mark) (r .way) at ⌝ }
 {
     if !here {
         return found(at, head, entries, fields, w);
@@ -187,7 +189,7 @@ fn carry(
 ) -> Pass
     requires { ⌜ Sized (now codes) (now operands) (now cycles) (now words) (now extras) ⌝ }
     requires { ⌜ Rows (now heads) (now entries) (now fields) × (n ≤ 1025) × (first + length (now codes) ≤ 65536) × (j < n) × Small (now sizes) ⌝ }
-    requires { ⌜ Formed w × (w .state .at ≡ first + j) × (w .cycles ≤ most j) × (w .words ≤ most j) × Figures j f ⌝ }
+    requires { ⌜ (Formed w × Numeric (now sizes) w) × (w .state .at ≡ first + j) × (w .cycles ≤ most j) × (w .words ≤ most j) × Figures j f ⌝ }
     requires { ⌜ ((b : ℕ) → j < b → b < n → Spent (most j) (slotAt (now sizes) first (now heads) (now entries) (now fields) b)) ⌝ }
     ensures { λ r. ⌜ Ready (now (sizes .entry)) first n (j + 1) (now (heads .exit)) (now (entries .exit)) (now (fields .exit)) r ⌝ }
     ensures { λ r. ⌜ ((tab : Table) (q : Report) → f ≡ acceptedAs q → ((b : ℕ) → j < b → b < n → slot (tab (first + b)) ≡ slotAt (now (sizes .entry)) first (now (heads .entry)) (now (entries .entry)) (now (fields .entry)) b) → Moved (now (sizes .entry)) first n (j + 1) (λ rest. carry rest (first + j) tab q (whole (now (sizes .entry)) (w .blocks) (w .state)) (spentOf w) (step (codeOf first (now (codes .entry)) (now (operands .entry)) (now (cycles .entry)) (now (words .entry)) (now (extras .entry))) unknown (whole (now (sizes .entry)) (w .blocks) (w .state)))) (now (heads .exit)) (now (entries .exit)) (now (fields .exit)) r) ⌝ }
@@ -331,7 +333,7 @@ pub fn merge(
     blocks: [Cell; 128],
 ) -> Found
     requires { ⌜ Sized (now codes) (now operands) (now cycles) (now words) (now extras) ⌝ }
-    requires { ⌜ (first + length (now codes) ≤ 65536) × Small (now sizes) × WellFormed start × (length blocks ≡ 128) × (first ≤ start .at) × (start .at ≤ first + length (now codes)) ⌝ }
+    requires { ⌜ (first + length (now codes) ≤ 65536) × Small (now sizes) × WellFormed start × (length blocks ≡ 128) × Cellwise Kept (whole (now sizes) blocks start) (whole (now sizes) blocks start) × (first ≤ start .at) × (start .at ≤ first + length (now codes)) ⌝ }
     ensures { λ r. ⌜ Shows r (merged (codeOf first (now (codes .entry)) (now (operands .entry)) (now (cycles .entry)) (now (words .entry)) (now (extras .entry))) (whole (now (sizes .entry)) blocks start)) ⌝ }
     ensures { λ r. ⌜ Figures 1025 r ⌝ }
 {

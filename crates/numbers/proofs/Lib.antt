@@ -1,3 +1,4 @@
 pub mod Examples
 pub mod NumberLaws
 pub mod SignedLaws
+pub mod IntegerLaws

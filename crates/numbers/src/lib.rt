@@ -27,6 +27,9 @@ pub const HIGHEST: i32 = (1 << (BITS - 1)) - 1;
 
 pub const LOWEST: i32 = -HIGHEST - 1;
 
+// How many numbers there are besides any one.
+pub const OTHERS: u32 = HIGHEST as u32 * 2 + 1;
+
 // How many of 64 bits a number leaves over.
 const SPARE: i64 = 64 - BITS;
 

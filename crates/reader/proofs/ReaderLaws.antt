@@ -1,6 +1,6 @@
 -- The parts that the reader puts together are those of the routine. Assumes nothing.
 use Prim.Native.Nat.{ℕ, zero, suc, _+_, _%_, _≤_, min}
-use mathlib.Core.Path.{_≡_, refl, sym, ap, ap₂, _∙_}
+use mathlib.Core.Path.{_≡_, refl, sym, ap, ap₂, subst, _∙_}
 use mathlib.Core.List.{List, [], _∷_, map}
 use native.Mathlib.Omega.{arith}
 use native.Mathlib.Numerals.{add-one}
@@ -10,6 +10,10 @@ use Rattle.text.specs.Text.{Line}
 use Rattle.numbers.specs.declared.Range.{Range}
 use Rattle.numbers.specs.Numbers.{numbers}
 use Rattle.cells.specs.declared.Cell.{Cell}
+use Rattle.cells.specs.Codes.{Kept}
+use Rattle.machine.specs.Machine.{State}
+use Rattle.machine.specs.Order.{Cellwise}
+use Rattle.routine.proofs.StartLaws.{start-kept}
 use Rattle.states.specs.Columns.{instructionsOf, codeOf, Sized}
 use Rattle.states.specs.View.{view, Fits, whole}
 use Rattle.states.specs.declared.State as code
@@ -179,3 +183,7 @@ columns-sized count r h a b c d e k =
       extras = taken count (r .extras) (omega arith) ∙ sym n;
       codes = k;
     }
+
+-- the numbers of a start that is read
+pub kept-start : {s : State} (ls : List Line) → s ≡ routineOf ls .start → Cellwise Kept s s
+kept-start ls e = subst (λ (t : State). Cellwise Kept t t) (sym e) (start-kept ls)

@@ -5,6 +5,8 @@ use mathlib.Core.List.{List}
 use lib.IntN.{ℤ}
 use lib.ListN.{length, getD, take}
 use Rattle.text.specs.Text.{Line}
+use Rattle.cells.specs.Codes.{Kept}
+use Rattle.machine.specs.Order.{Cellwise}
 use Rattle.states.specs.Columns.{instructionsOf, codeOf, Sized}
 use Rattle.states.specs.View.{WellFormed, Fits, whole}
 use Rattle.routine.specs.Layout.{body, codeLines}
@@ -62,6 +64,8 @@ pub record Limited (held : Routine) : Type 0 where
   pub formed : WellFormed (held .start)
   pub present : held .blocks ≤ 8
   pub fits : Fits (sizes held) (held .fields)
+  -- the numbers in its start have as many bits as numbers have
+  pub numeric : Cellwise Kept (whole (sizes held) (held .fields) (held .start)) (whole (sizes held) (held .fields) (held .start))
   pub answered : held .answers .count ≤ 64
   pub places : length (held .answers .values) ≡ 64
 

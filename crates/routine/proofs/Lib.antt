@@ -9,3 +9,4 @@ pub mod CodeLineLaws
 pub mod PassingLaws
 pub mod BranchLaws
 pub mod PlaceLaws
+pub mod StartLaws

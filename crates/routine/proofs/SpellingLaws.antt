@@ -1,7 +1,7 @@
 -- "ASCII": an accepted text is, with no check of its own, since each of its words is a fixed word, a number, a cell or a name that the
 -- rows know. Assumes nothing.
-use Prim.Native.Nat.{ℕ, suc, _+_, _<_}
-use mathlib.Core.Path.{_≡_, refl}
+use Prim.Native.Nat.{ℕ, zero, suc, _+_, _<_}
+use mathlib.Core.Path.{_≡_, refl, ap, subst, _∙_}
 use mathlib.Core.Bool.{Bool, true, false, cond, _&&_, false≢true}
 use mathlib.Core.List.{List, [], _∷_, _++_}
 use native.Mathlib.Omega.{arith}
@@ -28,7 +28,7 @@ use Rattle.routine.specs.declared.Role.the-variants.{Names as names, Val
 use Rattle.routine.specs.Layout.{list, listed}
 use Rattle.routine.specs.declared.CellWord.the-variants.{Unknown as unknown}
 use Rattle.routine.specs.declared.Row.the-variants.{Layout as layout-row, Name as name-row}
-use Rattle.routine.specs.Rows.{valuesLaidOut, codeLaidOut, codeNamed, isNumeral, knownOf, blockOf, hashed, cellWord, isCell, isCapital, inName, isName, stackNames, cellNames, isField, sizesFrom, blockSizes, total, at, op, arg, argumentLaidOut, argumentNamed, columnLaidOut, namesLaidOut, laidOut, wellNamed, named, test, Passes}
+use Rattle.routine.specs.Rows.{valuesLaidOut, codeLaidOut, codeNamed, isNumeral, knownOf, blockOf, spanOf, stop, spanned, hashed, cellWord, isCell, isCapital, inName, isName, stackNames, cellNames, isField, sizesFrom, blockSizes, total, at, op, arg, argumentLaidOut, argumentNamed, columnLaidOut, namesLaidOut, laidOut, wellNamed, named, test, Passes}
 use Rattle.routine.proofs.RowLaws.{held-lines, laid-out, passes-named, lists-path}
 use Rattle.routine.proofs.CodeLaws.{CodeLaidOut, code-laid-out, CodeNamed, code-named, kind-there, on-kind}
 
@@ -69,14 +69,46 @@ unfolding isCell blockOf isNumeral
 block-spelt misspelt e = e
 block-spelt (number z) e = refl
 
+-- two full stops between two parts
+parts-ascii : (n : ℕ) (w : List ℕ) → Ascii (take n w) → getD w n 0 ≡ 46 → getD w (suc n) 0 ≡ 46 → Ascii (drop (suc (suc n)) w) → Ascii w
+parts-ascii n [] a p q b = Every.none
+parts-ascii zero (x ∷ []) a p q b = more {x = x} (omega arith) Every.none
+parts-ascii zero (x ∷ y ∷ ws) a p q b = more {x = x} (omega arith) (more {x = y} (omega arith) b)
+parts-ascii (suc n) (x ∷ ws) (more h a) p q b = more {x = x} h (parts-ascii n ws a p q b)
+
+span-spelt : (m n : Numeral) → isCell (spanOf m n) ≡ true → (isNumeral m ≡ true) × (isNumeral n ≡ true)
+unfolding isCell spanOf isNumeral
+span-spelt misspelt n e = absurd (false≢true e)
+span-spelt (number lo) misspelt e = absurd (false≢true e)
+span-spelt (number lo) (number hi) e = (refl, refl)
+
+spanned-ascii : (w : List ℕ) → isCell (spanned w) ≡ true → Ascii w
+unfolding spanned
+spanned-ascii w e = go (eqb (getD w (stop w) 0) 46) refl (eqb (getD w (stop w + 1) 0) 46) refl e
+  where
+    plain : isCell (knownOf (numeral w)) ≡ true → Ascii w
+    plain h = spelt-ascii w (known-spelt (numeral w) h)
+
+    go : (a : Bool) → eqb (getD w (stop w) 0) 46 ≡ a → (b : Bool) → eqb (getD w (stop w + 1) 0) 46 ≡ b
+        → isCell (cond (a && b) (spanOf (numeral (take (stop w) w)) (numeral (drop (stop w + 2) w))) (knownOf (numeral w))) ≡ true → Ascii w
+    go true p true q h =
+        let s = span-spelt (numeral (take (stop w) w)) (numeral (drop (stop w + 2) w)) h in
+        let one : suc (stop w) ≡ stop w + 1 = omega arith in
+        let two : stop w + 2 ≡ suc (suc (stop w)) = omega arith in
+        parts-ascii (stop w) w (spelt-ascii (take (stop w) w) (s .0)) (eqb-true (getD w (stop w) 0) 46 p)
+        (ap (λ (k : ℕ). getD w k 0) one ∙ eqb-true (getD w (stop w + 1) 0) 46 q)
+        (subst (λ (k : ℕ). Ascii (drop k w)) two (spelt-ascii (drop (stop w + 2) w) (s .1)))
+    go true p false q h = plain h
+    go false p b q h = plain h
+
 hashed-ascii : (w : List ℕ) → isCell (hashed w) ≡ true → Ascii w
 unfolding isCell hashed
 hashed-ascii [] e = Every.none
 hashed-ascii (d ∷ ds) e = go (eqb d 35) refl e
   where
-    go : (b : Bool) → eqb d 35 ≡ b → isCell (cond b (blockOf (numeral ds)) (knownOf (numeral (d ∷ ds)))) ≡ true → Ascii (d ∷ ds)
+    go : (b : Bool) → eqb d 35 ≡ b → isCell (cond b (blockOf (numeral ds)) (spanned (d ∷ ds))) ≡ true → Ascii (d ∷ ds)
     go true q h = let k = eqb-true d 35 q in more {x = d} (omega arith) (spelt-ascii ds (block-spelt (numeral ds) h))
-    go false q h = spelt-ascii (d ∷ ds) (known-spelt (numeral (d ∷ ds)) h)
+    go false q h = spanned-ascii (d ∷ ds) h
 
 cell-ascii : (w : List ℕ) → isCell (cellWord w) ≡ true → Ascii w
 unfolding cellWord isAscii all

@@ -10,7 +10,7 @@ use Rattle.refusals.specs.declared.Refusal.{Refusal}
 use Rattle.refusals.specs.declared.Refusal.the-variants.{TextLength, Layout, OutOfRange, BadName, Unpriced, NoTarget, Backward, UnknownCell}
 use Rattle.text.specs.Text.{Line, lines, find}
 use Rattle.cells.specs.declared.Cell.{Cell}
-use Rattle.cells.specs.Cells.{number, handle}
+use Rattle.cells.specs.Cells.{number, between, handle}
 use Rattle.cells.specs.Cells as cells-of
 use Rattle.numbers.specs.declared.Range.{Range}
 use Rattle.numbers.specs.Numbers.{within, numbers}
@@ -25,7 +25,7 @@ use Rattle.routine.specs.declared.Column.the-variants.{Limit as limit, C
 use Rattle.routine.specs.declared.Role.the-variants.{Names as names, Values as values}
 use Rattle.routine.specs.Layout.{body, codeLines, answerLines, listed}
 use Rattle.routine.specs.declared.CellWord.{CellWord}
-use Rattle.routine.specs.declared.CellWord.the-variants.{Wrong as wrong, Unknown as unknown, Known as known, Block as block}
+use Rattle.routine.specs.declared.CellWord.the-variants.{Wrong as wrong, Unknown as unknown, Known as known, Block as block, Span as span}
 use Rattle.routine.specs.declared.Row.{Row}
 use Rattle.routine.specs.declared.Row.the-variants.{Layout as layout-row, Range as range-row, Name as name-row, Price as price-row, Target as target-row, Forward as forward-row, Known as known-row}
 use Rattle.routine.specs.declared.RefusedLine.{RefusedLine}
@@ -102,12 +102,13 @@ codeIn ls = record {
 
 -- ---- cells
 
--- "number, `?` for unknown, `#k` for block k (0 to 7)"
+-- "number, `?` for unknown, `#k` for block k (0 to 7)", `lo..hi`
 unfoldable pub cellOf : CellWord → Cell
 cellOf wrong = number (pos 0)
 cellOf unknown = cells-of.unknown
 cellOf (known z) = number (inside numbers z)
 cellOf (block k) = handle (natAbs (inside handles k))
+cellOf (span lo hi) = between (inside numbers lo) (inside numbers hi)
 
 -- the cells that a line lists
 unfoldable pub cellsOf : List (List ℕ) → List Cell

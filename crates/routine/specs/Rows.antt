@@ -8,7 +8,7 @@ use lib.Dec.{eqb, leb, ltb}
 use lib.IntN.{ℤ, pos, natAbs, _+ℤ_}
 use lib.Signed.{leZ, ltZ}
 use lib.ListN.{length, getD, take, drop}
-use Rattle.text.specs.Text.{bytes, isEmpty, equals, words, Line, place, among, all, distinct}
+use Rattle.text.specs.Text.{bytes, isEmpty, equals, split, words, Line, place, among, all, distinct}
 use Rattle.text.specs.declared.Place.{Place}
 use Rattle.text.specs.declared.Place.the-variants.{At, Missing}
 use Rattle.text.specs.declared.Numeral.{Numeral}
@@ -27,7 +27,7 @@ use Rattle.routine.specs.declared.Column.the-variants.{Limit as limit, C
 use Rattle.routine.specs.declared.Role.{Role}
 use Rattle.routine.specs.declared.Role.the-variants.{Names as names, Values as values, Code as code, Answer as answer}
 use Rattle.routine.specs.declared.CellWord.{CellWord}
-use Rattle.routine.specs.declared.CellWord.the-variants.{Wrong as wrong, Unknown as unknown, Known as known, Block as block}
+use Rattle.routine.specs.declared.CellWord.the-variants.{Wrong as wrong, Unknown as unknown, Known as known, Block as block, Span as span}
 use Rattle.routine.specs.declared.Row.{Row}
 use Rattle.routine.specs.declared.Row.the-variants.{Layout as layout-row, Range as range-row, Name as name-row, Price as price-row, Target as target-row, Forward as forward-row, Known as known-row}
 use Rattle.routine.specs.declared.RefusedLine.{RefusedLine}
@@ -60,32 +60,60 @@ unfoldable pub blockOf : Numeral → CellWord
 blockOf misspelt = wrong
 blockOf (number z) = block z
 
+-- "A start or block cell may be `lo..hi`" (document 02 §12)
+unfoldable pub spanOf : Numeral → Numeral → CellWord
+spanOf misspelt n = wrong
+spanOf (number lo) misspelt = wrong
+spanOf (number lo) (number hi) = span lo hi
+
+-- how many bytes stand before the first full stop, which is byte 46
+abbrev pub stop : List ℕ → ℕ
+stop w = length (getD (split 46 w) 0 [])
+
+-- a number, or two around `..`
+unfoldable pub spanned : List ℕ → CellWord
+spanned w = cond (eqb (getD w (stop w) 0) 46 && eqb (getD w (stop w + 1) 0) 46) (spanOf (numeral (take (stop w) w)) (numeral (drop (stop w + 2) w))) (knownOf (numeral w))
+
 -- a word that is not `?`: `#` is byte 35
 unfoldable pub hashed : List ℕ → CellWord
 hashed [] = wrong
-hashed (d ∷ ds) = cond (eqb d 35) (blockOf (numeral ds)) (knownOf (numeral (d ∷ ds)))
+hashed (d ∷ ds) = cond (eqb d 35) (blockOf (numeral ds)) (spanned (d ∷ ds))
 
 -- what a word on line 11 or 13 says
 unfoldable pub cellWord : List ℕ → CellWord
 cellWord w = cond (equals w (bytes "?")) unknown (hashed w)
 
--- whether it is spelt as one of the three
+-- whether it is spelt as one of the four
 unfoldable pub isCell : CellWord → Bool
 isCell wrong = false
 isCell unknown = true
 isCell (known z) = true
 isCell (block k) = true
+isCell (span lo hi) = true
 
 -- "`#k` with k outside 0 to 7 is 3"
 abbrev pub handles : Range
 handles = range 0 7
 
--- whether its number is in range; a word that row 2 refuses passes
+-- "lo above hi is refusal 3"
+abbrev pub spanInRange : ℤ → ℤ → Bool
+spanInRange lo hi = within numbers lo && within numbers hi && leZ lo hi
+
+-- whether its numbers are in range; a word that row 2 refuses passes
 unfoldable pub cellInRange : CellWord → Bool
 cellInRange wrong = true
 cellInRange unknown = true
 cellInRange (known z) = within numbers z
 cellInRange (block k) = within handles k
+cellInRange (span lo hi) = spanInRange lo hi
+
+-- whether it is not `?` and not "a range of more than one number"; a word that row 2 or 3 refuses passes
+unfoldable pub isSingle : CellWord → Bool
+isSingle wrong = true
+isSingle unknown = false
+isSingle (known z) = true
+isSingle (block k) = true
+isSingle (span lo hi) = cond (spanInRange lo hi) (same lo hi) true
 
 -- "handle to an absent block": n blocks are present
 unfoldable pub cellPresent : ℕ → CellWord → Bool
@@ -93,6 +121,7 @@ cellPresent n wrong = true
 cellPresent n unknown = true
 cellPresent n (known z) = true
 cellPresent n (block k) = ltb (natAbs k) n
+cellPresent n (span lo hi) = true
 
 -- ---- names
 
@@ -355,9 +384,9 @@ forward ls (values s c) text = true
 forward ls (code k) text = codeForward (firstAt (body ls)) k text
 forward ls (answer k) text = true
 
--- row 11: "run only: a `?` on line 10, then 12"
+-- row 11: "run only: a `?` on line 10, then 12"; "A run refuses a range of more than one number as it does `?`." (document 02 §12)
 unfoldable pub allKnown : Role → List ℕ → Bool
-allKnown r text = onCells (λ w. not (equals w (bytes "?"))) r text
+allKnown r text = onCells (λ w. isSingle (cellWord w)) r text
 
 -- the test of a row on one line; in row 2 also "Each line ends in a line feed" and "words are parted by one space"
 unfoldable pub test : Row → List Line → Role → Line → Bool

@@ -30,12 +30,13 @@ pub enum Role {
     Answer(usize),
 }
 
-// What a word says where a cell is wanted: "number, `?` for unknown, `#k` for block k"; or nothing of the kind.
+// What a word says where a cell is wanted: "number, `?` for unknown, `#k` for block k", `lo..hi`; or nothing of the kind.
 pub enum CellWord {
     Wrong,
     Unknown,
     Known(i64),
     Block(i64),
+    Span(i64, i64),
 }
 
 // The rows of the refusal table that look at lines: 2, 3, 4, 5, 6, 13 and 11.

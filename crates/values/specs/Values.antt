@@ -6,7 +6,7 @@ use Rattle.text.specs.Decimal.{most, clamp}
 use Rattle.numbers.specs.declared.Range.{Range}
 use Rattle.numbers.specs.Numbers.{range}
 use Rattle.routine.specs.declared.CellWord.{CellWord}
-use Rattle.routine.specs.declared.CellWord.the-variants.{Wrong, Unknown, Known, Block}
+use Rattle.routine.specs.declared.CellWord.the-variants.{Wrong, Unknown, Known, Block, Span}
 
 -- a range that a clamped number is within exactly if the number is: both ends are less than `most` away from 0
 pub record Near (r : Range) : Type 0 where
@@ -20,9 +20,10 @@ pub record NaturalRange (r : Range) : Type 0 where
   pub is : r ≡ range least greatest
   pub small : (least ≤ 4294967295) × (greatest ≤ 4294967295)
 
--- a cell word with its number clamped
+-- a cell word with its numbers clamped
 unfoldable pub clampedCell : CellWord → CellWord
 clampedCell Wrong = Wrong
 clampedCell Unknown = Unknown
 clampedCell (Known z) = Known (clamp z)
 clampedCell (Block k) = Block (clamp k)
+clampedCell (Span lo hi) = Span (clamp lo) (clamp hi)

@@ -12,8 +12,8 @@ ghost use lib.Signed.{mag, ltZ};
 ghost use Rattle.text.specs.Text.{lines};
 ghost use Rattle.text.specs.Decimal.{numeral, most, clamp};
 ghost use Rattle.numbers.specs.Numbers.{range, within, numbers};
-ghost use Rattle.cells.specs.Cells.{number, handle};
-ghost use Rattle.routine.specs.Rows.{isNumeral, value, knownOf, blockOf, cellWord, isCell, handles, cellInRange, cellPresent};
+ghost use Rattle.cells.specs.Cells.{number, between, handle};
+ghost use Rattle.routine.specs.Rows.{isNumeral, value, knownOf, blockOf, spanOf, spanned, cellWord, isCell, handles, spanInRange, cellInRange, isSingle, cellPresent};
 ghost use Rattle.routine.specs.Routine.{inside, naturalIn, firstAddress, cellOf};
 ghost use Rattle.values.specs.Values.{Near, NaturalRange, clampedCell};
 
@@ -120,7 +120,38 @@ fn block_word(n: Numeral) -> CellWord
     }
 }
 
-// What w says where a cell is wanted: "number, `?` for unknown, `#k` for block k".
+fn span_word(m: Numeral, n: Numeral) -> CellWord
+    ensures { λ r. ⌜ r ≡ spanOf m n ⌝ }
+{
+    match m {
+        Numeral::Misspelt => CellWord::Wrong,
+        Numeral::Number(lo) => match n {
+            Numeral::Misspelt => CellWord::Wrong,
+            Numeral::Number(hi) => CellWord::Span(lo, hi),
+        },
+    }
+}
+
+// A number, or two around the first full stop and one behind it.
+fn spanned(w: &[u8]) -> CellWord
+    ensures { λ r. ⌜ r ≡ clampedCell (spanned (now (w .entry))) ⌝ }
+{
+    let n = text::piece_length(w, b'.');
+    let next = n + 1;
+    if next >= w.len() {
+        return known_word(text::read_numeral(w));
+    }
+    if w[n] != b'.' {
+        return known_word(text::read_numeral(w));
+    }
+    if w[next] != b'.' {
+        return known_word(text::read_numeral(w));
+    }
+    let after = n + 2;
+    span_word(text::read_numeral(&w[..n]), text::read_numeral(&w[after..]))
+}
+
+// What w says where a cell is wanted: "number, `?` for unknown, `#k` for block k", `lo..hi`.
 pub fn cell_word(w: &[u8]) -> CellWord
     ensures { λ r. ⌜ r ≡ clampedCell (cellWord (now (w .entry))) ⌝ }
 {
@@ -133,7 +164,7 @@ pub fn cell_word(w: &[u8]) -> CellWord
     if w[0] == b'#' {
         return block_word(text::read_numeral(&w[1..]));
     }
-    known_word(text::read_numeral(w))
+    spanned(w)
 }
 
 pub fn is_cell(w: &[u8]) -> bool
@@ -145,12 +176,43 @@ pub fn is_cell(w: &[u8]) -> bool
     true
 }
 
+// "lo above hi is refusal 3"
+fn span_in_range(lo: i64, hi: i64) -> bool
+    ensures { λ r. ⌜ r ≡ spanInRange lo hi ⌝ }
+{
+    if !numbers::within(numbers::number_range(), lo) {
+        return false;
+    }
+    if !numbers::within(numbers::number_range(), hi) {
+        return false;
+    }
+    lo <= hi
+}
+
 pub fn cell_in_range(w: &[u8]) -> bool
     ensures { λ r. ⌜ r ≡ cellInRange (cellWord (now (w .entry))) ⌝ }
 {
     match cell_word(w) {
         CellWord::Known(z) => numbers::within(numbers::number_range(), z),
         CellWord::Block(k) => numbers::within(layout::handles(), k),
+        CellWord::Span(lo, hi) => span_in_range(lo, hi),
+        _ => true,
+    }
+}
+
+// Whether w is not `?` and not "a range of more than one number".
+pub fn is_single(w: &[u8]) -> bool
+    ensures { λ r. ⌜ r ≡ isSingle (cellWord (now (w .entry))) ⌝ }
+{
+    match cell_word(w) {
+        CellWord::Unknown => false,
+        CellWord::Span(lo, hi) => {
+            if span_in_range(lo, hi) {
+                lo == hi
+            } else {
+                true
+            }
+        }
         _ => true,
     }
 }
@@ -182,6 +244,14 @@ fn number_cell(z: i64) -> Cell
     cells::number(n as i32)
 }
 
+fn span_cell(lo: i64, hi: i64) -> Cell
+    ensures { λ r. ⌜ r ≡ between (inside numbers lo) (inside numbers hi) ⌝ }
+{
+    let l = inside(numbers::number_range(), lo);
+    let h = inside(numbers::number_range(), hi);
+    cells::between(l as i32, h as i32)
+}
+
 fn handle_cell(k: i64) -> Cell
     ensures { λ r. ⌜ r ≡ handle (natAbs (inside handles k)) ⌝ }
 {
@@ -198,5 +268,6 @@ pub fn cell_of(w: &[u8]) -> Cell
         CellWord::Unknown => cells::unknown(),
         CellWord::Known(z) => number_cell(z),
         CellWord::Block(k) => handle_cell(k),
+        CellWord::Span(lo, hi) => span_cell(lo, hi),
     }
 }

@@ -4,14 +4,15 @@ use Prim.Native.Nat.{_≤_, _-_}
 use mathlib.Core.Path.{_≡_, refl, sym, ap, _∙_}
 use native.Mathlib.Omega.{arith}
 use lib.ListN.{length, take, length-set}
-use Rattle.cells.specs.Codes.{cellsOf, cellOf}
+use mathlib.Core.List.{map}
+use Rattle.cells.specs.Codes.{cellsOf, cellOf, confine}
 use Rattle.arrivals.proofs.FillLaws.{encoded-next, encoded-all}
 use borrow.Author.Needs.{needs}
 use Rattle.arrivals.proofs.encode_fields.Statement.{statement}
 use Rattle.arrivals.proofs.encode_fields.Tie as tie
 
 abbrev Inv-loop : tie.InvT-loop
-Inv-loop fields₀ blocks i₀ fields i = (i ≤ 128) × (length fields ≡ 128) × (cellsOf (take i fields) ≡ take i blocks)
+Inv-loop fields₀ blocks i₀ fields i = (i ≤ 128) × (length fields ≡ 128) × (cellsOf (take i fields) ≡ map confine (take i blocks))
 
 abbrev μ-loop : tie.MeasureT-loop
 μ-loop fields₀ blocks i₀ fields i = 128 - i

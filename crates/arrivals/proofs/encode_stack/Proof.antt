@@ -4,14 +4,15 @@ use Prim.Native.Nat.{_≤_, _-_}
 use mathlib.Core.Path.{_≡_, refl, sym, ap, _∙_}
 use native.Mathlib.Omega.{arith}
 use lib.ListN.{length, take, length-set}
-use Rattle.cells.specs.Codes.{cellsOf, cellOf}
+use mathlib.Core.List.{map}
+use Rattle.cells.specs.Codes.{cellsOf, cellOf, confine}
 use Rattle.arrivals.proofs.FillLaws.{encoded-next, encoded-all}
 use borrow.Author.Needs.{needs}
 use Rattle.arrivals.proofs.encode_stack.Statement.{statement}
 use Rattle.arrivals.proofs.encode_stack.Tie as tie
 
 abbrev Inv-loop : tie.InvT-loop
-Inv-loop entries₀ stack i₀ entries i = (i ≤ 64) × (length entries ≡ 64) × (cellsOf (take i entries) ≡ take i stack)
+Inv-loop entries₀ stack i₀ entries i = (i ≤ 64) × (length entries ≡ 64) × (cellsOf (take i entries) ≡ map confine (take i stack))
 
 abbrev μ-loop : tie.MeasureT-loop
 μ-loop entries₀ stack i₀ entries i = 64 - i

@@ -33,7 +33,7 @@ returns c =
     let at = a .w .state .at in
     let m : getD (a .head .now) 0 0 ≡ 0 = search needs in
     slot-held ns at (p .last .0) _ _ (p .ensures .0)
-    ∙ first-joined _ _ (arrivalOf ns (a .w)) (p .ensures .1 ns)
+    ∙ first-joined _ _ (arrivalOf ns (a .w)) (p .ensures .1 ns (start .pre .1 .1))
     ∙ ap (λ (s : Slot). join s (arrivalOf ns (a .w))) (sym (slot-empty ns at (a .head .now) (a .entries .now) (a .fields .now) m))
 
 slice-aggregate-put : tie.Need-slice-aggregate-put
@@ -78,7 +78,7 @@ returns-2 c =
     let at = a .w .state .at in
     let m : getD (a .head .now) 0 0 ≡ 1 = c .before .before .before .before .before .before .before .before .before .before .before .before .before .before .before .before .before .before .before .before .if2 .taken in
     c .before .before .before .before .before .before .meet .ensures at at
-    ∙ next-joined _ _ _ _ (arrivalOf ns (a .w)) (p .ensures .1 ns)
+    ∙ next-joined _ _ _ _ (arrivalOf ns (a .w)) (p .ensures .1 ns (start .pre .1 .1))
     ∙ ap (λ (s : Slot). join s (arrivalOf ns (a .w))) (sym (slot-held ns at (a .head .now) (a .entries .now) (a .fields .now) m))
 
 returns-3 : tie.Need-returns-3

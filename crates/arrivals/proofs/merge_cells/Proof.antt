@@ -9,7 +9,8 @@ use Rattle.cells.specs.Answers.{ofOperand}
 use Rattle.cells.specs.Merge.{mergeCells}
 use Rattle.cells.specs.Codes.{cellOf, cellsOf}
 use Rattle.merges.specs.Merge.{mergeLists}
-use Rattle.cells.proofs.CodeLaws.{cells-length, cells-at, cells-set}
+use Rattle.cells.proofs.CodeLaws.{cells-length, cells-at, cells-set, decoded-confined}
+use Rattle.cells.proofs.MergeLaws.{merged-confined}
 use Rattle.arrivals.proofs.ZipLaws.{Partly, none-made, one-made, none-merged, all-made}
 use borrow.Author.Needs.{needs}
 use Rattle.arrivals.proofs.merge_cells.Statement.{statement}
@@ -43,7 +44,8 @@ decode-requires-2 : tie.Need-decode-requires-2 Inv-loop μ-loop
 decode-requires-2 c κs = search needs
 
 merge-requires : tie.Need-merge-requires Inv-loop μ-loop
-merge-requires c κs = search needs
+merge-requires c κs =
+    (decoded-confined _ (c .before .before .decode .ensures), decoded-confined _ (c .decode2 .ensures))
 
 enum-known-merged : tie.Need-enum-known-merged Inv-loop μ-loop
 enum-known-merged c = search needs
@@ -82,7 +84,8 @@ loop-again c =
     let m = c .before .before .before .before in
     let l = m .before .before .before .before .before .before .loop in
     let came = m .before .before .before .before .before .before .before .before .before .args .came .now in
-    let e = ap done (c .encode .ensures) ∙ ap ofOperand (sym (c .before .before .merged .given .1)) ∙ m .merge .ensures ∙ ap₂ mergeCells (m .before .before .before .decode .ensures) (m .before .decode2 .ensures) ∙ sym (ap₂ mergeCells (cells-at (l .held) (l .i)) (cells-at came (l .i))) in (
+    let kept = merged-confined (decoded-confined _ (m .before .before .before .decode .ensures)) (decoded-confined _ (m .before .decode2 .ensures)) (ap ofOperand (sym (c .before .before .merged .given .1)) ∙ m .merge .ensures) .stays in
+    let e = ap done (c .encode .ensures ∙ kept) ∙ ap ofOperand (sym (c .before .before .merged .given .1)) ∙ m .merge .ensures ∙ ap₂ mergeCells (m .before .before .before .decode .ensures) (m .before .decode2 .ensures) ∙ sym (ap₂ mergeCells (cells-at (l .held) (l .i)) (cells-at came (l .i))) in (
       omega arith,
       rw length-set (l .inv .1),
       rw cells-set

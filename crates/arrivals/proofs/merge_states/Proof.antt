@@ -6,6 +6,8 @@ use native.Mathlib.Omega.{arith}
 use lib.Seq.{take-set-le}
 use borrow.Author.Tests.{not-true, not-false}
 use Rattle.cells.specs.Try.{done}
+use Rattle.cells.proofs.CodeLaws.{decoded-confined}
+use Rattle.cells.proofs.MergeLaws.{merged-confined}
 use Rattle.cells.specs.Answers.{ofOperand}
 use Rattle.cells.specs.Merge.{mergeCells}
 use Rattle.arrivals.specs.Rows.{ofCells}
@@ -50,7 +52,8 @@ decode-requires-2 : tie.Need-decode-requires-2
 decode-requires-2 c κs = search needs
 
 merge-requires : tie.Need-merge-requires
-merge-requires c κs = search needs
+merge-requires c κs =
+    (decoded-confined _ (c .before .before .decode .ensures), decoded-confined _ (c .decode2 .ensures))
 
 enum-known-merged : tie.Need-enum-known-merged
 enum-known-merged c = search needs
@@ -133,7 +136,9 @@ returns-4 c =
     let a = start .args in
     let free = c .before .before .before .before .before .before .before .before .before .before .before .before .before .before .before .before .before .before .before .before .before .before .unused .ensures in
     let other = c .before .before .before .before .before .before .before .before .before .before .before .before .before .before .before .before .before .before .before .if1 .left ∙ c .before .before .before .before .before .before .before .before .before .before .before .before .before .before .before .before .before .before .before .before .unused2 .ensures in
-    let accu = ap done (c .before .before .before .before .before .before .before .before .before .before .encode .ensures) ∙ ap ofOperand (sym (c .before .before .before .before .before .before .before .before .before .before .before .before .merged .given .1)) ∙ c .before .before .before .before .before .before .before .before .before .before .before .before .before .before .merge .ensures ∙ ap₂ mergeCells (c .before .before .before .before .before .before .before .before .before .before .before .before .before .before .before .before .before .decode .ensures) (c .before .before .before .before .before .before .before .before .before .before .before .before .before .before .before .decode2 .ensures) in
+    let made = ap ofOperand (sym (c .before .before .before .before .before .before .before .before .before .before .before .before .merged .given .1)) ∙ c .before .before .before .before .before .before .before .before .before .before .before .before .before .before .merge .ensures in
+    let kept = merged-confined (decoded-confined _ (c .before .before .before .before .before .before .before .before .before .before .before .before .before .before .before .before .before .decode .ensures)) (decoded-confined _ (c .before .before .before .before .before .before .before .before .before .before .before .before .before .before .before .decode2 .ensures)) made in
+    let accu = ap done (c .before .before .before .before .before .before .before .before .before .before .encode .ensures ∙ kept .stays) ∙ made ∙ ap₂ mergeCells (c .before .before .before .before .before .before .before .before .before .before .before .before .before .before .before .before .before .decode .ensures) (c .before .before .before .before .before .before .before .before .before .before .before .before .before .before .before .decode2 .ensures) in
     let stack = ap (λ (b : Bool). ofCells b (c .before .before .before .before .before .before .before .merge-cells .last .0)) (sym (not-false (c .before .before .before .before .before .before .before .merge-cells .result) (c .before .before .before .before .if2 .left))) ∙ c .before .before .before .before .before .before .before .merge-cells .ensures in (
       λ x y.
           rows-merged _ x y (a .head .now) (a .entries .now) (a .fields .now) (a .h .now) (a .es .now) (a .fs .now) _ free other _ _ _ (start .pre .0 .0) (start .pre .0 .1) (c .before .before .merge-blocks .result) accu stack (c .before .before .merge-blocks .ensures),

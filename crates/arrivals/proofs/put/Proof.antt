@@ -49,9 +49,9 @@ returns c =
     let a = start .args in
     let e = head-written (a .head .now) (start .pre .0 .0) 1 (a .w .state .free) (a .w .cycles) (a .w .words) (c .before .before .before .before .before .before .before .before .encode .result) in (
       ap (λ (h : List ℕ). getD h 0 0) e,
-      λ ns.
+      λ ns numeric.
           ap (λ (h : List ℕ). arrivalIn ns (a .w .state .at) h (c .before .before .before .before .before .before .encode-stack .last .1 .0) (c .before .before .encode-fields .last .1 .0)) e
-          ∙ put-holds ns (a .w) _ _ 1 _ (start .pre .1) (c .before .before .before .before .before .before .before .before .encode .ensures) (c .before .before .before .before .before .before .encode-stack .ensures) (c .before .before .encode-fields .ensures),
+          ∙ put-holds ns (a .w) _ _ 1 _ (start .pre .1) numeric (c .before .before .before .before .before .before .before .before .encode .ensures) (c .before .before .before .before .before .before .encode-stack .ensures) (c .before .before .encode-fields .ensures),
     )
 
 pub put-spec : {M : Type 1} → statement M

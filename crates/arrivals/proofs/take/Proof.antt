@@ -1,6 +1,6 @@
 -- `arrivals::take` meets its contract. Assumes nothing.
 use mathlib.Core.Path.{refl}
-use Rattle.arrivals.proofs.RowLaws.{take-holds, take-formed}
+use Rattle.arrivals.proofs.RowLaws.{take-holds, take-formed, take-numeric}
 use borrow.Author.Needs.{needs}
 use Rattle.arrivals.proofs.take.Statement.{statement}
 use Rattle.arrivals.proofs.take.Tie as tie
@@ -37,7 +37,13 @@ returns c =
     let stack = c .before .before .before .decode-stack .ensures in
     let blocks = c .before .before .decode-fields .ensures in (
       λ ns. take-holds (a .at) (a .head .now) (a .entries .now) (a .fields .now) _ _ _ _ free stack blocks ns (c .before .before .before .before .before .before .decode .ensures),
-      (take-formed (a .at) (a .head .now) (a .entries .now) (a .fields .now) _ _ _ _ free stack blocks (start .pre .1) (start .pre .2), refl),
+      (
+        (
+          take-formed (a .at) (a .head .now) (a .entries .now) (a .fields .now) _ _ _ _ free stack blocks (start .pre .1) (start .pre .2),
+          λ ns. take-numeric (a .at) (a .head .now) (a .entries .now) (a .fields .now) _ _ _ _ free stack blocks ns (c .before .before .before .before .before .before .decode .ensures),
+        ),
+        refl,
+      ),
     )
 
 pub take-spec : {M : Type 1} → statement M

@@ -1,57 +1,101 @@
 -- `cells::condition_of` meets its contract. Assumes nothing.
 use mathlib.Core.Path.{_≡_, refl, sym, ap, _∙_}
-use Prim.Native.Nat.{zero, suc}
-use lib.Dec.{lit<}
-use lib.IntN.{ℤ, pos, negsuc}
-use mir.Syntax.{w32}
-use mir.Val.{SFits, ofZ}
+use mathlib.Core.Bool.{Bool, true, false, cond, _&&_}
+use Prim.Native.Nat.{ℕ, _<_, _^_}
+use lib.Dec.{eqb}
+use lib.IntN.{ℤ, pos}
+use lib.Signed.{leZ, ltZ}
+use mir.Syntax.{w32, w64}
+use mir.Val.{SFits}
+use mir.ValLaws.{toZ-ofZ}
+use native.Mathlib.Omega.{arith}
+use borrow.Author.Tests.{eq-eqb, ne-eqb}
+use Rattle.numbers.proofs.SignedLaws.{read}
+use Rattle.numbers.proofs.IntegerLaws.{le-yes, le-no, lt-true, lt-false}
+use Rattle.cells.specs.declared.Cell.{Cell}
+use Rattle.cells.specs.declared.Value.the-variants.{Range, Handle}
+use Rattle.cells.specs.declared.Condition.{Condition}
+use Rattle.cells.specs.declared.Condition.the-variants.{IsZero, IsNonzero, IsUnknown}
+use Rattle.cells.specs.Try.{Try, stuck, done}
+use Rattle.cells.specs.Cells.{high, conditionIn, condition}
+use Rattle.cells.proofs.ComputeLaws.{high-told, tested}
 use borrow.Author.Needs.{needs}
-use Rattle.numbers.proofs.SignedLaws.{bits-equal}
-use Rattle.cells.specs.declared.Value.the-variants.{Number}
-use Rattle.cells.specs.declared.Condition.the-variants.{IsZero, IsNonzero}
-use Rattle.cells.specs.Try.{done}
-use Rattle.cells.specs.Cells.{conditionIn, condition}
 use Rattle.cells.proofs.condition_of.Statement.{statement}
 use Rattle.cells.proofs.condition_of.Tie as tie
 
-zero-condition : (n : ℤ) → SFits w32 n → ofZ w32 n ≡ 0 → done IsZero ≡ conditionIn (Number n)
-unfolding conditionIn
-zero-condition n h e = ap (λ z. conditionIn (Number z)) (sym (bits-equal w32 n (pos 0) h (record { sfits = lit< tt }) e))
+-- the condition of a range, by what the code tests
+module _ (a : Cell) (l : ℤ) (m : ℕ) (f : SFits w32 l) (held : a .value ≡ Range l m) where
+  of-range : {x : Try Condition} → x ≡ conditionIn (Range l m) → x ≡ condition a
+  unfolding condition
+  of-range e = e ∙ ap conditionIn (sym held)
 
-nonzero-condition : (n : ℤ) → (ofZ w32 n ≡ 0 → ⊥) → done IsNonzero ≡ conditionIn (Number n)
-unfolding conditionIn
-nonzero-condition (pos zero) f = absurd (f refl)
-nonzero-condition (pos (suc n)) f = refl
-nonzero-condition (negsuc n) f = refl
+  not-below : ltZ (pos 0) (read w32 l) ≡ false → leZ l (pos 0) ≡ true
+  not-below e = le-yes l (pos 0) (lt-false (pos 0) l (tested (ltZ (pos 0)) (toZ-ofZ w32 l f) e))
+
+  pub above : ltZ (pos 0) (read w32 l) ≡ true → done IsNonzero ≡ condition a
+  unfolding conditionIn
+  above e = of-range (ap (λ (t : Bool). done (cond (t && leZ (pos 0) (high l m)) (cond (eqb m 0) IsZero IsUnknown) IsNonzero)) (sym (le-no l (pos 0) (lt-true (pos 0) l (tested (ltZ (pos 0)) (toZ-ofZ w32 l f) e)))))
+
+  module _ (few : m < 2 ^ 32) (low : ltZ (pos 0) (read w32 l) ≡ false) {r : ℤ} (top : r ≡ high (read w32 l) m) where
+    told : ltZ (read w64 r) (pos 0) ≡ ltZ (high l m) (pos 0)
+    told = ap (λ (z : ℤ). ltZ z (pos 0)) (high-told l m f few top)
+
+    pub under-0 : ltZ (read w64 r) (pos 0) ≡ true → done IsNonzero ≡ condition a
+    unfolding conditionIn
+    under-0 e = of-range (rw (not-below low, le-no (pos 0) (high l m) (lt-true (high l m) (pos 0) (sym told ∙ e))) refl)
+
+    around : ltZ (read w64 r) (pos 0) ≡ false → {x : Condition} → x ≡ cond (eqb m 0) IsZero IsUnknown → done x ≡ condition a
+    unfolding conditionIn
+    around e q = of-range (rw (not-below low, le-yes (pos 0) (high l m) (lt-false (high l m) (pos 0) (sym told ∙ e))) (ap done q))
+
+    pub zero : ltZ (read w64 r) (pos 0) ≡ false → m ≡ 0 → done IsZero ≡ condition a
+    zero e p = around e (rw (eq-eqb m 0 p) refl)
+
+    pub wide : ltZ (read w64 r) (pos 0) ≡ false → (m ≡ 0 → ⊥) → done IsUnknown ≡ condition a
+    wide e n = around e (rw (ne-eqb m 0 n) refl)
 
 enum-known-value : tie.Need-enum-known-value
 enum-known-value c = search needs
 
+returns : tie.Need-returns
+returns c =
+    let known = c .before .before .value .given in
+    above _ _ _ (search needs) (known .1) (c .if1 .taken)
+
+high-requires : tie.Need-high-requires
+high-requires c κs = search needs
+
+returns-2 : tie.Need-returns-2
+returns-2 c =
+    let known = c .before .before .before .before .value .given in
+    under-0 _ (known .0 .0) (known .0 .1 .0) (search needs) (known .1) (search needs) (c .before .before .if1 .left) (c .before .high .ensures) (c .if2 .taken)
+
 enum-told : tie.Need-enum-told
 enum-told c = search needs
 
-enum-told-2 : tie.Need-enum-told-2
-enum-told-2 c = search needs
-
-returns : tie.Need-returns
-unfolding condition
-returns c =
-    let known = c .before .before .value .given in
-    zero-condition (known .0 .0) (search needs) (c .if1 .taken) ∙ ap conditionIn (sym (known .1))
-
-returns-2 : tie.Need-returns-2
-unfolding condition
-returns-2 c =
-    let known = c .before .before .value .given in
-    nonzero-condition (known .0 .0) (c .if1 .left) ∙ ap conditionIn (sym (known .1))
-
 returns-3 : tie.Need-returns-3
-unfolding condition conditionIn
-returns-3 c = ap conditionIn (sym (c .enum-told .given .1))
+returns-3 c =
+    let known = c .before .before .before .before .before .value .given in
+    zero _ (known .0 .0) (known .0 .1 .0) (search needs) (known .1) (search needs) (c .before .before .before .if1 .left) (c .before .before .high .ensures) (c .before .if2 .left) (c .if3 .taken)
 
 returns-4 : tie.Need-returns-4
+returns-4 c =
+    let known = c .before .before .before .before .before .value .given in
+    wide _ (known .0 .0) (known .0 .1 .0) (search needs) (known .1) (search needs) (c .before .before .before .if1 .left) (c .before .before .high .ensures) (c .before .if2 .left) (c .if3 .left)
+
+returns-5 : tie.Need-returns-5
 unfolding condition conditionIn
-returns-4 c = ap conditionIn (sym (c .enum-told2 .given .1))
+returns-5 c = ap conditionIn (sym (c .enum-told .given .1))
 
 pub condition-of-spec : {M : Type 1} → statement M
-condition-of-spec = tie.close (tie.spec enum-known-value enum-told enum-told-2 returns returns-2 returns-3 returns-4)
+condition-of-spec =
+    tie.close
+    (tie.spec
+    enum-known-value
+    returns
+    high-requires
+    returns-2
+    enum-told
+    returns-3
+    returns-4
+    returns-5)

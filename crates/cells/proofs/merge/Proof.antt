@@ -1,34 +1,64 @@
 -- `cells::merge` meets its contract. Assumes nothing.
-use mathlib.Core.Path.{_≡_, refl, sym, ap, _∙_}
-use mathlib.Core.Bool.{Bool, cond}
+use mathlib.Core.Path.{_≡_, refl, sym, ap, ap₂, subst, _∙_}
+use mathlib.Core.Bool.{Bool, true, false, cond}
 use Prim.Native.Nat.{ℕ}
-use lib.IntN.{ℤ}
-use mir.Syntax.{w32}
-use mir.Val.{SFits, ofZ}
+use native.Mathlib.Omega.{arith}
+use lib.Dec.{eqb}
+use lib.IntN.{ℤ, pos}
+use lib.Signed.{leZ}
+use mir.Syntax.{w32, w64}
+use mir.Val.{SFits}
 use mir.ValLaws.{toZ-ofZ}
 use borrow.Author.Tests.{eq-eqb, ne-eqb}
-use Rattle.numbers.proofs.SignedLaws.{read, same-bits}
+use Rattle.numbers.proofs.SignedLaws.{read, read-both}
+use Rattle.numbers.proofs.IntegerLaws.{sum-is}
 use Rattle.cells.specs.declared.Cell.{Cell}
-use Rattle.cells.specs.declared.Value.the-variants.{Number, Handle}
+use Rattle.cells.specs.declared.Value.{Value}
+use Rattle.cells.specs.declared.Value.the-variants.{Range, Handle}
 use Rattle.cells.specs.Try.{Try, stuck, done}
-use Rattle.cells.specs.Cells.{cell, unknown, handle}
-use Rattle.cells.specs.Merge.{mergeValues}
+use Rattle.cells.specs.Cells.{cell, range, high, between, handle}
+use Rattle.cells.specs.Merge.{lower, upper, mergeValues}
+use Rattle.cells.specs.Codes.{Confined}
 use Rattle.cells.proofs.AnswerLaws.{merged-values}
+use Rattle.cells.proofs.RangeLaws.{InBits}
+use Rattle.cells.proofs.CellLaws.{range-bits}
+use Rattle.cells.proofs.ComputeLaws.{bits-fit, bits-few, high-told}
 use borrow.Author.Needs.{needs}
 use Rattle.cells.proofs.merge.Statement.{statement}
 use Rattle.cells.proofs.merge.Tie as tie
 
--- two numbers, by their bits
-equal-numbers : (m n : ℤ) → SFits w32 m → SFits w32 n → ofZ w32 m ≡ ofZ w32 n → done (cell (Number (read w32 m))) ≡ mergeValues (Number m) (Number n)
-unfolding mergeValues
-equal-numbers m n f g e =
-    ap (λ (z : ℤ). done (cell (Number z))) (toZ-ofZ w32 m f)
-    ∙ ap (λ (t : Bool). done (cond t (cell (Number m)) unknown)) (sym (eq-eqb _ _ e) ∙ same-bits w32 m n f g)
+-- a range that is confined to numbers, as the code has it
+module _ (a : Cell) (l : ℤ) (m : ℕ) (held : a .value ≡ Range l m) (c : Confined a) (f : SFits w32 l) where
+  in-bits : InBits l m
+  in-bits = range-bits (subst (λ (v : Value). Confined (cell v)) held c)
 
-unlike-numbers : (m n : ℤ) → SFits w32 m → SFits w32 n → (ofZ w32 m ≡ ofZ w32 n → ⊥) → done unknown ≡ mergeValues (Number m) (Number n)
-unfolding mergeValues
-unlike-numbers m n f g e =
-    ap (λ (t : Bool). done (cond t (cell (Number m)) unknown)) (sym (ne-eqb _ _ e) ∙ same-bits w32 m n f g)
+  high-32 : SFits w32 (high l m)
+  high-32 = let b = in-bits in let s = sum-is l (pos m) in bits-fit (high l m) 0 (record { above = omega (arith, b .above); below = omega (arith, b .below) })
+
+  module _ {r : ℤ} (e : r ≡ high (read w32 l) m) where
+    pub cast-top : SFits w32 (read w64 r)
+    cast-top = rw (high-told l m f (bits-few l m in-bits) e) high-32
+
+    pub top-is : read w32 (read w64 r) ≡ high l m
+    top-is = ap (read w32) (high-told l m f (bits-few l m in-bits) e) ∙ toZ-ofZ w32 (high l m) high-32
+
+-- the smaller and the larger of two numbers of 32 bits
+either-fits : (t : Bool) (m n : ℤ) → SFits w32 m → SFits w32 n → SFits w32 (cond t m n)
+either-fits true m n f g = f
+either-fits false m n f g = g
+
+module _ (a b : Cell) (l : ℤ) (m : ℕ) (k : ℤ) (n : ℕ) (p : a .value ≡ Range l m) (q : b .value ≡ Range k n) (f : SFits w32 l) (g : SFits w32 k) (h : SFits w32 (high l m)) (j : SFits w32 (high k n)) where
+  pub merged : {x y r s : ℤ} {z : Cell} → r ≡ high l m → s ≡ high k n → x ≡ upper r s → y ≡ lower (read w32 l) (read w32 k) → z ≡ between (read w32 y) (read w32 x)
+      → done z ≡ mergeValues (Range l m) (Range k n)
+  unfolding mergeValues
+  merged {x} {y} d e u v w =
+      let top : x ≡ upper (high l m) (high k n) = u ∙ ap₂ upper d e in
+      let bottom : y ≡ lower l k = v ∙ read-both lower w32 l k f g in
+      ap done
+      (w
+      ∙ ap₂ between
+      (ap (read w32) bottom ∙ toZ-ofZ w32 (lower l k) (either-fits (leZ l k) l k f g))
+      (ap (read w32) top ∙ toZ-ofZ w32 (upper (high l m) (high k n)) (either-fits (leZ (high l m) (high k n)) (high k n) (high l m) j h)))
 
 -- two handles
 equal-handles : (j k : ℕ) → j ≡ k → done (handle j) ≡ mergeValues (Handle j) (Handle k)
@@ -45,44 +75,41 @@ enum-known-left c = search needs
 enum-known-right : tie.Need-enum-known-right
 enum-known-right c = search needs
 
-unknown-requires : tie.Need-unknown-requires
-unknown-requires c κs = search needs
+high-requires : tie.Need-high-requires
+high-requires c κs = search needs
+
+cast-upper : tie.Need-cast-upper
+cast-upper c =
+    let start = c .before .before .before .before .before .before .before in
+    let left = c .before .before .before .before .before .left .given in
+    cast-top (start .args .a) (left .0 .0) (left .0 .1 .0) (left .1) (start .pre .0) (search needs) (c .high .ensures)
+
+high-requires-2 : tie.Need-high-requires-2
+high-requires-2 c κs = search needs
+
+cast-upper-2 : tie.Need-cast-upper-2
+cast-upper-2 c =
+    let start = c .before .before .before .before .before .before .before .before in
+    let right = c .before .before .before .right .given in
+    cast-top (start .args .b) (right .0 .0) (right .0 .1 .0) (right .1) (start .pre .1) (search needs) (c .high2 .ensures)
+
+upper-requires : tie.Need-upper-requires
+upper-requires c κs = search needs
+
+lower-requires : tie.Need-lower-requires
+lower-requires c κs = search needs
+
+between-requires : tie.Need-between-requires
+between-requires c κs = search needs
 
 enum-told : tie.Need-enum-told
 enum-told c = search needs
 
-unknown-requires-2 : tie.Need-unknown-requires-2
-unknown-requires-2 c κs = search needs
-
-enum-told-2 : tie.Need-enum-told-2
-enum-told-2 c = search needs
-
-enum-told-3 : tie.Need-enum-told-3
-enum-told-3 c = search needs
-
-enum-told-4 : tie.Need-enum-told-4
-enum-told-4 c = search needs
-
-unknown-requires-3 : tie.Need-unknown-requires-3
-unknown-requires-3 c κs = search needs
-
-enum-told-5 : tie.Need-enum-told-5
-enum-told-5 c = search needs
-
-unknown-requires-4 : tie.Need-unknown-requires-4
-unknown-requires-4 c κs = search needs
-
-enum-told-6 : tie.Need-enum-told-6
-enum-told-6 c = search needs
-
 enum-known-left-2 : tie.Need-enum-known-left-2
 enum-known-left-2 c = search needs
 
-enum-told-7 : tie.Need-enum-told-7
-enum-told-7 c = search needs
-
-enum-told-8 : tie.Need-enum-told-8
-enum-told-8 c = search needs
+enum-told-2 : tie.Need-enum-told-2
+enum-told-2 c = search needs
 
 enum-known-right-2 : tie.Need-enum-known-right-2
 enum-known-right-2 c = search needs
@@ -92,55 +119,36 @@ handle-requires c κs = search needs
 
 returns : tie.Need-returns
 returns c =
-    let left = c .before .before .before .before .before .left .given in
-    let right = c .before .before .right .given in
-    merged-values _ _ (left .1) (right .1) (equal-numbers (left .0 .0) (right .0 .0) (search needs) (search needs) (c .if1 .taken))
+    let start = c .before .before .before .before .before .before .before .before .before .before .before in
+    let left = c .before .before .before .before .before .before .before .before .before .left .given in
+    let right = c .before .before .before .before .before .before .right .given in
+    merged-values (start .args .a) (start .args .b) (left .1) (right .1)
+    (merged (start .args .a) (start .args .b) (left .0 .0) (left .0 .1 .0) (right .0 .0) (right .0 .1 .0) (left .1) (right .1) (search needs) (search needs)
+    (high-32 (start .args .a) (left .0 .0) (left .0 .1 .0) (left .1) (start .pre .0) (search needs))
+    (high-32 (start .args .b) (right .0 .0) (right .0 .1 .0) (right .1) (start .pre .1) (search needs))
+    (top-is (start .args .a) (left .0 .0) (left .0 .1 .0) (left .1) (start .pre .0) (search needs) (c .before .before .before .before .high .ensures))
+    (top-is (start .args .b) (right .0 .0) (right .0 .1 .0) (right .1) (start .pre .1) (search needs) (c .before .before .before .high2 .ensures))
+    (c .before .before .upper .ensures) (c .before .lower .ensures) (c .between .ensures))
 
 returns-2 : tie.Need-returns-2
-returns-2 c =
-    let left = c .before .before .before .before .before .before .left .given in
-    let right = c .before .before .before .right .given in
-    merged-values _ _ (left .1) (right .1) (ap done (c .unknown .ensures) ∙ unlike-numbers (left .0 .0) (right .0 .0) (search needs) (search needs) (c .before .if1 .left))
+unfolding mergeValues
+returns-2 c = merged-values _ _ (c .before .before .before .left .given .1) (c .enum-told .given .1) refl
 
 returns-3 : tie.Need-returns-3
 unfolding mergeValues
-returns-3 c = merged-values _ _ (c .before .before .before .before .left .given .1) (c .before .enum-told .given .1) (ap done (c .unknown2 .ensures))
+returns-3 c = merged-values _ _ (c .before .before .before .left2 .given .1) (c .enum-told2 .given .1) refl
 
 returns-4 : tie.Need-returns-4
-unfolding mergeValues
-returns-4 c = merged-values _ _ (c .before .before .before .left .given .1) (c .enum-told2 .given .1) refl
-
-returns-5 : tie.Need-returns-5
-unfolding mergeValues
-returns-5 c = merged-values _ _ (c .before .before .before .enum-told3 .given .1) (c .before .enum-told4 .given .1) (ap done (c .unknown3 .ensures))
-
-returns-6 : tie.Need-returns-6
-unfolding mergeValues
-returns-6 c = merged-values _ _ (c .before .before .before .enum-told3 .given .1) (c .before .enum-told5 .given .1) (ap done (c .unknown4 .ensures))
-
-returns-7 : tie.Need-returns-7
-unfolding mergeValues
-returns-7 c = merged-values _ _ (c .before .before .enum-told3 .given .1) (c .enum-told6 .given .1) refl
-
-returns-8 : tie.Need-returns-8
-unfolding mergeValues
-returns-8 c = merged-values _ _ (c .before .before .before .left2 .given .1) (c .enum-told7 .given .1) refl
-
-returns-9 : tie.Need-returns-9
-unfolding mergeValues
-returns-9 c = merged-values _ _ (c .before .before .before .left2 .given .1) (c .enum-told8 .given .1) refl
-
-returns-10 : tie.Need-returns-10
-returns-10 c =
+returns-4 c =
     let left = c .before .before .before .before .before .before .left2 .given in
     let right = c .before .before .before .right2 .given in
-    merged-values _ _ (left .1) (right .1) (ap done (c .handle .ensures) ∙ equal-handles (left .0 .0) (right .0 .0) (c .before .if2 .taken))
+    merged-values _ _ (left .1) (right .1) (ap done (c .handle .ensures) ∙ equal-handles (left .0 .0) (right .0 .0) (c .before .if1 .taken))
 
-returns-11 : tie.Need-returns-11
-returns-11 c =
+returns-5 : tie.Need-returns-5
+returns-5 c =
     let left = c .before .before .before .before .before .left2 .given in
     let right = c .before .before .right2 .given in
-    merged-values _ _ (left .1) (right .1) (unlike-handles (left .0 .0) (right .0 .0) (c .if2 .left))
+    merged-values _ _ (left .1) (right .1) (unlike-handles (left .0 .0) (right .0 .0) (c .if1 .left))
 
 pub merge-spec : {M : Type 1} → statement M
 merge-spec =
@@ -148,29 +156,20 @@ merge-spec =
     (tie.spec
     enum-known-left
     enum-known-right
-    unknown-requires
+    high-requires
+    cast-upper
+    high-requires-2
+    cast-upper-2
+    upper-requires
+    lower-requires
+    between-requires
     enum-told
-    unknown-requires-2
-    enum-told-2
-    enum-told-3
-    enum-told-4
-    unknown-requires-3
-    enum-told-5
-    unknown-requires-4
-    enum-told-6
     enum-known-left-2
-    enum-told-7
-    enum-told-8
+    enum-told-2
     enum-known-right-2
     handle-requires
     returns
     returns-2
     returns-3
     returns-4
-    returns-5
-    returns-6
-    returns-7
-    returns-8
-    returns-9
-    returns-10
-    returns-11)
+    returns-5)

@@ -3,8 +3,7 @@ use mathlib.Core.Path.{sym, ap, _∙_}
 use mir.Syntax.{w32}
 use Rattle.numbers.specs.Numbers.{wrap}
 use Rattle.numbers.proofs.SignedLaws.{cast-fits, wide-is, wrap-fits, result-read}
-use Rattle.cells.specs.declared.Value.the-variants.{Number}
-use Rattle.cells.specs.Cells.{cell}
+use Rattle.cells.specs.Cells.{range}
 use borrow.Author.Needs.{needs}
 use Rattle.cells.proofs.number.Statement.{statement}
 use Rattle.cells.proofs.number.Tie as tie
@@ -16,7 +15,7 @@ narrow-requires : tie.Need-narrow-requires
 narrow-requires c κs = search needs
 
 returns : tie.Need-returns
-returns c = ap (λ z. cell (Number z)) (result-read (wrap-fits _) (sym (c .narrow .ensures)) ∙ ap wrap (wide-is _ (c .before .fits .n)))
+returns c = ap (λ z. range z 0) (result-read (wrap-fits _) (sym (c .narrow .ensures)) ∙ ap wrap (wide-is _ (c .before .fits .n)))
 
 pub number-spec : {M : Type 1} → statement M
 number-spec = tie.close (tie.spec cast-narrow narrow-requires returns)

@@ -51,7 +51,7 @@ merge-requires c κs = let s = c .before .before .before .before .before .before
     let h = s .pre .present in
     let f : length (s .args .routine .fields) ≡ 128 = search (needs, length-images) in
     let at = s .pre .placed in
-    (s .pre .sized, (addresses-fit (s .args .routine) (s .pre), swept-small (s .args .routine) (s .pre) (omega arith), s .pre .formed, f, omega arith, omega arith))
+    (s .pre .sized, (addresses-fit (s .args .routine) (s .pre), swept-small (s .args .routine) (s .pre) (omega arith), s .pre .formed, f, s .pre .numeric, omega arith, omega arith))
 
 returns : tie.Need-returns
 returns c = let s = c .before .before .before .before .before .before .before .before .before .before .before .before .before .before .before .before in (c .merge .ensures .0, swept-shareable (s .args .routine) (s .pre) _ (c .merge .ensures .1))

@@ -38,9 +38,8 @@ use borrow.Author.Needs.{needs}
 use Rattle.refusals.specs.declared.Refusal.the-variants as refusals
 use Rattle.cells.specs.Try.{stuck, done}
 use Rattle.cells.specs.declared.Cell.{Cell}
-use Rattle.cells.specs.declared.Value.the-variants.{Number}
 use Rattle.cells.specs.Answers.{ofOperand}
-use Rattle.cells.specs.Cells.{unknown, cell}
+use Rattle.cells.specs.Cells.{unknown, range}
 use Rattle.machine.specs.Machine.{index, fetch, load}
 use Rattle.instructions.specs.Columns.{operationOf}
 use Rattle.outcomes.specs.Outcome.{outcome, operated}
@@ -192,7 +191,7 @@ module _ (t : ℕ) (a : Acted t) where
   n = a .before .before .before .before .before .before .before .index-of .result
 
   abbrev element : Cell
-  element = getD (u t (joined a) .stack) (a .before .before .before .before .before .before .entry-place .result) (cell (Number (pos 0)))
+  element = getD (u t (joined a) .stack) (a .before .before .before .before .before .before .entry-place .result) (range (pos 0) 0)
 
   fitting : SFits w32 (line (lined a) .operand)
   fitting = search needs
@@ -207,7 +206,7 @@ module _ (t : ℕ) (a : Acted t) where
     grown = a .before .before .before .before .before .before .before .before .before .before .before .more .ensures;
     arm =
         arms.arm (codeOf (entry b .args .first) (entry b .args .codes .now) (entry b .args .operands .now) (entry b .args .cycles .now) (entry b .args .words .now) (entry b .args .extras .now)) unknown (entry b .args .sizes .now) (b .before .loop .blocks) (s t (joined a)) (u t (joined a)) (line (lined a))
-        (sym (found t (lined a))) (prepared t (joined a) .ready) (prepared t (joined a) .formed) (b .before .loop .inv .fits) n (a .before .before .before .before .before .before .entry-place .result) element (cell (Number (pos 0))) (a .outcome-of .result)
+        (sym (found t (lined a))) (prepared t (joined a) .ready) (prepared t (joined a) .formed) (b .before .loop .inv .fits) n (a .before .before .before .before .before .before .entry-place .result) element (range (pos 0) 0) (a .outcome-of .result)
         (a .before .before .before .before .before .before .before .index-of .ensures .0 ∙ ap index (toZ-ofZ w32 _ fitting)) (a .before .before .before .before .before .before .entry-place .ensures) refl
         (a .outcome-of .ensures
         ∙ ap (λ z. outcome (operationOf (line (lined a) .code)) z (a .before .before .before .before .unknown .result) (64 - u t (joined a) .free) (u t (joined a) .accu) element) (toZ-ofZ w32 _ fitting)

@@ -61,11 +61,8 @@ cell-present-requires c κs = search needs
 enum-told-7 : tie.Need-enum-told-7
 enum-told-7 c = search needs
 
-slice-aggregate-same : tie.Need-slice-aggregate-same
-slice-aggregate-same c = search needs
-
-same-requires : tie.Need-same-requires
-same-requires c κs = search needs
+is-single-requires : tie.Need-is-single-requires
+is-single-requires c κs = search needs
 
 enum-told-8 : tie.Need-enum-told-8
 enum-told-8 c = search needs
@@ -117,7 +114,7 @@ returns-7 c =
 returns-8 : tie.Need-returns-8
 unfolding wordTest
 returns-8 c =
-    arm (λ t. wordTest t (c .before .before .before .before .before .args .w .now)) (c .before .before .enum-told7 .given .1) (ap not (c .same .ensures))
+    arm (λ t. wordTest t (c .before .before .before .before .args .w .now)) (c .before .enum-told7 .given .1) (c .is-single .ensures)
 
 returns-9 : tie.Need-returns-9
 unfolding wordTest
@@ -150,8 +147,7 @@ word-passes-spec =
     cast-cell-present
     cell-present-requires
     enum-told-7
-    slice-aggregate-same
-    same-requires
+    is-single-requires
     enum-told-8
     is-kind-requires
     enum-told-9

@@ -11,7 +11,7 @@ use Rattle.steps.specs.Step.{ofPrice, Small}
 use Rattle.merges.specs.Merge.{arrive, reach, finish}
 use Rattle.arrivals.specs.Rows.{arrivalOf}
 use Rattle.merging.specs.Pass.{stopped, moved, spentOf}
-use Rattle.merging.proofs.CarryLaws.{fits-of, reached-as, ended-as, reached-figures, ended-figures, refused-figures, refused-verdict, paid-as, paid-formed, paid-cycles, paid-words, raised, stays-ready, stays-agree, goes-ready, goes-agree, sent-sums, sent-agree, leads-stuck, leads-stops, leads-goes, leads-opens, same-fields, way-height, jumped-as, carried-stuck, carried-stops, carried-goes, carried-opens}
+use Rattle.merging.proofs.CarryLaws.{fits-of, reached-as, ended-as, reached-figures, ended-figures, refused-figures, refused-verdict, paid-as, paid-formed, paid-numeric, goes-numeric, opens-numeric, jump-numeric, paid-cycles, paid-words, raised, stays-ready, stays-agree, goes-ready, goes-agree, sent-sums, sent-agree, leads-stuck, leads-stops, leads-goes, leads-opens, same-fields, way-height, jumped-as, carried-stuck, carried-stops, carried-goes, carried-opens}
 use borrow.Author.Needs.{needs}
 use Rattle.merging.proofs.carry.Statement.{statement}
 use Rattle.merging.proofs.carry.Tie as tie
@@ -25,7 +25,7 @@ step-requires c κs =
     let a = start .args in
     let limits = start .pre .1 .0 in
     let way = start .pre .1 .1 .0 in
-    (start .pre .0, limits .2, way .0 .state, fits-of _ _ (limits .4) (way .0 .fields))
+    (start .pre .0, limits .2, way .0 .0 .state, fits-of _ _ (limits .4) (way .0 .0 .fields))
 
 sub-reached : tie.Need-sub-reached
 sub-reached c =
@@ -33,7 +33,7 @@ sub-reached c =
     let a = start .args in
     let limits = start .pre .1 .0 in
     let way = start .pre .1 .1 .0 in
-    way .0 .state .free
+    way .0 .0 .state .free
 
 reached-requires : tie.Need-reached-requires
 reached-requires c κs =
@@ -98,7 +98,11 @@ onward-requires c κs =
     let limits = start .pre .1 .0 in
     let way = start .pre .1 .1 .0 in
     let end : a .first + length (a .codes .now) ≤ 65536 = limits .2 in
-    (limits .0, limits .1, omega arith, limits .3, paid-formed (a .w) _ _ _ _ (c .before .before .before .paid2 .ensures) (c .before .before .before .before .before .before .before .before .before .before .before .step .ensures .1 .1 .0 .0) (same-fields (c .before .before .before .before .before .before .before .before .before .before .before .step .result .change) _ _ (c .before .before .before .before .before .before .before .before .before .before .before .step .ensures .1 .1 .1) (way .0 .fields)), limits .4)
+    let st = c .before .before .before .before .before .before .before .before .before .before .before .step in
+    let price = c .before .before .before .before .before .next2 .given .0 .0 in
+    let s = whole (a .sizes .now) (a .w .blocks) (a .w .state) in
+    let numeric = goes-numeric (codeOf (a .first) (a .codes .now) (a .operands .now) (a .cycles .now) (a .words .now) (a .extras .now)) s _ _ (way .0 .1) (leads-goes (st .result .next) price _ (λ u. step (codeOf (a .first) (a .codes .now) (a .operands .now) (a .cycles .now) (a .words .now) (a .extras .now)) u s) _ (c .before .before .before .before .before .next2 .given .1) (c .before .before .before .before .before .before .before .before .before .before .before .before .unknown .ensures) (st .ensures .0)) in
+    (limits .0, limits .1, omega arith, limits .3, (paid-formed (a .w) _ _ _ _ (c .before .before .before .paid2 .ensures) (c .before .before .before .before .before .before .before .before .before .before .before .step .ensures .1 .1 .0 .0) (same-fields (c .before .before .before .before .before .before .before .before .before .before .before .step .result .change) _ _ (c .before .before .before .before .before .before .before .before .before .before .before .step .ensures .1 .1 .1) (way .0 .0 .fields)), paid-numeric (a .sizes .now) (a .w) _ _ _ _ (c .before .before .before .paid2 .ensures) numeric), limits .4)
 
 enum-known-next-3 : tie.Need-enum-known-next-3
 enum-known-next-3 c = search needs
@@ -123,7 +127,11 @@ send-requires c κs =
     let limits = start .pre .1 .0 in
     let way = start .pre .1 .1 .0 in
     let end : a .first + length (a .codes .now) ≤ 65536 = limits .2 in
-    (limits .0, limits .1, omega arith, paid-formed (a .w) _ _ _ _ (c .before .before .before .paid3 .ensures) (c .before .before .before .before .jump .ensures .1) (same-fields (c .before .before .before .before .before .before .before .before .before .before .before .before .step .result .change) _ _ (c .before .before .before .before .before .before .before .before .before .before .before .before .step .ensures .1 .1 .1) (way .0 .fields)), limits .4)
+    let st = c .before .before .before .before .before .before .before .before .before .before .before .before .step in
+    let known = c .before .before .before .before .before .before .next3 .given .0 in
+    let s = whole (a .sizes .now) (a .w .blocks) (a .w .state) in
+    let numeric = opens-numeric (codeOf (a .first) (a .codes .now) (a .operands .now) (a .cycles .now) (a .words .now) (a .extras .now)) s _ _ _ _ (way .0 .1) (leads-opens (st .result .next) (known .0) (known .1 .1 .0) (known .1 .0) _ (λ u. step (codeOf (a .first) (a .codes .now) (a .operands .now) (a .cycles .now) (a .words .now) (a .extras .now)) u s) _ (c .before .before .before .before .before .before .next3 .given .1) (c .before .before .before .before .before .before .before .before .before .before .before .before .before .unknown .ensures) (st .ensures .0)) in
+    (limits .0, limits .1, omega arith, (paid-formed (a .w) _ _ _ _ (c .before .before .before .paid3 .ensures) (c .before .before .before .before .jump .ensures .1) (same-fields (c .before .before .before .before .before .before .before .before .before .before .before .before .step .result .change) _ _ (c .before .before .before .before .before .before .before .before .before .before .before .before .step .ensures .1 .1 .1) (way .0 .0 .fields)), paid-numeric (a .sizes .now) (a .w) _ _ _ _ (c .before .before .before .paid3 .ensures) (jump-numeric (a .sizes .now) _ _ _ _ (c .before .before .before .before .jump .ensures .0) (numeric .1))), limits .4)
 
 paid-requires-4 : tie.Need-paid-requires-4
 paid-requires-4 c κs =
@@ -146,7 +154,11 @@ onward-requires-2 c κs =
     let hl : length (sent .0) ≡ 5125 = c .before .before .before .before .before .before .before .before .before .heads2 .given ∙ limits .0 .0 in
     let el : length (sent .1 .0) ≡ 65600 = c .before .before .before .before .before .before .before .entries2 .given ∙ limits .0 .1 in
     let fl : length (sent .1 .1 .0) ≡ 131200 = c .before .before .before .before .before .fields2 .given ∙ limits .0 .2 in
-    ((hl, el, fl), limits .1, omega arith, limits .3, paid-formed (a .w) _ _ _ _ (c .before .before .before .paid4 .ensures) (c .before .before .before .before .before .before .before .before .before .before .before .before .before .before .before .before .before .before .before .before .before .before .before .step .ensures .1 .1 .0 .0) (same-fields (c .before .before .before .before .before .before .before .before .before .before .before .before .before .before .before .before .before .before .before .before .before .before .before .step .result .change) _ _ (c .before .before .before .before .before .before .before .before .before .before .before .before .before .before .before .before .before .before .before .before .before .before .before .step .ensures .1 .1 .1) (way .0 .fields)), limits .4)
+    let st = c .before .before .before .before .before .before .before .before .before .before .before .before .before .before .before .before .before .before .before .before .before .before .before .step in
+    let known = c .before .before .before .before .before .before .before .before .before .before .before .before .before .before .before .before .before .next3 .given .0 in
+    let s = whole (a .sizes .now) (a .w .blocks) (a .w .state) in
+    let numeric = opens-numeric (codeOf (a .first) (a .codes .now) (a .operands .now) (a .cycles .now) (a .words .now) (a .extras .now)) s _ _ _ _ (way .0 .1) (leads-opens (st .result .next) (known .0) (known .1 .1 .0) (known .1 .0) _ (λ u. step (codeOf (a .first) (a .codes .now) (a .operands .now) (a .cycles .now) (a .words .now) (a .extras .now)) u s) _ (c .before .before .before .before .before .before .before .before .before .before .before .before .before .before .before .before .before .next3 .given .1) (c .before .before .before .before .before .before .before .before .before .before .before .before .before .before .before .before .before .before .before .before .before .before .before .before .unknown .ensures) (st .ensures .0)) in
+    ((hl, el, fl), limits .1, omega arith, limits .3, (paid-formed (a .w) _ _ _ _ (c .before .before .before .paid4 .ensures) (c .before .before .before .before .before .before .before .before .before .before .before .before .before .before .before .before .before .before .before .before .before .before .before .step .ensures .1 .1 .0 .0) (same-fields (c .before .before .before .before .before .before .before .before .before .before .before .before .before .before .before .before .before .before .before .before .before .before .before .step .result .change) _ _ (c .before .before .before .before .before .before .before .before .before .before .before .before .before .before .before .before .before .before .before .before .before .before .before .step .ensures .1 .1 .1) (way .0 .0 .fields)), paid-numeric (a .sizes .now) (a .w) _ _ _ _ (c .before .before .before .paid4 .ensures) (numeric .0)), limits .4)
 
 returns : tie.Need-returns
 returns c =
@@ -183,7 +195,7 @@ returns-2 c =
     let sums = raised ns (a .first) (a .n) (a .j) hs es fs (start .pre .1 .1 .1) in
     let g = c .before .before .before .before .before .reached in
     let figures = reached-figures (a .j) (a .f) (g .result) _ (omega arith) (g .ensures) (way .4) in
-    let height = way-height ns (a .w) (way .0 .state) in
+    let height = way-height ns (a .w) (way .0 .0 .state) in
     let price = c .before .before .before .next .given .0 .0 in
     let small = subst Small (c .before .before .before .next .given .1) (st .ensures .1 .1 .0 .2) in
     let v = c .before .paid in
@@ -223,7 +235,7 @@ returns-3 c =
     let sums = raised ns (a .first) (a .n) (a .j) hs es fs (start .pre .1 .1 .1) in
     let g = c .before .before .before .before .before .before .before .before .before .before .before .before .before .before .reached in
     let figures = reached-figures (a .j) (a .f) (g .result) _ (omega arith) (g .ensures) (way .4) in
-    let height = way-height ns (a .w) (way .0 .state) in
+    let height = way-height ns (a .w) (way .0 .0 .state) in
     let price = c .before .before .before .before .before .before .before .before .before .before .before .before .next2 .given .0 .0 in
     let small = subst Small (c .before .before .before .before .before .before .before .before .before .before .before .before .next2 .given .1) (st .ensures .1 .1 .0 .2) in
     let v = c .before .before .before .before .before .before .before .before .before .before .paid2 in
@@ -266,7 +278,7 @@ returns-4 c =
     let sums = raised ns (a .first) (a .n) (a .j) hs es fs (start .pre .1 .1 .1) in
     let g = c .before .before .before .before .before .before .before .before .before .before .before .before .before .before .before .before .before .before .before .before .before .before .before .before .before .before .reached in
     let figures = reached-figures (a .j) (a .f) (g .result) _ (omega arith) (g .ensures) (way .4) in
-    let height = way-height ns (a .w) (way .0 .state) in
+    let height = way-height ns (a .w) (way .0 .0 .state) in
     let price = c .before .before .before .before .before .before .before .before .before .before .before .before .before .before .before .before .before .before .before .before .before .before .before .before .next3 .given .0 .0 in
     let place = c .before .before .before .before .before .before .before .before .before .before .before .before .before .before .before .before .before .before .before .before .before .before .before .before .next3 .given .0 .1 .0 in
     let extra = c .before .before .before .before .before .before .before .before .before .before .before .before .before .before .before .before .before .before .before .before .before .before .before .before .next3 .given .0 .1 .1 .0 in

@@ -13,7 +13,7 @@ returns : tie.Need-returns
 returns c =
     let a = c .before .before .before .before .before .args in
     let e : getD (a .head .now) 0 0 ≡ 0 = c .if1 .taken in
-    (λ ns. came-nothing ns (a .at) (a .head .now) (a .entries .now) (a .fields .now) (a .w) e, tt)
+    (λ ns. came-nothing ns (a .at) (a .head .now) (a .entries .now) (a .fields .now) (a .w) e, λ ns. tt)
 
 take-requires : tie.Need-take-requires
 take-requires c κs = search needs
@@ -23,14 +23,14 @@ returns-2 c =
     let a = c .before .before .before .before .before .before .before .args in
     let e : getD (a .head .now) 0 0 ≡ 1 = c .before .if2 .taken in
     let t = c .take in
-    (λ ns. came-way ns (a .at) (a .head .now) (a .entries .now) (a .fields .now) (t .result) e (t .ensures .0 ns), (t .ensures .1 .1, t .ensures .1 .0))
+    (λ ns. came-way ns (a .at) (a .head .now) (a .entries .now) (a .fields .now) (t .result) e (t .ensures .0 ns), λ ns. (t .ensures .1 .1, (t .ensures .1 .0 .0, t .ensures .1 .0 .1 ns)))
 
 returns-3 : tie.Need-returns-3
 returns-3 c =
     let a = c .before .before .before .before .before .before .args in
     let n : getD (a .head .now) 0 0 ≡ 0 → ⊥ = search needs in
     let m : getD (a .head .now) 0 0 ≡ 1 → ⊥ = search needs in
-    (λ ns. came-unlike ns (a .at) (a .head .now) (a .entries .now) (a .fields .now) (a .w) n m, tt)
+    (λ ns. came-unlike ns (a .at) (a .head .now) (a .entries .now) (a .fields .now) (a .w) n m, λ ns. tt)
 
 pub found-spec : {M : Type 1} → statement M
 found-spec = tie.close (tie.spec shared-slice-read-mark returns take-requires returns-2 returns-3)

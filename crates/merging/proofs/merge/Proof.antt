@@ -31,7 +31,7 @@ loop-holds c =
     let start = c .before .before .before .before .before .before in
     let a = start .args in
     let limits = start .pre .1 in
-    begins (codeOf (a .first) (a .codes .now) (a .operands .now) (a .cycles .now) (a .words .now) (a .extras .now)) (a .sizes .now) (a .first) (length (a .codes .now)) 5125 65600 131200 (a .start) (a .blocks) (code-first (a .first) (a .codes .now) (a .operands .now) (a .cycles .now) (a .words .now) (a .extras .now)) (code-count (a .first) (a .codes .now) (a .operands .now) (a .cycles .now) (a .words .now) (a .extras .now)) (limits .4) (limits .5) refl refl refl (limits .2) (limits .3)
+    begins (codeOf (a .first) (a .codes .now) (a .operands .now) (a .cycles .now) (a .words .now) (a .extras .now)) (a .sizes .now) (a .first) (length (a .codes .now)) 5125 65600 131200 (a .start) (a .blocks) (code-first (a .first) (a .codes .now) (a .operands .now) (a .cycles .now) (a .words .now) (a .extras .now)) (code-count (a .first) (a .codes .now) (a .operands .now) (a .cycles .now) (a .words .now) (a .extras .now)) (limits .5) (limits .6) refl refl refl (limits .2) (limits .3) (limits .4)
 
 slice-aggregate-visit : tie.Need-slice-aggregate-visit Inv-loop μ-loop
 slice-aggregate-visit c = search needs

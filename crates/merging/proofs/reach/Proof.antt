@@ -24,7 +24,7 @@ same-length-3 c = search needs
 returns : tie.Need-returns
 returns c =
     let a = c .before .before .before .before .before .before .before .before .before .args in
-    (c .found .ensures .0 (a .sizes .now) ∙ with-none (a .sizes .now) (a .here) (a .w) _ (not-true (a .here) (c .before .before .before .before .if1 .taken)), c .found .ensures .1)
+    (c .found .ensures .0 (a .sizes .now) ∙ with-none (a .sizes .now) (a .here) (a .w) _ (not-true (a .here) (c .before .before .before .before .if1 .taken)), c .found .ensures .1 (a .sizes .now))
 
 slice-read-mark : tie.Need-slice-read-mark
 slice-read-mark c = search needs
@@ -36,14 +36,14 @@ returns-2 c =
     let e : getD (a .head .now) 0 0 ≡ 0 = c .if2 .taken in
     let h = not-false (a .here) (c .before .before .if1 .left) in (
       with-first (a .sizes .now) (a .here) (a .w) _ h (slot-empty (a .sizes .now) (a .at) (a .head .now) (a .entries .now) (a .fields .now) e),
-      comes-here (a .here) (a .w) (a .at) h (start .pre .1),
+      comes-here (a .sizes .now) (a .here) (a .w) (a .at) h (start .pre .1),
     )
 
 join-requires : tie.Need-join-requires
 join-requires c κs =
     let start = c .before .before .before .before .before .before .before .before .before .before in
     let a = start .args in
-    (start .pre .0, comes-here (a .here) (a .w) (a .at) (not-false (a .here) (c .before .before .before .before .before .if1 .left)) (start .pre .1) .1, start .pre .2)
+    (start .pre .0, comes-here (a .sizes .now) (a .here) (a .w) (a .at) (not-false (a .here) (c .before .before .before .before .before .if1 .left)) (start .pre .1) .1, start .pre .2)
 
 found-requires-2 : tie.Need-found-requires-2
 found-requires-2 c κs = search needs
@@ -65,8 +65,8 @@ returns-3 c =
     let h = not-false (a .here) (c .before .before .before .before .before .before .before .before .before .before .before .before .before .before .before .before .if1 .left) in (
       c .found2 .ensures .0 (a .sizes .now)
           ∙ with-next (a .sizes .now) (a .here) (a .w) (a .at) (λ i. slotIn (a .sizes .now) i (a .head .now) (a .entries .now) (a .fields .now))
-          (λ i. slotIn (a .sizes .now) i (j .last .0) (j .last .1 .0) (j .last .1 .1 .0)) h (comes-here (a .here) (a .w) (a .at) h (start .pre .1) .0) (j .ensures),
-      c .found2 .ensures .1,
+          (λ i. slotIn (a .sizes .now) i (j .last .0) (j .last .1 .0) (j .last .1 .1 .0)) h (comes-here (a .sizes .now) (a .here) (a .w) (a .at) h (start .pre .1) .0) (j .ensures),
+      c .found2 .ensures .1 (a .sizes .now),
     )
 
 pub reach-spec : {M : Type 1} → statement M

@@ -116,7 +116,7 @@ carry-requires c κs =
     let e : length (r .last .1 .0) ≡ length (take (64 * k + 64 - 64 * k) (drop (64 * k) es)) = search needs in
     let f : length (r .last .1 .1 .0) ≡ length (take (128 * k + 128 - 128 * k) (drop (128 * k) fs)) = search needs in
     let told = c .before .before .before .enum-told3 .given .1 in
-    let way = subst (λ (x : Mark). Held x (r .result .way) (a .first + k)) told (r .ensures .1) in
+    let way = subst (λ (x : Mark). Held ns x (r .result .way) (a .first + k)) told (r .ensures .1) in
     let spent = way-spent ns (r .result .mark) (r .result .way) (most k) told (here-spent ns (a .first) (a .n) k hs es fs (r .last .0) (r .last .1 .0) (r .last .1 .1 .0) (a .p) few ready h e f (r .result .mark) (r .result .way) (r .ensures .0) (limits .2)) in (
       start .pre .0,
       ((rows-back ns (a .first) (a .n) k hs es fs (r .last .0) (r .last .1 .0) (r .last .1 .1 .0) (a .p) few ready h e f, limits .0, limits .1, limits .2, limits .3), ((way .1, way .0, spent .0, spent .1, ready .figures), back-under ns (a .first) (a .n) k hs es fs (r .last .0) (r .last .1 .0) (r .last .1 .1 .0) (a .p) few ready h e f)),
@@ -228,7 +228,7 @@ returns-3 c =
     let e : length (r .last .1 .0) ≡ length (take (64 * k + 64 - 64 * k) (drop (64 * k) es)) = search needs in
     let f : length (r .last .1 .1 .0) ≡ length (take (128 * k + 128 - 128 * k) (drop (128 * k) fs)) = search needs in
     let told = c .before .before .before .before .before .before .before .before .before .before .enum-told3 .given .1 in
-    let way = subst (λ (x : Mark). Held x (r .result .way) (a .first + k)) told (r .ensures .1) in
+    let way = subst (λ (x : Mark). Held ns x (r .result .way) (a .first + k)) told (r .ensures .1) in
     let m = c .before .before .before .before .before .before .carry in (
       m .ensures .0,
       λ tab q g agree.

@@ -1,5 +1,5 @@
 -- `reader::routine_of` meets its contract. Assumes nothing.
-use Rattle.reader.proofs.ReaderLaws.{counted, start-at, first-low, budget-limited, answers-small, answers-held, code-is, first-is, budget-held, tick-held, fields-ready, cells-ready, start-held, blocks-fit, columns-sized}
+use Rattle.reader.proofs.ReaderLaws.{kept-start, counted, start-at, first-low, budget-limited, answers-small, answers-held, code-is, first-is, budget-held, tick-held, fields-ready, cells-ready, start-held, blocks-fit, columns-sized}
 use native.Mathlib.Omega.{arith}
 use mathlib.Core.Path.{_≡_, refl}
 use lib.ListN.{length}
@@ -96,6 +96,7 @@ returns c =
         formed = c .before .before .start-of .ensures .1;
         present = c .before .before .before .before .before .before .before .before .before .before .before .blocks-named .ensures .few;
         fits = blocks-fit _ (c .before .before .before .before .before .before .before .before .before .before .before .before .before .before .before .before .before .before .before .pre) _ _ _ (c .before .before .before .before .before .before .before .before .before .before .before .before .text-of2 .ensures) (c .before .before .before .before .before .before .before .before .before .text-of3 .ensures) (c .before .before .before .text-of4 .ensures) _ (c .before .before .before .before .before .before .before .before .before .before .before .blocks-named .ensures) _ f;
+        numeric = kept-start _ (start-held _ (c .before .before .before .before .before .before .before .before .before .before .before .before .before .before .before .before .before .before .before .pre) _ _ _ (c .before .before .before .before .before .before .before .before .before .before .before .before .text-of2 .ensures) (c .before .before .before .before .before .before .before .before .before .text-of3 .ensures) (c .before .before .before .text-of4 .ensures) _ (c .before .before .before .before .before .before .before .before .before .before .before .blocks-named .ensures) _ first _ (c .before .before .start-of .ensures .0) _ (c .before .before .before .before .before .before .before .before .fields-of .ensures));
         answered = c .answers-of .ensures .1;
         places = g;
       },

@@ -12,8 +12,7 @@ use mir.ValLaws.{toZ-ofZ}
 use borrow.Author.Needs.{needs}
 use Rattle.cells.specs.Try.{Try, done}
 use Rattle.cells.specs.declared.Cell.{Cell}
-use Rattle.cells.specs.declared.Value.the-variants.{Number}
-use Rattle.cells.specs.Cells.{cell}
+use Rattle.cells.specs.Cells.{range}
 use Rattle.cells.specs.Answers.{ofOperand}
 use Rattle.instructions.specs.Columns.{operationOf}
 use Rattle.machine.specs.Machine.{Next, Code, fetch, withExtra, index, step, load, takesAnswer}
@@ -90,7 +89,7 @@ module _ (a : tie.After-outcome-of) where
   n = settled a .before .before .index-of .result
 
   abbrev entry : Cell
-  entry = getD (t .stack) (settled a .before .entry-place .result) (cell (Number (pos 0)))
+  entry = getD (t .stack) (settled a .before .entry-place .result) (range (pos 0) 0)
 
   fitting : SFits w32 (l .operand)
   fitting = search needs
@@ -101,7 +100,7 @@ module _ (a : tie.After-outcome-of) where
   arm : Arm (step (code s) (s .args .answer) (whole (s .args .sizes .now) (s .args .t10) (s .args .t9))) (s .args .sizes .now) (s .args .t10) (lineOf l .price) (l .extra) (operationOf (l .code)) (l .operand) (s .args .answer) (next t) n entry (a .outcome-of .result)
   arm =
       arms.arm (code s) (s .args .answer) (s .args .sizes .now) (s .args .t10) (s .args .t9) (next t) l (sym (found (lined a))) (rises (s .args .sizes .now) (s .args .t10) l (s .args .t9) t prepared)
-      (record { free = prepared .formed .free; places = prepared .formed .places }) (s .pre .3) n (settled a .before .entry-place .result) entry (cell (Number (pos 0))) (a .outcome-of .result)
+      (record { free = prepared .formed .free; places = prepared .formed .places }) (s .pre .3) n (settled a .before .entry-place .result) entry (range (pos 0) 0) (a .outcome-of .result)
       (settled a .before .before .index-of .ensures .0 ∙ ap index (toZ-ofZ w32 _ fitting)) (settled a .before .entry-place .ensures) refl
       (a .outcome-of .ensures ∙ ap (λ z. outcome (operationOf (l .code)) z (s .args .answer) (64 - t .free) (t .accu) entry) (toZ-ofZ w32 _ fitting))
 

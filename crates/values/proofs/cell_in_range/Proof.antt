@@ -3,9 +3,10 @@ use mathlib.Core.Path.{refl, ap₂, _∙_}
 use mir.Syntax.{w64}
 use mir.ValLaws.{toZ-ofZ}
 use Rattle.numbers.specs.Numbers.{within}
-use Rattle.routine.specs.Rows.{cellWord, cellInRange}
+use Rattle.routine.specs.Rows.{cellWord, cellInRange, spanInRange}
 use Rattle.values.specs.Values.{clampedCell}
 use Rattle.values.proofs.ValueLaws.{in-range-clamped, no-number, tested}
+use Rattle.numbers.proofs.SignedLaws.{read-both}
 use borrow.Author.Needs.{needs}
 use Rattle.values.proofs.cell_in_range.Statement.{statement}
 use Rattle.values.proofs.cell_in_range.Tie as tie
@@ -31,6 +32,12 @@ handles-requires c κs = search needs
 within-requires-2 : tie.Need-within-requires-2
 within-requires-2 c κs = search needs
 
+enum-known-lo : tie.Need-enum-known-lo
+enum-known-lo c = search needs
+
+span-in-range-requires : tie.Need-span-in-range-requires
+span-in-range-requires c κs = search needs
+
 returns : tie.Need-returns
 unfolding cellInRange
 returns c =
@@ -44,8 +51,15 @@ returns-2 c =
     (c .within2 .ensures ∙ ap₂ within (c .before .handles .ensures) (toZ-ofZ w64 (c .before .before .before .k .given .0 .0) (search needs)))
 
 returns-3 : tie.Need-returns-3
+unfolding cellInRange
 returns-3 c =
-    tested cellInRange clampedCell in-range-clamped (cellWord (c .before .before .before .args .w .now)) (c .before .cell-word .ensures) refl (no-number (c .before .cell-word .result) (c .match .keys3))
+    let known = c .before .before .lo .given in
+    tested cellInRange clampedCell in-range-clamped (cellWord (c .before .before .before .before .before .before .args .w .now)) (c .before .before .before .before .cell-word .ensures) (known .1)
+    (c .span-in-range .ensures ∙ read-both spanInRange w64 (known .0 .0) (known .0 .1 .0) (search needs) (search needs))
+
+returns-4 : tie.Need-returns-4
+returns-4 c =
+    tested cellInRange clampedCell in-range-clamped (cellWord (c .before .before .before .args .w .now)) (c .before .cell-word .ensures) refl (no-number (c .before .cell-word .result) (c .match .keys4))
 
 pub cell-in-range-spec : {M : Type 1} → statement M
 cell-in-range-spec =
@@ -58,6 +72,9 @@ cell-in-range-spec =
     enum-known-k
     handles-requires
     within-requires-2
+    enum-known-lo
+    span-in-range-requires
     returns
     returns-2
-    returns-3)
+    returns-3
+    returns-4)

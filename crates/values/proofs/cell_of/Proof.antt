@@ -4,11 +4,13 @@ use lib.IntN.{natAbs}
 use mir.Syntax.{w64}
 use mir.ValLaws.{toZ-ofZ}
 use Rattle.numbers.specs.Numbers.{numbers}
-use Rattle.cells.specs.Cells.{number, handle}
+use Rattle.cells.specs.Cells.{number, between, handle}
 use Rattle.routine.specs.Rows.{handles, cellWord}
 use Rattle.routine.specs.Routine.{inside, cellOf}
 use Rattle.values.specs.Values.{clampedCell}
 use Rattle.values.proofs.ValueLaws.{cell-of-clamped, tested}
+use Rattle.numbers.proofs.SignedLaws.{read-both}
+use lib.IntN.{ℤ}
 use borrow.Author.Needs.{needs}
 use Rattle.values.proofs.cell_of.Statement.{statement}
 use Rattle.values.proofs.cell_of.Tie as tie
@@ -40,6 +42,12 @@ enum-known-k c = search needs
 handle-cell-requires : tie.Need-handle-cell-requires
 handle-cell-requires c κs = search needs
 
+enum-known-lo : tie.Need-enum-known-lo
+enum-known-lo c = search needs
+
+span-cell-requires : tie.Need-span-cell-requires
+span-cell-requires c κs = search needs
+
 returns : tie.Need-returns
 unfolding cellOf
 returns c =
@@ -62,6 +70,13 @@ returns-4 c =
     tested cellOf clampedCell cell-of-clamped (cellWord (c .before .before .before .before .before .before .args .w .now)) (c .before .before .before .before .cell-word .ensures) (c .before .before .k .given .1)
     (c .handle-cell .ensures ∙ ap (λ z. handle (natAbs (inside handles z))) (toZ-ofZ w64 (c .before .before .k .given .0 .0) (search needs)))
 
+returns-5 : tie.Need-returns-5
+unfolding cellOf
+returns-5 c =
+    let known = c .before .before .lo .given in
+    tested cellOf clampedCell cell-of-clamped (cellWord (c .before .before .before .before .before .before .args .w .now)) (c .before .before .before .before .cell-word .ensures) (known .1)
+    (c .span-cell .ensures ∙ read-both (λ (x y : ℤ). between (inside numbers x) (inside numbers y)) w64 (known .0 .0) (known .0 .1 .0) (search needs) (search needs))
+
 pub cell-of-spec : {M : Type 1} → statement M
 cell-of-spec =
     tie.close
@@ -75,7 +90,10 @@ cell-of-spec =
     number-cell-requires
     enum-known-k
     handle-cell-requires
+    enum-known-lo
+    span-cell-requires
     returns
     returns-2
     returns-3
-    returns-4)
+    returns-4
+    returns-5)

@@ -1,9 +1,9 @@
 -- `values::cell_word` meets its contract. Assumes nothing.
 use mathlib.Core.Path.{sym, ap, _∙_}
 use Rattle.text.specs.Decimal.{numeral}
-use Rattle.routine.specs.Rows.{knownOf, blockOf}
+use Rattle.routine.specs.Rows.{blockOf}
 use Rattle.values.specs.Values.{clampedCell}
-use Rattle.values.proofs.ValueLaws.{known-clamped, block-clamped, word-unknown, word-none, word-block, word-known}
+use Rattle.values.proofs.ValueLaws.{block-clamped, word-unknown, word-none, word-block, word-spanned}
 use borrow.Author.Needs.{needs}
 use Rattle.values.proofs.cell_word.Statement.{statement}
 use Rattle.values.proofs.cell_word.Tie as tie
@@ -50,19 +50,14 @@ returns-3 c =
     ∙ block-clamped _
     ∙ sym (ap clampedCell (word-block (start .args .w .now) (sym (c .before .before .before .before .before .before .before .same .ensures) ∙ c .before .before .before .before .before .before .if1 .left) (c .before .before .before .before .before .if2 .left) (c .before .before .before .if3 .taken)))
 
-read-numeral-requires-2 : tie.Need-read-numeral-requires-2
-read-numeral-requires-2 c κs = search needs
-
-known-word-requires : tie.Need-known-word-requires
-known-word-requires c κs = search needs
+spanned-requires : tie.Need-spanned-requires
+spanned-requires c κs = search needs
 
 returns-4 : tie.Need-returns-4
 returns-4 c =
-    let start = c .before .before .before .before .before .before .before .before .before in
-    c .known-word .ensures
-    ∙ ap knownOf (c .before .read-numeral2 .ensures)
-    ∙ known-clamped (numeral (start .args .w .now))
-    ∙ sym (ap clampedCell (word-known (start .args .w .now) (sym (c .before .before .before .before .before .before .same .ensures) ∙ c .before .before .before .before .before .if1 .left) (c .before .before .before .before .if2 .left) (c .before .before .if3 .left)))
+    let start = c .before .before .before .before .before .before .before .before in
+    c .spanned .ensures
+    ∙ sym (ap clampedCell (word-spanned (start .args .w .now) (sym (c .before .before .before .before .before .same .ensures) ∙ c .before .before .before .before .if1 .left) (c .before .before .before .if2 .left) (c .before .if3 .left)))
 
 pub cell-word-spec : {M : Type 1} → statement M
 cell-word-spec =
@@ -79,6 +74,5 @@ cell-word-spec =
     read-numeral-requires
     block-word-requires
     returns-3
-    read-numeral-requires-2
-    known-word-requires
+    spanned-requires
     returns-4)

@@ -1,0 +1,97 @@
+-- The numbers in the start of a routine have as many bits as numbers have. Assumes nothing.
+use Prim.Native.Nat.{ℕ, zero, suc}
+use mathlib.Core.Path.{_≡_, refl, ap, ap₂, _∙_}
+use mathlib.Core.Bool.{Bool, true, false, cond, _&&_}
+use mathlib.Core.List.{List, [], _∷_}
+use native.Mathlib.Omega.{arith}
+use lib.IntN.{ℤ, pos, natAbs}
+use lib.Signed.{leZ}
+use lib.ListN.{getD, take, drop}
+use Rattle.text.specs.Text.{Line}
+use Rattle.numbers.specs.Numbers.{within, numbers}
+use Rattle.numbers.proofs.IntegerLaws.{over, under, le-true}
+use Rattle.cells.specs.declared.Cell.{Cell}
+use Rattle.cells.specs.Cells.{range, number, between}
+use Rattle.cells.specs.Codes.{Confined, Kept}
+use Rattle.cells.specs.Order.{Pointwise, end, cons}
+use Rattle.cells.proofs.RangeLaws.{InBits, fitting-true, high-zero}
+use Rattle.cells.proofs.CellLaws.{confined-range, number-confined, unknown-confined, handle-confined, kept-self}
+use Rattle.cells.proofs.MergeLaws.{between-is}
+use Rattle.machine.specs.Machine.{State}
+use Rattle.machine.specs.Order.{Cellwise}
+use Rattle.routine.specs.declared.CellWord.{CellWord}
+use Rattle.routine.specs.declared.CellWord.the-variants.{Wrong, Unknown, Known, Block, Span}
+use Rattle.routine.specs.Rows.{cellWord, handles}
+use Rattle.routine.specs.Routine.{inside, cellOf, cellsOf, blocksInLine, startOf, routineOf}
+
+within-bits : (z : ℤ) → within numbers z ≡ true → InBits z 0
+within-bits z e = fitting-true z 0 (ap₂ _&&_ e (ap (within numbers) (high-zero z) ∙ e))
+
+-- a number of the range
+inside-bits : (z : ℤ) → InBits (inside numbers z) 0
+unfolding inside
+inside-bits z = go (within numbers z) refl
+  where
+    go : (t : Bool) → within numbers z ≡ t → InBits (cond t z (pos 0)) 0
+    go true e = within-bits z e
+    go false e = record { above = omega arith; below = omega arith }
+
+-- the numbers from one to another
+module _ (l h : ℤ) (a : InBits l 0) (b : InBits h 0) where
+  confined-up : leZ l h ≡ true → Confined (between l h)
+  confined-up e =
+      let s = between-is l h (le-true l h e) in
+      let far = s .1 .far in
+      rw (s .1 .is) (confined-range (record { above = a .above; below = omega (arith, b .below) }))
+
+  confined-down : leZ l h ≡ false → Confined (between l h)
+  unfolding between
+  confined-down e = rw e (confined-range a)
+
+  between-confined : Confined (between l h)
+  between-confined = go (leZ l h) refl
+    where
+      go : (t : Bool) → leZ l h ≡ t → Confined (between l h)
+      go true e = confined-up e
+      go false e = confined-down e
+
+word-confined : (c : CellWord) → Confined (cellOf c)
+unfolding cellOf
+word-confined Wrong = number-confined (pos 0)
+word-confined Unknown = unknown-confined
+word-confined (Known z) = number-confined (inside numbers z)
+word-confined (Block k) = handle-confined (natAbs (inside handles k))
+word-confined (Span lo hi) = between-confined (inside numbers lo) (inside numbers hi) (inside-bits lo) (inside-bits hi)
+
+words-kept : (ws : List (List ℕ)) → Pointwise Kept (cellsOf ws) (cellsOf ws)
+unfolding cellsOf
+words-kept [] = end
+words-kept (w ∷ ws) = cons (kept-self (word-confined (cellWord w))) (words-kept ws)
+
+kept-take : (n : ℕ) {xs ys : List Cell} → Pointwise Kept xs ys → Pointwise Kept (take n xs) (take n ys)
+kept-take zero k = end
+kept-take (suc n) end = end
+kept-take (suc n) (cons k ks) = cons k (kept-take n ks)
+
+kept-drop : (n : ℕ) {xs ys : List Cell} → Pointwise Kept xs ys → Pointwise Kept (drop n xs) (drop n ys)
+kept-drop zero k = k
+kept-drop (suc n) end = end
+kept-drop (suc n) (cons k ks) = kept-drop n ks
+
+blocks-kept : (ns : List ℕ) {xs ys : List Cell} → Pointwise Kept xs ys → Pointwise (Pointwise Kept) (blocksInLine ns xs) (blocksInLine ns ys)
+unfolding blocksInLine
+blocks-kept [] k = end
+blocks-kept (n ∷ ns) k = cons (kept-take n k) (blocks-kept ns (kept-drop n k))
+
+first-kept : (xs : List Cell) → Pointwise Kept xs xs → Kept (getD xs 0 (number (pos 0))) (getD xs 0 (number (pos 0)))
+first-kept [] k = kept-self (number-confined (pos 0))
+first-kept (x ∷ xs) (cons k ks) = k
+
+pub start-kept : (ls : List Line) → Cellwise Kept (routineOf ls .start) (routineOf ls .start)
+unfolding routineOf startOf
+start-kept ls = record {
+  at = refl;
+  accu = first-kept _ (words-kept _);
+  stack = kept-drop 1 (words-kept _);
+  blocks = blocks-kept _ (words-kept _);
+}
