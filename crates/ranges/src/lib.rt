@@ -1,0 +1,1 @@
+// Ranges in the cells of a routine: definitions and laws only.
