@@ -70,7 +70,7 @@ impl<F: FnMut(Event<'_>)> Explorer<'_, F> {
             words += line.words;
             (self.note)(Event::Steps { state: &state, line });
             let handles = state.handles(line);
-            let next = state.step(line, || Cell::Unknown);
+            let next = state.step(line, || Cell::UNKNOWN);
             if let Some(handles) = handles {
                 (self.note)(Event::Met { handles, stuck: next.is_none() });
             }

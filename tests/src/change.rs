@@ -102,12 +102,14 @@ pub struct Text<T = [Told; 2]> {
 
 /// The names over a report of a bound.
 const BOUND_NAMES: &str = "CYCLES WORDS DEPTH STEPS SHARE PATH";
+/// The names over a report of a run.
+const RUN_NAMES: &str = "CYCLES WORDS DEPTH STEPS";
 
 impl Text {
     /// What the bound and the run print.
     pub fn printed(&self) -> [String; 2] {
         let [bound, run] = &self.told;
-        [bound.printed(BOUND_NAMES), run.printed("CYCLES WORDS DEPTH STEPS")]
+        [bound.printed(BOUND_NAMES), run.printed(RUN_NAMES)]
     }
 }
 
@@ -119,6 +121,18 @@ impl Text<Bounds> {
     /// What the bound and the merging bound print.
     pub fn printed(&self) -> [String; 2] {
         [self.told.0, self.told.1].map(|told| told.printed_by_a_bound())
+    }
+}
+
+/// What the bound, the merging bound and the run tell.
+#[derive(Clone, Copy)]
+pub struct Three(pub Told, pub Told, pub Told);
+
+impl Text<Three> {
+    /// What the bound, the merging bound and the run print.
+    pub fn printed(&self) -> [String; 3] {
+        let Three(bound, merge, run) = self.told;
+        [bound.printed_by_a_bound(), merge.printed_by_a_bound(), run.printed(RUN_NAMES)]
     }
 }
 

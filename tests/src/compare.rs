@@ -5,7 +5,7 @@ use independent::machine::State;
 use independent::merge::merge;
 use independent::random::Random;
 use independent::report::{bound_answer, merge_answer, printed, run_answer, told, Answer, MEMORY};
-use independent::routine::{line, read, Refusal, Routine, TEXT_LIMIT};
+use independent::routine::{cell, line, read, Refusal, Routine, Spelt, TEXT_LIMIT};
 use independent::run::Run;
 use std::ffi::OsStr;
 use std::io::Write;
@@ -120,24 +120,56 @@ pub fn figures(report: &[u8]) -> Vec<u64> {
     values.split(' ').take(4).map(|w| w.parse().unwrap()).collect()
 }
 
-/// A file that passes refusals 1 to 6 and 13, with numbers for each `?` and other answers.
+/// A word of a cell as one that a run takes: a number for `?`, a number of the range for a range. One of one number stays now and then.
+fn filled_in(random: &mut Random, word: &str) -> String {
+    match cell(word.as_bytes()).unwrap() {
+        Spelt::Unknown => random.number().to_string(),
+        Spelt::Range(low, high) if low < high || random.one_in(2) => {
+            let n = random.in_range([low as i32, high as i32]);
+            n.to_string()
+        }
+        _ => word.to_string(),
+    }
+}
+
+/// A text with each of its cells changed, on the lines of cells and of fields.
+fn with_cells(lines: &mut [String], mut change: impl FnMut(&str) -> String) {
+    for n in [line::CELLS, line::FIELDS] {
+        if lines[n - 1] != "-" {
+            lines[n - 1] = lines[n - 1].split(' ').map(&mut change).collect::<Vec<_>>().join(" ");
+        }
+    }
+}
+
+/// A file that passes refusals 1 to 6 and 13, with `?` for each range of more than one number; none, if it has no such range.
+pub fn widened(text: &[u8]) -> Option<Vec<u8>> {
+    let wider = |word: &str| matches!(cell(word.as_bytes()), Some(Spelt::Range(low, high)) if low < high);
+    let mut lines: Vec<String> = std::str::from_utf8(text).unwrap().lines().map(str::to_string).collect();
+    let mut changed = false;
+    with_cells(&mut lines, |word| {
+        changed |= wider(word);
+        if wider(word) { "?" } else { word }.to_string()
+    });
+    changed.then(|| joined(&lines))
+}
+
+fn joined(lines: &[String]) -> Vec<u8> {
+    lines.iter().flat_map(|l| [l, "\n"]).collect::<String>().into_bytes()
+}
+
+/// A file that passes refusals 1 to 6 and 13, with numbers for each `?` and each range, and other answers.
 pub fn filled(random: &mut Random, text: &[u8]) -> Vec<u8> {
     let text = std::str::from_utf8(text).unwrap();
     // a primitive may be named ANSWER: the heading is looked for after the first line of code
     let heading = text.lines().skip(line::CODE).position(|l| l == "ANSWER").map(|at| at + line::CODE);
     let mut lines: Vec<String> = text.lines().take(heading.unwrap_or(usize::MAX)).map(str::to_string).collect();
-    for n in [line::CELLS, line::FIELDS] {
-        let held = &mut lines[n - 1];
-        let words: Vec<String> =
-            held.split(' ').map(|w| if w == "?" { random.number().to_string() } else { w.to_string() }).collect();
-        *held = words.join(" ");
-    }
+    with_cells(&mut lines, |word| filled_in(random, word));
     let answers = *random.pick(&[0, 1, 3, 64]);
     if answers > 0 {
         lines.push("ANSWER".to_string());
         lines.extend((0..answers).map(|_| random.number().to_string()));
     }
-    lines.iter().flat_map(|l| [l, "\n"]).collect::<String>().into_bytes()
+    joined(&lines)
 }
 
 /// A file that passes, with the largest BUDGET.
@@ -330,8 +362,33 @@ pub fn by_programs(programs: &Path, text: &[u8], answers: &Answers) -> Result<()
     program(&programs.join("merge"), &[], text, &answers.merge)
 }
 
-/// All comparisons on one file; gives the answers, and the number of interruptions compared.
-pub fn file(random: &mut Random, text: &[u8]) -> Result<(Answers, u64), String> {
+/// "never above the former ones with `?` for each wider range, where both are accepted": the reports of a file beside those of the same file
+/// with `?` for its ranges, of either bound.
+fn never_above(answers: &Answers, widened: &Answers) -> Result<(), String> {
+    for (name, report, wide) in
+        [("bound", &answers.bound, &widened.bound), ("merging bound", &answers.merge, &widened.merge)]
+    {
+        if let (Ok(report), Ok(wide)) = (report, wide) {
+            if figures(report).iter().zip(figures(wide)).any(|(a, b)| *a > b) {
+                let [report, wide] = [report, wide].map(|r| r.escape_ascii());
+                return Err(format!("the {name} says {report}\nand with `?` for its ranges {wide}"));
+            }
+        }
+    }
+    Ok(())
+}
+
+/// What was compared on one file.
+pub struct Outcome {
+    pub answers: Answers,
+    /// of the file with `?` for each range of more than one number, where it passes and has one
+    pub widened: Option<Answers>,
+    /// the number of interruptions
+    pub interruptions: u64,
+}
+
+/// All comparisons on one file.
+pub fn file(random: &mut Random, text: &[u8]) -> Result<Outcome, String> {
     let answers = compare(random, text)?;
     let mut interruptions = interrupted_as_it_stands(random, text)?;
     match (&answers.bound, &answers.merge) {
@@ -347,5 +404,10 @@ pub fn file(random: &mut Random, text: &[u8]) -> Result<(Answers, u64), String> 
     if answers.merge.is_ok() {
         interrupted_and_merged(random, text)?;
     }
-    Ok((answers, interruptions))
+    let widened = match read(text, false).ok().and_then(|_| widened(text)) {
+        Some(wide) => Some(compare(random, &wide).map_err(|what| format!("with `?` for its ranges: {what}"))?),
+        None => None,
+    };
+    widened.as_ref().map_or(Ok(()), |widened| never_above(&answers, widened))?;
+    Ok(Outcome { answers, widened, interruptions })
 }

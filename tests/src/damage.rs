@@ -14,7 +14,14 @@ const WORDS: &[&str] = &[
     "#123456789012345678901234567890", "BUDGET", "TICK", "ACCU", "S0", "S1", "S00", "S31", "S32", "B0.0", "B0.00",
     "B0.1", "B0.15", "B0.16", "B1.0", "B7.0", "B8.0", "AT", "OP", "ARG", "ANSWER", "STOP", "BRANCH", "BRANCHIF",
     "ACC", "ACC0", "ACC8", "C_CALL1", "C_CALL6", "CONST4", "MAKEBLOCK", "READ", "A", "A_1", "_A", "1A", "a",
-    "LONGNAME", "LONGNAMES", "stop", "", "é",
+    "LONGNAME", "LONGNAMES", "stop", "", "é", "0..1", "-3..7", "5..5", "0..1008", "1..0",
+];
+
+/// Words that are nearly ranges.
+#[rustfmt::skip]
+const NO_RANGES: &[&str] = &[
+    "1...2", "1.2", "1..", "..2", "..", "...", "1..2..3", "1..2..", "..1..2", "?..2", "1..?", "?..?", "#0..#1", "#0..1", "1..#2", "01..2",
+    "1..02", "-0..2", "1..-0", "+1..2", "1..+2", "1.. 2", "1 ..2", "1,2", "1-2", "1..2,", "a..b", "1..x", "--1..2", "0x1..2",
 ];
 
 type Lines = Vec<Vec<String>>;
@@ -134,7 +141,7 @@ fn among_bytes(random: &mut Random, text: &mut Vec<u8>) {
 fn among_parts(random: &mut Random, draft: &mut Draft) {
     let lines = draft.code.len();
     let code = random.below(lines);
-    match random.below(24) {
+    match random.below(26) {
         0 if draft.kinds.len() > 1 => {
             // 5
             let n = random.below(draft.kinds.len());
@@ -147,10 +154,11 @@ fn among_parts(random: &mut Random, draft: &mut Draft) {
             let n = lines + random.below(beyond);
             draft.code[code] = (*random.pick(&["BRANCH", "BRANCHIF", "BRANCHIFNOT"]), Arg::Line(n));
         }
-        19..=22 => {
+        19..=22 | 24 | 25 => {
             // 13, and sometimes 6 on a later line
             let n = if random.one_in(2) { code } else { random.below(code + 1) };
-            let name = *random.pick(&["BRANCH", "BRANCH", "BRANCHIF", "BRANCHIFNOT"]);
+            let name =
+                *random.pick(&["BRANCH", "BRANCH", "BRANCH", "BRANCHIFNOT", "BRANCHIFNOT", "BRANCHIFNOT", "BRANCHIF"]);
             draft.code[code] = (name, Arg::Line(n));
             draft.price(name);
             if code + 1 < lines && random.one_in(2) {
@@ -260,6 +268,42 @@ fn among_numbers(random: &mut Random, draft: &mut Draft) {
     }
 }
 
+/// A range that falls, that reaches beyond the range of numbers or just up to its end, or that is misspelt: in a cell or in a field.
+fn among_ranges(random: &mut Random, draft: &mut Draft) {
+    let [low, high] = random.range();
+    let number = random.number();
+    let word = match random.below(8) {
+        0 | 1 => format!("{high}..{low}"),
+        2 => format!("{}..{number}", LOWEST as i64 - 1),
+        3 => format!("{number}..{}", HIGHEST as i64 + 1),
+        4 => random.pick(&["-1073741824..1073741823", "0..123456789012345678901234567890", "9..-9"]).to_string(),
+        _ => random.pick(NO_RANGES).to_string(),
+    };
+    if random.one_in(2) {
+        if draft.blocks.is_empty() {
+            draft.blocks.push(vec!["0".to_string()]);
+        }
+        let block = random.below(draft.blocks.len());
+        let field = random.below(draft.blocks[block].len());
+        draft.blocks[block][field] = word;
+    } else {
+        let n = random.below(draft.cells.len());
+        draft.cells[n] = word;
+    }
+}
+
+/// A range of one number in the place of a number that is no cell.
+fn where_no_cell_is(random: &mut Random, lines: &mut Lines) {
+    let mut numbers = Vec::new();
+    for (n, line) in lines.iter().enumerate().filter(|(n, _)| ![at::CELLS - 1, at::FIELDS - 1].contains(n)) {
+        numbers.extend((0..line.len()).filter(|w| line[*w].parse::<i64>().is_ok()).map(|w| (n, w)));
+    }
+    if !numbers.is_empty() {
+        let (n, w) = *random.pick(&numbers);
+        lines[n][w] = format!("{0}..{0}", lines[n][w]);
+    }
+}
+
 /// A text of nearly the most bytes, or a few more, by numbers of code that take more bytes or fewer.
 fn near_limit(random: &mut Random, draft: &mut Draft) -> Vec<u8> {
     let wanted = TEXT_LIMIT + random.below(5) - 2;
@@ -292,22 +336,28 @@ pub fn damaged(random: &mut Random, draft: &mut Draft) -> Vec<u8> {
         return near_limit(random, draft);
     }
     let faults = if random.one_in(2) { 1 } else { random.within(2, 3) };
-    let kinds: Vec<usize> = (0..faults).map(|_| random.below(11)).collect();
-    for _ in kinds.iter().filter(|k| **k < 4) {
+    let kinds: Vec<usize> = (0..faults).map(|_| random.below(15)).collect();
+    for _ in kinds.iter().filter(|k| **k < 5) {
         among_parts(random, draft);
     }
-    for _ in kinds.iter().filter(|k| **k >= 9) {
+    for _ in kinds.iter().filter(|k| (5..7).contains(*k)) {
         among_numbers(random, draft);
     }
+    for _ in kinds.iter().filter(|k| (7..9).contains(*k)) {
+        among_ranges(random, draft);
+    }
     let mut words = lines(&draft.text());
-    for _ in kinds.iter().filter(|k| (4..7).contains(*k)) {
+    for _ in kinds.iter().filter(|k| (9..12).contains(*k)) {
         among_words(random, &mut words);
     }
-    for _ in kinds.iter().filter(|k| **k == 8) {
+    if kinds.contains(&12) {
         among_extras(random, &mut words);
     }
+    if kinds.contains(&13) && random.one_in(2) {
+        where_no_cell_is(random, &mut words);
+    }
     let mut bytes = text(&words);
-    for _ in kinds.iter().filter(|k| **k == 7) {
+    if kinds.contains(&14) {
         among_bytes(random, &mut bytes);
     }
     if random.one_in(60) {

@@ -28,14 +28,42 @@ fn extra(random: &mut Random, kind: &str, style: usize) -> usize {
     }
 }
 
-fn cell(random: &mut Random, blocks: usize, unknown: usize) -> String {
+/// How often a cell that is no handle is unknown or a range, in tenths, and whether ranges are among them.
+#[derive(Clone, Copy)]
+struct Cells {
+    open: usize,
+    ranges: bool,
+}
+
+/// A range as it is spelt.
+fn range(random: &mut Random) -> String {
+    let [low, high] = random.range();
+    format!("{low}..{high}")
+}
+
+fn cell(random: &mut Random, blocks: usize, cells: Cells) -> String {
     if blocks > 0 && random.one_in(3) {
         format!("#{}", random.below(blocks))
-    } else if random.below(10) < unknown {
-        "?".to_string()
+    } else if random.below(10) < cells.open {
+        if cells.ranges && !random.one_in(4) {
+            range(random)
+        } else {
+            "?".to_string()
+        }
     } else {
-        random.number().to_string()
+        let n = random.number();
+        if cells.ranges && random.one_in(6) {
+            format!("{n}..{n}")
+        } else {
+            n.to_string()
+        }
     }
+}
+
+/// The ends of a range of more than one number.
+fn wider(cell: &str) -> Option<[i32; 2]> {
+    let (low, high) = cell.split_once("..")?;
+    Some([low.parse().unwrap(), high.parse().unwrap()]).filter(|[low, high]| low < high)
 }
 
 fn shape(cell: &str) -> Shape {
@@ -44,18 +72,25 @@ fn shape(cell: &str) -> Shape {
 
 /// A routine file that passes refusals 1 to 6, and mostly 13.
 pub fn draft(random: &mut Random) -> Draft {
-    let unknown = *random.pick(&[0, 0, 3, 5, 8]);
+    // a file in three goes by its ranges
+    let by_ranges = random.one_in(3);
+    let cells = match by_ranges {
+        true => Cells { open: 7, ranges: true },
+        false => Cells { open: *random.pick(&[0, 0, 3, 5, 8]), ranges: random.one_in(3) },
+    };
     let block_count = if random.one_in(2) { 0 } else { random.within(1, 8) };
     let cell_count = match random.below(8) {
         0 => 33,
         1 => 1,
         _ => random.within(1, 8),
     };
-    let cells: Vec<String> = (0..cell_count).map(|_| cell(random, block_count, unknown)).collect();
+    // now and then in fields alone
+    let of_stack = if by_ranges && random.one_in(4) { Cells { open: 0, ..cells } } else { cells };
+    let held: Vec<String> = (0..cell_count).map(|_| cell(random, block_count, of_stack)).collect();
     let mut blocks = Vec::new();
     for _ in 0..block_count {
         let size = if random.one_in(4) { 16 } else { random.within(1, 5) };
-        blocks.push((0..size).map(|_| cell(random, block_count, unknown)).collect::<Vec<_>>());
+        blocks.push((0..size).map(|_| cell(random, block_count, cells)).collect::<Vec<_>>());
     }
     let style = random.below(4);
     let primitive_count = match random.below(8) {
@@ -75,10 +110,11 @@ pub fn draft(random: &mut Random) -> Draft {
         })
         .collect();
 
-    let mut stack: Vec<Shape> = cells[1..].iter().map(|c| shape(c)).collect();
+    let mut stack: Vec<Shape> = held[1..].iter().map(|c| shape(c)).collect();
     stack.reverse();
+    let ranges = (1..held.len()).filter_map(|n| Some((held.len() - 1 - n, wider(&held[n])?))).collect();
     let shapes = Shapes {
-        accumulator: shape(&cells[0]),
+        accumulator: shape(&held[0]),
         stack,
         blocks: blocks.iter().map(|b| b.iter().map(|c| shape(c)).collect()).collect(),
     };
@@ -92,6 +128,7 @@ pub fn draft(random: &mut Random) -> Draft {
         in_loop: false,
         loops,
         counters: Vec::new(),
+        ranges,
         primitives: primitive_count,
         exits: Vec::new(),
         trees: 0,
@@ -99,9 +136,11 @@ pub fn draft(random: &mut Random) -> Draft {
     };
     let rounds = if longest > 60 { 150 } else { writer.random.within(1, 4) };
     let wild = if writer.random.one_in(4) { writer.random.within(1, 2) } else { 0 };
-    let meetings = writer.random.one_in(3);
+    let meetings = writer.random.one_in(2);
     for _ in 0..rounds {
-        if meetings && writer.random.one_in(2) {
+        if by_ranges {
+            writer.by_ranges();
+        } else if meetings && writer.random.one_in(2) {
             writer.meeting();
         }
         writer.statements(0);
@@ -118,10 +157,14 @@ pub fn draft(random: &mut Random) -> Draft {
             writer.shapes.stack.push(Shape::Either);
         }
     }
-    if writer.random.one_in(15) {
+    if writer.random.one_in(if by_ranges { 3 } else { 12 }) {
         // a chain of branches to STOP, near the most openings
-        let unknowns = writer.random.within(28, 34);
-        writer.condition();
+        let unknowns = if by_ranges { writer.random.within(33, 38) } else { writer.random.within(28, 34) };
+        if by_ranges {
+            writer.range_without_zero();
+        } else {
+            writer.condition();
+        }
         for _ in 0..unknowns {
             let name = *writer.random.pick(&["BRANCHIF", "BRANCHIFNOT"]);
             writer.emit(name, Arg::Line(0));
@@ -129,7 +172,7 @@ pub fn draft(random: &mut Random) -> Draft {
             writer.exits.push(exit);
         }
     }
-    if !writer.random.one_in(40) || writer.code.is_empty() || !writer.exits.is_empty() {
+    if !writer.random.one_in(14) || writer.code.is_empty() || !writer.exits.is_empty() {
         writer.emit("STOP", Arg::Nothing);
     }
     for exit in std::mem::take(&mut writer.exits) {
@@ -179,11 +222,15 @@ pub fn draft(random: &mut Random) -> Draft {
         2 => random.within(1, 5000) as u64,
         _ => 1 + random.next() % 4_000_000_000,
     };
-    let mut draft = Draft { budget: 1, tick, kinds, primitives, cells, blocks, first, code, answers };
+    let mut draft = Draft { budget: 1, tick, kinds, primitives, cells: held, blocks, first, code, answers };
     if random.one_in(3) {
         tie(random, &mut draft);
     }
     limits(random, &mut draft);
+    if by_ranges && !random.one_in(3) {
+        // steps enough with `?` for each range
+        draft.budget = 3000;
+    }
     draft
 }
 

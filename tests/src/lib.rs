@@ -15,6 +15,8 @@ pub mod preview;
 pub mod preview_cases;
 pub mod preview_draft;
 pub mod random;
+pub mod range;
+pub mod range_cases;
 pub mod replay;
 pub mod replay_cases;
 pub mod report;

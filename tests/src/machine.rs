@@ -1,4 +1,5 @@
 //! Cells, the machine's state and its step.
+use crate::range::Range;
 use crate::routine::Line;
 use crate::tagged::{is_number, Tagged};
 
@@ -9,17 +10,39 @@ pub const FIELDS: usize = 16;
 #[derive(Clone, Copy, PartialEq, Debug)]
 pub enum Cell {
     Number(Tagged),
-    Unknown,
+    /// some number of these, of which there are two or more
+    Within(Range),
     Handle(u8),
 }
 
 impl Cell {
+    /// Any number.
+    pub const UNKNOWN: Cell = Cell::Within(Range::WHOLE);
+
     pub fn number(n: i32) -> Cell {
         Cell::Number(Tagged::of(n))
     }
+
+    /// A number of a range.
+    pub fn of(range: Range) -> Cell {
+        if range.is_one() {
+            Cell::number(range.low)
+        } else {
+            Cell::Within(range)
+        }
+    }
+
+    /// The numbers that it may be; a handle is none.
+    pub fn range(self) -> Option<Range> {
+        match self {
+            Cell::Number(v) => Some(Range::of_one(v.number())),
+            Cell::Within(range) => Some(range),
+            Cell::Handle(_) => None,
+        }
+    }
 }
 
-#[derive(Clone, Copy)]
+#[derive(Clone, Copy, PartialEq, Debug)]
 pub enum Operator {
     Add,
     Subtract,
@@ -70,7 +93,7 @@ pub struct State {
 pub enum Handles {
     Equal,
     Unlike,
-    /// a handle and a number or an unknown
+    /// a handle and a number or a range
     WithAnother,
 }
 
@@ -157,6 +180,22 @@ impl State {
         (!is_number(exact)).then_some(wrap)
     }
 
+    /// The operation of a line with the ranges of its operands, where both are numbers: OFFSETINT is a sum, NEGINT 0 minus and BOOLNOT 1
+    /// minus.
+    pub fn operands(&self, line: &Line) -> Option<(Operator, Range, Range)> {
+        let accumulator = self.accumulator.range()?;
+        let minus = |n| Some((Operator::Subtract, Range::of_one(n), accumulator));
+        match line.instruction {
+            Instruction::Offset(i) => Some((Operator::Add, accumulator, Range::of_one(i))),
+            Instruction::Negate => minus(0),
+            Instruction::Not => minus(1),
+            Instruction::Binary(operator) => {
+                Some((operator, accumulator, self.stack[self.height.checked_sub(1)?].range()?))
+            }
+            _ => None,
+        }
+    }
+
     /// The place of a field of the block that the accumulator handles.
     fn field(&self, n: usize) -> Option<usize> {
         let Cell::Handle(block) = self.accumulator else {
@@ -166,11 +205,11 @@ impl State {
         (n < self.sizes[block] as usize).then_some(block * FIELDS + n)
     }
 
-    /// The accumulator with a function done to its number.
-    fn change(&mut self, function: impl FnOnce(Tagged) -> Tagged) -> Option<()> {
+    /// The accumulator with a function done to its number; `of_range` is the same of a range.
+    fn change(&mut self, of_one: impl FnOnce(Tagged) -> Tagged, of_range: impl FnOnce(Range) -> Range) -> Option<()> {
         self.accumulator = match self.accumulator {
-            Cell::Number(v) => Cell::Number(function(v)),
-            Cell::Unknown => Cell::Unknown,
+            Cell::Number(v) => Cell::Number(of_one(v)),
+            Cell::Within(range) => Cell::of(of_range(range)),
             Cell::Handle(_) => return None,
         };
         Some(())
@@ -199,9 +238,11 @@ impl State {
                 self.push()?;
                 self.accumulator = Cell::number(i);
             }
-            Instruction::Offset(i) => self.change(|v| v.offset(i))?,
-            Instruction::Negate => self.change(Tagged::negated)?,
-            Instruction::Not => self.change(Tagged::complement)?,
+            Instruction::Offset(i) => {
+                self.change(|v| v.offset(i), |range| range.operated(Operator::Add, Range::of_one(i)))?;
+            }
+            Instruction::Negate => self.change(Tagged::negated, |range| minus(0, range))?,
+            Instruction::Not => self.change(Tagged::complement, |range| minus(1, range))?,
             Instruction::Binary(operator) => {
                 let right = self.pop()?;
                 self.accumulator = match (self.accumulator, right) {
@@ -212,7 +253,7 @@ impl State {
                     },
                     (Cell::Handle(_), _) | (_, Cell::Handle(_)) => return None,
                     (Cell::Number(x), Cell::Number(y)) => Cell::Number(operator.of(x, y)),
-                    _ => Cell::Unknown,
+                    (x, y) => Cell::of(x.range()?.operated(operator, y.range()?)),
                 };
             }
             Instruction::GetField(n) => self.accumulator = self.fields[self.field(n)?],
@@ -240,14 +281,25 @@ impl State {
                 Some(Next::Jumps)
             }
             Cell::Number(_) => Some(Next::Goes),
-            Cell::Unknown => Some(Next::Opens(target)),
+            Cell::Within(range) if range.contains(0) => Some(Next::Opens(target)),
+            // "A condition whose range lacks 0 .. opens no second way"
+            Cell::Within(_) if on_non_zero => {
+                self.at = target;
+                Some(Next::Jumps)
+            }
+            Cell::Within(_) => Some(Next::Goes),
             Cell::Handle(_) => None,
         }
     }
 }
 
+/// A number minus a range.
+fn minus(n: i32, range: Range) -> Range {
+    Range::of_one(n).operated(Operator::Subtract, range)
+}
+
 impl Operator {
-    fn of(self, x: Tagged, y: Tagged) -> Tagged {
+    pub fn of(self, x: Tagged, y: Tagged) -> Tagged {
         let truth = match self {
             Operator::Add => return x.plus(y),
             Operator::Subtract => return x.minus(y),

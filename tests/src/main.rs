@@ -10,13 +10,14 @@ mod jumps;
 mod merges;
 mod pinned;
 mod previews;
+mod ranges;
 mod replays;
 mod shares;
 mod traces;
 mod wraps;
 
 use causes::Causes;
-use compare::{by_programs, file, number, Answers};
+use compare::{by_programs, file, number, Answers, Outcome};
 use extras::Extras;
 use handles::Compared;
 use imports::{compiled, export_by_program, exported, import_by_program, imported};
@@ -29,6 +30,7 @@ use independent::merge_cases::{self, merges, MERGES};
 use independent::preview_cases;
 use independent::preview_draft::{instruction_at, preview};
 use independent::random::Random;
+use independent::range_cases::{self, ranges, RANGES};
 use independent::replay_cases;
 use independent::report::{bound_answer, merge_answer, told, Answer, MEMORY};
 use independent::routine::{line, read, KINDS};
@@ -37,8 +39,9 @@ use independent::word_cases::{self, CASES};
 use independent::word_draft;
 use jumps::Jumps;
 use merges::Merges;
-use pinned::{pinned, pinned_export, pinned_import, pinned_merge, pinned_preview, pinned_replay};
+use pinned::{pinned, pinned_export, pinned_import, pinned_merge, pinned_preview, pinned_range, pinned_replay};
 use previews::{compare_preview, preview_by_program, Previews};
+use ranges::Ranges;
 use replays::{replay_by_program, replayed};
 use shares::Shares;
 use std::collections::{BTreeMap, BTreeSet};
@@ -67,6 +70,7 @@ struct Tally {
     wraps: Wraps,
     jumps: Jumps,
     merges: Merges,
+    ranges: Ranges,
     causes: Causes,
     traces: Traces,
     previews: Previews,
@@ -104,16 +108,18 @@ impl Tally {
     }
 
     /// What a report depends on, and how many files had it.
-    fn counts(&self) -> impl Iterator<Item = (&'static str, u64)> {
+    fn counts(&self) -> impl Iterator<Item = (&'static str, u64)> + '_ {
         let of_cells = self.extras.counts().into_iter().chain(self.handles.counts()).chain(self.wraps.counts());
-        of_cells.chain(self.shares.counts()).chain(self.jumps.counts()).chain(self.merges.counts())
+        let of_ways = self.jumps.counts().into_iter().chain(self.merges.counts());
+        of_cells.chain(self.shares.counts()).chain(of_ways).chain(self.ranges.counts())
     }
 
     /// All comparisons on one file; with the programs too, if they are given.
     fn file(&mut self, random: &mut Random, text: &[u8], programs: Option<&Path>) -> Result<(), String> {
-        let (answers, interruptions) = file(random, text)?;
+        let Outcome { answers, widened, interruptions } = file(random, text)?;
         self.interruptions += interruptions;
         self.note(text, &answers);
+        self.ranges.note(text, &answers, widened.as_ref());
         let exported = exported(random, text, &answers.bound)?;
         if exported.is_ok() {
             self.causes.note_export(read(text, false).unwrap().first);
@@ -181,13 +187,26 @@ fn compare_merges(tally: &mut Tally, programs: &Path, random: &mut Random) {
     examples.sort();
     for path in &examples {
         let text = std::fs::read(path).unwrap();
-        let found = file(random, &text).and_then(|(answers, _)| by_programs(programs, &text, &answers));
+        let found = file(random, &text).and_then(|compared| by_programs(programs, &text, &compared.answers));
         tally.count(&path.display().to_string(), &text, found);
     }
     let panel = std::fs::read("examples/ninety-tests.txt").unwrap_or_default();
     let numbers = [bound_answer(&panel, MEMORY), merge_answer(&panel, MEMORY)].map(|answer| number(&answer));
     let found = if numbers == [8, 0] { Ok(()) } else { Err(format!("refusals {numbers:?}, not 8 and none")) };
     tally.count("the example of ninety tests", &panel, found);
+}
+
+/// The texts of ranges, with the answers of both bounds and of the run; and the ranges of the independent implementation, against all pairs
+/// of their numbers.
+fn compare_ranges(tally: &mut Tally, programs: &Path, random: &mut Random) {
+    let texts = ranges();
+    let count = if texts.len() == RANGES { Ok(()) } else { Err(format!("{}, not {RANGES}", texts.len())) };
+    tally.count("the count of the texts of ranges", &[], count);
+    for text in &texts {
+        let found = pinned_range(programs, random, text);
+        tally.count(&format!("the range {}", text.name), &text.bytes, found);
+    }
+    tally.count("operations on ranges, pair by pair", &[], range_cases::pair_by_pair());
 }
 
 /// The imports and exports with pinned answers, and the compiled functions.
@@ -251,12 +270,14 @@ fn compare_program_files(tally: &mut Tally) {
 }
 
 /// Files enough that every kind, every refusal of a text, every use of an extra, every pair with a handle, every operation that wraps,
-/// SHARE on each side of a half, every jump, every meeting of ways, every cause, every way in which a trace compares and all that a patch may come to must come up.
+/// SHARE on each side of a half, every jump, every meeting of ways, every use of a range, every cause, every way in which a trace
+/// compares and all that a patch may come to must come up.
 const MANY: u64 = 5_000;
 
 /// Whether what was compared had all kinds in accepted code and in accepted words, reports, each refusal of a text, extras wherever they
 /// count, handles in operations on two cells, numbers that wrap and numbers just outside their range, SHARE at a half and next to it,
-/// jumps forward and backward, ways that meet and ways that do not, each cause by which words are refused, traces that agree, differ and are
+/// jumps forward and backward, ways that meet and ways that do not, ranges in cells, operations and conditions, each cause by which words
+/// are refused, traces that agree, differ and are
 /// refused by each cause, and previews with a report or a refusal of each kind.
 fn covers(tally: &Tally) -> Result<(), String> {
     let missing: Vec<u32> = (0..=14).filter(|n| ![10, 12].contains(n) && !tally.answers.contains_key(n)).collect();
@@ -324,6 +345,7 @@ fn main() {
     compare_program_files(&mut tally);
     compare_pinned(&mut tally, programs, &mut Random::new(seed));
     compare_merges(&mut tally, programs, &mut Random::new(seed));
+    compare_ranges(&mut tally, programs, &mut Random::new(seed));
     compare_words(&mut tally, programs, &mut Random::new(seed));
     compare_replays(&mut tally, programs, &mut Random::new(seed));
     compare_previews(&mut tally, programs, &mut Random::new(seed));

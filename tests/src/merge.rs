@@ -1,7 +1,8 @@
-//! The merging bound of change request 9: first the states that come to each address, in rising order, merged where ways meet; then, from
-//! the last address back to the first, what can still be spent.
+//! The merging bound of change requests 9 and 12: first the states that come to each address, in rising order, merged where ways meet;
+//! then, from the last address back to the first, what can still be spent.
 use crate::bound::{Figures, Path};
 use crate::machine::{Cell, Next, State};
+use crate::range::Range;
 use crate::routine::{refused, Line, Refusal, Routine};
 
 /// Why states that meet are not merged.
@@ -10,6 +11,7 @@ pub enum Clash {
     Heights,
     UnlikeHandles,
     HandleBesideNumber,
+    HandleBesideRange,
     HandleBesideUnknown,
 }
 
@@ -29,17 +31,26 @@ struct Reached<'a> {
     jump: Option<usize>,
 }
 
-/// "equal cells stay, unlike numbers become unknown"; "a cell is a handle on one way and anything else on the other" is a clash.
+/// "equal cells stay"; of numbers and ranges "A merge takes the smallest range that covers both"; "a cell is a handle on one way and anything
+/// else on the other" is a clash.
 pub fn cell(first: Cell, others: impl Iterator<Item = Cell> + Clone) -> Result<Cell, Clash> {
     if others.clone().all(|cell| cell == first) {
         return Ok(first);
     }
-    let some = |is: fn(&Cell) -> bool| is(&first) || others.clone().any(|cell| is(&cell));
-    match some(|cell| matches!(cell, Cell::Handle(_))) {
-        false => Ok(Cell::Unknown),
-        true if some(|cell| *cell == Cell::Unknown) => Err(Clash::HandleBesideUnknown),
-        true if some(|cell| matches!(cell, Cell::Number(_))) => Err(Clash::HandleBesideNumber),
-        true => Err(Clash::UnlikeHandles),
+    let all = std::iter::once(first).chain(others);
+    if all.clone().all(|cell| cell.range().is_some()) {
+        let covering = all.filter_map(Cell::range).reduce(Range::covering);
+        return Ok(Cell::of(covering.unwrap()));
+    }
+    let some = |is: fn(&Cell) -> bool| all.clone().any(|cell| is(&cell));
+    if some(|cell| *cell == Cell::UNKNOWN) {
+        Err(Clash::HandleBesideUnknown)
+    } else if some(|cell| matches!(cell, Cell::Within(_))) {
+        Err(Clash::HandleBesideRange)
+    } else if some(|cell| matches!(cell, Cell::Number(_))) {
+        Err(Clash::HandleBesideNumber)
+    } else {
+        Err(Clash::UnlikeHandles)
     }
 }
 
@@ -90,7 +101,7 @@ pub fn passed(routine: &Routine, start: State, mut note: impl FnMut(Event<'_>)) 
         let Some(line) = routine.code.get(n) else {
             return refused(7, at as usize);
         };
-        let Some(next) = state.step(line, || Cell::Unknown) else {
+        let Some(next) = state.step(line, || Cell::UNKNOWN) else {
             return refused(7, at as usize);
         };
         let mut ways = Reached { line, next: None, jump: None };

@@ -1,4 +1,5 @@
-//! The answers that change request 9 gives the cases of document 01, and texts for each of its sentences, with the answers of both bounds.
+//! The answers that change request 9 gives the cases of document 01, and texts for each of its sentences, with the answers of both bounds;
+//! where unlike numbers meet, with change request 12.
 use crate::cases::{branches, file};
 use crate::change::Base::{File, Named};
 use crate::change::Change::Nothing;
@@ -6,7 +7,7 @@ use crate::change::Told::{self, Refusal, Report};
 use crate::change::{line, lines, made, word, Base, Bounds, Entry, Text};
 
 /// How many texts there are.
-pub const MERGES: usize = 68;
+pub const MERGES: usize = 71;
 
 /// Cases in which ways meet, or which the first bound refuses by 7, 8 or 9.
 const CASES: [(&str, Told); 33] = [
@@ -62,7 +63,7 @@ pub fn printed(text: &Text) -> Option<String> {
 
 /// Code over cells, of which the first is the accumulator, and two blocks of one field each that holds 5; each kind costs 1 cycle.
 fn meeting(cells: &str, code: &[&str]) -> String {
-    let kinds = "BRANCHIF BRANCHIFNOT BRANCH PUSH PUSHACC0 PUSHACC1 POP ACC0 ACC1 ASSIGN CONST0 CONST1 CONST2 NEGINT SETFIELD0 \
+    let kinds = "BRANCHIF BRANCHIFNOT BRANCH PUSH PUSHACC0 PUSHACC1 POP ACC0 ACC1 ASSIGN CONST0 CONST1 CONSTINT NEGINT SETFIELD0 \
                  SETFIELD C_CALL1 STOP GETFIELD0";
     let ones = vec!["1"; kinds.split(' ').count()].join(" ");
     let entries: String = (0..cells.split(' ').count() - 1).map(|i| format!(" S{i}")).collect();
@@ -107,9 +108,9 @@ const HEIGHTS: Base = File(|| meeting("?", &["BRANCHIF 2", "PUSH -", "STOP -"]))
 const HANDLES: Base = File(|| meeting("? #0 #1", &["BRANCHIF 3", "ACC0 -", "BRANCH 4", "ACC1 -", "STOP -"]));
 const ENTRIES: Base = File(|| meeting("? 5 #0", &["BRANCHIF 3", "ACC1 -", "ASSIGN 0", "STOP -"]));
 const FIELDS: Base = File(|| meeting("? #0 7", &["BRANCHIF 4", "ACC0 -", "PUSHACC0 -", "SETFIELD0 -", "STOP -"]));
-/// 1 and 2 meet before a branch that jumps on both.
+/// 1 and -1 meet before a branch that jumps on both, but not on 0, which is between them.
 const NUMBERS: Base = File(|| {
-    meeting("?", &["BRANCHIF 3", "CONST1 -", "BRANCH 4", "CONST2 -", "BRANCHIF 7", "PUSH -", "POP 1", "STOP -"])
+    meeting("?", &["BRANCHIF 3", "CONST1 -", "BRANCH 4", "CONSTINT -1", "BRANCHIF 7", "PUSH -", "POP 1", "STOP -"])
 });
 const JUMP: Base = File(|| meeting("?", &["BRANCHIF 2", "CONST0 -", "STOP -"]));
 
@@ -217,25 +218,38 @@ fn handles() -> Vec<Entry<Bounds>> {
     ]
 }
 
-/// "equal cells stay, unlike numbers become unknown"
+/// "equal cells stay"; unlike numbers become "the smallest range that covers both"
 fn numbers() -> Vec<Entry<Bounds>> {
-    let in_a_field =
-        "1 ACC1 -\n2 PUSHACC1 -\n3 SETFIELD0 -\n4 ACC0 -\n5 GETFIELD0 -\n6 BRANCHIF 8\n7 CONST0 -\n8 STOP -";
+    let in_a_field = "? #0 -7\nB0.0 B1.0\n5 5\nAT OP ARG\n0 BRANCHIF 4\n\
+        1 ACC1 -\n2 PUSHACC1 -\n3 SETFIELD0 -\n4 ACC0 -\n5 GETFIELD0 -\n6 BRANCHIF 8\n7 CONST0 -\n8 STOP -";
     let first = Report("5 0 0 8 5 N");
-    let three = "0 BRANCHIF 6\n1 BRANCHIF 4\n2 CONST1 -\n3 BRANCH 7\n4 CONST1 -\n5 BRANCH 7\n6 CONST0 -\n7 BRANCHIF 9\n8 CONST2 -\n\
+    let three = "0 BRANCHIF 6\n1 BRANCHIF 4\n2 CONST1 -\n3 BRANCH 7\n4 CONST1 -\n5 BRANCH 7\n6 CONST0 -\n7 BRANCHIF 9\n8 CONSTINT 2\n\
                  9 STOP -";
     let kept = "0 BRANCHIF 3\n1 CONST1 -\n2 BRANCH 4\n3 CONST1 -\n4 BRANCHIF 7\n5 PUSH -\n6 POP 1\n7 STOP -";
     let in_an_entry: Base =
-        File(|| meeting("? 2", &["BRANCHIF 3", "CONST1 -", "ASSIGN 0", "ACC0 -", "BRANCHIF 6", "CONST0 -", "STOP -"]));
+        File(|| meeting("? -2", &["BRANCHIF 3", "CONST1 -", "ASSIGN 0", "ACC0 -", "BRANCHIF 6", "CONST0 -", "STOP -"]));
     vec![
         (
             "unlike_numbers_in_a_field_branch",
             FIELDS,
-            lines(16, 19, in_a_field),
+            lines(11, 19, in_a_field),
             Bounds(Report("8 0 3 12 8 N"), Report("9 0 3 9 9 -")),
         ),
         ("unlike_numbers", NUMBERS, Nothing, Bounds(first, Report("7 0 1 8 7 -"))),
         ("unlike_numbers_tick_16", NUMBERS, word(2, 2, "16"), Bounds(Report("5 0 0 8 312 N"), Report("7 0 1 8 438 -"))),
+        ("unlike_numbers_above_0", NUMBERS, word(18, 3, "2"), Bounds(first, Report("5 0 0 6 5 -"))),
+        (
+            "unlike_numbers_below_0",
+            NUMBERS,
+            lines(16, 18, "1 CONSTINT -5\n2 BRANCH 4\n3 CONSTINT -1"),
+            Bounds(first, Report("5 0 0 6 5 -")),
+        ),
+        (
+            "unlike_numbers_one_of_them_0",
+            NUMBERS,
+            word(18, 3, "0"),
+            Bounds(Report("6 0 1 10 6 T"), Report("7 0 1 8 7 -")),
+        ),
         ("equal_numbers", NUMBERS, lines(15, 22, kept), Bounds(first, Report("5 0 0 6 5 -"))),
         ("unlike_numbers_and_a_14_behind", NUMBERS, line(21, "6 CONST0 -"), Bounds(first, Refusal(14, 7))),
         ("unlike_numbers_and_a_7_behind", NUMBERS, line(20, "5 POP 1"), Bounds(first, Refusal(7, 5))),

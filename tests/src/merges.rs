@@ -6,10 +6,11 @@ use independent::merge::{cell, passed, Clash, Event};
 use independent::routine::read;
 use std::collections::BTreeSet;
 
-const CLASHES: [(Clash, &str); 4] = [
+const CLASHES: [(Clash, &str); 5] = [
     (Clash::Heights, "a 14 by unlike heights"),
     (Clash::UnlikeHandles, "a 14 by unlike handles"),
     (Clash::HandleBesideNumber, "a 14 by a handle beside a number"),
+    (Clash::HandleBesideRange, "a 14 by a handle beside a range"),
     (Clash::HandleBesideUnknown, "a 14 by a handle beside an unknown"),
 ];
 
@@ -21,7 +22,7 @@ pub struct Merges {
     openings: u64,
     budget: u64,
     /// refused by 14, by what clashes: of one cause alone
-    clashes: [u64; 4],
+    clashes: [u64; 5],
     /// that clash in the accumulator, in an entry, in a field
     places: [u64; 3],
     /// refused by 14, where the first bound accepts
@@ -108,7 +109,7 @@ impl Merges {
                 }
                 self.only_here += bound.is_ok() as u64;
                 let line = routine.code.get((refusal.place - routine.first) as usize);
-                let stuck = |state: &State| line.is_none_or(|l| state.clone().step(l, || Cell::Unknown).is_none());
+                let stuck = |state: &State| line.is_none_or(|l| state.clone().step(l, || Cell::UNKNOWN).is_none());
                 self.before_stuck += last.iter().all(stuck) as u64;
             }
             Err(refusal) => {

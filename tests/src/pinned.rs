@@ -5,7 +5,7 @@ use crate::imports::{export_by_program, exported, import_by_program, imported};
 use crate::previews::{compare_preview, preview_by_program};
 use crate::replays::{compare_replay, replay_by_program};
 use independent::analyser::{self, Function};
-use independent::change::{Bounds, Text};
+use independent::change::{Bounds, Text, Three};
 use independent::merge_cases;
 use independent::preview::{preview_answer, Preview};
 use independent::random::Random;
@@ -58,7 +58,21 @@ pub fn pinned_merge(programs: &Path, random: &mut Random, text: &Text<Bounds>) -
     let own = bound_answer(&text.bytes, text.lent);
     both("bound", &|memory| analyser::bound(&text.bytes, memory), text.lent, &own, bound.as_bytes())?;
     both_merge(&text.bytes, text.lent, &merge)?;
-    by_programs(programs, &text.bytes, &file(random, &text.bytes)?.0)
+    by_programs(programs, &text.bytes, &file(random, &text.bytes)?.answers)
+}
+
+/// A text with the answers of both bounds and of the run; its export is refused as its bound is, by 1 to 6 and 13.
+pub fn pinned_range(programs: &Path, random: &mut Random, text: &Text<Three>) -> Result<(), String> {
+    let [bound, merge, run] = text.printed();
+    let own = bound_answer(&text.bytes, text.lent);
+    both("bound", &|memory| analyser::bound(&text.bytes, memory), text.lent, &own, bound.as_bytes())?;
+    both_merge(&text.bytes, text.lent, &merge)?;
+    let own = run_answer(&text.bytes, text.lent);
+    both("run", &|memory| analyser::run(&text.bytes, memory), text.lent, &own, run.as_bytes())?;
+    let answers = file(random, &text.bytes)?.answers;
+    let exported = exported(random, &text.bytes, &answers.bound)?;
+    by_programs(programs, &text.bytes, &answers)?;
+    export_by_program(programs, &text.bytes, &exported)
 }
 
 /// Whether a function and the independent implementation say what is wanted.

@@ -58,6 +58,55 @@ impl Random {
         }
     }
 
+    /// The ends of a range: of one number, of a few or of many; with 0, at 0 and without it; at an end of the range of numbers, up to one,
+    /// and all of them.
+    pub fn range(&mut self) -> [i32; 2] {
+        let few = self.within(1, 4) as i32;
+        let many = self.within(5, 3000) as i32;
+        let up = match self.below(11) {
+            0 => {
+                let n = self.number();
+                [n, n]
+            }
+            1 => [0, few],
+            2 => [0, many],
+            3 => [few, few + self.within(1, 4) as i32],
+            4 => [few, few + many],
+            5 => [-few, many],
+            6 => {
+                let high = HIGHEST - self.below(3) as i32;
+                [high - few, high]
+            }
+            7 | 8 => *self.pick(&[
+                [0, HIGHEST],
+                [1, HIGHEST],
+                [LOWEST + 1, HIGHEST],
+                [LOWEST, HIGHEST],
+                [few, HIGHEST - few],
+            ]),
+            9 => [-few, self.within(1, 4) as i32],
+            _ => {
+                let [a, b] = [self.number(), self.number()];
+                [a.min(b), a.max(b)]
+            }
+        };
+        // or the same below 0: -1 - n for n
+        if self.one_in(2) {
+            up
+        } else {
+            [!up[1], !up[0]]
+        }
+    }
+
+    /// A number of a range, as often as not an end of it.
+    pub fn in_range(&mut self, [low, high]: [i32; 2]) -> i32 {
+        match self.below(4) {
+            0 => low,
+            1 => high,
+            _ => low + (self.next() % (high as i64 - low as i64 + 1) as u64) as i32,
+        }
+    }
+
     /// A word of 32 bits, as often as not outside the range of numbers: just there, or at an end of the words.
     pub fn word(&mut self) -> i32 {
         let n = self.below(3) as i32;

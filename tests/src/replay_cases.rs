@@ -1,4 +1,4 @@
-//! Replays with the answers that change request 4 gives them, with change request 8.
+//! Replays with the answers that change request 4 gives them, with change requests 8 and 12.
 use crate::cases::{file, published, pushes};
 use crate::replay::{agrees, differs, TRACE_LIMIT, TRACE_LINES};
 use crate::report::{Answer, MEMORY};
@@ -7,7 +7,7 @@ use crate::trace_draft::Replay;
 use crate::word_cases::Case;
 
 /// How many there are.
-pub const CASES: usize = 153;
+pub const CASES: usize = 163;
 
 /// A name that says what is tried, the routine file, the trace, and what is told.
 type Entry = (&'static str, String, Vec<u8>, Answer);
@@ -36,7 +36,7 @@ fn extra_10(file: String) -> String {
 const STEPS: &str = "0 50\n1 5\n4 1\n";
 
 pub fn replays() -> Vec<Case<Replay>> {
-    let lists = [steps(), costs(), answers(), ends(), long(), layouts(), numbers(), order()];
+    let lists = [steps(), costs(), answers(), ends(), long(), layouts(), numbers(), order(), ranges()];
     let mut cases: Vec<Case<Replay>> = Vec::new();
     for (name, text, trace, told) in lists.into_iter().flatten() {
         assert!(cases.iter().all(|case| case.name != name), "{name} is there twice");
@@ -304,5 +304,24 @@ fn order() -> Vec<Entry> {
         ("routine_11_then_layout", published(), Vec::new(), refused(11, 11)),
         ("routine_11_then_agrees", published(), trace(STEPS), refused(11, 11)),
         ("routine_11_in_a_field", change("-\n-\nAT", "B0.0\n?\nAT"), trace("0 -1\n"), refused(11, 13)),
+    ]
+}
+
+/// Change request 12: "A run refuses a range of more than one number as it does `?`", and so does a replay, before it looks at the trace; a
+/// trace has no ranges.
+fn ranges() -> Vec<Entry> {
+    let cells = |cells: &str| jumps().replacen("0 0\n-", &format!("{cells}\n-"), 1);
+    let field = |field: &str| jumps().replacen("-\n-\nAT", &format!("B0.0\n{field}\nAT"), 1);
+    vec![
+        ("one_number_as_a_range", cells("0..0 7..7"), trace(STEPS), agrees()),
+        ("one_number_as_a_range_in_a_field", field("5..5"), trace(STEPS), agrees()),
+        ("wider_range", cells("0 0..1"), trace(STEPS), refused(11, 11)),
+        ("wider_range_in_a_field", field("0..1"), trace(STEPS), refused(11, 13)),
+        ("wider_range_then_layout", cells("0..1 0"), Vec::new(), refused(11, 11)),
+        ("misspelt_range", cells("0 0...1"), trace(STEPS), refused(2, 11)),
+        ("range_that_falls", cells("0 1..0"), trace(STEPS), refused(3, 11)),
+        ("range_that_falls_then_layout", field("1..0"), Vec::new(), refused(3, 13)),
+        ("range_as_an_address_of_the_trace", jumps(), trace("0..0 50\n"), refused(2, 2)),
+        ("range_as_cycles_of_the_trace", jumps(), trace("0 50..50\n"), refused(2, 2)),
     ]
 }

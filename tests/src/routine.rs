@@ -1,5 +1,6 @@
 //! The routine file: its reader, with refusals 1 to 6, 13 and 11.
 use crate::machine::{Cell, Instruction, Operator, State, FIELDS};
+use crate::range::Range;
 use crate::tagged::{is_number as in_range, HIGHEST, LOWEST};
 
 pub const TEXT_LIMIT: usize = 32_768;
@@ -160,18 +161,34 @@ pub(crate) fn number(word: &[u8]) -> Option<i64> {
     Some(if minus { -size } else { size })
 }
 
-/// A cell as it is spelt, its number not yet held against a range.
-enum Spelt {
+/// A cell as it is spelt, its numbers not yet held against a range.
+pub enum Spelt {
     Number(i64),
+    /// "A start or block cell may be `lo..hi`"
+    Range(i64, i64),
     Unknown,
     Handle(i64),
 }
 
-fn cell(word: &[u8]) -> Option<Spelt> {
-    match word {
-        b"?" => Some(Spelt::Unknown),
-        [b'#', rest @ ..] => number(rest).map(Spelt::Handle),
-        _ => number(word).map(Spelt::Number),
+/// A cell of a word, if it is spelt right: a range is two numbers around the first two dots.
+pub fn cell(word: &[u8]) -> Option<Spelt> {
+    let dots = word.windows(2).position(|two| two == b"..");
+    match (word, dots) {
+        (b"?", _) => Some(Spelt::Unknown),
+        ([b'#', rest @ ..], _) => number(rest).map(Spelt::Handle),
+        (_, Some(at)) => Some(Spelt::Range(number(&word[..at])?, number(&word[at + 2..])?)),
+        (_, None) => number(word).map(Spelt::Number),
+    }
+}
+
+impl Spelt {
+    /// Whether a run refuses it: "A run refuses a range of more than one number as it does `?`."
+    fn is_open(&self) -> bool {
+        match self {
+            Spelt::Unknown => true,
+            Spelt::Range(low, high) => low != high,
+            _ => false,
+        }
     }
 }
 
@@ -313,6 +330,7 @@ fn ranges(file: &Layout) -> Result<(), Refusal> {
             }),
             line::CELLS | line::FIELDS => file.list(n).iter().all(|w| match cell(w).unwrap() {
                 Spelt::Number(v) => in_range(v),
+                Spelt::Range(low, high) => in_range(low) && in_range(high) && low <= high,
                 Spelt::Unknown => true,
                 Spelt::Handle(k) => (0..=7).contains(&k),
             }),
@@ -443,7 +461,7 @@ pub fn read(text: &[u8], run: bool) -> Result<Routine, Refusal> {
     let file = checked(text)?;
     if run {
         for n in [line::CELLS, line::FIELDS] {
-            if file.list(n).contains(&&b"?"[..]) {
+            if file.list(n).iter().any(|w| cell(w).unwrap().is_open()) {
                 return refused(11, n);
             }
         }
@@ -458,7 +476,8 @@ fn routine(file: &Layout) -> Routine {
             .iter()
             .map(|w| match cell(w).unwrap() {
                 Spelt::Number(v) => Cell::number(v as i32),
-                Spelt::Unknown => Cell::Unknown,
+                Spelt::Range(low, high) => Cell::of(Range { low: low as i32, high: high as i32 }),
+                Spelt::Unknown => Cell::UNKNOWN,
                 Spelt::Handle(k) => Cell::Handle(k as u8),
             })
             .collect()

@@ -30,7 +30,7 @@ impl Run {
             Next::Goes => self.depth = self.depth.max(self.state.height),
             Next::Jumps => self.cycles += line.extra,
             Next::Stops => self.stopped = true,
-            Next::Opens(_) => unreachable!("a run has no unknown cell"),
+            Next::Opens(_) => unreachable!("a cell of a run is one number or a handle"),
         }
         self.cycles += line.cycles;
         self.words += line.words;
@@ -39,7 +39,7 @@ impl Run {
     }
 }
 
-/// The run that a file without `?` gives, made to its end.
+/// The run that a file gives whose cells are single numbers and handles, made to its end.
 pub fn run(routine: &Routine) -> Result<Run, Refusal> {
     let mut run = Run::new(routine.start.clone(), &routine.answers);
     while !run.stopped {

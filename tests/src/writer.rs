@@ -2,6 +2,7 @@
 use crate::draft::Arg;
 use crate::random::Random;
 use crate::routine::{Argument, KINDS};
+use crate::tagged::{HIGHEST, LOWEST};
 
 /// What a cell can hold at a place of the code; `Either` is a number or a handle.
 #[derive(Clone, Copy, PartialEq)]
@@ -36,6 +37,8 @@ pub struct Writer<'a> {
     pub loops: bool,
     /// counters of turns, by their height
     pub counters: Vec<usize>,
+    /// entries that are ranges at the start, by their height, with the ends
+    pub ranges: Vec<(usize, [i32; 2])>,
     pub primitives: usize,
     /// branches to the last line, which is STOP
     pub exits: Vec<usize>,
@@ -77,7 +80,7 @@ impl Writer<'_> {
     fn atom(&mut self) {
         let height = self.shapes.stack.len();
         let accumulator = self.shapes.accumulator;
-        match self.random.below(16) {
+        match self.random.below(18) {
             0 | 1 if height > 0 => {
                 let n = self.random.below(height);
                 self.shapes.accumulator = self.shapes.stack[self.entry(n)];
@@ -135,6 +138,9 @@ impl Writer<'_> {
             15 => {
                 self.at_an_end();
             }
+            16 => {
+                self.on_ranges();
+            }
             _ => {}
         }
     }
@@ -168,7 +174,7 @@ impl Writer<'_> {
         let height = self.shapes.stack.len();
         let n = height - 1 - *self.random.pick(&entries);
         self.numbered("ACC", "ACC", n as i64, 8);
-        let rare = self.random.one_in(10);
+        let rare = self.random.one_in(5);
         if rare && self.random.one_in(2) {
             self.emit("PUSHCONST0", Arg::Nothing);
         } else {
@@ -209,6 +215,235 @@ impl Writer<'_> {
         self.emit(operator, Arg::Nothing);
         self.shapes.accumulator = Shape::Number;
         true
+    }
+
+    /// The entries that were ranges at the start and have not been popped, by their number, with the ends.
+    fn range_entries(&self) -> Vec<(usize, [i32; 2])> {
+        let height = self.shapes.stack.len();
+        let held = |e: usize| e < height && self.shapes.stack[e] == Shape::Number;
+        self.ranges.iter().filter(|r| held(r.0)).map(|(e, ends)| (height - 1 - e, *ends)).collect()
+    }
+
+    /// Puts a range into the accumulator, and gives its ends: an entry that was one at the start, or two numbers, 0 and 1 or next to each
+    /// other.
+    fn range(&mut self) -> [i32; 2] {
+        let entries = self.range_entries();
+        if entries.is_empty() || self.random.one_in(4) {
+            let low = *self.random.pick(&[0, 0, 0, 1, -1, -2, 7]);
+            return self.two_numbers(low);
+        }
+        self.entry_of(&entries)
+    }
+
+    /// Puts one of these entries into the accumulator.
+    fn entry_of(&mut self, entries: &[(usize, [i32; 2])]) -> [i32; 2] {
+        let (n, ends) = *self.random.pick(entries);
+        self.numbered("ACC", "ACC", n as i64, 8);
+        self.shapes.accumulator = Shape::Number;
+        ends
+    }
+
+    /// Puts this number or the next into the accumulator, by what a comparison gives.
+    fn two_numbers(&mut self, low: i32) -> [i32; 2] {
+        self.unknown();
+        self.emit("PUSHCONST0", Arg::Nothing);
+        let operator = *self.random.pick(&["EQ", "NEQ", "LTINT", "LEINT", "GTINT", "GEINT"]);
+        self.emit(operator, Arg::Nothing);
+        if low != 0 {
+            self.emit("OFFSETINT", Arg::Number(low as i64));
+        }
+        self.shapes.accumulator = Shape::Number;
+        [low, low.saturating_add(1)]
+    }
+
+    /// Puts a range without 0 into the accumulator, if one is known to be.
+    pub fn range_without_zero(&mut self) {
+        let without: Vec<_> =
+            self.range_entries().into_iter().filter(|(_, [low, high])| *low > 0 || *high < 0).collect();
+        if without.is_empty() {
+            self.range();
+        } else {
+            self.entry_of(&without);
+        }
+    }
+
+    /// A number beside an end of a range, at an end of the range of numbers, or any.
+    fn near(&mut self, [low, high]: [i32; 2]) -> i64 {
+        let (low, high) = (low as i64, high as i64);
+        let (n, end) = (self.random.number() as i64, self.random.end() as i64);
+        let near = *self.random.pick(&[low - 1, low, high, high + 1, low, high, n, end, end]);
+        near.clamp(LOWEST as i64, HIGHEST as i64)
+    }
+
+    /// A range, and mostly an operation on it: alone, with another range, or with a number near its ends.
+    fn on_ranges(&mut self) -> bool {
+        if self.shapes.stack.len() > 60 {
+            return false;
+        }
+        match self.random.below(8) {
+            0 => {
+                self.range();
+            }
+            1 | 2 => {
+                let ends = if self.random.one_in(3) {
+                    let low = self.random.end();
+                    self.two_numbers(low)
+                } else {
+                    self.range()
+                };
+                match self.random.below(5) {
+                    0 => self.emit("NEGINT", Arg::Nothing),
+                    1 => self.emit("BOOLNOT", Arg::Nothing),
+                    _ => {
+                        let i = self.near(ends);
+                        self.emit("OFFSETINT", Arg::Number(i));
+                    }
+                }
+            }
+            3 => {
+                // an answer compared with a number that it never passes, or just can
+                self.unknown();
+                let n = self.random.end() as i64;
+                self.emit("PUSHCONSTINT", Arg::Number(n));
+                let operator = *self.random.pick(&["LTINT", "LEINT", "GTINT", "GEINT"]);
+                self.emit(operator, Arg::Nothing);
+            }
+            4 | 5 => self.sum_of_ranges(),
+            _ => {
+                let ends = self.range();
+                if self.random.one_in(3) {
+                    self.pushed_before(|writer| {
+                        writer.range();
+                    });
+                } else {
+                    let i = self.near(ends);
+                    self.numbered("PUSHCONST", "PUSHCONSTINT", i, 4);
+                }
+                let operator = *self.random.pick(&["EQ", "NEQ", "LTINT", "LEINT", "GTINT", "GEINT"]);
+                self.emit(operator, Arg::Nothing);
+            }
+        }
+        true
+    }
+
+    /// The accumulator pushed, and then another one.
+    fn pushed_before(&mut self, another: impl FnOnce(&mut Self)) {
+        self.emit("PUSH", Arg::Nothing);
+        self.shapes.stack.push(Shape::Number);
+        another(self);
+        self.shapes.stack.pop();
+    }
+
+    /// A sum or a difference: of ranges, of unknowns, or at an end of the range of numbers.
+    fn sum_of_ranges(&mut self) {
+        match self.random.below(6) {
+            0 | 1 => {
+                self.range();
+                self.pushed_before(|writer| {
+                    writer.range();
+                });
+            }
+            2 => {
+                self.unknown();
+                self.pushed_before(|writer| {
+                    writer.unknown();
+                });
+            }
+            3 | 4 => {
+                // both at an end; or two results, of which one is at an end and the other wraps
+                let (end, other) = (self.random.end(), self.random.end());
+                let beyond = if end < 0 { LOWEST - 1 - end } else { HIGHEST - end };
+                let before = if end < 0 { end - LOWEST } else { end - HIGHEST - 1 };
+                let (low, i, operator) = *self.random.pick(&[
+                    (end, other, "ADDINT"),
+                    (end, other, "SUBINT"),
+                    (end, beyond, "ADDINT"),
+                    (before, end, "SUBINT"),
+                ]);
+                self.two_numbers(low);
+                self.emit("PUSHCONSTINT", Arg::Number(i as i64));
+                return self.emit(operator, Arg::Nothing);
+            }
+            _ => {
+                let ends = self.range();
+                let i = self.near(ends);
+                self.numbered("PUSHCONST", "PUSHCONSTINT", i, 4);
+            }
+        }
+        let operator = *self.random.pick(&["ADDINT", "SUBINT"]);
+        self.emit(operator, Arg::Nothing);
+    }
+
+    /// Ranges in operations, in conditions, and before ways that they leave closed.
+    pub fn by_ranges(&mut self) {
+        for _ in 0..self.random.within(1, 3) {
+            if self.shapes.stack.len() > 52 {
+                return;
+            }
+            match self.random.below(6) {
+                0..=2 => self.guarded(),
+                3 => self.unlike_cells(),
+                _ => {
+                    self.on_ranges();
+                    let from = self.code.len();
+                    let name = *self.random.pick(&["BRANCHIF", "BRANCHIFNOT"]);
+                    self.emit(name, Arg::Line(0));
+                    self.costly();
+                    self.here(from);
+                }
+            }
+        }
+    }
+
+    /// A way that no number of a range opens, which costs, pushes, leaves another height or is stuck; or one that some number does.
+    fn guarded(&mut self) {
+        let [low, high] = self.range();
+        // a number, and the comparisons of it with the range that are 1 and that are 0
+        let beside = [
+            (high as i64 + 1, ["GTINT", "GEINT", "NEQ"], ["LTINT", "LEINT", "EQ"]),
+            (low as i64 - 1, ["LTINT", "LEINT", "NEQ"], ["GTINT", "GEINT", "EQ"]),
+        ];
+        let beside: Vec<_> = beside.into_iter().filter(|b| (LOWEST as i64..=HIGHEST as i64).contains(&b.0)).collect();
+        if beside.is_empty() {
+            return;
+        }
+        let (number, ones, zeros) = *self.random.pick(&beside);
+        let opens = self.random.one_in(4);
+        let towards = if number > high as i64 { -1 } else { 1 };
+        self.emit("PUSHCONSTINT", Arg::Number(if opens { number + towards } else { number }));
+        let (operator, name) = match self.random.one_in(2) {
+            true => (*self.random.pick(&ones), "BRANCHIF"),
+            false => (*self.random.pick(&zeros), "BRANCHIFNOT"),
+        };
+        self.emit(operator, Arg::Nothing);
+        let from = self.code.len();
+        self.emit(name, Arg::Line(0));
+        match self.random.below(5) {
+            0 if !opens => self.emit("ACC", Arg::Number(63)),
+            1 if !opens => self.emit("PUSH", Arg::Nothing),
+            2 | 3 => self.pushes(9),
+            _ => self.unknown(),
+        }
+        self.here(from);
+        self.shapes.accumulator = Shape::Number;
+    }
+
+    /// A call, pushes, or now and then a step that is stuck; the stack is then as it was.
+    fn costly(&mut self) {
+        match self.random.below(8) {
+            0 => self.emit("ACC", Arg::Number(63)),
+            1..=3 => self.unknown(),
+            _ => {
+                let pushed = self.random.within(3, 7);
+                self.pushes(pushed);
+            }
+        }
+    }
+
+    /// So many entries pushed, and popped again.
+    fn pushes(&mut self, count: usize) {
+        (0..count).for_each(|_| self.emit("PUSH", Arg::Nothing));
+        self.emit("POP", Arg::Number(count as i64));
     }
 
     fn field(&mut self) {
@@ -266,6 +501,7 @@ impl Writer<'_> {
         let written = match self.random.below(10) {
             0 | 1 => self.handles(),
             2 => self.at_an_end(),
+            3..=5 => self.on_ranges(),
             _ => false,
         };
         if !written {
@@ -340,7 +576,7 @@ impl Writer<'_> {
 
     /// Ways that meet: with unlike numbers, with a handle on one of them, or again and again.
     pub fn meeting(&mut self) {
-        if self.shapes.stack.len() > 56 {
+        if self.shapes.stack.len() > 52 {
             return;
         }
         match self.random.below(8) {
@@ -361,27 +597,20 @@ impl Writer<'_> {
         }
     }
 
-    /// A branch on unlike numbers that meet. Where both jump, only the merge opens the way not taken, which costs, pushes or is stuck.
+    /// A branch on unlike numbers that meet. Where both jump and 0 is between them, only the merge opens the way not taken, which costs,
+    /// pushes or is stuck.
     fn unlike_numbers(&mut self) {
-        let [a, b] = *self.random.pick(&[[1, 2], [3, 1], [-1, 1], [0, 1], [1, 0]]);
+        let [a, b] = *self.random.pick(&[[-1, 2], [3, -1], [-1, 1], [0, 1], [1, 0], [1, 2], [-1, -3]]);
         let constant = |n: i64| [("CONSTINT", Arg::Number(n))];
         self.two_ways(&constant(a), &constant(b));
         let from = self.code.len();
         self.emit("BRANCHIF", Arg::Line(0));
-        match self.random.below(4) {
-            0 => self.emit("ACC", Arg::Number(63)),
-            1 => self.unknown(),
-            _ => {
-                let pushed = self.random.within(3, 7);
-                (0..pushed).for_each(|_| self.emit("PUSH", Arg::Nothing));
-                self.emit("POP", Arg::Number(pushed as i64));
-            }
-        }
+        self.costly();
         self.here(from);
         self.shapes.accumulator = Shape::Number;
     }
 
-    /// A cell that is a handle on one way and another handle, a number or an unknown on the other; now and then stuck on both behind it.
+    /// A cell that is a handle on one way and another handle, a number, a range or an unknown on the other; now and then stuck on both behind it.
     fn unlike_cells(&mut self) {
         let of_entry = |entry: &Shape| if let Shape::Handle(block) = entry { Some(*block) } else { None };
         let handles: Vec<(usize, usize)> =
@@ -399,9 +628,12 @@ impl Writer<'_> {
         }
         let read = |entry: usize, height: usize| ("ACC", Arg::Number((height - 1 - entry) as i64));
         let height = self.shapes.stack.len();
-        let other = match self.random.below(3) {
+        let ranges = self.range_entries();
+        let other = match self.random.below(4) {
             _ if !others.is_empty() && !self.random.one_in(3) => read(self.random.pick(&others).0, height),
-            0 | 1 if self.primitives > 0 => ("C_CALL1", Arg::Primitive(0)),
+            0 if self.primitives > 0 => ("C_CALL1", Arg::Primitive(0)),
+            1..=3 if !ranges.is_empty() => ("ACC", Arg::Number(self.random.pick(&ranges).0 as i64)),
+            1 if self.primitives > 0 => ("C_CALL1", Arg::Primitive(0)),
             _ => ("CONST1", Arg::Nothing),
         };
         let kept: &[(&str, Arg)] = match place {
