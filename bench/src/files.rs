@@ -28,7 +28,11 @@ fn draft(cells: &[&str], blocks: Vec<Vec<String>>, code: Code) -> Draft {
 }
 
 fn blocks(fields: usize) -> Vec<Vec<String>> {
-    vec![vec!["7".to_string(); fields]; 8]
+    blocks_of(fields, "7")
+}
+
+fn blocks_of(fields: usize, cell: &str) -> Vec<Vec<String>> {
+    vec![vec![cell.to_string(); fields]; 8]
 }
 
 /// Every operation and no unknown branch, from a line on: 43 steps of 44 lines, which leave the stack as it was.
@@ -83,25 +87,30 @@ fn turn(from: usize) -> Code {
     ]
 }
 
-/// So many openings, each to the next line, then so many turns and lines of CONST0, and STOP.
-fn straight(openings: usize, turns: usize, rest: usize) -> Vec<u8> {
+/// So many openings, each to the next line, then so many turns and lines of CONST0, and STOP, over a count and fields.
+fn straight(openings: usize, turns: usize, rest: usize, count: &str, field: &str) -> Vec<u8> {
     let mut code = openings_to_the_next(openings);
     for _ in 0..turns {
         code.extend(turn(code.len()));
     }
     code.extend(repeat_n(("CONST0", Arg::Nothing), rest));
     code.push(("STOP", Arg::Nothing));
-    draft(&["0", "1000", "#0"], blocks(4), code).text().into_bytes()
+    draft(&["0", count, "#0"], blocks_of(4, field), code).text().into_bytes()
 }
 
 /// As long a path as code can have: 1,024 lines.
 pub fn straight_path() -> Vec<u8> {
-    straight(0, 23, 11)
+    straight(0, 23, 11, "1000", "7")
 }
 
 /// 1,024 paths of 974 steps behind 10 openings: nearly all of BUDGET in steps.
 pub fn long_paths() -> Vec<u8> {
-    straight(10, 22, 27)
+    straight(10, 22, 27, "1000", "7")
+}
+
+/// The same paths over ranges: the count has no 0, so that no branch on it opens.
+pub fn long_paths_over_ranges() -> Vec<u8> {
+    straight(10, 22, 27, "1000..2008", "7..1008")
 }
 
 /// The routine file of the straight path, made once.

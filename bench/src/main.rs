@@ -168,6 +168,7 @@ fn main() {
     ];
     let mut explored = vec![
         Measured::new("1,024 paths of 974 steps, 10 openings on each", files::long_paths(), BOUND),
+        Measured::new("the same paths over ranges", files::long_paths_over_ranges(), BOUND),
         Measured::new("a straight path of 1,024 lines", files::straight_path(), BOUND),
         Measured::new("the run of that path", files::straight_path(), RUN),
         Measured::new("a full tree of 18 openings, narrow", files::tree(false), BOUND),
