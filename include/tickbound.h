@@ -87,14 +87,16 @@ enum {
     TICKBOUND_NO_MEETING = 14
 };
 
-/* The report of the bound: `CYCLES WORDS DEPTH STEPS SHARE PATH` and their values. */
+/* The report of the bound: `CYCLES WORDS DEPTH STEPS SHARE PATH` and their values. It holds for every number that a `?`
+ * or a range (`0..1008`) in the file allows. */
 uint64_t tickbound_bound(const uint8_t *text, size_t text_length, uint8_t *report, size_t report_length);
 
 /* The report of the merging bound, for a routine with too many paths to walk. It goes through the addresses once, in
- * rising order, and merges the states where ways meet: equal cells stay, unlike numbers become unknown. The report has
- * the same names and is read by `tickbound_read_report`; `steps` is the number of addresses reached, and PATH is `-`,
- * so that `path` is empty. Neither BUDGET nor a limit on openings plays a part. Every run is within this report too.
- * Where both bounds report, its cycles, words and depth are at least those of `tickbound_bound`.
+ * rising order, and merges the states where ways meet: equal cells stay, unlike numbers and ranges become the
+ * smallest range that covers both. The report has the same names and is read by `tickbound_read_report`; `steps` is
+ * the number of addresses reached, and PATH is `-`, so that `path` is empty. Neither BUDGET nor a limit on openings
+ * plays a part. Every run is within this report too. Where both bounds report, its cycles, words and depth are at
+ * least those of `tickbound_bound`.
  *
  * Refused by 10; then by 1 to 6 and 13, as the bound is; then at the lowest address that has one of these two, 14
  * before 7: 14, where ways meet with stacks of unlike heights or with a cell that is a handle on one of them and
@@ -102,7 +104,8 @@ uint64_t tickbound_bound(const uint8_t *text, size_t text_length, uint8_t *repor
  * 11. */
 uint64_t tickbound_merge(const uint8_t *text, size_t text_length, uint8_t *report, size_t report_length);
 
-/* The report of the one run that the file gives: `CYCLES WORDS DEPTH STEPS` and their values. */
+/* The report of the one run that the file gives: `CYCLES WORDS DEPTH STEPS` and their values. Refused by 11 where a cell
+ * is `?` or a range of more than one number. */
 uint64_t tickbound_run(const uint8_t *text, size_t text_length, uint8_t *report, size_t report_length);
 
 /* A card's trace, lines under `AT CYCLES`, held against the run that the file gives. The report is one line: `AGREES`,
