@@ -1,5 +1,5 @@
 //! The cases on the edges and the small examples of document 01, with the answers given there and zeros on the line of extras; those of
-//! change requests 1, 3, 6, 7 and 8; and the files that the programs of `crates/` are run with, which are made of them.
+//! change requests 1, 3, 6, 7, 8 and 12; and the files that the programs of `crates/` are run with, which are made of them.
 use crate::change::Base::{File, Named};
 use crate::change::Change::{FirstBytes, Nothing, Without};
 use crate::change::Told::{Refusal, Report};
@@ -71,7 +71,7 @@ fn at_the_ends() -> String {
 }
 
 /// What `crates/cases` is run with: the published example (case 1, run: case 7), the cases that are not starred, each row's example, and
-/// what change requests 1, 3, 6, 7 and 8 add to them.
+/// what change requests 1, 3, 6, 7, 8 and 12 add to them.
 pub fn cases() -> Vec<Text> {
     let lists = [
         published_example(),
@@ -82,6 +82,7 @@ pub fn cases() -> Vec<Text> {
         halves(),
         numbers_of_31_bits(),
         jumps_backwards(),
+        within_a_range(),
     ];
     let mut texts = made(lists.into_iter().flatten().collect());
     // the program lends a byte less for it
@@ -254,6 +255,37 @@ fn jumps_backwards() -> Vec<Entry> {
         ("branch_to_the_next", down_from_3, word(16, 3, "9"), to_the_next),
         ("target_outside_before_a_loop", down_from_3, line(17, "9 BRANCHIF 10"), refused(6, 17)),
         ("loop_before_an_unknown_cell", down_from_3, word(11, 1, "?"), refused(13, 16)),
+    ]
+}
+
+/// An operation on two cells, then a branch over 7 cycles where it does not give 0.
+fn on_ranges(operation: &str, cells: &str) -> String {
+    let code = format!("0 {operation} -\n1 BRANCHIF 3\n2 CONST1 -\n3 STOP -\n");
+    file(1000, &format!("{operation} BRANCHIF CONST1 STOP"), "2 5 7 1", "ACCU S0", cells, &code)
+}
+
+/// Change request 12: comparisons, sums and differences of ranges, a range of one number, and what is no range. `tests/src/range_cases.rs`
+/// has more.
+fn within_a_range() -> Vec<Entry> {
+    let jumps = [Report("8 0 1 3 8 -"), Refusal(11, 11)];
+    let goes_on = [Report("15 0 1 4 15 -"), Refusal(11, 11)];
+    let opens = [Report("15 0 1 5 15 N"), Refusal(11, 11)];
+    let compared: Base = File(|| on_ranges("GEINT", "0..1008 0"));
+    let sum: Base = File(|| on_ranges("ADDINT", "1..3 0..2"));
+    let difference: Base = File(|| on_ranges("SUBINT", "1..3 0..2"));
+    vec![
+        ("range_compared_for_every_pair", compared, Nothing, jumps),
+        ("range_compared_for_none", compared, word(11, 2, "1009"), goes_on),
+        ("range_compared_for_some", compared, word(11, 2, "1008"), opens),
+        ("range_of_one_number", compared, word(11, 1, "5..5"), [Report("8 0 1 3 8 -"), Report("8 0 1 3")]),
+        ("sum_of_ranges_without_0", sum, Nothing, jumps),
+        ("difference_of_ranges_with_0", difference, Nothing, opens),
+        ("sum_of_a_number_and_a_range_wraps", sum, line(11, "1073741823 0..1"), opens),
+        ("range_downwards", compared, word(11, 1, "6..5"), refused(3, 11)),
+        ("range_past_the_numbers", compared, word(11, 1, "0..1073741824"), refused(3, 11)),
+        ("range_with_three_stops", compared, word(11, 1, "1...2"), refused(2, 11)),
+        ("range_to_an_unknown", compared, word(11, 1, "1..?"), refused(2, 11)),
+        ("range_of_handles", compared, word(11, 1, "#0..#1"), refused(2, 11)),
     ]
 }
 

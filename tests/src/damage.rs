@@ -243,7 +243,7 @@ fn among_numbers(random: &mut Random, draft: &mut Draft) {
     let (low, high) = (LOWEST as i64, HIGHEST as i64);
     let number = *random.pick(&[low - 1, low - 1, low, high, high + 1, high + 1]);
     match random.below(6) {
-        0 | 1 => {
+        0 => {
             if draft.blocks.is_empty() {
                 draft.blocks.push(vec!["0".to_string()]);
             }
@@ -272,11 +272,11 @@ fn among_numbers(random: &mut Random, draft: &mut Draft) {
 fn among_ranges(random: &mut Random, draft: &mut Draft) {
     let [low, high] = random.range();
     let number = random.number();
-    let word = match random.below(8) {
+    let word = match random.below(10) {
         0 | 1 => format!("{high}..{low}"),
-        2 => format!("{}..{number}", LOWEST as i64 - 1),
-        3 => format!("{number}..{}", HIGHEST as i64 + 1),
-        4 => random.pick(&["-1073741824..1073741823", "0..123456789012345678901234567890", "9..-9"]).to_string(),
+        2 | 3 => format!("{}..{number}", LOWEST as i64 - 1),
+        4 | 5 => format!("{number}..{}", HIGHEST as i64 + 1),
+        6 => random.pick(&["-1073741824..1073741823", "0..123456789012345678901234567890", "9..-9"]).to_string(),
         _ => random.pick(NO_RANGES).to_string(),
     };
     if random.one_in(2) {

@@ -157,7 +157,7 @@ pub fn draft(random: &mut Random) -> Draft {
             writer.shapes.stack.push(Shape::Either);
         }
     }
-    if writer.random.one_in(if by_ranges { 3 } else { 12 }) {
+    if writer.random.one_in(if by_ranges { 2 } else { 12 }) {
         // a chain of branches to STOP, near the most openings
         let unknowns = if by_ranges { writer.random.within(33, 38) } else { writer.random.within(28, 34) };
         if by_ranges {
@@ -227,7 +227,7 @@ pub fn draft(random: &mut Random) -> Draft {
         tie(random, &mut draft);
     }
     limits(random, &mut draft);
-    if by_ranges && !random.one_in(3) {
+    if by_ranges && random.one_in(2) {
         // steps enough with `?` for each range
         draft.budget = 3000;
     }

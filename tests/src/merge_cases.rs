@@ -10,7 +10,7 @@ use crate::change::{line, lines, made, word, Base, Bounds, Entry, Text};
 pub const MERGES: usize = 71;
 
 /// Cases in which ways meet, or which the first bound refuses by 7, 8 or 9.
-const CASES: [(&str, Told); 33] = [
+const CASES: [(&str, Told); 36] = [
     // "ADDINT pops on one way only"
     ("published", Refusal(14, 4)),
     ("published_tick_2000", Refusal(14, 4)),
@@ -31,6 +31,9 @@ const CASES: [(&str, Told); 33] = [
     ("openings_32", Report("161 0 0 33 161 -")),
     ("openings_33", Report("166 0 0 34 166 -")),
     ("figure_4", Report("2121 0 6 17 212 -")),
+    ("range_compared_for_some", Report("15 0 1 4 15 -")),
+    ("difference_of_ranges_with_0", Report("15 0 1 4 15 -")),
+    ("sum_of_a_number_and_a_range_wraps", Report("15 0 1 4 15 -")),
     // stuck before ways meet, or where none do
     ("present_block", Refusal(7, 3)),
     ("push_as_the_whole_code", Refusal(7, 1)),

@@ -350,14 +350,17 @@ impl Writer<'_> {
                 });
             }
             3 | 4 => {
-                // both at an end; or two results, of which one is at an end and the other wraps
+                // both results wrap, or one is at an end and the other wraps
                 let (end, other) = (self.random.end(), self.random.end());
+                let same = if (end < 0) == (other < 0) { other } else { !other };
                 let beyond = if end < 0 { LOWEST - 1 - end } else { HIGHEST - end };
                 let before = if end < 0 { end - LOWEST } else { end - HIGHEST - 1 };
                 let (low, i, operator) = *self.random.pick(&[
-                    (end, other, "ADDINT"),
-                    (end, other, "SUBINT"),
+                    (end, same, "ADDINT"),
+                    (end, !same, "SUBINT"),
                     (end, beyond, "ADDINT"),
+                    (end, beyond, "ADDINT"),
+                    (before, end, "SUBINT"),
                     (before, end, "SUBINT"),
                 ]);
                 self.two_numbers(low);
@@ -376,15 +379,18 @@ impl Writer<'_> {
 
     /// Ranges in operations, in conditions, and before ways that they leave closed.
     pub fn by_ranges(&mut self) {
-        for _ in 0..self.random.within(1, 3) {
+        for _ in 0..self.random.within(2, 4) {
             if self.shapes.stack.len() > 52 {
                 return;
             }
-            match self.random.below(6) {
-                0..=2 => self.guarded(),
-                3 => self.unlike_cells(),
+            match self.random.below(9) {
+                0..=3 => self.guarded(),
+                4 | 5 => self.unlike_cells(),
+                6 => self.unlike_numbers(),
                 _ => {
-                    self.on_ranges();
+                    for _ in 0..3 {
+                        self.on_ranges();
+                    }
                     let from = self.code.len();
                     let name = *self.random.pick(&["BRANCHIF", "BRANCHIFNOT"]);
                     self.emit(name, Arg::Line(0));
@@ -418,10 +424,10 @@ impl Writer<'_> {
         self.emit(operator, Arg::Nothing);
         let from = self.code.len();
         self.emit(name, Arg::Line(0));
-        match self.random.below(5) {
+        match self.random.below(6) {
             0 if !opens => self.emit("ACC", Arg::Number(63)),
             1 if !opens => self.emit("PUSH", Arg::Nothing),
-            2 | 3 => self.pushes(9),
+            2..=4 => self.pushes(if self.shapes.stack.len() < 44 { 16 } else { 9 }),
             _ => self.unknown(),
         }
         self.here(from);
@@ -605,7 +611,11 @@ impl Writer<'_> {
         self.two_ways(&constant(a), &constant(b));
         let from = self.code.len();
         self.emit("BRANCHIF", Arg::Line(0));
-        self.costly();
+        if self.random.one_in(5) {
+            self.emit("ACC", Arg::Number(63));
+        } else {
+            self.costly();
+        }
         self.here(from);
         self.shapes.accumulator = Shape::Number;
     }
@@ -631,9 +641,8 @@ impl Writer<'_> {
         let ranges = self.range_entries();
         let other = match self.random.below(4) {
             _ if !others.is_empty() && !self.random.one_in(3) => read(self.random.pick(&others).0, height),
-            0 if self.primitives > 0 => ("C_CALL1", Arg::Primitive(0)),
-            1..=3 if !ranges.is_empty() => ("ACC", Arg::Number(self.random.pick(&ranges).0 as i64)),
-            1 if self.primitives > 0 => ("C_CALL1", Arg::Primitive(0)),
+            0 | 1 if !ranges.is_empty() => ("ACC", Arg::Number(self.random.pick(&ranges).0 as i64)),
+            0..=2 if self.primitives > 0 => ("C_CALL1", Arg::Primitive(0)),
             _ => ("CONST1", Arg::Nothing),
         };
         let kept: &[(&str, Arg)] = match place {
