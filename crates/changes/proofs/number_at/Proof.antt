@@ -1,0 +1,130 @@
+-- `changes::number_at` meets its contract. Assumes nothing.
+use Prim.Native.Nat.{_<_}
+use mathlib.Core.Path.{_≡_, sym, ap, _∙_}
+use native.Mathlib.Omega.{arith}
+use lib.ListN.{length}
+use Rattle.cells.specs.Try.{stuck, done}
+use Rattle.cells.specs.Cells.{handle}
+use Rattle.states.specs.View.{slot, ofSlot, whole}
+use Rattle.states.proofs.Stack.{length-images}
+use Rattle.changes.specs.declared.Position.the-variants.{Accu, Entry, Field}
+use Rattle.changes.specs.Changes.{numberAt}
+use Rattle.changes.proofs.CellLaws.{number-in, number-out, accu-there, entry-there, entry-lacks, field-there, field-lacks, slot-in}
+use borrow.Author.Needs.{needs}
+use Rattle.changes.proofs.number_at.Statement.{statement}
+use Rattle.changes.proofs.number_at.Tie as tie
+
+places : (s : tie.Start) → length (s .args .t3) ≡ 128
+places s = search (needs, length-images)
+
+enum-told : tie.Need-enum-told
+enum-told c = search needs
+
+single-of-requires : tie.Need-single-of-requires
+single-of-requires c κs = search needs
+
+enum-known-p : tie.Need-enum-known-p
+enum-known-p c = search needs
+
+sub-if1 : tie.Need-sub-if1
+sub-if1 c = search needs
+
+returns : tie.Need-returns
+returns c =
+    let s = c .before .before .before .before .before in
+    let w = whole (s .args .sizes .now) (s .args .t3) (s .args .t2) in
+    sym (ap (λ q. numberAt q w) (c .before .before .p .given .1) ∙ number-out _ w (entry-lacks _ _ _ (s .pre .0) _ (c .if1 .taken)))
+
+add-entry : tie.Need-add-entry
+add-entry c = search needs
+
+mul-single-of : tie.Need-mul-single-of
+mul-single-of c = search needs
+
+element-copy-out-single-of : tie.Need-element-copy-out-single-of
+element-copy-out-single-of c = search needs
+
+single-of-requires-2 : tie.Need-single-of-requires-2
+single-of-requires-2 c κs = search needs
+
+enum-known-p-2 : tie.Need-enum-known-p-2
+enum-known-p-2 c = search needs
+
+handle-requires : tie.Need-handle-requires
+handle-requires c κs = search needs
+
+slot-of-requires : tie.Need-slot-of-requires
+slot-of-requires c κs = search needs
+
+enum-known-field : tie.Need-enum-known-field
+enum-known-field c = search needs
+
+enum-told-2 : tie.Need-enum-told-2
+enum-told-2 c = search needs
+
+returns-2 : tie.Need-returns-2
+returns-2 c =
+    let s = c .before .before .before .before .before .before .before .before in
+    let w = whole (s .args .sizes .now) (s .args .t3) (s .args .t2) in
+    let e = ap (λ h. slot (s .args .sizes .now) h (c .before .before .before .before .before .p2 .given .0 .1 .0)) (sym (c .before .before .before .handle .ensures)) ∙ sym (c .before .before .slot-of .ensures) ∙ ap ofSlot (c .enum-told2 .given .1) in
+    sym (ap (λ q. numberAt q w) (c .before .before .before .before .before .p2 .given .1) ∙ number-out _ w (field-lacks _ _ _ (s .pre .1) _ _ e))
+
+-- the slot that was found
+found : (c : tie.After-known-told3) → slot (c .before .before .before .before .before .before .before .before .before .args .sizes .now) (handle (c .before .before .before .before .before .before .p2 .given .0 .0)) (c .before .before .before .before .before .before .p2 .given .0 .1 .0) ≡ done (c .before .field .given .0 .0)
+found c = ap (λ h. slot (c .before .before .before .before .before .before .before .before .before .args .sizes .now) h (c .before .before .before .before .before .before .p2 .given .0 .1 .0)) (sym (c .before .before .before .before .handle .ensures)) ∙ sym (c .before .before .before .slot-of .ensures) ∙ ap ofSlot (c .before .field .given .1)
+
+within : (c : tie.After-known-told3) → c .before .field .given .0 .0 < 128
+within c = let s = c .before .before .before .before .before .before .before .before .before in omega (arith, slot-in _ (s .args .t3) (s .args .t2) (s .pre .1) _ _ _ (found c), places s)
+
+mul-single-of-2 : tie.Need-mul-single-of-2
+mul-single-of-2 c = omega (arith, within c)
+
+array-copy-out-single-of : tie.Need-array-copy-out-single-of
+array-copy-out-single-of c = within c
+
+single-of-requires-3 : tie.Need-single-of-requires-3
+single-of-requires-3 c κs = search needs
+
+returns-3 : tie.Need-returns-3
+returns-3 c =
+    let s = c .before .before .before .before .before in
+    let w = whole (s .args .sizes .now) (s .args .t3) (s .args .t2) in
+    c .single-of .ensures ∙ sym (ap (λ q. numberAt q w) (c .before .before .enum-told .given .1) ∙ number-in _ w _ (accu-there _ _ _))
+
+returns-4 : tie.Need-returns-4
+returns-4 c =
+    let s = c .before .before .before .before .before .before .before in
+    let w = whole (s .args .sizes .now) (s .args .t3) (s .args .t2) in
+    c .single-of2 .ensures ∙ sym (ap (λ q. numberAt q w) (c .before .before .before .before .p .given .1) ∙ number-in _ w _ (entry-there _ _ _ (s .pre .0) _ _ (omega (arith, c .before .before .if1 .left))))
+
+returns-5 : tie.Need-returns-5
+returns-5 c =
+    let s = c .before .before .before .before .before .before .before .before .before .before .before in
+    let w = whole (s .args .sizes .now) (s .args .t3) (s .args .t2) in
+    c .single-of3 .ensures ∙ sym (ap (λ q. numberAt q w) (c .before .before .before .before .before .before .before .before .p2 .given .1) ∙ number-in _ w _ (field-there _ _ _ (s .pre .1) _ _ _ _ (found (c .before .before))))
+
+pub number-at-spec : {M : Type 1} → statement M
+number-at-spec =
+    tie.close
+    (tie.spec
+    enum-told
+    single-of-requires
+    enum-known-p
+    sub-if1
+    returns
+    add-entry
+    mul-single-of
+    element-copy-out-single-of
+    single-of-requires-2
+    enum-known-p-2
+    handle-requires
+    slot-of-requires
+    enum-known-field
+    enum-told-2
+    returns-2
+    mul-single-of-2
+    array-copy-out-single-of
+    single-of-requires-3
+    returns-3
+    returns-4
+    returns-5)

@@ -1,0 +1,70 @@
+-- `changes::with_entry` meets its contract. Assumes nothing.
+use Prim.Native.Nat.{_+_, _<_}
+use mathlib.Core.Path.{_≡_, refl, sym, ap, subst, _∙_}
+use native.Mathlib.Omega.{arith}
+use Rattle.machine.specs.Machine.{load, restack, reblock}
+use Rattle.states.specs.View.{view, whole}
+use Rattle.changes.specs.declared.Position.the-variants.{Accu, Entry, Field}
+use Rattle.changes.specs.Places.{replaceAt}
+use Rattle.changes.specs.Held.{Present}
+use Rattle.changes.proofs.CellLaws.{entry-present, entry-set, entry-formed, replace-accu, replace-field}
+use borrow.Author.Needs.{needs}
+use Rattle.changes.proofs.with_entry.Statement.{statement}
+use Rattle.changes.proofs.with_entry.Tie as tie
+
+present : (c : tie.After-struct-known) → c .before .before .before .before .before .args .start .free + c .before .before .p .given .0 .0 < 64
+present c =
+    let s = c .before .before .before .before .before in
+    entry-present (s .args .sizes .now) (s .args .fields) (s .args .start) (s .pre .0) _ (subst (λ q. Present q (whole (s .args .sizes .now) (s .args .fields) (s .args .start))) (c .before .before .p .given .1) (s .pre .2))
+
+enum-told : tie.Need-enum-told
+enum-told c = search needs
+
+load-requires : tie.Need-load-requires
+load-requires c κs = search needs
+
+enum-known-p : tie.Need-enum-known-p
+enum-known-p c = search needs
+
+add-entry : tie.Need-add-entry
+add-entry c = omega (arith, present c)
+
+mul-stack : tie.Need-mul-stack
+mul-stack c = omega (arith, present (c .before .before))
+
+array-set-from-stack : tie.Need-array-set-from-stack
+array-set-from-stack c = present (c .before .before)
+
+enum-told-2 : tie.Need-enum-told-2
+enum-told-2 c = search needs
+
+returns : tie.Need-returns
+returns c =
+    let s = c .before .before .before .before in
+    (c .load .ensures .0 ∙ replace-accu _ _ _ (c .before .enum-told .given .1), c .load .ensures .1)
+
+returns-2 : tie.Need-returns-2
+returns-2 c =
+    let s = c .before .before .before .before .before .before .before in
+    let n = c .before .before .before .before .p .given .0 .0 in
+    (entry-set (s .args .start) n (s .args .c) ∙ ap (λ q. replaceAt q (s .args .c) (view (s .args .start))) (sym (c .before .before .before .before .p .given .1)), record { free = entry-formed (s .args .start) (s .pre .0) n (s .args .c) .free; places = entry-formed (s .args .start) (s .pre .0) n (s .args .c) .places })
+
+returns-3 : tie.Need-returns-3
+returns-3 c =
+    let s = c .before .before .before in
+    (replace-field _ (s .args .c) (s .args .start) _ _ (c .enum-told2 .given .1), s .pre .0)
+
+pub with-entry-spec : {M : Type 1} → statement M
+with-entry-spec =
+    tie.close
+    (tie.spec
+    enum-told
+    load-requires
+    enum-known-p
+    add-entry
+    mul-stack
+    array-set-from-stack
+    enum-told-2
+    returns
+    returns-2
+    returns-3)

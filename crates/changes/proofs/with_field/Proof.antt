@@ -1,0 +1,94 @@
+-- `changes::with_field` meets its contract. Assumes nothing.
+use Prim.Native.Nat.{_<_}
+use mathlib.Core.Path.{_≡_, refl, sym, ap, subst, _∙_}
+use native.Mathlib.Omega.{arith}
+use lib.ListN.{length, length-set}
+use Rattle.cells.specs.Try.{done}
+use Rattle.cells.specs.Cells.{handle}
+use Rattle.states.specs.View.{slot, ofSlot, whole}
+use Rattle.states.proofs.Stack.{length-images}
+use Rattle.changes.specs.declared.Position.the-variants.{Accu, Entry, Field}
+use Rattle.changes.specs.Places.{replaceAt}
+use Rattle.changes.specs.Held.{Present}
+use Rattle.changes.proofs.CellLaws.{field-present, field-set, slot-in, accu-blocks, entry-blocks}
+use borrow.Author.Needs.{needs}
+use Rattle.changes.proofs.with_field.Statement.{statement}
+use Rattle.changes.proofs.with_field.Tie as tie
+
+places : (s : tie.Start) → length (s .args .t3) ≡ 128
+places s = search (needs, length-images)
+
+-- the slot that was found
+found : (c : tie.After-known-told2) → slot (c .before .before .before .before .before .before .before .before .before .args .sizes .now) (handle (c .before .before .before .before .before .before .p .given .0 .0)) (c .before .before .before .before .before .before .p .given .0 .1 .0) ≡ done (c .before .field .given .0 .0)
+found c = ap (λ h. slot (c .before .before .before .before .before .before .before .before .before .args .sizes .now) h (c .before .before .before .before .before .before .p .given .0 .1 .0)) (sym (c .before .before .before .before .handle .ensures)) ∙ sym (c .before .before .before .slot-of .ensures) ∙ ap ofSlot (c .before .field .given .1)
+
+within : (c : tie.After-known-told2) → c .before .field .given .0 .0 < 128
+within c = let s = c .before .before .before .before .before .before .before .before .before in omega (arith, slot-in _ (s .args .t3) (s .args .start) (s .pre .1) _ _ _ (found c), places s)
+
+enum-told : tie.Need-enum-told
+enum-told c = search needs
+
+enum-told-2 : tie.Need-enum-told-2
+enum-told-2 c = search needs
+
+enum-known-p : tie.Need-enum-known-p
+enum-known-p c = search needs
+
+handle-requires : tie.Need-handle-requires
+handle-requires c κs = search needs
+
+slot-of-requires : tie.Need-slot-of-requires
+slot-of-requires c κs = search needs
+
+enum-known-field : tie.Need-enum-known-field
+enum-known-field c = search needs
+
+enum-told-3 : tie.Need-enum-told-3
+enum-told-3 c = search needs
+
+returns : tie.Need-returns
+returns c =
+    let s = c .before .before .before .before .before .before .before .before in
+    let e = ap (λ h. slot (s .args .sizes .now) h (c .before .before .before .before .before .p .given .0 .1 .0)) (sym (c .before .before .before .handle .ensures)) ∙ sym (c .before .before .slot-of .ensures) ∙ ap ofSlot (c .enum-told3 .given .1) in
+    field-present (s .args .sizes .now) (s .args .t3) (s .args .start) (s .pre .1) _ _ (subst (λ q. Present q (whole (s .args .sizes .now) (s .args .t3) (s .args .start))) (c .before .before .before .before .before .p .given .1) (s .pre .2)) e
+
+mul-fields : tie.Need-mul-fields
+mul-fields c = omega (arith, within c)
+
+array-set-from-fields : tie.Need-array-set-from-fields
+array-set-from-fields c = within c
+
+returns-2 : tie.Need-returns-2
+returns-2 c =
+    let s = c .before .before .before in
+    (accu-blocks (s .args .sizes .now) (s .args .t3) (s .args .start) _ (s .args .c) (c .enum-told .given .1), refl)
+
+returns-3 : tie.Need-returns-3
+returns-3 c =
+    let s = c .before .before .before in
+    (entry-blocks (s .args .sizes .now) (s .args .t3) (s .args .start) _ (s .args .c) _ (c .enum-told2 .given .1), refl)
+
+returns-4 : tie.Need-returns-4
+returns-4 c =
+    let s = c .before .before .before .before .before .before .before .before .before in
+    let j = c .before .field .given .0 .0 in
+    let w = whole (s .args .sizes .now) (s .args .t3) (s .args .start) in
+    (field-set (s .args .sizes .now) (s .args .t3) (s .args .start) (s .pre .1) _ _ j (s .args .c) (found c) ∙ ap (λ q. replaceAt q (s .args .c) w .blocks) (sym (c .before .before .before .before .before .before .p .given .1)), length-set (s .args .t3) j (s .args .c))
+
+pub with-field-spec : {M : Type 1} → statement M
+with-field-spec =
+    tie.close
+    (tie.spec
+    enum-told
+    enum-told-2
+    enum-known-p
+    handle-requires
+    slot-of-requires
+    enum-known-field
+    enum-told-3
+    returns
+    mul-fields
+    array-set-from-fields
+    returns-2
+    returns-3
+    returns-4)

@@ -1,0 +1,155 @@
+// The cells of a start by their places in the file, and one of them changed. The meaning is in specs/.
+use cells::Cell;
+use cells::Value;
+use states::Slot;
+use states::State;
+ghost use mathlib.Core.Path.{_≡_};
+ghost use Prim.Native.Nat.{_≤_};
+ghost use lib.IntN.{pos, _+ℤ_, _-ℤ_};
+ghost use lib.ListN.{length};
+ghost use Rattle.states.specs.View.{view, WellFormed, Fits, blocksOf, whole};
+ghost use Rattle.changes.specs.Single.{single};
+ghost use Rattle.changes.specs.Places.{replaceAt};
+ghost use Rattle.changes.specs.Changes.{numberAt};
+ghost use Rattle.changes.specs.Held.{positionOf, ofSingle, Present};
+
+// Where a cell of the start stands: ACCU, an entry of the stack, a field of a block.
+pub enum Position {
+    Accu,
+    Entry(usize),
+    Field(u8, usize),
+}
+
+// A change: which cell, and its new value.
+pub struct Change {
+    pub place: Position,
+    pub value: i32,
+}
+
+// What a cell holds: one number, or anything else.
+pub enum Single {
+    Number(i32),
+    Other,
+}
+
+// The number of a cell that holds one.
+fn single_of(c: Cell) -> Single
+    ensures { λ r. ⌜ ofSingle r ≡ single c ⌝ }
+{
+    let value = c.value;
+    match value {
+        Value::Range(low, more) => {
+            if more == 0 {
+                return Single::Number(low);
+            }
+            Single::Other
+        }
+        Value::Handle(_) => Single::Other,
+    }
+}
+
+// Place k of those that a start can have, in the file's order: ACCU, 64 entries, eight blocks of sixteen fields.
+pub fn position_of(k: usize) -> Position
+    requires { ⌜ k ≤ 192 ⌝ }
+    ensures { λ r. ⌜ r ≡ positionOf k ⌝ }
+{
+    if k == 0 {
+        return Position::Accu;
+    }
+    if k < 65 {
+        return Position::Entry(k - 1);
+    }
+    let j = k - 65;
+    Position::Field((j / 16) as u8, j % 16)
+}
+
+// The number of the cell at p, where the start has one there and it holds one number.
+pub fn number_at(sizes: &[u8], start: State, fields: [Cell; 128], p: Position) -> Single
+    requires { ⌜ WellFormed start × Fits (now sizes) fields ⌝ }
+    ensures { λ r. ⌜ ofSingle r ≡ numberAt p (whole (now (sizes .entry)) fields start) ⌝ }
+{
+    match p {
+        Position::Accu => single_of(start.accu),
+        Position::Entry(n) => {
+            let free = start.free;
+            if 64 - free <= n {
+                return Single::Other;
+            }
+            let entry = free + n;
+            single_of(start.stack[entry])
+        }
+        Position::Field(k, n) => {
+            let field = states::slot_of(sizes, cells::handle(k), n);
+            let Slot::At(j) = field else {
+                return Single::Other;
+            };
+            single_of(fields[j])
+        }
+    }
+}
+
+// The start with c in the accumulator or as an entry, where p is one of these.
+pub fn with_entry(sizes: &[u8], start: State, fields: [Cell; 128], p: Position, c: Cell) -> State
+    requires { ⌜ WellFormed start × Fits (now sizes) fields × Present p (whole (now sizes) fields start) ⌝ }
+    ensures { λ r. ⌜ view r ≡ replaceAt p c (view start) ⌝ }
+    ensures { λ r. ⌜ WellFormed r ⌝ }
+{
+    match p {
+        Position::Accu => start.load(c),
+        Position::Entry(n) => {
+            let entry = start.free + n;
+            let accu = start.accu;
+            let mut stack = start.stack;
+            stack[entry] = c;
+            State {
+                at: start.at,
+                accu: accu,
+                free: start.free,
+                stack: stack,
+            }
+        }
+        Position::Field(_, _) => start,
+    }
+}
+
+// The fields with c as one of them, where p is a field.
+pub fn with_field(
+    sizes: &[u8],
+    start: State,
+    mut fields: [Cell; 128],
+    p: Position,
+    c: Cell,
+) -> [Cell; 128]
+    requires { ⌜ WellFormed start × Fits (now sizes) fields × Present p (whole (now sizes) fields start) ⌝ }
+    ensures { λ r. ⌜ blocksOf (now (sizes .entry)) r ≡ replaceAt p c (whole (now (sizes .entry)) fields start) .blocks ⌝ }
+    ensures { λ r. ⌜ length r ≡ length fields ⌝ }
+{
+    match p {
+        Position::Accu => fields,
+        Position::Entry(_) => fields,
+        Position::Field(k, n) => {
+            let field = states::slot_of(sizes, cells::handle(k), n);
+            let Slot::At(j) = field else {
+                return fields;
+            };
+            fields[j] = c;
+            fields
+        }
+    }
+}
+
+// n below v.
+pub fn lowered(v: i32, n: usize) -> i64
+    requires { ⌜ n ≤ 64 ⌝ }
+    ensures { λ r. ⌜ r ≡ v -ℤ pos n ⌝ }
+{
+    (v as i64) - (n as i64)
+}
+
+// n above v.
+pub fn raised(v: i32, n: usize) -> i64
+    requires { ⌜ n ≤ 64 ⌝ }
+    ensures { λ r. ⌜ r ≡ v +ℤ pos n ⌝ }
+{
+    (v as i64) + (n as i64)
+}
