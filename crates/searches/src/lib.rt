@@ -1,0 +1,324 @@
+// The search for the nearest number that moves the bound: each trial changes one cell of the start and explores again. The meaning is in
+// specs/.
+use cells::Cell;
+use changes::Change;
+use changes::Position;
+use changes::Single;
+use findings::Found;
+use refusals::Refusal;
+use refusals::Verdict;
+use states::State;
+ghost use mathlib.Core.Path.{_≡_};
+ghost use Prim.Native.Nat.{_≤_};
+ghost use Rattle.cells.specs.Cells.{number};
+ghost use Rattle.states.specs.View.{whole};
+ghost use Rattle.states.specs.Columns.{codeOf};
+ghost use Rattle.bounds.specs.Tree.{bound};
+ghost use Rattle.changes.specs.Places.{replaceAt};
+ghost use Rattle.changes.specs.Changes.{changeTo, changesAt, changesBy, nearest};
+ghost use Rattle.changes.specs.Held.{Present};
+ghost use Rattle.searches.specs.Search.{moved, search};
+ghost use Rattle.searches.specs.Held.{Searchable, MovedAs, ofHit, ofSought, firstMoved};
+
+// The first change that moves the bound, if there is one.
+pub enum Hit {
+    At(Change),
+    Nowhere,
+}
+
+// What a search comes to: the nearest change, none, or the bound's refusal.
+pub enum Sought {
+    Moves(Change),
+    Still,
+    Refused(Refusal),
+}
+
+// Whether the bound that was found moves one of `figure` cycles: its CYCLES are others, or it is refused.
+fn is_moved(figure: u64, found: Found) -> bool
+    ensures { λ r. ⌜ MovedAs figure found r ⌝ }
+{
+    let verdict = found.verdict;
+    match verdict {
+        Verdict::Accepted => found.cycles != figure,
+        Verdict::Refused(_) => true,
+    }
+}
+
+// Whether the bound is moved where the cell at p holds n.
+fn is_moved_by(
+    codes: &[u8],
+    operands: &[i32],
+    cycles: &[u32],
+    words: &[u32],
+    extras: &[u32],
+    sizes: &[u8],
+    first: usize,
+    start: State,
+    fields: [Cell; 128],
+    budget: usize,
+    figure: u64,
+    p: Position,
+    n: i32,
+) -> bool
+    requires { ⌜ Searchable (now codes) (now operands) (now cycles) (now words) (now extras) (now sizes) first fields start budget × Present p (whole (now sizes) fields start) ⌝ }
+    ensures { λ r. ⌜ r ≡ moved figure (bound (codeOf first (now (codes .entry)) (now (operands .entry)) (now (cycles .entry)) (now (words .entry)) (now (extras .entry))) budget (replaceAt p (number n) (whole (now (sizes .entry)) fields start))) ⌝ }
+{
+    let c = cells::number(n);
+    let state = changes::with_entry(sizes, start, fields, p, c);
+    let blocks = changes::with_field(sizes, start, fields, p, c);
+    let found = explore::explore(
+        codes,
+        operands,
+        cycles,
+        words,
+        extras,
+        sizes,
+        first,
+        state,
+        blocks,
+        32,
+        budget,
+    );
+    is_moved(figure, found)
+}
+
+// The cell at p changed to v, where that moves the bound. A v outside the range of numbers is passed over.
+fn try_value(
+    codes: &[u8],
+    operands: &[i32],
+    cycles: &[u32],
+    words: &[u32],
+    extras: &[u32],
+    sizes: &[u8],
+    first: usize,
+    start: State,
+    fields: [Cell; 128],
+    budget: usize,
+    figure: u64,
+    p: Position,
+    v: i64,
+) -> Hit
+    requires { ⌜ Searchable (now codes) (now operands) (now cycles) (now words) (now extras) (now sizes) first fields start budget × Present p (whole (now sizes) fields start) ⌝ }
+    ensures { λ r. ⌜ ofHit r ≡ firstMoved (codeOf first (now (codes .entry)) (now (operands .entry)) (now (cycles .entry)) (now (words .entry)) (now (extras .entry))) budget figure (whole (now (sizes .entry)) fields start) (changeTo p v) ⌝ }
+{
+    if !numbers::within(numbers::number_range(), v) {
+        return Hit::Nowhere;
+    }
+    let n = v as i32;
+    if is_moved_by(
+        codes,
+        operands,
+        cycles,
+        words,
+        extras,
+        sizes,
+        first,
+        start,
+        fields,
+        budget,
+        figure,
+        p,
+        n,
+    ) {
+        return Hit::At(Change { place: p, value: n });
+    }
+    Hit::Nowhere
+}
+
+// The changes of the cell at p by `amount`, downwards and then upwards.
+fn try_place(
+    codes: &[u8],
+    operands: &[i32],
+    cycles: &[u32],
+    words: &[u32],
+    extras: &[u32],
+    sizes: &[u8],
+    first: usize,
+    start: State,
+    fields: [Cell; 128],
+    budget: usize,
+    figure: u64,
+    amount: usize,
+    p: Position,
+) -> Hit
+    requires { ⌜ Searchable (now codes) (now operands) (now cycles) (now words) (now extras) (now sizes) first fields start budget × (amount ≤ 64) ⌝ }
+    ensures { λ r. ⌜ ofHit r ≡ firstMoved (codeOf first (now (codes .entry)) (now (operands .entry)) (now (cycles .entry)) (now (words .entry)) (now (extras .entry))) budget figure (whole (now (sizes .entry)) fields start) (changesAt (whole (now (sizes .entry)) fields start) amount p) ⌝ }
+{
+    let held = changes::number_at(sizes, start, fields, p);
+    let Single::Number(n) = held else {
+        return Hit::Nowhere;
+    };
+    let below = changes::lowered(n, amount);
+    let down = try_value(
+        codes,
+        operands,
+        cycles,
+        words,
+        extras,
+        sizes,
+        first,
+        start,
+        fields,
+        budget,
+        figure,
+        p,
+        below,
+    );
+    if let Hit::At(change) = down {
+        return Hit::At(change);
+    }
+    let above = changes::raised(n, amount);
+    try_value(
+        codes,
+        operands,
+        cycles,
+        words,
+        extras,
+        sizes,
+        first,
+        start,
+        fields,
+        budget,
+        figure,
+        p,
+        above,
+    )
+}
+
+// The changes by `amount` of all cells, in the file's order.
+fn try_amount(
+    codes: &[u8],
+    operands: &[i32],
+    cycles: &[u32],
+    words: &[u32],
+    extras: &[u32],
+    sizes: &[u8],
+    first: usize,
+    start: State,
+    fields: [Cell; 128],
+    budget: usize,
+    figure: u64,
+    amount: usize,
+) -> Hit
+    requires { ⌜ Searchable (now codes) (now operands) (now cycles) (now words) (now extras) (now sizes) first fields start budget × (amount ≤ 64) ⌝ }
+    ensures { λ r. ⌜ ofHit r ≡ firstMoved (codeOf first (now (codes .entry)) (now (operands .entry)) (now (cycles .entry)) (now (words .entry)) (now (extras .entry))) budget figure (whole (now (sizes .entry)) fields start) (changesBy (whole (now (sizes .entry)) fields start) amount) ⌝ }
+{
+    let mut k = 0;
+    while k < 193 {
+        let p = changes::position_of(k);
+        let hit = try_place(
+            codes,
+            operands,
+            cycles,
+            words,
+            extras,
+            sizes,
+            first,
+            start,
+            fields,
+            budget,
+            figure,
+            amount,
+            p,
+        );
+        if let Hit::At(change) = hit {
+            return Hit::At(change);
+        }
+        k += 1;
+    }
+    Hit::Nowhere
+}
+
+// The changes by 1, by 2 and on to 64.
+fn try_amounts(
+    codes: &[u8],
+    operands: &[i32],
+    cycles: &[u32],
+    words: &[u32],
+    extras: &[u32],
+    sizes: &[u8],
+    first: usize,
+    start: State,
+    fields: [Cell; 128],
+    budget: usize,
+    figure: u64,
+) -> Hit
+    requires { ⌜ Searchable (now codes) (now operands) (now cycles) (now words) (now extras) (now sizes) first fields start budget ⌝ }
+    ensures { λ r. ⌜ ofHit r ≡ nearest (λ t. moved figure (bound (codeOf first (now (codes .entry)) (now (operands .entry)) (now (cycles .entry)) (now (words .entry)) (now (extras .entry))) budget t)) (whole (now (sizes .entry)) fields start) ⌝ }
+{
+    let mut amount = 1;
+    while amount <= 64 {
+        let hit = try_amount(
+            codes,
+            operands,
+            cycles,
+            words,
+            extras,
+            sizes,
+            first,
+            start,
+            fields,
+            budget,
+            figure,
+            amount,
+        );
+        if let Hit::At(change) = hit {
+            return Hit::At(change);
+        }
+        amount += 1;
+    }
+    Hit::Nowhere
+}
+
+// The nearest change of a start that moves its bound, or the bound's refusal.
+pub fn search(
+    codes: &[u8],
+    operands: &[i32],
+    cycles: &[u32],
+    words: &[u32],
+    extras: &[u32],
+    sizes: &[u8],
+    first: usize,
+    start: State,
+    fields: [Cell; 128],
+    budget: usize,
+) -> Sought
+    requires { ⌜ Searchable (now codes) (now operands) (now cycles) (now words) (now extras) (now sizes) first fields start budget ⌝ }
+    ensures { λ r. ⌜ ofSought r ≡ search (codeOf first (now (codes .entry)) (now (operands .entry)) (now (cycles .entry)) (now (words .entry)) (now (extras .entry))) budget (whole (now (sizes .entry)) fields start) ⌝ }
+{
+    let found = explore::explore(
+        codes,
+        operands,
+        cycles,
+        words,
+        extras,
+        sizes,
+        first,
+        start,
+        fields,
+        32,
+        budget,
+    );
+    let figure = found.cycles;
+    let verdict = found.verdict;
+    if let Verdict::Refused(refusal) = verdict {
+        return Sought::Refused(refusal);
+    }
+    let hit = try_amounts(
+        codes,
+        operands,
+        cycles,
+        words,
+        extras,
+        sizes,
+        first,
+        start,
+        fields,
+        budget,
+        figure,
+    );
+    match hit {
+        Hit::At(change) => Sought::Moves(change),
+        Hit::Nowhere => Sought::Still,
+    }
+}
