@@ -35,7 +35,7 @@ fn magnitude(z: i32) -> u64
 }
 
 // Puts an integer in decimal over out from `at` on, and answers where it ends.
-fn put_integer(out: &mut [u8], at: usize, z: i32) -> usize
+pub fn put_integer(out: &mut [u8], at: usize, z: i32) -> usize
     requires { ⌜ at + length (integer z) ≤ length (now out) ⌝ }
     ensures { λ r. ⌜ r ≡ at + length (integer z) ⌝ }
     ensures { λ _. ⌜ now (out .exit) ≡ over (now (out .entry)) at (integer z) ⌝ }
