@@ -1,10 +1,13 @@
 -- The places that a start can have, and those that it has: the others have no cell. Assumes nothing.
 use Prim.Native.Nat.{ℕ, zero, suc, _+_, _-_, _/_, _%_, _<_, _≤_}
 use mathlib.Core.Path.{_≡_, refl, sym, ap, ap₂, _∙_}
+use mathlib.Core.Bool.{Bool, true, false}
 use mathlib.Core.List.{List, [], _∷_, _++_, map, flatMap, append-nil}
 use native.Mathlib.Omega.{arith}
-use lib.ListN.{length, getD}
-use borrow.Author.Tests.{eq-eqb, ne-eqb, lt-ltb, le-ltb}
+use lib.Dec.{ltb}
+use lib.IntN.{ℤ}
+use lib.ListN.{length, getD, List·getD-eq-default}
+use borrow.Author.Tests.{eq-eqb, ne-eqb, lt-ltb, le-ltb, ltb-true, ltb-false}
 use Rattle.cells.specs.Try.{Try, stuck, done, _>>=_}
 use Rattle.cells.specs.declared.Cell.{Cell}
 use Rattle.machine.specs.Lists.{nth}
@@ -14,10 +17,10 @@ use Rattle.changes.specs.declared.Position.{Position}
 use Rattle.changes.specs.declared.Position.the-variants.{Accu, Entry, Field}
 use Rattle.changes.specs.declared.Change.{Change}
 use Rattle.changes.specs.Places.{cellAt, from, fieldsFrom, positions}
-use Rattle.changes.specs.Changes.{changesOf, changesAt, changesBy}
+use Rattle.changes.specs.Changes.{numberAt, changesOf, changesAt, changesBy}
 use Rattle.changes.specs.Held.{positionOf, allPositions}
 use Rattle.changes.proofs.FirstLaws.{flatMap-append, flatMap-map, from-append}
-use Rattle.changes.proofs.CellLaws.{number-out}
+use Rattle.changes.proofs.CellLaws.{never, number-out}
 
 -- no change of a cell that is not there
 pub absent : (s : State) (n : ℕ) (p : Position) → cellAt p s ≡ stuck → changesAt s n p ≡ []
@@ -124,3 +127,25 @@ all-changes s l n =
     ∙ sym (flatMap-append g (map Entry (from 0 64)) (blockPlaces 0 8)))
     ∙ ap (flatMap g) (sym all-listed)
     ∙ listed-changes s n
+
+-- ---- a number stands at a place that the start has
+
+pub entry-below : (s : State) (i : ℕ) (v : ℤ) → numberAt (Entry i) s ≡ done v → i < height s
+unfolding height cellAt
+entry-below s i v e = go (ltb i (height s)) refl
+  where
+    go : (b : Bool) → ltb i (height s) ≡ b → i < height s
+    go true h = ltb-true i (height s) h
+    go false h = never v (sym (number-out (Entry i) s (nth-out i (s .stack) (ltb-false i (height s) h))) ∙ e)
+
+pub field-below : (s : State) (k i : ℕ) (v : ℤ) → numberAt (Field k i) s ≡ done v → (k < length (s .blocks)) × (i < length (getD (s .blocks) k []))
+unfolding cellAt
+field-below s k i v e = let l = inner (ltb i (length (getD (s .blocks) k []))) refl in (outer l (ltb k (length (s .blocks))) refl, l)
+  where
+    inner : (b : Bool) → ltb i (length (getD (s .blocks) k [])) ≡ b → i < length (getD (s .blocks) k [])
+    inner true h = ltb-true i (length (getD (s .blocks) k [])) h
+    inner false h = never v (sym (number-out (Field k i) s (no-field (s .blocks) k i (ltb-false i (length (getD (s .blocks) k [])) h))) ∙ e)
+
+    outer : i < length (getD (s .blocks) k []) → (b : Bool) → ltb k (length (s .blocks)) ≡ b → k < length (s .blocks)
+    outer l true h = ltb-true k (length (s .blocks)) h
+    outer l false h = let z = ap length (List·getD-eq-default (s .blocks) [] (ltb-false k (length (s .blocks)) h)) in absurd (omega arith)
