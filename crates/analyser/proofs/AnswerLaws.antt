@@ -48,6 +48,7 @@ use Rattle.conversions.proofs.FunctionLaws.{import-reported, import-place, expo
 use Rattle.conformance.proofs.FunctionLaws.{replay-reported, replay-place}
 use Rattle.patches.specs.Patch.{inCode, patched}
 use Rattle.analyser.specs.Answers.{ofVerdict, boundRoutine, mergeRoutine, runRoutine, boundAnswer, mergeAnswer, runAnswer, previewAnswer}
+use Rattle.sensitivity.proofs.FunctionLaws.{nearest-reported, nearest-place}
 use Rattle.analyser.specs.Functions.{reportLength}
 use Rattle.analyser.specs.Promises.{BoundReported, MergeReported, WithinReport, RunAccepted, FilledIn, ReportsKept, MergesKept, RunsKept, AnswersIrrelevant, PassingIsAscii, PassingIsSinglePass, ReportsFit, PlacesSmall, PreviewsKept}
 
@@ -210,6 +211,7 @@ reports-fit = (
   λ text trace n bs e. let r = replay-reported text trace n bs e in (r .1, r .2),
   λ text n bs e. of-merge text n bs e,
   λ text instruction address n bs e. of-bound (patched (lines text) address instruction) n bs (preview-bound text instruction address n bs e),
+  λ text n bs e. let r = nearest-reported text n bs e in (r .1, r .2),
 )
   where
     of-bound : (text : List ℕ) (n : ℕ) (bs : List ℕ) → boundAnswer text n ≡ reported bs → (length bs ≤ memoryLimit) × (memoryLimit ≤ n)
@@ -281,6 +283,7 @@ places-small = (
   λ text trace n r e. omega (arith, replay-place text trace n r e),
   of-merge,
   of-preview,
+  nearest-place,
 )
   where
     of-bound : (text : List ℕ) (n : ℕ) (r : Refusal) → boundAnswer text n ≡ refused r → place r ≤ 62000

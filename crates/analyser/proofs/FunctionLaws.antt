@@ -43,6 +43,8 @@ use Rattle.patches.specs.Patch.{inCode, patched}
 use Rattle.patches.specs.Held.{within, copyAnswer}
 use Rattle.analyser.specs.Answers.{ofVerdict, boundRoutine, mergeRoutine, runRoutine, boundAnswer, mergeAnswer, runAnswer, previewAnswer}
 use Rattle.analyser.specs.Held.{Printable, judgedAs, foundAnswer}
+use Rattle.sensitivity.specs.Answers.{nearestAnswer}
+use Rattle.sensitivity.proofs.FunctionLaws.{nearest-reported, nearest-place}
 use Rattle.analyser.specs.Functions.{reportLength, Delivers, toldLength, wordOf, Tells, AnswerTold, AnswersTold}
 use Rattle.analyser.specs.Promises.{SafeReport, ExactReport, SafeMerge, ExactMerge, WithinReport, RunAccepted}
 use Rattle.analyser.proofs.AnswerLaws.{reports-kept, merges-kept, reports-fit, runs-kept, bound-reports-some, merge-reports-some, run-reports-some, places-small, preview-reports-some}
@@ -372,6 +374,13 @@ preview-limits text instruction address n h = record {
   refusal = λ r e. preview-place address h r (places-small .6 text instruction address n r e);
 }
 
+nearest-limits : (text : List ℕ) (n : ℕ) → WithinLimits memoryLimit (nearestAnswer text n)
+nearest-limits text n = record {
+  small = omega arith;
+  report = λ bs e. let r = nearest-reported text n bs e in (r .0, r .1);
+  refusal = λ r e. omega (arith, nearest-place text n r e);
+}
+
 -- what holds of the number
 tells : {most : ℕ} {a : Answer} → WithinLimits most a → (w : ℕ) → w ≡ wordOf (answerOf a) → Tells most a w
 unfolding wordOf answerOf
@@ -408,6 +417,7 @@ answers-told = (
   λ text text′ trace trace′ n n′. told memoryLimit _ _ (replay-limits text trace n) (replay-limits text′ trace′ n′),
   λ text text′ n n′. told memoryLimit _ _ (merge-limits text n) (merge-limits text′ n′),
   λ text text′ instruction instruction′ address address′ n n′ h h′. told memoryLimit _ _ (preview-limits text instruction address n h) (preview-limits text′ instruction′ address′ n′ h′),
+  λ text text′ n n′. told memoryLimit _ _ (nearest-limits text n) (nearest-limits text′ n′),
 )
 
 module _ (text : List ℕ) (n : ℕ) where
@@ -441,3 +451,6 @@ replay-tells text trace n = tells (replay-limits text trace n)
 pub preview-tells : (text instruction : List ℕ) (address n : ℕ) → address < 4294967296 → (w : ℕ) → w ≡ wordOf (answerOf (previewAnswer text address instruction n)) →
     Tells memoryLimit (previewAnswer text address instruction n) w
 preview-tells text instruction address n h = tells (preview-limits text instruction address n h)
+
+pub nearest-tells : (text : List ℕ) (n w : ℕ) → w ≡ wordOf (answerOf (nearestAnswer text n)) → Tells memoryLimit (nearestAnswer text n) w
+nearest-tells text n = tells (nearest-limits text n)

@@ -2,3 +2,4 @@ pub mod Cases
 pub mod AnswerLaws
 pub mod Theorems
 pub mod FunctionLaws
+pub mod NearestLaws

@@ -25,11 +25,14 @@ use Rattle.conversions.specs.Promises as conversions
 use Rattle.conversions.proofs.Theorems as conversion-theorems
 use Rattle.patches.specs.Promises as patches
 use Rattle.patches.proofs.Theorems as patch-theorems
+use Rattle.sensitivity.specs.Promises as sensitivity
+use Rattle.sensitivity.proofs.Theorems as sensitivity-theorems
 use Rattle.analyser.specs.Answers.{boundAnswer, mergeAnswer, runAnswer}
 use Rattle.analyser.specs.Promises as answers
 use Rattle.analyser.specs.Functions as functions
 use Rattle.analyser.proofs.AnswerLaws as answer-laws
 use Rattle.analyser.proofs.FunctionLaws as function-laws
+use Rattle.analyser.proofs.NearestLaws as nearest-laws
 
 -- ---- the erasure order and the step
 
@@ -154,6 +157,13 @@ copy-replaces-one = patch-theorems.copy-replaces-one
 
 pub same-instruction-keeps : patches.SameInstructionKeeps
 same-instruction-keeps = patch-theorems.same-instruction-keeps
+
+-- the nearest number that moves the bound (document 02 §13; `searches/specs/Promises`, `sensitivity/specs/Promises`)
+pub nearest-kept : sensitivity.NearestKept
+nearest-kept = sensitivity-theorems.nearest-kept
+
+pub refused-alike : answers.RefusedAlike
+refused-alike = nearest-laws.refused-alike
 
 pub written-reads-back : answers.WrittenReadsBack
 written-reads-back = decimal-read

@@ -14,6 +14,7 @@ use Rattle.answers.specs.declared.Answer.the-variants.{Reported, Refused}
 use Rattle.conversions.specs.Answers.{importAnswer, exportAnswer}
 use Rattle.conformance.specs.Answers.{replayAnswer}
 use Rattle.analyser.specs.Answers.{boundAnswer, mergeAnswer, runAnswer, previewAnswer}
+use Rattle.sensitivity.specs.Answers.{nearestAnswer}
 
 -- ---- what an answer says of the lent memory
 
@@ -57,3 +58,4 @@ AnswersTold =
     × ((text text′ : List ℕ) (n n′ : ℕ) → AnswerTold (mergeAnswer text n) (mergeAnswer text′ n′))
     × ((text text′ instruction instruction′ : List ℕ) (address address′ n n′ : ℕ) → address < 4294967296 → address′ < 4294967296 →
     AnswerTold (previewAnswer text address instruction n) (previewAnswer text′ address′ instruction′ n′))
+    × ((text text′ : List ℕ) (n n′ : ℕ) → AnswerTold (nearestAnswer text n) (nearestAnswer text′ n′))

@@ -34,6 +34,7 @@ use Rattle.conversions.specs.Promises.{BeginsAtZero}
 use Rattle.conformance.specs.Answers.{replayAnswer}
 use Rattle.patches.specs.Patch.{patched}
 use Rattle.analyser.specs.Answers.{boundAnswer, mergeAnswer, runAnswer, previewAnswer}
+use Rattle.sensitivity.specs.Answers.{nearestAnswer}
 use Rattle.analyser.specs.Functions.{reportLength}
 
 -- the bytes are the bound's report, with the figures q, of the routine x that the text holds
@@ -149,6 +150,7 @@ ReportsFit =
     × ((text trace : List ℕ) (n : ℕ) → ReportFits memoryLimit n (replayAnswer text trace n))
     × ((text : List ℕ) (n : ℕ) → ReportFits memoryLimit n (mergeAnswer text n))
     × ((text instruction : List ℕ) (address n : ℕ) → ReportFits memoryLimit n (previewAnswer text address instruction n))
+    × ((text : List ℕ) (n : ℕ) → ReportFits memoryLimit n (nearestAnswer text n))
 
 -- the place of a refusal is 62,000 at most
 abbrev pub PlaceSmall : Answer → Type 0
@@ -168,6 +170,11 @@ PlacesSmall =
     × ((text trace : List ℕ) (n : ℕ) → PlaceSmall (replayAnswer text trace n))
     × ((text : List ℕ) (n : ℕ) → PlaceSmall (mergeAnswer text n))
     × ((text instruction : List ℕ) (address n : ℕ) → PlaceOrAddress address (previewAnswer text address instruction n))
+    × ((text : List ℕ) (n : ℕ) → PlaceSmall (nearestAnswer text n))
+
+-- "A file that is refused to begin with is refused the same way here." (document 02 §13): the search refuses what the first bound refuses
+abbrev pub RefusedAlike : Type 0
+RefusedAlike = (text : List ℕ) (n : ℕ) (r : Refusal) → (nearestAnswer text n ≡ refused r → boundAnswer text n ≡ refused r) × (boundAnswer text n ≡ refused r → nearestAnswer text n ≡ refused r)
 
 -- "An import followed by a bound gives what the written file gives": the file with the lines made of its own words has its bounds and its run
 abbrev pub ImportsBound : Type 0

@@ -13,6 +13,7 @@ ghost use Rattle.answers.specs.declared.Answer.the-variants.{Refused};
 ghost use Rattle.conversions.specs.Answers.{conversionLimit, importAnswer, exportAnswer};
 ghost use Rattle.conformance.specs.Answers.{replayAnswer};
 ghost use Rattle.analyser.specs.Answers.{boundRoutine, mergeRoutine, runRoutine, boundAnswer, mergeAnswer, runAnswer, previewAnswer};
+ghost use Rattle.sensitivity.specs.Answers.{nearestAnswer};
 ghost use Rattle.analyser.specs.Functions.{reportLength, Delivers, wordOf, toldLength, Tells};
 ghost use Rattle.evaluations.specs.Held.{routineIn, Shareable};
 ghost use Rattle.analyser.specs.Held.{Printable, foundAnswer};
@@ -272,4 +273,15 @@ pub extern "C" fn tickbound_preview(
 {
     let previewed = preview(text, address, instruction, out);
     word_of(previewed)
+}
+
+// `sensitivity::nearest` for C.
+#[no_mangle]
+pub extern "C" fn tickbound_nearest(text: &[u8], out: &mut [u8]) -> u64
+    ensures { λ r. ⌜ r ≡ wordOf (answerOf (nearestAnswer (now (text .entry)) (length (now (out .entry))))) ⌝ }
+    ensures { λ _. ⌜ now (out .exit) ≡ memory (nearestAnswer (now (text .entry)) (length (now (out .entry)))) (now (out .entry)) ⌝ }
+    ensures tells { λ r. ⌜ Tells memoryLimit (nearestAnswer (now (text .entry)) (length (now (out .entry)))) r ⌝ }
+{
+    let nearest = sensitivity::nearest(text, out);
+    word_of(nearest)
 }

@@ -1,0 +1,25 @@
+-- `analyser::tickbound_nearest` meets its contract. Assumes nothing.
+use Rattle.analyser.specs.Functions.{wordOf}
+use mathlib.Core.Path.{ap, _∙_}
+use Rattle.analyser.proofs.FunctionLaws.{nearest-tells}
+use borrow.Author.Needs.{needs}
+use Rattle.analyser.proofs.tickbound_nearest.Statement.{statement}
+use Rattle.analyser.proofs.tickbound_nearest.Tie as tie
+
+nearest-requires : tie.Need-nearest-requires
+nearest-requires c κs = search needs
+
+word-of-requires : tie.Need-word-of-requires
+word-of-requires c κs = search needs
+
+same-length : tie.Need-same-length
+same-length c = search needs
+
+returns : tie.Need-returns
+returns c =
+    let b = c .before .before .before .nearest .ensures in
+    let w = c .word-of .ensures ∙ ap wordOf (b .0) in
+    (w, (b .1, nearest-tells _ _ _ w))
+
+pub tickbound-nearest-spec : {M : Type 1} → statement M
+tickbound-nearest-spec = tie.close (tie.spec nearest-requires word-of-requires same-length returns)
