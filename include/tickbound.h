@@ -5,6 +5,8 @@
  * `cc -I PREFIX/include .. -L PREFIX/lib -ltickbound`, on x86-64 Linux. In the repository `rt staticlib analyser`
  * writes the same library to target/staticlib/libanalyser.a.
  *
+ * `tickbound_nearest` finds the nearest number that moves the bound; it is declared and described below.
+ *
  * `tickbound_bound`, `tickbound_merge` and `tickbound_run` read a routine file of `text_length` bytes at `text`, and
  * write a report into the `report_length` bytes lent at `report`. `tickbound_replay` reads a trace of `trace_length`
  * bytes at `trace` beside it, and `tickbound_preview` an instruction of `instruction_length` bytes at `instruction`.
@@ -35,7 +37,7 @@
  * read from the report's memory.
  *
  * `tickbound_read_report` and `tickbound_read_run_report` read the figures of a report as numbers,
- * `tickbound_read_replay_report` whether a trace agrees, and `tickbound_tick` the TICK of a routine file. They stand in
+ * `tickbound_read_replay_report` whether a trace agrees, `tickbound_read_nearest_report` a cell and its new value, and `tickbound_tick` the TICK of a routine file. They stand in
  * this header whole and need no library. A routine is loaded only where its `cycles` are at most TICK: `share` is
  * rounded and does not decide. */
 #ifndef TICKBOUND_H
@@ -108,6 +110,16 @@ uint64_t tickbound_merge(const uint8_t *text, size_t text_length, uint8_t *repor
  * is `?` or a range of more than one number. */
 uint64_t tickbound_run(const uint8_t *text, size_t text_length, uint8_t *report, size_t report_length);
 
+/* The nearest number that moves the bound: among the start and block cells that hold one number, the single change of at
+ * least 1 and at most 64 that alters CYCLES of `tickbound_bound` or makes the routine refused by 7, 8 or 9. The smallest
+ * change comes first, then the cell earlier in the file, then downwards before upwards; values outside the 31 bits are
+ * passed over. The report is one line: the cell's name, one space and its new value, as `S2 1009`; or `NONE`, where no
+ * such change exists.
+ *
+ * Refused by 10; then as the bound refuses the file: by 1 to 6, 13, 7, 8 and 9. A search is up to 20,608 bounds: its time
+ * is that of as many calls of `tickbound_bound`, and can be minutes. */
+uint64_t tickbound_nearest(const uint8_t *text, size_t text_length, uint8_t *report, size_t report_length);
+
 /* A card's trace, lines under `AT CYCLES`, held against the run that the file gives. The report is one line: `AGREES`,
  * or `DIFFERS` and the number of the first line of the trace that differs, its line of names being line 1. A trace may
  * end before the run does. BUDGET plays no part.
@@ -176,6 +188,14 @@ struct tickbound_run_report {
 struct tickbound_replay_report {
     bool agrees;
     uint64_t line;
+};
+
+/* What a search says: whether a change moves the bound, and then the name of its cell, ended by a 0, and its new value.
+ * Where none does, `name` is empty and `value` is 0. */
+struct tickbound_nearest_report {
+    bool moves;
+    char name[8];
+    int32_t value;
 };
 
 /* Bytes that are still to be read. The functions up to `tickbound_take_path` are for those below them: each passes over
@@ -277,6 +297,43 @@ static inline bool tickbound_read_replay_report(const uint8_t *bytes, size_t len
     if (!read.agrees && (!tickbound_take_string(&left, "DIFFERS ") || !tickbound_take_number(&left, "\n", &read.line) ||
                          read.line < 2)) {
         return false;
+    }
+    if (left.count != 0) {
+        return false;
+    }
+    *report = read;
+    return true;
+}
+
+/* Reads the report of a search. False, with `report` unchanged, where the bytes are not exactly a search's report: `NONE`,
+ * or the name of a cell (`ACCU`, `S0` to `S31`, `B0.0` to `B7.15`), one space and a number of 31 bits, and a line feed. */
+static inline bool tickbound_read_nearest_report(const uint8_t *bytes, size_t length,
+                                                 struct tickbound_nearest_report *report) {
+    struct tickbound_bytes left = {bytes, length};
+    struct tickbound_nearest_report read;
+    memset(&read, 0, sizeof read);
+    read.moves = !tickbound_take_string(&left, "NONE\n");
+    if (read.moves) {
+        uint64_t entry = 0, block = 0, field = 0, value;
+        if (tickbound_take_string(&left, "S")) {
+            if (!tickbound_take_number(&left, " ", &entry) || entry > 31) {
+                return false;
+            }
+        } else if (tickbound_take_string(&left, "B")) {
+            if (!tickbound_take_number(&left, ".", &block) || block > 7 || !tickbound_take_number(&left, " ", &field) ||
+                field > 15) {
+                return false;
+            }
+        } else if (!tickbound_take_string(&left, "ACCU ")) {
+            return false;
+        }
+        memcpy(read.name, bytes, (size_t)(left.next - bytes) - 1);
+        bool below = tickbound_take_string(&left, "-");
+        if (!tickbound_take_number(&left, "\n", &value) || value > (below ? 1073741824u : 1073741823u) ||
+            (below && value == 0)) {
+            return false;
+        }
+        read.value = below ? -(int32_t)value : (int32_t)value;
     }
     if (left.count != 0) {
         return false;

@@ -30,6 +30,7 @@ static void check(bool is_right, const char *what) {
 static const struct tickbound_report former = {1, 2, 3, 4, 5, "TNT"};
 static const struct tickbound_run_report former_run = {1, 2, 3, 4};
 static const struct tickbound_replay_report former_replay = {true, 5};
+static const struct tickbound_nearest_report former_nearest = {true, "S9", 9};
 
 static bool same(const struct tickbound_report *a, const struct tickbound_report *b) {
     return a->cycles == b->cycles && a->words == b->words && a->depth == b->depth && a->steps == b->steps && a->share == b->share &&
@@ -54,6 +55,22 @@ static void reads(const char *bytes, uint64_t cycles, uint64_t words, uint64_t d
 static void reads_run(const char *bytes, uint64_t cycles, uint64_t words, uint64_t depth, uint64_t steps) {
     struct tickbound_run_report got = former_run, wanted = {cycles, words, depth, steps};
     check(tickbound_read_run_report((const uint8_t *)bytes, strlen(bytes), &got) && same_run(&got, &wanted), bytes);
+}
+
+/* The bytes are a search's report with this cell and value; an empty name for none. */
+static void reads_nearest(const char *bytes, const char *name, int32_t value) {
+    struct tickbound_nearest_report got = former_nearest;
+    check(tickbound_read_nearest_report((const uint8_t *)bytes, strlen(bytes), &got) && got.moves == (*name != 0) &&
+              strcmp(got.name, name) == 0 && got.value == value,
+          bytes);
+}
+
+/* The bytes are no search's report, and nothing is read of them. */
+static void refuses_nearest(const char *bytes) {
+    struct tickbound_nearest_report got = former_nearest;
+    check(!tickbound_read_nearest_report((const uint8_t *)bytes, strlen(bytes), &got) && got.moves && strcmp(got.name, "S9") == 0 &&
+              got.value == 9,
+          bytes);
 }
 
 static void reads_replay(const char *bytes, bool agrees, uint64_t line) {
@@ -139,6 +156,21 @@ static void answer_is(uint64_t answer, bool refused, size_t length, unsigned num
 }
 
 int main(void) {
+    reads_nearest("NONE\n", "", 0);
+    reads_nearest("ACCU 0\n", "ACCU", 0);
+    reads_nearest("ACCU -1073741824\n", "ACCU", -1073741824);
+    reads_nearest("S0 1073741823\n", "S0", 1073741823);
+    reads_nearest("S31 -1\n", "S31", -1);
+    reads_nearest("B0.0 64\n", "B0.0", 64);
+    reads_nearest("B7.15 -64\n", "B7.15", -64);
+    const char *not_nearest[] = {"", "NONE", "NONE \n", "NONE\n\n", "ACCU\n", "ACCU \n", "ACCU 1", "ACCU 01\n", "ACCU -0\n",
+                                 "ACCU 1073741824\n", "ACCU -1073741825\n", "ACCU 1 \n", "ACCU  1\n", "S32 1\n", "S 1\n",
+                                 "S00 1\n", "B8.0 1\n", "B0.16 1\n", "B0 1\n", "B.0 1\n", "B0. 1\n", "C0 1\n", "S0 +1\n",
+                                 "REFUSED 7 1\n"};
+    for (size_t i = 0; i < sizeof not_nearest / sizeof *not_nearest; i++) {
+        refuses_nearest(not_nearest[i]);
+    }
+
     reads(NAMES "65 4 1 6 65 N\n", 65, 4, 1, 6, 65, "N");
     reads(NAMES "0 0 0 1 0 -\n", 0, 0, 0, 1, 0, "");
     reads(NAMES "8233 17 4 99 206 NNNN\n", 8233, 17, 4, 99, 206, "NNNN");
