@@ -5,6 +5,7 @@ use crate::change::Change::{FirstBytes, Nothing, Without};
 use crate::change::Told::{Refusal, Report};
 use crate::change::{append, line, lines, made, refused, word, Base, Entry, Text};
 use crate::merge_cases;
+use crate::nearest_cases;
 use crate::report::MEMORY;
 use crate::routine::TEXT_LIMIT;
 
@@ -341,6 +342,7 @@ pub fn program_files() -> Vec<(&'static str, Vec<u8>)> {
     let cases = cases();
     let named = |name| cases.iter().find(|text| text.name == name).unwrap();
     let (bound, run) = (named("published"), named("published_run"));
+    let nearest = nearest_cases::nearests().into_iter().find(|case| case.name == "the_earlier_cell").unwrap();
     let (mut stdin, mut stdout) = (Vec::new(), Vec::new());
     for text in &cases {
         stdin.extend([format!("{} {}\n", text.name, text.bytes.len()).as_bytes(), &text.bytes, b"\n"].concat());
@@ -353,6 +355,8 @@ pub fn program_files() -> Vec<(&'static str, Vec<u8>)> {
         ("crates/run/stdout", run.printed()[1].clone().into_bytes()),
         ("crates/merge/stdin", bound.bytes.clone()),
         ("crates/merge/stdout", merge_cases::printed(bound).unwrap().into_bytes()),
+        ("crates/nearest/stdin", nearest.text.clone().into_bytes()),
+        ("crates/nearest/stdout", nearest.printed.into()),
         ("crates/cases/stdin", stdin),
         ("crates/cases/stdout", stdout),
     ]

@@ -8,6 +8,7 @@ mod handles;
 mod imports;
 mod jumps;
 mod merges;
+mod nearests;
 mod pinned;
 mod previews;
 mod ranges;
@@ -29,6 +30,8 @@ use independent::generate::draft;
 use independent::merge_cases::{self, merges, MERGES};
 use independent::preview_cases;
 use independent::preview_draft::{instruction_at, preview};
+use independent::nearest_cases;
+use independent::nearest_draft;
 use independent::random::Random;
 use independent::range_cases::{self, ranges, RANGES};
 use independent::replay_cases;
@@ -39,7 +42,8 @@ use independent::word_cases::{self, CASES};
 use independent::word_draft;
 use jumps::Jumps;
 use merges::Merges;
-use pinned::{pinned, pinned_export, pinned_import, pinned_merge, pinned_preview, pinned_range, pinned_replay};
+use nearests::{compare_nearest, nearest_by_program, Nearests};
+use pinned::{pinned, pinned_export, pinned_import, pinned_merge, pinned_preview, pinned_range, pinned_nearest, pinned_replay};
 use previews::{compare_preview, preview_by_program, Previews};
 use ranges::Ranges;
 use replays::{replay_by_program, replayed};
@@ -74,6 +78,7 @@ struct Tally {
     causes: Causes,
     traces: Traces,
     previews: Previews,
+    nearests: Nearests,
 }
 
 impl Tally {
@@ -153,6 +158,15 @@ impl Tally {
         let answer = compare_preview(random, &preview)?;
         self.previews.note(&preview, &answer);
         programs.map_or(Ok(()), |programs| preview_by_program(programs, &preview, &answer))
+    }
+
+    /// The search on a file as it was drawn, and on one drawn for it.
+    fn nearest(&mut self, random: &mut Random, text: &[u8], programs: Option<&Path>) -> Result<(), String> {
+        let Some(answer) = compare_nearest(random, text)? else {
+            return Ok(());
+        };
+        self.nearests.note(text, &answer);
+        programs.map_or(Ok(()), |programs| nearest_by_program(programs, text, &answer))
     }
 }
 
@@ -259,6 +273,18 @@ fn compare_previews(tally: &mut Tally, programs: &Path, random: &mut Random) {
     }
 }
 
+/// The searches with pinned answers.
+fn compare_nearests(tally: &mut Tally, programs: &Path, random: &mut Random) {
+    let cases = nearest_cases::nearests();
+    let (found, wanted) = (cases.len(), nearest_cases::CASES);
+    let count = if found == wanted { Ok(()) } else { Err(format!("{found}, not {wanted}")) };
+    tally.count("the count of the searches", &[], count);
+    for case in &cases {
+        let found = pinned_nearest(programs, random, case);
+        tally.count(&format!("the search {}", case.name), case.text.as_bytes(), found);
+    }
+}
+
 /// The files that the programs of `crates/` are run with stand as they are made.
 fn compare_program_files(tally: &mut Tally) {
     for (path, made) in program_files() {
@@ -271,17 +297,18 @@ fn compare_program_files(tally: &mut Tally) {
 
 /// Files enough that every kind, every refusal of a text, every use of an extra, every pair with a handle, every operation that wraps,
 /// SHARE on each side of a half, every jump, every meeting of ways, every use of a range, every cause, every way in which a trace
-/// compares and all that a patch may come to must come up.
+/// compares, all that a patch may come to and every way in which a number moves the bound must come up.
 const MANY: u64 = 5_000;
 
 /// Whether what was compared had all kinds in accepted code and in accepted words, reports, each refusal of a text, extras wherever they
 /// count, handles in operations on two cells, numbers that wrap and numbers just outside their range, SHARE at a half and next to it,
 /// jumps forward and backward, ways that meet and ways that do not, ranges in cells, operations and conditions, each cause by which words
-/// are refused, traces that agree, differ and are
-/// refused by each cause, and previews with a report or a refusal of each kind.
+/// are refused, traces that agree, differ and are refused by each cause, previews with a report or a refusal of each kind, and changes of
+/// a number that move the bound in each way, and none that do.
 fn covers(tally: &Tally) -> Result<(), String> {
     let missing: Vec<u32> = (0..=14).filter(|n| ![10, 12].contains(n) && !tally.answers.contains_key(n)).collect();
-    let of_others = tally.causes.counts().into_iter().chain(tally.traces.counts()).chain(tally.previews.counts());
+    let of_words = tally.causes.counts().into_iter().chain(tally.traces.counts());
+    let of_others = of_words.chain(tally.previews.counts()).chain(tally.nearests.counts());
     let counts = tally.counts().chain(of_others);
     let too_few = counts.filter(|(_, count)| *count < MANY / 200);
     let rare: Vec<_> = too_few
@@ -349,6 +376,7 @@ fn main() {
     compare_words(&mut tally, programs, &mut Random::new(seed));
     compare_replays(&mut tally, programs, &mut Random::new(seed));
     compare_previews(&mut tally, programs, &mut Random::new(seed));
+    compare_nearests(&mut tally, programs, &mut Random::new(seed));
     for number in 0..count {
         let mut random = Random::new(seed.wrapping_mul(1_000_003).wrapping_add(number));
         let mut parts = draft(&mut random);
@@ -362,6 +390,11 @@ fn main() {
         tally.count(&format!("trace {number} of seed {seed}"), &[], found);
         let found = tally.preview(&mut random, &text, given);
         tally.count(&format!("preview {number} of seed {seed}"), &[], found);
+        let found = tally.nearest(&mut random, &text, given);
+        tally.count(&format!("the search on file {number} of seed {seed}"), &text, found);
+        let text = nearest_draft::file(&mut random);
+        let found = tally.nearest(&mut random, &text, given);
+        tally.count(&format!("search {number} of seed {seed}"), &text, found);
     }
 
     if count >= MANY {
@@ -382,6 +415,9 @@ fn main() {
     let traces = tally.traces.counts().into_iter().chain(tally.traces.rare());
     let previews = tally.previews.counts().into_iter().chain(tally.previews.rare());
     for (what, count) in tally.causes.counts().into_iter().chain(traces).chain(previews) {
+        println!("{what}: {count}");
+    }
+    for (what, count) in tally.nearests.counts() {
         println!("{what}: {count}");
     }
     println!("files given to the programs too: {}", tally.given_to_programs);

@@ -3,11 +3,14 @@
 use crate::compare::{by_programs, compare, file, shown};
 use crate::imports::{export_by_program, exported, import_by_program, imported};
 use crate::previews::{compare_preview, preview_by_program};
+use crate::nearests::{compare_nearest, nearest_by_program};
 use crate::replays::{compare_replay, replay_by_program};
 use independent::analyser::{self, Function};
 use independent::change::{Bounds, Text, Three};
 use independent::merge_cases;
 use independent::preview::{preview_answer, Preview};
+use independent::nearest::nearest_answer;
+use independent::nearest_cases::Case as NearestCase;
 use independent::random::Random;
 use independent::replay::replay_answer;
 use independent::report::{bound_answer, merge_answer, printed, run_answer, Answer};
@@ -73,6 +76,15 @@ pub fn pinned_range(programs: &Path, random: &mut Random, text: &Text<Three>) ->
     let exported = exported(random, &text.bytes, &answers.bound)?;
     by_programs(programs, &text.bytes, &answers)?;
     export_by_program(programs, &text.bytes, &exported)
+}
+
+/// A text with the answer of the search.
+pub fn pinned_nearest(programs: &Path, random: &mut Random, case: &NearestCase) -> Result<(), String> {
+    let text = case.text.as_bytes();
+    let own = nearest_answer(text, case.lent);
+    both("nearest", &|memory| analyser::nearest(text, memory), case.lent, &own, case.printed.as_bytes())?;
+    let answer = compare_nearest(random, text)?.ok_or("too long a search")?;
+    nearest_by_program(programs, text, &answer)
 }
 
 /// Whether a function and the independent implementation say what is wanted.
