@@ -23,7 +23,7 @@
  *   unchanged. A report is text (two lines, one of a replay, each ending in a line feed); no 0 byte ends it.
  * - The functions keep nothing between calls, allocate nothing and may be called from several threads.
  *   Leave a call of `tickbound_merge` 2 MB of stack, and a call of another function 256 KB: it took under 1,700 KB,
- *   and the bound under 144 KB at 32 openings. This is measured, not proved.
+ *   and the bound and the search under 144 KB at 32 openings. This is measured, not proved.
  *
  * The answer is one number that is a length or a refusal, and never both:
  *

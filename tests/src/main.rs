@@ -30,6 +30,7 @@ use independent::generate::draft;
 use independent::merge_cases::{self, merges, MERGES};
 use independent::preview_cases;
 use independent::preview_draft::{instruction_at, preview};
+use independent::nearest::nearest_answer;
 use independent::nearest_cases;
 use independent::nearest_draft;
 use independent::random::Random;
@@ -325,13 +326,15 @@ fn covers(tally: &Tally) -> Result<(), String> {
     }
 }
 
-/// The stack that the header asks for is enough, at 32 openings and for a merging bound of 1,024 lines: a call that needs more ends this
+/// The stack that the header asks for is enough, at 32 openings of a bound and of a search, and for a merging bound of 1,024 lines: a call that needs more ends this
 /// program.
 fn small_stack(tally: &mut Tally) {
     let deepest = cases().into_iter().find(|text| text.name == "openings_32").unwrap().bytes;
     let longest = merges().into_iter().find(|text| text.name == "tests_in_1024_lines").unwrap().bytes;
+    // a number that no path reads, so that every trial goes as deep
+    let searched = String::from_utf8(deepest.clone()).unwrap().replacen("ACCU\n?", "ACCU S0\n? 5", 1).into_bytes();
     let as_it_is: Function = |text, memory| analyser::preview(text, 0, &instruction_at(text, 0).unwrap(), memory);
-    let calls: [(&str, usize, Vec<u8>, Function, Answer); 3] = [
+    let calls: [(&str, usize, Vec<u8>, Function, Answer); 4] = [
         ("32 openings on a stack of 256 KB", 256, deepest.clone(), analyser::bound, bound_answer(&deepest, MEMORY)),
         (
             "32 openings in a preview on a stack of 256 KB",
@@ -339,6 +342,13 @@ fn small_stack(tally: &mut Tally) {
             deepest.clone(),
             as_it_is,
             bound_answer(&deepest, MEMORY),
+        ),
+        (
+            "a search at 32 openings on a stack of 256 KB",
+            256,
+            searched.clone(),
+            analyser::nearest,
+            nearest_answer(&searched, MEMORY),
         ),
         (
             "a merge of 1,024 lines on a stack of 2 MB",
