@@ -10,7 +10,7 @@ pub struct Case {
 }
 
 /// How many there are.
-pub const CASES: usize = 26;
+pub const CASES: usize = 28;
 
 const KINDS: &str =
     "ACC0 ACC1 PUSHCONSTINT EQ LEINT GEINT BRANCHIF BRANCHIFNOT CONST0 GETFIELD0 GETFIELD1 POP PUSH C_CALL1 STOP";
@@ -168,6 +168,9 @@ pub fn nearests() -> Vec<Case> {
         ),
         // handles and unknowns are not changed
         case("an_unknown", over(100, "?", "", &["BRANCHIF 2", "STOP -", "C_CALL1 A", "STOP -"]), "NONE\n"),
+        // "5..5" holds one number, and a wider range does not
+        case("a_range_of_one", equal("5..5", "8"), "ACCU 8\n"),
+        case("a_wider_range", equal("5..6", "8"), "NONE\n"),
         case("a_handle", over(100, "#0", "1", &["GETFIELD0 -", "STOP -"]), "NONE\n"),
         case("no_cell_is_read", over(100, "1 2", "3", &unread), "NONE\n"),
         // "A file that is refused to begin with is refused the same way here."
