@@ -2,6 +2,7 @@ pub mod Covering
 pub mod RangeLaws
 pub mod JudgeLaws
 pub mod CellLaws
+pub mod AllowLaws
 pub mod MergeLaws
 pub mod AnswerLaws
 pub mod ComputeLaws
