@@ -10,3 +10,4 @@ pub mod PassingLaws
 pub mod BranchLaws
 pub mod PlaceLaws
 pub mod StartLaws
+pub mod KnownLaws

@@ -220,7 +220,7 @@ held {t} r P f (x ∷ rs) bs s (passed {l} {ls} p c) = go (isRole r x) s (λ q. 
     go false q ih = ih q
 
 -- so of each role of the layout, where a row refuses no line
-held-row : (row : Row) (ls : List Line) → refusedLine row ls ≡ nowhere → (r : Role) → First r layout
+pub held-row : (row : Row) (ls : List Line) → refusedLine row ls ≡ nowhere → (r : Role) → First r layout
     → (P : List ℕ → Type 0) → ((l : Line) → test row ls r l ≡ true → P (l .text)) → P (textAt r layout ls)
 unfolding roles
 held-row row ls e r s P f = held r P f layout (bodyRoles (body ls)) s (row-covered row ls e)

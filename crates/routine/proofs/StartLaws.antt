@@ -17,12 +17,16 @@ use Rattle.cells.specs.Order.{Pointwise, end, cons}
 use Rattle.cells.proofs.RangeLaws.{InBits, fitting-true, high-zero}
 use Rattle.cells.proofs.CellLaws.{confined-range, number-confined, unknown-confined, handle-confined, kept-self}
 use Rattle.cells.proofs.MergeLaws.{between-is}
-use Rattle.machine.specs.Machine.{State}
 use Rattle.machine.specs.Order.{Cellwise}
+use Rattle.routine.specs.declared.Section.the-variants.{Cells as cells, Fields as fields}
+use Rattle.routine.specs.declared.Column.the-variants.{Cell as cell}
+use Rattle.routine.specs.declared.Role.the-variants.{Values as values}
+use Rattle.routine.specs.Layout.{layout, listed}
 use Rattle.routine.specs.declared.CellWord.{CellWord}
 use Rattle.routine.specs.declared.CellWord.the-variants.{Wrong, Unknown, Known, Block, Span}
 use Rattle.routine.specs.Rows.{cellWord, handles}
 use Rattle.routine.specs.Routine.{inside, cellOf, cellsOf, blocksInLine, startOf, routineOf}
+use Rattle.routine.proofs.RowLaws.{First}
 
 within-bits : (z : ℤ) → within numbers z ≡ true → InBits z 0
 within-bits z e = fitting-true z 0 (ap₂ _&&_ e (ap (within numbers) (high-zero z) ∙ e))
@@ -63,35 +67,44 @@ word-confined (Known z) = number-confined (inside numbers z)
 word-confined (Block k) = handle-confined (natAbs (inside handles k))
 word-confined (Span lo hi) = between-confined (inside numbers lo) (inside numbers hi) (inside-bits lo) (inside-bits hi)
 
+-- ---- a start whose cells a relation relates to themselves
+
+module _ {R : Cell → Cell → Type 0} where
+  take-self : (n : ℕ) {xs ys : List Cell} → Pointwise R xs ys → Pointwise R (take n xs) (take n ys)
+  take-self zero k = end
+  take-self (suc n) end = end
+  take-self (suc n) (cons k ks) = cons k (take-self n ks)
+
+  drop-self : (n : ℕ) {xs ys : List Cell} → Pointwise R xs ys → Pointwise R (drop n xs) (drop n ys)
+  drop-self zero k = k
+  drop-self (suc n) end = end
+  drop-self (suc n) (cons k ks) = drop-self n ks
+
+  blocks-self : (ns : List ℕ) {xs ys : List Cell} → Pointwise R xs ys → Pointwise (Pointwise R) (blocksInLine ns xs) (blocksInLine ns ys)
+  unfolding blocksInLine
+  blocks-self [] k = end
+  blocks-self (n ∷ ns) k = cons (take-self n k) (blocks-self ns (drop-self n k))
+
+  first-self : (c : Cell) → R c c → {xs : List Cell} → Pointwise R xs xs → R (getD xs 0 c) (getD xs 0 c)
+  first-self c r end = r
+  first-self c r (cons k ks) = k
+
+  pub start-self : (ls : List Line) → R (number (pos 0)) (number (pos 0)) → (First (values cells cell) layout → Pointwise R (cellsOf (listed (values cells cell) ls)) (cellsOf (listed (values cells cell) ls))) →
+      (First (values fields cell) layout → Pointwise R (cellsOf (listed (values fields cell) ls)) (cellsOf (listed (values fields cell) ls))) → Cellwise R (routineOf ls .start) (routineOf ls .start)
+  unfolding routineOf startOf
+  start-self ls r k f = record {
+    at = refl;
+    accu = first-self (number (pos 0)) r (k refl);
+    stack = drop-self 1 (k refl);
+    blocks = blocks-self _ (f refl);
+  }
+
+-- ---- so of the bits
+
 words-kept : (ws : List (List ℕ)) → Pointwise Kept (cellsOf ws) (cellsOf ws)
 unfolding cellsOf
 words-kept [] = end
 words-kept (w ∷ ws) = cons (kept-self (word-confined (cellWord w))) (words-kept ws)
 
-kept-take : (n : ℕ) {xs ys : List Cell} → Pointwise Kept xs ys → Pointwise Kept (take n xs) (take n ys)
-kept-take zero k = end
-kept-take (suc n) end = end
-kept-take (suc n) (cons k ks) = cons k (kept-take n ks)
-
-kept-drop : (n : ℕ) {xs ys : List Cell} → Pointwise Kept xs ys → Pointwise Kept (drop n xs) (drop n ys)
-kept-drop zero k = k
-kept-drop (suc n) end = end
-kept-drop (suc n) (cons k ks) = kept-drop n ks
-
-blocks-kept : (ns : List ℕ) {xs ys : List Cell} → Pointwise Kept xs ys → Pointwise (Pointwise Kept) (blocksInLine ns xs) (blocksInLine ns ys)
-unfolding blocksInLine
-blocks-kept [] k = end
-blocks-kept (n ∷ ns) k = cons (kept-take n k) (blocks-kept ns (kept-drop n k))
-
-first-kept : (xs : List Cell) → Pointwise Kept xs xs → Kept (getD xs 0 (number (pos 0))) (getD xs 0 (number (pos 0)))
-first-kept [] k = kept-self (number-confined (pos 0))
-first-kept (x ∷ xs) (cons k ks) = k
-
 pub start-kept : (ls : List Line) → Cellwise Kept (routineOf ls .start) (routineOf ls .start)
-unfolding routineOf startOf
-start-kept ls = record {
-  at = refl;
-  accu = first-kept _ (words-kept _);
-  stack = kept-drop 1 (words-kept _);
-  blocks = blocks-kept _ (words-kept _);
-}
+start-kept ls = start-self ls (kept-self (number-confined (pos 0))) (λ f. words-kept _) (λ f. words-kept _)
