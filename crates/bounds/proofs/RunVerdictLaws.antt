@@ -88,11 +88,11 @@ module _ (c : Code) where
 
 -- ---- the verdict
 
-judged-stuck : (budget : ℕ) (r : Run) → r .stopped ≡ false → r .steps < budget → judgeRun budget r ≡ refused (Stuck (r .state .at))
+pub judged-stuck : (budget : ℕ) (r : Run) → r .stopped ≡ false → r .steps < budget → judgeRun budget r ≡ refused (Stuck (r .state .at))
 unfolding judgeRun
 judged-stuck budget r e h = rw (e, lt-ltb (r .steps) budget h) refl
 
-judged-spent : (budget : ℕ) (r : Run) → r .stopped ≡ false → budget ≤ r .steps → judgeRun budget r ≡ refused (Spent (r .state .at))
+pub judged-spent : (budget : ℕ) (r : Run) → r .stopped ≡ false → budget ≤ r .steps → judgeRun budget r ≡ refused (Spent (r .state .at))
 unfolding judgeRun
 judged-spent budget r e h = rw (e, le-ltb (r .steps) budget h) refl
 

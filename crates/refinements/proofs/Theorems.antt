@@ -1,0 +1,20 @@
+-- What is proved, by the names of specs/Promises. Nothing else needs to be read of proofs/. Assumes nothing.
+use Rattle.cells.proofs.AllowLaws as allow-laws
+use Rattle.bounds.specs.Tree.{openingLimit, bound}
+use Rattle.bounds.proofs.PromiseLaws as promise-laws
+use Rattle.refinements.specs.Promises.{RefinesWhere, BoundMonotone, BoundIsRun, MergedIsRun}
+use Rattle.refinements.proofs.BoundLaws as bound-laws
+use Rattle.refinements.proofs.MergedLaws as merged-laws
+
+pub refines-where : RefinesWhere
+refines-where = allow-laws.refines-where
+
+pub bound-monotone : BoundMonotone
+unfolding bound
+bound-monotone c budget = promise-laws.monotone c openingLimit budget
+
+pub bound-is-run : BoundIsRun
+bound-is-run = bound-laws.bound-is-run
+
+pub merged-is-run : MergedIsRun
+merged-is-run = merged-laws.merged-is-run
