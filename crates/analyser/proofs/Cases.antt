@@ -33,7 +33,7 @@ use Rattle.analyser.specs.Promises.{BoundReported, SafeRuns}
 use Rattle.analyser.proofs.AnswerLaws.{reports-kept}
 
 -- a file by its lines
-abbrev file : List String → List ℕ
+abbrev pub file : List String → List ℕ
 file [] = []
 file (l ∷ ls) = text.bytes l ++ text.bytes "\n" ++ file ls
 
@@ -54,7 +54,7 @@ small limits kinds cycles words extras names cells code =
     file ("BUDGET TICK" ∷ limits ∷ kinds ∷ cycles ∷ words ∷ extras ∷ "-" ∷ "-" ∷ "-" ∷ names ∷ cells ∷ "-" ∷ "-" ∷ "AT OP ARG" ∷ code)
 
 -- case 2, with its limits, its extras and its accumulator
-abbrev one-branch : String → String → String → List ℕ
+abbrev pub one-branch : String → String → String → List ℕ
 one-branch limits extras accu = small limits "BRANCHIF STOP" "5 1" "0 0" extras "ACCU" accu ("0 BRANCHIF 1" ∷ "1 STOP -" ∷ [])
 
 -- case 3, with its limits and its cycles
@@ -78,7 +78,7 @@ case1 = published "1000 1000" "0 ?" []
 pub case1-half : List ℕ
 case1-half = published "1000 2000" "0 ?" []
 
-pub case2 : List ℕ
+unfoldable pub case2 : List ℕ
 case2 = one-branch "1000 1000" "0 0" "?"
 
 pub case2-spent : List ℕ
@@ -243,7 +243,7 @@ Bounds text expected = analyser.printed (analyser.boundAnswer text 128) ≡ file
 abbrev Runs : List ℕ → List String → Type 0
 Runs text expected = analyser.printed (analyser.runAnswer text 128) ≡ file expected
 
-abbrev report : String → List String
+abbrev pub report : String → List String
 report values = "CYCLES WORDS DEPTH STEPS SHARE PATH" ∷ values ∷ []
 
 abbrev run-report : String → List String

@@ -47,7 +47,9 @@ use Rattle.sensitivity.specs.Answers.{nearestAnswer}
 use Rattle.sensitivity.proofs.FunctionLaws.{nearest-reported, nearest-place}
 use Rattle.analyser.specs.Functions.{reportLength, Delivers, toldLength, wordOf, Tells, AnswerTold, AnswersTold}
 use Rattle.analyser.specs.Promises.{SafeReport, ExactReport, SafeMerge, ExactMerge, WithinReport, RunAccepted}
+use Rattle.analyser.specs.Refined.{MonotoneReport, KnownReport, MonotoneMerge, KnownMerge}
 use Rattle.analyser.proofs.AnswerLaws.{reports-kept, merges-kept, reports-fit, runs-kept, bound-reports-some, merge-reports-some, run-reports-some, places-small, preview-reports-some}
+use Rattle.analyser.proofs.RefinedLaws.{bounds-refined, merges-refined}
 
 -- ---- a verdict is of one case
 
@@ -219,28 +221,42 @@ module _ (text : List ℕ) (n : ℕ) (former out : List ℕ) (r : code.Answer) w
   -- what the equations of an answer give besides
   pub bound-keeps : (r ≡ answerOf (boundAnswer text n)) × (out ≡ memory (boundAnswer text n) former) →
       (r ≡ answerOf (boundAnswer text n)) × ((out ≡ memory (boundAnswer text n) former)
-      × (Delivers (reportLength r) out (SafeReport text) × Delivers (reportLength r) out (ExactReport text)))
+      × (Delivers (reportLength r) out (SafeReport text) × (Delivers (reportLength r) out (ExactReport text)
+      × (Delivers (reportLength r) out (MonotoneReport text) × Delivers (reportLength r) out (KnownReport text)))))
   bound-keeps (e, m) = (
     e,
     (
       m,
       (
         delivers (SafeReport text) (boundAnswer text n) (λ bs q. reports-kept text n bs q .0) r e former out m,
-        delivers (ExactReport text) (boundAnswer text n) (λ bs q. reports-kept text n bs q .1) r e former out m,
+        (
+          delivers (ExactReport text) (boundAnswer text n) (λ bs q. reports-kept text n bs q .1) r e former out m,
+          (
+            delivers (MonotoneReport text) (boundAnswer text n) (λ bs q. bounds-refined text n bs q .0) r e former out m,
+            delivers (KnownReport text) (boundAnswer text n) (λ bs q. bounds-refined text n bs q .1) r e former out m,
+          ),
+        ),
       ),
     ),
   )
 
   pub merge-keeps : (r ≡ answerOf (mergeAnswer text n)) × (out ≡ memory (mergeAnswer text n) former) →
       (r ≡ answerOf (mergeAnswer text n)) × ((out ≡ memory (mergeAnswer text n) former)
-      × (Delivers (reportLength r) out (SafeMerge text) × Delivers (reportLength r) out (ExactMerge text)))
+      × (Delivers (reportLength r) out (SafeMerge text) × (Delivers (reportLength r) out (ExactMerge text)
+      × (Delivers (reportLength r) out (MonotoneMerge text) × Delivers (reportLength r) out (KnownMerge text)))))
   merge-keeps (e, m) = (
     e,
     (
       m,
       (
         delivers (SafeMerge text) (mergeAnswer text n) (λ bs q. merges-kept text n bs q .0) r e former out m,
-        delivers (ExactMerge text) (mergeAnswer text n) (λ bs q. merges-kept text n bs q .1) r e former out m,
+        (
+          delivers (ExactMerge text) (mergeAnswer text n) (λ bs q. merges-kept text n bs q .1) r e former out m,
+          (
+            delivers (MonotoneMerge text) (mergeAnswer text n) (λ bs q. merges-refined text n bs q .0) r e former out m,
+            delivers (KnownMerge text) (mergeAnswer text n) (λ bs q. merges-refined text n bs q .1) r e former out m,
+          ),
+        ),
       ),
     ),
   )

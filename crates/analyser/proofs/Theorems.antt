@@ -29,8 +29,10 @@ use Rattle.sensitivity.specs.Promises as sensitivity
 use Rattle.sensitivity.proofs.Theorems as sensitivity-theorems
 use Rattle.analyser.specs.Answers.{boundAnswer, mergeAnswer, runAnswer}
 use Rattle.analyser.specs.Promises as answers
+use Rattle.analyser.specs.Refined as refined
 use Rattle.analyser.specs.Functions as functions
 use Rattle.analyser.proofs.AnswerLaws as answer-laws
+use Rattle.analyser.proofs.RefinedLaws as refined-laws
 use Rattle.analyser.proofs.FunctionLaws as function-laws
 use Rattle.analyser.proofs.NearestLaws as nearest-laws
 
@@ -51,10 +53,6 @@ pub step-plain : (c : Code) {a : Cell} {s t : State} → Allowed a unknown → C
 step-plain c h e = step-law allowed-lawful c h e
 
 -- ---- the bound and the run of a code
-
-pub monotone : (c : Code) (budget : ℕ) → bounds.Monotone (bound c budget)
-unfolding bound
-monotone c budget = promise-laws.monotone c openingLimit budget
 
 -- demand 3; `published-interrupted` in Cases is its instance at a file
 pub interruptible : (c : Code) (budget : ℕ) → bounds.Interruptible c (bound c budget)
@@ -112,6 +110,16 @@ merges-kept = answer-laws.merges-kept
 
 pub runs-kept : answers.RunsKept
 runs-kept = answer-laws.runs-kept
+
+-- knowing more never costs more, and knowing all is the run (document 02 §14); of states: `refinements/proofs/Theorems`
+pub bounds-refined : refined.BoundsRefined
+bounds-refined = refined-laws.bounds-refined
+
+pub merges-refined : refined.MergesRefined
+merges-refined = refined-laws.merges-refined
+
+pub runs-known : refined.RunsKnown
+runs-known = refined-laws.runs-known
 
 pub answers-irrelevant : answers.AnswersIrrelevant
 answers-irrelevant = answer-laws.answers-irrelevant

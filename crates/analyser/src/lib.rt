@@ -18,6 +18,7 @@ ghost use Rattle.analyser.specs.Functions.{reportLength, Delivers, wordO
 ghost use Rattle.evaluations.specs.Held.{routineIn, Shareable};
 ghost use Rattle.analyser.specs.Held.{Printable, foundAnswer};
 ghost use Rattle.analyser.specs.Promises.{SafeReport, ExactReport, SafeMerge, ExactMerge, WithinReport, RunAccepted};
+ghost use Rattle.analyser.specs.Refined.{MonotoneReport, KnownReport, MonotoneMerge, KnownMerge};
 
 // What was found of a routine with this TICK: its report, or its refusal.
 fn put_found(found: Found, tick: u64, out: &mut [u8]) -> Answer
@@ -95,6 +96,8 @@ pub fn bound(text: &[u8], out: &mut [u8]) -> Answer
     ensures { λ _. ⌜ now (out .exit) ≡ memory (boundAnswer (now (text .entry)) (length (now (out .entry)))) (now (out .entry)) ⌝ }
     ensures safe { λ r. ⌜ Delivers (reportLength r) (now (out .exit)) (SafeReport (now (text .entry))) ⌝ }
     ensures exact { λ r. ⌜ Delivers (reportLength r) (now (out .exit)) (ExactReport (now (text .entry))) ⌝ }
+    ensures monotone { λ r. ⌜ Delivers (reportLength r) (now (out .exit)) (MonotoneReport (now (text .entry))) ⌝ }
+    ensures known { λ r. ⌜ Delivers (reportLength r) (now (out .exit)) (KnownReport (now (text .entry))) ⌝ }
 {
     let lent = out.len();
     if lent < 128 {
@@ -116,6 +119,8 @@ pub fn merge(text: &[u8], out: &mut [u8]) -> Answer
     ensures { λ _. ⌜ now (out .exit) ≡ memory (mergeAnswer (now (text .entry)) (length (now (out .entry)))) (now (out .entry)) ⌝ }
     ensures safe { λ r. ⌜ Delivers (reportLength r) (now (out .exit)) (SafeMerge (now (text .entry))) ⌝ }
     ensures exact { λ r. ⌜ Delivers (reportLength r) (now (out .exit)) (ExactMerge (now (text .entry))) ⌝ }
+    ensures monotone { λ r. ⌜ Delivers (reportLength r) (now (out .exit)) (MonotoneMerge (now (text .entry))) ⌝ }
+    ensures known { λ r. ⌜ Delivers (reportLength r) (now (out .exit)) (KnownMerge (now (text .entry))) ⌝ }
 {
     let length = out.len();
     if length < 128 {
@@ -195,6 +200,8 @@ pub extern "C" fn tickbound_bound(text: &[u8], out: &mut [u8]) -> u64
     ensures tells { λ r. ⌜ Tells memoryLimit (boundAnswer (now (text .entry)) (length (now (out .entry)))) r ⌝ }
     ensures safe { λ r. ⌜ Delivers (toldLength r) (now (out .exit)) (SafeReport (now (text .entry))) ⌝ }
     ensures exact { λ r. ⌜ Delivers (toldLength r) (now (out .exit)) (ExactReport (now (text .entry))) ⌝ }
+    ensures monotone { λ r. ⌜ Delivers (toldLength r) (now (out .exit)) (MonotoneReport (now (text .entry))) ⌝ }
+    ensures known { λ r. ⌜ Delivers (toldLength r) (now (out .exit)) (KnownReport (now (text .entry))) ⌝ }
 {
     let answer = bound(text, out);
     word_of(answer)
@@ -208,6 +215,8 @@ pub extern "C" fn tickbound_merge(text: &[u8], out: &mut [u8]) -> u64
     ensures tells { λ r. ⌜ Tells memoryLimit (mergeAnswer (now (text .entry)) (length (now (out .entry)))) r ⌝ }
     ensures safe { λ r. ⌜ Delivers (toldLength r) (now (out .exit)) (SafeMerge (now (text .entry))) ⌝ }
     ensures exact { λ r. ⌜ Delivers (toldLength r) (now (out .exit)) (ExactMerge (now (text .entry))) ⌝ }
+    ensures monotone { λ r. ⌜ Delivers (toldLength r) (now (out .exit)) (MonotoneMerge (now (text .entry))) ⌝ }
+    ensures known { λ r. ⌜ Delivers (toldLength r) (now (out .exit)) (KnownMerge (now (text .entry))) ⌝ }
 {
     let answer = merge(text, out);
     word_of(answer)
