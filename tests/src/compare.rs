@@ -157,19 +157,24 @@ fn joined(lines: &[String]) -> Vec<u8> {
     lines.iter().flat_map(|l| [l, "\n"]).collect::<String>().into_bytes()
 }
 
-/// A file that passes refusals 1 to 6 and 13, with numbers for each `?` and each range, and other answers.
-pub fn filled(random: &mut Random, text: &[u8]) -> Vec<u8> {
+/// A file that passes refusals 1 to 6 and 13, with another cell for each cell and with other answers.
+pub fn rewritten(random: &mut Random, text: &[u8], change: fn(&mut Random, &str) -> String) -> Vec<u8> {
     let text = std::str::from_utf8(text).unwrap();
     // a primitive may be named ANSWER: the heading is looked for after the first line of code
     let heading = text.lines().skip(line::CODE).position(|l| l == "ANSWER").map(|at| at + line::CODE);
     let mut lines: Vec<String> = text.lines().take(heading.unwrap_or(usize::MAX)).map(str::to_string).collect();
-    with_cells(&mut lines, |word| filled_in(random, word));
+    with_cells(&mut lines, |word| change(random, word));
     let answers = *random.pick(&[0, 1, 3, 64]);
     if answers > 0 {
         lines.push("ANSWER".to_string());
         lines.extend((0..answers).map(|_| random.number().to_string()));
     }
     joined(&lines)
+}
+
+/// The same with numbers for each `?` and each range.
+pub fn filled(random: &mut Random, text: &[u8]) -> Vec<u8> {
+    rewritten(random, text, filled_in)
 }
 
 /// A file that passes, with the largest BUDGET.

@@ -9,6 +9,7 @@ mod imports;
 mod jumps;
 mod merges;
 mod nearests;
+mod narrowed;
 mod pinned;
 mod previews;
 mod ranges;
@@ -44,6 +45,7 @@ use independent::word_draft;
 use jumps::Jumps;
 use merges::Merges;
 use nearests::{compare_nearest, nearest_by_program, Nearests};
+use narrowed::Narrowed;
 use pinned::{pinned, pinned_export, pinned_import, pinned_merge, pinned_preview, pinned_range, pinned_nearest, pinned_replay};
 use previews::{compare_preview, preview_by_program, Previews};
 use ranges::Ranges;
@@ -75,6 +77,7 @@ struct Tally {
     wraps: Wraps,
     jumps: Jumps,
     merges: Merges,
+    narrowed: Narrowed,
     ranges: Ranges,
     causes: Causes,
     traces: Traces,
@@ -116,7 +119,7 @@ impl Tally {
     /// What a report depends on, and how many files had it.
     fn counts(&self) -> impl Iterator<Item = (&'static str, u64)> + '_ {
         let of_cells = self.extras.counts().into_iter().chain(self.handles.counts()).chain(self.wraps.counts());
-        let of_ways = self.jumps.counts().into_iter().chain(self.merges.counts());
+        let of_ways = self.jumps.counts().into_iter().chain(self.merges.counts()).chain(self.narrowed.counts());
         of_cells.chain(self.shares.counts()).chain(of_ways).chain(self.ranges.counts())
     }
 
@@ -126,6 +129,7 @@ impl Tally {
         self.interruptions += interruptions;
         self.note(text, &answers);
         self.ranges.note(text, &answers, widened.as_ref());
+        self.narrowed.compare(random, text, &answers)?;
         let exported = exported(random, text, &answers.bound)?;
         if exported.is_ok() {
             self.causes.note_export(read(text, false).unwrap().first);
@@ -297,14 +301,14 @@ fn compare_program_files(tally: &mut Tally) {
 }
 
 /// Files enough that every kind, every refusal of a text, every use of an extra, every pair with a handle, every operation that wraps,
-/// SHARE on each side of a half, every jump, every meeting of ways, every use of a range, every cause, every way in which a trace
-/// compares, all that a patch may come to and every way in which a number moves the bound must come up.
+/// SHARE on each side of a half, every jump, every meeting of ways, every use of a range, every figure that falls where more is known,
+/// every cause, every way in which a trace compares, all that a patch may come to and every way in which a number moves the bound must come up.
 const MANY: u64 = 5_000;
 
 /// Whether what was compared had all kinds in accepted code and in accepted words, reports, each refusal of a text, extras wherever they
 /// count, handles in operations on two cells, numbers that wrap and numbers just outside their range, SHARE at a half and next to it,
-/// jumps forward and backward, ways that meet and ways that do not, ranges in cells, operations and conditions, each cause by which words
-/// are refused, traces that agree, differ and are refused by each cause, previews with a report or a refusal of each kind, and changes of
+/// jumps forward and backward, ways that meet and ways that do not, ranges in cells, operations and conditions, figures that fall where
+/// more is known, files that know all, each cause by which words are refused, traces that agree, differ and are refused by each cause, previews with a report or a refusal of each kind, and changes of
 /// a number that move the bound in each way, and none that do.
 fn covers(tally: &Tally) -> Result<(), String> {
     let missing: Vec<u32> = (0..=14).filter(|n| ![10, 12].contains(n) && !tally.answers.contains_key(n)).collect();

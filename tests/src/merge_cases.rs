@@ -7,7 +7,7 @@ use crate::change::Told::{self, Refusal, Report};
 use crate::change::{line, lines, made, word, Base, Bounds, Entry, Text};
 
 /// How many texts there are.
-pub const MERGES: usize = 71;
+pub const MERGES: usize = 76;
 
 /// Cases in which ways meet, or which the first bound refuses by 7, 8 or 9.
 const CASES: [(&str, Told); 36] = [
@@ -119,7 +119,7 @@ const JUMP: Base = File(|| meeting("?", &["BRANCHIF 2", "CONST0 -", "STOP -"]));
 
 pub fn merges() -> Vec<Text<Bounds>> {
     made(
-        [heights(), handles(), numbers(), lowest_address(), open_ways(), sums(), long()]
+        [heights(), handles(), numbers(), lowest_address(), open_ways(), sums(), long(), known()]
             .into_iter()
             .flatten()
             .collect(),
@@ -398,5 +398,18 @@ fn long() -> Vec<Entry<Bounds>> {
             // 4 × 65,535 for each test, by the extra or by CONST0, and STOP; 4 × 255 words
             Bounds(too_many, Report("89455275 348075 0 1024 89455275 -")),
         ),
+    ]
+}
+
+/// "Knowing more never costs more": a call on one way of a branch that is unknown, jumps, and does not jump (change request 14).
+fn known() -> Vec<Entry<Bounds>> {
+    let call: Base = File(|| meeting("?", &["BRANCHIF 2", "C_CALL1 A", "STOP -"]));
+    let (open, gone) = (Report("13 1 0 3 13 -"), Report("2 0 0 2 2 -"));
+    vec![
+        ("a_call_on_a_way_that_is_open", call, Nothing, Bounds(Report("13 1 0 4 13 N"), open)),
+        ("a_call_on_a_way_open_by_a_range", call, word(11, 1, "0..1008"), Bounds(Report("13 1 0 4 13 N"), open)),
+        ("a_call_on_the_way_not_gone_by_a_range", call, word(11, 1, "1..1008"), Bounds(gone, gone)),
+        ("a_call_on_the_way_not_gone", call, word(11, 1, "7"), Bounds(gone, gone)),
+        ("a_call_on_the_way_gone", call, word(11, 1, "0"), Bounds(open, open)),
     ]
 }
