@@ -1,0 +1,112 @@
+// The lines of a walk, written into lent memory. The meaning is in specs/.
+use cells::Cell;
+use states::State;
+ghost use mathlib.Core.Path.{_≡_};
+ghost use Prim.Native.Nat.{_+_, _≤_};
+ghost use lib.ListN.{length};
+ghost use Rattle.text.specs.Text.{lines};
+ghost use Rattle.text.specs.Memory.{over};
+ghost use Rattle.cells.specs.Cells.{unknown};
+ghost use Rattle.machine.specs.Machine.{step};
+ghost use Rattle.states.specs.Columns.{codeOf, Sized};
+ghost use Rattle.states.specs.View.{WellFormed, Fits, whole};
+ghost use Rattle.report.specs.Decode.{decode};
+ghost use Rattle.walks.specs.Walk.{follow};
+ghost use Rattle.listings.specs.Listing.{entries, codeText, entryText, listing};
+
+// The code line of an address.
+fn code_line(body: &[u8], first: usize, at: usize) -> &[u8]
+    ensures { λ r. ⌜ now r ≡ codeText (lines (now (body .entry))) first at ⌝ }
+{
+    if at < first {
+        return text::line_at(body, 0);
+    }
+    text::line_at(body, at - first)
+}
+
+// Puts a line over out from `at` on, and answers where it ends.
+fn put_entry(
+    out: &mut [u8],
+    at: usize,
+    line: &[u8],
+    cycles: u64,
+    words: u64,
+    depth: u64,
+    way: u64,
+) -> usize
+    requires { ⌜ at + length (entryText (now line) cycles words depth (decode way)) ≤ length (now out) ⌝ }
+    ensures { λ r. ⌜ r ≡ at + length (entryText (now (line .entry)) cycles words depth (decode way)) ⌝ }
+    ensures { λ _. ⌜ now (out .exit) ≡ over (now (out .entry)) at (entryText (now (line .entry)) cycles words depth (decode way)) ⌝ }
+{
+    let a = text::put(out, at, line);
+    let b = text::put(out, a, b" ");
+    let c = text::put_decimal(out, b, cycles);
+    let d = text::put(out, c, b" ");
+    let e = text::put_decimal(out, d, words);
+    let f = text::put(out, e, b" ");
+    let g = text::put_decimal(out, f, depth);
+    let h = text::put(out, g, b" ");
+    let i = report::put_path(out, h, way);
+    text::put(out, i, b"\n")
+}
+
+// Puts the lines of the walk along `path` over out from `at` on, and answers where they end.
+pub fn put_walk(
+    out: &mut [u8],
+    at: usize,
+    body: &[u8],
+    codes: &[u8],
+    operands: &[i32],
+    cycles: &[u32],
+    words: &[u32],
+    extras: &[u32],
+    sizes: &[u8],
+    first: usize,
+    start: State,
+    fields: [Cell; 128],
+    path: u64,
+) -> usize
+    requires { ⌜ Sized (now codes) (now operands) (now cycles) (now words) (now extras) × (first + length (now codes) ≤ 65536) × WellFormed start × Fits (now sizes) fields ⌝ }
+    requires { ⌜ at + length (listing (lines (now body)) first (entries (follow (step (codeOf first (now codes) (now operands) (now cycles) (now words) (now extras)) unknown) (length (now codes)) (decode path) (whole (now sizes) fields start)))) ≤ length (now out) ⌝ }
+    ensures { λ r. ⌜ r ≡ at + length (listing (lines (now (body .entry))) first (entries (follow (step (codeOf first (now (codes .entry)) (now (operands .entry)) (now (cycles .entry)) (now (words .entry)) (now (extras .entry))) unknown) (length (now (codes .entry))) (decode path) (whole (now (sizes .entry)) fields start)))) ⌝ }
+    ensures { λ _. ⌜ now (out .exit) ≡ over (now (out .entry)) at (listing (lines (now (body .entry))) first (entries (follow (step (codeOf first (now (codes .entry)) (now (operands .entry)) (now (cycles .entry)) (now (words .entry)) (now (extras .entry))) unknown) (length (now (codes .entry))) (decode path) (whole (now (sizes .entry)) fields start)))) ⌝ }
+{
+    let mut e = at;
+    let mut state = start;
+    let mut blocks = fields;
+    let mut rest = path;
+    let mut spent: u64 = 0;
+    let mut sum: u64 = 0;
+    let mut left = codes.len();
+    while 0 < left {
+        let walked = walks::walk(
+            codes,
+            operands,
+            cycles,
+            words,
+            extras,
+            sizes,
+            first,
+            rest,
+            state,
+            blocks,
+        );
+        if !walked.made {
+            return e;
+        }
+        spent = spent + walked.cycles;
+        sum = sum + walked.words;
+        let line = code_line(body, first, state.at);
+        let height = 64 - state.free;
+        e = put_entry(out, e, line, spent, sum, height as u64, walked.way);
+        if walked.stops {
+            return e;
+        }
+        rest = walked.rest;
+        state = walked.state;
+        let reached = walked.blocks;
+        blocks = reached;
+        left -= 1;
+    }
+    e
+}

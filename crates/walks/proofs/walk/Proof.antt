@@ -1,0 +1,145 @@
+-- `walks::walk` meets its contract: in each arm the step is the walk's. Assumes nothing.
+use native.Mathlib.Omega.{arith}
+use borrow.Author.Needs.{needs}
+use Rattle.walks.specs.Held.{movesBy}
+use Rattle.walks.proofs.ArmLaws.{at-stuck, at-stop, at-way, at-no-decision, at-n, at-t, small-stop, small-way, small-ways}
+use Rattle.walks.proofs.walk.Statement.{statement}
+use Rattle.walks.proofs.walk.Tie as tie
+
+unknown-requires : tie.Need-unknown-requires
+unknown-requires c κs = search needs
+
+step-requires : tie.Need-step-requires
+step-requires c κs = search needs
+
+enum-told : tie.Need-enum-told
+enum-told c = search needs
+
+enum-known-next : tie.Need-enum-known-next
+enum-known-next c = search needs
+
+enum-known-next-2 : tie.Need-enum-known-next-2
+enum-known-next-2 c = search needs
+
+enum-known-next-3 : tie.Need-enum-known-next-3
+enum-known-next-3 c = search needs
+
+returns : tie.Need-returns
+unfolding movesBy
+returns c =
+    let x = c .before .before .before .before .before .before .step in
+    let asked = c .before .before .before .before .before .before .before .unknown .ensures in
+    let s = c .before .before .before .before .before .before .before .before .before .before .before .before .before in
+    let a = s .args in
+    let g = c .before .before .next3 .given in
+    record {
+      moves = λ below. at-no-decision _ (a .sizes .now) (a .path) (a .state) (a .blocks) (x .result .next) (x .result .state) (x .result .blocks) _ asked (x .ensures .0) below (g .0 .0) (g .0 .1 .0) (g .0 .1 .1 .0) (g .1) (c .if1 .taken);
+      formed = x .ensures .1 .1 .0 .0;
+      fits = x .ensures .1 .1 .0 .1;
+      cycles = omega arith;
+      words = omega arith;
+    }
+
+returns-2 : tie.Need-returns-2
+unfolding movesBy
+returns-2 c =
+    let x = c .before .before .before .before .before .before .before .step in
+    let asked = c .before .before .before .before .before .before .before .before .unknown .ensures in
+    let s = c .before .before .before .before .before .before .before .before .before .before .before .before .before .before in
+    let a = s .args in
+    let g = c .before .before .before .next3 .given in
+    let l = small-ways (x .result .next) (x .ensures .1 .1 .0 .2) (g .0 .0) (g .0 .1 .0) (g .0 .1 .1 .0) (g .1) in
+    record {
+      moves = λ below. at-n _ (a .sizes .now) (a .path) (a .state) (a .blocks) (x .result .next) (x .result .state) (x .result .blocks) _ asked (x .ensures .0) below (g .0 .0) (g .0 .1 .0) (g .0 .1 .1 .0) (g .1) (c .before .if1 .left) (c .if2 .taken);
+      formed = x .ensures .1 .1 .0 .0;
+      fits = x .ensures .1 .1 .0 .1;
+      cycles = l .0 .cycles;
+      words = l .0 .words;
+    }
+
+jump-requires : tie.Need-jump-requires
+jump-requires c κs = search needs
+
+returns-3 : tie.Need-returns-3
+unfolding movesBy
+returns-3 c =
+    let x = c .before .before .before .before .step in
+    let asked = c .before .before .before .before .before .unknown .ensures in
+    let s = c .before .before .before .before .before .before .before .before .before .before .before in
+    let a = s .args in
+    record {
+      moves = λ below. at-stuck _ (a .sizes .now) (a .path) (a .state) (a .blocks) (x .result .next) (x .result .state) (x .result .blocks) _ asked (x .ensures .0) below (c .enum-told .given .1);
+      formed = x .ensures .1 .1 .0 .0;
+      fits = x .ensures .1 .1 .0 .1;
+      cycles = omega arith;
+      words = omega arith;
+    }
+
+returns-4 : tie.Need-returns-4
+unfolding movesBy
+returns-4 c =
+    let x = c .before .before .before .before .before .step in
+    let asked = c .before .before .before .before .before .before .unknown .ensures in
+    let s = c .before .before .before .before .before .before .before .before .before .before .before .before in
+    let a = s .args in
+    let g = c .before .next .given in
+    let l = small-stop (x .result .next) (x .ensures .1 .1 .0 .2) (g .0 .0) (g .1) in
+    record {
+      moves = λ below. at-stop _ (a .sizes .now) (a .path) (a .state) (a .blocks) (x .result .next) (x .result .state) (x .result .blocks) _ asked (x .ensures .0) below (g .0 .0) (g .1);
+      formed = x .ensures .1 .1 .0 .0;
+      fits = x .ensures .1 .1 .0 .1;
+      cycles = l .cycles;
+      words = l .words;
+    }
+
+returns-5 : tie.Need-returns-5
+unfolding movesBy
+returns-5 c =
+    let x = c .before .before .before .before .before .step in
+    let asked = c .before .before .before .before .before .before .unknown .ensures in
+    let s = c .before .before .before .before .before .before .before .before .before .before .before .before in
+    let a = s .args in
+    let g = c .before .next2 .given in
+    let l = small-way (x .result .next) (x .ensures .1 .1 .0 .2) (g .0 .0) (g .1) in
+    record {
+      moves = λ below. at-way _ (a .sizes .now) (a .path) (a .state) (a .blocks) (x .result .next) (x .result .state) (x .result .blocks) _ asked (x .ensures .0) below (g .0 .0) (g .1);
+      formed = x .ensures .1 .1 .0 .0;
+      fits = x .ensures .1 .1 .0 .1;
+      cycles = l .cycles;
+      words = l .words;
+    }
+
+returns-6 : tie.Need-returns-6
+unfolding movesBy
+returns-6 c =
+    let x = c .before .before .before .before .before .before .before .before .step in
+    let asked = c .before .before .before .before .before .before .before .before .before .unknown .ensures in
+    let s = c .before .before .before .before .before .before .before .before .before .before .before .before .before .before .before in
+    let a = s .args in
+    let g = c .before .before .before .before .next3 .given in
+    let l = small-ways (x .result .next) (x .ensures .1 .1 .0 .2) (g .0 .0) (g .0 .1 .0) (g .0 .1 .1 .0) (g .1) in
+    record {
+      moves = λ below. at-t _ (a .sizes .now) (a .path) (a .state) (a .blocks) (x .result .next) (x .result .state) (x .result .blocks) _ asked (x .ensures .0) below (g .0 .0) (g .0 .1 .0) (g .0 .1 .1 .0) (g .1) (c .before .before .if1 .left) (c .before .if2 .left) (c .jump .result) (c .jump .ensures .0);
+      formed = c .jump .ensures .1;
+      fits = x .ensures .1 .1 .0 .1;
+      cycles = l .1 .cycles;
+      words = l .1 .words;
+    }
+
+pub walk-spec : {M : Type 1} → statement M
+walk-spec =
+    tie.close
+    (tie.spec
+    unknown-requires
+    step-requires
+    enum-told
+    enum-known-next
+    enum-known-next-2
+    enum-known-next-3
+    returns
+    returns-2
+    jump-requires
+    returns-3
+    returns-4
+    returns-5
+    returns-6)

@@ -1,0 +1,31 @@
+-- What a step of the walk by value stands for.
+use Prim.Native.Nat.{ℕ, _<_}
+use mathlib.Core.Path.{_≡_}
+use mathlib.Core.Bool.{cond}
+use mathlib.Core.List.{List, [], _∷_}
+use Rattle.cells.specs.declared.Cell.{Cell}
+use Rattle.cells.specs.Cells.{unknown}
+use Rattle.machine.specs.Machine.{State, Price, Code, step}
+use Rattle.states.specs.declared.State as states
+use Rattle.states.specs.View.{WellFormed, Fits, whole}
+use Rattle.bounds.specs.Tree.{Decision}
+use Rattle.bounds.specs.Traces.{Move, move}
+use Rattle.report.specs.Decode.{decode}
+use Rattle.walks.specs.declared.Walked.{Walked}
+use Rattle.walks.specs.Walk.{onward}
+
+-- the price that is told
+abbrev pub priceOf : Walked → Price
+priceOf w = record { cycles = w .cycles; words = w .words }
+
+-- the moves from s whose first is w: none where it is not made, and it alone where it is STOP; `below` gives those after it
+unfoldable pub movesBy : List ℕ → Walked → State → (List Decision → State → List Move) → List Move
+movesBy ns w s below = cond (w .made) (move s (priceOf w) (decode (w .way)) ∷ cond (w .stops) [] (below (decode (w .rest)) (whole ns (w .blocks) (w .state)))) []
+
+-- w is the first step of the walk by the decisions of `path`
+pub record StepsOn (c : Code) (ns : List ℕ) (path : ℕ) (state : states.State) (blocks : List Cell) (w : Walked) : Type 0 where
+  pub moves : (below : List Decision → State → List Move) → onward below (decode path) (whole ns blocks state) (step c unknown (whole ns blocks state)) ≡ movesBy ns w (whole ns blocks state) below
+  pub formed : WellFormed (w .state)
+  pub fits : Fits ns (w .blocks)
+  pub cycles : w .cycles < 8589934592
+  pub words : w .words < 4294967296
