@@ -1,0 +1,4 @@
+pub mod SizeLaws
+pub mod EntryLaws
+pub mod Theorems
+pub mod FunctionLaws

@@ -1,0 +1,52 @@
+-- `explanations::explain_routine` meets its contract. Assumes nothing.
+use Rattle.text.specs.Text.{lines}
+use Rattle.answers.proofs.AnswerLaws.{gives-report, gives-refusal}
+use Rattle.evaluations.specs.Held.{routineIn}
+use Rattle.explanations.proofs.FunctionLaws.{routine-explained, routine-refused}
+use borrow.Author.Needs.{needs}
+use Rattle.explanations.proofs.explain_routine.Statement.{statement}
+use Rattle.explanations.proofs.explain_routine.Tie as tie
+
+explored-requires : tie.Need-explored-requires
+explored-requires c κs = search needs
+
+enum-told : tie.Need-enum-told
+enum-told c = search needs
+
+put-explanation-requires : tie.Need-put-explanation-requires
+put-explanation-requires c κs =
+    let s = c .before .before .before .before .before .before in
+    let p = s .pre .1 in
+    let x = c .before .before .before .explored in
+    (s .pre .0, p .positive, p .small, x .ensures .1 .cycles, p .fits _ (routine-explained (lines (s .args .body .now)) (routineIn (s .args .routine)) (x .result) (x .ensures .0) (c .before .enum-told .given .1)))
+
+enum-known-verdict : tie.Need-enum-known-verdict
+enum-known-verdict c = search needs
+
+same-length : tie.Need-same-length
+same-length c = search needs
+
+returns : tie.Need-returns
+returns c =
+    let s = c .before .before .before .before .before .before .before .before .before in
+    let x = c .before .before .before .before .before .before .explored in
+    let p = c .before .before .put-explanation .ensures in
+    gives-report _ _ (routine-explained (lines (s .args .body .now)) (routineIn (s .args .routine)) (x .result) (x .ensures .0) (c .before .before .before .before .enum-told .given .1)) _ (p .0) _ _ (p .1)
+
+returns-2 : tie.Need-returns-2
+returns-2 c =
+    let s = c .before .before .before .before .before .before in
+    let x = c .before .before .before .explored in
+    gives-refusal _ _ (routine-refused (lines (s .args .body .now)) (routineIn (s .args .routine)) (x .result) (x .ensures .0) _ (c .before .verdict .given .1)) _
+
+pub explain-routine-spec : {M : Type 1} → statement M
+explain-routine-spec =
+    tie.close
+    (tie.spec
+    explored-requires
+    enum-told
+    put-explanation-requires
+    enum-known-verdict
+    same-length
+    returns
+    returns-2)
