@@ -17,8 +17,8 @@
  * - A pointer may be null where its length is 0. With a length above 0 it must point to that many bytes; the
  *   bytes lent for writing must be writable.
  * - Every text of every length is answered. An empty text is refused by 2. Too little lent memory, fewer than
- *   TICKBOUND_REPORT_MEMORY bytes for a report or TICKBOUND_CODE_MEMORY for lines and words, is refused by 10,
- *   before anything is read.
+ *   TICKBOUND_REPORT_MEMORY bytes for a report, TICKBOUND_CODE_MEMORY for lines and words or TICKBOUND_EXPLAIN_MEMORY
+ *   for an explanation, is refused by 10, before anything is read.
  * - After a report (lines, words), the memory holds its bytes and then its former bytes. After a refusal it is
  *   unchanged. A report is text (two lines, one of a replay, each ending in a line feed); no 0 byte ends it.
  * - The functions keep nothing between calls, allocate nothing and may be called from several threads.
@@ -27,7 +27,8 @@
  *
  * The answer is one number that is a length or a refusal, and never both:
  *
- *   a report    its length, 1 to TICKBOUND_REPORT_MEMORY; of lines or words, 1 to TICKBOUND_CODE_MEMORY
+ *   a report    its length, 1 to TICKBOUND_REPORT_MEMORY; of lines or words, 1 to TICKBOUND_CODE_MEMORY;
+ *               of an explanation, 1 to TICKBOUND_EXPLAIN_MEMORY
  *   a refusal   bit 63 is 1, bits 32 to 47 are the refusal's number, bits 0 to 31 its place;
  *               all other bits are 0. No place is above 62,000, but for the address of a preview,
  *               which may be any number of 32 bits
@@ -58,6 +59,9 @@ extern "C" {
 /* Memory that is enough for the lines of every import and the words of every export; with less a call is refused
  * by 10. */
 #define TICKBOUND_CODE_MEMORY 32768
+
+/* Memory that is enough for every explanation; with less a call is refused by 10. */
+#define TICKBOUND_EXPLAIN_MEMORY 65536
 
 /* The longest text that is not refused by 1. */
 #define TICKBOUND_TEXT_LIMIT 32768
@@ -105,6 +109,15 @@ uint64_t tickbound_bound(const uint8_t *text, size_t text_length, uint8_t *repor
  * anything else, another handle too, on another; 7, where the step of the merged state is stuck. Never by 8, 9 or
  * 11. */
 uint64_t tickbound_merge(const uint8_t *text, size_t text_length, uint8_t *report, size_t report_length);
+
+/* The report of the bound, its two lines, and then the steps of the worst path, one to a line, under the line of names
+ * `AT OP ARG CYCLES WORDS DEPTH WAY`. A line begins with the code line as the file has it; CYCLES and WORDS are the sums
+ * so far, this step included, DEPTH is the height of the stack before the step, and WAY is `N` or `T` at an unknown
+ * branch and `-` elsewhere. CYCLES of the last line is the report's, and the letters of WAY are its PATH. The answer's
+ * length is 1 to TICKBOUND_EXPLAIN_MEMORY, and that much must be lent.
+ *
+ * Refused as the bound is. */
+uint64_t tickbound_explain(const uint8_t *text, size_t text_length, uint8_t *lines, size_t lines_length);
 
 /* The report of the one run that the file gives: `CYCLES WORDS DEPTH STEPS` and their values. Refused by 11 where a cell
  * is `?` or a range of more than one number. */

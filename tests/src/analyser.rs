@@ -14,6 +14,7 @@ extern "C" {
         lines_length: usize,
     ) -> u64;
     fn tickbound_export(text: *const u8, text_length: usize, words: *mut u8, words_length: usize) -> u64;
+    fn tickbound_explain(text: *const u8, text_length: usize, lines: *mut u8, lines_length: usize) -> u64;
     fn tickbound_replay(
         text: *const u8,
         text_length: usize,
@@ -73,6 +74,11 @@ pub fn import(words: &[u8], primitives: &[u8], lines: &mut [u8]) -> u64 {
 pub fn export(text: &[u8], words: &mut [u8]) -> u64 {
     // SAFETY: as above.
     unsafe { tickbound_export(start(text), text.len(), start_mut(words), words.len()) }
+}
+
+pub fn explain(text: &[u8], lines: &mut [u8]) -> u64 {
+    // SAFETY: as above.
+    unsafe { tickbound_explain(start(text), text.len(), start_mut(lines), lines.len()) }
 }
 
 pub fn replay(text: &[u8], trace: &[u8], report: &mut [u8]) -> u64 {

@@ -7,6 +7,7 @@ pub mod change;
 pub mod compiled;
 pub mod damage;
 pub mod draft;
+pub mod explain;
 pub mod generate;
 pub mod machine;
 pub mod merge;

@@ -3,6 +3,7 @@
 //! files, words, traces and previews from a seed.
 mod causes;
 mod compare;
+mod explanations;
 mod extras;
 mod handles;
 mod imports;
@@ -20,6 +21,7 @@ mod wraps;
 
 use causes::Causes;
 use compare::{by_programs, file, number, Answers, Outcome};
+use explanations::{explained, Explanations};
 use extras::Extras;
 use handles::Compared;
 use imports::{compiled, export_by_program, exported, import_by_program, imported};
@@ -27,6 +29,7 @@ use independent::analyser::{self, Function};
 use independent::cases::{cases, program_files, starred};
 use independent::compiled::functions;
 use independent::damage::damaged;
+use independent::explain;
 use independent::generate::draft;
 use independent::merge_cases::{self, merges, MERGES};
 use independent::preview_cases;
@@ -83,6 +86,7 @@ struct Tally {
     traces: Traces,
     previews: Previews,
     nearests: Nearests,
+    explanations: Explanations,
 }
 
 impl Tally {
@@ -130,6 +134,7 @@ impl Tally {
         self.note(text, &answers);
         self.ranges.note(text, &answers, widened.as_ref());
         self.narrowed.compare(random, text, &answers)?;
+        explained(random, text, &answers.bound, programs, &mut self.explanations)?;
         let exported = exported(random, text, &answers.bound)?;
         if exported.is_ok() {
             self.causes.note_export(read(text, false).unwrap().first);
@@ -254,6 +259,25 @@ fn compare_words(tally: &mut Tally, programs: &Path, random: &mut Random) {
     }
 }
 
+/// The explanations of the examples and of the cases, and two that are pinned.
+fn compare_explanations(tally: &mut Tally, programs: &Path, random: &mut Random) {
+    let examples = std::fs::read_dir("examples").unwrap().map(|file| file.unwrap().path());
+    let examples = examples.filter(|path| path.extension().is_some_and(|e| e == "txt"));
+    let mut texts: Vec<_> = examples.map(|path| (path.display().to_string(), std::fs::read(path).unwrap())).collect();
+    texts.sort();
+    texts.extend(cases().into_iter().chain(starred()).map(|text| (text.name.to_string(), text.bytes)));
+    for (name, text) in &texts {
+        let bound = bound_answer(text, MEMORY);
+        let found = explained(random, text, &bound, Some(programs), &mut Explanations::default());
+        tally.count(&format!("the explanation of {name}"), text, found);
+    }
+    for (text, wanted) in explain::pinned() {
+        let printed = explain::explain_answer(&text, explain::MEMORY).map_err(|_| Vec::new());
+        let found = if printed.as_deref() == Ok(wanted.as_bytes()) { Ok(()) } else { Err(format!("not as pinned: {wanted}")) };
+        tally.count("a pinned explanation", &text, found);
+    }
+}
+
 /// The replays with pinned answers.
 fn compare_replays(tally: &mut Tally, programs: &Path, random: &mut Random) {
     let cases = replay_cases::replays();
@@ -315,6 +339,7 @@ fn covers(tally: &Tally) -> Result<(), String> {
     let of_words = tally.causes.counts().into_iter().chain(tally.traces.counts());
     let of_others = of_words.chain(tally.previews.counts()).chain(tally.nearests.counts());
     let counts = tally.counts().chain(of_others);
+    let counts = counts.chain(tally.explanations.counts());
     let too_few = counts.filter(|(_, count)| *count < MANY / 200);
     let rare: Vec<_> = too_few
         .chain(tally.traces.rare().into_iter().chain(tally.previews.rare()).filter(|(_, count)| *count < MANY / 1000))
@@ -391,6 +416,7 @@ fn main() {
     compare_replays(&mut tally, programs, &mut Random::new(seed));
     compare_previews(&mut tally, programs, &mut Random::new(seed));
     compare_nearests(&mut tally, programs, &mut Random::new(seed));
+    compare_explanations(&mut tally, programs, &mut Random::new(seed));
     for number in 0..count {
         let mut random = Random::new(seed.wrapping_mul(1_000_003).wrapping_add(number));
         let mut parts = draft(&mut random);
@@ -426,6 +452,9 @@ fn main() {
         println!("files with {what}: {count}");
     }
     println!("kinds in the words of accepted imports: {}", tally.causes.kinds());
+    for (what, count) in tally.explanations.counts() {
+        println!("{what}: {count}");
+    }
     let traces = tally.traces.counts().into_iter().chain(tally.traces.rare());
     let previews = tally.previews.counts().into_iter().chain(tally.previews.rare());
     for (what, count) in tally.causes.counts().into_iter().chain(traces).chain(previews) {

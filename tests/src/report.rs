@@ -53,7 +53,7 @@ fn share(cycles: u64, tick: u64) -> u64 {
     }
 }
 
-fn bound_report(figures: &Figures, tick: u64) -> String {
+pub fn bound_report(figures: &Figures, tick: u64) -> String {
     let path: String =
         (0..figures.path.length).map(|i| if figures.path.taken >> i & 1 == 1 { 'T' } else { 'N' }).collect();
     format!(

@@ -6,46 +6,41 @@ use mathlib.Core.Logic.{_⊎_, inl, inr}
 use Prim.Native.Nat.{ℕ, _≤_, _<_}
 use native.Mathlib.Omega.{arith}
 use lib.Dec.{ltb}
-use lib.ListN.{length, length-map}
+use lib.ListN.{length}
 use borrow.Author.Tests.{lt-ltb, le-ltb}
 use Rattle.refusals.specs.declared.Refusal.{Refusal}
 use Rattle.refusals.specs.declared.Refusal.the-variants.{ReportMemory, BadName}
 use Rattle.refusals.specs.Refusals.{place}
 use Rattle.text.specs.Text.{Line, lines, all}
 use Rattle.text.proofs.TextLaws.{Every, more}
-use Rattle.cells.specs.Try.{done}
-use Rattle.machine.specs.Machine.{height, Instruction, fetch}
 use Rattle.machine.specs.Forward.{Forward}
-use Rattle.machine.proofs.FetchLaws.{fetch-every}
-use Rattle.machine.proofs.HeightLaws.{Low}
-use Rattle.machine.proofs.PriceLaws.{AtMost, Both}
 use Rattle.bounds.specs.Tree.{Report, Verdict, openingLimit, bound}
 use Rattle.bounds.specs.Tree as verdicts
 use Rattle.bounds.specs.Run.{run}
 use Rattle.bounds.specs.Promises.{NoGreater, SinglePass}
 use Rattle.bounds.proofs.PromiseLaws.{interruptible, bound-exact, run-within-bound}
-use Rattle.bounds.proofs.FigureLaws.{Bounded, bound-bounded, run-bounded}
+use Rattle.bounds.proofs.FigureLaws.{bound-bounded, run-bounded}
 use Rattle.bounds.proofs.PlaceLaws.{bound-place, run-place}
 use Rattle.bounds.proofs.ForwardLaws.{forward-once}
 use Rattle.merges.specs.Merge.{merged, span}
 use Rattle.merges.proofs.Theorems.{merged-interruptible, merged-exact}
 use Rattle.merges.proofs.FigureLaws.{merged-bounded, merged-place}
 use Rattle.routine.specs.Layout.{body, codeLines}
-use Rattle.routine.specs.Routine.{Routine, Reading, codeIn, routineOf, readBound, readRun}
+use Rattle.routine.specs.Routine.{Routine, Reading, routineOf, readBound, readRun}
 use Rattle.routine.specs.Routine as readings
 use Rattle.routine.specs.Rows.{Passes}
 use Rattle.routine.proofs.RowLaws.{read-passes, run-passes}
-use Rattle.routine.proofs.RangeLaws.{prices-small, budget-small, tick-positive, start-low}
 use Rattle.routine.proofs.BranchLaws.{passing-forward, passing-closed}
 use Rattle.routine.proofs.PlaceLaws.{read-bound-place, read-run-place, confined, start-small}
 use Rattle.routine.proofs.SpellingLaws.{accepted-ascii}
 use Rattle.routine.proofs.AnswerLaws.{SameButAnswers, same-but-answers}
 use Rattle.report.specs.Report.{boundText, runText}
-use Rattle.report.proofs.ReportLaws.{Small, bound-fits, run-fits}
+use Rattle.report.proofs.ReportLaws.{bound-fits, run-fits}
 use Rattle.answers.specs.Answers.{Answer, reported, refused, memoryLimit, ofReading, answerOf}
 use Rattle.answers.proofs.AnswerLaws.{never, from-reading, place-from}
 use Rattle.conversions.proofs.FunctionLaws.{import-reported, import-place, export-reported, export-place}
 use Rattle.conformance.proofs.FunctionLaws.{replay-reported, replay-place}
+use Rattle.explanations.proofs.SizeLaws.{code-length, bound-small, priced, low, within, ticks}
 use Rattle.patches.specs.Patch.{inCode, patched}
 use Rattle.analyser.specs.Answers.{ofVerdict, boundRoutine, mergeRoutine, runRoutine, boundAnswer, mergeAnswer, runAnswer, previewAnswer}
 use Rattle.sensitivity.proofs.FunctionLaws.{nearest-reported, nearest-place}
@@ -160,11 +155,6 @@ passing-is-ascii text x e = every-all text (accepted-ascii text (read-passes tex
 
 -- ---- no jump backwards
 
--- as many instructions as code lines
-code-length : (ls : List Line) → length (routineOf ls .code .instructions) ≡ length (codeLines (body ls))
-unfolding routineOf codeIn
-code-length ls = simp length-map refl
-
 passes-once : (ls : List Line) → Passes ls → Forward (routineOf ls .code) × SinglePass (routineOf ls .code) (length (codeLines (body ls)))
 passes-once ls p = let f = passing-forward ls p in (f, rw (code-length ls) at (forward-once (routineOf ls .code) f))
 
@@ -175,31 +165,8 @@ passing-is-single-pass text x (inr e) = let p = run-passes text x e in rw (p .2)
 -- ---- 128 bytes, and 32,768
 
 module _ (text : List ℕ) (x : Routine) (passes : Passes (lines text)) (is : x ≡ routineOf (lines text)) where
-  priced : (a : ℕ) (i : Instruction) → fetch (x .code) a ≡ done i → Both (AtMost 196605 510) (i .price) (i .extra)
-  priced a i e = fetch-every (x .code) a i e (rw (← is) at (prices-small (lines text)))
-
-  low : Low (x .start)
-  unfolding height
-  low = let h = rw (← is) at (start-low passes) in record { low = omega arith }
-
-  within : x .budget ≤ 1000000
-  within = rw (← is) at (budget-small passes)
-
   spanned : span (x .code) (x .start) ≤ 1000000
   spanned = let h = rw (← is) at (confined (lines text) passes .past) in omega arith
-
-  ticks : 1 ≤ x .tick
-  ticks = rw (← is) at (tick-positive passes)
-
-bound-small : (tick budget : ℕ) (q : Report) → 1 ≤ tick → budget ≤ 1000000 → Bounded 196605 510 budget q → Small tick q
-bound-small tick budget q t h b = record {
-  cycles = omega (arith, b .cycles, b .steps);
-  words = omega (arith, b .words, b .steps);
-  depth = omega (arith, b .depth);
-  steps = omega (arith, b .steps);
-  path = b .path;
-  tick = t;
-}
 
 pub reports-fit : ReportsFit
 unfolding boundAnswer boundRoutine mergeAnswer mergeRoutine runAnswer runRoutine

@@ -2,8 +2,8 @@
 use Prim.Native.Nat.{ℕ, _+_, _*_, _%_, _≤_, _<_}
 use mathlib.Core.Path.{_≡_, refl, sym, ap, ap₂, _∙_}
 use mathlib.Core.Bool.{Bool, true, false, cond}
-use mathlib.Core.List.{List, [], _∷_}
-use mathlib.Core.Logic.{_⊎_, inl, inr}
+use mathlib.Core.List.{List, [], _∷_, _++_, append-assoc}
+use mathlib.Core.Logic.{_⊎_, inl, inr, _↔_}
 use native.Mathlib.Omega.{arith}
 use native.Mathlib.Nat.{mod-eq-of-lt}
 use lib.Dec.{ltb}
@@ -14,13 +14,14 @@ use Rattle.refusals.specs.declared.Refusal.{Refusal}
 use Rattle.refusals.specs.declared.Refusal.the-variants.{ReportMemory, TextLength, BadName}
 use Rattle.refusals.specs.declared.Refusal.the-variants as refusals
 use Rattle.refusals.specs.Refusals.{number, place}
-use Rattle.bounds.specs.Tree.{Report, accepted, refused}
+use Rattle.bounds.specs.Tree.{Report, accepted, refused, bound}
 use Rattle.bounds.specs.Tree as bounds
 use Rattle.findings.specs.declared.Found.{Found}
 use Rattle.findings.specs.Found.{Shows, acceptedAs}
 use Rattle.runs.specs.declared.Ran.{Ran}
 use Rattle.runs.specs.Contract.{judged, verdictOf}
-use Rattle.text.specs.Text.{lines}
+use Rattle.text.specs.Text.{lines, Line}
+use Rattle.routine.specs.Layout.{body}
 use Rattle.routine.specs.Routine.{readBound, readRun, textLimit}
 use Rattle.routine.specs.Routine as readings
 use Rattle.routine.proofs.RowLaws.{read-passes, run-passes, too-long}
@@ -29,24 +30,27 @@ use Rattle.refusals.specs.declared.Verdict.the-variants as verdicts
 use Rattle.refusals.specs.declared.Verdict.the-variants.{Accepted}
 use Rattle.report.specs.Report.{boundText}
 use Rattle.report.specs.Decode.{reportOf}
+use Rattle.listings.specs.Listing.{entries, listing}
 use Rattle.report.proofs.DecodeLaws.{report-of, report-of-run}
 use Rattle.answers.specs.Answers.{Answer, reported, memoryLimit, memory, answerOf, ofReading}
 use Rattle.answers.specs.Answers as answers
 use Rattle.answers.specs.declared.Answer as code
 use Rattle.answers.specs.declared.Answer.the-variants.{Reported, Refused}
-use Rattle.answers.proofs.AnswerLaws.{lent-short, reading-refused, reading-passed, lent-enough}
+use Rattle.answers.proofs.AnswerLaws.{lent-short, reading-refused, reading-passed, lent-enough, never}
 use Rattle.conversions.specs.Answers.{conversionLimit, importAnswer, exportAnswer}
 use Rattle.conversions.proofs.FunctionLaws.{import-reported, export-reported}
 use Rattle.conformance.specs.Answers.{replayAnswer}
 use Rattle.conformance.proofs.FunctionLaws.{replay-reported}
+use Rattle.explanations.specs.Answers.{explanationLimit, worstMoves, entryNames, explanationText, explained, explainRoutine, explainAnswer}
+use Rattle.explanations.proofs.Theorems.{explanations-fit, explain-place}
 use Rattle.patches.specs.Patch.{inCode, patched}
 use Rattle.patches.specs.Held.{within, copyAnswer}
 use Rattle.analyser.specs.Answers.{ofVerdict, boundRoutine, mergeRoutine, runRoutine, boundAnswer, mergeAnswer, runAnswer, previewAnswer}
 use Rattle.analyser.specs.Held.{Printable, judgedAs, foundAnswer}
 use Rattle.sensitivity.specs.Answers.{nearestAnswer}
 use Rattle.sensitivity.proofs.FunctionLaws.{nearest-reported, nearest-place}
-use Rattle.analyser.specs.Functions.{reportLength, Delivers, toldLength, wordOf, Tells, AnswerTold, AnswersTold}
-use Rattle.analyser.specs.Promises.{SafeReport, ExactReport, SafeMerge, ExactMerge, WithinReport, RunAccepted}
+use Rattle.analyser.specs.Functions.{reportLength, Delivers, toldLength, wordOf, Tells, AnswerTold, AnswersTold, ExplanationsTold}
+use Rattle.analyser.specs.Promises.{SafeReport, ExactReport, SafeMerge, ExactMerge, WithinReport, RunAccepted, ExplainsBound}
 use Rattle.analyser.specs.Refined.{MonotoneReport, KnownReport, MonotoneMerge, KnownMerge}
 use Rattle.analyser.proofs.AnswerLaws.{reports-kept, merges-kept, reports-fit, runs-kept, bound-reports-some, merge-reports-some, run-reports-some, places-small, preview-reports-some}
 use Rattle.analyser.proofs.RefinedLaws.{bounds-refined, merges-refined}
@@ -331,7 +335,7 @@ refusal-told (refusals.NoMeeting a) = refl
 
 -- a report of 1 to `most` bytes, or a refusal whose place has 32 bits
 record WithinLimits (most : ℕ) (a : Answer) : Type 0 where
-  small : most ≤ 32768
+  small : most ≤ 65536
   report : (bs : List ℕ) → a ≡ reported bs → (1 ≤ length bs) × (length bs ≤ most)
   refusal : (r : Refusal) → a ≡ answers.refused r → place r < 4294967296
 
@@ -395,6 +399,13 @@ nearest-limits text n = record {
   small = omega arith;
   report = λ bs e. let r = nearest-reported text n bs e in (r .0, r .1);
   refusal = λ r e. omega (arith, nearest-place text n r e);
+}
+
+explain-limits : (text : List ℕ) (n : ℕ) → WithinLimits explanationLimit (explainAnswer text n)
+explain-limits text n = record {
+  small = omega arith;
+  report = λ bs e. let r = explanations-fit text n bs e in (r .0, r .1);
+  refusal = λ r e. omega (arith, explain-place text n r e);
 }
 
 -- what holds of the number
@@ -461,6 +472,12 @@ module _ (text : List ℕ) (n : ℕ) where
 pub import-tells : (words primitives : List ℕ) (n w : ℕ) → w ≡ wordOf (answerOf (importAnswer words primitives n)) → Tells conversionLimit (importAnswer words primitives n) w
 import-tells words primitives n = tells (import-limits words primitives n)
 
+pub explanations-told : ExplanationsTold
+explanations-told text text′ n n′ = told explanationLimit _ _ (explain-limits text n) (explain-limits text′ n′)
+
+pub explain-tells : (text : List ℕ) (n w : ℕ) → w ≡ wordOf (answerOf (explainAnswer text n)) → Tells explanationLimit (explainAnswer text n) w
+explain-tells text n = tells (explain-limits text n)
+
 pub replay-tells : (text trace : List ℕ) (n w : ℕ) → w ≡ wordOf (answerOf (replayAnswer text trace n)) → Tells memoryLimit (replayAnswer text trace n) w
 replay-tells text trace n = tells (replay-limits text trace n)
 
@@ -470,3 +487,33 @@ preview-tells text instruction address n h = tells (preview-limits text instruct
 
 pub nearest-tells : (text : List ℕ) (n w : ℕ) → w ≡ wordOf (answerOf (nearestAnswer text n)) → Tells memoryLimit (nearestAnswer text n) w
 nearest-tells text n = tells (nearest-limits text n)
+
+-- ---- an explanation beside the bound
+
+-- of a reading, by its cases
+record Beside (a b : Answer) : Type 0 where
+  refuses : (r : Refusal) → (a ≡ answers.refused r) ↔ (b ≡ answers.refused r)
+  begins : (bs : List ℕ) → a ≡ reported bs → (report : List ℕ) × (rest : List ℕ) × (b ≡ reported report) × (bs ≡ report ++ rest)
+
+verdict-beside : (ls : List Line) (x : readings.Routine) (v : bounds.Verdict) → Beside (explained ls x v) (ofVerdict (boundText (x .tick)) v)
+unfolding explained ofVerdict explanationText
+verdict-beside ls x (accepted q) = record {
+  refuses = λ r. (λ e. never r _ (sym e), λ e. never r _ (sym e));
+  begins = λ bs e.
+      let f : explanationText ls x q ≡ bs = cc in
+      (boundText (x .tick) q, entryNames ++ listing ls (x .code .first) (entries (worstMoves x q)), refl, sym f ∙ append-assoc (boundText (x .tick) q) entryNames (listing ls (x .code .first) (entries (worstMoves x q))));
+}
+verdict-beside ls x (refused y) = record { refuses = λ r. (λ e. e, λ e. e); begins = λ bs e. never y bs e }
+
+reading-beside : (ls : List Line) (m : readings.Reading) → Beside (ofReading (explainRoutine ls) m) (ofReading boundRoutine m)
+unfolding ofReading explainRoutine boundRoutine
+reading-beside ls (readings.refused y) = record { refuses = λ r. (λ e. e, λ e. e); begins = λ bs e. never y bs e }
+reading-beside ls (readings.routine x) = verdict-beside ls x (bound (x .code) (x .budget) (x .start))
+
+pub explains-bound : ExplainsBound
+unfolding explainAnswer boundAnswer
+explains-bound text n h =
+    let a = lent-enough explanationLimit n (ofReading (explainRoutine (body (lines text))) (readBound text)) h in
+    let b = lent-enough memoryLimit n (ofReading boundRoutine (readBound text)) (omega arith) in
+    let k = reading-beside (body (lines text)) (readBound text) in
+    rw (a, b) (k .refuses, k .begins)

@@ -23,6 +23,8 @@ use Rattle.bounds.proofs.ForwardLaws as forward-laws
 use Rattle.report.proofs.ReportLaws.{share-nearest, share-unique}
 use Rattle.conversions.specs.Promises as conversions
 use Rattle.conversions.proofs.Theorems as conversion-theorems
+use Rattle.explanations.specs.Promises as explanations
+use Rattle.explanations.proofs.Theorems as explanation-theorems
 use Rattle.patches.specs.Promises as patches
 use Rattle.patches.proofs.Theorems as patch-theorems
 use Rattle.sensitivity.specs.Promises as sensitivity
@@ -140,6 +142,20 @@ places-small = answer-laws.places-small
 -- the number that C gets tells the answer
 pub answers-told : functions.AnswersTold
 answers-told = function-laws.answers-told
+
+-- ---- the explanation: what it lists (`explanations/specs/Promises`), that it fits, and the bound beside it
+
+pub explanations-kept : explanations.ExplanationsKept
+explanations-kept = explanation-theorems.explanations-kept
+
+pub explanations-fit : explanations.ExplanationsFit
+explanations-fit = explanation-theorems.explanations-fit
+
+pub explains-bound : answers.ExplainsBound
+explains-bound = function-laws.explains-bound
+
+pub explanations-told : functions.ExplanationsTold
+explanations-told = function-laws.explanations-told
 
 -- exporting and importing bring back the file's lines, and the words (`conversions/specs/Promises`)
 pub exports-import : conversions.ExportsImport

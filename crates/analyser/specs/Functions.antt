@@ -13,6 +13,7 @@ use Rattle.answers.specs.declared.Answer as code
 use Rattle.answers.specs.declared.Answer.the-variants.{Reported, Refused}
 use Rattle.conversions.specs.Answers.{importAnswer, exportAnswer}
 use Rattle.conformance.specs.Answers.{replayAnswer}
+use Rattle.explanations.specs.Answers.{explainAnswer}
 use Rattle.analyser.specs.Answers.{boundAnswer, mergeAnswer, runAnswer, previewAnswer}
 use Rattle.sensitivity.specs.Answers.{nearestAnswer}
 
@@ -59,3 +60,7 @@ AnswersTold =
     × ((text text′ instruction instruction′ : List ℕ) (address address′ n n′ : ℕ) → address < 4294967296 → address′ < 4294967296 →
     AnswerTold (previewAnswer text address instruction n) (previewAnswer text′ address′ instruction′ n′))
     × ((text text′ : List ℕ) (n n′ : ℕ) → AnswerTold (nearestAnswer text n) (nearestAnswer text′ n′))
+
+-- and of the explanation
+abbrev pub ExplanationsTold : Type 0
+ExplanationsTold = (text text′ : List ℕ) (n n′ : ℕ) → AnswerTold (explainAnswer text n) (explainAnswer text′ n′)

@@ -1,9 +1,9 @@
 -- What is promised of the answers to a text, as statements. `proofs/Theorems` proves each by its name.
 use mathlib.Core.Path.{_≡_}
 use mathlib.Core.Bool.{true}
-use mathlib.Core.List.{List}
+use mathlib.Core.List.{List, _++_}
 use mathlib.Core.Option.{Option, some}
-use mathlib.Core.Logic.{_⊎_}
+use mathlib.Core.Logic.{_⊎_, _↔_}
 use Prim.Native.Nat.{ℕ, _≤_}
 use lib.Dec.{ltb}
 use lib.IntN.{ℤ, pos}
@@ -32,6 +32,7 @@ use Rattle.inverses.specs.Sections.{replaced, primitivesLine}
 use Rattle.conversions.specs.Answers.{conversionLimit, importAnswer, exportAnswer}
 use Rattle.conversions.specs.Promises.{BeginsAtZero}
 use Rattle.conformance.specs.Answers.{replayAnswer}
+use Rattle.explanations.specs.Answers.{explanationLimit, explainAnswer}
 use Rattle.patches.specs.Patch.{patched}
 use Rattle.analyser.specs.Answers.{boundAnswer, mergeAnswer, runAnswer, previewAnswer}
 use Rattle.sensitivity.specs.Answers.{nearestAnswer}
@@ -195,3 +196,10 @@ WrittenReadsBack = (n : ℕ) → numeral (decimal n) ≡ number (pos n)
 -- SHARE is the nearest whole number, at an exact half the even one, and no other number is
 abbrev pub ShareNearest : Type 0
 ShareNearest = (tick cycles : ℕ) → 1 ≤ tick → Nearest tick cycles (share tick cycles) × ((n : ℕ) → Nearest tick cycles n → n ≡ share tick cycles)
+
+-- where enough is lent, an explanation is refused as the bound is, and begins with the bound's report
+abbrev pub ExplainsBound : Type 0
+ExplainsBound =
+    (text : List ℕ) (n : ℕ) → explanationLimit ≤ n →
+    ((r : Refusal) → (explainAnswer text n ≡ refused r) ↔ (boundAnswer text n ≡ refused r))
+    × ((bs : List ℕ) → explainAnswer text n ≡ reported bs → (report : List ℕ) × (rest : List ℕ) × (boundAnswer text n ≡ reported report) × (bs ≡ report ++ rest))

@@ -12,6 +12,7 @@ ghost use Rattle.answers.specs.Answers.{memoryLimit, memory, answerOf};
 ghost use Rattle.answers.specs.declared.Answer.the-variants.{Refused};
 ghost use Rattle.conversions.specs.Answers.{conversionLimit, importAnswer, exportAnswer};
 ghost use Rattle.conformance.specs.Answers.{replayAnswer};
+ghost use Rattle.explanations.specs.Answers.{explanationLimit, explainAnswer};
 ghost use Rattle.analyser.specs.Answers.{boundRoutine, mergeRoutine, runRoutine, boundAnswer, mergeAnswer, runAnswer, previewAnswer};
 ghost use Rattle.sensitivity.specs.Answers.{nearestAnswer};
 ghost use Rattle.analyser.specs.Functions.{reportLength, Delivers, wordOf, toldLength, Tells};
@@ -293,4 +294,15 @@ pub extern "C" fn tickbound_nearest(text: &[u8], out: &mut [u8]) -> u64
 {
     let nearest = sensitivity::nearest(text, out);
     word_of(nearest)
+}
+
+// `explanations::explain` for C.
+#[no_mangle]
+pub extern "C" fn tickbound_explain(text: &[u8], out: &mut [u8]) -> u64
+    ensures { λ r. ⌜ r ≡ wordOf (answerOf (explainAnswer (now (text .entry)) (length (now (out .entry))))) ⌝ }
+    ensures { λ _. ⌜ now (out .exit) ≡ memory (explainAnswer (now (text .entry)) (length (now (out .entry)))) (now (out .entry)) ⌝ }
+    ensures tells { λ r. ⌜ Tells explanationLimit (explainAnswer (now (text .entry)) (length (now (out .entry)))) r ⌝ }
+{
+    let explained = explanations::explain(text, out);
+    word_of(explained)
 }

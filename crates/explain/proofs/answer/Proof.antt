@@ -1,0 +1,30 @@
+-- `explain::answer` meets its contract: what is printed is what the answer and its memory say. Assumes nothing.
+use mathlib.Core.Path.{_∙_}
+use lib.ListN.{length}
+use borrow.Author.Needs.{needs}
+use Rattle.explanations.specs.Answers.{explainAnswer}
+use Rattle.console.proofs.PrintLaws.{line-held, line-printed}
+use Rattle.explain.proofs.answer.Statement.{statement}
+use Rattle.explain.proofs.answer.Tie as tie
+
+explain-requires : tie.Need-explain-requires
+explain-requires c κs = search needs
+
+put-line-requires : tie.Need-put-line-requires
+put-line-requires c κs =
+    let b = c .before .before .before in
+    let s = b .before .before .before .before in
+    line-held (explainAnswer (s .args .text .now) (length (s .args .out .now))) (s .args .out .now) (b .explain .ensures .0) (b .explain .ensures .1) (s .pre)
+
+same-length : tie.Need-same-length
+same-length c = search needs
+
+returns : tie.Need-returns
+returns c =
+    let l = c .before .before in
+    let b = l .before .before .before .before in
+    let s = b .before .before .before .before in
+    (l .put-line .ensures .0, l .put-line .ensures .1 ∙ line-printed (explainAnswer (s .args .text .now) (length (s .args .out .now))) (s .args .out .now) (b .explain .ensures .0) (b .explain .ensures .1))
+
+pub answer-spec : {M : Type 1} → statement M
+answer-spec = tie.close (tie.spec explain-requires put-line-requires same-length returns)
