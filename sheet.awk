@@ -145,10 +145,26 @@ function refused_sheet() {
 
 # ---- a routine with figures
 
-function inputs(    i, text) {
-    for (i = 1; i <= cells; i++)
-        text = text (text == "" ? "" : ", ") cell[i]
+# the cells that are unknown or ranges; names that follow each other are told by the first and the last
+function inputs(    i, text, last) {
+    for (i = 1; i <= groups; i++) {
+        last = prefix[i] high[i]
+        text = text (i > 1 ? ", " : "") (low[i] == high[i] ? "" : prefix[i] low[i] (high[i] == low[i] + 1 ? ", " : " to ")) last range[i]
+    }
     return text
+}
+
+function note_input(name, value,    number, before) {
+    number = name
+    sub(/.*[A-Z.]/, "", number)
+    before = substr(name, 1, length(name) - length(number))
+    if (groups && value == "?" && range[groups] == "" && prefix[groups] == before && number != "" && high[groups] + 1 == number) {
+        high[groups] = number
+        return
+    }
+    prefix[++groups] = before
+    low[groups] = high[groups] = number
+    range[groups] = value == "?" ? "" : "=" value
 }
 
 function figures_sheet(    spare, fits, text, i) {
@@ -164,7 +180,7 @@ function figures_sheet(    spare, fits, text, i) {
     say_line("Pulse margin", text "; SHARE " share (fits ? sprintf(", a margin of %d thousandths of the pulse", 1000 - share) : ""))
     say_line("Taken jumps", jumps == "" ? "no conditional branch is priced" : "extra cycles where it jumps: " jumps)
     say_line("Reserved block", "WORDS " words " and DEPTH " depth ": set aside " counted(words, "word", "words") " and " counted(depth, "stack entry", "stack entries"))
-    say_line("Client count", (cells ? "the figures hold for every number in: " inputs() : "every cell is known: the figures hold for these numbers alone") "; and for every answer of a primitive")
+    say_line("Client count", (groups ? "the figures hold for every number in: " inputs() : "every cell is known: the figures hold for these numbers alone") "; and for every answer of a primitive")
     if (which == "first")
         say_line("Which bound", "the first, which walks every path")
     else
@@ -206,21 +222,31 @@ function show_path(    i, j, part, wide) {
 }
 
 # the code, in as many columns and in such a size that it is on one sheet of paper with the rest; the worst path in bold, with its sums
-function show_code(    i, columns, size, room, part, told, longest) {
+function show_code(    i, columns, size, room, fits, part, told, text, longest) {
     for (i = 1; i <= lines; i++)
         if (length(code[i]) > longest)
             longest = length(code[i])
-    columns = lines <= 45 ? 1 : lines <= 120 ? 2 : lines <= 200 ? 3 : lines <= 400 ? 4 : 6
-    size = 9
-    room = 480 - 13 * int(length(inputs()) / 90)
-    while (size > 2 && (lines / columns * size * 1.15 > room || (longest + 22) * size * 0.61 > 530 / columns))
-        size -= 0.2
+    room = 470 - 13 * int(length(inputs()) / 90)
+    for (i = 1; i <= 12; i++) {
+        fits = 530 / i / ((longest + length(cycles) + 6) * 0.61)
+        if (fits > room / (int(lines / i) + 1) / 1.15)
+            fits = room / (int(lines / i) + 1) / 1.15
+        if (fits > 9)
+            fits = 9
+        if (fits > size + 0.05) {
+            size = fits
+            columns = i
+        }
+    }
+    size = int(size * 10) / 10
     printf "<div class=\"code\" style=\"columns:%d;font-size:%.1fpt\">", columns, size
     for (i = 1; i <= lines; i++) {
         split(code[i], part, " ")
         if (part[1] in step) {
             split(step[part[1]], told, " ")
-            printf "<b>&#9679; %s</b>\n", escaped(sprintf("%-" longest "s %" length(cycles) "s %s", code[i], told[1], told[2]))
+            text = sprintf("%-" longest "s %" length(cycles) "s %s", code[i], told[1], told[2])
+            sub(/ $/, "", text)
+            printf "<b>&#9679; %s</b>\n", escaped(text)
         } else
             printf "<span>  %s</span>\n", escaped(code[i])
     }
@@ -265,7 +291,7 @@ FILENAME == ARGV[2] && (FNR == 11 || FNR == 13) {
     for (i = 1; i <= NF; i++) {
         two = index($i, "..")
         if ($i == "?" || two && substr($i, 1, two - 1) != substr($i, two + 2))
-            cell[++cells] = cell_name[i] ($i == "?" ? "" : "=" $i)
+            note_input(cell_name[i], $i)
     }
 }
 FILENAME == ARGV[2] && FNR >= 15 {
