@@ -1,6 +1,6 @@
 # The field sheet of one routine, from what the programs print: read by `tickbound sheet`. NAME in the environment is the name of the
 # file. Assigned before: form (plain or html), which (first, merge or none: the bound that gave the figures), first and second (the refusals of the two bounds, or nothing)
-# and nearest (what the program of that name prints, or nothing). The files are the answer that has the figures and the routine file, which
+# and nearest (what the program of that name prints, the first bound's refusal where that has none, or nothing). The files are the answer that has the figures and the routine file, which
 # passed; neither of them where both bounds are refused.
 
 function escaped(text) {
@@ -185,7 +185,9 @@ function figures_sheet(    spare, fits, text, i) {
         say_line("Which bound", "the first, which walks every path")
     else
         say_line("Which bound", "the merging bound; the first is refused: " first ", " meaning(first) (fits ? "" : "; these figures may lie above the worst: fill in inputs that are known"))
-    if (nearest == "NONE")
+    if (nearest ~ /^REFUSED /)
+        say_line("Nearest number", "not known: it is asked of the first bound, which is refused")
+    else if (nearest == "NONE")
         say_line("Nearest number", "NONE: no cell moves the bound by a change of 64 or less")
     else if (nearest != "")
         say_line("Nearest number", nearest ": this is the smallest change of a known cell that moves the bound")

@@ -266,14 +266,16 @@ fn compare_explanations(tally: &mut Tally, programs: &Path, random: &mut Random)
     let mut texts: Vec<_> = examples.map(|path| (path.display().to_string(), std::fs::read(path).unwrap())).collect();
     texts.sort();
     texts.extend(cases().into_iter().chain(starred()).map(|text| (text.name.to_string(), text.bytes)));
+    texts.extend(explain::pinned().into_iter().map(|(text, _)| ("a pinned text".to_string(), text)));
     for (name, text) in &texts {
         let bound = bound_answer(text, MEMORY);
         let found = explained(random, text, &bound, Some(programs), &mut Explanations::default());
         tally.count(&format!("the explanation of {name}"), text, found);
     }
     for (text, wanted) in explain::pinned() {
-        let printed = explain::explain_answer(&text, explain::MEMORY).map_err(|_| Vec::new());
-        let found = if printed.as_deref() == Ok(wanted.as_bytes()) { Ok(()) } else { Err(format!("not as pinned: {wanted}")) };
+        let answer = explain::explain_answer(&text, explain::MEMORY);
+        let as_pinned = answer.is_ok_and(|lines| lines == wanted.as_bytes());
+        let found = if as_pinned { Ok(()) } else { Err(format!("not as pinned: {wanted}")) };
         tally.count("a pinned explanation", &text, found);
     }
 }
