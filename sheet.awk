@@ -1,7 +1,8 @@
 # The field sheet of one routine, from what the programs print: read by `tickbound sheet`. NAME in the environment is the name of the
-# file. Assigned before: form (plain or html), which (first, merge or none: the bound that gave the figures), first and second (the refusals of the two bounds, or nothing)
-# and nearest (what the program of that name prints, the first bound's refusal where that has none, or nothing). The files are the answer that has the figures and the routine file, which
-# passed; neither of them where both bounds are refused.
+# file. Assigned before: form (plain or html); which (first, merge or none: the bound that gave the figures); first and second (the first
+# lines of what the two bounds print, where they are refusals); nearest (what the program of that name prints, the first bound's refusal
+# where that has none, or nothing). The files are the answer that has the figures and the routine file, which passed; where both bounds
+# are refused there are none.
 
 function escaped(text) {
     gsub(/&/, "\\&amp;", text)

@@ -389,9 +389,11 @@ fn small_stack(tally: &mut Tally) {
             merge_answer(&longest, MEMORY),
         ),
     ];
-    for (name, kilobytes, text, function, wanted) in calls {
+    let explained = explain::explain_answer(&deepest, explain::MEMORY);
+    let explanation = ("an explanation on a stack of 256 KB", 256, deepest, analyser::explain as Function, explained);
+    for (name, kilobytes, text, function, wanted) in calls.into_iter().chain([explanation]) {
         let copy = text.clone();
-        let call = move || function(&copy, &mut [0; MEMORY]);
+        let call = move || function(&copy, &mut vec![0; explain::MEMORY]);
         let answer = std::thread::Builder::new().stack_size(kilobytes * 1024).spawn(call).unwrap().join().unwrap();
         let found = if answer == told(&wanted) { Ok(()) } else { Err("another answer".to_string()) };
         tally.count(name, &text, found);
