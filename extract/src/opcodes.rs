@@ -1,0 +1,139 @@
+//! The instructions of OCaml 4.13 in the order of their numbers (caml/instruct.h), and what to write in the place of those that are
+//! none of the 61 kinds.
+
+/// The argument words of an instruction.
+#[derive(Clone, Copy, PartialEq, Eq, Debug)]
+pub enum Words {
+    /// so many, none of them an offset
+    Plain(usize),
+    /// one, a number from 0 to the limit, in an instruction of the 61 kinds
+    Upto(i32),
+    /// one, a number of 31 bits, in an instruction of the 61 kinds
+    Number,
+    /// one, an offset from its own index
+    Offset,
+    /// a number, then an offset from its own index
+    NumberOffset,
+    /// one, the primitive called
+    Primitive,
+    /// how many values it keeps, and an offset from its own index
+    Closure,
+    /// how many functions, how many values, and an offset for each function, from the index of the first of them
+    Closures,
+    /// how many cases, and an offset for each, from the index of the first of them
+    Cases,
+}
+
+use Words::*;
+
+#[rustfmt::skip]
+pub const OPCODES: [(&str, Words); 149] = [
+    ("ACC0", Plain(0)), ("ACC1", Plain(0)), ("ACC2", Plain(0)), ("ACC3", Plain(0)),
+    ("ACC4", Plain(0)), ("ACC5", Plain(0)), ("ACC6", Plain(0)), ("ACC7", Plain(0)),
+    ("ACC", Upto(63)), ("PUSH", Plain(0)),
+    ("PUSHACC0", Plain(0)), ("PUSHACC1", Plain(0)), ("PUSHACC2", Plain(0)), ("PUSHACC3", Plain(0)),
+    ("PUSHACC4", Plain(0)), ("PUSHACC5", Plain(0)), ("PUSHACC6", Plain(0)), ("PUSHACC7", Plain(0)),
+    ("PUSHACC", Upto(63)), ("POP", Upto(64)), ("ASSIGN", Upto(63)),
+    ("ENVACC1", Plain(0)), ("ENVACC2", Plain(0)), ("ENVACC3", Plain(0)), ("ENVACC4", Plain(0)), ("ENVACC", Plain(1)),
+    ("PUSHENVACC1", Plain(0)), ("PUSHENVACC2", Plain(0)), ("PUSHENVACC3", Plain(0)), ("PUSHENVACC4", Plain(0)),
+    ("PUSHENVACC", Plain(1)),
+    ("PUSH_RETADDR", Offset), ("APPLY", Plain(1)), ("APPLY1", Plain(0)), ("APPLY2", Plain(0)), ("APPLY3", Plain(0)),
+    ("APPTERM", Plain(2)), ("APPTERM1", Plain(1)), ("APPTERM2", Plain(1)), ("APPTERM3", Plain(1)),
+    ("RETURN", Plain(1)), ("RESTART", Plain(0)), ("GRAB", Plain(1)),
+    ("CLOSURE", Closure), ("CLOSUREREC", Closures),
+    ("OFFSETCLOSUREM3", Plain(0)), ("OFFSETCLOSURE0", Plain(0)), ("OFFSETCLOSURE3", Plain(0)),
+    ("OFFSETCLOSURE", Plain(1)),
+    ("PUSHOFFSETCLOSUREM3", Plain(0)), ("PUSHOFFSETCLOSURE0", Plain(0)), ("PUSHOFFSETCLOSURE3", Plain(0)),
+    ("PUSHOFFSETCLOSURE", Plain(1)),
+    ("GETGLOBAL", Plain(1)), ("PUSHGETGLOBAL", Plain(1)), ("GETGLOBALFIELD", Plain(2)),
+    ("PUSHGETGLOBALFIELD", Plain(2)), ("SETGLOBAL", Plain(1)),
+    ("ATOM0", Plain(0)), ("ATOM", Plain(1)), ("PUSHATOM0", Plain(0)), ("PUSHATOM", Plain(1)),
+    ("MAKEBLOCK", Plain(2)), ("MAKEBLOCK1", Plain(1)), ("MAKEBLOCK2", Plain(1)), ("MAKEBLOCK3", Plain(1)),
+    ("MAKEFLOATBLOCK", Plain(1)),
+    ("GETFIELD0", Plain(0)), ("GETFIELD1", Plain(0)), ("GETFIELD2", Plain(0)), ("GETFIELD3", Plain(0)),
+    ("GETFIELD", Upto(15)), ("GETFLOATFIELD", Plain(1)),
+    ("SETFIELD0", Plain(0)), ("SETFIELD1", Plain(0)), ("SETFIELD2", Plain(0)), ("SETFIELD3", Plain(0)),
+    ("SETFIELD", Upto(15)), ("SETFLOATFIELD", Plain(1)),
+    ("VECTLENGTH", Plain(0)), ("GETVECTITEM", Plain(0)), ("SETVECTITEM", Plain(0)),
+    ("GETBYTESCHAR", Plain(0)), ("SETBYTESCHAR", Plain(0)),
+    ("BRANCH", Offset), ("BRANCHIF", Offset), ("BRANCHIFNOT", Offset), ("SWITCH", Cases), ("BOOLNOT", Plain(0)),
+    ("PUSHTRAP", Offset), ("POPTRAP", Plain(0)), ("RAISE", Plain(0)),
+    ("CHECK_SIGNALS", Plain(0)),
+    ("C_CALL1", Primitive), ("C_CALL2", Primitive), ("C_CALL3", Primitive), ("C_CALL4", Primitive),
+    ("C_CALL5", Primitive), ("C_CALLN", Plain(2)),
+    ("CONST0", Plain(0)), ("CONST1", Plain(0)), ("CONST2", Plain(0)), ("CONST3", Plain(0)), ("CONSTINT", Number),
+    ("PUSHCONST0", Plain(0)), ("PUSHCONST1", Plain(0)), ("PUSHCONST2", Plain(0)), ("PUSHCONST3", Plain(0)),
+    ("PUSHCONSTINT", Number),
+    ("NEGINT", Plain(0)), ("ADDINT", Plain(0)), ("SUBINT", Plain(0)), ("MULINT", Plain(0)), ("DIVINT", Plain(0)),
+    ("MODINT", Plain(0)),
+    ("ANDINT", Plain(0)), ("ORINT", Plain(0)), ("XORINT", Plain(0)), ("LSLINT", Plain(0)), ("LSRINT", Plain(0)),
+    ("ASRINT", Plain(0)),
+    ("EQ", Plain(0)), ("NEQ", Plain(0)), ("LTINT", Plain(0)), ("LEINT", Plain(0)), ("GTINT", Plain(0)),
+    ("GEINT", Plain(0)),
+    ("OFFSETINT", Number), ("OFFSETREF", Plain(1)), ("ISINT", Plain(0)),
+    ("GETMETHOD", Plain(0)),
+    ("BEQ", NumberOffset), ("BNEQ", NumberOffset), ("BLTINT", NumberOffset), ("BLEINT", NumberOffset),
+    ("BGTINT", NumberOffset), ("BGEINT", NumberOffset),
+    ("ULTINT", Plain(0)), ("UGEINT", Plain(0)),
+    ("BULTINT", NumberOffset), ("BUGEINT", NumberOffset),
+    ("GETPUBMET", Plain(2)), ("GETDYNMET", Plain(0)),
+    ("STOP", Plain(0)),
+    ("EVENT", Plain(0)), ("BREAK", Plain(0)),
+    ("RERAISE", Plain(0)), ("RAISE_NOTRACE", Plain(0)),
+    ("GETSTRINGCHAR", Plain(0)),
+];
+
+/// For an instruction that is none of the 61 kinds, RETURN aside, which becomes STOP: what it is in a source, and what to write
+/// instead.
+pub fn instead(name: &str) -> Option<(&'static str, &'static str)> {
+    let name = name.strip_prefix("PUSH").filter(|rest| !rest.is_empty() && name != "PUSHTRAP").unwrap_or(name);
+    let of = |prefixes: &[&str]| prefixes.iter().any(|prefix| name.starts_with(prefix));
+    Some(if of(&["ENVACC"]) {
+        ("a value defined outside the function", "give it as an argument or as a field of a record")
+    } else if of(&["OFFSETCLOSURE"]) {
+        ("a recursive function", "write its turns one after another")
+    } else if of(&["_RETADDR", "APPLY", "APPTERM"]) {
+        ("a call of an OCaml function", "write its body in the place of the call, or declare an external")
+    } else if of(&["RESTART", "GRAB", "CLOSURE"]) {
+        ("a function within the function", "write its body in the place of its calls")
+    } else if of(&["GETGLOBAL", "SETGLOBAL"]) {
+        ("a value of a module or a constant that is no int", "give it as an argument or as a field of a record")
+    } else if of(&["MAKEBLOCK", "MAKEFLOATBLOCK", "ATOM"]) {
+        (
+            "an allocation (a tuple, a record, a ref that is kept)",
+            "set the fields of a record that is an argument; a ref stays in a local variable if it is compiled without -g",
+        )
+    } else if of(&["GETFLOATFIELD", "SETFLOATFIELD"]) {
+        ("a field of type float", "give it type int")
+    } else if of(&["VECT", "GETVECT", "SETVECT", "GETBYTES", "SETBYTES", "GETSTRING"]) {
+        ("an array or a string", "use the fields of a record")
+    } else if of(&["SWITCH", "ISINT"]) {
+        ("a match", "use if, with comparisons of arguments or fields")
+    } else if of(&["TRAP", "PUSHTRAP", "POPTRAP", "RAISE", "RERAISE"]) {
+        ("an exception", "tell by a result of type int")
+    } else if of(&["CHECK_SIGNALS"]) {
+        ("a loop", "write its turns one after another")
+    } else if of(&["C_CALLN"]) {
+        ("an external with more than five arguments", "give it at most five")
+    } else if of(&["MULINT", "DIVINT", "MODINT", "ANDINT", "ORINT", "XORINT", "LSLINT", "LSRINT", "ASRINT"]) {
+        ("arithmetic that the card does not have", "use sums and differences, or declare an external")
+    } else if of(&["OFFSETREF"]) {
+        (
+            "incr or decr of a ref that is kept",
+            "add to a field; a ref stays in a local variable if it is compiled without -g",
+        )
+    } else if of(&["GETMETHOD", "GETPUBMET", "GETDYNMET"]) {
+        ("a call of a method", "write its body in the place of the call, or declare an external")
+    } else if of(&["BEQ", "BNEQ", "BLTINT", "BLEINT", "BGTINT", "BGEINT", "BULTINT", "BUGEINT"]) {
+        (
+            "a comparison with a constant, fused with its branch",
+            "give the limit as an argument or as a field of a record",
+        )
+    } else if of(&["ULTINT", "UGEINT"]) {
+        ("a comparison without sign", "compare arguments or fields of type int")
+    } else if of(&["EVENT", "BREAK"]) {
+        ("no instruction of a function", "compile the source again")
+    } else {
+        return None;
+    })
+}
