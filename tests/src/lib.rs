@@ -1,5 +1,5 @@
 //! Document 01 and the change requests that have landed (`docs/CHANGES.md`), implemented a second time from their text alone, in plain
-//! Rust; generators of routine files, of words, of traces and of previews; and the analyser's C functions, to be compared.
+//! Rust; generators of routine files, of words, of traces and of previews and of functions in OCaml; and the analyser's C functions, to be compared.
 pub mod analyser;
 pub mod bound;
 pub mod cases;
@@ -8,6 +8,7 @@ pub mod compiled;
 pub mod damage;
 pub mod draft;
 pub mod explain;
+pub mod functions;
 pub mod generate;
 pub mod machine;
 pub mod merge;
