@@ -1,5 +1,6 @@
 //! Document 01 and the change requests that have landed (`docs/CHANGES.md`), implemented a second time from their text alone, in plain
-//! Rust; generators of routine files, of words, of traces and of previews and of functions in OCaml; and the analyser's C functions, to be compared.
+//! Rust; generators of routine files, of words, of traces, of previews and of functions in OCaml; and the analyser's C functions, to be
+//! compared.
 pub mod analyser;
 pub mod bound;
 pub mod cases;
@@ -13,12 +14,12 @@ pub mod generate;
 pub mod machine;
 pub mod merge;
 pub mod merge_cases;
-pub mod preview;
-pub mod preview_cases;
-pub mod preview_draft;
 pub mod nearest;
 pub mod nearest_cases;
 pub mod nearest_draft;
+pub mod preview;
+pub mod preview_cases;
+pub mod preview_draft;
 pub mod random;
 pub mod range;
 pub mod range_cases;

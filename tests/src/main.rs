@@ -9,8 +9,8 @@ mod handles;
 mod imports;
 mod jumps;
 mod merges;
-mod nearests;
 mod narrowed;
+mod nearests;
 mod pinned;
 mod previews;
 mod ranges;
@@ -32,11 +32,11 @@ use independent::damage::damaged;
 use independent::explain;
 use independent::generate::draft;
 use independent::merge_cases::{self, merges, MERGES};
-use independent::preview_cases;
-use independent::preview_draft::{instruction_at, preview};
 use independent::nearest::nearest_answer;
 use independent::nearest_cases;
 use independent::nearest_draft;
+use independent::preview_cases;
+use independent::preview_draft::{instruction_at, preview};
 use independent::random::Random;
 use independent::range_cases::{self, ranges, RANGES};
 use independent::replay_cases;
@@ -47,9 +47,11 @@ use independent::word_cases::{self, CASES};
 use independent::word_draft;
 use jumps::Jumps;
 use merges::Merges;
-use nearests::{compare_nearest, nearest_by_program, Nearests};
 use narrowed::Narrowed;
-use pinned::{pinned, pinned_export, pinned_import, pinned_merge, pinned_preview, pinned_range, pinned_nearest, pinned_replay};
+use nearests::{compare_nearest, nearest_by_program, Nearests};
+use pinned::{
+    pinned, pinned_export, pinned_import, pinned_merge, pinned_nearest, pinned_preview, pinned_range, pinned_replay,
+};
 use previews::{compare_preview, preview_by_program, Previews};
 use ranges::Ranges;
 use replays::{replay_by_program, replayed};
@@ -328,14 +330,15 @@ fn compare_program_files(tally: &mut Tally) {
 
 /// Files enough that every kind, every refusal of a text, every use of an extra, every pair with a handle, every operation that wraps,
 /// SHARE on each side of a half, every jump, every meeting of ways, every use of a range, every figure that falls where more is known,
-/// every cause, every way in which a trace compares, all that a patch may come to and every way in which a number moves the bound must come up.
+/// every cause, every way in which a trace compares, all that a patch may come to and every way in which a number moves the bound must
+/// come up.
 const MANY: u64 = 5_000;
 
 /// Whether what was compared had all kinds in accepted code and in accepted words, reports, each refusal of a text, extras wherever they
 /// count, handles in operations on two cells, numbers that wrap and numbers just outside their range, SHARE at a half and next to it,
 /// jumps forward and backward, ways that meet and ways that do not, ranges in cells, operations and conditions, figures that fall where
-/// more is known, files that know all, each cause by which words are refused, traces that agree, differ and are refused by each cause, previews with a report or a refusal of each kind, and changes of
-/// a number that move the bound in each way, and none that do.
+/// more is known, files that know all, each cause by which words are refused, traces that agree, differ and are refused by each cause,
+/// previews with a report or a refusal of each kind, and changes of a number that move the bound in each way, and none that do.
 fn covers(tally: &Tally) -> Result<(), String> {
     let missing: Vec<u32> = (0..=14).filter(|n| ![10, 12].contains(n) && !tally.answers.contains_key(n)).collect();
     let of_words = tally.causes.counts().into_iter().chain(tally.traces.counts());
@@ -357,8 +360,8 @@ fn covers(tally: &Tally) -> Result<(), String> {
     }
 }
 
-/// The stack that the header asks for is enough, at 32 openings of a bound and of a search, and for a merging bound of 1,024 lines: a call that needs more ends this
-/// program.
+/// The stack that the header asks for is enough, at 32 openings of a bound, of a preview, of a search and of an explanation, and for a
+/// merging bound of 1,024 lines: a call that needs more ends this program.
 fn small_stack(tally: &mut Tally) {
     let deepest = cases().into_iter().find(|text| text.name == "openings_32").unwrap().bytes;
     let longest = merges().into_iter().find(|text| text.name == "tests_in_1024_lines").unwrap().bytes;

@@ -2,15 +2,15 @@
 //! programs must give these.
 use crate::compare::{by_programs, compare, file, shown};
 use crate::imports::{export_by_program, exported, import_by_program, imported};
-use crate::previews::{compare_preview, preview_by_program};
 use crate::nearests::{compare_nearest, nearest_by_program};
+use crate::previews::{compare_preview, preview_by_program};
 use crate::replays::{compare_replay, replay_by_program};
 use independent::analyser::{self, Function};
 use independent::change::{Bounds, Text, Three};
 use independent::merge_cases;
-use independent::preview::{preview_answer, Preview};
 use independent::nearest::nearest_answer;
 use independent::nearest_cases::Case as NearestCase;
+use independent::preview::{preview_answer, Preview};
 use independent::random::Random;
 use independent::replay::replay_answer;
 use independent::report::{bound_answer, merge_answer, printed, run_answer, Answer};
