@@ -33,7 +33,7 @@ use Rattle.generator.specs.declared.Column.{Column}
 use Rattle.generator.specs.declared.Column.the-variants.{Names, Limits, Cycles, Words, Extras, Handles, Known, Open}
 use Rattle.generator.specs.Draws.{next, after}
 use Rattle.generator.specs.Words.{rowFrom, row}
-use Rattle.generator.specs.File.{count, kindOf, accesses, isOpen, primitives, codeLine, codeFrom, plainCells, cellsFor, later, prices, cellNames, fieldNames, start, file}
+use Rattle.generator.specs.File.{count, kindOf, accesses, isOpen, primitives, codeLine, codeFrom, plainCells, cellsFor, later, limitLines, kindPrices, primitivePrices, prices, cellNames, fieldNames, start, file}
 use Rattle.generator.proofs.WordLaws.{Plain, spaced, rowWords, row-length, row-last, row-more, row-short}
 use Rattle.generator.proofs.RowLaws.{spaced-free, words-spaced, list-spaced, words-filled, value-decimal, limits-laid, cycles-laid, words-laid, extras-laid, limits-ranged, cycles-ranged, words-ranged, extras-ranged, names-row, Fit, fit-cells, cells-laid, cells-ranged, cells-present, row-plain}
 use Rattle.generator.proofs.CodeLaws.{count-few, codeText, code-line, code-free, code-short, code-words, code-no-answer, Listing, code-laid-out, code-in-range, code-named, code-priced, code-reaches, code-forward}
@@ -314,7 +314,7 @@ fields-text = refl
 
 -- the parts of the file, and its lines, with those of the code last
 regroup : (a b c d e f g h i j k l m n o p q : List ℕ)
-    → (a ++ b ++ c ++ d ++ e ++ f ++ g ++ h ++ i) ++ (j ++ k ++ l ++ m ++ n ++ o) ++ p ++ q
+    → ((a ++ b ++ c) ++ (d ++ e ++ f) ++ (g ++ h ++ i)) ++ (j ++ k ++ l ++ m ++ n ++ o) ++ p ++ q
     ≡ a ++ (b ++ (c ++ (d ++ (e ++ (f ++ (g ++ (h ++ (i ++ (j ++ ((k ++ l) ++ (m ++ ((n ++ o) ++ (p ++ q)))))))))))))
 regroup a b c d e f g h i j k l m n o p q = simp append-assoc
 
@@ -356,7 +356,7 @@ module _ (seed : ℕ) where
       ∷ bytes "AT OP ARG" ∷ code
 
   file-cat : file seed ≡ cat parts
-  unfolding file prices start cat parts
+  unfolding file prices limitLines kindPrices primitivePrices start cat parts
   file-cat =
       ap (λ t. prices seed ++ start seed ++ bytes "AT OP ARG\n" ++ t) (code-cat seed 0 (suc (count seed)))
       ∙ regroup (bytes "BUDGET TICK\n") (row Limits 2 false (later seed 0)) (row Names 61 false 0) (row Cycles 61 false (later seed 2)) (row Words 61 false (later seed 63))
@@ -608,7 +608,7 @@ module _ (seed : ℕ) where
 
 -- ---- its length
 
-nine : (a b c d e f g h i : List ℕ) → length (a ++ b ++ c ++ d ++ e ++ f ++ g ++ h ++ i) ≡ length a + length b + length c + length d + length e + length f + length g + length h + length i
+nine : (a b c d e f g h i : List ℕ) → length ((a ++ b ++ c) ++ (d ++ e ++ f) ++ (g ++ h ++ i)) ≡ (length a + length b + length c) + (length d + length e + length f) + (length g + length h + length i)
 nine a b c d e f g h i = simp length-append
 
 six : (a b c d e f : List ℕ) → length (a ++ b ++ c ++ d ++ e ++ f) ≡ length a + length b + length c + length d + length e + length f
@@ -618,7 +618,7 @@ four : (a b c d : List ℕ) → length (a ++ b ++ c ++ d) ≡ length a + length 
 four a b c d = simp length-append
 
 pub prices-short : (seed : ℕ) → length (prices seed) ≤ 3400
-unfolding prices
+unfolding prices limitLines kindPrices primitivePrices
 prices-short seed =
     let e = nine (bytes "BUDGET TICK\n") (row Limits 2 false (later seed 0)) (row Names 61 false 0) (row Cycles 61 false (later seed 2)) (row Words 61 false (later seed 63))
     (row Extras 61 false (later seed 124)) (bytes "READ WRITE CLOCK NOISE\n") (row Cycles 4 false (later seed 185)) (row Words 4 false (later seed 189)) in

@@ -27,7 +27,7 @@ below-under n d h = let q = div-le-self (d % n) (suc (d / n % 8)) in let r = mod
 -- ---- ranges
 
 -- a range that begins at 0 or below it, and ends at 0 or above it, with ends that are numbers
-abbrev startsLow : ℤ → Bool
+abbrev pub startsLow : ℤ → Bool
 startsLow (pos zero) = true
 startsLow (pos (suc n)) = false
 startsLow (negsuc n) = true

@@ -75,12 +75,21 @@ cellsFor seed k = cond (accesses (kindOf seed k)) Handles (plainCells seed)
 abbrev pub later : ℕ → ℕ → ℕ
 later seed i = after (1 + 2 * count seed + i) seed
 
--- lines 1 to 9: the limits, all kinds with their prices and extras, the primitives with theirs
+-- lines 1 to 3: the limits, and all kinds
+unfoldable pub limitLines : ℕ → List ℕ
+limitLines seed = bytes "BUDGET TICK\n" ++ row Limits 2 false (later seed 0) ++ row Names 61 false 0
+
+-- lines 4 to 6: the prices of the kinds, and their extras
+unfoldable pub kindPrices : ℕ → List ℕ
+kindPrices seed = row Cycles 61 false (later seed 2) ++ row Words 61 false (later seed 63) ++ row Extras 61 false (later seed 124)
+
+-- lines 7 to 9: the primitives with their prices
+unfoldable pub primitivePrices : ℕ → List ℕ
+primitivePrices seed = bytes "READ WRITE CLOCK NOISE\n" ++ row Cycles 4 false (later seed 185) ++ row Words 4 false (later seed 189)
+
+-- lines 1 to 9
 unfoldable pub prices : ℕ → List ℕ
-prices seed =
-    bytes "BUDGET TICK\n" ++ row Limits 2 false (later seed 0)
-    ++ row Names 61 false 0 ++ row Cycles 61 false (later seed 2) ++ row Words 61 false (later seed 63) ++ row Extras 61 false (later seed 124)
-    ++ bytes "READ WRITE CLOCK NOISE\n" ++ row Cycles 4 false (later seed 185) ++ row Words 4 false (later seed 189)
+prices seed = limitLines seed ++ kindPrices seed ++ primitivePrices seed
 
 -- the names on line 10 and on line 12: 32 entries, and two blocks of 16 fields
 abbrev pub cellNames : List ℕ
