@@ -7,7 +7,7 @@ use Prim.Native.Nat.{ℕ, zero, suc, _+_, _/_, _%_, _<_, _≤_}
 use native.Mathlib.Omega.{arith}
 use lib.Dec.{eqb, leb, ltb}
 use lib.IntN.{ℤ, pos}
-use lib.ListN.{length, getD, drop}
+use lib.ListN.{length, getD, take, drop}
 use borrow.Author.Tests.{eqb-true, le-leb, lt-ltb}
 use Rattle.text.specs.Text.{bytes, isEmpty, equals, split, words, among, all}
 use Rattle.text.specs.declared.Numeral.the-variants.{Misspelt as misspelt, Number as number}
@@ -22,15 +22,16 @@ use Rattle.words.specs.Lines.{integer}
 use Rattle.routine.specs.declared.CellWord.the-variants.{Unknown as unknown, Known as known, Block as block}
 use Rattle.routine.specs.declared.Column.the-variants.{Limit as limit, Cycles as cycles, Words as words-column, Extra as extra, Cell as cell}
 use Rattle.routine.specs.Layout.{list}
-use Rattle.routine.specs.Rows.{isNumeral, valueOf, value, knownOf, blockOf, hashed, cellWord, isCell, handles, cellInRange, cellPresent, budgets, ticks, cycleCounts, wordCounts, extraCounts, noExtra, extraRange, extrasInRange, columnInRange, columnLaidOut}
+use Rattle.routine.specs.Rows.{isNumeral, valueOf, value, knownOf, blockOf, spanOf, stop, spanned, hashed, cellWord, isCell, handles, cellInRange, cellPresent, budgets, ticks, cycleCounts, wordCounts, extraCounts, noExtra, extraRange, extrasInRange, columnInRange, columnLaidOut}
 use Rattle.inverses.proofs.SpellingLaws.{integer-read}
 use Rattle.inverses.proofs.JoinLaws.{Free, split-alone, split-first}
+use Rattle.inverses.proofs.LineLaws.{decimal-free}
 use Rattle.generator.specs.declared.Column.{Column}
 use Rattle.generator.specs.declared.Column.the-variants.{Names, Limits, Cycles, Words, Extras, Handles, Known, Open}
 use Rattle.generator.specs.Draws.{next}
 use Rattle.generator.specs.Words.{numberIn, spread, amount, handleWord, numberWord, openWord, word}
 use Rattle.generator.proofs.NumberLaws.{numbers-sound, number-within}
-use Rattle.generator.proofs.WordLaws.{Plain, amount-under, spaced, rowWords, row-every, plain-word}
+use Rattle.generator.proofs.WordLaws.{Plain, integer-free, amount-under, spaced, rowWords, row-every, plain-word}
 
 -- ---- words with spaces between them
 
@@ -186,22 +187,34 @@ pub record Fit (w : List ℕ) : Type 0 where
 not-spelt : {X : Type 0} (z : ℤ) → misspelt ≡ number z → X
 not-spelt z e = let q : _≡_ {A = ℕ} 0 1 = cc in absurd (omega arith)
 
--- a number is no `?` and no handle
-spelt-cell : (w : List ℕ) (z : ℤ) → numeral w ≡ number z → cellWord w ≡ known z
+-- without a full stop it is no range
+past : (w : List ℕ) → getD w (length w) 0 ≡ 0
+past [] = refl
+past (x ∷ w) = past w
+
+spanned-alone : (w : List ℕ) → Free 46 w → spanned w ≡ knownOf (numeral w)
+unfolding spanned
+spanned-alone w h =
+    let e : stop w ≡ length w = ap (λ ws. length (getD ws 0 [])) (split-alone 46 h) in
+    let p : eqb (getD w (stop w) 0) 46 ≡ false = ap (λ (k : ℕ). eqb (getD w k 0) 46) e ∙ ap (λ (b : ℕ). eqb b 46) (past w) in
+    ap (λ (b : Bool). cond (b && eqb (getD w (stop w + 1) 0) 46) (spanOf (numeral (take (stop w) w)) (numeral (drop (stop w + 2) w))) (knownOf (numeral w))) p
+
+-- a number is no `?`, no handle and no range
+spelt-cell : (w : List ℕ) (z : ℤ) → Free 46 w → numeral w ≡ number z → cellWord w ≡ known z
 unfolding cellWord hashed knownOf equals numeral natural digitsFrom
-spelt-cell [] z e = not-spelt z e
-spelt-cell (d ∷ ds) z e = go (eqb d 63) refl (eqb d 35) refl
+spelt-cell [] z h e = not-spelt z e
+spelt-cell (d ∷ ds) z h e = go (eqb d 63) refl (eqb d 35) refl
   where
     go : (a : Bool) → eqb d 63 ≡ a → (b : Bool) → eqb d 35 ≡ b
-        → cond (cond a (equals ds []) false) unknown (cond b (blockOf (numeral ds)) (knownOf (numeral (d ∷ ds)))) ≡ known z
+        → cond (cond a (equals ds []) false) unknown (cond b (blockOf (numeral ds)) (spanned (d ∷ ds))) ≡ known z
     go true p b q = not-spelt z (subst (λ x. numeral (x ∷ ds) ≡ number z) (eqb-true d 63 p) e)
     go false p true q = not-spelt z (subst (λ x. numeral (x ∷ ds) ≡ number z) (eqb-true d 35 q) e)
-    go false p false q = ap knownOf e
+    go false p false q = spanned-alone (d ∷ ds) h ∙ ap knownOf e
 
-fit-number : (w : List ℕ) (z : ℤ) → numeral w ≡ number z → within numbers z ≡ true → Fit w
+fit-number : (w : List ℕ) (z : ℤ) → Free 46 w → numeral w ≡ number z → within numbers z ≡ true → Fit w
 unfolding isCell cellInRange cellPresent
-fit-number w z e h =
-    let c = spelt-cell w z e in
+fit-number w z f e h =
+    let c = spelt-cell w z f e in
     record { laid = ap isCell c; ranged = ap cellInRange c ∙ h; present = ap (cellPresent 2) c }
 
 fit-handle : (d : ℕ) → Fit (handleWord d)
@@ -216,8 +229,8 @@ unfolding numberWord
 fit-known d = go (eqb (d / 2 % 2) 0)
   where
     go : (b : Bool) → Fit (cond b (decimal (d / 4 % 8)) (integer (numberIn numbers d)))
-    go true = fit-number (decimal (d / 4 % 8)) (pos (d / 4 % 8)) (decimal-read (d / 4 % 8)) (le-leb (d / 4 % 8) 1073741823 (omega arith))
-    go false = fit-number (integer (numberIn numbers d)) (numberIn numbers d) (integer-read (numberIn numbers d)) (number-within numbers d numbers-sound)
+    go true = fit-number (decimal (d / 4 % 8)) (pos (d / 4 % 8)) (decimal-free 46 (omega arith) (d / 4 % 8)) (decimal-read (d / 4 % 8)) (le-leb (d / 4 % 8) 1073741823 (omega arith))
+    go false = fit-number (integer (numberIn numbers d)) (numberIn numbers d) (integer-free 46 (λ e. omega arith) (omega arith) (numberIn numbers d)) (integer-read (numberIn numbers d)) (number-within numbers d numbers-sound)
 
 fit-open : (d : ℕ) → Fit (openWord d)
 unfolding openWord isCell cellInRange cellPresent cellWord equals

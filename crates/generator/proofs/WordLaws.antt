@@ -44,15 +44,15 @@ unfolding numeral
 spelt-some [] z e = let q : _≡_ {A = ℕ} 0 1 = cc in absurd (omega arith)
 spelt-some (d ∷ ds) z e = refl
 
-integer-free : (c : ℕ) → c < 45 → (z : ℤ) → Free c (integer z)
+pub integer-free : (c : ℕ) → (45 ≡ c → ⊥) → c < 48 → (z : ℤ) → Free c (integer z)
 unfolding integer
-integer-free c h (pos n) = decimal-free c (omega arith) n
-integer-free c h (negsuc n) = more {x = 45} (λ (e : 45 ≡ c). omega arith) (decimal-free c (omega arith) (suc n))
+integer-free c m h (pos n) = decimal-free c h n
+integer-free c m h (negsuc n) = more {x = 45} m (decimal-free c h (suc n))
 
 pub plain-integer : (z : ℤ) → length (integer z) ≤ 11 → Plain (integer z)
 plain-integer z h = record {
-  spaceless = integer-free 32 (omega arith) z;
-  feedless = integer-free 10 (omega arith) z;
+  spaceless = integer-free 32 (λ e. omega arith) (omega arith) z;
+  feedless = integer-free 10 (λ e. omega arith) (omega arith) z;
   filled = spelt-some (integer z) z (integer-read z);
   short = omega arith;
 }
