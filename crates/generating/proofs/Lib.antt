@@ -1,0 +1,4 @@
+pub mod RowingLaws
+pub mod NumberInLaws
+pub mod CellLaws
+pub mod FunctionLaws

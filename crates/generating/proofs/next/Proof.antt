@@ -1,0 +1,12 @@
+-- `generating::next` meets its contract. Assumes nothing.
+use mathlib.Core.Path.{refl}
+use Rattle.generator.specs.Draws.{next}
+use Rattle.generating.proofs.next.Statement.{statement}
+use Rattle.generating.proofs.next.Tie as tie
+
+returns : tie.Need-returns
+unfolding next
+returns c = refl
+
+pub next-spec : {M : Type 1} → statement M
+next-spec = tie.close (tie.spec returns)

@@ -1,0 +1,39 @@
+-- `generating::put_open` meets its contract. Assumes nothing.
+use Rattle.imports.proofs.LineLaws.{put-as}
+use Rattle.generating.proofs.CellLaws.{open-word, closed-word}
+use borrow.Author.Needs.{needs}
+use Rattle.generating.proofs.put_open.Statement.{statement}
+use Rattle.generating.proofs.put_open.Tie as tie
+
+slice-aggregate-put : tie.Need-slice-aggregate-put
+slice-aggregate-put c = search needs
+
+put-requires : tie.Need-put-requires
+put-requires c κs = search needs
+
+same-length : tie.Need-same-length
+same-length c = search needs
+
+returns : tie.Need-returns
+returns c = let p = c .before .before in let s = p .before .before .before .before .before in put-as _ _ (open-word (s .args .d) (p .before .before .before .if1 .taken)) (p .put .ensures)
+
+put-number-requires : tie.Need-put-number-requires
+put-number-requires c κs = search needs
+
+same-length-2 : tie.Need-same-length-2
+same-length-2 c = search needs
+
+returns-2 : tie.Need-returns-2
+returns-2 c = let p = c .before .before in let s = p .before .before .before .before in put-as _ _ (closed-word (s .args .d) (p .before .before .if1 .left)) (p .put-number .ensures)
+
+pub put-open-spec : {M : Type 1} → statement M
+put-open-spec =
+    tie.close
+    (tie.spec
+    slice-aggregate-put
+    put-requires
+    same-length
+    returns
+    put-number-requires
+    same-length-2
+    returns-2)

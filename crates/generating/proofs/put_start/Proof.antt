@@ -1,0 +1,89 @@
+-- `generating::put_start` meets its contract. Assumes nothing.
+use mathlib.Core.Path.{sym, ap}
+use mathlib.Core.Bool.{true, false}
+use native.Mathlib.Omega.{arith}
+use Rattle.text.proofs.MemoryLaws.{wrote-none, wrote-more}
+use Rattle.imports.proofs.LineLaws.{put-as}
+use Rattle.generator.specs.declared.Column.the-variants.{Handles}
+use Rattle.generator.specs.Words.{row}
+use Rattle.generator.specs.File.{cellsFor, plainCells, later, cellNames, fieldNames, start}
+use borrow.Author.Needs.{needs}
+use Rattle.generating.proofs.put_start.Statement.{statement}
+use Rattle.generating.proofs.put_start.Tie as tie
+
+cells-for-requires : tie.Need-cells-for-requires
+cells-for-requires c κs = search needs
+
+cells-for-requires-2 : tie.Need-cells-for-requires-2
+cells-for-requires-2 c κs = search needs
+
+plain-cells-requires : tie.Need-plain-cells-requires
+plain-cells-requires c κs = search needs
+
+slice-aggregate-put : tie.Need-slice-aggregate-put
+slice-aggregate-put c = search needs
+
+put-requires : tie.Need-put-requires
+put-requires c κs = search needs
+
+put-values-requires : tie.Need-put-values-requires
+put-values-requires c κs = search needs
+
+put-values-requires-2 : tie.Need-put-values-requires-2
+put-values-requires-2 c κs = search needs
+
+slice-aggregate-put-2 : tie.Need-slice-aggregate-put-2
+slice-aggregate-put-2 c = search needs
+
+put-requires-2 : tie.Need-put-requires-2
+put-requires-2 c κs = search needs
+
+put-values-requires-3 : tie.Need-put-values-requires-3
+put-values-requires-3 c κs = search needs
+
+put-values-requires-4 : tie.Need-put-values-requires-4
+put-values-requires-4 c κs = let s = c .before .before .before .before .before .before .before .before .before .before .before .before .before .before .before .before .before .before .before .before .before .before .before .before .before .before .before in (s .pre .0, s .pre .1, omega arith, omega arith, omega (arith, s .pre .2, c .before .before .before .put-values3 .ensures .1 .1, c .before .before .before .put-values3 .kept .0, c .before .before .before .before .before .before .before .put2 .ensures .0, c .before .before .before .before .before .before .before .put2 .kept .0, c .before .before .before .before .before .before .before .before .before .before .before .before .put-values2 .ensures .1 .1, c .before .before .before .before .before .before .before .before .before .before .before .before .put-values2 .kept .0, c .before .before .before .before .before .before .before .before .before .before .before .before .before .before .before .before .put-values .ensures .1 .1, c .before .before .before .before .before .before .before .before .before .before .before .before .before .before .before .before .put-values .kept .0, c .before .before .before .before .before .before .before .before .before .before .before .before .before .before .before .before .before .before .before .before .put .ensures .0, c .before .before .before .before .before .before .before .before .before .before .before .before .before .before .before .before .before .before .before .before .put .kept .0))
+
+same-length : tie.Need-same-length
+same-length c = search needs
+
+returns : tie.Need-returns
+unfolding start
+returns c =
+    let p4 = c .before .before in
+    let p3 = p4 .before .before .before .before in
+    let t2 = p3 .before .before .before .before in
+    let p2 = t2 .before .before .before .before .before in
+    let p1 = p2 .before .before .before .before in
+    let t1 = p1 .before .before .before .before in
+    let f3 = t1 .before .before .before in
+    let f2 = f3 .before in
+    let f1 = f2 .before in
+    let s = f1 .before .before in
+    let seed = s .args .seed in
+    let w0 = wrote-none (s .args .out .now) (s .args .at) (omega (arith, s .pre .2)) in
+    let w1 = wrote-more w0 cellNames (t1 .put .ensures) in
+    let w2 = wrote-more w1 (row (cellsFor seed 0) 1 true (later seed 193)) (put-as _ _ (ap (λ x. row x 1 true (later seed 193)) (sym (f1 .cells-for .ensures))) (p1 .put-values .ensures .0, p1 .put-values .ensures .1 .0)) in
+    let w3 = wrote-more w2 (row (cellsFor seed 1) 32 false (later seed 194)) (put-as _ _ (ap (λ x. row x 32 false (later seed 194)) (sym (f2 .cells-for2 .ensures))) (p2 .put-values2 .ensures .0, p2 .put-values2 .ensures .1 .0)) in
+    let w4 = wrote-more w3 fieldNames (t2 .put2 .ensures) in
+    let w5 = wrote-more w4 (row (plainCells seed) 16 true (later seed 226)) (put-as _ _ (ap (λ x. row x 16 true (later seed 226)) (sym (f3 .plain-cells .ensures))) (p3 .put-values3 .ensures .0, p3 .put-values3 .ensures .1 .0)) in
+    let w6 = wrote-more w5 (row Handles 16 false (later seed 242)) (p4 .put-values4 .ensures .0, p4 .put-values4 .ensures .1 .0) in
+    (w6 .ends, w6 .holds)
+
+pub put-start-spec : {M : Type 1} → statement M
+put-start-spec =
+    tie.close
+    (tie.spec
+    cells-for-requires
+    cells-for-requires-2
+    plain-cells-requires
+    slice-aggregate-put
+    put-requires
+    put-values-requires
+    put-values-requires-2
+    slice-aggregate-put-2
+    put-requires-2
+    put-values-requires-3
+    put-values-requires-4
+    same-length
+    returns)

@@ -1,0 +1,27 @@
+-- `generating::put_values` meets its contract. Assumes nothing.
+use mathlib.Core.Path.{sym, ap}
+use Rattle.imports.proofs.LineLaws.{put-as}
+use Rattle.generator.specs.Words.{row}
+use borrow.Author.Needs.{needs}
+use Rattle.generating.proofs.put_values.Statement.{statement}
+use Rattle.generating.proofs.put_values.Tie as tie
+
+later-requires : tie.Need-later-requires
+later-requires c κs = search needs
+
+put-row-requires : tie.Need-put-row-requires
+put-row-requires c κs = search needs
+
+same-length : tie.Need-same-length
+same-length c = search needs
+
+returns : tie.Need-returns
+returns c =
+    let p = c .before .before in
+    let l = c .before .before .before .before in
+    let s = c .before .before .before .before .before .before in
+    let q = put-as _ _ (ap (λ x. row (s .args .column) (s .args .words) (s .args .follows) x) (sym (l .later .ensures))) (p .put-row .ensures .0, p .put-row .ensures .1 .0) in
+    (q .0, (q .1, p .put-row .ensures .1 .1))
+
+pub put-values-spec : {M : Type 1} → statement M
+put-values-spec = tie.close (tie.spec later-requires put-row-requires same-length returns)

@@ -1,0 +1,37 @@
+-- `generating::target` meets its contract. Assumes nothing.
+use native.Mathlib.Nat.{mod-lt}
+use native.Mathlib.Omega.{arith}
+use Prim.Native.Nat.{_-_}
+use Rattle.generating.proofs.CellLaws.{aimed, closing}
+use borrow.Author.Needs.{needs}
+use Rattle.generating.proofs.target.Statement.{statement}
+use Rattle.generating.proofs.target.Tie as tie
+
+sub-left : tie.Need-sub-left
+sub-left c = search needs
+
+cast-left : tie.Need-cast-left
+cast-left c = search needs
+
+div-if1 : tie.Need-div-if1
+div-if1 c = search needs
+
+rem-result : tie.Need-rem-result
+rem-result c = search needs
+
+cast-result : tie.Need-cast-result
+cast-result c = record { fits = omega (arith, mod-lt (c .before .args .d) {m = c .before .args .n - c .before .args .k} (omega (arith, c .before .pre))) }
+
+sub-result : tie.Need-sub-result
+sub-result c = omega (arith, mod-lt (c .before .args .d) {m = c .before .args .n - c .before .args .k} (omega (arith, c .before .pre)))
+
+returns : tie.Need-returns
+returns c = aimed (c .before .args .n) (c .before .args .k) (c .before .args .d) (c .if1 .taken)
+
+returns-2 : tie.Need-returns-2
+returns-2 c = closing (c .before .args .n) (c .before .args .k) (c .before .args .d) (c .if1 .left)
+
+pub target-spec : {M : Type 1} → statement M
+target-spec =
+    tie.close
+    (tie.spec sub-left cast-left div-if1 rem-result cast-result sub-result returns returns-2)
