@@ -44,6 +44,7 @@ use Rattle.explanations.proofs.SizeLaws.{code-length, bound-small, priced, low,
 use Rattle.patches.specs.Patch.{inCode, patched}
 use Rattle.analyser.specs.Answers.{ofVerdict, boundRoutine, mergeRoutine, runRoutine, boundAnswer, mergeAnswer, runAnswer, previewAnswer}
 use Rattle.sensitivity.proofs.FunctionLaws.{nearest-reported, nearest-place}
+use Rattle.generating.proofs.FunctionLaws.{generate-reported, generate-place}
 use Rattle.analyser.specs.Functions.{reportLength}
 use Rattle.analyser.specs.Promises.{BoundReported, MergeReported, WithinReport, RunAccepted, FilledIn, ReportsKept, MergesKept, RunsKept, AnswersIrrelevant, PassingIsAscii, PassingIsSinglePass, ReportsFit, PlacesSmall, PreviewsKept}
 
@@ -179,6 +180,7 @@ reports-fit = (
   λ text n bs e. of-merge text n bs e,
   λ text instruction address n bs e. of-bound (patched (lines text) address instruction) n bs (preview-bound text instruction address n bs e),
   λ text n bs e. let r = nearest-reported text n bs e in (r .1, r .2),
+  λ seed n bs e. let r = generate-reported seed n bs e in (r .1, r .2),
 )
   where
     of-bound : (text : List ℕ) (n : ℕ) (bs : List ℕ) → boundAnswer text n ≡ reported bs → (length bs ≤ memoryLimit) × (memoryLimit ≤ n)
@@ -251,6 +253,7 @@ places-small = (
   of-merge,
   of-preview,
   nearest-place,
+  λ seed n r e. omega (arith, generate-place seed n r e),
 )
   where
     of-bound : (text : List ℕ) (n : ℕ) (r : Refusal) → boundAnswer text n ≡ refused r → place r ≤ 62000

@@ -48,7 +48,9 @@ use Rattle.patches.specs.Held.{within, copyAnswer}
 use Rattle.analyser.specs.Answers.{ofVerdict, boundRoutine, mergeRoutine, runRoutine, boundAnswer, mergeAnswer, runAnswer, previewAnswer}
 use Rattle.analyser.specs.Held.{Printable, judgedAs, foundAnswer}
 use Rattle.sensitivity.specs.Answers.{nearestAnswer}
+use Rattle.generating.specs.Answers.{generatorLimit, generateAnswer}
 use Rattle.sensitivity.proofs.FunctionLaws.{nearest-reported, nearest-place}
+use Rattle.generating.proofs.FunctionLaws.{generate-reported, generate-place}
 use Rattle.analyser.specs.Functions.{reportLength, Delivers, toldLength, wordOf, Tells, AnswerTold, AnswersTold, ExplanationsTold}
 use Rattle.analyser.specs.Promises.{SafeReport, ExactReport, SafeMerge, ExactMerge, WithinReport, RunAccepted, ExplainsBound}
 use Rattle.analyser.specs.Refined.{MonotoneReport, KnownReport, MonotoneMerge, KnownMerge}
@@ -401,6 +403,13 @@ nearest-limits text n = record {
   refusal = λ r e. omega (arith, nearest-place text n r e);
 }
 
+generate-limits : (seed n : ℕ) → WithinLimits generatorLimit (generateAnswer seed n)
+generate-limits seed n = record {
+  small = omega arith;
+  report = λ bs e. let r = generate-reported seed n bs e in (r .0, r .1);
+  refusal = λ r e. omega (arith, generate-place seed n r e);
+}
+
 explain-limits : (text : List ℕ) (n : ℕ) → WithinLimits explanationLimit (explainAnswer text n)
 explain-limits text n = record {
   small = omega arith;
@@ -445,6 +454,7 @@ answers-told = (
   λ text text′ n n′. told memoryLimit _ _ (merge-limits text n) (merge-limits text′ n′),
   λ text text′ instruction instruction′ address address′ n n′ h h′. told memoryLimit _ _ (preview-limits text instruction address n h) (preview-limits text′ instruction′ address′ n′ h′),
   λ text text′ n n′. told memoryLimit _ _ (nearest-limits text n) (nearest-limits text′ n′),
+  λ seed seed′ n n′. told generatorLimit _ _ (generate-limits seed n) (generate-limits seed′ n′),
 )
 
 module _ (text : List ℕ) (n : ℕ) where
@@ -487,6 +497,9 @@ preview-tells text instruction address n h = tells (preview-limits text instruct
 
 pub nearest-tells : (text : List ℕ) (n w : ℕ) → w ≡ wordOf (answerOf (nearestAnswer text n)) → Tells memoryLimit (nearestAnswer text n) w
 nearest-tells text n = tells (nearest-limits text n)
+
+pub generate-tells : (seed n w : ℕ) → w ≡ wordOf (answerOf (generateAnswer seed n)) → Tells generatorLimit (generateAnswer seed n) w
+generate-tells seed n = tells (generate-limits seed n)
 
 -- ---- an explanation beside the bound
 

@@ -29,6 +29,8 @@ use Rattle.patches.specs.Promises as patches
 use Rattle.patches.proofs.Theorems as patch-theorems
 use Rattle.sensitivity.specs.Promises as sensitivity
 use Rattle.sensitivity.proofs.Theorems as sensitivity-theorems
+use Rattle.generator.specs.Promises as generator
+use Rattle.generator.proofs.Theorems as generator-theorems
 use Rattle.analyser.specs.Answers.{boundAnswer, mergeAnswer, runAnswer}
 use Rattle.analyser.specs.Promises as answers
 use Rattle.analyser.specs.Refined as refined
@@ -188,6 +190,13 @@ nearest-kept = sensitivity-theorems.nearest-kept
 
 pub refused-alike : answers.RefusedAlike
 refused-alike = nearest-laws.refused-alike
+
+-- a test load from a seed (document 02 §11; `generator/specs/Promises`): no file made is refused, and all fit
+pub file-read : generator.FilePasses
+file-read = generator-theorems.file-read
+
+pub file-fits : generator.FileFits
+file-fits = generator-theorems.file-fits
 
 pub written-reads-back : answers.WrittenReadsBack
 written-reads-back = decimal-read

@@ -16,6 +16,7 @@ use Rattle.conformance.specs.Answers.{replayAnswer}
 use Rattle.explanations.specs.Answers.{explainAnswer}
 use Rattle.analyser.specs.Answers.{boundAnswer, mergeAnswer, runAnswer, previewAnswer}
 use Rattle.sensitivity.specs.Answers.{nearestAnswer}
+use Rattle.generating.specs.Answers.{generateAnswer}
 
 -- ---- what an answer says of the lent memory
 
@@ -60,6 +61,7 @@ AnswersTold =
     × ((text text′ instruction instruction′ : List ℕ) (address address′ n n′ : ℕ) → address < 4294967296 → address′ < 4294967296 →
     AnswerTold (previewAnswer text address instruction n) (previewAnswer text′ address′ instruction′ n′))
     × ((text text′ : List ℕ) (n n′ : ℕ) → AnswerTold (nearestAnswer text n) (nearestAnswer text′ n′))
+    × ((seed seed′ n n′ : ℕ) → AnswerTold (generateAnswer seed n) (generateAnswer seed′ n′))
 
 -- and of the explanation
 abbrev pub ExplanationsTold : Type 0

@@ -36,6 +36,7 @@ use Rattle.explanations.specs.Answers.{explanationLimit, explainAnswer}
 use Rattle.patches.specs.Patch.{patched}
 use Rattle.analyser.specs.Answers.{boundAnswer, mergeAnswer, runAnswer, previewAnswer}
 use Rattle.sensitivity.specs.Answers.{nearestAnswer}
+use Rattle.generating.specs.Answers.{generatorLimit, generateAnswer}
 use Rattle.analyser.specs.Functions.{reportLength}
 
 -- the bytes are the bound's report, with the figures q, of the routine x that the text holds
@@ -141,7 +142,7 @@ PassingIsSinglePass =
 abbrev pub ReportFits : ℕ → ℕ → Answer → Type 0
 ReportFits limit n a = (bs : List ℕ) → a ≡ reported bs → (length bs ≤ limit) × (limit ≤ n)
 
--- 128 bytes are enough for every report, and 32,768 for the lines of an import and for the words of an export
+-- 128 bytes are enough for every report, and 32,768 for the lines of an import, for the words of an export and for the file of a seed
 abbrev pub ReportsFit : Type 0
 ReportsFit =
     ((text : List ℕ) (n : ℕ) → ReportFits memoryLimit n (boundAnswer text n))
@@ -152,6 +153,7 @@ ReportsFit =
     × ((text : List ℕ) (n : ℕ) → ReportFits memoryLimit n (mergeAnswer text n))
     × ((text instruction : List ℕ) (address n : ℕ) → ReportFits memoryLimit n (previewAnswer text address instruction n))
     × ((text : List ℕ) (n : ℕ) → ReportFits memoryLimit n (nearestAnswer text n))
+    × ((seed n : ℕ) → ReportFits generatorLimit n (generateAnswer seed n))
 
 -- the place of a refusal is 62,000 at most
 abbrev pub PlaceSmall : Answer → Type 0
@@ -172,6 +174,7 @@ PlacesSmall =
     × ((text : List ℕ) (n : ℕ) → PlaceSmall (mergeAnswer text n))
     × ((text instruction : List ℕ) (address n : ℕ) → PlaceOrAddress address (previewAnswer text address instruction n))
     × ((text : List ℕ) (n : ℕ) → PlaceSmall (nearestAnswer text n))
+    × ((seed n : ℕ) → PlaceSmall (generateAnswer seed n))
 
 -- "A file that is refused to begin with is refused the same way here." (document 02 §13): the search refuses what the first bound refuses
 abbrev pub RefusedAlike : Type 0

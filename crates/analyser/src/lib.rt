@@ -15,6 +15,7 @@ ghost use Rattle.conformance.specs.Answers.{replayAnswer};
 ghost use Rattle.explanations.specs.Answers.{explanationLimit, explainAnswer};
 ghost use Rattle.analyser.specs.Answers.{boundRoutine, mergeRoutine, runRoutine, boundAnswer, mergeAnswer, runAnswer, previewAnswer};
 ghost use Rattle.sensitivity.specs.Answers.{nearestAnswer};
+ghost use Rattle.generating.specs.Answers.{generatorLimit, generateAnswer};
 ghost use Rattle.analyser.specs.Functions.{reportLength, Delivers, wordOf, toldLength, Tells};
 ghost use Rattle.evaluations.specs.Held.{routineIn, Shareable};
 ghost use Rattle.analyser.specs.Held.{Printable, foundAnswer};
@@ -294,6 +295,17 @@ pub extern "C" fn tickbound_nearest(text: &[u8], out: &mut [u8]) -> u64
 {
     let nearest = sensitivity::nearest(text, out);
     word_of(nearest)
+}
+
+// `generating::generate` for C.
+#[no_mangle]
+pub extern "C" fn tickbound_generate(seed: u32, out: &mut [u8]) -> u64
+    ensures { λ r. ⌜ r ≡ wordOf (answerOf (generateAnswer seed (length (now (out .entry))))) ⌝ }
+    ensures { λ _. ⌜ now (out .exit) ≡ memory (generateAnswer seed (length (now (out .entry)))) (now (out .entry)) ⌝ }
+    ensures tells { λ r. ⌜ Tells generatorLimit (generateAnswer seed (length (now (out .entry)))) r ⌝ }
+{
+    let generated = generating::generate(seed, out);
+    word_of(generated)
 }
 
 // `explanations::explain` for C.
