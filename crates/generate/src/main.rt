@@ -1,0 +1,49 @@
+// Prints the routine file of the seed that is the first argument, or a refusal.
+use text::Numeral;
+ghost use mathlib.Core.Path.{_≡_};
+ghost use Prim.Native.Nat.{_≤_};
+ghost use lib.ListN.{length, take};
+ghost use Rattle.io.specs.Counts.{Counts};
+ghost use Rattle.analyser.specs.Answers.{printed};
+ghost use Rattle.generating.specs.Answers.{generateAnswer};
+
+// What an argument says where a seed is wanted: "a seed of 32 bits", spelt as a number in a routine file.
+enum Seed {
+    Given(u32),
+    Wrong,
+}
+
+// Puts what is printed for a seed at the start of out, and answers how many bytes it is.
+fn answer(seed: u32, out: &mut [u8]) -> usize
+    requires { ⌜ 128 ≤ length (now out) ⌝ }
+    ensures { λ r. ⌜ Counts r (now (out .exit)) ⌝ }
+    ensures { λ r. ⌜ take r (now (out .exit)) ≡ printed (generateAnswer seed (length (now (out .entry)))) ⌝ }
+{
+    let answer = generating::generate(seed, out);
+    console::put_line(answer, out)
+}
+
+// The seed that a word spells.
+fn seed_of(word: &[u8]) -> Seed {
+    let Numeral::Number(z) = text::read_numeral(word) else {
+        return Seed::Wrong;
+    };
+    if z < 0 || 4294967295 < z {
+        return Seed::Wrong;
+    }
+    Seed::Given(values::natural_in(0, 4294967295, word))
+}
+
+fn main() {
+    // an argument that is missing, empty or longer has the length 0
+    let mut digits = [0u8; 10];
+    let n = os::arg(1, &mut digits);
+    let seed = seed_of(&digits[..n]);
+    let Seed::Given(s) = seed else {
+        console::say(b"generate SEED: SEED is no number of 32 bits\n");
+        return;
+    };
+    let mut file = [0u8; 32768];
+    let length = answer(s, &mut file);
+    console::write(&file[..length]);
+}
