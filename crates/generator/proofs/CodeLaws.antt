@@ -46,17 +46,17 @@ use Rattle.generator.proofs.RowLaws.{words-filled, within-natural, valu
 
 pub count-few : (seed : ℕ) → count seed < 200
 unfolding count
-count-few seed = mod-lt (after 1 seed) (omega arith)
+count-few seed = omega arith
 
 -- ---- the kind
 
 pub kind-below : (seed k : ℕ) → kindOf seed k < 61
 unfolding kindOf
-kind-below seed k = go (ltb k (count seed))
+kind-below seed k = go (ltb k (count seed)) _ (omega arith)
   where
-    go : (b : Bool) → cond b (after (2 + k) seed % 61) 60 < 61
-    go true = mod-lt (after (2 + k) seed) (omega arith)
-    go false = omega arith
+    go : (b : Bool) (m : ℕ) → m < 61 → cond b m 60 < 61
+    go true m h = h
+    go false m h = omega arith
 
 name-at : (k : ℕ) → k < 61 → getD kindNames k [] ≡ kindAt k .name
 unfolding kinds kindNames
@@ -93,11 +93,11 @@ primitive-no-dash (suc (suc (suc (suc i)))) h = absurd (omega arith)
 -- a target is after its line, and at most the closing STOP
 pub target-after : (n k d : ℕ) → k < n → k < target n k d
 unfolding target
-target-after n k d h = go (eqb (d / (n - k) % 16) 0) (mod-lt d (omega arith))
+target-after n k d h = go (eqb (d / (n - k) % 16) 0) _ (mod-lt d (omega arith))
   where
-    go : (b : Bool) → d % (n - k) < n - k → k < n - cond b (d % (n - k)) 0
-    go true m = omega arith
-    go false m = omega arith
+    go : (b : Bool) (m : ℕ) → m < n - k → k < n - cond b m 0
+    go true m l = omega arith
+    go false m l = omega arith
 
 pub target-within : (n k d : ℕ) → target n k d ≤ n
 unfolding target
@@ -168,12 +168,11 @@ closing seed k d = argued-absent (count seed) k d
 -- the argument of a line, whatever its kind: only a line before the closing STOP can have a target
 pub line-argued : (seed k d : ℕ) → Argued (count seed) k (argument (count seed) k d (kindAt (kindOf seed k) .argument)) (kindAt (kindOf seed k) .argument)
 unfolding kindOf
-line-argued seed k d = go (ltb k (count seed)) refl
+line-argued seed k d = go (ltb k (count seed)) _ refl
   where
-    go : (b : Bool) → ltb k (count seed) ≡ b
-        → Argued (count seed) k (argument (count seed) k d (kindAt (cond b (after (2 + k) seed % 61) 60) .argument)) (kindAt (cond b (after (2 + k) seed % 61) 60) .argument)
-    go true e = argued (count seed) k d (ltb-true k (count seed) e) (count-few seed) (kindAt (after (2 + k) seed % 61) .argument) (kind-sound (after (2 + k) seed % 61))
-    go false e = closing seed k d
+    go : (b : Bool) (m : ℕ) → ltb k (count seed) ≡ b → Argued (count seed) k (argument (count seed) k d (kindAt (cond b m 60) .argument)) (kindAt (cond b m 60) .argument)
+    go true m e = argued (count seed) k d (ltb-true k (count seed) e) (count-few seed) (kindAt m .argument) (kind-sound m)
+    go false m e = closing seed k d
 
 -- ---- the line
 

@@ -4,3 +4,4 @@ pub mod RowLaws
 pub mod CodeLaws
 pub mod FileLaws
 pub mod Theorems
+pub mod Examples
