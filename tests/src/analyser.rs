@@ -15,6 +15,7 @@ extern "C" {
     ) -> u64;
     fn tickbound_export(text: *const u8, text_length: usize, words: *mut u8, words_length: usize) -> u64;
     fn tickbound_explain(text: *const u8, text_length: usize, lines: *mut u8, lines_length: usize) -> u64;
+    fn tickbound_generate(seed: u32, file: *mut u8, file_length: usize) -> u64;
     fn tickbound_replay(
         text: *const u8,
         text_length: usize,
@@ -79,6 +80,11 @@ pub fn export(text: &[u8], words: &mut [u8]) -> u64 {
 pub fn explain(text: &[u8], lines: &mut [u8]) -> u64 {
     // SAFETY: as above.
     unsafe { tickbound_explain(start(text), text.len(), start_mut(lines), lines.len()) }
+}
+
+pub fn generate(seed: u32, file: &mut [u8]) -> u64 {
+    // SAFETY: as above, of one memory.
+    unsafe { tickbound_generate(seed, start_mut(file), file.len()) }
 }
 
 pub fn replay(text: &[u8], trace: &[u8], report: &mut [u8]) -> u64 {

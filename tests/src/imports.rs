@@ -18,7 +18,7 @@ use std::path::Path;
 const LENT: usize = MEMORY + 100;
 
 /// Compares a function with enough memory and with too little; gives the answer wanted.
-fn compare_lent(
+pub fn compare_lent(
     random: &mut Random,
     call: &dyn Fn(&mut [u8]) -> u64,
     own: &dyn Fn(usize) -> Answer,

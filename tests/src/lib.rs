@@ -28,6 +28,7 @@ pub mod replay_cases;
 pub mod report;
 pub mod routine;
 pub mod run;
+pub mod seeded;
 pub mod tagged;
 pub mod texts;
 pub mod trace_draft;

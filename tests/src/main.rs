@@ -1,6 +1,6 @@
 //! The analyser's C functions and programs compared with the independent implementation: on the cases of document 01 and of the change
-//! requests, on texts, words, traces and previews, with the answers that these papers give them; on functions that OCaml compiled; and on
-//! files, words, traces and previews from a seed.
+//! requests, on texts, words, traces and previews, with the answers that these papers give them; on functions that OCaml compiled; on the
+//! files that the analyser makes from seeds; and on files, words, traces and previews of a generator of its own.
 mod causes;
 mod compare;
 mod explanations;
@@ -15,6 +15,7 @@ mod pinned;
 mod previews;
 mod ranges;
 mod replays;
+mod seeds;
 mod shares;
 mod traces;
 mod wraps;
@@ -42,6 +43,7 @@ use independent::range_cases::{self, ranges, RANGES};
 use independent::replay_cases;
 use independent::report::{bound_answer, merge_answer, told, Answer, MEMORY};
 use independent::routine::{line, read, KINDS};
+use independent::seeded;
 use independent::texts::{texts, TEXTS};
 use independent::word_cases::{self, CASES};
 use independent::word_draft;
@@ -55,6 +57,7 @@ use pinned::{
 use previews::{compare_preview, preview_by_program, Previews};
 use ranges::Ranges;
 use replays::{replay_by_program, replayed};
+use seeds::{pinned_seeds, seeds, Seeds};
 use shares::Shares;
 use std::collections::{BTreeMap, BTreeSet};
 use std::path::Path;
@@ -89,6 +92,7 @@ struct Tally {
     previews: Previews,
     nearests: Nearests,
     explanations: Explanations,
+    seeds: Seeds,
 }
 
 impl Tally {
@@ -318,6 +322,20 @@ fn compare_nearests(tally: &mut Tally, programs: &Path, random: &mut Random) {
     }
 }
 
+/// The files of seeds, and what is pinned of them. One of 50 is given to the programs too.
+fn compare_seeds(tally: &mut Tally, programs: &Path, random: &mut Random) {
+    for (name, found) in pinned_seeds(programs) {
+        tally.count(name, &[], found);
+    }
+    for (i, seed) in seeds(random).into_iter().enumerate() {
+        let found = tally.seeds.compare(random, seed, (i % 50 == 0).then_some(programs));
+        let text = if seed == 0 { Vec::new() } else { seeded::file(seed) };
+        tally.count(&format!("the file of the seed {seed}"), &text, found);
+    }
+    let found = tally.seeds.cover();
+    tally.count("what the files of seeds cover", &[], found);
+}
+
 /// The files that the programs of `crates/` are run with stand as they are made.
 fn compare_program_files(tally: &mut Tally) {
     for (path, made) in program_files() {
@@ -360,8 +378,8 @@ fn covers(tally: &Tally) -> Result<(), String> {
     }
 }
 
-/// The stack that the header asks for is enough, at 32 openings of a bound, of a preview, of a search and of an explanation, and for a
-/// merging bound of 1,024 lines: a call that needs more ends this program.
+/// The stack that the header asks for is enough, at 32 openings of a bound, of a preview, of a search and of an explanation, for a
+/// merging bound of 1,024 lines and for the file of a seed: a call that needs more ends this program.
 fn small_stack(tally: &mut Tally) {
     let deepest = cases().into_iter().find(|text| text.name == "openings_32").unwrap().bytes;
     let longest = merges().into_iter().find(|text| text.name == "tests_in_1024_lines").unwrap().bytes;
@@ -394,7 +412,10 @@ fn small_stack(tally: &mut Tally) {
     ];
     let explained = explain::explain_answer(&deepest, explain::MEMORY);
     let explanation = ("an explanation on a stack of 256 KB", 256, deepest, analyser::explain as Function, explained);
-    for (name, kilobytes, text, function, wanted) in calls.into_iter().chain([explanation]) {
+    let of_a_seed: Function = |_, memory| analyser::generate(1, memory);
+    let made = seeded::generate_answer(1, seeded::MEMORY);
+    let seed = ("the file of a seed on a stack of 256 KB", 256, Vec::new(), of_a_seed, made);
+    for (name, kilobytes, text, function, wanted) in calls.into_iter().chain([explanation, seed]) {
         let copy = text.clone();
         let call = move || function(&copy, &mut vec![0; explain::MEMORY]);
         let answer = std::thread::Builder::new().stack_size(kilobytes * 1024).spawn(call).unwrap().join().unwrap();
@@ -424,6 +445,7 @@ fn main() {
     compare_previews(&mut tally, programs, &mut Random::new(seed));
     compare_nearests(&mut tally, programs, &mut Random::new(seed));
     compare_explanations(&mut tally, programs, &mut Random::new(seed));
+    compare_seeds(&mut tally, programs, &mut Random::new(seed));
     for number in 0..count {
         let mut random = Random::new(seed.wrapping_mul(1_000_003).wrapping_add(number));
         let mut parts = draft(&mut random);
@@ -467,7 +489,7 @@ fn main() {
     for (what, count) in tally.causes.counts().into_iter().chain(traces).chain(previews) {
         println!("{what}: {count}");
     }
-    for (what, count) in tally.nearests.counts() {
+    for (what, count) in tally.nearests.counts().into_iter().chain(tally.seeds.counts()) {
         println!("{what}: {count}");
     }
     println!("files given to the programs too: {}", tally.given_to_programs);
