@@ -5,7 +5,8 @@
  * `cc -I PREFIX/include .. -L PREFIX/lib -ltickbound`, on x86-64 Linux. In the repository `rt staticlib analyser`
  * writes the same library to target/staticlib/libanalyser.a.
  *
- * `tickbound_nearest` finds the nearest number that moves the bound; it is declared and described below.
+ * `tickbound_nearest` finds the nearest number that moves the bound, and `tickbound_generate` makes a routine file from a
+ * seed; they are declared and described below.
  *
  * `tickbound_bound`, `tickbound_merge` and `tickbound_run` read a routine file of `text_length` bytes at `text`, and
  * write a report into the `report_length` bytes lent at `report`. `tickbound_replay` reads a trace of `trace_length`
@@ -17,8 +18,8 @@
  * - A pointer may be null where its length is 0. With a length above 0 it must point to that many bytes; the
  *   bytes lent for writing must be writable.
  * - Every text of every length is answered. An empty text is refused by 2. Too little lent memory, fewer than
- *   TICKBOUND_REPORT_MEMORY bytes for a report, TICKBOUND_CODE_MEMORY for lines and words or TICKBOUND_EXPLAIN_MEMORY
- *   for an explanation, is refused by 10, before anything is read.
+ *   TICKBOUND_REPORT_MEMORY bytes for a report, TICKBOUND_CODE_MEMORY for lines and words, TICKBOUND_EXPLAIN_MEMORY
+ *   for an explanation or TICKBOUND_FILE_MEMORY for the file of a seed, is refused by 10, before anything is read.
  * - After a report (lines, words), the memory holds its bytes and then its former bytes. After a refusal it is
  *   unchanged. A report is text (two lines, one of a replay, each ending in a line feed); no 0 byte ends it.
  * - The functions keep nothing between calls, allocate nothing and may be called from several threads.
@@ -28,7 +29,7 @@
  * The answer is one number that is a length or a refusal, and never both:
  *
  *   a report    its length, 1 to TICKBOUND_REPORT_MEMORY; of lines or words, 1 to TICKBOUND_CODE_MEMORY;
- *               of an explanation, 1 to TICKBOUND_EXPLAIN_MEMORY
+ *               of an explanation, 1 to TICKBOUND_EXPLAIN_MEMORY; of the file of a seed, 1 to TICKBOUND_FILE_MEMORY
  *   a refusal   bit 63 is 1, bits 32 to 47 are the refusal's number, bits 0 to 31 its place;
  *               all other bits are 0. No place is above 62,000, but for the address of a preview,
  *               which may be any number of 32 bits
@@ -63,6 +64,9 @@ extern "C" {
 /* Memory that is enough for every explanation; with less a call is refused by 10. */
 #define TICKBOUND_EXPLAIN_MEMORY 65536
 
+/* Memory that is enough for the file of every seed; with less a call is refused by 10. */
+#define TICKBOUND_FILE_MEMORY 32768
+
 /* The longest text that is not refused by 1. */
 #define TICKBOUND_TEXT_LIMIT 32768
 
@@ -75,7 +79,7 @@ extern "C" {
 /* The numbers of the refusals. The place is 0 for 10 and 1, a line of the text for 2 to 6, 13 and 11, an address of
  * the code for 7, 8, 9 and 14, and for 12 the index of a word, from 0. An import refuses its primitives line by 2 or 4
  * at place 1. A replay refuses its trace by 1, 2 or 3, after its routine file: a line is then one of the trace. A preview
- * refuses an address outside the code by 4 at that address. */
+ * refuses an address outside the code by 4 at that address. The seed 0 is refused by 3 at place 0. */
 enum {
     TICKBOUND_TEXT_TOO_LONG = 1,
     TICKBOUND_LAYOUT = 2,
@@ -163,6 +167,13 @@ uint64_t tickbound_import(const uint8_t *words, size_t words_length, const uint8
 /* The words of the code of a routine file, in the same form. */
 uint64_t tickbound_export(const uint8_t *text, size_t text_length, uint8_t *words, size_t words_length);
 
+/* The routine file of a seed, as a test load: the same seed gives the same bytes at every site and in every later
+ * version (docs/GENERATOR.md has the rules). At least TICKBOUND_FILE_MEMORY bytes must be lent; the answer is the
+ * file's length. No such file is refused by 1 to 6 or 13.
+ *
+ * Refused by 10, whatever the seed; then by 3 at place 0, where the seed is 0. */
+uint64_t tickbound_generate(uint32_t seed, uint8_t *file, size_t file_length);
+
 /* Whether an answer is a refusal. */
 static inline bool tickbound_is_refused(uint64_t answer) {
     return answer >> 63 != 0;
@@ -178,7 +189,8 @@ static inline unsigned tickbound_number(uint64_t answer) {
     return tickbound_is_refused(answer) ? (unsigned)(answer >> 32 & 0xffff) : 0;
 }
 
-/* The place of a refusal; 0 where the answer is a report. (0 is the place of refusals 10 and 1 too.) */
+/* The place of a refusal; 0 where the answer is a report. (0 is the place of refusals 10 and 1 too, and that of the
+ * seed 0.) */
 static inline uint32_t tickbound_place(uint64_t answer) {
     return tickbound_is_refused(answer) ? (uint32_t)(answer & 0xffffffff) : 0;
 }
