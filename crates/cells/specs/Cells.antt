@@ -49,15 +49,6 @@ between low high = range low (cond (leZ low high) (natAbs (high -ℤ low)) 0)
 abbrev pub handle : ℕ → Cell
 handle k = cell (Handle k)
 
--- whether a value is a single number
-unfoldable pub singleIn : Value → Bool
-singleIn (Range low more) = eqb more 0
-singleIn (Handle k) = false
-
--- whether a cell holds one number: not a handle, and not "a range of more than one number"
-unfoldable pub single : Cell → Bool
-single a = singleIn (a .value)
-
 -- ---- operations on numbers
 
 -- "OFFSETINT i adds i. NEGINT negates. BOOLNOT gives 1 minus the accumulator."
