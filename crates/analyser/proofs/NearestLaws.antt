@@ -1,6 +1,6 @@
 -- The search for the nearest number that moves the bound refuses what the first bound refuses. Assumes nothing.
 use Prim.Native.Nat.{ℕ}
-use mathlib.Core.Path.{_≡_, refl, sym, ap, _∙_}
+use mathlib.Core.Path.{_≡_, refl, sym, ap}
 use mathlib.Core.Bool.{Bool, true, false, cond}
 use mathlib.Core.List.{List}
 use lib.Dec.{ltb}
@@ -10,7 +10,7 @@ use Rattle.bounds.specs.Tree.{Verdict, bound}
 use Rattle.bounds.specs.Tree as verdicts
 use Rattle.routine.specs.Routine.{Routine, Reading, readBound}
 use Rattle.routine.specs.Routine as readings
-use Rattle.answers.specs.Answers.{Answer, reported, refused, memoryLimit, ofReading}
+use Rattle.answers.specs.Answers.{Answer, refused, memoryLimit, ofReading}
 use Rattle.answers.proofs.AnswerLaws.{never}
 use Rattle.report.specs.Report.{boundText}
 use Rattle.searches.specs.Search.{search}

@@ -5,7 +5,7 @@ use mathlib.Core.List.{List, [], _∷_, _++_, append-assoc}
 use native.Mathlib.Omega.{arith}
 use lib.ListN.{length, getD, take, drop, set, length-drop}
 use lib.Seq.{length-take-le, take-at, drop-at, drop-drop, take-take, take-add}
-use borrow.Rule.Slice.PartMut.{putMid, take-put, mid-len}
+use borrow.Rule.Slice.PartMut.{putMid, take-put}
 use Rattle.cells.specs.Try.{Try, stuck, done}
 use Rattle.cells.specs.declared.Cell.{Cell}
 use Rattle.states.specs.View.{blocksOf}

@@ -1,5 +1,5 @@
 -- Laws of a list that a loop fills from its start on. Assumes nothing.
-use Prim.Native.Nat.{ℕ, suc, _+_, _<_}
+use Prim.Native.Nat.{ℕ, _+_, _<_}
 use mathlib.Core.Path.{_≡_, refl, sym, ap, ap₂, _∙_}
 use mathlib.Core.List.{List, [], _∷_, _++_, map}
 use native.Mathlib.Omega.{arith}
@@ -8,7 +8,7 @@ use lib.ListN.{length, getD, take, set}
 use lib.Seq.{take-all, take-suc, take-suc-set}
 use Rattle.cells.specs.declared.Cell.{Cell}
 use Rattle.cells.specs.Codes.{cellOf, cellsOf, confine}
-use Rattle.cells.proofs.CodeLaws.{cells-append, cells-take, cells-length, cells-at}
+use Rattle.cells.proofs.CodeLaws.{cells-append}
 
 map-append : (xs ys : List Cell) → map confine (xs ++ ys) ≡ map confine xs ++ map confine ys
 map-append [] ys = refl

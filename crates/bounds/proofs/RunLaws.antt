@@ -7,7 +7,7 @@ use Prim.Native.Nat.{ℕ, zero, suc, _+_, _-_, _≤_}
 use native.Mathlib.Nat.{add-zero, add-suc}
 use native.Mathlib.Omega.{arith}
 use lib.IntN.{ℤ, pos}
-use Rattle.cells.specs.Try.{Try, stuck, done}
+use Rattle.cells.specs.Try.{Try, done}
 use Rattle.cells.specs.Cells.{unknown}
 use Rattle.cells.specs.Order.{Refines, Allowed}
 use Rattle.cells.proofs.Covering.{Covered, both}
@@ -168,19 +168,6 @@ moved-stopped r rest m false e = absurd (true≢false (sym e))
 pub nothing-follows : NothingFollows
 unfolding once
 nothing-follows c n r e = stays-still c n r (moved-stopped r _ (leads c r) (r .stopped) e)
-
--- where a step is not counted, for it is not made
-moved-uncounted : (r : Run) (rest : List ℤ) (b : Bool) (m : Try Next) → moved r rest b m .steps ≡ r .steps → moved r rest b m ≡ r
-unfolding moved
-moved-uncounted r rest true m e = refl
-moved-uncounted r rest false stuck e = refl
-moved-uncounted r rest false (done (stops p)) e = absurd (omega arith)
-moved-uncounted r rest false (done (goes p t)) e = absurd (omega arith)
-moved-uncounted r rest false (done (opens p t q u)) e = refl
-
-pub once-uncounted : (c : Code) (r : Run) → once c r .steps ≡ r .steps → once c r ≡ r
-unfolding once
-once-uncounted c r e = moved-uncounted r _ (r .stopped) (leads c r) e
 
 -- m steps after n
 pub after-after : (c : Code) (n m : ℕ) (r : Run) → after c (n + m) r ≡ after c m (after c n r)

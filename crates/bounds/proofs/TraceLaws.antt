@@ -1,7 +1,7 @@
 -- The deterministic trace of Definition 2: it is unique, the run makes it, and its cost is within the maximum cost from an erasure of its
 -- start (Theorem 14). Assumes nothing.
 use mathlib.Core.Path.{_≡_, refl, sym, ap, ap₂, _∙_}
-use mathlib.Core.Bool.{Bool, true, false, true≢false}
+use mathlib.Core.Bool.{true, false, true≢false}
 use mathlib.Core.List.{List, [], _∷_}
 use Prim.Native.Nat.{ℕ, zero, suc, _+_, _≤_}
 use native.Mathlib.Omega.{arith}
@@ -13,7 +13,7 @@ use Rattle.cells.specs.Order.{Refines}
 use Rattle.cells.proofs.Covering.{Covered, by-stuck, both}
 use Rattle.cells.proofs.CellLaws.{allowed-refines, refines-lawful}
 use Rattle.machine.specs.Lists.{nth}
-use Rattle.machine.specs.Machine.{State, Price, Next, stops, goes, opens, Code, step, takesAnswer, withExtra}
+use Rattle.machine.specs.Machine.{State, Next, stops, goes, opens, Code, step, takesAnswer, withExtra}
 use Rattle.machine.specs.Order.{Cellwise}
 use Rattle.machine.proofs.NextCovering.{NextCovered, stops-too, goes-too, opens-too, goes-not-taken, goes-taken}
 use Rattle.machine.proofs.StepLaws.{step-law}

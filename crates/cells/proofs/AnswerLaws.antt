@@ -12,7 +12,7 @@ use Rattle.cells.specs.declared.Unary.{Unary}
 use Rattle.cells.specs.declared.Binary.{Binary}
 use Rattle.cells.specs.Cells.{range, number, map₁, compareHandles, combineHandles, map₂, operate₁, operate₂}
 use Rattle.cells.specs.Merge.{mergeValues, mergeCells}
-use Rattle.cells.specs.Try.{Try, done}
+use Rattle.cells.specs.Try.{Try}
 
 -- r is the wrapped result of the operation d
 pub calculated : {D : Type 0} (f : D → ℤ) (d : D) {e : D} {r m : ℤ} → d ≡ e → r ≡ wrap m → m ≡ f e → read w32 r ≡ wrap (f d)

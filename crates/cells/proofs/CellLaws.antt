@@ -1,15 +1,14 @@
 -- The laws of cells, for the erasure order, for the plain cells that a cell allows, and for cells that are confined to numbers. With specs/
 -- these are all that knows what a cell is. Assumes nothing.
-use mathlib.Core.Path.{_≡_, refl, sym, ap, subst, _∙_}
-use mathlib.Core.Bool.{Bool, true, false, cond, _&&_, true≢false, false≢true}
-use Prim.Native.Nat.{ℕ, zero, suc, _+_, _-_, _<_, _≤_}
+use mathlib.Core.Path.{_≡_, refl, ap, subst, _∙_}
+use mathlib.Core.Bool.{Bool, true, false, cond, _&&_}
+use Prim.Native.Nat.{ℕ, _+_, _-_, _<_, _≤_}
 use native.Mathlib.Omega.{arith}
 use lib.Dec.{eqb}
-use lib.IntN.{ℤ, pos, negsuc, _+ℤ_, _-ℤ_}
+use lib.IntN.{ℤ, pos, _+ℤ_, _-ℤ_}
 use lib.Signed.{leZ}
-use borrow.Author.Tests.{eq-eqb}
-use Rattle.numbers.specs.Numbers.{bits, modulus, wrap, holds, bit, numbers}
-use Rattle.numbers.proofs.IntegerLaws.{over, under, sum-is, difference-is, le-true, le-false, le-yes, equal-by}
+use Rattle.numbers.specs.Numbers.{bits, modulus, wrap, numbers}
+use Rattle.numbers.proofs.IntegerLaws.{over, under, sum-is, difference-is, le-true, le-false, le-yes}
 use Rattle.cells.specs.declared.Value.{Value}
 use Rattle.cells.specs.declared.Value.the-variants.{Range, Handle}
 use Rattle.cells.specs.declared.Cell.{Cell}
@@ -20,13 +19,13 @@ use Rattle.numbers.specs.declared.Comparison.{Comparison}
 use Rattle.numbers.specs.declared.Comparison.the-variants.{Equal, Unequal, Less, AtMost, Greater, AtLeast}
 use Rattle.cells.specs.declared.Binary.{Binary}
 use Rattle.cells.specs.declared.Binary.the-variants.{Add, Subtract, Compare}
-use Rattle.cells.specs.Try.{Try, stuck, done}
-use Rattle.cells.specs.Cells.{cell, range, high, number, unknown, handle, calculate₁, calculate₂, results, least₁, range₁, judged, wider, range₂, map₁, compareHandles, combineHandles, map₂, operate₁, operate₂, conditionIn, condition, handled, block}
-use Rattle.cells.specs.Order.{Inside, Refines, same, inside, Allowed, among, same-handle}
+use Rattle.cells.specs.Try.{Try}
+use Rattle.cells.specs.Cells.{range, high, number, unknown, handle, calculate₁, calculate₂, results, least₁, range₁, wider, range₂, map₁, compareHandles, combineHandles, map₂, operate₁, operate₂, conditionIn, condition, handled, block}
+use Rattle.cells.specs.Order.{Refines, same, inside, Allowed, among, same-handle}
 use Rattle.cells.specs.Codes.{confineValue, confine, Confined, Kept}
 use Rattle.cells.proofs.Covering.{Covered, by-stuck, both, covered-self, Narrower, zeros, nonzeros, zero-unknown, nonzero-unknown, unknowns}
-use Rattle.cells.proofs.RangeLaws.{Linear, linear, lies, covers, linear-self, linear-trans, linear-one, one-allowed, InBits, fitting, fitting-yes, fitting-true, Results, fits, whole, results-is, in-unknown, wrap-bits, wrap-unknown, results-refine, number-refines, one-or-more, eqb-more, high-zero, range₁-refines}
-use Rattle.cells.proofs.JudgeLaws.{Among, Judged, every, none, either, judged-is, Within, judged-refines, pair-judged, one-is, zero-is}
+use Rattle.cells.proofs.RangeLaws.{Linear, linear, lies, covers, linear-self, linear-trans, linear-one, one-allowed, InBits, fitting-yes, Results, fits, whole, results-is, wrap-bits, wrap-unknown, results-refine, number-refines, one-or-more, high-zero, range₁-refines}
+use Rattle.cells.proofs.JudgeLaws.{Among, Judged, every, none, either, judged-is, Within, judged-refines, pair-judged}
 
 -- all that the machine's laws ask of a relation of cells
 pub record Lawful (R : Cell → Cell → Type 0) (two : Type 0) : Type 0 where
@@ -49,10 +48,6 @@ below-self (Handle k) = handles
 pub below : {a b : Cell} → Refines a b → Below (a .value) (b .value)
 below (same {a}) = below-self (a .value)
 below (inside i) = ranges (linear i)
-
-pub refines-by : {v w : Value} → Below v w → Refines (cell v) (cell w)
-refines-by (ranges i) = covers i
-refines-by handles = same
 
 pub refines-trans : {a b c : Cell} → Refines a b → Refines b c → Refines a c
 refines-trans same q = q

@@ -1,25 +1,25 @@
 -- Ranges in the code's 64 bits: what is computed fits, and is read back. Assumes nothing.
 use mathlib.Core.Path.{_≡_, refl, sym, ap, ap₂, subst, _∙_}
-use mathlib.Core.Bool.{Bool, true, false, cond, _&&_, true≢false, false≢true}
-use Prim.Native.Nat.{ℕ, zero, suc, _+_, _-_, _*_, _/_, _%_, _^_, _<_, _≤_}
+use mathlib.Core.Bool.{Bool, true, false, cond}
+use Prim.Native.Nat.{ℕ, _+_, _-_, _*_, _/_, _%_, _^_, _<_, _≤_}
 use native.Mathlib.Omega.{arith}
-use lib.Dec.{T, ltb, leb}
+use lib.Dec.{T}
 use lib.IntN.{ℤ, pos, negsuc, negℤ, natAbs, _+ℤ_, _-ℤ_, +ℤ-idl}
 use lib.Signed.{mag, nonNeg, leZ, ltZ}
 use mir.Syntax.{w32, w64}
-use mir.Val.{Fits, SFits, toZ, ofZ}
+use mir.Val.{SFits, toZ}
 use mir.ValLaws.{toZ-ofZ, toZ-pos}
 use borrow.Author.Tests.{le-leb, lt-leb}
 use Rattle.numbers.specs.Numbers.{bits, half, modulus, numbers}
-use Rattle.numbers.proofs.SignedLaws.{read, wide, wide-is}
-use Rattle.numbers.proofs.IntegerLaws.{over, under, sum-is, difference-is, negate-is, le-true, le-false, le-yes, le-no, lt-true, lt-false, equal-by, distance-is, mag-over, mag-under, mag-by}
+use Rattle.numbers.proofs.SignedLaws.{read}
+use Rattle.numbers.proofs.IntegerLaws.{over, under, sum-is, difference-is, negate-is, le-yes, le-no, lt-true, lt-false, equal-by, mag-over}
 use Rattle.cells.specs.declared.Cell.{Cell}
 use Rattle.cells.specs.declared.Unary.{Unary}
 use Rattle.cells.specs.declared.Unary.the-variants.{Offset, Negate, Complement}
 use Rattle.cells.specs.Cells.{range, high, unknown, between, handle, calculate₁, results, least₁}
 use Rattle.cells.specs.Codes.{cellOf}
 use Rattle.cells.specs.Small.{Small}
-use Rattle.cells.proofs.RangeLaws.{InBits, fitting, fitting-yes, fitting-true, Results, fits, whole, results-is}
+use Rattle.cells.proofs.RangeLaws.{InBits, Results, fits, whole, results-is}
 
 -- ---- numbers that are far from the ends of 64 bits
 

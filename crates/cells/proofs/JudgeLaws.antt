@@ -1,20 +1,20 @@
 -- Laws of comparisons of ranges: a comparison gives 1 exactly where it holds for every pair of numbers, 0 exactly where for none. Assumes
 -- nothing.
-use mathlib.Core.Path.{_≡_, refl, sym, ap, subst, _∙_}
+use mathlib.Core.Path.{_≡_, refl, sym, ap, _∙_}
 use mathlib.Core.Bool.{Bool, true, false, cond, not, _&&_, true≢false, false≢true}
-use Prim.Native.Nat.{ℕ, zero, suc, _+_, _<_, _≤_}
+use Prim.Native.Nat.{_+_, _≤_}
 use native.Mathlib.Omega.{arith}
 use lib.IntN.{ℤ, pos}
 use lib.Signed.{ltZ, leZ}
-use Rattle.numbers.specs.Numbers.{wrap, same, holds, bit}
+use Rattle.numbers.specs.Numbers.{same, holds, bit}
 use Rattle.numbers.specs.declared.Comparison.{Comparison}
 use Rattle.numbers.specs.declared.Comparison.the-variants.{Equal, Unequal, Less, AtMost, Greater, AtLeast}
 use Rattle.numbers.proofs.SignedLaws.{bit-keeps}
-use Rattle.numbers.proofs.IntegerLaws.{over, under, le-true, le-false, le-yes, le-no, lt-true, lt-false, lt-yes, lt-no, equal-by, same-true, same-yes, same-false}
+use Rattle.numbers.proofs.IntegerLaws.{over, under, le-true, le-false, le-yes, le-no, lt-true, lt-false, lt-yes, equal-by, same-true, same-yes}
 use Rattle.cells.specs.declared.Cell.{Cell}
 use Rattle.cells.specs.Cells.{range, number, always, opposite, judged}
 use Rattle.cells.specs.Order.{Refines, same as itself}
-use Rattle.cells.proofs.RangeLaws.{Linear, covers}
+use Rattle.cells.proofs.RangeLaws.{covers}
 
 -- n is one of the numbers from l to h
 pub record Among (n l h : ℤ) : Type 0 where

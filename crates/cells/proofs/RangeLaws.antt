@@ -4,12 +4,12 @@ use mathlib.Core.Bool.{Bool, true, false, cond, _&&_, true≢false, false≢true
 use Prim.Native.Nat.{ℕ, zero, suc, _+_, _-_, _<_, _≤_}
 use native.Mathlib.Omega.{arith}
 use lib.Dec.{eqb}
-use lib.IntN.{ℤ, pos, negsuc, negℤ, _+ℤ_, _-ℤ_}
-use lib.Signed.{mag, leZ}
-use borrow.Author.Tests.{eqb-true, eqb-false, eq-eqb, ne-eqb}
+use lib.IntN.{ℤ, pos, negsuc}
+use lib.Signed.{leZ}
+use borrow.Author.Tests.{eq-eqb, ne-eqb}
 use Rattle.numbers.specs.Numbers.{bits, half, modulus, IsNumber, wrap, within, numbers}
 use Rattle.numbers.proofs.NumberLaws.{wrap-number, wrap-keeps}
-use Rattle.numbers.proofs.IntegerLaws.{over, under, sum-is, difference-is, negate-is, le-true, le-false, le-yes, le-no, equal-by, mag-over, mag-under, mag-by}
+use Rattle.numbers.proofs.IntegerLaws.{over, under, sum-is, difference-is, negate-is, le-true, le-yes, equal-by}
 use Rattle.cells.specs.declared.Cell.{Cell}
 use Rattle.cells.specs.declared.Unary.{Unary}
 use Rattle.cells.specs.declared.Unary.the-variants.{Offset, Negate, Complement}
@@ -151,9 +151,6 @@ number-refines {n} {l} {m} i = number-results i (results-is l m)
 pub one-or-more {ℓ} : (P : Bool → Type ℓ) (m : ℕ) → (m ≡ 0 → P true) → (0 < m → P false) → P (eqb m 0)
 one-or-more P zero f g = subst P (sym (eq-eqb 0 0 refl)) (f refl)
 one-or-more P (suc m) f g = subst P (sym (ne-eqb (suc m) 0 (λ e. omega arith))) (g (omega arith))
-
-pub eqb-more : (m : ℕ) → 0 < m → eqb m 0 ≡ false
-eqb-more m h = ne-eqb m 0 (λ e. omega arith)
 
 -- ---- operations on one range
 

@@ -1,24 +1,23 @@
 -- What is promised of the operations on ranges, by the names of specs/Promises. Assumes nothing.
 use mathlib.Core.Path.{_≡_, refl, sym, ap, subst, _∙_}
 use mathlib.Core.Bool.{Bool, true, false, cond, true≢false}
-use Prim.Native.Nat.{ℕ, _+_, _<_, _≤_}
+use Prim.Native.Nat.{ℕ, _+_, _<_}
 use native.Mathlib.Omega.{arith}
-use lib.Dec.{eqb}
 use lib.IntN.{ℤ, pos, _+ℤ_, _-ℤ_}
 use lib.Signed.{leZ}
-use Rattle.numbers.specs.Numbers.{bits, half, IsNumber, wrap, holds, bit}
+use Rattle.numbers.specs.Numbers.{IsNumber, holds, bit}
 use Rattle.numbers.specs.declared.Comparison.{Comparison}
 use Rattle.numbers.proofs.NumberLaws.{wrap-keeps}
-use Rattle.numbers.proofs.IntegerLaws.{over, under, sum-is, difference-is, negate-is, le-true, le-false, le-yes}
+use Rattle.numbers.proofs.IntegerLaws.{over, under, sum-is, difference-is, negate-is, le-true, le-false}
 use Rattle.cells.specs.declared.Cell.{Cell}
 use Rattle.cells.specs.declared.Unary.{Unary}
 use Rattle.cells.specs.declared.Unary.the-variants.{Offset, Negate, Complement}
 use Rattle.cells.specs.declared.Binary.{Binary}
 use Rattle.cells.specs.declared.Binary.the-variants.{Add, Subtract, Compare}
-use Rattle.cells.specs.Cells.{range, high, number, unknown, calculate₁, calculate₂, results, least₁, range₁, judged, wider, range₂}
-use Rattle.cells.specs.Order.{Inside, Refines}
-use Rattle.cells.specs.Promises.{Of, Exact₁, EveryUnary, Exact₂, EveryBinary, Compared, EveryComparison}
-use Rattle.cells.proofs.RangeLaws.{Linear, linear, lies, covers, linear-one, InBits, number-bits, bits-number, bits-down, Results, fits, whole, results-is, one-or-more, high-zero, range₁-refines}
+use Rattle.cells.specs.Cells.{range, high, number, unknown, calculate₁, calculate₂, results, least₁, range₁, wider, range₂}
+use Rattle.cells.specs.Order.{Refines}
+use Rattle.cells.specs.Promises.{Of, EveryUnary, EveryBinary, EveryComparison}
+use Rattle.cells.proofs.RangeLaws.{Linear, linear, lies, covers, linear-one, InBits, number-bits, bits-number, bits-down, Results, fits, whole, results-is, one-or-more, range₁-refines}
 use Rattle.cells.proofs.JudgeLaws.{Among, Judged, every, none, either, judged-is, one-is, zero-is}
 use Rattle.cells.proofs.CellLaws.{range₁-one, range₂-one, range₂-refines, one-among, some-number}
 use Rattle.cells.proofs.ComputeLaws.{results-inner}

@@ -1,19 +1,18 @@
 -- The cells of the code's start by their places, and one of them replaced. Assumes nothing.
-use Prim.Native.Nat.{ℕ, _+_, _-_, _*_, _<_, _≤_}
+use Prim.Native.Nat.{ℕ, _+_, _-_, _<_, _≤_}
 use mathlib.Core.Path.{_≡_, refl, sym, ap, ap₂, _∙_}
 use mathlib.Core.Bool.{Bool, true, false}
 use mathlib.Core.List.{List, []}
 use native.Mathlib.Omega.{arith}
 use lib.Dec.{ltb}
-use lib.IntN.{ℤ}
-use lib.ListN.{length, getD, drop, set, length-set}
+use lib.ListN.{length, getD, set, length-set}
 use lib.Seq.{getD-drop, drop-set-add}
 use borrow.Author.Tests.{ltb-true, ltb-false}
-use Rattle.cells.specs.Try.{Try, stuck, done, _>>=_}
+use Rattle.cells.specs.Try.{stuck, done, _>>=_}
 use Rattle.cells.specs.declared.Cell.{Cell}
 use Rattle.cells.specs.Cells.{handle, block, handled}
 use Rattle.machine.specs.Lists.{nth, put}
-use Rattle.machine.specs.Machine.{State, stackLimit, load, restack, reblock, getField, setField}
+use Rattle.machine.specs.Machine.{State, load, restack, reblock, getField, setField}
 use Rattle.machine.proofs.ListLaws.{nth-in, nth-out, put-in, put-out}
 use Rattle.states.specs.declared.State as code
 use Rattle.states.specs.View.{view, WellFormed, Fits, blocksOf, slot, whole}

@@ -8,14 +8,13 @@ use lib.Dec.{ltb}
 use lib.IntN.{ℤ}
 use lib.ListN.{length, getD, List·getD-eq-default}
 use borrow.Author.Tests.{eq-eqb, ne-eqb, lt-ltb, le-ltb, ltb-true, ltb-false}
-use Rattle.cells.specs.Try.{Try, stuck, done, _>>=_}
+use Rattle.cells.specs.Try.{stuck, done, _>>=_}
 use Rattle.cells.specs.declared.Cell.{Cell}
 use Rattle.machine.specs.Lists.{nth}
 use Rattle.machine.specs.Machine.{State, height}
-use Rattle.machine.proofs.ListLaws.{nth-in, nth-out}
+use Rattle.machine.proofs.ListLaws.{nth-out}
 use Rattle.changes.specs.declared.Position.{Position}
 use Rattle.changes.specs.declared.Position.the-variants.{Accu, Entry, Field}
-use Rattle.changes.specs.declared.Change.{Change}
 use Rattle.changes.specs.Places.{cellAt, from, fieldsFrom, positions}
 use Rattle.changes.specs.Changes.{numberAt, changesOf, changesAt, changesBy}
 use Rattle.changes.specs.Held.{positionOf, allPositions}

@@ -1,6 +1,6 @@
 -- Laws of the answers of a replay: in each case of the code, how large they are, and where they refuse. Assumes nothing.
 use Prim.Native.Nat.{ℕ, _+_, _<_, _≤_}
-use mathlib.Core.Path.{_≡_, refl, sym, ap, ap₂, _∙_}
+use mathlib.Core.Path.{_≡_, refl, sym, ap, _∙_}
 use mathlib.Core.List.{List, _++_}
 use native.Mathlib.Omega.{arith}
 use lib.IntN.{ℤ}
@@ -26,7 +26,7 @@ use Rattle.replays.specs.declared.Replayed.the-variants.{Agrees, Differs}
 use Rattle.replays.specs.Replay.{Outcome, agreed, differed, replay}
 use Rattle.replays.specs.Held.{ofReplayed}
 use Rattle.replays.proofs.Theorems.{differs-where}
-use Rattle.answers.specs.Answers.{Answer, reported, refused, memoryLimit, ofVerdict}
+use Rattle.answers.specs.Answers.{reported, refused, memoryLimit, ofVerdict}
 use Rattle.answers.proofs.AnswerLaws.{never, lent-short, from-reading, place-from, reading-refused, reading-passed}
 use Rattle.conformance.specs.Answers.{outcomeText, replayRoutine, replayAnswer}
 use Rattle.conformance.specs.Held.{outcomeIn}

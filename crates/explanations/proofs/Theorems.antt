@@ -1,14 +1,12 @@
 -- What an explanation says, proved. Assumes nothing.
 use Prim.Native.Nat.{ℕ, suc, _+_, _-_, _*_, _≤_}
 use mathlib.Core.Path.{_≡_, refl, sym, ap, _∙_}
-use mathlib.Core.List.{List, _++_}
+use mathlib.Core.List.{List}
 use native.Mathlib.Omega.{arith}
 use lib.ListN.{length, drop, length-append}
 use Rattle.refusals.specs.declared.Refusal.{Refusal}
 use Rattle.refusals.specs.Refusals.{place}
 use Rattle.text.specs.Text.{Line, lines}
-use Rattle.cells.specs.Cells.{unknown}
-use Rattle.machine.specs.Machine.{step}
 use Rattle.machine.specs.Forward.{Forward}
 use Rattle.bounds.specs.Tree.{Report, Verdict, bound}
 use Rattle.bounds.specs.Tree as verdicts
@@ -21,13 +19,12 @@ use Rattle.routine.proofs.PassingLaws.{code-few}
 use Rattle.routine.proofs.BranchLaws.{passing-forward}
 use Rattle.routine.proofs.PlaceLaws.{read-bound-place, confined, start-small}
 use Rattle.report.specs.Report.{boundText}
-use Rattle.walks.specs.Walk.{follow}
 use Rattle.walks.proofs.Theorems.{walks-worst}
 use Rattle.listings.specs.Listing.{entries, listing}
 use Rattle.listings.proofs.LengthLaws.{total, total-drop, total-lines, walk-fits}
 use Rattle.answers.specs.Answers.{reported, refused}
 use Rattle.answers.proofs.AnswerLaws.{never, from-reading, place-from}
-use Rattle.explanations.specs.Answers.{explanationLimit, worstMoves, entryNames, explanationText, explained, explainRoutine, explainAnswer}
+use Rattle.explanations.specs.Answers.{explanationLimit, worstMoves, explanationText, explained, explainRoutine, explainAnswer}
 use Rattle.explanations.specs.Promises.{ExplanationsKept, ExplanationsFit}
 use Rattle.explanations.proofs.SizeLaws.{code-length, priced, low, report-fits}
 use Rattle.explanations.proofs.EntryLaws.{last-cost, ways-decisions, entry-of}

@@ -15,7 +15,7 @@ use Rattle.cells.specs.Cells.{unknown}
 use Rattle.outcomes.specs.declared.Outcome.{Outcome}
 use Rattle.outcomes.specs.declared.Outcome.the-variants.{Opens, Halts}
 use Rattle.outcomes.proofs.ArmLaws as arms
-use Rattle.machine.specs.Machine.{height, Price, Next, goes, opens, withExtra, jump, reblock}
+use Rattle.machine.specs.Machine.{height, Next, goes, withExtra, jump, reblock}
 use Rattle.machine.specs.Machine as machine
 use Rattle.instructions.specs.Columns.{operationOf}
 use Rattle.states.specs.declared.State.{State}

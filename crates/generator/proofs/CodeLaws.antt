@@ -1,38 +1,33 @@
 -- Laws of the lines of code: a line is read as its address, its kind and its argument, and no row refuses it. Assumes nothing.
 use mathlib.Core.Path.{_≡_, refl, sym, ap, subst, _∙_}
-use mathlib.Core.Bool.{Bool, true, false, cond, not, _&&_, false≢true}
-use mathlib.Core.List.{List, [], _∷_, _++_, append-assoc, map}
-use Prim.Native.Nat.{ℕ, zero, suc, _+_, _-_, _*_, _/_, _%_, _<_, _≤_}
+use mathlib.Core.Bool.{Bool, true, false, cond, not}
+use mathlib.Core.List.{List, [], _∷_, _++_, append-assoc}
+use Prim.Native.Nat.{ℕ, zero, suc, _+_, _-_, _/_, _%_, _<_, _≤_}
 use native.Mathlib.Nat.{mod-lt}
 use native.Mathlib.Omega.{arith}
-use lib.Dec.{eqb, leb, ltb}
-use lib.IntN.{ℤ, pos, _+ℤ_}
-use lib.Signed.{leZ, ltZ}
+use lib.Dec.{eqb, ltb}
+use lib.IntN.{pos, _+ℤ_}
 use lib.ListN.{length, length-append, getD}
 use borrow.Author.Tests.{le-leb, lt-ltb, ltb-true, eq-eqb}
 use Rattle.text.specs.Text.{bytes, isEmpty, equals, split, words, Line, place, find, among, all}
 use Rattle.text.specs.declared.Place.the-variants.{At}
 use Rattle.text.specs.Decimal.{numeral, decimal}
-use Rattle.text.proofs.TextLaws.{Every, none, more, every-append, among-at, among-find, equals-path}
+use Rattle.text.proofs.TextLaws.{none, more, every-append, among-at, among-find, equals-path}
 use Rattle.text.proofs.DecimalLaws.{decimal-length}
 use Rattle.text.proofs.LineLaws.{endedLine}
 use Rattle.numbers.specs.Numbers.{within, same}
 use Rattle.numbers.proofs.SignedLaws.{number-fits}
-use Rattle.instructions.specs.Kinds.{addresses, kinds, kindNames, calls}
+use Rattle.instructions.specs.Kinds.{kinds, kindNames}
 use Rattle.instructions.specs.Columns.{kindAt}
 use Rattle.instructions.specs.declared.Argument.{Argument}
 use Rattle.instructions.specs.declared.Argument.the-variants.{Absent, Target, Primitive, Within}
 use Rattle.instructions.proofs.ColumnLaws.{column-at, names-count}
-use Rattle.words.specs.Lines.{integer}
 use Rattle.imports.proofs.IntegerLaws.{integer-length}
 use Rattle.routine.specs.declared.Section.the-variants.{Kinds as kinds-section, Primitives as primitives-section}
-use Rattle.routine.specs.declared.Role.{Role}
 use Rattle.routine.specs.declared.Role.the-variants.{Names as names, Code as code}
-use Rattle.routine.specs.declared.Row.{Row}
 use Rattle.routine.specs.declared.Row.the-variants.{Layout as layout-row, Range as range-row, Name as name-row, Price as price-row, Target as target-row, Forward as forward-row}
-use Rattle.routine.specs.Layout.{isAnswer, body, codeLines, listed, codeRoles}
+use Rattle.routine.specs.Layout.{isAnswer, body, codeLines, listed}
 use Rattle.routine.specs.Rows.{isNumeral, value, at, op, arg, argumentOf, onArgument, argumentLaidOut, argumentInRange, argumentNamed, argumentReaches, argumentForward, atRange, codeLaidOut, laidOut, codeInRange, inRange, codeNamed, named, firstAt, onCode, priced, reaches, codeForward, forward, test}
-use Rattle.routine.proofs.RowLaws.{Covered, rest, passed}
 use Rattle.inverses.proofs.SpellingLaws.{integer-read}
 use Rattle.inverses.proofs.JoinLaws.{Free, text-free, split-alone, split-first}
 use Rattle.inverses.proofs.NameLaws.{kind-name, name-known}

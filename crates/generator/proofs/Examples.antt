@@ -1,7 +1,6 @@
 -- Worked examples of the draws from seed 1, by computation. Assumes nothing.
 use mathlib.Core.Path.{_≡_, refl}
-use mathlib.Core.List.{List, [], _∷_}
-use Prim.Native.Nat.{ℕ}
+use mathlib.Core.List.{[], _∷_}
 use Rattle.generator.specs.Draws.{next, after}
 use Rattle.generator.specs.File.{count, kindOf}
 

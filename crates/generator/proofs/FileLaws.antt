@@ -1,13 +1,13 @@
 -- Laws of the whole file: its lines are those that it is written of, and no row refuses one of them; and how long it is. Assumes nothing.
 use mathlib.Core.Path.{_≡_, refl, sym, ap, ap₂, subst, _∙_}
-use mathlib.Core.Bool.{Bool, true, false, cond, not, _&&_}
+use mathlib.Core.Bool.{Bool, true, false, not, _&&_}
 use mathlib.Core.List.{List, [], _∷_, _++_, append-assoc, map}
 use Prim.Native.Nat.{ℕ, zero, suc, _+_, _*_, _<_, _≤_}
 use native.Mathlib.Omega.{arith}
 use lib.Dec.{eqb, leb}
 use borrow.Author.Tests.{eq-eqb, leb-true, not-true}
 use lib.IntN.{pos}
-use lib.ListN.{length, length-append, getD, drop}
+use lib.ListN.{length, length-append, getD}
 use Rattle.text.specs.Text as texts
 use Rattle.text.specs.Text.{bytes, isEmpty, equals, split, words, Line, lines, among, all, distinct}
 use Rattle.text.specs.Decimal as decimals
@@ -25,13 +25,12 @@ use Rattle.routine.specs.declared.Row.the-variants as rows-of
 use Rattle.routine.specs.declared.RefusedLine.the-variants.{Nowhere as nowhere}
 use Rattle.routine.specs.Layout.{layout, body, upToAnswer, codeLines, codeRoles, bodyRoles, roles, list, holdsCells, textAt, listed}
 use Rattle.routine.specs.Rows as rows
-use Rattle.routine.specs.Rows.{firstAt, value, at, cellWord, cellPresent, blockSizes, valuesLaidOut, columnLaidOut, columnInRange, laidOut, inRange, test, earliest, refusedLine, Passes}
+use Rattle.routine.specs.Rows.{firstAt, value, blockSizes, valuesLaidOut, columnLaidOut, columnInRange, laidOut, inRange, test, earliest, refusedLine, Passes}
 use Rattle.routine.proofs.RowLaws.{Covered, rest, passed}
 use Rattle.inverses.specs.Sections.{linesText}
 use Rattle.inverses.proofs.JoinLaws.{Free, text-free, lines-of-text}
 use Rattle.generator.specs.declared.Column.{Column}
-use Rattle.generator.specs.declared.Column.the-variants.{Names, Limits, Cycles, Words, Extras, Handles, Known, Open}
-use Rattle.generator.specs.Draws.{next, after}
+use Rattle.generator.specs.declared.Column.the-variants.{Names, Limits, Cycles, Words, Extras, Handles}
 use Rattle.generator.specs.Words.{rowFrom, row}
 use Rattle.generator.specs.File.{count, kindOf, accesses, isOpen, primitives, codeLine, codeFrom, plainCells, cellsFor, later, limitLines, kindPrices, primitivePrices, prices, cellNames, fieldNames, start, file}
 use Rattle.generator.proofs.WordLaws.{Plain, spaced, rowWords, row-length, row-last, row-more, row-short}

@@ -1,14 +1,13 @@
 -- Laws of drawn numbers: one below n is below n, and one of a range is in it, as the ranges of all kinds and of numbers are. Assumes nothing.
-use mathlib.Core.Path.{_≡_, refl, sym, ap, subst, _∙_}
+use mathlib.Core.Path.{_≡_, refl, subst}
 use mathlib.Core.Bool.{Bool, true, false, cond, _&&_, false≢true}
-use mathlib.Core.List.{List}
-use Prim.Native.Nat.{ℕ, zero, suc, _+_, _-_, _/_, _%_, _<_, _≤_}
+use Prim.Native.Nat.{ℕ, zero, suc, _+_, _-_, _/_, _%_, _<_}
 use native.Mathlib.Nat.{mod-lt, div-le-self}
 use native.Mathlib.Omega.{arith}
-use lib.Dec.{leb, ltb}
-use lib.IntN.{ℤ, pos, negsuc, natAbs, subℕ}
-use lib.Signed.{mag, nonNeg, leZ}
-use borrow.Author.Tests.{le-leb, ltb-true, ltb-false}
+use lib.Dec.{ltb}
+use lib.IntN.{ℤ, pos, negsuc, subℕ}
+use lib.Signed.{mag, nonNeg}
+use borrow.Author.Tests.{le-leb, ltb-false}
 use Rattle.text.specs.Text.{all}
 use Rattle.text.proofs.TextLaws.{every-getD, all-every, and-left, and-right}
 use Rattle.numbers.specs.declared.Range.{Range}

@@ -2,10 +2,10 @@
 -- Assumes nothing.
 use mathlib.Core.Path.{_≡_, refl, sym, ap, subst, _∙_}
 use mathlib.Core.Bool.{Bool, true, false, cond, not, _&&_, _||_, false≢true}
-use mathlib.Core.List.{List, [], _∷_, _++_}
-use Prim.Native.Nat.{ℕ, zero, suc, _+_, _/_, _%_, _<_, _≤_}
+use mathlib.Core.List.{List, [], _∷_}
+use Prim.Native.Nat.{ℕ, zero, suc, _+_, _/_, _%_, _≤_}
 use native.Mathlib.Omega.{arith}
-use lib.Dec.{eqb, leb, ltb}
+use lib.Dec.{eqb}
 use lib.IntN.{ℤ, pos}
 use lib.ListN.{length, getD, take, drop}
 use borrow.Author.Tests.{eqb-true, le-leb, lt-ltb}
@@ -14,7 +14,6 @@ use Rattle.text.specs.declared.Numeral.the-variants.{Misspelt as misspelt, Numb
 use Rattle.text.specs.Decimal.{digitsFrom, natural, numeral, decimal}
 use Rattle.text.proofs.TextLaws.{Every, none, more, every-map, every-append, equals-path}
 use Rattle.text.proofs.DecimalLaws.{decimal-read}
-use Rattle.numbers.specs.declared.Range.{Range}
 use Rattle.numbers.specs.Numbers.{range, within, numbers}
 use Rattle.instructions.specs.Kinds.{kinds, kindNames}
 use Rattle.instructions.specs.Columns.{kindAt}
@@ -22,7 +21,7 @@ use Rattle.words.specs.Lines.{integer}
 use Rattle.routine.specs.declared.CellWord.the-variants.{Unknown as unknown, Known as known, Block as block}
 use Rattle.routine.specs.declared.Column.the-variants.{Limit as limit, Cycles as cycles, Words as words-column, Extra as extra, Cell as cell}
 use Rattle.routine.specs.Layout.{list}
-use Rattle.routine.specs.Rows.{isNumeral, valueOf, value, knownOf, blockOf, spanOf, stop, spanned, hashed, cellWord, isCell, handles, cellInRange, cellPresent, budgets, ticks, cycleCounts, wordCounts, extraCounts, noExtra, extraRange, extrasInRange, columnInRange, columnLaidOut}
+use Rattle.routine.specs.Rows.{isNumeral, valueOf, value, knownOf, blockOf, spanOf, stop, spanned, hashed, cellWord, isCell, cellInRange, cellPresent, extraCounts, noExtra, extraRange, extrasInRange, columnInRange, columnLaidOut}
 use Rattle.inverses.proofs.SpellingLaws.{integer-read}
 use Rattle.inverses.proofs.JoinLaws.{Free, split-alone, split-first}
 use Rattle.inverses.proofs.LineLaws.{decimal-free}

@@ -1,5 +1,5 @@
 -- Laws of the words of the file: none is empty, none holds a space or a line feed, and none is long; and of rows of them. Assumes nothing.
-use mathlib.Core.Path.{_≡_, refl, sym, ap, subst, _∙_}
+use mathlib.Core.Path.{_≡_, refl, sym, ap, _∙_}
 use mathlib.Core.Bool.{Bool, true, false, cond, not, _||_}
 use mathlib.Core.List.{List, [], _∷_, _++_, append-assoc, append-nil}
 use Prim.Native.Nat.{ℕ, zero, suc, _+_, _-_, _*_, _/_, _%_, _<_, _≤_}
@@ -9,11 +9,11 @@ use lib.IntN.{ℤ, pos, negsuc}
 use lib.ListN.{length, length-append}
 use borrow.Author.Tests.{leb-true}
 use Rattle.text.specs.Text.{bytes, isEmpty, all}
-use Rattle.text.specs.declared.Numeral.the-variants.{Misspelt as misspelt, Number as number}
+use Rattle.text.specs.declared.Numeral.the-variants.{Number as number}
 use Rattle.text.specs.Decimal.{numeral, decimal}
 use Rattle.text.proofs.TextLaws.{Every, none, more, every-append, every-getD, all-every}
 use Rattle.text.proofs.DecimalLaws.{decimal-length, decimal-read}
-use Rattle.numbers.specs.Numbers.{numbers, IsNumber}
+use Rattle.numbers.specs.Numbers.{numbers}
 use Rattle.numbers.proofs.SignedLaws.{number-fits}
 use Rattle.instructions.specs.Kinds.{Kind, kinds}
 use Rattle.instructions.specs.Columns.{kindAt}
@@ -26,7 +26,7 @@ use Rattle.inverses.proofs.LineLaws.{decimal-free}
 use Rattle.generator.specs.declared.Column.{Column}
 use Rattle.generator.specs.declared.Column.the-variants.{Names, Limits, Cycles, Words, Extras, Handles, Known, Open}
 use Rattle.generator.specs.Draws.{next}
-use Rattle.generator.specs.Words.{below, numberIn, least, spread, amount, handleWord, numberWord, openWord, word, break, goesOn, rowFrom}
+use Rattle.generator.specs.Words.{numberIn, least, spread, amount, handleWord, numberWord, openWord, word, break, goesOn, rowFrom}
 use Rattle.generator.proofs.NumberLaws.{below-under, numbers-sound, number-is}
 
 -- ---- words

@@ -12,7 +12,7 @@ use Rattle.instructions.specs.Columns.{kindAt}
 use Rattle.words.specs.Lines.{integer}
 use Rattle.generator.specs.declared.Column.{Column}
 use Rattle.generator.specs.declared.Column.the-variants.{Names, Limits, Cycles, Words, Extras, Handles, Known, Open}
-use Rattle.generator.specs.Draws.{next, after}
+use Rattle.generator.specs.Draws.{after}
 use Rattle.generator.specs.Words.{numberIn, row}
 
 -- ---- the code

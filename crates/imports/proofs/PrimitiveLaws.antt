@@ -1,12 +1,9 @@
 -- Laws of the primitives line: what each test of it means. Assumes nothing.
-use mathlib.Core.Path.{_≡_, refl, sym, ap, _∙_}
-use mathlib.Core.Bool.{Bool, true, false, cond, _&&_}
-use mathlib.Core.List.{List, []}
+use mathlib.Core.Path.{_≡_, refl, ap, _∙_}
+use mathlib.Core.Bool.{true, false, cond, _&&_}
+use mathlib.Core.List.{List}
 use Prim.Native.Nat.{ℕ}
-use lib.Dec.{leb}
-use lib.ListN.{length}
 use Rattle.refusals.specs.declared.Refusal.the-variants.{Layout, BadName}
-use Rattle.refusals.specs.declared.Verdict.{Verdict}
 use Rattle.refusals.specs.declared.Verdict.the-variants.{Accepted as accepted, Refused as refused}
 use Rattle.text.specs.Text.{bytes, equals, words, all, distinct}
 use Rattle.routine.specs.declared.Section.the-variants.{Primitives as primitives}

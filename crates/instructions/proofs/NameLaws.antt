@@ -12,7 +12,7 @@ use lib.ListN.{length, getD, take, drop, set, replicate}
 use mir.Syntax.{w64}
 use mir.Val.{Fits}
 use borrow.Author.Tests.{eqb-true, ltb-true, leb-true}
-use Rattle.text.specs.Text.{equals, place, indexOf, find, among, all}
+use Rattle.text.specs.Text.{equals, place, find, among, all}
 use Rattle.text.specs.declared.Place.{Place}
 use Rattle.text.specs.declared.Place.the-variants.{At, Missing}
 use Rattle.text.proofs.TextLaws.{and-left, and-right, every-getD, every-map, all-every, among-every, among-at, isFound, among-place, equals-path, equals-self, among-find}

@@ -10,12 +10,11 @@ use lib.Dec.{eqb}
 use lib.ListN.{length, getD, drop, drop-of-length-le, List·getD-map}
 use lib.Seq.{drop-cons}
 use borrow.Author.Tests.{eq-eqb, ne-eqb, eqb-true}
-use Rattle.text.specs.declared.Place.{Place}
 use Rattle.text.specs.declared.Place.the-variants.{At as at, Missing as missing}
 use Rattle.instructions.specs.Kinds.{kinds, opcodes}
 use Rattle.instructions.specs.Columns.{kindAt}
 use Rattle.instructions.specs.Opcodes.{placeFrom, kindCoded}
-use Rattle.instructions.proofs.ColumnLaws.{getD-any, natural-at}
+use Rattle.instructions.proofs.ColumnLaws.{natural-at}
 
 -- ---- a search along a list: found here, not here, at its end
 

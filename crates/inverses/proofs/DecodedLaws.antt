@@ -1,14 +1,13 @@
 -- Laws of words that an import accepts: the instructions decoded from them stand one after the other, and their words and bytes are
 -- those that were given. Assumes nothing.
-use mathlib.Core.Path.{_≡_, refl, sym, ap, ap₂, subst, _∙_}
+use mathlib.Core.Path.{_≡_, refl, ap, subst, _∙_}
 use mathlib.Core.Bool.{Bool, true, false, cond}
-use mathlib.Core.List.{List, [], _∷_, _++_, map}
-use Prim.Native.Nat.{ℕ, zero, suc, _+_, _-_, _*_, _/_, _%_, _<_, _≤_}
+use mathlib.Core.List.{List, [], _∷_, map}
+use Prim.Native.Nat.{ℕ, suc, _+_, _-_, _*_, _/_, _%_, _<_}
 use native.Mathlib.Omega.{arith}
 use native.Mathlib.Nat.{mod-eq-of-lt}
 use lib.Dec.{ltb}
-use lib.IntN.{ℤ, pos, negsuc}
-use borrow.Author.Tests.{ltb-true, ltb-false}
+use lib.IntN.{pos, negsuc}
 use Rattle.text.specs.declared.Place.{Place}
 use Rattle.text.specs.declared.Place.the-variants.{At as at, Missing as missing}
 use Rattle.text.proofs.TextLaws.{Every, none, more}
@@ -17,7 +16,7 @@ use Rattle.instructions.specs.Columns.{kindAt}
 use Rattle.instructions.specs.Opcodes.{kindCoded}
 use Rattle.instructions.proofs.OpcodeLaws.{opcode-of-kind}
 use Rattle.words.specs.Words.{wordBits, Word, whole, cut, littleEndian, wordsOf, bytesOf, allBytes}
-use Rattle.words.specs.Decoding.{Item, itemOf, hasArgument, Entry, item, unreadable, Due, opcode, argument, coded, entries, items, callListed, faultFrom}
+use Rattle.words.specs.Decoding.{Item, itemOf, hasArgument, Entry, item, unreadable, opcode, argument, coded, entries, items, callListed, faultFrom}
 use Rattle.words.specs.Held.{sizeOf}
 use Rattle.words.specs.Export.{itemWords, wordsIn}
 use Rattle.words.proofs.WordLaws.{signed-fits}

@@ -1,14 +1,14 @@
 -- Laws of an export that is imported: of a passing file that begins at address 0 the words are accepted with its primitives line, and
 -- the lines made are those of the file. Assumes nothing.
 use mathlib.Core.Path.{_≡_, refl, sym, ap, subst, _∙_}
-use mathlib.Core.Bool.{Bool, true, false, cond, not, _&&_, false≢true}
+use mathlib.Core.Bool.{Bool, true, false, cond, not, false≢true}
 use mathlib.Core.List.{List, [], _∷_, _++_, map}
-use Prim.Native.Nat.{ℕ, zero, suc, _+_, _-_, _*_, _<_, _≤_}
+use Prim.Native.Nat.{ℕ, zero, suc, _+_, _-_, _<_, _≤_}
 use native.Mathlib.Omega.{arith}
-use lib.Dec.{leb, ltb}
-use lib.IntN.{ℤ, pos, negsuc, natAbs, _+ℤ_, _-ℤ_}
-use lib.ListN.{length, getD, length-map}
-use borrow.Author.Tests.{leb-true, ltb-true, ltb-false}
+use lib.Dec.{ltb}
+use lib.IntN.{pos, negsuc, natAbs, _-ℤ_}
+use lib.ListN.{length, length-map}
+use borrow.Author.Tests.{leb-true}
 use Rattle.refusals.specs.declared.Verdict.the-variants.{Accepted as accepted}
 use Rattle.text.specs.Text.{bytes, isEmpty, equals, split, words, Line, linesOf, lines, place, indexOf, find, all}
 use Rattle.text.specs.declared.Place.{Place}
@@ -25,21 +25,21 @@ use Rattle.routine.specs.declared.Role.{Role}
 use Rattle.routine.specs.declared.Role.the-variants.{Names as names}
 use Rattle.routine.specs.declared.Row.the-variants.{Layout as layout-row, Range as range-row, Name as name-row, Target as target-row}
 use Rattle.routine.specs.Layout.{layout, body, codeLines, isRole, list, textAt, listed}
-use Rattle.routine.specs.Rows.{value, op, arg, namesLaidOut, laidOut, wellNamed, named, firstAt, test, Passes}
+use Rattle.routine.specs.Rows.{value, op, arg, namesLaidOut, laidOut, named, firstAt, test, Passes}
 use Rattle.routine.specs.Routine.{inside, argumentValue, firstAddress}
 use Rattle.routine.proofs.RowLaws.{passes-laid-out, passes-spaced, passes-named}
-use Rattle.routine.proofs.RangeLaws.{Natural, natural-inside, inside-keeps, every-mapped}
+use Rattle.routine.proofs.RangeLaws.{natural-inside, inside-keeps, every-mapped}
 use Rattle.routine.proofs.PassingLaws.{Coded, code-passed, code-some, code-few, first-small}
 use Rattle.routine.proofs.PassingLaws as coded
 use Rattle.words.specs.Words.{wordsOf, allBytes}
 use Rattle.words.specs.Decoding.{decoded, items, faultFrom, wordFault, offsetFault, codeFault}
 use Rattle.words.specs.Lines.{codeText}
-use Rattle.words.specs.Import.{lineLaidOut, lineVerdict, oneLine, primitivesVerdict, firstText, primitivesOf, faultVerdict, both, importVerdict, importText}
+use Rattle.words.specs.Import.{lineLaidOut, lineVerdict, oneLine, primitivesVerdict, primitivesOf, faultVerdict, both, importVerdict, importText}
 use Rattle.words.specs.Export.{Op, relative, opOf, wordsIn, exportOps, exportBytes}
 use Rattle.words.proofs.FaultLaws.{fault-starts}
 use Rattle.words.proofs.OffsetLaws.{fault-then}
 use Rattle.words.proofs.ExportLaws.{Placed, export-fits, bytes-entries, bytes-decoded}
-use Rattle.inverses.specs.Sections.{linesText, codeSection, primitivesLine}
+use Rattle.inverses.specs.Sections.{codeSection, primitivesLine}
 use Rattle.inverses.proofs.JoinLaws.{Free, pieces-every, split-alone, lines-free}
 use Rattle.inverses.proofs.FileLaws.{section-text}
 use Rattle.inverses.proofs.LineLaws.{argument-number, code-said}

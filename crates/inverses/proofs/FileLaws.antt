@@ -1,13 +1,13 @@
 -- Laws of a file's lines: the section of the code is its names line and its code lines, and put back in its place it makes the file.
 -- Assumes nothing.
 use mathlib.Core.Path.{_≡_, refl, sym, ap, _∙_}
-use mathlib.Core.Bool.{Bool, true, false, cond}
+use mathlib.Core.Bool.{Bool}
 use mathlib.Core.List.{List, [], _∷_, _++_, append-assoc}
-use Prim.Native.Nat.{ℕ, suc, _+_, _<_, _≤_}
+use Prim.Native.Nat.{ℕ, _+_, _<_, _≤_}
 use native.Mathlib.Omega.{arith}
-use lib.ListN.{length, getD, take, drop, length-append, take-append-drop}
+use lib.ListN.{length, getD, take, drop, take-append-drop}
 use lib.Seq.{drop-cons}
-use Rattle.text.specs.Text.{bytes, equals, Line, noLine, lines}
+use Rattle.text.specs.Text.{bytes, Line, noLine, lines}
 use Rattle.text.proofs.TextLaws.{equals-path}
 use Rattle.routine.specs.declared.Section.the-variants.{Instructions as instructions}
 use Rattle.routine.specs.declared.Role.{Role}

@@ -1,27 +1,26 @@
 -- Laws of an import of exported words: the instructions of lines that say what is exported are put together without a fault, and an
 -- import writes these lines. Assumes nothing.
-use mathlib.Core.Path.{_≡_, refl, sym, ap, ap₂, subst, _∙_}
+use mathlib.Core.Path.{_≡_, refl, sym, ap, ap₂, _∙_}
 use mathlib.Core.Bool.{Bool, true, false, cond}
 use mathlib.Core.List.{List, [], _∷_, _++_, map}
 use Prim.Native.Nat.{ℕ, zero, suc, _+_, _-_, _*_, _<_, _≤_}
 use native.Mathlib.Omega.{arith}
 use lib.Dec.{ltb}
-use lib.IntN.{ℤ, pos, negsuc, natAbs, _+ℤ_, _-ℤ_}
+use lib.IntN.{ℤ, pos, negsuc, _-ℤ_}
 use lib.ListN.{length, getD}
 use mir.Syntax.{w32}
 use mir.Val.{SFits}
-use borrow.Author.Tests.{lt-ltb, ltb-true, ltb-false}
+use borrow.Author.Tests.{lt-ltb}
 use Rattle.text.specs.Text.{bytes, Line, indexOf}
-use Rattle.text.specs.declared.Place.the-variants.{At as at, Missing as missing}
+use Rattle.text.specs.declared.Place.the-variants.{Missing as missing}
 use Rattle.text.specs.Decimal.{decimal}
 use Rattle.text.proofs.TextLaws.{Every, none, more}
-use Rattle.numbers.specs.declared.Range.{Range}
 use Rattle.numbers.specs.Numbers.{IsNumber}
 use Rattle.numbers.proofs.SignedLaws.{number-fits}
 use Rattle.instructions.specs.Columns.{kindAt}
 use Rattle.instructions.specs.declared.Argument.{Argument}
 use Rattle.instructions.specs.declared.Argument.the-variants.{Absent, Target, Primitive, Within}
-use Rattle.words.specs.Decoding.{Item, itemOf, hasArgument, Entry, item, isPlace, callListed, faultFrom, landing, numberAt, isFound, lands, offsetFault}
+use Rattle.words.specs.Decoding.{Item, itemOf, hasArgument, item, isPlace, callListed, faultFrom, isFound, lands, offsetFault}
 use Rattle.words.specs.Held.{sizeOf}
 use Rattle.words.specs.Lines.{argumentText, lineText, linesFrom}
 use Rattle.words.specs.Export.{Op, positions, argumentWord, itemsFrom}

@@ -1,14 +1,14 @@
 -- Laws of pieces put together again: the pieces of a text make the text, and joined pieces are split into the same; lines that each
 -- end in a line feed likewise. Assumes nothing.
-use mathlib.Core.Path.{_≡_, refl, sym, ap, subst, _∙_}
+use mathlib.Core.Path.{_≡_, refl, sym, ap, _∙_}
 use mathlib.Core.Bool.{Bool, true, false, cond, not, false≢true}
 use mathlib.Core.List.{List, [], _∷_, _++_, append-assoc, map}
-use Prim.Native.Nat.{ℕ, suc, _+_, _<_, _≤_}
+use Prim.Native.Nat.{ℕ, _+_, _<_}
 use native.Mathlib.Omega.{arith}
 use lib.Dec.{eqb}
 use lib.ListN.{length, getD}
 use borrow.Author.Tests.{eqb-true, eqb-false, eq-eqb, ne-eqb, not-true}
-use Rattle.text.specs.Text.{bytes, isEmpty, onto, split, words, Line, linesOf, lines, all}
+use Rattle.text.specs.Text.{bytes, onto, split, words, Line, linesOf, lines, all}
 use Rattle.text.proofs.TextLaws.{Every, none, more, every-map, all-every}
 use Rattle.text.proofs.PieceLaws.{split-some}
 use Rattle.text.proofs.LineLaws.{endedLine}

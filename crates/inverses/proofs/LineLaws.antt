@@ -1,21 +1,21 @@
 -- Laws of a code line: of a passing file that begins at address 0 it is its number, its kind's name and its argument as an import
 -- writes them, and it is known by them what it says. Assumes nothing.
 use mathlib.Core.Path.{_≡_, refl, sym, ap, ap₂, subst, _∙_}
-use mathlib.Core.Bool.{Bool, true, false, cond, _&&_, false≢true}
+use mathlib.Core.Bool.{Bool, true, _&&_, false≢true}
 use mathlib.Core.List.{List, [], _∷_, _++_, append-assoc}
-use Prim.Native.Nat.{ℕ, zero, suc, _+_, _-_, _<_, _≤_}
+use Prim.Native.Nat.{ℕ, _+_, _-_, _<_}
 use native.Mathlib.Omega.{arith}
-use lib.Dec.{eqb, leb, ltb}
-use lib.IntN.{ℤ, pos, negsuc, natAbs, _+ℤ_, _-ℤ_}
+use lib.Dec.{leb, ltb}
+use lib.IntN.{ℤ, pos, negsuc, _+ℤ_, _-ℤ_}
 use lib.Signed.{mag, leZ, ltZ}
 use lib.ListN.{length, getD}
 use borrow.Author.Tests.{eqb-true, leb-true, le-leb, ltb-true}
-use Rattle.text.specs.Text.{bytes, equals, Line, place, indexOf, find, among, all, distinct}
+use Rattle.text.specs.Text.{bytes, Line, place, indexOf, find, among, all, distinct}
 use Rattle.text.specs.declared.Place.the-variants.{At}
 use Rattle.text.specs.declared.Numeral.{Numeral}
 use Rattle.text.specs.declared.Numeral.the-variants.{Misspelt as misspelt, Number as number}
-use Rattle.text.specs.Decimal.{isDigit, numeral, decimal}
-use Rattle.text.proofs.TextLaws.{Every, every-map, every-getD, all-every, and-left, and-right, cond-left, cond-right, equals-path}
+use Rattle.text.specs.Decimal.{numeral, decimal}
+use Rattle.text.proofs.TextLaws.{every-map, every-getD, all-every, and-left, and-right, cond-left, equals-path}
 use Rattle.text.proofs.DecimalLaws.{decimal-digits, decimal-read}
 use Rattle.numbers.specs.declared.Range.{Range}
 use Rattle.numbers.specs.Numbers.{bits, half, IsNumber, within, numbers, same}
@@ -27,7 +27,7 @@ use Rattle.routine.specs.declared.Section.the-variants.{Primitives as primitive
 use Rattle.routine.specs.declared.Role.the-variants.{Names as names, Code as code}
 use Rattle.routine.specs.declared.Row.the-variants.{Layout as layout-row, Range as range-row, Name as name-row, Target as target-row}
 use Rattle.routine.specs.Layout.{body, codeLines, listed}
-use Rattle.routine.specs.Rows.{isNumeral, valueOf, value, at, op, arg, onArgument, argumentLaidOut, argumentInRange, argumentNamed, argumentReaches, atRange, firstAddresses, codeInRange, inRange, codeNamed, named, firstAt, onCode, reaches, test, Passes}
+use Rattle.routine.specs.Rows.{isNumeral, valueOf, value, at, op, arg, onArgument, argumentLaidOut, argumentInRange, argumentNamed, argumentReaches, atRange, codeInRange, inRange, codeNamed, named, firstAt, onCode, reaches, test}
 use Rattle.routine.specs.Routine.{inside, argumentValue, firstAddress}
 use Rattle.routine.proofs.RowLaws.{laid-out}
 use Rattle.routine.proofs.CodeLaws.{code-laid-out, code-named, kind-there, on-kind}
@@ -35,7 +35,7 @@ use Rattle.routine.proofs.RangeLaws.{within-low, within-high, inside-is}
 use Rattle.words.specs.Lines.{integer}
 use Rattle.words.specs.Export.{Op, relative, opOf}
 use Rattle.inverses.proofs.SpellingLaws.{spelt-back, integer-read}
-use Rattle.inverses.proofs.JoinLaws.{Free, joined, join-split, words-three, cut-same}
+use Rattle.inverses.proofs.JoinLaws.{Free, words-three, cut-same}
 use Rattle.inverses.proofs.NameLaws.{found-there, distinct-places, kind-name, name-known, name-free}
 
 -- ---- what a line says

@@ -2,7 +2,7 @@
 -- the names of the kinds are such, with no space in them. Assumes nothing.
 use mathlib.Core.Path.{_≡_, refl, sym, ap, subst, _∙_}
 use mathlib.Core.Bool.{Bool, true, false, cond, not, _&&_, false≢true}
-use mathlib.Core.List.{List, [], _∷_, map}
+use mathlib.Core.List.{List, [], _∷_}
 use Prim.Native.Nat.{ℕ, zero, suc, _+_, _<_, _≤_}
 use native.Mathlib.Omega.{arith}
 use native.Mathlib.Nat.{le-of-suc-le-suc}
@@ -12,7 +12,7 @@ use borrow.Author.Tests.{eq-eqb, not-true, ltb-true}
 use Rattle.text.specs.Text.{equals, placeFrom, place, indexOf, find, among, all, distinct}
 use Rattle.text.specs.declared.Place.{Place}
 use Rattle.text.specs.declared.Place.the-variants.{At, Missing}
-use Rattle.text.proofs.TextLaws.{Every, every-map, every-getD, all-every, and-left, and-right, equals-path, isFound, among-place, place-below}
+use Rattle.text.proofs.TextLaws.{every-map, every-getD, all-every, and-left, and-right, equals-path, isFound, among-place, place-below}
 use Rattle.instructions.specs.Kinds.{Kind, kinds, kindNames}
 use Rattle.instructions.specs.Columns.{kindAt}
 use Rattle.instructions.proofs.ColumnLaws.{column-at}

@@ -1,17 +1,16 @@
 -- Laws of an import that is exported: of a passing file whose section of the code is what an import made, with the same primitives, the
 -- words are those that were imported. Assumes nothing.
 use mathlib.Core.Path.{_≡_, refl, sym, ap, ap₂, subst, _∙_}
-use mathlib.Core.Bool.{Bool, true, false, cond, _&&_}
+use mathlib.Core.Bool.{Bool, true, false, cond}
 use mathlib.Core.List.{List, [], _∷_, _++_, append-assoc, map}
 use Prim.Native.Nat.{ℕ, suc, _+_, _<_, _≤_}
 use native.Mathlib.Omega.{arith}
 use lib.Dec.{ltb}
-use lib.IntN.{ℤ, pos}
+use lib.IntN.{pos}
 use lib.ListN.{length, getD, take, drop, length-map}
 use Rattle.refusals.specs.declared.Verdict.the-variants.{Accepted as accepted}
 use Rattle.text.specs.Text.{bytes, split, words, Line, noLine, lines, all, distinct}
 use Rattle.text.specs.declared.Place.the-variants.{At as at, Missing as missing}
-use Rattle.text.specs.declared.Numeral.the-variants.{Number as number}
 use Rattle.text.specs.Decimal.{numeral, decimal}
 use Rattle.text.proofs.TextLaws.{Every, none, more, and-right}
 use Rattle.text.proofs.LineLaws.{endedLine}
@@ -25,7 +24,7 @@ use Rattle.routine.proofs.RowLaws.{passes-named}
 use Rattle.routine.proofs.AnswerLaws.{first-code}
 use Rattle.routine.proofs.PassingLaws.{code-some}
 use Rattle.words.specs.Words.{Word, wordsOf, allBytes}
-use Rattle.words.specs.Decoding.{Item, Entry, item, unreadable, opcode, entries, decoded, items, callListed, faultFrom, wordFault, lands, offsetFault}
+use Rattle.words.specs.Decoding.{Item, Entry, item, unreadable, decoded, items, callListed, faultFrom, wordFault, lands, offsetFault}
 use Rattle.words.specs.Lines.{codeText}
 use Rattle.words.specs.Import.{primitivesOf, importVerdict, importText}
 use Rattle.words.specs.Export.{Op, positions, itemsFrom, wordsIn, exportOps, exportBytes}
@@ -35,8 +34,8 @@ use Rattle.words.proofs.ExportLaws as placed
 use Rattle.imports.proofs.ImportLaws.{import-sound, import-words}
 use Rattle.inverses.specs.Sections.{linesText, linesBefore, sectionLength, codeSection}
 use Rattle.inverses.proofs.JoinLaws.{Free, text-free, split-first, lines-free, lines-of-text}
-use Rattle.inverses.proofs.FileLaws.{section-lines, names-line}
-use Rattle.inverses.proofs.LineLaws.{Says, decimal-free, says-one}
+use Rattle.inverses.proofs.FileLaws.{section-lines}
+use Rattle.inverses.proofs.LineLaws.{decimal-free, says-one}
 use Rattle.inverses.proofs.ImportedLaws.{Said, end, next}
 use Rattle.inverses.proofs.ExportedLaws.{names-free, ops, file-said, counted}
 use Rattle.inverses.proofs.DecodedLaws.{faulty, decoded-placed, decoded-back}

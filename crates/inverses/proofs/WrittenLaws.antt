@@ -1,10 +1,9 @@
 -- Laws of an import's lines: each says its instruction, and what is exported of them are the instructions again. Assumes nothing.
 use mathlib.Core.Path.{_≡_, refl, sym, ap, ap₂, subst, _∙_}
-use mathlib.Core.Bool.{Bool, true, false, cond, false≢true}
+use mathlib.Core.Bool.{true, false, false≢true}
 use mathlib.Core.List.{List, [], _∷_, _++_, map}
-use Prim.Native.Nat.{ℕ, zero, suc, _+_, _<_, _≤_}
+use Prim.Native.Nat.{ℕ, suc, _+_, _<_}
 use native.Mathlib.Omega.{arith}
-use lib.Dec.{ltb}
 use lib.IntN.{ℤ, pos, negsuc, natAbs, _+ℤ_, _-ℤ_, +ℤ-comm, +ℤ-negℤ-cancel}
 use lib.ListN.{length, getD, length-map}
 use borrow.Author.Tests.{ltb-true}
@@ -15,12 +14,10 @@ use Rattle.text.specs.Decimal.{decimal}
 use Rattle.text.proofs.TextLaws.{Every, none, more, every-append, every-getD}
 use Rattle.text.proofs.LineLaws.{endedLine}
 use Rattle.instructions.specs.Columns.{kindAt}
-use Rattle.instructions.specs.Opcodes.{placeFrom}
 use Rattle.instructions.specs.declared.Argument.{Argument}
 use Rattle.instructions.specs.declared.Argument.the-variants.{Absent, Target, Primitive, Within}
 use Rattle.instructions.proofs.OpcodeLaws.{place-found}
-use Rattle.words.specs.Decoding.{Item, itemOf, hasArgument, Entry, item, unreadable, items, isPlace, callListed, faultFrom, landing, numberAt, isFound, lands, offsetFault}
-use Rattle.words.specs.Held.{sizeOf}
+use Rattle.words.specs.Decoding.{Item, itemOf, hasArgument, isPlace, callListed, landing, numberAt, isFound, lands}
 use Rattle.words.specs.Lines.{integer, argumentText, lineText, linesFrom, codeText}
 use Rattle.words.specs.Export.{Op, positions, argumentWord, itemsFrom}
 use Rattle.words.proofs.ExportLaws.{Placed, with-word, plain}

@@ -1,16 +1,15 @@
 -- How long the lines of a walk are: no code line is written twice, and the values of a line have few digits. Assumes nothing.
 use Prim.Native.Nat.{ℕ, zero, suc, _+_, _-_, _*_, _^_, _≤_, _<_}
-use mathlib.Core.Path.{_≡_, refl, sym, ap, _∙_}
+use mathlib.Core.Path.{_≡_, refl, ap, _∙_}
 use mathlib.Core.Bool.{Bool, true, false, cond}
 use mathlib.Core.List.{List, [], _∷_, _++_}
 use native.Mathlib.Omega.{arith}
 use lib.Dec.{eqb}
 use lib.ListN.{length, getD, drop, length-append}
 use lib.Seq.{drop-drop}
-use Rattle.text.specs.Text.{isEmpty, onto, split, Line, noLine, linesOf, lines}
-use Rattle.text.specs.Decimal.{decimal}
+use Rattle.text.specs.Text.{onto, split, Line, noLine, linesOf, lines}
 use Rattle.text.proofs.DecimalLaws.{decimal-length}
-use Rattle.cells.specs.Try.{Try, stuck, done}
+use Rattle.cells.specs.Try.{Try, done}
 use Rattle.cells.specs.Cells.{unknown}
 use Rattle.machine.specs.Machine.{State, Price, Instruction, Code, fetch, Next, height, step}
 use Rattle.machine.specs.Forward.{Forward}
@@ -19,7 +18,6 @@ use Rattle.machine.proofs.HeightLaws.{Low, step-low}
 use Rattle.machine.proofs.ForwardLaws.{step-above, step-inside}
 use Rattle.machine.proofs.PriceLaws.{AtMost, Both, Priced, is-stuck, stops-at, goes-at, opens-at, step-price}
 use Rattle.bounds.specs.Tree.{Decision, N, T}
-use Rattle.bounds.specs.Traces.{Move, move}
 use Rattle.report.specs.Report.{pathText}
 use Rattle.walks.specs.Walk.{onward, follow}
 use Rattle.listings.specs.Listing.{entriesFrom, codeText, entryText, listing}

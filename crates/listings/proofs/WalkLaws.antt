@@ -1,6 +1,6 @@
 -- The loop that writes the lines of a walk, apart from its code: what holds at each turn, and what each way out gives. Assumes nothing.
 use Prim.Native.Nat.{ℕ, suc, _+_, _-_, _*_, _≤_, _<_}
-use mathlib.Core.Path.{_≡_, refl, sym, ap, ap₂, _∙_}
+use mathlib.Core.Path.{_≡_, refl, sym, ap, _∙_}
 use mathlib.Core.Bool.{Bool, true, false, cond, not, false≢true}
 use mathlib.Core.List.{List, [], _∷_, _++_, append-assoc, append-nil}
 use native.Mathlib.Omega.{arith}
@@ -14,7 +14,7 @@ use Rattle.machine.specs.Machine.{State, Code, height, reblock, step}
 use Rattle.states.specs.declared.State as states
 use Rattle.states.specs.View.{WellFormed, Fits, whole}
 use Rattle.states.proofs.StateLaws.{height-is}
-use Rattle.bounds.specs.Traces.{Move, move}
+use Rattle.bounds.specs.Traces.{move}
 use Rattle.report.specs.Decode.{decode}
 use Rattle.walks.specs.Walk.{onward, follow}
 use Rattle.walks.specs.declared.Walked.{Walked}

@@ -165,11 +165,6 @@ module _ (act : State → Try Next) (z : ℕ) (rising : (s : State) (n : Next) �
   fill-below zero a tab b h = refl
   fill-below (suc n) a tab b h = fill-below n (suc a) _ b (omega arith) ∙ sends-other a (slot (tab a)) tab b (λ t o e. omega (arith, o .above))
 
-  pub fill-above : (n a : ℕ) (tab : Table) (b : ℕ) → z < b → fill act n a tab b ≡ tab b
-  unfolding fill
-  fill-above zero a tab b h = refl
-  fill-above (suc n) a tab b h = fill-above n (suc a) _ b h ∙ sends-other a (slot (tab a)) tab b (λ t o e. omega (arith, o .inside))
-
   -- an address is filled when it is reached
   fill-own : (n a : ℕ) (tab : Table) → fill act (suc n) a tab a ≡ tab a
   unfolding fill

@@ -10,7 +10,6 @@ use Rattle.cells.specs.Try.{Try, stuck, done}
 use Rattle.machine.specs.Machine.{State, Price, Next, stops, goes, opens, jump}
 use Rattle.bounds.specs.Tree.{Report}
 use Rattle.merges.specs.Merge.{Arrival, Slot, empty, unlike, held, join, slot, Table, arrive, send, carry, visit, sweep}
-use Rattle.merges.proofs.FillLaws.{arrive-other}
 
 pub arrive-slot : (x : Arrival) (tab : Table) (b : ℕ) → slot (arrive x tab b) ≡ cond (eqb b (x .state .at)) (join (slot (tab b)) x) (slot (tab b))
 unfolding arrive slot
@@ -54,7 +53,3 @@ module _ (act : State → Try Next) where
       each empty ih = ih x y r above
       each unlike ih = refl
       each (held s p) ih = made s p (act (jump a s)) ih
-
-  -- a state that comes to no address from a on, or to one after them, changes nothing
-  pub arrive-outside : (n a : ℕ) (i : Arrival) (tab : Table) → ((b : ℕ) → a ≤ b → b < a + n → b ≡ i .state .at → ⊥) → Agree a n (arrive i tab) tab
-  arrive-outside n a i tab out = record { slots = λ b lo hi. ap slot (arrive-other i tab b (out b lo hi)) }

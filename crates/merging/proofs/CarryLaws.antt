@@ -1,10 +1,10 @@
 -- Laws of an address that is carried out: by what its step leads to, what the code leaves is what the definition goes on with. Assumes
 -- nothing.
-use Prim.Native.Nat.{ℕ, suc, _+_, _*_, _-_, _<_, _≤_, max}
+use Prim.Native.Nat.{ℕ, suc, _+_, _-_, _<_, _≤_, max}
 use mathlib.Core.Path.{_≡_, refl, sym, ap, ap₂, subst, _∙_}
-use mathlib.Core.Bool.{Bool, true, false}
-use mathlib.Core.List.{List, []}
-use native.Mathlib.Nat.{max-le, le-trans}
+use mathlib.Core.Bool.{Bool, false}
+use mathlib.Core.List.{List}
+use native.Mathlib.Nat.{max-le}
 use native.Mathlib.Omega.{arith}
 use lib.ListN.{length, length-set}
 use Rattle.refusals.specs.declared.Refusal.{Refusal}
@@ -31,11 +31,10 @@ use Rattle.steps.specs.declared.Change.the-variants as change
 use Rattle.steps.specs.Step.{ofPrice, SmallPrice, ofNext, Differs}
 use Rattle.findings.specs.declared.Found.{Found}
 use Rattle.findings.specs.Found.{acceptedAs, encode, refusedAs}
-use Rattle.merges.specs.Merge.{Arrival, arrival, Slot, Table, slot, arrive, send, reach, finish, carry}
+use Rattle.merges.specs.Merge.{Arrival, arrival, Table, slot, arrive, send, reach, finish, carry}
 use Rattle.arrivals.specs.declared.Way.{Way}
-use Rattle.merging.specs.declared.Pass.{Pass}
 use Rattle.arrivals.specs.Rows.{Small, Formed, Numeric, Rows, arrivalOf, slotAt, joinAt, waiting}
-use Rattle.merging.specs.Pass.{Comes, Spent, most, Figures, Ready, Agrees, Moved, stopped, moved, spentOf}
+use Rattle.merging.specs.Pass.{Comes, Spent, most, Figures, Ready, Agrees, spentOf}
 use Rattle.merging.proofs.PassLaws.{alone, arrived, spent-more, spent-at}
 
 pub fits-of : (ns : List ℕ) (bl : List Cell) → Small ns → length bl ≡ 128 → Fits ns bl

@@ -1,19 +1,19 @@
 -- Laws of what comes to an address: the way at hand, and what its row holds. Assumes nothing.
-use Prim.Native.Nat.{ℕ, suc, _+_, _≤_, max}
+use Prim.Native.Nat.{ℕ, _+_, _≤_}
 use mathlib.Core.Path.{_≡_, refl, sym, ap, ap₂, subst, _∙_}
 use mathlib.Core.Bool.{Bool, true, false, cond}
 use mathlib.Core.List.{List, _∷_}
 use native.Mathlib.Nat.{max-le, le-trans}
 use native.Mathlib.Omega.{arith}
 use lib.Dec.{eqb}
-use lib.ListN.{length, getD}
+use lib.ListN.{getD}
 use borrow.Author.Tests.{eqb-true, eqb-false, eq-eqb, ne-eqb}
 use Rattle.cells.specs.Try.{Try, stuck, done}
 use Rattle.machine.specs.Machine.{State, Price}
 use Rattle.merges.specs.Merge.{Arrival, Slot, empty, unlike, held, larger, settle, mergeStates, join, Table, slot, arrive}
 use Rattle.arrivals.specs.declared.Way.{Way}
 use Rattle.merging.specs.declared.Mark.the-variants.{Nothing, Unlike, Is}
-use Rattle.arrivals.specs.Rows.{Formed, arrivalOf, slotIn, stateIn, priceIn, arrivalIn, joinAt, with, waiting}
+use Rattle.arrivals.specs.Rows.{arrivalOf, slotIn, arrivalIn, joinAt, with, waiting}
 use Rattle.merging.specs.Pass.{cameAs, Comes, Spent}
 use Rattle.arrivals.proofs.RowLaws.{slot-empty, slot-held, slot-unlike}
 use Rattle.arrivals.proofs.PartLaws.{comes-to}

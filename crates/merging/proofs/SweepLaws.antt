@@ -6,7 +6,7 @@ use mathlib.Core.List.{List, [], _∷_}
 use native.Mathlib.Omega.{arith}
 use lib.Dec.{eqb}
 use lib.IntN.{ℤ}
-use lib.ListN.{length, getD, take, drop, replicate, length-replicate}
+use lib.ListN.{length, getD, drop, replicate, length-replicate}
 use lib.Seq.{getD-take, getD-drop}
 use Rattle.refusals.specs.declared.Refusal.{Refusal}
 use Rattle.refusals.specs.declared.Verdict.the-variants.{Accepted, Refused}
@@ -16,14 +16,14 @@ use Rattle.machine.specs.Machine.{State, Code, step, reblock}
 use Rattle.states.specs.declared.State as code
 use Rattle.states.specs.Columns.{instructionsOf, codeOf}
 use Rattle.states.specs.View.{WellFormed, whole}
-use Rattle.bounds.specs.Tree.{Report, Verdict, accepted, refused}
+use Rattle.bounds.specs.Tree.{Report, Verdict}
 use Rattle.findings.specs.declared.Found.{Found}
 use Rattle.findings.specs.Found.{acceptedAs, encode, Shows}
-use Rattle.merges.specs.Merge.{Arrival, Slot, empty, join, Table, slot, nowhere, only, none, visit, sweep, merged}
+use Rattle.merges.specs.Merge.{Slot, empty, join, Table, slot, nowhere, only, none, visit, sweep, merged}
 use Rattle.arrivals.specs.declared.Way.{Way}
 use Rattle.merging.specs.declared.Pass.{Pass}
-use Rattle.arrivals.specs.Rows.{Formed, Numeric, Rows, arrivalOf, part, slotAt, joinAt, with, waiting}
-use Rattle.merging.specs.Pass.{Comes, Spent, most, Figures, Ready, Agrees, Moved, stopped, moved}
+use Rattle.arrivals.specs.Rows.{Numeric, arrivalOf, part, slotAt, joinAt, with, waiting}
+use Rattle.merging.specs.Pass.{Spent, most, Figures, Ready, Agrees, Moved, stopped, moved}
 use Rattle.arrivals.proofs.RowLaws.{slot-empty}
 use Rattle.merging.proofs.PassLaws.{arrived, same-test}
 use Rattle.arrivals.proofs.PartLaws.{comes-to}

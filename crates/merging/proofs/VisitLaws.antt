@@ -1,7 +1,6 @@
 -- Laws of the address of a row: what has come to it decides how the definition goes on, and no other row changes. Assumes nothing.
 use Prim.Native.Nat.{ℕ, _+_, _*_, _-_, _<_, _≤_}
-use mathlib.Core.Path.{_≡_, refl, sym, ap, ap₂, subst, _∙_}
-use mathlib.Core.Bool.{Bool, true, false}
+use mathlib.Core.Path.{_≡_, refl, sym, ap, subst, _∙_}
 use mathlib.Core.List.{List}
 use native.Mathlib.Omega.{arith}
 use lib.ListN.{length, take, drop}
@@ -12,7 +11,7 @@ use Rattle.machine.specs.Machine.{State, Next, jump, reblock}
 use Rattle.states.specs.View.{whole}
 use Rattle.bounds.specs.Tree.{Report, Verdict, refused}
 use Rattle.findings.specs.declared.Found.{Found}
-use Rattle.merges.specs.Merge.{Slot, empty, unlike, held, Table, slot, carry, visit}
+use Rattle.merges.specs.Merge.{Slot, Table, slot, carry, visit}
 use Rattle.arrivals.specs.declared.Way.{Way}
 use Rattle.merging.specs.declared.Mark.{Mark}
 use Rattle.merging.specs.declared.Mark.the-variants.{Nothing, Unlike, Is}

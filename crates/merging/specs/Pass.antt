@@ -5,17 +5,15 @@ use mathlib.Core.Bool.{Bool, true, false}
 use mathlib.Core.List.{List}
 use Rattle.refusals.specs.declared.Refusal.{Refusal}
 use Rattle.refusals.specs.declared.Verdict.the-variants.{Refused}
-use Rattle.machine.specs.Machine.{Price, sum}
+use Rattle.machine.specs.Machine.{Price}
 use Rattle.bounds.specs.Tree.{Report, Verdict, refused}
 use Rattle.steps.specs.declared.Price as code
-use Rattle.steps.specs.Step.{ofPrice}
 use Rattle.findings.specs.declared.Found.{Found}
 use Rattle.findings.specs.Found.{acceptedAs}
 use Rattle.merges.specs.Merge.{Slot, empty, unlike, held, Table, slot}
 use Rattle.arrivals.specs.declared.Way.{Way}
 use Rattle.merging.specs.declared.Mark.{Mark}
 use Rattle.merging.specs.declared.Mark.the-variants.{Nothing, Unlike, Is}
-use Rattle.merging.specs.declared.Came.{Came}
 use Rattle.merging.specs.declared.Pass.{Pass}
 use Rattle.arrivals.specs.Rows.{Formed, Numeric, Rows, arrivalOf, slotAt, waiting}
 

@@ -1,14 +1,14 @@
 -- Integers as differences of two natural numbers: sums, differences and comparisons become linear facts about natural numbers.
 -- Assumes nothing.
-use mathlib.Core.Path.{_≡_, refl, sym, ap, subst, _∙_}
+use mathlib.Core.Path.{_≡_, refl, ap, subst}
 use mathlib.Core.Bool.{Bool, true, false, cond, true≢false, false≢true}
 use Prim.Native.Nat.{ℕ, zero, suc, _+_, _-_, _<_, _≤_}
 use native.Mathlib.Omega.{arith}
-use lib.Dec.{ltb, leb, eqb}
+use lib.Dec.{ltb}
 use lib.IntN.{ℤ, pos, negsuc, negℤ, subℕ, natAbs, _+ℤ_, _-ℤ_}
 use lib.Signed.{mag, ltZ, leZ}
-use borrow.Author.Tests.{lt-ltb, le-ltb, ltb-true, ltb-false, leb-true, leb-false, le-leb, lt-leb, eq-eqb, ne-eqb, eqb-true, eqb-false}
-use Rattle.numbers.specs.Numbers.{bits, half, IsNumber, same}
+use borrow.Author.Tests.{ltb-true, ltb-false, leb-true, leb-false, eq-eqb, eqb-true}
+use Rattle.numbers.specs.Numbers.{same}
 
 -- an integer is `over` less `under`
 abbrev pub over : ℤ → ℕ
@@ -97,13 +97,6 @@ lt-yes a b h = go (ltZ a b) refl
     go true e = e
     go false e = let k = lt-false a b e in absurd (omega arith)
 
-pub lt-no : (a b : ℤ) → over b + under a ≤ over a + under b → ltZ a b ≡ false
-lt-no a b h = go (ltZ a b) refl
-  where
-    go : (t : Bool) → ltZ a b ≡ t → ltZ a b ≡ false
-    go true e = let k = lt-true a b e in absurd (omega arith)
-    go false e = e
-
 pub equal-by : (a b : ℤ) → over a + under b ≡ over b + under a → a ≡ b
 equal-by (pos a) (pos b) e = ap pos (omega arith)
 equal-by (pos a) (negsuc b) e = absurd (omega arith)
@@ -120,9 +113,6 @@ pub same-yes : (a b : ℤ) → a ≡ b → same a b ≡ true
 same-yes (pos a) b e = subst (λ z. same (pos a) z ≡ true) e (eq-eqb a a refl)
 same-yes (negsuc a) b e = subst (λ z. same (negsuc a) z ≡ true) e (eq-eqb a a refl)
 
-pub same-false : (a b : ℤ) → same a b ≡ false → a ≡ b → ⊥
-same-false a b e q = true≢false (sym (same-yes a b q) ∙ e)
-
 -- ---- sizes
 
 -- a number that is not below another is as far from it as their difference
@@ -136,11 +126,3 @@ distance-is a b e = go (b -ℤ a) (le-true a b e) (difference-is b a)
 pub mag-over : (z : ℤ) (k : ℕ) → mag z < k → over z < k
 mag-over (pos n) k h = h
 mag-over (negsuc n) k h = omega arith
-
-pub mag-under : (z : ℤ) (k : ℕ) → mag z < k → under z ≤ k
-mag-under (pos n) k h = omega arith
-mag-under (negsuc n) k h = h
-
-pub mag-by : (z : ℤ) (k : ℕ) → over z < k + under z → under z ≤ k + over z → mag z < k
-mag-by (pos n) k h g = omega arith
-mag-by (negsuc n) k h g = omega arith

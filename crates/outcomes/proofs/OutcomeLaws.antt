@@ -17,7 +17,7 @@ use Rattle.instructions.specs.declared.Operation.{Operation}
 use Rattle.instructions.specs.declared.Operation.the-variants.{Nothing, Access, Drop, Assign, Constant, GetField, SetField, Branch, BranchIf, BranchIfNot, Call, Stop, Alter, Combine}
 use Rattle.outcomes.specs.declared.Outcome.{Outcome}
 use Rattle.outcomes.specs.declared.Outcome.the-variants.{Gives, Operates, Stores, Sets, Stuck}
-use Rattle.machine.specs.Lists.{nth, put, without}
+use Rattle.machine.specs.Lists.{nth, without}
 use Rattle.machine.specs.Machine.{State, height, Price, goes, index, jump, load, restack, pop, store, getField, setField, advance, ahead, ways, opposite, perform}
 use Rattle.outcomes.specs.Outcome.{entryOf, drops, operated, branching, outcome, resume}
 use Rattle.machine.proofs.ApartLaws.{setField-advance}

@@ -18,7 +18,7 @@ use Rattle.instructions.specs.declared.Operation.{Operation}
 use Rattle.instructions.specs.declared.Operation.the-variants.{Nothing, Access, Drop, Assign, Constant, GetField, SetField, Branch, BranchIf, BranchIfNot, Call, Stop, Alter, Combine}
 use Rattle.outcomes.specs.declared.Outcome.{Outcome}
 use Rattle.outcomes.specs.declared.Outcome.the-variants.{Gives, Operates, Stores, Sets, Gets, Goes, Jumps, Opens, Halts, Stuck}
-use Rattle.machine.specs.Machine.{State, stackLimit, height, Price, Instruction, Code, fetch, Next, goes, opens, stops, withExtra, index, jump, load, reblock, push, pop, store, getField, setField, advance, prepare, execute, step}
+use Rattle.machine.specs.Machine.{State, stackLimit, height, Price, Instruction, Code, fetch, Next, goes, opens, stops, withExtra, index, jump, load, reblock, push, pop, store, setField, advance, prepare, execute, step}
 use Rattle.machine.proofs.ApartLaws.{push-advance, pop-accu}
 use Rattle.outcomes.specs.Outcome.{entryOf, drops, isOnCells, operated, branching, outcome, resume, Room}
 use Rattle.outcomes.proofs.OutcomeLaws.{perform-resumes}

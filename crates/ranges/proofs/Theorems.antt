@@ -1,10 +1,8 @@
 -- What is promised of ranges beside `?`, by the names of specs/Ranges: both bounds are monotone, and `?` covers every range of numbers.
 -- Assumes nothing.
-use Prim.Native.Nat.{ℕ}
-use mathlib.Core.Path.{_≡_, refl, sym, subst, _∙_}
+use mathlib.Core.Path.{_≡_, refl, subst}
 use mathlib.Core.Bool.{cond}
 use mathlib.Core.List.{List, map}
-use Rattle.text.specs.Text.{Line}
 use Rattle.cells.specs.declared.Value.{Value}
 use Rattle.cells.specs.declared.Value.the-variants.{Range, Handle}
 use Rattle.cells.specs.declared.Cell.{Cell}
@@ -13,7 +11,7 @@ use Rattle.cells.specs.Codes.{Confined, Kept}
 use Rattle.cells.specs.Order.{Refines, same, Pointwise, end, cons}
 use Rattle.cells.proofs.RangeLaws.{covers, in-unknown, one-or-more}
 use Rattle.cells.proofs.CellLaws.{range-bits}
-use Rattle.machine.specs.Machine.{State, Code}
+use Rattle.machine.specs.Machine.{State}
 use Rattle.machine.specs.Order.{Cellwise}
 use Rattle.bounds.specs.Tree.{Report, Verdict, accepted, openingLimit, bound}
 use Rattle.bounds.specs.Promises.{NoGreater, Monotone}

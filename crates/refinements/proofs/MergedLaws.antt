@@ -17,7 +17,7 @@ use Rattle.machine.specs.Targets.{Closed}
 use Rattle.machine.proofs.LeadLaws.{goes-there}
 use Rattle.machine.proofs.TargetLaws.{step-onward}
 use Rattle.bounds.specs.Tree.{Report, Verdict, accepted, refused}
-use Rattle.bounds.specs.Run.{Run, begin, leads, after, judgeRun, run}
+use Rattle.bounds.specs.Run.{Run, begin, leads, after, judgeRun}
 use Rattle.merges.specs.Merge.{Arrival, arrival, held, join, slot, Table, nowhere, arrive, send, reach, finish, carry, visit, sweep, end, span, only, none, merged}
 use Rattle.merges.proofs.FillLaws.{arrive-other, arrive-own}
 use Rattle.merges.proofs.PassLaws.{Agree, arrive-slot, sweep-agree}

@@ -1,16 +1,15 @@
 -- Laws of one line of a replay: what a step by value says of it. Assumes nothing.
-use Prim.Native.Nat.{ℕ, zero, suc, _+_, _-_, _≤_, _<_}
-use mathlib.Core.Path.{_≡_, refl, sym, ap, subst, _∙_}
-use mathlib.Core.Bool.{Bool, true, false, cond, not, _&&_, false≢true}
-use mathlib.Core.List.{List, [], _∷_}
+use Prim.Native.Nat.{ℕ, _+_, _-_}
+use mathlib.Core.Path.{_≡_, refl, sym, ap, _∙_}
+use mathlib.Core.Bool.{Bool, true, false, cond, not, _&&_}
+use mathlib.Core.List.{List}
 use native.Mathlib.Omega.{arith}
 use lib.Dec.{eqb, leb}
 use lib.IntN.{ℤ}
 use lib.ListN.{drop}
 use borrow.Author.Tests.{eq-eqb, ne-eqb}
-use Rattle.cells.specs.Try.{Try, stuck, done}
 use Rattle.cells.specs.declared.Cell.{Cell}
-use Rattle.machine.specs.Machine.{State, Code, Next, stops, goes, opens, reblock, step, takesAnswer}
+use Rattle.machine.specs.Machine.{State, Code, Next, reblock, step, takesAnswer}
 use Rattle.states.specs.declared.State as states
 use Rattle.states.specs.View.{whole}
 use Rattle.bounds.specs.Run.{Run, answer, remaining, moved, leads, once, stuckAt, isStuck}

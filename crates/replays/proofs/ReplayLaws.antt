@@ -1,7 +1,7 @@
 -- Laws of the replay: which line is the first that differs, and what the lines that agree have spent. Assumes nothing.
-use Prim.Native.Nat.{ℕ, zero, suc, _+_, _-_, max, _≤_, _<_}
+use Prim.Native.Nat.{ℕ, zero, suc, _+_, _-_, _≤_, _<_}
 use mathlib.Core.Path.{_≡_, refl, sym, ap, subst, _∙_}
-use mathlib.Core.Bool.{Bool, true, false, cond, not, _&&_, false≢true}
+use mathlib.Core.Bool.{Bool, true, false, cond, _&&_}
 use mathlib.Core.List.{List, [], _∷_}
 use native.Mathlib.Omega.{arith}
 use native.Mathlib.Nat.{le-of-suc-le-suc}
@@ -11,10 +11,10 @@ use lib.ListN.{length, getD, take}
 use borrow.Author.Tests.{leb-true}
 use Rattle.text.proofs.TextLaws.{and-right}
 use Rattle.cells.specs.Try.{Try, stuck, done}
-use Rattle.machine.specs.Machine.{State, Code, Next, stops, goes, opens}
-use Rattle.bounds.specs.Run.{Run, begin, moved, leads, once, after}
+use Rattle.machine.specs.Machine.{Code, Next, stops, goes, opens}
+use Rattle.bounds.specs.Run.{Run, moved, leads, once, after}
 use Rattle.traces.specs.Traces.{Entry}
-use Rattle.replays.specs.Replay.{goesOn, cost, agrees, Outcome, agreed, differed, replayFrom}
+use Rattle.replays.specs.Replay.{goesOn, cost, agrees, agreed, differed, replayFrom}
 use Rattle.replays.specs.Promises.{noEntry, spent}
 
 not-differed : {X : Type 0} (n : ℕ) → differed n ≡ agreed → X

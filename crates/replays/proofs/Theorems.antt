@@ -1,7 +1,5 @@
 -- The statements of `specs/Promises`, each proved by its name. Assumes nothing.
-use Prim.Native.Nat.{ℕ, _+_, _≤_}
 use mathlib.Core.Path.{_≡_, ap}
-use mathlib.Core.List.{List}
 use native.Mathlib.Omega.{arith}
 use lib.ListN.{length, take}
 use lib.Seq.{take-length}
@@ -9,7 +7,7 @@ use Rattle.bounds.specs.Tree.{openingLimit, bound}
 use Rattle.bounds.specs.Run.{begin}
 use Rattle.bounds.proofs.PromiseLaws.{interruptible}
 use Rattle.replays.specs.Replay.{replay}
-use Rattle.replays.specs.Promises.{FirstDiffers, AgreesWhere, DiffersWhere, spent, SpentWithin, SpentWithinBound}
+use Rattle.replays.specs.Promises.{AgreesWhere, DiffersWhere, spent, SpentWithin, SpentWithinBound}
 use Rattle.replays.proofs.ReplayLaws.{agreed-all, all-agreed, differed-first, first-differed, spent-within}
 
 pub agrees-where : AgreesWhere

@@ -9,9 +9,9 @@ use lib.Signed.{leZ}
 use lib.ListN.{getD, take, drop}
 use Rattle.text.specs.Text.{Line}
 use Rattle.numbers.specs.Numbers.{within, numbers}
-use Rattle.numbers.proofs.IntegerLaws.{over, under, le-true}
+use Rattle.numbers.proofs.IntegerLaws.{le-true}
 use Rattle.cells.specs.declared.Cell.{Cell}
-use Rattle.cells.specs.Cells.{range, number, between}
+use Rattle.cells.specs.Cells.{number, between}
 use Rattle.cells.specs.Codes.{Confined, Kept}
 use Rattle.cells.specs.Order.{Pointwise, end, cons}
 use Rattle.cells.proofs.RangeLaws.{InBits, fitting-true, high-zero}

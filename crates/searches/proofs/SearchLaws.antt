@@ -1,7 +1,7 @@
 -- The trials of a search, one after the other. Assumes nothing.
 use Prim.Native.Nat.{ℕ, zero, suc, _+_, _-_, _<_, _≤_}
 use mathlib.Core.Path.{_≡_, refl, sym, ap, _∙_}
-use mathlib.Core.Bool.{Bool, true, false, cond, not}
+use mathlib.Core.Bool.{Bool, true, false, not}
 use mathlib.Core.List.{List, [], _∷_, _++_, flatMap}
 use mathlib.Core.Option.{Option, some, none}
 use native.Mathlib.Omega.{arith}
@@ -22,7 +22,7 @@ use Rattle.machine.specs.Machine.{State, Code, height, step, reblock}
 use Rattle.states.specs.declared.State as code
 use Rattle.states.specs.View.{WellFormed, Fits, blocksOf, whole}
 use Rattle.states.proofs.StateLaws.{height-is}
-use Rattle.bounds.specs.Tree.{Report, Verdict, accepted, refused, bound, explore, openingLimit}
+use Rattle.bounds.specs.Tree.{Verdict, accepted, refused, bound, explore}
 use Rattle.findings.specs.declared.Found.{Found}
 use Rattle.findings.specs.Found.{acceptedAs, Shows}
 use Rattle.changes.specs.declared.Position.{Position}
@@ -35,7 +35,7 @@ use Rattle.changes.proofs.FirstLaws.{append-first, append-second}
 use Rattle.changes.proofs.CellLaws.{never}
 use Rattle.changes.proofs.PlaceLaws.{Limited, all-changes}
 use Rattle.changes.proofs.Theorems.{within-number}
-use Rattle.searches.specs.Search.{moved, Searched, found, refused-by, searchFrom, search}
+use Rattle.searches.specs.Search.{moved, found, refused-by, searchFrom, search}
 use Rattle.searches.specs.Held.{MovedAs, firstMoved}
 
 -- ---- one trial

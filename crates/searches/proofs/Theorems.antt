@@ -1,24 +1,22 @@
 -- What is promised of the search. Assumes nothing.
 use Prim.Native.Nat.{ℕ, zero, suc}
-use mathlib.Core.Path.{_≡_, refl, sym, ap, _∙_}
-use mathlib.Core.Bool.{Bool, true, false, cond, not}
+use mathlib.Core.Path.{_≡_, refl, ap}
+use mathlib.Core.Bool.{Bool, true, false, not}
 use mathlib.Core.List.{List, [], _∷_}
 use mathlib.Core.Logic.{_⊎_, inl, inr}
-use mathlib.Core.Option.{Option, some, none}
+use mathlib.Core.Option.{some, none}
 use native.Mathlib.Omega.{arith}
 use lib.Dec.{eqb}
 use borrow.Author.Tests.{eqb-true, eqb-false, not-false}
 use Rattle.refusals.specs.declared.Refusal.{Refusal}
-use Rattle.refusals.specs.declared.Refusal.the-variants.{Stuck, Openings, Spent}
+use Rattle.refusals.specs.declared.Refusal.the-variants.{Spent}
 use Rattle.refusals.specs.Refusals.{number}
 use Rattle.machine.specs.Machine.{State, Code}
 use Rattle.bounds.specs.Tree.{Reason, is-stuck, opens-too-many, is-cut, Step, made, not-made, Report, Verdict, accepted, refused, refusal, address, judge, verdict, explore, bound}
-use Rattle.changes.specs.declared.Change.{Change}
 use Rattle.changes.specs.Changes.{applied, nearest}
-use Rattle.changes.specs.Promises.{Direction, ChangeBy, Nearest}
 use Rattle.changes.specs.Promises as changes
 use Rattle.changes.proofs.Theorems.{found-nearest, none-found}
-use Rattle.searches.specs.Search.{moved, Searched, found, refused-by, searchFrom, search}
+use Rattle.searches.specs.Search.{moved, found, refused-by, searchFrom, search}
 use Rattle.searches.specs.Promises.{Moves, other-cycles, now-refused, MovedFirst, NeverMoved, FoundMoves, NoneMoves, RefusedAlike}
 
 -- ---- the bound refuses by 7, 8 and 9 alone

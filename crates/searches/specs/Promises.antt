@@ -10,7 +10,7 @@ use Rattle.bounds.specs.Tree.{Report, Verdict, accepted, refused, bound}
 use Rattle.changes.specs.declared.Change.{Change}
 use Rattle.changes.specs.Changes.{applied}
 use Rattle.changes.specs.Promises.{Direction, ChangeBy, Before}
-use Rattle.searches.specs.Search.{Searched, found, refused-by, search}
+use Rattle.searches.specs.Search.{found, refused-by, search}
 
 -- a verdict "alters CYCLES or makes the routine refused by 7, 8 or 9", against a report q
 pub data Moves (q : Report) : Verdict → Type 0 where

@@ -1,9 +1,8 @@
 -- Laws of the answers of the search: in each case of the code, how large they are, and where they refuse. Assumes nothing.
 use Prim.Native.Nat.{ℕ, _+_, _<_, _≤_}
-use mathlib.Core.Path.{_≡_, refl, sym, ap, _∙_}
+use mathlib.Core.Path.{_≡_, refl, sym, ap}
 use mathlib.Core.List.{List, _++_}
-use mathlib.Core.Logic.{_⊎_, inl, inr}
-use mathlib.Core.Option.{Option, some, none}
+use mathlib.Core.Option.{some, none}
 use native.Mathlib.Omega.{arith}
 use lib.IntN.{ℤ}
 use lib.ListN.{length, length-append, length-take}
@@ -14,19 +13,18 @@ use Rattle.text.specs.Text.{bytes, lines}
 use Rattle.text.specs.Decimal.{decimal}
 use Rattle.text.proofs.DecimalLaws.{decimal-length}
 use Rattle.numbers.proofs.SignedLaws.{number-fits}
-use Rattle.machine.specs.Machine.{State, Code, height}
-use Rattle.bounds.specs.Tree.{bound}
+use Rattle.machine.specs.Machine.{State, Code}
 use Rattle.bounds.specs.Tree as verdicts
 use Rattle.bounds.proofs.PlaceLaws.{bound-place}
 use Rattle.words.specs.Lines.{integer}
 use Rattle.imports.proofs.IntegerLaws.{integer-length}
-use Rattle.routine.specs.Routine.{readBound, routineOf}
+use Rattle.routine.specs.Routine.{readBound}
 use Rattle.routine.specs.Routine as readings
 use Rattle.routine.proofs.RowLaws.{read-passes}
 use Rattle.routine.proofs.PlaceLaws.{read-bound-place, confined, start-small}
 use Rattle.reader.specs.declared.Routine.{Routine}
 use Rattle.reader.specs.Reader.{codes, operands, cycles, words, extras, sizes, Holds, Limited}
-use Rattle.answers.specs.Answers.{Answer, reported, refused, memoryLimit}
+use Rattle.answers.specs.Answers.{reported, refused, memoryLimit}
 use Rattle.answers.proofs.AnswerLaws.{never, lent-short, from-reading, place-from, reading-refused, reading-passed}
 use Rattle.changes.specs.declared.Position.{Position}
 use Rattle.changes.specs.declared.Position.the-variants.{Accu, Entry, Field}
@@ -36,10 +34,8 @@ use Rattle.changes.specs.Promises.{Direction, ChangeBy}
 use Rattle.changes.proofs.PlaceLaws as places
 use Rattle.changes.proofs.PlaceLaws.{entry-below, field-below}
 use Rattle.cells.specs.Try.{done}
-use Rattle.searches.specs.declared.Sought.{Sought}
-use Rattle.searches.specs.declared.Sought.the-variants.{Moves, Still, Refused}
 use Rattle.searches.specs.Search.{Searched, found, refused-by, search}
-use Rattle.searches.specs.Held.{ofSought, Searchable}
+use Rattle.searches.specs.Held.{Searchable}
 use Rattle.searches.proofs.Theorems.{found-moves, refused-alike}
 use Rattle.searches.proofs.SearchLaws.{whole-limited}
 use Rattle.sensitivity.specs.Answers.{nameOf, lineOf, changeText, ofSearched, nearestRoutine, nearestAnswer}

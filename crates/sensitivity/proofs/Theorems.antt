@@ -1,15 +1,11 @@
 -- What is promised of the answers to a text. Assumes nothing.
-use Prim.Native.Nat.{ℕ}
-use mathlib.Core.Path.{_≡_, refl, sym}
-use mathlib.Core.List.{List}
+use mathlib.Core.Path.{_≡_, refl}
 use mathlib.Core.Logic.{_⊎_, inl, inr}
 use mathlib.Core.Option.{some, none}
 use Rattle.text.specs.Text.{bytes}
-use Rattle.bounds.specs.Tree.{Report}
 use Rattle.routine.specs.Routine.{Routine, readBound}
 use Rattle.answers.specs.Answers.{reported, memoryLimit}
 use Rattle.answers.proofs.AnswerLaws.{never, from-reading}
-use Rattle.changes.specs.declared.Change.{Change}
 use Rattle.searches.specs.Search.{Searched, found, refused-by, search}
 use Rattle.searches.proofs.Theorems.{found-moves, none-moves}
 use Rattle.sensitivity.specs.Answers.{lineOf, changeText, ofSearched, nearestRoutine, nearestAnswer}

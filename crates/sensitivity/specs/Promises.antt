@@ -3,7 +3,7 @@ use Prim.Native.Nat.{ℕ}
 use mathlib.Core.Path.{_≡_}
 use mathlib.Core.List.{List}
 use mathlib.Core.Logic.{_⊎_}
-use mathlib.Core.Option.{some, none}
+use mathlib.Core.Option.{none}
 use Rattle.bounds.specs.Tree.{Report}
 use Rattle.routine.specs.Routine.{Routine, readBound}
 use Rattle.routine.specs.Routine as readings

@@ -1,13 +1,13 @@
 -- The code's state by its methods, and the same with its blocks: what a change of the struct is to the definition's state. Assumes nothing.
-use mathlib.Core.Path.{_≡_, refl, sym, ap, _∙_}
-use mathlib.Core.List.{List, _∷_}
-use Prim.Native.Nat.{ℕ, suc, _+_, _-_, _≤_, _<_}
+use mathlib.Core.Path.{_≡_, refl, ap, _∙_}
+use mathlib.Core.List.{List}
+use Prim.Native.Nat.{ℕ, _+_, _-_, _≤_, _<_}
 use native.Mathlib.Omega.{arith}
 use lib.IntN.{pos}
-use lib.ListN.{length, drop, set, length-set, length-drop}
+use lib.ListN.{length, set, length-set, length-drop}
 use lib.Seq.{drop-drop, drop-set-add}
-use borrow.Author.Tests.{lt-ltb, le-ltb}
-use Rattle.cells.specs.Try.{Try, stuck, done, _>>=_}
+use borrow.Author.Tests.{lt-ltb}
+use Rattle.cells.specs.Try.{done, _>>=_}
 use Rattle.cells.specs.declared.Cell.{Cell}
 use Rattle.cells.specs.Cells.{number}
 use Rattle.machine.specs.Machine.{State, stackLimit, height, push, pop, store, load, restack, reblock, advance, jump}

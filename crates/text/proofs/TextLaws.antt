@@ -9,7 +9,7 @@ use native.Mathlib.Nat.{le-of-suc-le-suc, not-suc-le-zero}
 use lib.Dec.{eqb, leb, ltb}
 use lib.ListN.{length, getD}
 use borrow.Author.Tests.{eqb-true, eq-eqb, ltb-true, ltb-false, lt-ltb, le-ltb, leb-true, leb-false, le-leb, lt-leb}
-use Rattle.text.specs.Text.{equals, onto, split, linesOf, lines, placeFrom, place, looked, indexOf, find, among, all}
+use Rattle.text.specs.Text.{equals, onto, split, linesOf, lines, placeFrom, place, indexOf, find, among, all}
 use Rattle.text.specs.declared.Place.{Place}
 use Rattle.text.specs.declared.Place.the-variants.{At, Missing}
 
@@ -162,22 +162,6 @@ among-find w ws h = go (place w ws) refl (sym (among-place 0 w ws) ∙ h)
     go Missing e q = absurd (false≢true q)
 
 -- "those up to and with the one sought, or all of them where that one is missing"
-
-pub looked-found : (k : ℕ) (w : List ℕ) (ws : List (List ℕ)) {n : ℕ} → placeFrom k w ws ≡ At n → k + looked w ws ≡ suc n
-looked-found k w [] e = let z : _≡_ {A = ℕ} 0 1 = cc in absurd (omega arith)
-looked-found k w (x ∷ xs) {n} e = go (equals w x) e (looked-found (suc k) w xs)
-  where
-    go : (b : Bool) → cond b (At k) (placeFrom (suc k) w xs) ≡ At n → (placeFrom (suc k) w xs ≡ At n → suc k + looked w xs ≡ suc n) → k + suc (cond b 0 (looked w xs)) ≡ suc n
-    go true q ih = let f : k ≡ n = cc in omega arith
-    go false q ih = omega (arith, ih q)
-
-pub looked-missing : (k : ℕ) (w : List ℕ) (ws : List (List ℕ)) → placeFrom k w ws ≡ Missing → looked w ws ≡ length ws
-looked-missing k w [] e = refl
-looked-missing k w (x ∷ xs) e = go (equals w x) e (looked-missing (suc k) w xs)
-  where
-    go : (b : Bool) → cond b (At k) (placeFrom (suc k) w xs) ≡ Missing → (placeFrom (suc k) w xs ≡ Missing → looked w xs ≡ length xs) → suc (cond b 0 (looked w xs)) ≡ suc (length xs)
-    go true q ih = let z : _≡_ {A = ℕ} 0 1 = cc in absurd (omega arith)
-    go false q ih = ap suc (ih q)
 
 -- the bytes of a text's pieces
 

@@ -7,7 +7,6 @@ use mathlib.Core.List.{List, [], _∷_}
 use native.Mathlib.Omega.{arith}
 use borrow.Author.Tests.{ltb-true, ltb-false, lt-ltb, le-ltb}
 use lib.Dec.{ltb}
-use lib.IntN.{pos, natAbs}
 use lib.ListN.{length, getD, drop, length-map, length-drop}
 use Rattle.refusals.specs.declared.Refusal.{Refusal}
 use Rattle.refusals.specs.declared.Refusal.the-variants.{TextLength, Layout, OutOfRange}
@@ -15,16 +14,12 @@ use Rattle.refusals.specs.Refusals.{place}
 use Rattle.refusals.specs.declared.Verdict.{Verdict}
 use Rattle.refusals.specs.declared.Verdict.the-variants.{Accepted as accepted, Refused as refused}
 use Rattle.text.specs.Text.{bytes, equals, Line, lines, noLine}
-use Rattle.text.proofs.TextLaws.{Every, none, more, and-left, and-right}
+use Rattle.text.proofs.TextLaws.{and-left, and-right}
 use Rattle.text.proofs.LineLaws.{lines-first, lines-none, lines-some}
-use Rattle.numbers.specs.Numbers.{range, within}
-use Rattle.instructions.specs.Kinds.{addresses}
+use Rattle.numbers.specs.Numbers.{range}
 use Rattle.routine.specs.declared.RefusedLine.{RefusedLine}
 use Rattle.routine.specs.declared.RefusedLine.the-variants.{Nowhere as nowhere, Line as line}
-use Rattle.routine.specs.Rows.{value, at}
-use Rattle.routine.specs.Routine.{naturalIn}
-use Rattle.routine.proofs.RangeLaws.{natural-within, inside-is}
-use Rattle.traces.specs.Traces.{traceLimit, entryLimit, cycleRange, cycles, entryLaidOut, textLaidOut, lineLaidOut, entryInRange, textInRange, lineInRange, earliest, layoutFault, rangeFault, refusedAt, lineVerdict, traceVerdict, entryOf, entries}
+use Rattle.traces.specs.Traces.{traceLimit, entryLimit, entryLaidOut, textLaidOut, lineLaidOut, entryInRange, textInRange, lineInRange, earliest, layoutFault, rangeFault, refusedAt, lineVerdict, traceVerdict, entries}
 
 -- ---- the tests by the index of a line
 
@@ -228,35 +223,3 @@ trace-place text r = go (ltb traceLimit (length text)) (layoutFault (lines text)
     go false (line n) c p q e = let f : Layout n ≡ r = cc in let h = layout-fault-low (lines text) n p in rw (← f) h
     go false nowhere (line n) p q e = let f : OutOfRange n ≡ r = cc in let h = range-fault-low (lines text) n p q in rw (← f) h
     go false nowhere nowhere p q e = absurd (let z : _≡_ {A = ℕ} 0 1 = cc in omega arith)
-
--- ---- the recorded steps
-
--- a line whose step has the numbers that its words spell
-pub record Spelt (text : List ℕ) : Type 0 where
-  pub at-spelt : pos (entryOf text .at) ≡ value (at text)
-  pub cycles-spelt : pos (entryOf text .cycles) ≡ value (cycles text)
-
-natural-spelt : (high : ℕ) (w : List ℕ) → within (range 0 high) (value w) ≡ true → pos (naturalIn (range 0 high) w) ≡ value w
-natural-spelt high w e = ap (λ z. pos (natAbs z)) (inside-is (range 0 high) (value w) e) ∙ natural-within 0 high (value w) e .is
-
-entry-spelt : (text : List ℕ) → entryInRange text ≡ true → Spelt text
-unfolding entryOf entryInRange
-entry-spelt text e =
-    let a = within addresses (value (at text)) in
-    let b = within cycleRange (value (cycles text)) in
-    record { at-spelt = natural-spelt 62000 (at text) (and-left a b e); cycles-spelt = natural-spelt 4000000000 (cycles text) (and-right a b e) }
-
-lines-spelt : (k : ℕ) (ls : List Line) → earliest lineInRange (suc k) ls ≡ nowhere → Every (λ l. Spelt (l .text)) ls
-unfolding earliest lineInRange textInRange
-lines-spelt k [] e = none
-lines-spelt k (l ∷ ls) e =
-    let p = cond-nowhere (entryInRange (l .text)) (earliest lineInRange (suc (suc k)) ls) (suc (suc k)) e in
-    more (entry-spelt (l .text) (p .0)) (lines-spelt (suc k) ls (p .1))
-
-range-spelt : (ls : List Line) → rangeFault ls ≡ nowhere → Every (λ l. Spelt (l .text)) (drop 1 ls)
-unfolding rangeFault earliest lineInRange textInRange
-range-spelt [] e = none
-range-spelt (l ∷ ls) e = lines-spelt 0 ls e
-
-pub entries-spelt : (text : List ℕ) → traceVerdict text ≡ accepted → Every (λ l. Spelt (l .text)) (drop 1 (lines text))
-entries-spelt text e = range-spelt (lines text) (accepted-passes text e .range)

@@ -1,6 +1,6 @@
 -- What a step by value says of the walk, in each arm of the code. Assumes nothing.
 use Prim.Native.Nat.{ℕ, _/_, _%_, _<_, _≤_}
-use mathlib.Core.Path.{_≡_, refl, sym, ap, subst, _∙_}
+use mathlib.Core.Path.{_≡_, sym, ap, subst, _∙_}
 use mathlib.Core.Bool.{cond}
 use mathlib.Core.List.{List, [], _∷_}
 use native.Mathlib.Omega.{arith}
@@ -18,7 +18,7 @@ use Rattle.steps.specs.declared.Price.{Price}
 use Rattle.steps.specs.declared.Next as next
 use Rattle.steps.specs.declared.Next.the-variants.{Stuck, Stops, Goes, Opens}
 use Rattle.steps.specs.Step.{ofPrice, ofNext, SmallPrice, Small}
-use Rattle.report.specs.Decode.{decision, decode}
+use Rattle.report.specs.Decode.{decode}
 use Rattle.report.proofs.DecodeLaws.{decode-none, decode-more}
 use Rattle.walks.specs.Walk.{onward}
 

@@ -4,10 +4,10 @@ use mathlib.Core.Path.{_≡_, refl, sym, ap, subst, _∙_}
 use mathlib.Core.List.{List, [], _∷_}
 use native.Mathlib.Omega.{arith}
 use lib.ListN.{length}
-use Rattle.cells.specs.Try.{Try, stuck, done}
+use Rattle.cells.specs.Try.{Try, done}
 use Rattle.cells.specs.Cells.{unknown}
 use Rattle.machine.specs.Lists.{nth}
-use Rattle.machine.specs.Machine.{State, Next, Code, step}
+use Rattle.machine.specs.Machine.{State, Next, step}
 use Rattle.machine.proofs.FetchLaws.{stuck-not}
 use Rattle.bounds.specs.Tree.{N, T}
 use Rattle.bounds.specs.Traces.{Move, move, decisions, Transition, goes-on, not-taken, taken, Path, RunMax}

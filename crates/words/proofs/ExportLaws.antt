@@ -5,7 +5,7 @@ use mathlib.Core.Bool.{Bool, true, false, cond}
 use mathlib.Core.List.{List, [], _∷_, _++_, map}
 use Prim.Native.Nat.{ℕ, zero, suc, _+_, _-_, _*_, _<_, _≤_}
 use native.Mathlib.Omega.{arith}
-use lib.Dec.{eqb, ltb}
+use lib.Dec.{ltb}
 use lib.IntN.{ℤ, pos, negsuc, _+ℤ_, _-ℤ_}
 use lib.ListN.{length, getD, length-append}
 use mir.Syntax.{w32}
@@ -19,10 +19,10 @@ use Rattle.instructions.specs.Kinds.{kinds}
 use Rattle.instructions.proofs.ColumnLaws.{column-at}
 use Rattle.text.specs.declared.Place.the-variants.{At as at}
 use Rattle.instructions.specs.Columns.{kindAt}
-use Rattle.instructions.specs.Opcodes.{placeFrom, kindCoded}
+use Rattle.instructions.specs.Opcodes.{placeFrom}
 use Rattle.instructions.proofs.OpcodeLaws.{kind-of-opcode}
 use Rattle.words.specs.Words.{wordBits, Word, whole, wordsOf, allBytes}
-use Rattle.words.specs.Decoding.{Item, itemOf, hasArgument, opcode, argument, Entry, item, coded, entries, decoded, items, numberAt}
+use Rattle.words.specs.Decoding.{Item, itemOf, hasArgument, opcode, argument, item, coded, entries, decoded, items, numberAt}
 use Rattle.words.specs.Held.{sizeOf}
 use Rattle.words.specs.Export.{Op, positions, argumentWord, itemsFrom, itemWords, wordsIn, exportOps}
 use Rattle.words.proofs.WordLaws.{words-back, bytes-length}

@@ -1,12 +1,12 @@
 -- Laws of the instruction at the head of words, by the bytes, and of the entries from there on. Assumes nothing.
 use mathlib.Core.Path.{_≡_, refl, sym, ap, _∙_}
 use mathlib.Core.Bool.{Bool, true, false, cond}
-use mathlib.Core.List.{List, [], _∷_, _++_, map}
-use Prim.Native.Nat.{ℕ, zero, suc, _+_, _-_, _*_, _<_, _≤_}
+use mathlib.Core.List.{List, [], _∷_}
+use Prim.Native.Nat.{ℕ, suc, _+_, _-_, _*_, _<_, _≤_}
 use native.Mathlib.Omega.{arith}
 use lib.Dec.{ltb}
 use lib.IntN.{ℤ, pos}
-use lib.ListN.{length, getD, take, drop, length-drop}
+use lib.ListN.{length, take, drop, length-drop}
 use lib.Seq.{drop-drop}
 use borrow.Author.Tests.{ltb-true, ltb-false}
 use Rattle.numbers.specs.Numbers.{signed}
@@ -15,12 +15,11 @@ use Rattle.text.specs.declared.Place.the-variants.{At as at, Missing as missing
 use Rattle.instructions.specs.Columns.{kindAt}
 use Rattle.instructions.specs.Opcodes.{kindCoded}
 use Rattle.instructions.proofs.OpcodeLaws.{opcode-of-kind}
-use Rattle.words.specs.declared.Head.{Head}
 use Rattle.words.specs.declared.Head.the-variants as heads
 use Rattle.words.specs.Words.{wordBits, Word, whole, cut, wordsOf}
-use Rattle.words.specs.Decoding.{Item, itemOf, hasArgument, Entry, item, unreadable, opcode, argument, coded, entries}
+use Rattle.words.specs.Decoding.{itemOf, hasArgument, item, unreadable, opcode, argument, coded, entries}
 use Rattle.words.specs.Held.{sizeOf, withArgument, headCoded, headOf}
-use Rattle.words.proofs.WordLaws.{words-none, words-cut, firstOf, words-first, part-is}
+use Rattle.words.proofs.WordLaws.{words-none, firstOf, words-first, part-is}
 
 -- ---- the head by the bytes
 

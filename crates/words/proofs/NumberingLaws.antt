@@ -15,8 +15,8 @@ use Rattle.text.specs.declared.Place.the-variants.{At as at, Missing as missing
 use Rattle.instructions.specs.Opcodes.{placeFrom}
 use Rattle.words.specs.declared.Head.the-variants as heads
 use Rattle.words.specs.Words.{Word}
-use Rattle.words.specs.Decoding.{Item, itemOf, opcode, entries, decoded, items, faultFrom}
-use Rattle.words.specs.Held.{sizeOf, headOf, Readable, numberHeld, Numbered}
+use Rattle.words.specs.Decoding.{itemOf, opcode, entries, decoded, items, faultFrom}
+use Rattle.words.specs.Held.{sizeOf, headOf, Readable, Numbered}
 use Rattle.words.proofs.HeadLaws.{Read, size-small}
 use Rattle.words.proofs.FaultLaws.{fault-unread, sound-item}
 

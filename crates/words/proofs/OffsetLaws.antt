@@ -1,11 +1,11 @@
 -- Laws of offsets: where they lead, as the code tests it, and one turn of the pass over them. Assumes nothing.
 use mathlib.Core.Path.{_≡_, refl, sym, ap, subst, _∙_}
-use mathlib.Core.Bool.{Bool, true, false, cond, false≢true}
-use mathlib.Core.List.{List, [], _∷_, map}
-use Prim.Native.Nat.{ℕ, zero, suc, _+_, _*_, _<_, _≤_}
+use mathlib.Core.Bool.{Bool, true, false, false≢true}
+use mathlib.Core.List.{List, [], _∷_}
+use Prim.Native.Nat.{ℕ, suc, _+_, _*_, _<_, _≤_}
 use native.Mathlib.Omega.{arith}
-use lib.Dec.{T, ltb}
-use lib.IntN.{ℤ, pos, negsuc, natAbs, _+ℤ_}
+use lib.Dec.{T}
+use lib.IntN.{ℤ, pos, negsuc, natAbs}
 use lib.ListN.{length, getD, drop, List·getD-eq-default}
 use lib.Signed.{ltZ, nonNeg}
 use mir.Syntax.{w64}
@@ -17,7 +17,6 @@ use Rattle.instructions.specs.declared.Argument.the-variants.{Absent, Target, P
 use Rattle.text.specs.declared.Place.{Place}
 use Rattle.text.specs.declared.Place.the-variants.{At as at, Missing as missing}
 use Rattle.instructions.specs.Columns.{kindAt}
-use Rattle.instructions.specs.Opcodes.{placeFrom}
 use Rattle.instructions.proofs.ColumnLaws.{getD-any}
 use Rattle.words.specs.declared.Head.the-variants as heads
 use Rattle.words.specs.Words.{Word}

@@ -1,11 +1,11 @@
 -- Laws of words: the first word of bytes and what follows, and a word that was written is read back. Assumes nothing.
 use mathlib.Core.Path.{_≡_, refl, sym, ap, _∙_}
 use mathlib.Core.Bool.{true, false, cond}
-use mathlib.Core.List.{List, [], _∷_, _++_, map}
-use Prim.Native.Nat.{ℕ, zero, suc, _+_, _-_, _*_, _/_, _%_, _<_, _≤_}
+use mathlib.Core.List.{List, [], _∷_, map}
+use Prim.Native.Nat.{ℕ, suc, _+_, _-_, _*_, _/_, _%_, _<_, _≤_}
 use native.Mathlib.Omega.{arith}
 use lib.IntN.{pos, negsuc, _-ℤ_}
-use lib.ListN.{length, getD, take, drop, length-append, length-drop}
+use lib.ListN.{length, getD, take, drop, length-drop}
 use lib.Seq.{take-all}
 use lib.Signed.{ltZ}
 use mir.Syntax.{w32, w64}
@@ -16,7 +16,7 @@ use borrow.Author.Tests.{lt-ltb, ltb-true, ltb-false}
 use Rattle.numbers.specs.Numbers.{modulus, half, signed}
 use Rattle.numbers.proofs.NumberLaws.{signed-number, signed-low, signed-high}
 use Rattle.text.proofs.TextLaws.{Every, none, more}
-use Rattle.words.specs.Words.{wordBits, Word, whole, cut, littleEndian, wordsOf, bytesOf, allBytes}
+use Rattle.words.specs.Words.{wordBits, whole, littleEndian, wordsOf, bytesOf, allBytes}
 
 -- ---- the first word
 
@@ -24,14 +24,6 @@ pub words-none : (bs : List ℕ) → length bs ≡ 0 → wordsOf bs ≡ []
 unfolding wordsOf
 words-none [] h = refl
 words-none (a ∷ bs) h = absurd (omega arith)
-
-pub words-cut : (bs : List ℕ) → 0 < length bs → length bs < 4 → wordsOf bs ≡ cut ∷ []
-unfolding wordsOf
-words-cut [] h k = absurd (omega arith)
-words-cut (a ∷ []) h k = refl
-words-cut (a ∷ b ∷ []) h k = refl
-words-cut (a ∷ b ∷ c ∷ []) h k = refl
-words-cut (a ∷ b ∷ c ∷ d ∷ bs) h k = absurd (omega arith)
 
 -- the number of the first four bytes
 abbrev pub firstOf : List ℕ → ℕ

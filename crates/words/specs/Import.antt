@@ -6,7 +6,7 @@ use lib.ListN.{length}
 use Rattle.refusals.specs.declared.Refusal.the-variants.{Layout, BadName, BadWord}
 use Rattle.refusals.specs.declared.Verdict.{Verdict}
 use Rattle.refusals.specs.declared.Verdict.the-variants.{Accepted as accepted, Refused as refused}
-use Rattle.text.specs.Text.{isEmpty, words, Line, noLine, lines, all}
+use Rattle.text.specs.Text.{isEmpty, words, Line, lines, all}
 use Rattle.text.specs.declared.Place.{Place}
 use Rattle.text.specs.declared.Place.the-variants.{At as at, Missing as missing}
 use Rattle.routine.specs.declared.Section.the-variants.{Primitives as primitives}

@@ -5,15 +5,9 @@ use borrow.Author.Needs.{needs}
 use Rattle.analyser.proofs.bound_routine.Statement.{statement}
 use Rattle.analyser.proofs.bound_routine.Tie as tie
 
-explored-requires : tie.Need-explored-requires
-explored-requires c κs = search needs
-
 put-found-requires : tie.Need-put-found-requires
 unfolding boundRoutine
 put-found-requires c κs = (c .before .explored .ensures .1, found-printable _ _ _ _ (c .before .explored .ensures .0) (c .before .before .before .pre .1))
-
-same-length : tie.Need-same-length
-same-length c = search needs
 
 returns : tie.Need-returns
 unfolding boundRoutine
@@ -22,4 +16,4 @@ returns c = found-gives _ 0 _ _ (c .before .before .before .before .explored .en
 pub bound-routine-spec : {M : Type 1} → statement M
 bound-routine-spec =
     tie.close
-    (tie.spec explored-requires put-found-requires same-length returns)
+    (tie.spec (λ c κs. search needs) put-found-requires (λ c. search needs) returns)

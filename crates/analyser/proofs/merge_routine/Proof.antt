@@ -5,15 +5,9 @@ use borrow.Author.Needs.{needs}
 use Rattle.analyser.proofs.merge_routine.Statement.{statement}
 use Rattle.analyser.proofs.merge_routine.Tie as tie
 
-swept-requires : tie.Need-swept-requires
-swept-requires c κs = search needs
-
 put-found-requires : tie.Need-put-found-requires
 unfolding mergeRoutine
 put-found-requires c κs = (c .before .swept .ensures .1, found-printable _ _ _ _ (c .before .swept .ensures .0) (c .before .before .before .pre .1))
-
-same-length : tie.Need-same-length
-same-length c = search needs
 
 returns : tie.Need-returns
 unfolding mergeRoutine
@@ -22,4 +16,4 @@ returns c = found-gives _ 0 _ _ (c .before .before .before .before .swept .ensur
 pub merge-routine-spec : {M : Type 1} → statement M
 merge-routine-spec =
     tie.close
-    (tie.spec swept-requires put-found-requires same-length returns)
+    (tie.spec (λ c κs. search needs) put-found-requires (λ c. search needs) returns)

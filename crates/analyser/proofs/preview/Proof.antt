@@ -16,15 +16,6 @@ returns c =
     let a = c .before .before .before .before .args in
     gives-refusal _ _ (preview-short (a .text .now) (a .address) (a .instruction .now) (length (a .out .now)) (c .if1 .taken)) _
 
-slice-aggregate-copy : tie.Need-slice-aggregate-copy
-slice-aggregate-copy c = search needs
-
-copy-requires : tie.Need-copy-requires
-copy-requires c κs = search needs
-
-enum-known-copied : tie.Need-enum-known-copied
-enum-known-copied c = search needs
-
 array-share-prefix-patched : tie.Need-array-share-prefix-patched
 array-share-prefix-patched c =
     let p = c .before .before .before .before in
@@ -36,15 +27,6 @@ slice-aggregate-bound c =
     let p = c .before .before .before .before .before in
     let t = told-copy _ _ (sym (c .before .before .copied .given .1) ∙ p .copy .ensures .0) _ _ (p .copy .ensures .1) in
     sym (length-take-le _ _ (t .1))
-
-bound-requires : tie.Need-bound-requires
-bound-requires c κs = search needs
-
-enum-known-copied-2 : tie.Need-enum-known-copied-2
-enum-known-copied-2 c = search needs
-
-same-length : tie.Need-same-length
-same-length c = search needs
 
 returns-2 : tie.Need-returns-2
 returns-2 c =
@@ -67,13 +49,13 @@ preview-spec =
     tie.close
     (tie.spec
     returns
-    slice-aggregate-copy
-    copy-requires
-    enum-known-copied
+    (λ c. search needs)
+    (λ c κs. search needs)
+    (λ c. search needs)
     array-share-prefix-patched
     slice-aggregate-bound
-    bound-requires
-    enum-known-copied-2
-    same-length
+    (λ c κs. search needs)
+    (λ c. search needs)
+    (λ c. search needs)
     returns-2
     returns-3)

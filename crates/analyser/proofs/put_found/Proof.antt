@@ -14,12 +14,6 @@ put-bound-requires c κs =
     let p = s .pre .1 in
     ((p .positive, p .small, s .pre .0 .cycles), p .fits _ (judged-accepted (s .args .tick) (s .args .found) (c .before .enum-told .given .1)))
 
-enum-known-verdict : tie.Need-enum-known-verdict
-enum-known-verdict c = search needs
-
-same-length : tie.Need-same-length
-same-length c = search needs
-
 returns : tie.Need-returns
 returns c =
     let s = c .before .before .before .before .before .before .before in
@@ -36,7 +30,7 @@ put-found-spec =
     (tie.spec
     enum-told
     put-bound-requires
-    enum-known-verdict
-    same-length
+    (λ c. search needs)
+    (λ c. search needs)
     returns
     returns-2)

@@ -6,12 +6,6 @@ use borrow.Author.Needs.{needs}
 use Rattle.analyser.proofs.refusal_word.Statement.{statement}
 use Rattle.analyser.proofs.refusal_word.Tie as tie
 
-number-requires : tie.Need-number-requires
-number-requires c κs = search needs
-
-place-requires : tie.Need-place-requires
-place-requires c κs = search needs
-
 mul-result : tie.Need-mul-result
 mul-result c = let n : c .before .number .result ≤ 14 = (rw (c .before .number .ensures) (number-small (c .before .before .args .r))) in omega arith
 
@@ -26,4 +20,4 @@ returns c = word-refused _ _ _ (c .before .number .ensures) (c .place .ensures)
 
 pub refusal-word-spec : {M : Type 1} → statement M
 refusal-word-spec =
-    tie.close (tie.spec number-requires place-requires mul-result add-result add-result-2 returns)
+    tie.close (tie.spec (λ c κs. search needs) (λ c κs. search needs) mul-result add-result add-result-2 returns)

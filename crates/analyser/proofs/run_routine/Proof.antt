@@ -7,21 +7,12 @@ use borrow.Author.Needs.{needs}
 use Rattle.analyser.proofs.run_routine.Statement.{statement}
 use Rattle.analyser.proofs.run_routine.Tie as tie
 
-ran-requires : tie.Need-ran-requires
-ran-requires c κs = search needs
-
 enum-told : tie.Need-enum-told
 enum-told c = search needs
 
 put-run-requires : tie.Need-put-run-requires
 unfolding runRoutine
 put-run-requires c κs = c .before .before .before .before .before .pre .1 .fits _ (ran-reported runText _ _ (c .before .before .before .ran .ensures) (c .before .enum-told .given .1))
-
-enum-known-verdict : tie.Need-enum-known-verdict
-enum-known-verdict c = search needs
-
-same-length : tie.Need-same-length
-same-length c = search needs
 
 returns : tie.Need-returns
 unfolding runRoutine
@@ -35,10 +26,10 @@ pub run-routine-spec : {M : Type 1} → statement M
 run-routine-spec =
     tie.close
     (tie.spec
-    ran-requires
+    (λ c κs. search needs)
     enum-told
     put-run-requires
-    enum-known-verdict
-    same-length
+    (λ c. search needs)
+    (λ c. search needs)
     returns
     returns-2)

@@ -6,15 +6,6 @@ use borrow.Author.Needs.{needs}
 use Rattle.analyser.proofs.tickbound_bound.Statement.{statement}
 use Rattle.analyser.proofs.tickbound_bound.Tie as tie
 
-bound-requires : tie.Need-bound-requires
-bound-requires c κs = search needs
-
-word-of-requires : tie.Need-word-of-requires
-word-of-requires c κs = search needs
-
-same-length : tie.Need-same-length
-same-length c = search needs
-
 returns : tie.Need-returns
 returns c =
     let b = c .before .before .before .bound .ensures in
@@ -23,4 +14,4 @@ returns c =
     (w, (b .1 .0, (bound-tells _ _ _ w, rw l at (b .1 .1))))
 
 pub tickbound-bound-spec : {M : Type 1} → statement M
-tickbound-bound-spec = tie.close (tie.spec bound-requires word-of-requires same-length returns)
+tickbound-bound-spec = tie.close (tie.spec (λ c κs. search needs) (λ c κs. search needs) (λ c. search needs) returns)

@@ -6,15 +6,6 @@ use borrow.Author.Needs.{needs}
 use Rattle.analyser.proofs.tickbound_export.Statement.{statement}
 use Rattle.analyser.proofs.tickbound_export.Tie as tie
 
-export-requires : tie.Need-export-requires
-export-requires c κs = search needs
-
-word-of-requires : tie.Need-word-of-requires
-word-of-requires c κs = search needs
-
-same-length : tie.Need-same-length
-same-length c = search needs
-
 returns : tie.Need-returns
 returns c =
     let b = c .before .before .before .export .ensures in
@@ -22,4 +13,4 @@ returns c =
     (w, (b .1, export-tells _ _ _ w))
 
 pub tickbound-export-spec : {M : Type 1} → statement M
-tickbound-export-spec = tie.close (tie.spec export-requires word-of-requires same-length returns)
+tickbound-export-spec = tie.close (tie.spec (λ c κs. search needs) (λ c κs. search needs) (λ c. search needs) returns)

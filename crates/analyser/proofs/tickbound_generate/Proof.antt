@@ -6,15 +6,6 @@ use borrow.Author.Needs.{needs}
 use Rattle.analyser.proofs.tickbound_generate.Statement.{statement}
 use Rattle.analyser.proofs.tickbound_generate.Tie as tie
 
-generate-requires : tie.Need-generate-requires
-generate-requires c κs = search needs
-
-word-of-requires : tie.Need-word-of-requires
-word-of-requires c κs = search needs
-
-same-length : tie.Need-same-length
-same-length c = search needs
-
 returns : tie.Need-returns
 returns c =
     let b = c .before .before .before .generate .ensures in
@@ -22,4 +13,4 @@ returns c =
     (w, (b .1, generate-tells _ _ _ w))
 
 pub tickbound-generate-spec : {M : Type 1} → statement M
-tickbound-generate-spec = tie.close (tie.spec generate-requires word-of-requires same-length returns)
+tickbound-generate-spec = tie.close (tie.spec (λ c κs. search needs) (λ c κs. search needs) (λ c. search needs) returns)

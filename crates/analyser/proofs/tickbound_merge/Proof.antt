@@ -6,15 +6,6 @@ use borrow.Author.Needs.{needs}
 use Rattle.analyser.proofs.tickbound_merge.Statement.{statement}
 use Rattle.analyser.proofs.tickbound_merge.Tie as tie
 
-merge-requires : tie.Need-merge-requires
-merge-requires c κs = search needs
-
-word-of-requires : tie.Need-word-of-requires
-word-of-requires c κs = search needs
-
-same-length : tie.Need-same-length
-same-length c = search needs
-
 returns : tie.Need-returns
 returns c =
     let b = c .before .before .before .merge .ensures in
@@ -23,4 +14,4 @@ returns c =
     (w, (b .1 .0, (merge-tells _ _ _ w, rw l at (b .1 .1))))
 
 pub tickbound-merge-spec : {M : Type 1} → statement M
-tickbound-merge-spec = tie.close (tie.spec merge-requires word-of-requires same-length returns)
+tickbound-merge-spec = tie.close (tie.spec (λ c κs. search needs) (λ c κs. search needs) (λ c. search needs) returns)

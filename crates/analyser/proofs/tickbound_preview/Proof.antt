@@ -7,15 +7,6 @@ use borrow.Author.Needs.{needs}
 use Rattle.analyser.proofs.tickbound_preview.Statement.{statement}
 use Rattle.analyser.proofs.tickbound_preview.Tie as tie
 
-preview-requires : tie.Need-preview-requires
-preview-requires c κs = search needs
-
-word-of-requires : tie.Need-word-of-requires
-word-of-requires c κs = search needs
-
-same-length : tie.Need-same-length
-same-length c = search needs
-
 returns : tie.Need-returns
 returns c =
     let b = c .before .before .before .preview .ensures in
@@ -23,4 +14,4 @@ returns c =
     (w, (b .1, preview-tells _ _ _ _ (omega arith) _ w))
 
 pub tickbound-preview-spec : {M : Type 1} → statement M
-tickbound-preview-spec = tie.close (tie.spec preview-requires word-of-requires same-length returns)
+tickbound-preview-spec = tie.close (tie.spec (λ c κs. search needs) (λ c κs. search needs) (λ c. search needs) returns)

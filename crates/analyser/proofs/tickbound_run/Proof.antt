@@ -6,15 +6,6 @@ use borrow.Author.Needs.{needs}
 use Rattle.analyser.proofs.tickbound_run.Statement.{statement}
 use Rattle.analyser.proofs.tickbound_run.Tie as tie
 
-run-requires : tie.Need-run-requires
-run-requires c κs = search needs
-
-word-of-requires : tie.Need-word-of-requires
-word-of-requires c κs = search needs
-
-same-length : tie.Need-same-length
-same-length c = search needs
-
 returns : tie.Need-returns
 returns c =
     let b = c .before .before .before .run .ensures in
@@ -23,4 +14,4 @@ returns c =
     (w, (b .1 .0, (run-tells _ _ _ w, rw l at (b .1 .1))))
 
 pub tickbound-run-spec : {M : Type 1} → statement M
-tickbound-run-spec = tie.close (tie.spec run-requires word-of-requires same-length returns)
+tickbound-run-spec = tie.close (tie.spec (λ c κs. search needs) (λ c κs. search needs) (λ c. search needs) returns)

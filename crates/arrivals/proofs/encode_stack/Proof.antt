@@ -1,11 +1,11 @@
 -- `arrivals::encode_stack` meets its contract. The loop's invariant: the first i cells are put down. The measure is what is left of them.
 -- Assumes nothing.
 use Prim.Native.Nat.{_≤_, _-_}
-use mathlib.Core.Path.{_≡_, refl, sym, ap, _∙_}
+use mathlib.Core.Path.{_≡_, refl, sym, _∙_}
 use native.Mathlib.Omega.{arith}
 use lib.ListN.{length, take, length-set}
 use mathlib.Core.List.{map}
-use Rattle.cells.specs.Codes.{cellsOf, cellOf, confine}
+use Rattle.cells.specs.Codes.{cellsOf, confine}
 use Rattle.arrivals.proofs.FillLaws.{encoded-next, encoded-all}
 use borrow.Author.Needs.{needs}
 use Rattle.arrivals.proofs.encode_stack.Statement.{statement}
@@ -20,27 +20,6 @@ abbrev μ-loop : tie.MeasureT-loop
 loop-holds : tie.Need-loop-holds Inv-loop μ-loop
 unfolding cellsOf
 loop-holds c = (omega arith, search needs, refl)
-
-mul-encode : tie.Need-mul-encode Inv-loop μ-loop
-mul-encode c = search needs
-
-array-copy-out-encode : tie.Need-array-copy-out-encode Inv-loop μ-loop
-array-copy-out-encode c = search needs
-
-encode-requires : tie.Need-encode-requires Inv-loop μ-loop
-encode-requires c κs = search needs
-
-mul-entries : tie.Need-mul-entries Inv-loop μ-loop
-mul-entries c = search needs
-
-slice-write-entries : tie.Need-slice-write-entries Inv-loop μ-loop
-slice-write-entries c = search needs
-
-add-i : tie.Need-add-i Inv-loop μ-loop
-add-i c = search needs
-
-loop-less : tie.Need-loop-less Inv-loop μ-loop
-loop-less c = search needs
 
 loop-again : tie.Need-loop-again Inv-loop μ-loop
 loop-again c =
@@ -67,13 +46,13 @@ encode-stack-spec =
     Inv-loop
     μ-loop
     loop-holds
-    mul-encode
-    array-copy-out-encode
-    encode-requires
-    mul-entries
-    slice-write-entries
-    add-i
-    loop-less
+    (λ c. search needs)
+    (λ c. search needs)
+    (λ c κs. search needs)
+    (λ c. search needs)
+    (λ c. search needs)
+    (λ c. search needs)
+    (λ c. search needs)
     loop-again
     same-length
     returns)

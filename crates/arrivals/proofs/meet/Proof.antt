@@ -10,21 +10,6 @@ use borrow.Author.Needs.{needs}
 use Rattle.arrivals.proofs.meet.Statement.{statement}
 use Rattle.arrivals.proofs.meet.Tie as tie
 
-merge-states-requires : tie.Need-merge-states-requires
-merge-states-requires c κs = search needs
-
-slice-write-head : tie.Need-slice-write-head
-slice-write-head c = search needs
-
-same-length : tie.Need-same-length
-same-length c = search needs
-
-same-length-2 : tie.Need-same-length-2
-same-length-2 c = search needs
-
-same-length-3 : tie.Need-same-length-3
-same-length-3 c = search needs
-
 returns : tie.Need-returns
 returns c =
     let start = c .before .before .before .before .before .before .before .before .before .before .before .before .before .before .before .before .before .before in
@@ -34,38 +19,8 @@ returns c =
     row-unlike _ x (m .last .0) _ _ _ _ n
     (ap (λ (b : Bool). ofStates (start .args .sizes .now) x b (m .last .0) (m .last .1 .0) (m .last .1 .1 .0)) (sym (not-true (m .result) (c .if1 .taken))) ∙ m .ensures .0 x y)
 
-slice-read-larger : tie.Need-slice-read-larger
-slice-read-larger c = search needs
-
-shared-slice-read-larger : tie.Need-shared-slice-read-larger
-shared-slice-read-larger c = search needs
-
-larger-requires : tie.Need-larger-requires
-larger-requires c κs = search needs
-
-slice-read-larger-2 : tie.Need-slice-read-larger-2
-slice-read-larger-2 c = search needs
-
-shared-slice-read-larger-2 : tie.Need-shared-slice-read-larger-2
-shared-slice-read-larger-2 c = search needs
-
-larger-requires-2 : tie.Need-larger-requires-2
-larger-requires-2 c κs = search needs
-
-slice-write-head-2 : tie.Need-slice-write-head-2
-slice-write-head-2 c = search needs
-
 slice-write-head-3 : tie.Need-slice-write-head-3
 slice-write-head-3 c = simp length-set (omega arith)
-
-same-length-4 : tie.Need-same-length-4
-same-length-4 c = search needs
-
-same-length-5 : tie.Need-same-length-5
-same-length-5 c = search needs
-
-same-length-6 : tie.Need-same-length-6
-same-length-6 c = search needs
 
 returns-2 : tie.Need-returns-2
 returns-2 c =
@@ -81,21 +36,21 @@ pub meet-spec : {M : Type 1} → statement M
 meet-spec =
     tie.close
     (tie.spec
-    merge-states-requires
-    slice-write-head
-    same-length
-    same-length-2
-    same-length-3
+    (λ c κs. search needs)
+    (λ c. search needs)
+    (λ c. search needs)
+    (λ c. search needs)
+    (λ c. search needs)
     returns
-    slice-read-larger
-    shared-slice-read-larger
-    larger-requires
-    slice-read-larger-2
-    shared-slice-read-larger-2
-    larger-requires-2
-    slice-write-head-2
+    (λ c. search needs)
+    (λ c. search needs)
+    (λ c κs. search needs)
+    (λ c. search needs)
+    (λ c. search needs)
+    (λ c κs. search needs)
+    (λ c. search needs)
     slice-write-head-3
-    same-length-4
-    same-length-5
-    same-length-6
+    (λ c. search needs)
+    (λ c. search needs)
+    (λ c. search needs)
     returns-2)

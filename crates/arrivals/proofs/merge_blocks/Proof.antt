@@ -1,21 +1,21 @@
 -- `arrivals::merge_blocks` meets its contract. The loop's invariant: the first k blocks are merged. The measure is the number of those left.
 -- Assumes nothing.
-use Prim.Native.Nat.{ℕ, _+_, _*_, _-_, _≤_, _<_}
-use mathlib.Core.Path.{_≡_, refl, sym, ap, ap₂, _∙_}
+use Prim.Native.Nat.{_+_, _*_, _-_, _≤_}
+use mathlib.Core.Path.{_≡_, sym, ap, _∙_}
 use mathlib.Core.Bool.{Bool}
-use mathlib.Core.List.{List, []}
+use mathlib.Core.List.{[]}
 use native.Mathlib.Omega.{arith}
 use lib.ListN.{length, getD, take, drop}
 use borrow.Author.Needs.{needs}
 use Rattle.states.specs.View.{blocksOf}
 use Rattle.cells.specs.Merge.{mergeCells}
-use Rattle.cells.specs.Codes.{cellOf, cellsOf}
+use Rattle.cells.specs.Codes.{cellsOf}
 use Rattle.merges.specs.Merge.{mergeLists}
 use Rattle.arrivals.specs.Rows.{ofCells}
 use borrow.Rule.Slice.PartMut.{same-len-mid}
 use borrow.Author.Tests.{not-true, not-false}
 use Rattle.arrivals.proofs.FieldLaws.{blocks-length, block-merged, block-unlike, part-length}
-use Rattle.arrivals.proofs.ZipLaws.{Partly, none-made, one-made, none-merged, all-made}
+use Rattle.arrivals.proofs.ZipLaws.{Partly, none-made, all-made}
 use Rattle.arrivals.proofs.merge_blocks.Statement.{statement}
 use Rattle.arrivals.proofs.merge_blocks.Tie as tie
 
@@ -29,12 +29,6 @@ abbrev μ-loop : tie.MeasureT-loop
 loop-holds : tie.Need-loop-holds Inv-loop μ-loop
 loop-holds c = (omega arith, search needs, none-made (mergeLists mergeCells) [] _ _)
 
-mul-low : tie.Need-mul-low Inv-loop μ-loop
-mul-low c = search needs
-
-shared-slice-read-high : tie.Need-shared-slice-read-high Inv-loop μ-loop
-shared-slice-read-high c = search needs
-
 cast-high : tie.Need-cast-high Inv-loop μ-loop
 cast-high c =
     let k = c .before .before .loop .k in
@@ -45,29 +39,11 @@ add-high c =
     let k = c .before .before .loop .k in
     omega (arith, c .shared-slice-known3 .given k)
 
-mul-merge-cells : tie.Need-mul-merge-cells Inv-loop μ-loop
-mul-merge-cells c = search needs
-
-sub-merge-cells : tie.Need-sub-merge-cells Inv-loop μ-loop
-sub-merge-cells c = search needs
-
-part-merge-cells-start : tie.Need-part-merge-cells-start Inv-loop μ-loop
-part-merge-cells-start c = search needs
-
 part-merge-cells-end : tie.Need-part-merge-cells-end Inv-loop μ-loop
 part-merge-cells-end c =
     let start = c .before .before .before .before .before .before in
     let k = c .before .before .loop .k in
     omega (arith, start .pre .2 .few k, start .pre .2 .blocks)
-
-mul-merge-cells-2 : tie.Need-mul-merge-cells-2 Inv-loop μ-loop
-mul-merge-cells-2 c = search needs
-
-sub-merge-cells-2 : tie.Need-sub-merge-cells-2 Inv-loop μ-loop
-sub-merge-cells-2 c = search needs
-
-part-merge-cells-start-2 : tie.Need-part-merge-cells-start-2 Inv-loop μ-loop
-part-merge-cells-start-2 c = search needs
 
 part-merge-cells-end-2 : tie.Need-part-merge-cells-end-2 Inv-loop μ-loop
 part-merge-cells-end-2 c =
@@ -104,12 +80,6 @@ returns c =
     let e : l .k * 16 + s - l .k * 16 ≡ s = omega arith in
     sym (block-unlike (a .sizes .now) (l .held) (a .came .now) (l .k) _ (start .pre .2) (l .inv .1) (start .pre .1) (omega arith) e _ (ap (λ (b : Bool). ofCells b (m .merge-cells .last .0)) (sym (not-true (m .merge-cells .result) (c .if1 .taken))) ∙ m .merge-cells .ensures) (l .inv .2))
 
-add-k : tie.Need-add-k Inv-loop μ-loop
-add-k c = search needs
-
-loop-less : tie.Need-loop-less Inv-loop μ-loop
-loop-less c = search needs
-
 loop-again : tie.Need-loop-again Inv-loop μ-loop
 loop-again c =
     let m = c .before .before .before in
@@ -128,9 +98,6 @@ loop-again c =
       block-merged (a .sizes .now) (l .held) (a .came .now) (l .k) z (start .pre .2) (l .inv .1) (start .pre .1) (omega arith) e _ p (n ∙ length-of (l .held) (l .inv .1)) q (l .inv .2),
     )
 
-same-length-2 : tie.Need-same-length-2 Inv-loop μ-loop
-same-length-2 c = search needs
-
 returns-2 : tie.Need-returns-2 Inv-loop μ-loop
 returns-2 c =
     let l = c .before .loop in
@@ -144,23 +111,23 @@ merge-blocks-spec =
     Inv-loop
     μ-loop
     loop-holds
-    mul-low
-    shared-slice-read-high
+    (λ c. search needs)
+    (λ c. search needs)
     cast-high
     add-high
-    mul-merge-cells
-    sub-merge-cells
-    part-merge-cells-start
+    (λ c. search needs)
+    (λ c. search needs)
+    (λ c. search needs)
     part-merge-cells-end
-    mul-merge-cells-2
-    sub-merge-cells-2
-    part-merge-cells-start-2
+    (λ c. search needs)
+    (λ c. search needs)
+    (λ c. search needs)
     part-merge-cells-end-2
     merge-cells-requires
     same-length
     returns
-    add-k
-    loop-less
+    (λ c. search needs)
+    (λ c. search needs)
     loop-again
-    same-length-2
+    (λ c. search needs)
     returns-2)

@@ -3,7 +3,7 @@
 use Prim.Native.Nat.{_-_, _≤_}
 use mathlib.Core.Path.{_≡_, refl, sym, ap, ap₂, _∙_}
 use native.Mathlib.Omega.{arith}
-use lib.ListN.{length, take, length-set}
+use lib.ListN.{length, length-set}
 use Rattle.cells.specs.Try.{done}
 use Rattle.cells.specs.Answers.{ofOperand}
 use Rattle.cells.specs.Merge.{mergeCells}
@@ -25,30 +25,9 @@ abbrev μ-loop : tie.MeasureT-loop
 loop-holds : tie.Need-loop-holds Inv-loop μ-loop
 loop-holds c = (omega arith, refl, none-made mergeCells (cellOf 0) _ _)
 
-mul-decode : tie.Need-mul-decode Inv-loop μ-loop
-mul-decode c = search needs
-
-slice-read-decode : tie.Need-slice-read-decode Inv-loop μ-loop
-slice-read-decode c = search needs
-
-decode-requires : tie.Need-decode-requires Inv-loop μ-loop
-decode-requires c κs = search needs
-
-mul-decode-2 : tie.Need-mul-decode-2 Inv-loop μ-loop
-mul-decode-2 c = search needs
-
-shared-slice-read-decode : tie.Need-shared-slice-read-decode Inv-loop μ-loop
-shared-slice-read-decode c = search needs
-
-decode-requires-2 : tie.Need-decode-requires-2 Inv-loop μ-loop
-decode-requires-2 c κs = search needs
-
 merge-requires : tie.Need-merge-requires Inv-loop μ-loop
 merge-requires c κs =
     (decoded-confined _ (c .before .before .decode .ensures), decoded-confined _ (c .decode2 .ensures))
-
-enum-known-merged : tie.Need-enum-known-merged Inv-loop μ-loop
-enum-known-merged c = search needs
 
 enum-told : tie.Need-enum-told Inv-loop μ-loop
 enum-told c = search needs
@@ -63,21 +42,6 @@ returns c =
     let came = m .before .before .before .before .before .before .before .before .before .args .came .now in
     let e = ap ofOperand (sym (c .enum-told .given .1)) ∙ m .merge .ensures ∙ ap₂ mergeCells (m .before .before .before .decode .ensures) (m .before .decode2 .ensures) ∙ sym (ap₂ mergeCells (cells-at (l .held) (l .i)) (cells-at came (l .i))) in
     sym (none-merged mergeCells (cellOf 0) _ (cellsOf (l .held)) (cellsOf came) (l .i) (rw cells-length (omega arith)) (rw cells-length (omega arith)) e (l .inv .2))
-
-encode-requires : tie.Need-encode-requires Inv-loop μ-loop
-encode-requires c κs = search needs
-
-mul-held : tie.Need-mul-held Inv-loop μ-loop
-mul-held c = search needs
-
-slice-write-held : tie.Need-slice-write-held Inv-loop μ-loop
-slice-write-held c = search needs
-
-add-i : tie.Need-add-i Inv-loop μ-loop
-add-i c = search needs
-
-loop-less : tie.Need-loop-less Inv-loop μ-loop
-loop-less c = search needs
 
 loop-again : tie.Need-loop-again Inv-loop μ-loop
 loop-again c =
@@ -107,22 +71,22 @@ merge-cells-spec =
     Inv-loop
     μ-loop
     loop-holds
-    mul-decode
-    slice-read-decode
-    decode-requires
-    mul-decode-2
-    shared-slice-read-decode
-    decode-requires-2
+    (λ c. search needs)
+    (λ c. search needs)
+    (λ c κs. search needs)
+    (λ c. search needs)
+    (λ c. search needs)
+    (λ c κs. search needs)
     merge-requires
-    enum-known-merged
+    (λ c. search needs)
     enum-told
     same-length
     returns
-    encode-requires
-    mul-held
-    slice-write-held
-    add-i
-    loop-less
+    (λ c κs. search needs)
+    (λ c. search needs)
+    (λ c. search needs)
+    (λ c. search needs)
+    (λ c. search needs)
     loop-again
     same-length-2
     returns-2)

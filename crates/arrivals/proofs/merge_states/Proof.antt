@@ -17,18 +17,6 @@ use borrow.Author.Needs.{needs}
 use Rattle.arrivals.proofs.merge_states.Statement.{statement}
 use Rattle.arrivals.proofs.merge_states.Tie as tie
 
-slice-read-unused : tie.Need-slice-read-unused
-slice-read-unused c = search needs
-
-unused-requires : tie.Need-unused-requires
-unused-requires c κs = search needs
-
-shared-slice-read-unused : tie.Need-shared-slice-read-unused
-shared-slice-read-unused c = search needs
-
-unused-requires-2 : tie.Need-unused-requires-2
-unused-requires-2 c κs = search needs
-
 returns : tie.Need-returns
 returns c =
     let start = c .before .before .before .before .before .before .before .before .before .before .before .before in
@@ -39,24 +27,9 @@ returns c =
       refl,
     )
 
-slice-read-decode : tie.Need-slice-read-decode
-slice-read-decode c = search needs
-
-decode-requires : tie.Need-decode-requires
-decode-requires c κs = search needs
-
-shared-slice-read-decode : tie.Need-shared-slice-read-decode
-shared-slice-read-decode c = search needs
-
-decode-requires-2 : tie.Need-decode-requires-2
-decode-requires-2 c κs = search needs
-
 merge-requires : tie.Need-merge-requires
 merge-requires c κs =
     (decoded-confined _ (c .before .before .decode .ensures), decoded-confined _ (c .decode2 .ensures))
-
-enum-known-merged : tie.Need-enum-known-merged
-enum-known-merged c = search needs
 
 enum-told : tie.Need-enum-told
 enum-told c = search needs
@@ -68,12 +41,6 @@ returns-2 c =
     let e = ap ofOperand (sym (c .enum-told .given .1)) ∙ c .before .before .merge .ensures ∙ ap₂ mergeCells (c .before .before .before .before .before .decode .ensures) (c .before .before .before .decode2 .ensures) in
     (λ x y. accus-unlike _ x y (a .head .now) (a .entries .now) (a .fields .now) (a .h .now) (a .es .now) (a .fs .now) e, refl)
 
-encode-requires : tie.Need-encode-requires
-encode-requires c κs = search needs
-
-slice-write-head : tie.Need-slice-write-head
-slice-write-head c = search needs
-
 mul-merge-cells : tie.Need-mul-merge-cells
 mul-merge-cells c = let h : c .before .before .before .before .before .before .before .before .before .before .before .before .unused .result ≤ 64 = rw (c .before .before .before .before .before .before .before .before .before .before .before .before .unused .ensures) (unused-most _) in search needs
 
@@ -83,9 +50,6 @@ sub-merge-cells c = let h : c .before .before .before .before .before .before .b
 part-merge-cells-start : tie.Need-part-merge-cells-start
 part-merge-cells-start c = let h : c .before .before .before .before .before .before .before .before .before .before .before .before .unused .result ≤ 64 = rw (c .before .before .before .before .before .before .before .before .before .before .before .before .unused .ensures) (unused-most _) in search needs
 
-part-merge-cells-end : tie.Need-part-merge-cells-end
-part-merge-cells-end c = search needs
-
 mul-merge-cells-2 : tie.Need-mul-merge-cells-2
 mul-merge-cells-2 c = let h : c .before .before .before .before .before .before .before .before .before .before .before .before .before .unused .result ≤ 64 = rw (c .before .before .before .before .before .before .before .before .before .before .before .before .before .unused .ensures) (unused-most _) in search needs
 
@@ -94,18 +58,6 @@ sub-merge-cells-2 c = let h : c .before .before .before .before .before .before 
 
 part-merge-cells-start-2 : tie.Need-part-merge-cells-start-2
 part-merge-cells-start-2 c = let h : c .before .before .before .before .before .before .before .before .before .before .before .before .before .unused .result ≤ 64 = rw (c .before .before .before .before .before .before .before .before .before .before .before .before .before .unused .ensures) (unused-most _) in search needs
-
-part-merge-cells-end-2 : tie.Need-part-merge-cells-end-2
-part-merge-cells-end-2 c = search needs
-
-merge-cells-requires : tie.Need-merge-cells-requires
-merge-cells-requires c κs = search needs
-
-same-length : tie.Need-same-length
-same-length c = search needs
-
-same-length-2 : tie.Need-same-length-2
-same-length-2 c = search needs
 
 returns-3 : tie.Need-returns-3
 returns-3 c =
@@ -117,18 +69,6 @@ returns-3 c =
       λ x y. stacks-unlike _ x y (a .head .now) (a .entries .now) (a .fields .now) (a .h .now) (a .es .now) (a .fs .now) _ free other e,
       take-set-le 4 (a .head .now) 4 _ (omega arith),
     )
-
-merge-blocks-requires : tie.Need-merge-blocks-requires
-merge-blocks-requires c κs = search needs
-
-same-length-3 : tie.Need-same-length-3
-same-length-3 c = search needs
-
-same-length-4 : tie.Need-same-length-4
-same-length-4 c = search needs
-
-same-length-5 : tie.Need-same-length-5
-same-length-5 c = search needs
 
 returns-4 : tie.Need-returns-4
 returns-4 c =
@@ -149,35 +89,35 @@ pub merge-states-spec : {M : Type 1} → statement M
 merge-states-spec =
     tie.close
     (tie.spec
-    slice-read-unused
-    unused-requires
-    shared-slice-read-unused
-    unused-requires-2
+    (λ c. search needs)
+    (λ c κs. search needs)
+    (λ c. search needs)
+    (λ c κs. search needs)
     returns
-    slice-read-decode
-    decode-requires
-    shared-slice-read-decode
-    decode-requires-2
+    (λ c. search needs)
+    (λ c κs. search needs)
+    (λ c. search needs)
+    (λ c κs. search needs)
     merge-requires
-    enum-known-merged
+    (λ c. search needs)
     enum-told
     returns-2
-    encode-requires
-    slice-write-head
+    (λ c κs. search needs)
+    (λ c. search needs)
     mul-merge-cells
     sub-merge-cells
     part-merge-cells-start
-    part-merge-cells-end
+    (λ c. search needs)
     mul-merge-cells-2
     sub-merge-cells-2
     part-merge-cells-start-2
-    part-merge-cells-end-2
-    merge-cells-requires
-    same-length
-    same-length-2
+    (λ c. search needs)
+    (λ c κs. search needs)
+    (λ c. search needs)
+    (λ c. search needs)
     returns-3
-    merge-blocks-requires
-    same-length-3
-    same-length-4
-    same-length-5
+    (λ c κs. search needs)
+    (λ c. search needs)
+    (λ c. search needs)
+    (λ c. search needs)
     returns-4)

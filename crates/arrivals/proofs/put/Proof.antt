@@ -10,38 +10,8 @@ use borrow.Author.Needs.{needs}
 use Rattle.arrivals.proofs.put.Statement.{statement}
 use Rattle.arrivals.proofs.put.Tie as tie
 
-encode-requires : tie.Need-encode-requires
-encode-requires c κs = search needs
-
-slice-write-head : tie.Need-slice-write-head
-slice-write-head c = search needs
-
-slice-write-head-2 : tie.Need-slice-write-head-2
-slice-write-head-2 c = search needs
-
-slice-write-head-3 : tie.Need-slice-write-head-3
-slice-write-head-3 c = search needs
-
-slice-write-head-4 : tie.Need-slice-write-head-4
-slice-write-head-4 c = search needs
-
 slice-write-head-5 : tie.Need-slice-write-head-5
 slice-write-head-5 c = simp length-set (omega arith)
-
-encode-stack-requires : tie.Need-encode-stack-requires
-encode-stack-requires c κs = search needs
-
-encode-fields-requires : tie.Need-encode-fields-requires
-encode-fields-requires c κs = search needs
-
-same-length : tie.Need-same-length
-same-length c = search needs
-
-same-length-2 : tie.Need-same-length-2
-same-length-2 c = search needs
-
-same-length-3 : tie.Need-same-length-3
-same-length-3 c = search needs
 
 returns : tie.Need-returns
 returns c =
@@ -58,15 +28,15 @@ pub put-spec : {M : Type 1} → statement M
 put-spec =
     tie.close
     (tie.spec
-    encode-requires
-    slice-write-head
-    slice-write-head-2
-    slice-write-head-3
-    slice-write-head-4
+    (λ c κs. search needs)
+    (λ c. search needs)
+    (λ c. search needs)
+    (λ c. search needs)
+    (λ c. search needs)
     slice-write-head-5
-    encode-stack-requires
-    encode-fields-requires
-    same-length
-    same-length-2
-    same-length-3
+    (λ c κs. search needs)
+    (λ c κs. search needs)
+    (λ c. search needs)
+    (λ c. search needs)
+    (λ c. search needs)
     returns)

@@ -1,6 +1,6 @@
 -- `arrivals::send` meets its contract. Assumes nothing.
 use Prim.Native.Nat.{_+_, _*_, _-_, _<_, _≤_}
-use mathlib.Core.Path.{_≡_, sym, ap, _∙_}
+use mathlib.Core.Path.{_≡_}
 use native.Mathlib.Omega.{arith}
 use lib.ListN.{length, take, drop}
 use Rattle.arrivals.proofs.PartLaws.{not-joined, row-length, sent}
@@ -20,60 +20,6 @@ returns-2 c =
     let t : a .n ≤ a .w .state .at - a .first = c .if2 .taken in
     λ b h. not-joined _ _ _ _ (λ e. let q : a .first + b ≡ a .w .state .at = e in let l : b < a .n = h in omega arith)
 
-mul-head : tie.Need-mul-head
-mul-head c = search needs
-
-mul-entry : tie.Need-mul-entry
-mul-entry c = search needs
-
-mul-field : tie.Need-mul-field
-mul-field c = search needs
-
-add-head-end : tie.Need-add-head-end
-add-head-end c = search needs
-
-add-entry-end : tie.Need-add-entry-end
-add-entry-end c = search needs
-
-add-field-end : tie.Need-add-field-end
-add-field-end c = search needs
-
-mul-join : tie.Need-mul-join
-mul-join c = search needs
-
-sub-join : tie.Need-sub-join
-sub-join c = search needs
-
-part-join-start : tie.Need-part-join-start
-part-join-start c = search needs
-
-part-join-end : tie.Need-part-join-end
-part-join-end c = search needs
-
-mul-join-2 : tie.Need-mul-join-2
-mul-join-2 c = search needs
-
-sub-join-2 : tie.Need-sub-join-2
-sub-join-2 c = search needs
-
-part-join-start-2 : tie.Need-part-join-start-2
-part-join-start-2 c = search needs
-
-part-join-end-2 : tie.Need-part-join-end-2
-part-join-end-2 c = search needs
-
-mul-join-3 : tie.Need-mul-join-3
-mul-join-3 c = search needs
-
-sub-join-3 : tie.Need-sub-join-3
-sub-join-3 c = search needs
-
-part-join-start-3 : tie.Need-part-join-start-3
-part-join-start-3 c = search needs
-
-part-join-end-3 : tie.Need-part-join-end-3
-part-join-end-3 c = search needs
-
 join-requires : tie.Need-join-requires
 join-requires c κs =
     let start = c .before .before .before .before .before .before .before .before .before .before in
@@ -84,15 +30,6 @@ join-requires c κs =
       start .pre .3,
       start .pre .4,
     )
-
-same-length : tie.Need-same-length
-same-length c = search needs
-
-same-length-2 : tie.Need-same-length-2
-same-length-2 c = search needs
-
-same-length-3 : tie.Need-same-length-3
-same-length-3 c = search needs
 
 returns-3 : tie.Need-returns-3
 returns-3 c =
@@ -117,26 +54,26 @@ send-spec =
     (tie.spec
     returns
     returns-2
-    mul-head
-    mul-entry
-    mul-field
-    add-head-end
-    add-entry-end
-    add-field-end
-    mul-join
-    sub-join
-    part-join-start
-    part-join-end
-    mul-join-2
-    sub-join-2
-    part-join-start-2
-    part-join-end-2
-    mul-join-3
-    sub-join-3
-    part-join-start-3
-    part-join-end-3
+    (λ c. search needs)
+    (λ c. search needs)
+    (λ c. search needs)
+    (λ c. search needs)
+    (λ c. search needs)
+    (λ c. search needs)
+    (λ c. search needs)
+    (λ c. search needs)
+    (λ c. search needs)
+    (λ c. search needs)
+    (λ c. search needs)
+    (λ c. search needs)
+    (λ c. search needs)
+    (λ c. search needs)
+    (λ c. search needs)
+    (λ c. search needs)
+    (λ c. search needs)
+    (λ c. search needs)
     join-requires
-    same-length
-    same-length-2
-    same-length-3
+    (λ c. search needs)
+    (λ c. search needs)
+    (λ c. search needs)
     returns-3)

@@ -1,10 +1,8 @@
 -- `arrivals::unused` meets its contract. Assumes nothing.
-use mathlib.Core.Path.{_≡_, refl, sym, ap}
-use mathlib.Core.Bool.{Bool, cond}
+use mathlib.Core.Path.{refl}
 use native.Mathlib.Omega.{arith}
 use borrow.Author.Tests.{lt-ltb, le-ltb}
 use Rattle.arrivals.specs.Rows.{unusedOf}
-use borrow.Author.Needs.{needs}
 use Rattle.arrivals.proofs.unused.Statement.{statement}
 use Rattle.arrivals.proofs.unused.Tie as tie
 

@@ -1,13 +1,12 @@
 -- `cells::between` meets its contract. Assumes nothing.
-use mathlib.Core.Path.{sym, ap, ap₂, subst, _∙_}
+use mathlib.Core.Path.{sym, ap, ap₂, _∙_}
 use lib.IntN.{ℤ, natAbs, _-ℤ_}
 use lib.Signed.{ltZ}
 use mir.Syntax.{w32}
 use mir.ValLaws.{toZ-ofZ}
-use native.Mathlib.Omega.{arith}
 use Rattle.numbers.proofs.SignedLaws.{cast-fits, wide-is, read-both}
 use Rattle.cells.specs.Cells.{range}
-use Rattle.cells.proofs.ComputeLaws.{operands-fit, operands-read, between-fits, Unsigned, between-unsigned, between-above, between-up}
+use Rattle.cells.proofs.ComputeLaws.{operands-fit, operands-read, between-fits, between-unsigned, between-above, between-up}
 use Rattle.cells.proofs.between.Statement.{statement}
 use Rattle.cells.proofs.between.Tie as tie
 

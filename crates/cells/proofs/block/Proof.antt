@@ -5,9 +5,6 @@ use Rattle.cells.specs.Cells.{handled, block}
 use Rattle.cells.proofs.block.Statement.{statement}
 use Rattle.cells.proofs.block.Tie as tie
 
-enum-known-value : tie.Need-enum-known-value
-enum-known-value c = search needs
-
 enum-told : tie.Need-enum-told
 enum-told c = search needs
 
@@ -20,4 +17,4 @@ unfolding block handled
 returns-2 c = ap handled (sym (c .before .value .given .1))
 
 pub block-spec : {M : Type 1} → statement M
-block-spec = tie.close (tie.spec enum-known-value enum-told returns returns-2)
+block-spec = tie.close (tie.spec (λ c. search needs) enum-told returns returns-2)

@@ -13,21 +13,6 @@ use Rattle.cells.proofs.calculate1.Tie as tie
 enum-told : tie.Need-enum-told
 enum-told c = search needs
 
-wrapping-add-requires : tie.Need-wrapping-add-requires
-wrapping-add-requires c κs = search needs
-
-enum-told-2 : tie.Need-enum-told-2
-enum-told-2 c = search needs
-
-negate-requires : tie.Need-negate-requires
-negate-requires c κs = search needs
-
-enum-told-3 : tie.Need-enum-told-3
-enum-told-3 c = search needs
-
-wrapping-sub-requires : tie.Need-wrapping-sub-requires
-wrapping-sub-requires c κs = search needs
-
 returns : tie.Need-returns
 unfolding calculate₁
 returns c =
@@ -54,11 +39,11 @@ calculate1-spec =
     tie.close
     (tie.spec
     enum-told
-    wrapping-add-requires
-    enum-told-2
-    negate-requires
-    enum-told-3
-    wrapping-sub-requires
+    (λ c κs. search needs)
+    (λ c. search needs)
+    (λ c κs. search needs)
+    (λ c. search needs)
+    (λ c κs. search needs)
     returns
     returns-2
     returns-3)

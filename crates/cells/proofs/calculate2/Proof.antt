@@ -13,21 +13,6 @@ use Rattle.cells.proofs.calculate2.Tie as tie
 enum-told : tie.Need-enum-told
 enum-told c = search needs
 
-wrapping-add-requires : tie.Need-wrapping-add-requires
-wrapping-add-requires c κs = search needs
-
-enum-told-2 : tie.Need-enum-told-2
-enum-told-2 c = search needs
-
-wrapping-sub-requires : tie.Need-wrapping-sub-requires
-wrapping-sub-requires c κs = search needs
-
-enum-known-b : tie.Need-enum-known-b
-enum-known-b c = search needs
-
-compare-requires : tie.Need-compare-requires
-compare-requires c κs = search needs
-
 returns : tie.Need-returns
 unfolding calculate₂
 returns c =
@@ -58,11 +43,11 @@ calculate2-spec =
     tie.close
     (tie.spec
     enum-told
-    wrapping-add-requires
-    enum-told-2
-    wrapping-sub-requires
-    enum-known-b
-    compare-requires
+    (λ c κs. search needs)
+    (λ c. search needs)
+    (λ c κs. search needs)
+    (λ c. search needs)
+    (λ c κs. search needs)
     returns
     returns-2
     returns-3)

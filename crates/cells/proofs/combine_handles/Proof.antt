@@ -1,5 +1,5 @@
 -- `cells::combine_handles` meets its contract. Assumes nothing.
-use mathlib.Core.Path.{refl, sym, ap, _∙_}
+use mathlib.Core.Path.{refl}
 use Rattle.cells.specs.Cells.{combineHandles}
 use Rattle.cells.proofs.AnswerLaws.{combined}
 use borrow.Author.Needs.{needs}
@@ -8,15 +8,6 @@ use Rattle.cells.proofs.combine_handles.Tie as tie
 
 enum-told : tie.Need-enum-told
 enum-told c = search needs
-
-enum-told-2 : tie.Need-enum-told-2
-enum-told-2 c = search needs
-
-enum-known-b : tie.Need-enum-known-b
-enum-known-b c = search needs
-
-compare-handles-requires : tie.Need-compare-handles-requires
-compare-handles-requires c κs = search needs
 
 returns : tie.Need-returns
 unfolding combineHandles
@@ -35,9 +26,9 @@ combine-handles-spec =
     tie.close
     (tie.spec
     enum-told
-    enum-told-2
-    enum-known-b
-    compare-handles-requires
+    (λ c. search needs)
+    (λ c. search needs)
+    (λ c κs. search needs)
     returns
     returns-2
     returns-3)

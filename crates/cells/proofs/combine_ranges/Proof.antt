@@ -1,5 +1,5 @@
 -- `cells::combine_ranges` meets its contract. Assumes nothing.
-use mathlib.Core.Path.{_≡_, sym, ap, ap₂, _∙_}
+use mathlib.Core.Path.{_≡_, sym, ap, _∙_}
 use mathlib.Core.Bool.{Bool, cond}
 use Prim.Native.Nat.{ℕ, _+_}
 use lib.IntN.{ℤ}
@@ -27,19 +27,10 @@ module _ (b : Binary) (l : ℤ) (m : ℕ) (k : ℤ) (n : ℕ) (f : SFits w32 l) 
       p ∙ read-both (λ (y z : ℤ). wider b y m z n) w32 l k f g
       ∙ ap (λ (t : Bool). cond t (number (calculate₂ b l k)) (wider b l m k n)) (sym (ne-eqb (m + n) 0 e))
 
-add-if1 : tie.Need-add-if1
-add-if1 c = search needs
-
-calculate2-requires : tie.Need-calculate2-requires
-calculate2-requires c κs = search needs
-
 returns : tie.Need-returns
 returns c =
     let start = c .before .before in
     single _ _ _ _ _ (start .fits .low) (start .fits .low2) (c .before .if1 .taken) (c .calculate2 .ensures)
-
-wider-requires : tie.Need-wider-requires
-wider-requires c κs = search needs
 
 returns-2 : tie.Need-returns-2
 returns-2 c =
@@ -48,4 +39,4 @@ returns-2 c =
 
 pub combine-ranges-spec : {M : Type 1} → statement M
 combine-ranges-spec =
-    tie.close (tie.spec add-if1 calculate2-requires returns wider-requires returns-2)
+    tie.close (tie.spec (λ c. search needs) (λ c κs. search needs) returns (λ c κs. search needs) returns-2)

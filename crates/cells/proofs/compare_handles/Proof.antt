@@ -1,5 +1,5 @@
 -- `cells::compare_handles` meets its contract. Assumes nothing.
-use mathlib.Core.Path.{refl, sym, ap, _∙_}
+use mathlib.Core.Path.{refl, ap}
 use Rattle.cells.specs.Try.{done}
 use Rattle.cells.specs.Cells.{compareHandles}
 use Rattle.cells.proofs.AnswerLaws.{compared}
@@ -9,27 +9,6 @@ use Rattle.cells.proofs.compare_handles.Tie as tie
 
 enum-told : tie.Need-enum-told
 enum-told c = search needs
-
-truth-requires : tie.Need-truth-requires
-truth-requires c κs = search needs
-
-enum-told-2 : tie.Need-enum-told-2
-enum-told-2 c = search needs
-
-truth-requires-2 : tie.Need-truth-requires-2
-truth-requires-2 c κs = search needs
-
-enum-told-3 : tie.Need-enum-told-3
-enum-told-3 c = search needs
-
-enum-told-4 : tie.Need-enum-told-4
-enum-told-4 c = search needs
-
-enum-told-5 : tie.Need-enum-told-5
-enum-told-5 c = search needs
-
-enum-told-6 : tie.Need-enum-told-6
-enum-told-6 c = search needs
 
 returns : tie.Need-returns
 unfolding compareHandles
@@ -60,13 +39,13 @@ compare-handles-spec =
     tie.close
     (tie.spec
     enum-told
-    truth-requires
-    enum-told-2
-    truth-requires-2
-    enum-told-3
-    enum-told-4
-    enum-told-5
-    enum-told-6
+    (λ c κs. search needs)
+    (λ c. search needs)
+    (λ c κs. search needs)
+    (λ c. search needs)
+    (λ c. search needs)
+    (λ c. search needs)
+    (λ c. search needs)
     returns
     returns-2
     returns-3

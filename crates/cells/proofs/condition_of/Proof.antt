@@ -8,15 +8,14 @@ use lib.Signed.{leZ, ltZ}
 use mir.Syntax.{w32, w64}
 use mir.Val.{SFits}
 use mir.ValLaws.{toZ-ofZ}
-use native.Mathlib.Omega.{arith}
 use borrow.Author.Tests.{eq-eqb, ne-eqb}
 use Rattle.numbers.proofs.SignedLaws.{read}
 use Rattle.numbers.proofs.IntegerLaws.{le-yes, le-no, lt-true, lt-false}
 use Rattle.cells.specs.declared.Cell.{Cell}
-use Rattle.cells.specs.declared.Value.the-variants.{Range, Handle}
+use Rattle.cells.specs.declared.Value.the-variants.{Range}
 use Rattle.cells.specs.declared.Condition.{Condition}
 use Rattle.cells.specs.declared.Condition.the-variants.{IsZero, IsNonzero, IsUnknown}
-use Rattle.cells.specs.Try.{Try, stuck, done}
+use Rattle.cells.specs.Try.{Try, done}
 use Rattle.cells.specs.Cells.{high, conditionIn, condition}
 use Rattle.cells.proofs.ComputeLaws.{high-told, tested}
 use borrow.Author.Needs.{needs}
@@ -54,16 +53,10 @@ module _ (a : Cell) (l : ℤ) (m : ℕ) (f : SFits w32 l) (held : a .value ≡ R
     pub wide : ltZ (read w64 r) (pos 0) ≡ false → (m ≡ 0 → ⊥) → done IsUnknown ≡ condition a
     wide e n = around e (rw (ne-eqb m 0 n) refl)
 
-enum-known-value : tie.Need-enum-known-value
-enum-known-value c = search needs
-
 returns : tie.Need-returns
 returns c =
     let known = c .before .before .value .given in
     above _ _ _ (search needs) (known .1) (c .if1 .taken)
-
-high-requires : tie.Need-high-requires
-high-requires c κs = search needs
 
 returns-2 : tie.Need-returns-2
 returns-2 c =
@@ -91,9 +84,9 @@ pub condition-of-spec : {M : Type 1} → statement M
 condition-of-spec =
     tie.close
     (tie.spec
-    enum-known-value
+    (λ c. search needs)
     returns
-    high-requires
+    (λ c κs. search needs)
     returns-2
     enum-told
     returns-3

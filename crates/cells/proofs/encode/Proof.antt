@@ -1,5 +1,5 @@
 -- `cells::encode` meets its contract. Assumes nothing.
-use mathlib.Core.Path.{_≡_, refl, sym, ap, _∙_}
+use mathlib.Core.Path.{_≡_, sym, ap, _∙_}
 use Prim.Native.Nat.{ℕ, _+_, _<_}
 use lib.IntN.{ℤ}
 use mir.Syntax.{w32}
@@ -23,21 +23,6 @@ of-handle : (c : Cell) (k : ℕ) → k < 256 → c .value ≡ Handle k → cellO
 unfolding confine confineValue
 of-handle c k h p = encoded-handle k h ∙ ap confineValue (sym p)
 
-enum-known-value : tie.Need-enum-known-value
-enum-known-value c = search needs
-
-encode-range-requires : tie.Need-encode-range-requires
-encode-range-requires c κs = search needs
-
-enum-known-value-2 : tie.Need-enum-known-value-2
-enum-known-value-2 c = search needs
-
-cast-result : tie.Need-cast-result
-cast-result c = search needs
-
-add-result : tie.Need-add-result
-add-result c = search needs
-
 returns : tie.Need-returns
 returns c =
     let known = c .before .before .value .given in
@@ -50,10 +35,10 @@ pub encode-spec : {M : Type 1} → statement M
 encode-spec =
     tie.close
     (tie.spec
-    enum-known-value
-    encode-range-requires
-    enum-known-value-2
-    cast-result
-    add-result
+    (λ c. search needs)
+    (λ c κs. search needs)
+    (λ c. search needs)
+    (λ c. search needs)
+    (λ c. search needs)
     returns
     returns-2)

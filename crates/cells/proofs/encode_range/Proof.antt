@@ -7,13 +7,10 @@ use mir.ValLaws.{toZ-ofZ}
 use native.Mathlib.Omega.{arith}
 use Rattle.numbers.specs.Numbers.{numbers}
 use Rattle.numbers.proofs.SignedLaws.{cast-fits, wide-is}
-use Rattle.cells.proofs.ComputeLaws.{operands-fit, operands-read, shifted-fits, counted, Counted, encoded-wide, encoded-range, results-below, results-past, tested}
+use Rattle.cells.proofs.ComputeLaws.{operands-fit, operands-read, shifted-fits, counted, encoded-wide, encoded-range, results-below, results-past, tested}
 use borrow.Author.Needs.{needs}
 use Rattle.cells.proofs.encode_range.Statement.{statement}
 use Rattle.cells.proofs.encode_range.Tie as tie
-
-cast-result : tie.Need-cast-result
-cast-result c = search needs
 
 returns : tie.Need-returns
 returns c =
@@ -38,23 +35,11 @@ add-greatest c =
     let k = counted (start .args .low) (start .fits .low) (operands-read _+ℤ_ (wide-is _ (start .fits .low)) refl (shifted-fits _ 0 (start .fits .low))) (tested (λ (z : ℤ). ltZ z (numbers .low)) (toZ-ofZ w32 _ (start .fits .low)) (c .if1 .left)) in
     record { fits = omega (arith, k .few) }
 
-cast-if2 : tie.Need-cast-if2
-cast-if2 c = search needs
-
-cast-result-2 : tie.Need-cast-result-2
-cast-result-2 c = search needs
-
 returns-2 : tie.Need-returns-2
 returns-2 c =
     let start = c .before .before in
     let k = counted (start .args .low) (start .fits .low) (operands-read _+ℤ_ (wide-is _ (start .fits .low)) refl (shifted-fits _ 0 (start .fits .low))) (tested (λ (z : ℤ). ltZ z (numbers .low)) (toZ-ofZ w32 _ (start .fits .low)) (c .before .if1 .left)) in
     encoded-wide ∙ results-past _ _ _ (k .is) (omega arith)
-
-mul-result : tie.Need-mul-result
-mul-result c = search needs
-
-add-result : tie.Need-add-result
-add-result c = search needs
 
 returns-3 : tie.Need-returns-3
 returns-3 c =
@@ -66,15 +51,15 @@ pub encode-range-spec : {M : Type 1} → statement M
 encode-range-spec =
     tie.close
     (tie.spec
-    cast-result
+    (λ c. search needs)
     returns
     cast-least
     add-least
     cast-least-2
     add-greatest
-    cast-if2
-    cast-result-2
+    (λ c. search needs)
+    (λ c. search needs)
     returns-2
-    mul-result
-    add-result
+    (λ c. search needs)
+    (λ c. search needs)
     returns-3)

@@ -10,9 +10,6 @@ use Rattle.cells.proofs.high.Tie as tie
 cast-result : tie.Need-cast-result
 cast-result c = cast-fits (c .args .low) (c .fits .low)
 
-cast-result-2 : tie.Need-cast-result-2
-cast-result-2 c = search needs
-
 add-result : tie.Need-add-result
 add-result c = operands-fit _+ℤ_ (wide-is _ (c .fits .low)) (pos-is (c .args .more) (omega arith)) (high-fits _ _ (c .fits .low) (omega arith))
 
@@ -20,4 +17,4 @@ returns : tie.Need-returns
 returns c = operands-read _+ℤ_ (wide-is _ (c .fits .low)) (pos-is (c .args .more) (omega arith)) (high-fits _ _ (c .fits .low) (omega arith))
 
 pub high-spec : {M : Type 1} → statement M
-high-spec = tie.close (tie.spec cast-result cast-result-2 add-result returns)
+high-spec = tie.close (tie.spec cast-result (λ c. search needs) add-result returns)

@@ -1,6 +1,6 @@
 -- `cells::judged` meets its contract. Assumes nothing.
-use mathlib.Core.Path.{_≡_, refl, sym, ap, ap₂, _∙_}
-use mathlib.Core.Bool.{Bool, true, false, cond}
+use mathlib.Core.Path.{_≡_, refl, sym, ap, _∙_}
+use mathlib.Core.Bool.{Bool, true, false}
 use lib.IntN.{ℤ, pos}
 use mir.Syntax.{w64}
 use mir.Val.{SFits}
@@ -30,25 +30,10 @@ module _ (c : Comparison) (l h m n : ℤ) where
   unfolding judged
   some e o q s = rw (e, sym (ap (λ (d : Comparison). always d l h m n) o) ∙ sym q ∙ s) refl
 
-always-requires : tie.Need-always-requires
-always-requires c κs = search needs
-
-number-requires : tie.Need-number-requires
-number-requires c κs = search needs
-
 returns : tie.Need-returns
 returns c =
     let start = c .before .before .before in
     every _ _ _ _ _ (sym (reads (start .args .c) _ _ _ _ (start .fits .l) (start .fits .h) (start .fits .m) (start .fits .n) _ (c .before .before .always .ensures)) ∙ c .before .if1 .taken) (c .number .ensures)
-
-opposite-requires : tie.Need-opposite-requires
-opposite-requires c κs = search needs
-
-always-requires-2 : tie.Need-always-requires-2
-always-requires-2 c κs = search needs
-
-number-requires-2 : tie.Need-number-requires-2
-number-requires-2 c κs = search needs
 
 returns-2 : tie.Need-returns-2
 returns-2 c =
@@ -66,11 +51,11 @@ pub judged-spec : {M : Type 1} → statement M
 judged-spec =
     tie.close
     (tie.spec
-    always-requires
-    number-requires
+    (λ c κs. search needs)
+    (λ c κs. search needs)
     returns
-    opposite-requires
-    always-requires-2
-    number-requires-2
+    (λ c κs. search needs)
+    (λ c κs. search needs)
+    (λ c κs. search needs)
     returns-2
     returns-3)

@@ -1,8 +1,6 @@
 -- `cells::least1` meets its contract. Assumes nothing.
-use mathlib.Core.Path.{refl, _∙_}
+use mathlib.Core.Path.{refl}
 use lib.IntN.{pos, _+ℤ_, _-ℤ_}
-use mir.Syntax.{w64}
-use mir.ValLaws.{toZ-ofZ}
 use native.Mathlib.Omega.{arith}
 use Rattle.numbers.proofs.SignedLaws.{cast-fits, wide-is}
 use Rattle.cells.proofs.ComputeLaws.{operands-fit, operands-read, near-64, sum-near, from-near, high-told, least-offset, least-negate, least-complement}
@@ -22,22 +20,10 @@ cast-result-2 c = cast-fits _ (c .before .before .fits .i)
 add-result : tie.Need-add-result
 add-result c = operands-fit _+ℤ_ (wide-is _ (c .before .before .fits .low)) (wide-is _ (c .before .before .fits .i)) (near-64 _ (sum-near _ _ (c .before .before .fits .low) (c .before .before .fits .i)))
 
-enum-told-2 : tie.Need-enum-told-2
-enum-told-2 c = search needs
-
-high-requires : tie.Need-high-requires
-high-requires c κs = search needs
-
 sub-result : tie.Need-sub-result
 sub-result c =
     let start = c .before .before .before in
     operands-fit _-ℤ_ {x = pos 0} refl (high-told (start .args .low) (start .args .more) (start .fits .low) (omega arith) (c .high .ensures)) (from-near 0 (start .args .low) (start .args .more) (omega arith) (start .fits .low) (omega arith))
-
-enum-told-3 : tie.Need-enum-told-3
-enum-told-3 c = search needs
-
-high-requires-2 : tie.Need-high-requires-2
-high-requires-2 c κs = search needs
 
 sub-result-2 : tie.Need-sub-result-2
 sub-result-2 c =
@@ -69,11 +55,11 @@ least1-spec =
     cast-result
     cast-result-2
     add-result
-    enum-told-2
-    high-requires
+    (λ c. search needs)
+    (λ c κs. search needs)
     sub-result
-    enum-told-3
-    high-requires-2
+    (λ c. search needs)
+    (λ c κs. search needs)
     sub-result-2
     returns
     returns-2

@@ -3,7 +3,6 @@ use mathlib.Core.Path.{_≡_, refl, sym, ap, ap₂, subst, _∙_}
 use mathlib.Core.Bool.{Bool, true, false, cond}
 use Prim.Native.Nat.{ℕ}
 use native.Mathlib.Omega.{arith}
-use lib.Dec.{eqb}
 use lib.IntN.{ℤ, pos}
 use lib.Signed.{leZ}
 use mir.Syntax.{w32, w64}
@@ -15,8 +14,8 @@ use Rattle.numbers.proofs.IntegerLaws.{sum-is}
 use Rattle.cells.specs.declared.Cell.{Cell}
 use Rattle.cells.specs.declared.Value.{Value}
 use Rattle.cells.specs.declared.Value.the-variants.{Range, Handle}
-use Rattle.cells.specs.Try.{Try, stuck, done}
-use Rattle.cells.specs.Cells.{cell, range, high, between, handle}
+use Rattle.cells.specs.Try.{stuck, done}
+use Rattle.cells.specs.Cells.{cell, high, between, handle}
 use Rattle.cells.specs.Merge.{lower, upper, mergeValues}
 use Rattle.cells.specs.Codes.{Confined}
 use Rattle.cells.proofs.AnswerLaws.{merged-values}
@@ -69,23 +68,11 @@ unlike-handles : (j k : ℕ) → (j ≡ k → ⊥) → stuck ≡ mergeValues (Ha
 unfolding mergeValues
 unlike-handles j k e = ap (λ (t : Bool). cond t (done (handle j)) stuck) (sym (ne-eqb j k e))
 
-enum-known-left : tie.Need-enum-known-left
-enum-known-left c = search needs
-
-enum-known-right : tie.Need-enum-known-right
-enum-known-right c = search needs
-
-high-requires : tie.Need-high-requires
-high-requires c κs = search needs
-
 cast-upper : tie.Need-cast-upper
 cast-upper c =
     let start = c .before .before .before .before .before .before .before in
     let left = c .before .before .before .before .before .left .given in
     cast-top (start .args .a) (left .0 .0) (left .0 .1 .0) (left .1) (start .pre .0) (search needs) (c .high .ensures)
-
-high-requires-2 : tie.Need-high-requires-2
-high-requires-2 c κs = search needs
 
 cast-upper-2 : tie.Need-cast-upper-2
 cast-upper-2 c =
@@ -93,29 +80,8 @@ cast-upper-2 c =
     let right = c .before .before .before .right .given in
     cast-top (start .args .b) (right .0 .0) (right .0 .1 .0) (right .1) (start .pre .1) (search needs) (c .high2 .ensures)
 
-upper-requires : tie.Need-upper-requires
-upper-requires c κs = search needs
-
-lower-requires : tie.Need-lower-requires
-lower-requires c κs = search needs
-
-between-requires : tie.Need-between-requires
-between-requires c κs = search needs
-
 enum-told : tie.Need-enum-told
 enum-told c = search needs
-
-enum-known-left-2 : tie.Need-enum-known-left-2
-enum-known-left-2 c = search needs
-
-enum-told-2 : tie.Need-enum-told-2
-enum-told-2 c = search needs
-
-enum-known-right-2 : tie.Need-enum-known-right-2
-enum-known-right-2 c = search needs
-
-handle-requires : tie.Need-handle-requires
-handle-requires c κs = search needs
 
 returns : tie.Need-returns
 returns c =
@@ -154,20 +120,20 @@ pub merge-spec : {M : Type 1} → statement M
 merge-spec =
     tie.close
     (tie.spec
-    enum-known-left
-    enum-known-right
-    high-requires
+    (λ c. search needs)
+    (λ c. search needs)
+    (λ c κs. search needs)
     cast-upper
-    high-requires-2
+    (λ c κs. search needs)
     cast-upper-2
-    upper-requires
-    lower-requires
-    between-requires
+    (λ c κs. search needs)
+    (λ c κs. search needs)
+    (λ c κs. search needs)
     enum-told
-    enum-known-left-2
-    enum-told-2
-    enum-known-right-2
-    handle-requires
+    (λ c. search needs)
+    (λ c. search needs)
+    (λ c. search needs)
+    (λ c κs. search needs)
     returns
     returns-2
     returns-3

@@ -1,6 +1,5 @@
 -- `cells::number` meets its contract. Assumes nothing.
 use mathlib.Core.Path.{sym, ap, _∙_}
-use mir.Syntax.{w32}
 use Rattle.numbers.specs.Numbers.{wrap}
 use Rattle.numbers.proofs.SignedLaws.{cast-fits, wide-is, wrap-fits, result-read}
 use Rattle.cells.specs.Cells.{range}
@@ -11,11 +10,8 @@ use Rattle.cells.proofs.number.Tie as tie
 cast-narrow : tie.Need-cast-narrow
 cast-narrow c = cast-fits (c .args .n) (c .fits .n)
 
-narrow-requires : tie.Need-narrow-requires
-narrow-requires c κs = search needs
-
 returns : tie.Need-returns
 returns c = ap (λ z. range z 0) (result-read (wrap-fits _) (sym (c .narrow .ensures)) ∙ ap wrap (wide-is _ (c .before .fits .n)))
 
 pub number-spec : {M : Type 1} → statement M
-number-spec = tie.close (tie.spec cast-narrow narrow-requires returns)
+number-spec = tie.close (tie.spec cast-narrow (λ c κs. search needs) returns)

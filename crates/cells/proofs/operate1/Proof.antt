@@ -14,7 +14,7 @@ use Rattle.numbers.proofs.SignedLaws.{read, read-both}
 use Rattle.cells.specs.declared.Cell.{Cell}
 use Rattle.cells.specs.declared.Unary.{Unary}
 use Rattle.cells.specs.declared.Value.the-variants.{Range}
-use Rattle.cells.specs.Try.{Try, done}
+use Rattle.cells.specs.Try.{done}
 use Rattle.cells.specs.Small.{Small}
 use Rattle.cells.specs.Cells.{range, number, calculate₁, results, least₁, range₁, map₁, operate₁}
 use Rattle.cells.proofs.AnswerLaws.{entered, operated₁}
@@ -45,18 +45,6 @@ module _ (u : Unary) (i : ℤ) (a : Cell) (l : ℤ) (m : ℕ) (f : SFits w32 i) 
         operated₁ u i a held
         (ap done (p ∙ ap (λ (z : ℤ). results z m) told ∙ ap (λ (t : Bool). cond t (number (calculate₁ u i l)) (results (least₁ u i l m) m)) (sym (ne-eqb m 0 n))))
 
-enum-known-value : tie.Need-enum-known-value
-enum-known-value c = search needs
-
-calculate1-requires : tie.Need-calculate1-requires
-calculate1-requires c κs = search needs
-
-least1-requires : tie.Need-least1-requires
-least1-requires c κs = search needs
-
-cast-results : tie.Need-cast-results
-cast-results c = search needs
-
 results-requires : tie.Need-results-requires
 results-requires c κs =
     let start = c .before .before .before .before .before in
@@ -86,10 +74,10 @@ pub operate1-spec : {M : Type 1} → statement M
 operate1-spec =
     tie.close
     (tie.spec
-    enum-known-value
-    calculate1-requires
-    least1-requires
-    cast-results
+    (λ c. search needs)
+    (λ c κs. search needs)
+    (λ c κs. search needs)
+    (λ c. search needs)
     results-requires
     enum-told
     returns

@@ -1,6 +1,6 @@
 -- `cells::operate2` meets its contract. Assumes nothing.
 use borrow.Author.Needs.{needs}
-use mathlib.Core.Path.{_≡_, refl, sym, ap, _∙_}
+use mathlib.Core.Path.{_≡_, refl, ap, _∙_}
 use Prim.Native.Nat.{ℕ}
 use lib.IntN.{ℤ}
 use mir.Syntax.{w32}
@@ -9,7 +9,7 @@ use Rattle.numbers.proofs.SignedLaws.{read, read-both}
 use Rattle.cells.specs.declared.Cell.{Cell}
 use Rattle.cells.specs.declared.Binary.{Binary}
 use Rattle.cells.specs.declared.Value.the-variants.{Range}
-use Rattle.cells.specs.Try.{Try, done}
+use Rattle.cells.specs.Try.{done}
 use Rattle.cells.specs.Cells.{range₂, map₂, operate₂}
 use Rattle.cells.proofs.AnswerLaws.{operated₂}
 use Rattle.cells.proofs.operate2.Statement.{statement}
@@ -20,29 +20,8 @@ ranges : (b : Binary) (a c : Cell) (l : ℤ) (m : ℕ) (k : ℤ) (n : ℕ) {x : 
 unfolding map₂
 ranges b a c l m k n f g p q e = operated₂ b a c p q (ap done (e ∙ read-both (λ (y z : ℤ). range₂ b y m z n) w32 l k f g))
 
-enum-known-left : tie.Need-enum-known-left
-enum-known-left c = search needs
-
-enum-known-right : tie.Need-enum-known-right
-enum-known-right c = search needs
-
-combine-ranges-requires : tie.Need-combine-ranges-requires
-combine-ranges-requires c κs = search needs
-
 enum-told : tie.Need-enum-told
 enum-told c = search needs
-
-enum-known-left-2 : tie.Need-enum-known-left-2
-enum-known-left-2 c = search needs
-
-enum-told-2 : tie.Need-enum-told-2
-enum-told-2 c = search needs
-
-enum-known-right-2 : tie.Need-enum-known-right-2
-enum-known-right-2 c = search needs
-
-combine-handles-requires : tie.Need-combine-handles-requires
-combine-handles-requires c κs = search needs
 
 returns : tie.Need-returns
 returns c =
@@ -66,14 +45,14 @@ pub operate2-spec : {M : Type 1} → statement M
 operate2-spec =
     tie.close
     (tie.spec
-    enum-known-left
-    enum-known-right
-    combine-ranges-requires
+    (λ c. search needs)
+    (λ c. search needs)
+    (λ c κs. search needs)
     enum-told
-    enum-known-left-2
-    enum-told-2
-    enum-known-right-2
-    combine-handles-requires
+    (λ c. search needs)
+    (λ c. search needs)
+    (λ c. search needs)
+    (λ c κs. search needs)
     returns
     returns-2
     returns-3

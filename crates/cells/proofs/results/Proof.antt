@@ -1,5 +1,5 @@
 -- `cells::results` meets its contract. Assumes nothing.
-use mathlib.Core.Path.{sym, ap, _∙_}
+use mathlib.Core.Path.{ap, _∙_}
 use lib.IntN.{ℤ, _+ℤ_}
 use lib.Signed.{ltZ}
 use mir.Syntax.{w32, w64}
@@ -12,26 +12,11 @@ use borrow.Author.Needs.{needs}
 use Rattle.cells.proofs.results.Statement.{statement}
 use Rattle.cells.proofs.results.Tie as tie
 
-cast-if1 : tie.Need-cast-if1
-cast-if1 c = search needs
-
-unknown-requires : tie.Need-unknown-requires
-unknown-requires c κs = search needs
-
 returns : tie.Need-returns
 returns c = c .unknown .ensures ∙ results-below _ _ (tested (λ (z : ℤ). ltZ z (numbers .low)) (toZ-ofZ w64 _ (c .before .before .fits .low)) (c .before .if1 .taken))
 
-cast-if2 : tie.Need-cast-if2
-cast-if2 c = search needs
-
 add-if2 : tie.Need-add-if2
 add-if2 c = operands-fit _+ℤ_ (toZ-ofZ w64 _ (c .before .fits .low)) (pos-is _ (omega (arith, c .before .pre .few))) (results-fit _ _ (c .before .pre))
-
-cast-if2-2 : tie.Need-cast-if2-2
-cast-if2-2 c = search needs
-
-unknown-requires-2 : tie.Need-unknown-requires-2
-unknown-requires-2 c κs = search needs
 
 returns-2 : tie.Need-returns-2
 returns-2 c = c .unknown2 .ensures ∙ results-above _ _ (tested (ltZ (numbers .high)) (operands-read _+ℤ_ (toZ-ofZ w64 _ (c .before .before .before .fits .low)) (pos-is _ (omega (arith, c .before .before .before .pre .few))) (results-fit _ _ (c .before .before .before .pre))) (c .before .if2 .taken))
@@ -63,13 +48,13 @@ pub results-spec : {M : Type 1} → statement M
 results-spec =
     tie.close
     (tie.spec
-    cast-if1
-    unknown-requires
+    (λ c. search needs)
+    (λ c κs. search needs)
     returns
-    cast-if2
+    (λ c. search needs)
     add-if2
-    cast-if2-2
-    unknown-requires-2
+    (λ c. search needs)
+    (λ c κs. search needs)
     returns-2
     cast-t7
     cast-t8

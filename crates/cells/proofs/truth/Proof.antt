@@ -6,12 +6,6 @@ use borrow.Author.Needs.{needs}
 use Rattle.cells.proofs.truth.Statement.{statement}
 use Rattle.cells.proofs.truth.Tie as tie
 
-number-requires : tie.Need-number-requires
-number-requires c κs = search needs
-
-number-requires-2 : tie.Need-number-requires-2
-number-requires-2 c κs = search needs
-
 returns : tie.Need-returns
 returns c = c .number .ensures ∙ ap (λ t. number (bit t)) (sym (c .before .if1 .taken))
 
@@ -19,4 +13,4 @@ returns-2 : tie.Need-returns-2
 returns-2 c = c .number2 .ensures ∙ ap (λ t. number (bit t)) (sym (c .before .if1 .left))
 
 pub truth-spec : {M : Type 1} → statement M
-truth-spec = tie.close (tie.spec number-requires number-requires-2 returns returns-2)
+truth-spec = tie.close (tie.spec (λ c κs. search needs) (λ c κs. search needs) returns returns-2)

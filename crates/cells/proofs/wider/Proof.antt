@@ -1,9 +1,7 @@
 -- `cells::wider` meets its contract. Assumes nothing.
-use mathlib.Core.Path.{_≡_, refl, sym, ap, ap₂, _∙_}
+use mathlib.Core.Path.{_≡_, sym, ap, _∙_}
 use Prim.Native.Nat.{ℕ, _+_}
 use lib.IntN.{ℤ, _+ℤ_, _-ℤ_}
-use mir.Syntax.{w64}
-use mir.ValLaws.{toZ-ofZ}
 use native.Mathlib.Omega.{arith}
 use Rattle.numbers.specs.declared.Comparison.{Comparison}
 use Rattle.numbers.proofs.SignedLaws.{cast-fits, wide-is}
@@ -41,23 +39,14 @@ cast-results-2 c = cast-fits _ (c .before .before .fits .low2)
 add-results : tie.Need-add-results
 add-results c = operands-fit _+ℤ_ (wide-is _ (c .before .before .fits .low)) (wide-is _ (c .before .before .fits .low2)) (near-64 _ (sum-near _ _ (c .before .before .fits .low) (c .before .before .fits .low2)))
 
-add-results-2 : tie.Need-add-results-2
-add-results-2 c = search needs
-
 results-requires : tie.Need-results-requires
 results-requires c κs =
     let start = c .before .before in
     let near = sum-near _ _ (start .fits .low) (start .fits .low2) in
     rw (operands-read _+ℤ_ (wide-is _ (start .fits .low)) (wide-is _ (start .fits .low2)) (near-64 _ near)) (near-small _ _ near (omega arith))
 
-enum-told-2 : tie.Need-enum-told-2
-enum-told-2 c = search needs
-
 cast-results-3 : tie.Need-cast-results-3
 cast-results-3 c = cast-fits _ (c .before .before .fits .low)
-
-high-requires : tie.Need-high-requires
-high-requires c κs = search needs
 
 sub-results : tie.Need-sub-results
 sub-results c =
@@ -65,32 +54,17 @@ sub-results c =
     operands-fit _-ℤ_ (wide-is _ (start .fits .low)) (high-told (start .args .low2) (start .args .more2) (start .fits .low2) (omega arith) (c .high .ensures))
     (near-64 _ (difference-near _ (start .args .low2) (start .args .more2) (start .fits .low) (start .fits .low2) (omega arith)))
 
-add-results-3 : tie.Need-add-results-3
-add-results-3 c = search needs
-
 results-requires-2 : tie.Need-results-requires-2
 results-requires-2 c κs =
     let start = c .before .before .before in
     let near = difference-near (start .args .low) (start .args .low2) (start .args .more2) (start .fits .low) (start .fits .low2) (omega arith) in
     rw (operands-read _-ℤ_ (wide-is _ (start .fits .low)) (high-told (start .args .low2) (start .args .more2) (start .fits .low2) (omega arith) (c .high .ensures)) (near-64 _ near)) (near-small _ _ near (omega arith))
 
-enum-known-b : tie.Need-enum-known-b
-enum-known-b c = search needs
-
 cast-judged : tie.Need-cast-judged
 cast-judged c = cast-fits _ (c .before .before .before .fits .low)
 
-high-requires-2 : tie.Need-high-requires-2
-high-requires-2 c κs = search needs
-
 cast-judged-2 : tie.Need-cast-judged-2
 cast-judged-2 c = cast-fits _ (c .before .before .before .before .fits .low2)
-
-high-requires-3 : tie.Need-high-requires-3
-high-requires-3 c κs = search needs
-
-judged-requires : tie.Need-judged-requires
-judged-requires c κs = search needs
 
 returns : tie.Need-returns
 returns c =
@@ -119,20 +93,20 @@ wider-spec =
     cast-results
     cast-results-2
     add-results
-    add-results-2
+    (λ c. search needs)
     results-requires
-    enum-told-2
+    (λ c. search needs)
     cast-results-3
-    high-requires
+    (λ c κs. search needs)
     sub-results
-    add-results-3
+    (λ c. search needs)
     results-requires-2
-    enum-known-b
+    (λ c. search needs)
     cast-judged
-    high-requires-2
+    (λ c κs. search needs)
     cast-judged-2
-    high-requires-3
-    judged-requires
+    (λ c κs. search needs)
+    (λ c κs. search needs)
     returns
     returns-2
     returns-3)

@@ -3,11 +3,10 @@ use Prim.Native.Nat.{_<_}
 use mathlib.Core.Path.{_≡_, sym, ap, _∙_}
 use native.Mathlib.Omega.{arith}
 use lib.ListN.{length}
-use Rattle.cells.specs.Try.{stuck, done}
+use Rattle.cells.specs.Try.{done}
 use Rattle.cells.specs.Cells.{handle}
 use Rattle.states.specs.View.{slot, ofSlot, whole}
 use Rattle.states.proofs.Stack.{length-images}
-use Rattle.changes.specs.declared.Position.the-variants.{Accu, Entry, Field}
 use Rattle.changes.specs.Changes.{numberAt}
 use Rattle.changes.proofs.CellLaws.{number-in, number-out, accu-there, entry-there, entry-lacks, field-there, field-lacks, slot-in}
 use borrow.Author.Needs.{needs}
@@ -20,47 +19,11 @@ places s = search (needs, length-images)
 enum-told : tie.Need-enum-told
 enum-told c = search needs
 
-single-of-requires : tie.Need-single-of-requires
-single-of-requires c κs = search needs
-
-enum-known-p : tie.Need-enum-known-p
-enum-known-p c = search needs
-
-sub-if1 : tie.Need-sub-if1
-sub-if1 c = search needs
-
 returns : tie.Need-returns
 returns c =
     let s = c .before .before .before .before .before in
     let w = whole (s .args .sizes .now) (s .args .t3) (s .args .t2) in
     sym (ap (λ q. numberAt q w) (c .before .before .p .given .1) ∙ number-out _ w (entry-lacks _ _ _ (s .pre .0) _ (c .if1 .taken)))
-
-add-entry : tie.Need-add-entry
-add-entry c = search needs
-
-mul-single-of : tie.Need-mul-single-of
-mul-single-of c = search needs
-
-element-copy-out-single-of : tie.Need-element-copy-out-single-of
-element-copy-out-single-of c = search needs
-
-single-of-requires-2 : tie.Need-single-of-requires-2
-single-of-requires-2 c κs = search needs
-
-enum-known-p-2 : tie.Need-enum-known-p-2
-enum-known-p-2 c = search needs
-
-handle-requires : tie.Need-handle-requires
-handle-requires c κs = search needs
-
-slot-of-requires : tie.Need-slot-of-requires
-slot-of-requires c κs = search needs
-
-enum-known-field : tie.Need-enum-known-field
-enum-known-field c = search needs
-
-enum-told-2 : tie.Need-enum-told-2
-enum-told-2 c = search needs
 
 returns-2 : tie.Need-returns-2
 returns-2 c =
@@ -81,9 +44,6 @@ mul-single-of-2 c = omega (arith, within c)
 
 array-copy-out-single-of : tie.Need-array-copy-out-single-of
 array-copy-out-single-of c = within c
-
-single-of-requires-3 : tie.Need-single-of-requires-3
-single-of-requires-3 c κs = search needs
 
 returns-3 : tie.Need-returns-3
 returns-3 c =
@@ -108,23 +68,23 @@ number-at-spec =
     tie.close
     (tie.spec
     enum-told
-    single-of-requires
-    enum-known-p
-    sub-if1
+    (λ c κs. search needs)
+    (λ c. search needs)
+    (λ c. search needs)
     returns
-    add-entry
-    mul-single-of
-    element-copy-out-single-of
-    single-of-requires-2
-    enum-known-p-2
-    handle-requires
-    slot-of-requires
-    enum-known-field
-    enum-told-2
+    (λ c. search needs)
+    (λ c. search needs)
+    (λ c. search needs)
+    (λ c κs. search needs)
+    (λ c. search needs)
+    (λ c κs. search needs)
+    (λ c κs. search needs)
+    (λ c. search needs)
+    (λ c. search needs)
     returns-2
     mul-single-of-2
     array-copy-out-single-of
-    single-of-requires-3
+    (λ c κs. search needs)
     returns-3
     returns-4
     returns-5)

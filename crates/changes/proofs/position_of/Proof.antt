@@ -8,17 +8,11 @@ use Rattle.changes.proofs.position_of.Tie as tie
 returns : tie.Need-returns
 returns c = position-accu (c .before .args .k) (omega arith)
 
-sub-t4 : tie.Need-sub-t4
-sub-t4 c = search needs
-
 returns-2 : tie.Need-returns-2
 returns-2 c = position-entry (c .before .before .args .k) (omega arith) (omega arith)
-
-cast-t6 : tie.Need-cast-t6
-cast-t6 c = search needs
 
 returns-3 : tie.Need-returns-3
 returns-3 c = position-field (c .before .before .args .k) (omega arith)
 
 pub position-of-spec : {M : Type 1} → statement M
-position-of-spec = tie.close (tie.spec returns sub-t4 returns-2 cast-t6 returns-3)
+position-of-spec = tie.close (tie.spec returns (λ c. search needs) returns-2 (λ c. search needs) returns-3)

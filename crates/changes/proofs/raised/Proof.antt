@@ -9,9 +9,6 @@ use Rattle.changes.proofs.raised.Tie as tie
 cast-result : tie.Need-cast-result
 cast-result c = cast-fits (c .args .v) (c .fits .v)
 
-cast-result-2 : tie.Need-cast-result-2
-cast-result-2 c = search needs
-
 add-result : tie.Need-add-result
 add-result c = amount-fits _+ℤ_ sum-fits (c .args .v) (c .fits .v) (c .args .n) (c .pre)
 
@@ -19,4 +16,4 @@ returns : tie.Need-returns
 returns c = amount-read _+ℤ_ sum-fits (c .args .v) (c .fits .v) (c .args .n) (c .pre)
 
 pub raised-spec : {M : Type 1} → statement M
-raised-spec = tie.close (tie.spec cast-result cast-result-2 add-result returns)
+raised-spec = tie.close (tie.spec cast-result (λ c. search needs) add-result returns)

@@ -9,9 +9,6 @@ use borrow.Author.Needs.{needs}
 use Rattle.changes.proofs.single_of.Statement.{statement}
 use Rattle.changes.proofs.single_of.Tie as tie
 
-enum-known-value : tie.Need-enum-known-value
-enum-known-value c = search needs
-
 returns : tie.Need-returns
 returns c = let v = c .before .before .value .given in ap done (toZ-ofZ w32 (v .0 .0) (search needs)) ∙ single-one _ (v .0 .0) (v .0 .1 .0) (v .1) (omega arith)
 
@@ -25,4 +22,4 @@ returns-3 : tie.Need-returns-3
 returns-3 c = single-handle _ _ (c .enum-told .given .1)
 
 pub single-of-spec : {M : Type 1} → statement M
-single-of-spec = tie.close (tie.spec enum-known-value returns enum-told returns-2 returns-3)
+single-of-spec = tie.close (tie.spec (λ c. search needs) returns enum-told returns-2 returns-3)

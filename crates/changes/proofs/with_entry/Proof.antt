@@ -1,10 +1,9 @@
 -- `changes::with_entry` meets its contract. Assumes nothing.
 use Prim.Native.Nat.{_+_, _<_}
-use mathlib.Core.Path.{_≡_, refl, sym, ap, subst, _∙_}
+use mathlib.Core.Path.{sym, ap, subst, _∙_}
 use native.Mathlib.Omega.{arith}
-use Rattle.machine.specs.Machine.{load, restack, reblock}
+use Rattle.machine.specs.Machine.{load}
 use Rattle.states.specs.View.{view, whole}
-use Rattle.changes.specs.declared.Position.the-variants.{Accu, Entry, Field}
 use Rattle.changes.specs.Places.{replaceAt}
 use Rattle.changes.specs.Held.{Present}
 use Rattle.changes.proofs.CellLaws.{entry-present, entry-set, entry-formed, replace-accu, replace-field}
@@ -20,12 +19,6 @@ present c =
 enum-told : tie.Need-enum-told
 enum-told c = search needs
 
-load-requires : tie.Need-load-requires
-load-requires c κs = search needs
-
-enum-known-p : tie.Need-enum-known-p
-enum-known-p c = search needs
-
 add-entry : tie.Need-add-entry
 add-entry c = omega (arith, present c)
 
@@ -34,9 +27,6 @@ mul-stack c = omega (arith, present (c .before .before))
 
 array-set-from-stack : tie.Need-array-set-from-stack
 array-set-from-stack c = present (c .before .before)
-
-enum-told-2 : tie.Need-enum-told-2
-enum-told-2 c = search needs
 
 returns : tie.Need-returns
 returns c =
@@ -59,12 +49,12 @@ with-entry-spec =
     tie.close
     (tie.spec
     enum-told
-    load-requires
-    enum-known-p
+    (λ c κs. search needs)
+    (λ c. search needs)
     add-entry
     mul-stack
     array-set-from-stack
-    enum-told-2
+    (λ c. search needs)
     returns
     returns-2
     returns-3)

@@ -7,7 +7,6 @@ use Rattle.cells.specs.Try.{done}
 use Rattle.cells.specs.Cells.{handle}
 use Rattle.states.specs.View.{slot, ofSlot, whole}
 use Rattle.states.proofs.Stack.{length-images}
-use Rattle.changes.specs.declared.Position.the-variants.{Accu, Entry, Field}
 use Rattle.changes.specs.Places.{replaceAt}
 use Rattle.changes.specs.Held.{Present}
 use Rattle.changes.proofs.CellLaws.{field-present, field-set, slot-in, accu-blocks, entry-blocks}
@@ -27,24 +26,6 @@ within c = let s = c .before .before .before .before .before .before .before .be
 
 enum-told : tie.Need-enum-told
 enum-told c = search needs
-
-enum-told-2 : tie.Need-enum-told-2
-enum-told-2 c = search needs
-
-enum-known-p : tie.Need-enum-known-p
-enum-known-p c = search needs
-
-handle-requires : tie.Need-handle-requires
-handle-requires c κs = search needs
-
-slot-of-requires : tie.Need-slot-of-requires
-slot-of-requires c κs = search needs
-
-enum-known-field : tie.Need-enum-known-field
-enum-known-field c = search needs
-
-enum-told-3 : tie.Need-enum-told-3
-enum-told-3 c = search needs
 
 returns : tie.Need-returns
 returns c =
@@ -80,12 +61,12 @@ with-field-spec =
     tie.close
     (tie.spec
     enum-told
-    enum-told-2
-    enum-known-p
-    handle-requires
-    slot-of-requires
-    enum-known-field
-    enum-told-3
+    (λ c. search needs)
+    (λ c. search needs)
+    (λ c κs. search needs)
+    (λ c κs. search needs)
+    (λ c. search needs)
+    (λ c. search needs)
     returns
     mul-fields
     array-set-from-fields

@@ -12,32 +12,17 @@ use Rattle.conformance.proofs.followed.Tie as tie
 all-sizes : (s : tie.Start) → length (s .args .routine .sizes) ≡ 8
 all-sizes s = search (s .good, needs, length-images)
 
-array-share-prefix-codes : tie.Need-array-share-prefix-codes
-array-share-prefix-codes c = search needs
-
 slice-aggregate-replay : tie.Need-slice-aggregate-replay
 slice-aggregate-replay c = let s = c .before .before .before .before .before .before .before .before .before .before .before .before .before in let n = s .pre .0 .full .codes in let h = s .pre .0 .few in sym (taken _ (s .args .routine .columns .codes) (omega arith))
-
-array-share-prefix-operands : tie.Need-array-share-prefix-operands
-array-share-prefix-operands c = search needs
 
 slice-aggregate-replay-2 : tie.Need-slice-aggregate-replay-2
 slice-aggregate-replay-2 c = let s = c .before .before .before .before .before .before .before .before .before .before .before .before .before .before in let n = s .pre .0 .full .operands in let h = s .pre .0 .few in sym (taken _ (s .args .routine .columns .operands) (omega arith))
 
-array-share-prefix-cycles : tie.Need-array-share-prefix-cycles
-array-share-prefix-cycles c = search needs
-
 slice-aggregate-replay-3 : tie.Need-slice-aggregate-replay-3
 slice-aggregate-replay-3 c = let s = c .before .before .before .before .before .before .before .before .before .before .before .before .before .before .before in let n = s .pre .0 .full .cycles in let h = s .pre .0 .few in sym (taken _ (s .args .routine .columns .cycles) (omega arith))
 
-array-share-prefix-words : tie.Need-array-share-prefix-words
-array-share-prefix-words c = search needs
-
 slice-aggregate-replay-4 : tie.Need-slice-aggregate-replay-4
 slice-aggregate-replay-4 c = let s = c .before .before .before .before .before .before .before .before .before .before .before .before .before .before .before .before in let n = s .pre .0 .full .words in let h = s .pre .0 .few in sym (taken _ (s .args .routine .columns .words) (omega arith))
-
-array-share-prefix-extras : tie.Need-array-share-prefix-extras
-array-share-prefix-extras c = search needs
 
 slice-aggregate-replay-5 : tie.Need-slice-aggregate-replay-5
 slice-aggregate-replay-5 c = let s = c .before .before .before .before .before .before .before .before .before .before .before .before .before .before .before .before .before in let n = s .pre .0 .full .extras in let h = s .pre .0 .few in sym (taken _ (s .args .routine .columns .extras) (omega arith))
@@ -57,26 +42,23 @@ slice-aggregate-replay-7 c = let s = c .before .before .before .before .before .
 replay-requires : tie.Need-replay-requires
 replay-requires c κs = let s = c .before .before .before .before .before .before .before .before .before .before .before .before .before .before .before .before .before .before .before in let l = s .pre .0 in (l .sized, addresses-fit (s .args .routine) l, l .formed, l .fits, s .pre .1)
 
-returns : tie.Need-returns
-returns c = search needs
-
 pub followed-spec : {M : Type 1} → statement M
 followed-spec =
     tie.close
     (tie.spec
-    array-share-prefix-codes
+    (λ c. search needs)
     slice-aggregate-replay
-    array-share-prefix-operands
+    (λ c. search needs)
     slice-aggregate-replay-2
-    array-share-prefix-cycles
+    (λ c. search needs)
     slice-aggregate-replay-3
-    array-share-prefix-words
+    (λ c. search needs)
     slice-aggregate-replay-4
-    array-share-prefix-extras
+    (λ c. search needs)
     slice-aggregate-replay-5
     array-share-prefix-sizes
     slice-aggregate-replay-6
     array-share-prefix-values
     slice-aggregate-replay-7
     replay-requires
-    returns)
+    (λ c. search needs))

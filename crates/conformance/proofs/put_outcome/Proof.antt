@@ -12,17 +12,8 @@ use Rattle.conformance.proofs.put_outcome.Tie as tie
 enum-told : tie.Need-enum-told
 enum-told c = search needs
 
-slice-aggregate-put : tie.Need-slice-aggregate-put
-slice-aggregate-put c = search needs
-
 put-requires : tie.Need-put-requires
 put-requires c κs = omega (arith, c .before .before .before .before .before .pre, agrees-length _ (c .before .before .enum-told .given .1))
-
-enum-known-said : tie.Need-enum-known-said
-enum-known-said c = search needs
-
-slice-aggregate-put-2 : tie.Need-slice-aggregate-put-2
-slice-aggregate-put-2 c = search needs
 
 put-requires-2 : tie.Need-put-requires-2
 put-requires-2 c κs = omega (arith, c .before .before .before .before .before .before .pre, differs-length _ _ (c .before .before .before .said .given .1))
@@ -30,14 +21,8 @@ put-requires-2 c κs = omega (arith, c .before .before .before .before .before .
 put-decimal-requires : tie.Need-put-decimal-requires
 put-decimal-requires c κs = omega (arith, c .before .before .before .before .before .before .before .before .before .before .pre, differs-length _ _ (c .before .before .before .before .before .before .before .said .given .1), c .before .before .before .put2 .ensures .0)
 
-slice-aggregate-put-3 : tie.Need-slice-aggregate-put-3
-slice-aggregate-put-3 c = search needs
-
 put-requires-3 : tie.Need-put-requires-3
 put-requires-3 c κs = omega (arith, c .before .before .before .before .before .before .before .before .before .before .before .before .before .before .before .pre, differs-length _ _ (c .before .before .before .before .before .before .before .before .before .before .before .before .said .given .1), c .before .before .before .before .before .before .before .before .put2 .ensures .0, c .before .before .before .before .put-decimal .ensures .0)
-
-same-length : tie.Need-same-length
-same-length c = search needs
 
 returns : tie.Need-returns
 returns c =
@@ -45,9 +30,6 @@ returns c =
     let w0 = wrote-none (s .args .out .now) 0 zero-le in
     let w1 = wrote-more w0 (bytes "AGREES\n") (c .before .before .put .ensures) in
     rw (text-agrees (s .args .said) (c .before .before .before .before .before .enum-told .given .1)) (wrote-start w1)
-
-same-length-2 : tie.Need-same-length-2
-same-length-2 c = search needs
 
 returns-2 : tie.Need-returns-2
 returns-2 c =
@@ -64,15 +46,15 @@ put-outcome-spec =
     tie.close
     (tie.spec
     enum-told
-    slice-aggregate-put
+    (λ c. search needs)
     put-requires
-    enum-known-said
-    slice-aggregate-put-2
+    (λ c. search needs)
+    (λ c. search needs)
     put-requires-2
     put-decimal-requires
-    slice-aggregate-put-3
+    (λ c. search needs)
     put-requires-3
-    same-length
+    (λ c. search needs)
     returns
-    same-length-2
+    (λ c. search needs)
     returns-2)

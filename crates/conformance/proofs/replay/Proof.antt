@@ -18,9 +18,6 @@ returns c =
     let start = c .before .before .before .before in
     gives-refusal _ _ (replay-short (start .args .text .now) (start .args .trace .now) (length (start .args .out .now)) (c .if1 .taken)) _
 
-check-requires : tie.Need-check-requires
-check-requires c κs = search needs
-
 enum-told : tie.Need-enum-told
 enum-told c = search needs
 
@@ -29,12 +26,6 @@ routine-of-requires c κs = accepted-reading _ Run (sym (c .before .before .chec
 
 replay-trace-requires : tie.Need-replay-trace-requires
 replay-trace-requires c κs = (c .before .routine-of .ensures .1, c .before .before .before .before .before .if1 .left)
-
-enum-known-verdict : tie.Need-enum-known-verdict
-enum-known-verdict c = search needs
-
-same-length : tie.Need-same-length
-same-length c = search needs
 
 returns-2 : tie.Need-returns-2
 unfolding readBy
@@ -62,11 +53,11 @@ replay-spec =
     tie.close
     (tie.spec
     returns
-    check-requires
+    (λ c κs. search needs)
     enum-told
     routine-of-requires
     replay-trace-requires
-    enum-known-verdict
-    same-length
+    (λ c. search needs)
+    (λ c. search needs)
     returns-2
     returns-3)

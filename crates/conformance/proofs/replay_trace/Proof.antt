@@ -7,9 +7,6 @@ use borrow.Author.Needs.{needs}
 use Rattle.conformance.proofs.replay_trace.Statement.{statement}
 use Rattle.conformance.proofs.replay_trace.Tie as tie
 
-check-trace-requires : tie.Need-check-trace-requires
-check-trace-requires c κs = search needs
-
 enum-told : tie.Need-enum-told
 enum-told c = search needs
 
@@ -23,12 +20,6 @@ put-outcome-requires c κs =
     let l = said-length _ e (start .args .routine) in
     let q = c .before .followed .ensures in
     rw q (omega (arith, l .1, start .pre .1))
-
-enum-known-verdict : tie.Need-enum-known-verdict
-enum-known-verdict c = search needs
-
-same-length : tie.Need-same-length
-same-length c = search needs
 
 returns : tie.Need-returns
 returns c =
@@ -45,11 +36,11 @@ pub replay-trace-spec : {M : Type 1} → statement M
 replay-trace-spec =
     tie.close
     (tie.spec
-    check-trace-requires
+    (λ c κs. search needs)
     enum-told
     followed-requires
     put-outcome-requires
-    enum-known-verdict
-    same-length
+    (λ c. search needs)
+    (λ c. search needs)
     returns
     returns-2)

@@ -6,18 +6,6 @@ use Rattle.console.proofs.PrintLaws.{refusal-fits, reported-line, refus
 use Rattle.console.proofs.put_line.Statement.{statement}
 use Rattle.console.proofs.put_line.Tie as tie
 
-enum-known-answer : tie.Need-enum-known-answer
-enum-known-answer c = search needs
-
-enum-known-answer-2 : tie.Need-enum-known-answer-2
-enum-known-answer-2 c = search needs
-
-number-requires : tie.Need-number-requires
-number-requires c κs = search needs
-
-place-requires : tie.Need-place-requires
-place-requires c κs = search needs
-
 put-refusal-requires : tie.Need-put-refusal-requires
 put-refusal-requires c κs =
     let a = c .before .before .before .before in
@@ -29,9 +17,6 @@ returns c =
     let a = c .before in
     let s = a .before .before .before in
     reported-line (s .args .answer) (a .answer .given .0 .0) (s .args .bytes .now) (a .answer .given .1) (s .pre)
-
-same-length : tie.Need-same-length
-same-length c = search needs
 
 returns-2 : tie.Need-returns-2
 returns-2 c =
@@ -45,11 +30,11 @@ pub put-line-spec : {M : Type 1} → statement M
 put-line-spec =
     tie.close
     (tie.spec
-    enum-known-answer
-    enum-known-answer-2
-    number-requires
-    place-requires
+    (λ c. search needs)
+    (λ c. search needs)
+    (λ c κs. search needs)
+    (λ c κs. search needs)
     put-refusal-requires
     returns
-    same-length
+    (λ c. search needs)
     returns-2)

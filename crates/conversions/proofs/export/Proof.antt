@@ -17,21 +17,12 @@ returns c =
     let a = c .before .before .before .args in
     gives-refusal _ _ (export-short (a .text .now) (length (a .out .now)) (c .if1 .taken)) _
 
-check-requires : tie.Need-check-requires
-check-requires c κs = search needs
-
 enum-told : tie.Need-enum-told
 enum-told c = search needs
 
 put-export-requires : tie.Need-put-export-requires
 put-export-requires c κs =
     (accepted-reading _ Bound (sym (c .before .before .before .check .ensures) ∙ c .before .enum-told .given .1) .0, omega (arith, c .before .before .before .before .if1 .left))
-
-enum-known-verdict : tie.Need-enum-known-verdict
-enum-known-verdict c = search needs
-
-same-length : tie.Need-same-length
-same-length c = search needs
 
 returns-2 : tie.Need-returns-2
 unfolding readBy
@@ -55,10 +46,10 @@ export-spec =
     tie.close
     (tie.spec
     returns
-    check-requires
+    (λ c κs. search needs)
     enum-told
     put-export-requires
-    enum-known-verdict
-    same-length
+    (λ c. search needs)
+    (λ c. search needs)
     returns-2
     returns-3)

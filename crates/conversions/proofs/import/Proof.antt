@@ -13,21 +13,12 @@ returns c =
     let a = c .before .before .before .before .args in
     gives-refusal _ _ (import-short (a .words .now) (a .primitives .now) (length (a .out .now)) (c .if1 .taken)) _
 
-check-import-requires : tie.Need-check-import-requires
-check-import-requires c κs = search needs
-
 enum-told : tie.Need-enum-told
 enum-told c = search needs
 
 put-import-requires : tie.Need-put-import-requires
 put-import-requires c κs =
     (sym (c .before .before .before .check-import .ensures) ∙ c .before .enum-told .given .1, omega (arith, c .before .before .before .before .if1 .left))
-
-enum-known-verdict : tie.Need-enum-known-verdict
-enum-known-verdict c = search needs
-
-same-length : tie.Need-same-length
-same-length c = search needs
 
 returns-2 : tie.Need-returns-2
 returns-2 c =
@@ -49,10 +40,10 @@ import-spec =
     tie.close
     (tie.spec
     returns
-    check-import-requires
+    (λ c κs. search needs)
     enum-told
     put-import-requires
-    enum-known-verdict
-    same-length
+    (λ c. search needs)
+    (λ c. search needs)
     returns-2
     returns-3)

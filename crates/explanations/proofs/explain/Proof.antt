@@ -19,17 +19,11 @@ returns c =
     let start = c .before .before .before in
     gives-refusal _ _ (explain-short (start .args .text .now) (length (start .args .out .now)) (c .if1 .taken)) _
 
-check-requires : tie.Need-check-requires
-check-requires c κs = search needs
-
 enum-told : tie.Need-enum-told
 enum-told c = search needs
 
 routine-of-requires : tie.Need-routine-of-requires
 routine-of-requires c κs = accepted-reading _ Bound (sym (c .before .before .check .ensures) ∙ c .enum-told .given .1) .0
-
-body-of-requires : tie.Need-body-of-requires
-body-of-requires c κs = search needs
 
 explain-routine-requires : tie.Need-explain-routine-requires
 unfolding readBy
@@ -40,12 +34,6 @@ explain-routine-requires c κs =
     let a = accepted-reading text Bound (sym (c .before .before .before .before .before .check .ensures) ∙ c .before .before .before .enum-told .given .1) in
     let e = held-routine (routineOf (lines text)) (held .result) (held .ensures .0) (readBound text) (a .1) in
     (held .ensures .1, explain-printable text (length (start .args .out .now)) (c .before .before .before .before .before .before .if1 .left) _ (c .before .body-of .ensures) (held .result) e)
-
-enum-known-verdict : tie.Need-enum-known-verdict
-enum-known-verdict c = search needs
-
-same-length : tie.Need-same-length
-same-length c = search needs
 
 returns-2 : tie.Need-returns-2
 unfolding readBy
@@ -72,12 +60,12 @@ explain-spec =
     tie.close
     (tie.spec
     returns
-    check-requires
+    (λ c κs. search needs)
     enum-told
     routine-of-requires
-    body-of-requires
+    (λ c κs. search needs)
     explain-routine-requires
-    enum-known-verdict
-    same-length
+    (λ c. search needs)
+    (λ c. search needs)
     returns-2
     returns-3)

@@ -7,9 +7,6 @@ use borrow.Author.Needs.{needs}
 use Rattle.explanations.proofs.explain_routine.Statement.{statement}
 use Rattle.explanations.proofs.explain_routine.Tie as tie
 
-explored-requires : tie.Need-explored-requires
-explored-requires c κs = search needs
-
 enum-told : tie.Need-enum-told
 enum-told c = search needs
 
@@ -19,12 +16,6 @@ put-explanation-requires c κs =
     let p = s .pre .1 in
     let x = c .before .before .before .explored in
     (s .pre .0, p .positive, p .small, x .ensures .1 .cycles, p .fits _ (routine-explained (lines (s .args .body .now)) (routineIn (s .args .routine)) (x .result) (x .ensures .0) (c .before .enum-told .given .1)))
-
-enum-known-verdict : tie.Need-enum-known-verdict
-enum-known-verdict c = search needs
-
-same-length : tie.Need-same-length
-same-length c = search needs
 
 returns : tie.Need-returns
 returns c =
@@ -43,10 +34,10 @@ pub explain-routine-spec : {M : Type 1} → statement M
 explain-routine-spec =
     tie.close
     (tie.spec
-    explored-requires
+    (λ c κs. search needs)
     enum-told
     put-explanation-requires
-    enum-known-verdict
-    same-length
+    (λ c. search needs)
+    (λ c. search needs)
     returns
     returns-2)

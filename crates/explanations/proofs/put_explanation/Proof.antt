@@ -13,17 +13,11 @@ use Rattle.explanations.proofs.put_explanation.Tie as tie
 put-bound-requires : tie.Need-put-bound-requires
 put-bound-requires c κs = let s = c .before .before .before in ((s .pre .1, s .pre .2, s .pre .3), omega (arith, s .pre .4, text-length (lines (s .args .body .now)) (s .args .routine) (s .args .found)))
 
-slice-aggregate-put : tie.Need-slice-aggregate-put
-slice-aggregate-put c = search needs
-
 put-requires : tie.Need-put-requires
 put-requires c κs = let s = c .before .before .before .before .before .before .before .before in let p = c .before .before .before .before .put-bound in omega (arith, s .pre .4, text-length (lines (s .args .body .now)) (s .args .routine) (s .args .found), p .ensures .0, p .kept .0)
 
 put-steps-requires : tie.Need-put-steps-requires
 put-steps-requires c κs = let s = c .before .before .before .before .before .before .before .before .before .before .before .before in let p = c .before .before .before .before .before .before .before .before .put-bound in let q = c .before .before .before .put in (s .pre .0, omega (arith, s .pre .4, text-length (lines (s .args .body .now)) (s .args .routine) (s .args .found), p .ensures .0, p .kept .0, q .ensures .0, q .kept .0))
-
-same-length : tie.Need-same-length
-same-length c = search needs
 
 returns : tie.Need-returns
 returns c =
@@ -39,8 +33,8 @@ put-explanation-spec =
     tie.close
     (tie.spec
     put-bound-requires
-    slice-aggregate-put
+    (λ c. search needs)
     put-requires
     put-steps-requires
-    same-length
+    (λ c. search needs)
     returns)

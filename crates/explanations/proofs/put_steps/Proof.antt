@@ -12,32 +12,17 @@ use Rattle.explanations.proofs.put_steps.Tie as tie
 all-sizes : (s : tie.Start) → length (s .args .routine .sizes) ≡ 8
 all-sizes s = length-images _ _ _ (s .args .routine .sizes) 8 (s .good .0 .1 .1 .1 .1 .1 .1 .1 .1 .1 .0 .1 .0 .1)
 
-array-share-prefix-codes : tie.Need-array-share-prefix-codes
-array-share-prefix-codes c = search needs
-
 slice-aggregate-put-walk : tie.Need-slice-aggregate-put-walk
 slice-aggregate-put-walk c = let s = c .before .before .before .before .before .before .before .before .before .before .before .before .before in let n = s .pre .0 .full .codes in let h = s .pre .0 .few in sym (taken _ (s .args .routine .columns .codes) (omega arith))
-
-array-share-prefix-operands : tie.Need-array-share-prefix-operands
-array-share-prefix-operands c = search needs
 
 slice-aggregate-put-walk-2 : tie.Need-slice-aggregate-put-walk-2
 slice-aggregate-put-walk-2 c = let s = c .before .before .before .before .before .before .before .before .before .before .before .before .before .before in let n = s .pre .0 .full .operands in let h = s .pre .0 .few in sym (taken _ (s .args .routine .columns .operands) (omega arith))
 
-array-share-prefix-cycles : tie.Need-array-share-prefix-cycles
-array-share-prefix-cycles c = search needs
-
 slice-aggregate-put-walk-3 : tie.Need-slice-aggregate-put-walk-3
 slice-aggregate-put-walk-3 c = let s = c .before .before .before .before .before .before .before .before .before .before .before .before .before .before .before in let n = s .pre .0 .full .cycles in let h = s .pre .0 .few in sym (taken _ (s .args .routine .columns .cycles) (omega arith))
 
-array-share-prefix-words : tie.Need-array-share-prefix-words
-array-share-prefix-words c = search needs
-
 slice-aggregate-put-walk-4 : tie.Need-slice-aggregate-put-walk-4
 slice-aggregate-put-walk-4 c = let s = c .before .before .before .before .before .before .before .before .before .before .before .before .before .before .before .before in let n = s .pre .0 .full .words in let h = s .pre .0 .few in sym (taken _ (s .args .routine .columns .words) (omega arith))
-
-array-share-prefix-extras : tie.Need-array-share-prefix-extras
-array-share-prefix-extras c = search needs
 
 slice-aggregate-put-walk-5 : tie.Need-slice-aggregate-put-walk-5
 slice-aggregate-put-walk-5 c = let s = c .before .before .before .before .before .before .before .before .before .before .before .before .before .before .before .before .before in let n = s .pre .0 .full .extras in let h = s .pre .0 .few in sym (taken _ (s .args .routine .columns .extras) (omega arith))
@@ -51,28 +36,22 @@ slice-aggregate-put-walk-6 c = let s = c .before .before .before .before .before
 put-walk-requires : tie.Need-put-walk-requires
 put-walk-requires c κs = let s = c .before .before .before .before .before .before .before .before .before .before .before .before .before .before .before .before .before .before in let l = s .pre .0 in ((l .sized, addresses-fit (s .args .routine) l, l .formed, l .fits), s .pre .1)
 
-same-length : tie.Need-same-length
-same-length c = search needs
-
-returns : tie.Need-returns
-returns c = search needs
-
 pub put-steps-spec : {M : Type 1} → statement M
 put-steps-spec =
     tie.close
     (tie.spec
-    array-share-prefix-codes
+    (λ c. search needs)
     slice-aggregate-put-walk
-    array-share-prefix-operands
+    (λ c. search needs)
     slice-aggregate-put-walk-2
-    array-share-prefix-cycles
+    (λ c. search needs)
     slice-aggregate-put-walk-3
-    array-share-prefix-words
+    (λ c. search needs)
     slice-aggregate-put-walk-4
-    array-share-prefix-extras
+    (λ c. search needs)
     slice-aggregate-put-walk-5
     array-share-prefix-sizes
     slice-aggregate-put-walk-6
     put-walk-requires
-    same-length
-    returns)
+    (λ c. search needs)
+    (λ c. search needs))

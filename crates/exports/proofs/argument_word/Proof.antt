@@ -22,14 +22,8 @@ small c =
     let s = c .before .before .before .before .before .before .before in
     omega (arith, c .index-listed .ensures, place-few (s .args .w .now) (list (s .args .primitives .now)), s .pre .2)
 
-argument-at-requires : tie.Need-argument-at-requires
-argument-at-requires c κs = search needs
-
 enum-told : tie.Need-enum-told
 enum-told c = search needs
-
-enum-told-2 : tie.Need-enum-told-2
-enum-told-2 c = search needs
 
 target-index-requires : tie.Need-target-index-requires
 target-index-requires c κs =
@@ -37,23 +31,8 @@ target-index-requires c κs =
     let e = sym (c .before .before .argument-at .ensures) ∙ c .enum-told2 .given .1 in
     (s .pre .0, e, s .pre .3, subst (Leads (s .args .first) (length (s .args .indices .now)) (s .args .w .now)) e (s .pre .4))
 
-offset-to-requires : tie.Need-offset-to-requires
-offset-to-requires c κs = search needs
-
-enum-told-3 : tie.Need-enum-told-3
-enum-told-3 c = search needs
-
-index-listed-requires : tie.Need-index-listed-requires
-index-listed-requires c κs = search needs
-
 cast-result : tie.Need-cast-result
 cast-result c = omega (arith, small c)
-
-enum-told-4 : tie.Need-enum-told-4
-enum-told-4 c = search needs
-
-number-range-requires : tie.Need-number-range-requires
-number-range-requires c κs = search needs
 
 number-of-requires : tie.Need-number-of-requires
 number-of-requires c κs = numbers-fit _ (c .number-range .ensures)
@@ -74,16 +53,16 @@ pub argument-word-spec : {M : Type 1} → statement M
 argument-word-spec =
     tie.close
     (tie.spec
-    argument-at-requires
+    (λ c κs. search needs)
     enum-told
-    enum-told-2
+    (λ c. search needs)
     target-index-requires
-    offset-to-requires
-    enum-told-3
-    index-listed-requires
+    (λ c κs. search needs)
+    (λ c. search needs)
+    (λ c κs. search needs)
     cast-result
-    enum-told-4
-    number-range-requires
+    (λ c. search needs)
+    (λ c κs. search needs)
     number-of-requires
     returns
     returns-2

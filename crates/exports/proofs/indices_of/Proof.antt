@@ -29,32 +29,11 @@ loop-holds c = (omega arith, refl, λ ps first. indexing-starts _ _ refl)
 cast-indices : tie.Need-cast-indices Inv-loop μ-loop
 cast-indices c = omega (arith, c .before .loop .inv .2 [] 0 .near)
 
-mul-indices : tie.Need-mul-indices Inv-loop μ-loop
-mul-indices c = search needs
-
 array-write-indices : tie.Need-array-write-indices Inv-loop μ-loop
 array-write-indices c = omega (arith, c .before .loop .inv .2 [] 0 .room)
 
-first-line-requires : tie.Need-first-line-requires Inv-loop μ-loop
-first-line-requires c κs = search needs
-
-kind-of-requires : tie.Need-kind-of-requires Inv-loop μ-loop
-kind-of-requires c κs = search needs
-
-size-of-requires : tie.Need-size-of-requires Inv-loop μ-loop
-size-of-requires c κs = search needs
-
 add-index : tie.Need-add-index Inv-loop μ-loop
 add-index c = omega (arith, c .before .before .before .before .loop .inv .2 [] 0 .near, c .size-of .ensures, size-small (c .before .kind-of .result))
-
-next-lines-requires : tie.Need-next-lines-requires Inv-loop μ-loop
-next-lines-requires c κs = search needs
-
-add-place : tie.Need-add-place Inv-loop μ-loop
-add-place c = search needs
-
-loop-less : tie.Need-loop-less Inv-loop μ-loop
-loop-less c = search needs
 
 loop-again : tie.Need-loop-again Inv-loop μ-loop
 loop-again c =
@@ -84,14 +63,14 @@ indices-of-spec =
     μ-loop
     loop-holds
     cast-indices
-    mul-indices
+    (λ c. search needs)
     array-write-indices
-    first-line-requires
-    kind-of-requires
-    size-of-requires
+    (λ c κs. search needs)
+    (λ c κs. search needs)
+    (λ c κs. search needs)
     add-index
-    next-lines-requires
-    add-place
-    loop-less
+    (λ c κs. search needs)
+    (λ c. search needs)
+    (λ c. search needs)
     loop-again
     returns)

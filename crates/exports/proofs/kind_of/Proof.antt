@@ -10,15 +10,6 @@ use borrow.Author.Needs.{needs}
 use Rattle.exports.proofs.kind_of.Statement.{statement}
 use Rattle.exports.proofs.kind_of.Tie as tie
 
-word-at-requires : tie.Need-word-at-requires
-word-at-requires c κs = search needs
-
-kind-named-requires : tie.Need-kind-named-requires
-kind-named-requires c κs = search needs
-
-index-of-requires : tie.Need-index-of-requires
-index-of-requires c κs = search needs
-
 returns : tie.Need-returns
 returns c =
     let line = c .before .before .before .before .args .line .now in
@@ -26,4 +17,4 @@ returns c =
     (e, omega (arith, e, kind-small (op line)))
 
 pub kind-of-spec : {M : Type 1} → statement M
-kind-of-spec = tie.close (tie.spec word-at-requires kind-named-requires index-of-requires returns)
+kind-of-spec = tie.close (tie.spec (λ c κs. search needs) (λ c κs. search needs) (λ c κs. search needs) returns)

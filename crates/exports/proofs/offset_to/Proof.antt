@@ -4,15 +4,6 @@ use borrow.Author.Needs.{needs}
 use Rattle.exports.proofs.offset_to.Statement.{statement}
 use Rattle.exports.proofs.offset_to.Tie as tie
 
-cast-result : tie.Need-cast-result
-cast-result c = search needs
-
-add-result : tie.Need-add-result
-add-result c = search needs
-
-cast-result-2 : tie.Need-cast-result-2
-cast-result-2 c = search needs
-
 sub-result : tie.Need-sub-result
 sub-result c = offset-fits (c .args .target) (c .args .index) (c .pre .0) (c .pre .1)
 
@@ -20,4 +11,4 @@ returns : tie.Need-returns
 returns c = offset-read (c .args .target) (c .args .index) (c .pre .0) (c .pre .1)
 
 pub offset-to-spec : {M : Type 1} → statement M
-offset-to-spec = tie.close (tie.spec cast-result add-result cast-result-2 sub-result returns)
+offset-to-spec = tie.close (tie.spec (λ c. search needs) (λ c. search needs) (λ c. search needs) sub-result returns)

@@ -8,18 +8,6 @@ use borrow.Author.Needs.{needs}
 use Rattle.exports.proofs.put_export.Statement.{statement}
 use Rattle.exports.proofs.put_export.Tie as tie
 
-text-of-requires : tie.Need-text-of-requires
-text-of-requires c κs = search needs
-
-body-of-requires : tie.Need-body-of-requires
-body-of-requires c κs = search needs
-
-first-address-requires : tie.Need-first-address-requires
-first-address-requires c κs = search needs
-
-count-code-requires : tie.Need-count-code-requires
-count-code-requires c κs = search needs
-
 indices-of-requires : tie.Need-indices-of-requires
 indices-of-requires c κs = code-ready _ (c .before .before .before .before .before .before .pre .0) _ (c .before .before .body-of .ensures) _ (c .count-code .ensures)
 
@@ -44,9 +32,6 @@ put-lines-requires c κs =
       lines-ready _ (s .pre .0) _ (b .body-of .ensures) _ (n .count-code .ensures) _ (f .first-address .ensures) _ (i .indices-of .ensures),
     )
 
-same-length : tie.Need-same-length
-same-length c = search needs
-
 returns : tie.Need-returns
 returns c =
     let i = c .before .before .before .before .before in
@@ -62,13 +47,13 @@ pub put-export-spec : {M : Type 1} → statement M
 put-export-spec =
     tie.close
     (tie.spec
-    text-of-requires
-    body-of-requires
-    first-address-requires
-    count-code-requires
+    (λ c κs. search needs)
+    (λ c κs. search needs)
+    (λ c κs. search needs)
+    (λ c κs. search needs)
     indices-of-requires
     array-share-prefix-indices
     slice-aggregate-put-lines
     put-lines-requires
-    same-length
+    (λ c. search needs)
     returns)

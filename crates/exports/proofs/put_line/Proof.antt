@@ -15,41 +15,11 @@ use borrow.Author.Needs.{needs}
 use Rattle.exports.proofs.put_line.Statement.{statement}
 use Rattle.exports.proofs.put_line.Tie as tie
 
-kind-of-requires : tie.Need-kind-of-requires
-kind-of-requires c κs = search needs
-
-mul-put-word : tie.Need-mul-put-word
-mul-put-word c = search needs
-
-opcode-at-requires : tie.Need-opcode-at-requires
-opcode-at-requires c κs = search needs
-
-put-word-requires : tie.Need-put-word-requires
-put-word-requires c κs = search needs
-
-has-argument-requires : tie.Need-has-argument-requires
-has-argument-requires c κs = search needs
-
-word-at-requires : tie.Need-word-at-requires
-word-at-requires c κs = search needs
-
 argument-word-requires : tie.Need-argument-word-requires
 argument-word-requires c κs =
     let k = c .before .before .before .before .before .before .before .before in
     let s = k .before .before .before .before .before in
     (k .kind-of .ensures .1, omega (arith, s .pre .0), s .pre .2, s .pre .3, leads-by (s .args .line .now) (s .pre .4) (c .word-at .ensures) (k .kind-of .ensures .0))
-
-word-of-requires : tie.Need-word-of-requires
-word-of-requires c κs = search needs
-
-put-word-requires-2 : tie.Need-put-word-requires-2
-put-word-requires-2 c κs = search needs
-
-add-result : tie.Need-add-result
-add-result c = search needs
-
-same-length : tie.Need-same-length
-same-length c = search needs
 
 returns : tie.Need-returns
 unfolding bytesOf
@@ -70,12 +40,6 @@ returns c =
       w2 .holds ∙ ap (λ r. over (a .out .now) (4 * a .index) (bytesOf (p1 .before .opcode-at .result) ++ bytesOf r)) (p2 .before .word-of .ensures) ∙ ap (over (a .out .now) (4 * a .index)) (sym (l .0)),
     )
 
-add-result-2 : tie.Need-add-result-2
-add-result-2 c = search needs
-
-same-length-2 : tie.Need-same-length-2
-same-length-2 c = search needs
-
 returns-2 : tie.Need-returns-2
 unfolding bytesOf
 returns-2 c =
@@ -90,18 +54,18 @@ pub put-line-spec : {M : Type 1} → statement M
 put-line-spec =
     tie.close
     (tie.spec
-    kind-of-requires
-    mul-put-word
-    opcode-at-requires
-    put-word-requires
-    has-argument-requires
-    word-at-requires
+    (λ c κs. search needs)
+    (λ c. search needs)
+    (λ c κs. search needs)
+    (λ c κs. search needs)
+    (λ c κs. search needs)
+    (λ c κs. search needs)
     argument-word-requires
-    word-of-requires
-    put-word-requires-2
-    add-result
-    same-length
+    (λ c κs. search needs)
+    (λ c κs. search needs)
+    (λ c. search needs)
+    (λ c. search needs)
     returns
-    add-result-2
-    same-length-2
+    (λ c. search needs)
+    (λ c. search needs)
     returns-2)

@@ -24,20 +24,11 @@ held c = c .natural-of .ensures ∙ ap (λ r. naturalIn r (c .before .before .be
 led : (c : tie.After-natural-of) → Address (c .before .before .before .before .args .first) (length (c .before .before .before .before .args .indices .now)) (inside addresses (value (c .before .before .before .before .args .w .now)))
 led c = let s = c .before .before .before .before in target-address (s .pre .2) (s .pre .3)
 
-range-at-requires : tie.Need-range-at-requires
-range-at-requires c κs = search needs
-
 natural-of-requires : tie.Need-natural-of-requires
 natural-of-requires c κs = record { least = 0; greatest = 62000; is = ranged c; small = (omega arith, omega arith) }
 
-cast-address : tie.Need-cast-address
-cast-address c = search needs
-
 sub-result : tie.Need-sub-result
 sub-result c = omega (arith, held c, led c .above)
-
-mul-result : tie.Need-mul-result
-mul-result c = search needs
 
 shared-slice-read-result : tie.Need-shared-slice-read-result
 shared-slice-read-result c = omega (arith, held (c .before), led (c .before) .above, led (c .before) .below)
@@ -55,11 +46,11 @@ pub target-index-spec : {M : Type 1} → statement M
 target-index-spec =
     tie.close
     (tie.spec
-    range-at-requires
+    (λ c κs. search needs)
     natural-of-requires
-    cast-address
+    (λ c. search needs)
     sub-result
-    mul-result
+    (λ c. search needs)
     shared-slice-read-result
     cast-result
     returns)

@@ -7,36 +7,6 @@ use borrow.Author.Needs.{needs}
 use Rattle.findings.proofs.joined.Statement.{statement}
 use Rattle.findings.proofs.joined.Tie as tie
 
-add-taken : tie.Need-add-taken
-add-taken c = search needs
-
-larger-requires : tie.Need-larger-requires
-larger-requires c κs = search needs
-
-add-cycles : tie.Need-add-cycles
-add-cycles c = search needs
-
-larger-requires-2 : tie.Need-larger-requires-2
-larger-requires-2 c κs = search needs
-
-add-words : tie.Need-add-words
-add-words c = search needs
-
-larger-requires-3 : tie.Need-larger-requires-3
-larger-requires-3 c κs = search needs
-
-larger-requires-4 : tie.Need-larger-requires-4
-larger-requires-4 c κs = search needs
-
-decided-requires : tie.Need-decided-requires
-decided-requires c κs = search needs
-
-add-t13 : tie.Need-add-t13
-add-t13 c = search needs
-
-add-t14 : tie.Need-add-t14
-add-t14 c = search needs
-
 returns : tie.Need-returns
 returns c =
     let a = c .before .before .before .before .before .before .before .before .before .before .args in
@@ -54,14 +24,14 @@ pub joined-spec : {M : Type 1} → statement M
 joined-spec =
     tie.close
     (tie.spec
-    add-taken
-    larger-requires
-    add-cycles
-    larger-requires-2
-    add-words
-    larger-requires-3
-    larger-requires-4
-    decided-requires
-    add-t13
-    add-t14
+    (λ c. search needs)
+    (λ c κs. search needs)
+    (λ c. search needs)
+    (λ c κs. search needs)
+    (λ c. search needs)
+    (λ c κs. search needs)
+    (λ c κs. search needs)
+    (λ c κs. search needs)
+    (λ c. search needs)
+    (λ c. search needs)
     returns)

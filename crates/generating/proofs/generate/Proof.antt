@@ -12,14 +12,8 @@ returns c = let a = c .before .before .args in gives-refusal _ _ (generate-short
 returns-2 : tie.Need-returns-2
 returns-2 c = let a = c .before .before .before .args in gives-refusal _ _ (generate-zero (a .seed) (length (a .out .now)) (c .before .if1 .left) (c .if2 .taken)) _
 
-put-file-requires : tie.Need-put-file-requires
-put-file-requires c κs = search needs
-
-same-length : tie.Need-same-length
-same-length c = search needs
-
 returns-3 : tie.Need-returns-3
 returns-3 c = let p = c .before .before in let a = c .before .before .before .before .before .before .before .args in gives-report _ _ (generate-made (a .seed) (length (a .out .now)) (c .before .before .before .before .before .if1 .left) (c .before .before .before .before .if2 .left)) _ (p .put-file .ensures .0) _ _ (p .put-file .ensures .1)
 
 pub generate-spec : {M : Type 1} → statement M
-generate-spec = tie.close (tie.spec returns returns-2 put-file-requires same-length returns-3)
+generate-spec = tie.close (tie.spec returns returns-2 (λ c κs. search needs) (λ c. search needs) returns-3)

@@ -14,9 +14,6 @@ first n k d h = rw (lt-ltb k n h) refl
 last : (n k d : ℕ) → n ≤ k → 60 ≡ cond (ltb k n) (d % 61) 60
 last n k d h = rw (le-ltb k n h) refl
 
-cast-result : tie.Need-cast-result
-cast-result c = search needs
-
 returns : tie.Need-returns
 returns c = first (c .before .args .n) (c .before .args .k) (c .before .args .d) (c .if1 .taken)
 
@@ -24,4 +21,4 @@ returns-2 : tie.Need-returns-2
 returns-2 c = last (c .before .args .n) (c .before .args .k) (c .before .args .d) (c .if1 .left)
 
 pub kind-of-spec : {M : Type 1} → statement M
-kind-of-spec = tie.close (tie.spec cast-result returns returns-2)
+kind-of-spec = tie.close (tie.spec (λ c. search needs) returns returns-2)

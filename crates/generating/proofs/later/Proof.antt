@@ -6,20 +6,8 @@ use borrow.Author.Needs.{needs}
 use Rattle.generating.proofs.later.Statement.{statement}
 use Rattle.generating.proofs.later.Tie as tie
 
-mul-after : tie.Need-mul-after
-mul-after c = search needs
-
-add-after : tie.Need-add-after
-add-after c = search needs
-
-add-after-2 : tie.Need-add-after-2
-add-after-2 c = search needs
-
-after-requires : tie.Need-after-requires
-after-requires c κs = search needs
-
 returns : tie.Need-returns
 returns c = c .after .ensures ∙ ap (λ x. after (1 + 2 * x + c .before .args .i) (c .before .args .seed)) (c .before .pre .0)
 
 pub later-spec : {M : Type 1} → statement M
-later-spec = tie.close (tie.spec mul-after add-after add-after-2 after-requires returns)
+later-spec = tie.close (tie.spec (λ c. search needs) (λ c. search needs) (λ c. search needs) (λ c κs. search needs) returns)

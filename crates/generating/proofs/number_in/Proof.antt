@@ -16,9 +16,6 @@ cast-size c = size-cast (c .before .before .args .range) (c .before .before .pre
 below-requires : tie.Need-below-requires
 below-requires c κs = size-some (c .before .before .args .range) (c .before .before .pre)
 
-cast-more : tie.Need-cast-more
-cast-more c = search needs
-
 add-result : tie.Need-add-result
 add-result c = sum-fits (c .before .before .before .args .range) (c .before .before .before .pre) (c .before .before .before .args .d) (c .below .result) (c .below .ensures)
 
@@ -31,4 +28,4 @@ returns c = sum-is (c .before .before .before .args .range) (c .before .before .
 pub number-in-spec : {M : Type 1} → statement M
 number-in-spec =
     tie.close
-    (tie.spec sub-size add-size cast-size below-requires cast-more add-result cast-result returns)
+    (tie.spec sub-size add-size cast-size below-requires (λ c. search needs) add-result cast-result returns)

@@ -4,9 +4,6 @@ use borrow.Author.Needs.{needs}
 use Rattle.generating.proofs.plain_cells.Statement.{statement}
 use Rattle.generating.proofs.plain_cells.Tie as tie
 
-next-requires : tie.Need-next-requires
-next-requires c κs = search needs
-
 returns : tie.Need-returns
 returns c = open-cells (c .before .before .args .seed) (c .before .next .result) (c .before .next .ensures) (c .if1 .taken)
 
@@ -14,4 +11,4 @@ returns-2 : tie.Need-returns-2
 returns-2 c = known-cells (c .before .before .args .seed) (c .before .next .result) (c .before .next .ensures) (c .if1 .left)
 
 pub plain-cells-spec : {M : Type 1} → statement M
-plain-cells-spec = tie.close (tie.spec next-requires returns returns-2)
+plain-cells-spec = tie.close (tie.spec (λ c κs. search needs) returns returns-2)

@@ -10,20 +10,11 @@ use borrow.Author.Needs.{needs}
 use Rattle.generating.proofs.put_amount.Statement.{statement}
 use Rattle.generating.proofs.put_amount.Tie as tie
 
-below-requires : tie.Need-below-requires
-below-requires c κs = search needs
-
 add-put-decimal : tie.Need-add-put-decimal
 add-put-decimal c = let s = c .before .before .before in let b = below-under (s .args .spread) (s .args .d) (s .pre .1) in omega (arith, s .pre, c .below .ensures)
 
-cast-put-decimal : tie.Need-cast-put-decimal
-cast-put-decimal c = search needs
-
 put-decimal-requires : tie.Need-put-decimal-requires
 put-decimal-requires c κs = let s = c .before .before .before in let b = below-under (s .args .spread) (s .args .d) (s .pre .1) in omega (arith, s .pre, decimal-length 10 (s .args .least + c .below .result) (omega (arith, s .pre, c .below .ensures)) (omega arith))
-
-same-length : tie.Need-same-length
-same-length c = search needs
 
 returns : tie.Need-returns
 returns c = let b = c .before .before .before in let s = b .before .before .before in put-as _ _ (ap (λ x. decimal (s .args .least + x)) (sym (b .below .ensures))) (c .before .before .put-decimal .ensures)
@@ -32,9 +23,9 @@ pub put-amount-spec : {M : Type 1} → statement M
 put-amount-spec =
     tie.close
     (tie.spec
-    below-requires
+    (λ c κs. search needs)
     add-put-decimal
-    cast-put-decimal
+    (λ c. search needs)
     put-decimal-requires
-    same-length
+    (λ c. search needs)
     returns)

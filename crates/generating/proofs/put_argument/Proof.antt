@@ -10,20 +10,8 @@ use borrow.Author.Needs.{needs}
 use Rattle.generating.proofs.put_argument.Statement.{statement}
 use Rattle.generating.proofs.put_argument.Tie as tie
 
-argument-at-requires : tie.Need-argument-at-requires
-argument-at-requires c κs = search needs
-
 enum-told : tie.Need-enum-told
 enum-told c = search needs
-
-slice-aggregate-put : tie.Need-slice-aggregate-put
-slice-aggregate-put c = search needs
-
-put-requires : tie.Need-put-requires
-put-requires c κs = search needs
-
-enum-told-2 : tie.Need-enum-told-2
-enum-told-2 c = search needs
 
 target-requires : tie.Need-target-requires
 target-requires c κs = let a = c .before .before .before in let s = a .before .before in (s .pre .2 (sym (a .argument-at .ensures) ∙ c .before .enum-told2 .given .1), s .pre .1)
@@ -31,23 +19,8 @@ target-requires c κs = let a = c .before .before .before in let s = a .before .
 put-decimal-requires : tie.Need-put-decimal-requires
 put-decimal-requires c κs = let s = c .before .before .before .before .before .before in omega (arith, s .pre .3, decimal-length 3 (c .target .result) (omega (arith, c .target .ensures, target-within (s .args .n) (s .args .k) (s .args .d), s .pre .1)) (omega arith))
 
-enum-told-3 : tie.Need-enum-told-3
-enum-told-3 c = search needs
-
-slice-aggregate-word-at : tie.Need-slice-aggregate-word-at
-slice-aggregate-word-at c = search needs
-
-cast-word-at : tie.Need-cast-word-at
-cast-word-at c = search needs
-
-word-at-requires : tie.Need-word-at-requires
-word-at-requires c κs = search needs
-
 put-requires-2 : tie.Need-put-requires-2
 put-requires-2 c κs = let s = c .before .before .before .before .before .before .before in omega (arith, s .pre .3, primitive-room (s .args .d % 4) (c .before .word-at .ensures))
-
-enum-known-range : tie.Need-enum-known-range
-enum-known-range c = search needs
 
 number-in-requires : tie.Need-number-in-requires
 number-in-requires c κs = let a = c .before .before .before in within-sound (a .before .before .args .kind) (c .before .range .given .0 .0) (a .argument-at .ensures) (c .before .range .given .1)
@@ -55,26 +28,14 @@ number-in-requires c κs = let a = c .before .before .before in within-sound (a 
 put-integer-requires : tie.Need-put-integer-requires
 put-integer-requires c κs = let r = c .before .before .before in let a = r .before .before in let s = a .before .before in omega (arith, s .pre .3, integer-room (r .range .given .0 .0) (s .args .d) (within-sound (s .args .kind) (r .range .given .0 .0) (a .argument-at .ensures) (r .range .given .1)) (c .before .number-in .ensures))
 
-same-length : tie.Need-same-length
-same-length c = search needs
-
 returns : tie.Need-returns
 returns c = let p = c .before .before in let t = p .before .before .before in let a = t .before .before in let s = a .before .before in put-as _ _ (argument-absent (s .args .n) (s .args .k) (s .args .d) (sym (a .argument-at .ensures) ∙ t .enum-told .given .1)) (p .put .ensures)
-
-same-length-2 : tie.Need-same-length-2
-same-length-2 c = search needs
 
 returns-2 : tie.Need-returns-2
 returns-2 c = let p = c .before .before in let t = p .before .before .before in let a = t .before .before in let s = a .before .before in put-as _ _ (argument-target (s .args .n) (s .args .k) (s .args .d) (sym (a .argument-at .ensures) ∙ t .enum-told2 .given .1) (p .before .target .ensures)) (p .put-decimal .ensures)
 
-same-length-3 : tie.Need-same-length-3
-same-length-3 c = search needs
-
 returns-3 : tie.Need-returns-3
 returns-3 c = let p = c .before .before in let w = p .before .before in let t = w .before .before in let a = t .before .before in let s = a .before .before in put-as _ _ (argument-primitive (s .args .n) (s .args .k) (s .args .d) (sym (a .argument-at .ensures) ∙ t .enum-told3 .given .1) (w .word-at .ensures)) (p .put2 .ensures)
-
-same-length-4 : tie.Need-same-length-4
-same-length-4 c = search needs
 
 returns-4 : tie.Need-returns-4
 returns-4 c =
@@ -93,26 +54,26 @@ pub put-argument-spec : {M : Type 1} → statement M
 put-argument-spec =
     tie.close
     (tie.spec
-    argument-at-requires
+    (λ c κs. search needs)
     enum-told
-    slice-aggregate-put
-    put-requires
-    enum-told-2
+    (λ c. search needs)
+    (λ c κs. search needs)
+    (λ c. search needs)
     target-requires
     put-decimal-requires
-    enum-told-3
-    slice-aggregate-word-at
-    cast-word-at
-    word-at-requires
+    (λ c. search needs)
+    (λ c. search needs)
+    (λ c. search needs)
+    (λ c κs. search needs)
     put-requires-2
-    enum-known-range
+    (λ c. search needs)
     number-in-requires
     put-integer-requires
-    same-length
+    (λ c. search needs)
     returns
-    same-length-2
+    (λ c. search needs)
     returns-2
-    same-length-3
+    (λ c. search needs)
     returns-3
-    same-length-4
+    (λ c. search needs)
     returns-4)

@@ -15,26 +15,11 @@ Inv-loop out₀ at seed n e₀ t₀ u₀ k₀ out e t u k = Coding seed n out₀
 abbrev μ-loop : tie.MeasureT-loop
 μ-loop out₀ at seed n e₀ t₀ u₀ k₀ out e t u k = suc n - k
 
-next-requires : tie.Need-next-requires Inv-loop μ-loop
-next-requires c κs = search needs
-
 add-after : tie.Need-add-after Inv-loop μ-loop
 add-after c = omega arith
 
-after-requires : tie.Need-after-requires Inv-loop μ-loop
-after-requires c κs = search needs
-
 loop-holds : tie.Need-loop-holds Inv-loop μ-loop
 loop-holds c = let s = c .before .before .before in coding-starts (s .args .seed) (s .args .n) (s .pre .0) (s .args .out .now) (s .args .at) (omega (arith, s .pre .2)) (c .before .next .ensures) (c .after .ensures)
-
-next-requires-2 : tie.Need-next-requires-2 Inv-loop μ-loop
-next-requires-2 c κs = search needs
-
-next-requires-3 : tie.Need-next-requires-3 Inv-loop μ-loop
-next-requires-3 c κs = search needs
-
-kind-of-requires : tie.Need-kind-of-requires Inv-loop μ-loop
-kind-of-requires c κs = search needs
 
 put-line-requires : tie.Need-put-line-requires Inv-loop μ-loop
 put-line-requires c κs =
@@ -75,13 +60,13 @@ put-code-spec =
     (tie.spec
     Inv-loop
     μ-loop
-    next-requires
+    (λ c κs. search needs)
     add-after
-    after-requires
+    (λ c κs. search needs)
     loop-holds
-    next-requires-2
-    next-requires-3
-    kind-of-requires
+    (λ c κs. search needs)
+    (λ c κs. search needs)
+    (λ c κs. search needs)
     put-line-requires
     add-k
     loop-less

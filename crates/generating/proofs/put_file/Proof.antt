@@ -12,29 +12,17 @@ use borrow.Author.Needs.{needs}
 use Rattle.generating.proofs.put_file.Statement.{statement}
 use Rattle.generating.proofs.put_file.Tie as tie
 
-next-requires : tie.Need-next-requires
-next-requires c κs = search needs
-
-cast-n : tie.Need-cast-n
-cast-n c = search needs
-
 put-prices-requires : tie.Need-put-prices-requires
 put-prices-requires c κs = let s = c .before .before .before in (count-is (s .args .seed) (c .before .next .ensures), omega arith, omega (arith, s .pre))
 
 put-start-requires : tie.Need-put-start-requires
 put-start-requires c κs = let s = c .before .before .before .before .before .before .before in (count-is (s .args .seed) (c .before .before .before .before .before .next .ensures), omega arith, omega (arith, s .pre, c .before .before .before .put-prices .ensures .0, c .before .before .before .put-prices .kept .0, prices-short (s .args .seed)))
 
-slice-aggregate-put : tie.Need-slice-aggregate-put
-slice-aggregate-put c = search needs
-
 put-requires : tie.Need-put-requires
 put-requires c κs = let s = c .before .before .before .before .before .before .before .before .before .before .before .before in omega (arith, s .pre, c .before .before .before .before .before .before .before .before .put-prices .ensures .0, c .before .before .before .before .before .before .before .before .put-prices .kept .0, prices-short (s .args .seed), c .before .before .before .before .put-start .ensures .0, c .before .before .before .before .put-start .kept .0, start-short (s .args .seed))
 
 put-code-requires : tie.Need-put-code-requires
 put-code-requires c κs = let s = c .before .before .before .before .before .before .before .before .before .before .before .before .before .before .before .before in (count-is (s .args .seed) (c .before .before .before .before .before .before .before .before .before .before .before .before .before .before .next .ensures), omega arith, omega (arith, s .pre, c .before .before .before .before .before .before .before .before .before .before .before .before .put-prices .ensures .0, c .before .before .before .before .before .before .before .before .before .before .before .before .put-prices .kept .0, prices-short (s .args .seed), c .before .before .before .before .before .before .before .before .put-start .ensures .0, c .before .before .before .before .before .before .before .before .put-start .kept .0, start-short (s .args .seed), c .before .before .before .put .ensures .0, c .before .before .before .put .kept .0))
-
-same-length : tie.Need-same-length
-same-length c = search needs
 
 returns : tie.Need-returns
 unfolding file
@@ -53,12 +41,12 @@ pub put-file-spec : {M : Type 1} → statement M
 put-file-spec =
     tie.close
     (tie.spec
-    next-requires
-    cast-n
+    (λ c κs. search needs)
+    (λ c. search needs)
     put-prices-requires
     put-start-requires
-    slice-aggregate-put
+    (λ c. search needs)
     put-requires
     put-code-requires
-    same-length
+    (λ c. search needs)
     returns)

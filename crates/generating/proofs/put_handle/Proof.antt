@@ -10,20 +10,8 @@ use borrow.Author.Needs.{needs}
 use Rattle.generating.proofs.put_handle.Statement.{statement}
 use Rattle.generating.proofs.put_handle.Tie as tie
 
-slice-aggregate-put : tie.Need-slice-aggregate-put
-slice-aggregate-put c = search needs
-
-put-requires : tie.Need-put-requires
-put-requires c κs = search needs
-
-cast-put-decimal : tie.Need-cast-put-decimal
-cast-put-decimal c = search needs
-
 put-decimal-requires : tie.Need-put-decimal-requires
 put-decimal-requires c κs = let p = c .before .before .before in let s = p .before .before .before .before in omega (arith, s .pre, p .put .ensures .0, p .put .kept .0, decimal-length 1 (s .args .d % 2) (omega arith) (omega arith))
-
-same-length : tie.Need-same-length
-same-length c = search needs
 
 returns : tie.Need-returns
 unfolding handleWord
@@ -40,9 +28,9 @@ pub put-handle-spec : {M : Type 1} → statement M
 put-handle-spec =
     tie.close
     (tie.spec
-    slice-aggregate-put
-    put-requires
-    cast-put-decimal
+    (λ c. search needs)
+    (λ c κs. search needs)
+    (λ c. search needs)
     put-decimal-requires
-    same-length
+    (λ c. search needs)
     returns)

@@ -9,18 +9,6 @@ use borrow.Author.Needs.{needs}
 use Rattle.generating.proofs.put_kinds.Statement.{statement}
 use Rattle.generating.proofs.put_kinds.Tie as tie
 
-put-values-requires : tie.Need-put-values-requires
-put-values-requires c κs = search needs
-
-put-values-requires-2 : tie.Need-put-values-requires-2
-put-values-requires-2 c κs = search needs
-
-put-values-requires-3 : tie.Need-put-values-requires-3
-put-values-requires-3 c κs = search needs
-
-same-length : tie.Need-same-length
-same-length c = search needs
-
 returns : tie.Need-returns
 unfolding kindPrices
 returns c =
@@ -38,4 +26,4 @@ returns c =
 pub put-kinds-spec : {M : Type 1} → statement M
 put-kinds-spec =
     tie.close
-    (tie.spec put-values-requires put-values-requires-2 put-values-requires-3 same-length returns)
+    (tie.spec (λ c κs. search needs) (λ c κs. search needs) (λ c κs. search needs) (λ c. search needs) returns)

@@ -22,17 +22,11 @@ room s =
 put-decimal-requires : tie.Need-put-decimal-requires
 put-decimal-requires c κs = omega (arith, room (c .before .before))
 
-slice-aggregate-put : tie.Need-slice-aggregate-put
-slice-aggregate-put c = search needs
-
 put-requires : tie.Need-put-requires
 put-requires c κs = omega (arith, room (c .before .before .before .before .before .before .before))
 
 put-name-requires : tie.Need-put-name-requires
 put-name-requires c κs = (c .before .before .before .before .before .before .before .before .before .before .before .pre .0, omega (arith, room (c .before .before .before .before .before .before .before .before .before .before .before)))
-
-slice-aggregate-put-2 : tie.Need-slice-aggregate-put-2
-slice-aggregate-put-2 c = search needs
 
 put-requires-2 : tie.Need-put-requires-2
 put-requires-2 c κs = omega (arith, room (c .before .before .before .before .before .before .before .before .before .before .before .before .before .before .before .before))
@@ -40,14 +34,8 @@ put-requires-2 c κs = omega (arith, room (c .before .before .before .before .be
 put-argument-requires : tie.Need-put-argument-requires
 put-argument-requires c κs = let s = c .before .before .before .before .before .before .before .before .before .before .before .before .before .before .before .before .before .before .before .before in (s .pre .0, s .pre .2, s .pre .3, omega (arith, s .pre .4, decimal-length 3 (s .args .k) (omega (arith, s .pre .1)) (omega arith), name-short (s .args .kind)))
 
-slice-aggregate-put-3 : tie.Need-slice-aggregate-put-3
-slice-aggregate-put-3 c = search needs
-
 put-requires-3 : tie.Need-put-requires-3
 put-requires-3 c κs = omega (arith, room (c .before .before .before .before .before .before .before .before .before .before .before .before .before .before .before .before .before .before .before .before .before .before .before .before .before))
-
-same-length : tie.Need-same-length
-same-length c = search needs
 
 returns : tie.Need-returns
 unfolding lineOf
@@ -74,13 +62,13 @@ put-line-spec =
     tie.close
     (tie.spec
     put-decimal-requires
-    slice-aggregate-put
+    (λ c. search needs)
     put-requires
     put-name-requires
-    slice-aggregate-put-2
+    (λ c. search needs)
     put-requires-2
     put-argument-requires
-    slice-aggregate-put-3
+    (λ c. search needs)
     put-requires-3
-    same-length
+    (λ c. search needs)
     returns)

@@ -11,29 +11,17 @@ use borrow.Author.Needs.{needs}
 use Rattle.generating.proofs.put_number.Statement.{statement}
 use Rattle.generating.proofs.put_number.Tie as tie
 
-cast-put-decimal : tie.Need-cast-put-decimal
-cast-put-decimal c = search needs
-
 put-decimal-requires : tie.Need-put-decimal-requires
 put-decimal-requires c κs = let s = c .before .before .before in omega (arith, s .pre, decimal-length 1 (s .args .d / 4 % 8) (omega arith) (omega arith))
 
-same-length : tie.Need-same-length
-same-length c = search needs
-
 returns : tie.Need-returns
 returns c = let p = c .before .before in let s = p .before .before .before .before in put-as _ _ (small-number (s .args .d) (p .before .before .if1 .taken)) (p .put-decimal .ensures)
-
-number-range-requires : tie.Need-number-range-requires
-number-range-requires c κs = search needs
 
 number-in-requires : tie.Need-number-in-requires
 number-in-requires c κs = range-sound (c .number-range .ensures)
 
 put-integer-requires : tie.Need-put-integer-requires
 put-integer-requires c κs = let p = c .before in let s = p .before .before .before .before in omega (arith, s .pre, integer-room (p .before .number-range .result) (s .args .d) (range-sound (p .before .number-range .ensures)) (p .number-in .ensures))
-
-same-length-2 : tie.Need-same-length-2
-same-length-2 c = search needs
 
 returns-2 : tie.Need-returns-2
 returns-2 c =
@@ -49,12 +37,12 @@ pub put-number-spec : {M : Type 1} → statement M
 put-number-spec =
     tie.close
     (tie.spec
-    cast-put-decimal
+    (λ c. search needs)
     put-decimal-requires
-    same-length
+    (λ c. search needs)
     returns
-    number-range-requires
+    (λ c κs. search needs)
     number-in-requires
     put-integer-requires
-    same-length-2
+    (λ c. search needs)
     returns-2)

@@ -5,23 +5,8 @@ use borrow.Author.Needs.{needs}
 use Rattle.generating.proofs.put_open.Statement.{statement}
 use Rattle.generating.proofs.put_open.Tie as tie
 
-slice-aggregate-put : tie.Need-slice-aggregate-put
-slice-aggregate-put c = search needs
-
-put-requires : tie.Need-put-requires
-put-requires c κs = search needs
-
-same-length : tie.Need-same-length
-same-length c = search needs
-
 returns : tie.Need-returns
 returns c = let p = c .before .before in let s = p .before .before .before .before .before in put-as _ _ (open-word (s .args .d) (p .before .before .before .if1 .taken)) (p .put .ensures)
-
-put-number-requires : tie.Need-put-number-requires
-put-number-requires c κs = search needs
-
-same-length-2 : tie.Need-same-length-2
-same-length-2 c = search needs
 
 returns-2 : tie.Need-returns-2
 returns-2 c = let p = c .before .before in let s = p .before .before .before .before in put-as _ _ (closed-word (s .args .d) (p .before .before .if1 .left)) (p .put-number .ensures)
@@ -30,10 +15,10 @@ pub put-open-spec : {M : Type 1} → statement M
 put-open-spec =
     tie.close
     (tie.spec
-    slice-aggregate-put
-    put-requires
-    same-length
+    (λ c. search needs)
+    (λ c κs. search needs)
+    (λ c. search needs)
     returns
-    put-number-requires
-    same-length-2
+    (λ c κs. search needs)
+    (λ c. search needs)
     returns-2)

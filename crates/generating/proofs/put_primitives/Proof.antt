@@ -10,21 +10,6 @@ use borrow.Author.Needs.{needs}
 use Rattle.generating.proofs.put_primitives.Statement.{statement}
 use Rattle.generating.proofs.put_primitives.Tie as tie
 
-slice-aggregate-put : tie.Need-slice-aggregate-put
-slice-aggregate-put c = search needs
-
-put-requires : tie.Need-put-requires
-put-requires c κs = search needs
-
-put-values-requires : tie.Need-put-values-requires
-put-values-requires c κs = search needs
-
-put-values-requires-2 : tie.Need-put-values-requires-2
-put-values-requires-2 c κs = search needs
-
-same-length : tie.Need-same-length
-same-length c = search needs
-
 returns : tie.Need-returns
 unfolding primitivePrices
 returns c =
@@ -43,9 +28,9 @@ pub put-primitives-spec : {M : Type 1} → statement M
 put-primitives-spec =
     tie.close
     (tie.spec
-    slice-aggregate-put
-    put-requires
-    put-values-requires
-    put-values-requires-2
-    same-length
+    (λ c. search needs)
+    (λ c κs. search needs)
+    (λ c κs. search needs)
+    (λ c κs. search needs)
+    (λ c. search needs)
     returns)

@@ -16,9 +16,6 @@ abbrev μ-loop : tie.MeasureT-loop
 loop-holds : tie.Need-loop-holds Inv-loop μ-loop
 loop-holds c = let s = c .before in rowing-starts (s .args .column) (s .args .count) (s .args .follows) (s .args .s) (s .args .out .now) (s .args .at) (omega (arith, s .pre .1))
 
-next-requires : tie.Need-next-requires Inv-loop μ-loop
-next-requires c κs = search needs
-
 put-word-requires : tie.Need-put-word-requires Inv-loop μ-loop
 put-word-requires c κs = let l = c .before .before .before in let s = l .before .before in (omega (arith, s .pre .0), omega (arith, s .pre .1, l .loop .inv .short, l .loop .inv .long))
 
@@ -62,7 +59,7 @@ put-row-spec =
     Inv-loop
     μ-loop
     loop-holds
-    next-requires
+    (λ c κs. search needs)
     put-word-requires
     sub-put-break
     sub-put-break-2

@@ -11,41 +11,8 @@ use borrow.Author.Needs.{needs}
 use Rattle.generating.proofs.put_start.Statement.{statement}
 use Rattle.generating.proofs.put_start.Tie as tie
 
-cells-for-requires : tie.Need-cells-for-requires
-cells-for-requires c κs = search needs
-
-cells-for-requires-2 : tie.Need-cells-for-requires-2
-cells-for-requires-2 c κs = search needs
-
-plain-cells-requires : tie.Need-plain-cells-requires
-plain-cells-requires c κs = search needs
-
-slice-aggregate-put : tie.Need-slice-aggregate-put
-slice-aggregate-put c = search needs
-
-put-requires : tie.Need-put-requires
-put-requires c κs = search needs
-
-put-values-requires : tie.Need-put-values-requires
-put-values-requires c κs = search needs
-
-put-values-requires-2 : tie.Need-put-values-requires-2
-put-values-requires-2 c κs = search needs
-
-slice-aggregate-put-2 : tie.Need-slice-aggregate-put-2
-slice-aggregate-put-2 c = search needs
-
-put-requires-2 : tie.Need-put-requires-2
-put-requires-2 c κs = search needs
-
-put-values-requires-3 : tie.Need-put-values-requires-3
-put-values-requires-3 c κs = search needs
-
 put-values-requires-4 : tie.Need-put-values-requires-4
 put-values-requires-4 c κs = let s = c .before .before .before .before .before .before .before .before .before .before .before .before .before .before .before .before .before .before .before .before .before .before .before .before .before .before .before in (s .pre .0, s .pre .1, omega arith, omega arith, omega (arith, s .pre .2, c .before .before .before .put-values3 .ensures .1 .1, c .before .before .before .put-values3 .kept .0, c .before .before .before .before .before .before .before .put2 .ensures .0, c .before .before .before .before .before .before .before .put2 .kept .0, c .before .before .before .before .before .before .before .before .before .before .before .before .put-values2 .ensures .1 .1, c .before .before .before .before .before .before .before .before .before .before .before .before .put-values2 .kept .0, c .before .before .before .before .before .before .before .before .before .before .before .before .before .before .before .before .put-values .ensures .1 .1, c .before .before .before .before .before .before .before .before .before .before .before .before .before .before .before .before .put-values .kept .0, c .before .before .before .before .before .before .before .before .before .before .before .before .before .before .before .before .before .before .before .before .put .ensures .0, c .before .before .before .before .before .before .before .before .before .before .before .before .before .before .before .before .before .before .before .before .put .kept .0))
-
-same-length : tie.Need-same-length
-same-length c = search needs
 
 returns : tie.Need-returns
 unfolding start
@@ -74,16 +41,16 @@ pub put-start-spec : {M : Type 1} → statement M
 put-start-spec =
     tie.close
     (tie.spec
-    cells-for-requires
-    cells-for-requires-2
-    plain-cells-requires
-    slice-aggregate-put
-    put-requires
-    put-values-requires
-    put-values-requires-2
-    slice-aggregate-put-2
-    put-requires-2
-    put-values-requires-3
+    (λ c κs. search needs)
+    (λ c κs. search needs)
+    (λ c κs. search needs)
+    (λ c. search needs)
+    (λ c κs. search needs)
+    (λ c κs. search needs)
+    (λ c κs. search needs)
+    (λ c. search needs)
+    (λ c κs. search needs)
+    (λ c κs. search needs)
     put-values-requires-4
-    same-length
+    (λ c. search needs)
     returns)

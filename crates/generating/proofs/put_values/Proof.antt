@@ -6,15 +6,6 @@ use borrow.Author.Needs.{needs}
 use Rattle.generating.proofs.put_values.Statement.{statement}
 use Rattle.generating.proofs.put_values.Tie as tie
 
-later-requires : tie.Need-later-requires
-later-requires c κs = search needs
-
-put-row-requires : tie.Need-put-row-requires
-put-row-requires c κs = search needs
-
-same-length : tie.Need-same-length
-same-length c = search needs
-
 returns : tie.Need-returns
 returns c =
     let p = c .before .before in
@@ -24,4 +15,4 @@ returns c =
     (q .0, (q .1, p .put-row .ensures .1 .1))
 
 pub put-values-spec : {M : Type 1} → statement M
-put-values-spec = tie.close (tie.spec later-requires put-row-requires same-length returns)
+put-values-spec = tie.close (tie.spec (λ c κs. search needs) (λ c κs. search needs) (λ c. search needs) returns)

@@ -7,18 +7,6 @@ use borrow.Author.Needs.{needs}
 use Rattle.generating.proofs.target.Statement.{statement}
 use Rattle.generating.proofs.target.Tie as tie
 
-sub-left : tie.Need-sub-left
-sub-left c = search needs
-
-cast-left : tie.Need-cast-left
-cast-left c = search needs
-
-div-if1 : tie.Need-div-if1
-div-if1 c = search needs
-
-rem-result : tie.Need-rem-result
-rem-result c = search needs
-
 cast-result : tie.Need-cast-result
 cast-result c = record { fits = omega (arith, mod-lt (c .before .args .d) {m = c .before .args .n - c .before .args .k} (omega (arith, c .before .pre))) }
 
@@ -34,4 +22,4 @@ returns-2 c = closing (c .before .args .n) (c .before .args .k) (c .before .args
 pub target-spec : {M : Type 1} → statement M
 target-spec =
     tie.close
-    (tie.spec sub-left cast-left div-if1 rem-result cast-result sub-result returns returns-2)
+    (tie.spec (λ c. search needs) (λ c. search needs) (λ c. search needs) (λ c. search needs) cast-result sub-result returns returns-2)

@@ -1,5 +1,5 @@
 -- `imports::check_import` meets its contract: the primitives line, and then the words. Assumes nothing.
-use mathlib.Core.Path.{_≡_, sym, ap, subst, _∙_}
+use mathlib.Core.Path.{_≡_, sym, ap, _∙_}
 use native.Mathlib.Omega.{arith}
 use lib.ListN.{length}
 use Rattle.routine.specs.Layout.{list}
@@ -15,28 +15,13 @@ use Rattle.imports.proofs.check_import.Tie as tie
 counted : (c : tie.After-count-listed) → c .count-listed .result ≡ length (primitivesOf (c .before .before .before .before .before .before .before .args .primitives .now))
 counted c = c .count-listed .ensures ∙ ap (λ t. length (list t)) (c .before .first-line .ensures) ∙ ap length (sym (primitives-are (c .before .before .before .before .before .before .before .args .primitives .now)))
 
-check-primitives-requires : tie.Need-check-primitives-requires
-check-primitives-requires c κs = search needs
-
-enum-known-refusal : tie.Need-enum-known-refusal
-enum-known-refusal c = search needs
-
 enum-told : tie.Need-enum-told
 enum-told c = search needs
-
-first-line-requires : tie.Need-first-line-requires
-first-line-requires c κs = search needs
-
-count-listed-requires : tie.Need-count-listed-requires
-count-listed-requires c κs = search needs
 
 code-fault-requires : tie.Need-code-fault-requires
 code-fault-requires c κs =
     let few = accepted-few (c .before .before .before .before .before .before .before .args .primitives .now) (sym (c .before .before .before .before .check-primitives .ensures) ∙ c .before .before .enum-told .given .1) in
     omega (arith, few, counted c)
-
-fault-verdict-requires : tie.Need-fault-verdict-requires
-fault-verdict-requires c κs = search needs
 
 returns : tie.Need-returns
 returns c =
@@ -54,12 +39,12 @@ pub check-import-spec : {M : Type 1} → statement M
 check-import-spec =
     tie.close
     (tie.spec
-    check-primitives-requires
-    enum-known-refusal
+    (λ c κs. search needs)
+    (λ c. search needs)
     enum-told
-    first-line-requires
-    count-listed-requires
+    (λ c κs. search needs)
+    (λ c κs. search needs)
     code-fault-requires
-    fault-verdict-requires
+    (λ c κs. search needs)
     returns
     returns-2)

@@ -1,28 +1,16 @@
 -- `imports::check_names` meets its contract. Assumes nothing.
-use mathlib.Core.Path.{_≡_, sym, _∙_}
+use mathlib.Core.Path.{sym, _∙_}
 use borrow.Author.Tests.{not-true, not-false}
 use Rattle.imports.proofs.PrimitiveLaws.{line-spaced, line-many, line-none, line-misspelt, line-repeated, line-fine}
 use borrow.Author.Needs.{needs}
 use Rattle.imports.proofs.check_names.Statement.{statement}
 use Rattle.imports.proofs.check_names.Tie as tie
 
-all-words-requires : tie.Need-all-words-requires
-all-words-requires c κs = search needs
-
 returns : tie.Need-returns
 returns c = sym (line-spaced _ (sym (c .before .all-words .ensures) ∙ not-true _ (c .if1 .taken)))
 
-names-laid-out-requires : tie.Need-names-laid-out-requires
-names-laid-out-requires c κs = search needs
-
 returns-2 : tie.Need-returns-2
 returns-2 c = sym (line-many _ (sym (c .before .before .before .all-words .ensures) ∙ not-false _ (c .before .before .if1 .left)) (sym (c .before .names-laid-out .ensures) ∙ not-true _ (c .if2 .taken)))
-
-slice-aggregate-same : tie.Need-slice-aggregate-same
-slice-aggregate-same c = search needs
-
-same-requires : tie.Need-same-requires
-same-requires c κs = search needs
 
 returns-3 : tie.Need-returns-3
 returns-3 c =
@@ -32,9 +20,6 @@ returns-3 c =
     let line = t .before .before .before .before .before .args .line .now in
     sym (line-none line e f (sym (c .before .same .ensures) ∙ c .if3 .taken))
 
-all-words-requires-2 : tie.Need-all-words-requires-2
-all-words-requires-2 c κs = search needs
-
 returns-4 : tie.Need-returns-4
 returns-4 c =
     let t = c .before .before .before .before .before in
@@ -43,9 +28,6 @@ returns-4 c =
     let line = t .before .before .before .before .before .args .line .now in
     let g = sym (c .before .before .before .same .ensures) ∙ c .before .before .if3 .left in
     sym (line-misspelt line e f g (sym (c .before .all-words2 .ensures) ∙ not-true _ (c .if4 .taken)))
-
-distinct-requires : tie.Need-distinct-requires
-distinct-requires c κs = search needs
 
 returns-5 : tie.Need-returns-5
 returns-5 c =
@@ -71,15 +53,15 @@ pub check-names-spec : {M : Type 1} → statement M
 check-names-spec =
     tie.close
     (tie.spec
-    all-words-requires
+    (λ c κs. search needs)
     returns
-    names-laid-out-requires
+    (λ c κs. search needs)
     returns-2
-    slice-aggregate-same
-    same-requires
+    (λ c. search needs)
+    (λ c κs. search needs)
     returns-3
-    all-words-requires-2
+    (λ c κs. search needs)
     returns-4
-    distinct-requires
+    (λ c κs. search needs)
     returns-5
     returns-6)

@@ -8,9 +8,6 @@ use Rattle.imports.proofs.fault_verdict.Tie as tie
 enum-told : tie.Need-enum-told
 enum-told c = search needs
 
-enum-known-place : tie.Need-enum-known-place
-enum-known-place c = search needs
-
 returns : tie.Need-returns
 unfolding faultVerdict
 returns c = sym (ap faultVerdict (c .enum-told .given .1))
@@ -20,4 +17,4 @@ unfolding faultVerdict
 returns-2 c = sym (ap faultVerdict (c .before .place .given .1))
 
 pub fault-verdict-spec : {M : Type 1} → statement M
-fault-verdict-spec = tie.close (tie.spec enum-told enum-known-place returns returns-2)
+fault-verdict-spec = tie.close (tie.spec enum-told (λ c. search needs) returns returns-2)

@@ -2,9 +2,7 @@
 use Prim.Native.Nat.{ℕ, suc}
 use mathlib.Core.List.{List}
 use mathlib.Core.Path.{_≡_, sym, ap, _∙_}
-use native.Mathlib.Omega.{arith}
 use lib.IntN.{pos, _+ℤ_}
-use lib.ListN.{length}
 use mir.Syntax.{w32, w64}
 use mir.Val.{ofZ, toZ}
 use mir.ValLaws.{toZ-ofZ}
@@ -50,71 +48,29 @@ within c =
     let s = c .before .before .before .before .before .before .before in
     argument-within (list (s .args .primitives .now)) (s .args .numbers .now) (s .args .index) (s .args .argument) (sym (c .before .before .before .argument-at .ensures) ∙ c .before .enum-told4 .given .1) (toZ-ofZ w32 (s .args .argument) (s .fits .argument))
 
-argument-at-requires : tie.Need-argument-at-requires
-argument-at-requires c κs = search needs
-
 enum-told : tie.Need-enum-told
 enum-told c = search needs
-
-slice-aggregate-put : tie.Need-slice-aggregate-put
-slice-aggregate-put c = search needs
 
 put-requires : tie.Need-put-requires
 put-requires c κs = room-as (c .before .before .before .before .before .before .before .before .args .at) (absent c) (c .before .before .before .before .before .before .before .before .pre .2)
 
-enum-told-2 : tie.Need-enum-told-2
-enum-told-2 c = search needs
-
-landing-requires : tie.Need-landing-requires
-landing-requires c κs = search needs
-
-number-at-requires : tie.Need-number-at-requires
-number-at-requires c κs = search needs
-
-index-of-requires : tie.Need-index-of-requires
-index-of-requires c κs = search needs
-
 put-decimal-requires : tie.Need-put-decimal-requires
 put-decimal-requires c κs = room-as (c .before .before .before .before .before .before .before .before .before .before .args .at) (target c) (c .before .before .before .before .before .before .before .before .before .before .pre .2)
-
-enum-told-3 : tie.Need-enum-told-3
-enum-told-3 c = search needs
-
-magnitude-requires : tie.Need-magnitude-requires
-magnitude-requires c κs = search needs
-
-listed-at-requires : tie.Need-listed-at-requires
-listed-at-requires c κs = search needs
 
 put-requires-2 : tie.Need-put-requires-2
 put-requires-2 c κs = room-as (c .before .before .before .before .before .before .before .before .before .args .at) (primitive c) (c .before .before .before .before .before .before .before .before .before .pre .2)
 
-enum-told-4 : tie.Need-enum-told-4
-enum-told-4 c = search needs
-
 put-integer-requires : tie.Need-put-integer-requires
 put-integer-requires c κs = room-as (c .before .before .before .before .before .before .before .args .at) (within c) (c .before .before .before .before .before .before .before .pre .2)
-
-same-length : tie.Need-same-length
-same-length c = search needs
 
 returns : tie.Need-returns
 returns c = put-as (c .before .before .before .before .before .before .before .before .before .before .before .args .out .now) (c .before .before .before .before .before .before .before .before .before .before .before .args .at) (absent (c .before .before .before)) (c .before .before .put .ensures)
 
-same-length-2 : tie.Need-same-length-2
-same-length-2 c = search needs
-
 returns-2 : tie.Need-returns-2
 returns-2 c = put-as (c .before .before .before .before .before .before .before .before .before .before .before .before .before .args .out .now) (c .before .before .before .before .before .before .before .before .before .before .before .before .before .args .at) (target (c .before .before .before)) (c .before .before .put-decimal .ensures)
 
-same-length-3 : tie.Need-same-length-3
-same-length-3 c = search needs
-
 returns-3 : tie.Need-returns-3
 returns-3 c = put-as (c .before .before .before .before .before .before .before .before .before .before .before .before .args .out .now) (c .before .before .before .before .before .before .before .before .before .before .before .before .args .at) (primitive (c .before .before .before)) (c .before .before .put2 .ensures)
-
-same-length-4 : tie.Need-same-length-4
-same-length-4 c = search needs
 
 returns-4 : tie.Need-returns-4
 returns-4 c = put-as (c .before .before .before .before .before .before .before .before .before .before .args .out .now) (c .before .before .before .before .before .before .before .before .before .before .args .at) (within (c .before .before .before)) (c .before .before .put-integer .ensures)
@@ -123,26 +79,26 @@ pub put-argument-spec : {M : Type 1} → statement M
 put-argument-spec =
     tie.close
     (tie.spec
-    argument-at-requires
+    (λ c κs. search needs)
     enum-told
-    slice-aggregate-put
+    (λ c. search needs)
     put-requires
-    enum-told-2
-    landing-requires
-    number-at-requires
-    index-of-requires
+    (λ c. search needs)
+    (λ c κs. search needs)
+    (λ c κs. search needs)
+    (λ c κs. search needs)
     put-decimal-requires
-    enum-told-3
-    magnitude-requires
-    listed-at-requires
+    (λ c. search needs)
+    (λ c κs. search needs)
+    (λ c κs. search needs)
     put-requires-2
-    enum-told-4
+    (λ c. search needs)
     put-integer-requires
-    same-length
+    (λ c. search needs)
     returns
-    same-length-2
+    (λ c. search needs)
     returns-2
-    same-length-3
+    (λ c. search needs)
     returns-3
-    same-length-4
+    (λ c. search needs)
     returns-4)

@@ -1,5 +1,4 @@
 -- `imports::put_code` meets its contract: the names line, and then the lines. Assumes nothing.
-use mathlib.Core.Path.{_≡_}
 use native.Mathlib.Omega.{arith}
 use Rattle.text.specs.Text.{bytes}
 use Rattle.text.proofs.MemoryLaws.{wrote-none, wrote-more, wrote-start}
@@ -10,18 +9,6 @@ use Rattle.words.specs.Lines.{linesFrom, codeText}
 use borrow.Author.Needs.{needs}
 use Rattle.imports.proofs.put_code.Statement.{statement}
 use Rattle.imports.proofs.put_code.Tie as tie
-
-slice-aggregate-put : tie.Need-slice-aggregate-put
-slice-aggregate-put c = search needs
-
-put-requires : tie.Need-put-requires
-put-requires c κs = search needs
-
-put-lines-requires : tie.Need-put-lines-requires
-put-lines-requires c κs = search needs
-
-same-length : tie.Need-same-length
-same-length c = search needs
 
 returns : tie.Need-returns
 unfolding codeText
@@ -37,4 +24,4 @@ returns c =
 
 pub put-code-spec : {M : Type 1} → statement M
 put-code-spec =
-    tie.close (tie.spec slice-aggregate-put put-requires put-lines-requires same-length returns)
+    tie.close (tie.spec (λ c. search needs) (λ c κs. search needs) (λ c κs. search needs) (λ c. search needs) returns)

@@ -1,5 +1,5 @@
 -- `imports::put_import` meets its contract. Assumes nothing.
-use mathlib.Core.Path.{_≡_, sym, ap, _∙_}
+use mathlib.Core.Path.{sym, ap, _∙_}
 use mathlib.Core.List.{_++_}
 use native.Mathlib.Omega.{arith}
 use lib.ListN.{length, drop}
@@ -8,16 +8,10 @@ use borrow.Author.Needs.{needs}
 use Rattle.imports.proofs.put_import.Statement.{statement}
 use Rattle.imports.proofs.put_import.Tie as tie
 
-first-line-requires : tie.Need-first-line-requires
-first-line-requires c κs = search needs
-
 numbers-of-requires : tie.Need-numbers-of-requires
 numbers-of-requires c κs =
     let s = c .before .before .before .before in
     import-readable (s .args .words .now) (s .args .primitives .now) (s .pre .0)
-
-slice-aggregate-put-code : tie.Need-slice-aggregate-put-code
-slice-aggregate-put-code c = search needs
 
 put-code-requires : tie.Need-put-code-requires
 put-code-requires c κs =
@@ -29,9 +23,6 @@ put-code-requires c κs =
       short-by line _ (c .before .before .before .first-line .ensures) (accepted-short line (import-line bs line (s .pre .0))),
       omega (arith, s .pre .1),
     )
-
-same-length : tie.Need-same-length
-same-length c = search needs
 
 returns : tie.Need-returns
 returns c =
@@ -45,9 +36,9 @@ pub put-import-spec : {M : Type 1} → statement M
 put-import-spec =
     tie.close
     (tie.spec
-    first-line-requires
+    (λ c κs. search needs)
     numbers-of-requires
-    slice-aggregate-put-code
+    (λ c. search needs)
     put-code-requires
-    same-length
+    (λ c. search needs)
     returns)

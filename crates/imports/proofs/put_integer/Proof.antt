@@ -1,21 +1,16 @@
 -- `imports::put_integer` meets its contract: a minus where the number is below 0, and then its magnitude. Assumes nothing.
-use Prim.Native.Nat.{ℕ, _+_}
-use mathlib.Core.Path.{_≡_, sym, ap, _∙_}
-use mathlib.Core.List.{List, _++_}
+use Prim.Native.Nat.{_+_}
+use mathlib.Core.Path.{sym, ap, _∙_}
 use native.Mathlib.Omega.{arith}
-use lib.ListN.{length, length-append}
+use lib.ListN.{length}
 use Rattle.text.specs.Text.{bytes}
 use Rattle.text.specs.Decimal.{decimal}
 use Rattle.text.specs.Memory.{over}
 use Rattle.text.proofs.MemoryLaws.{wrote-none, wrote-more}
-use Rattle.words.specs.Lines.{integer}
 use Rattle.imports.proofs.IntegerLaws.{integer-negative, integer-natural, integer-signed}
 use borrow.Author.Needs.{needs}
 use Rattle.imports.proofs.put_integer.Statement.{statement}
 use Rattle.imports.proofs.put_integer.Tie as tie
-
-slice-aggregate-put : tie.Need-slice-aggregate-put
-slice-aggregate-put c = search needs
 
 put-requires : tie.Need-put-requires
 put-requires c κs =
@@ -23,18 +18,12 @@ put-requires c κs =
     let l = integer-signed (s .args .z) (s .fits .z) (c .before .before .if1 .taken) in
     omega (arith, s .pre)
 
-magnitude-requires : tie.Need-magnitude-requires
-magnitude-requires c κs = search needs
-
 put-decimal-requires : tie.Need-put-decimal-requires
 put-decimal-requires c κs =
     let p = c .before .before .before .before in
     let s = p .before .before .before .before .before in
     let e = ap length (integer-negative (s .args .z) (s .fits .z) (c .magnitude .ensures) (p .before .before .before .if1 .taken)) in
     omega (arith, s .pre, p .put .ensures .0, p .put .kept .0)
-
-same-length : tie.Need-same-length
-same-length c = search needs
 
 returns : tie.Need-returns
 returns c =
@@ -47,17 +36,11 @@ returns c =
     let w2 = wrote-more w1 (decimal (p2 .before .magnitude .result)) (p2 .put-decimal .ensures) in
     (w2 .ends ∙ ap (λ t. s .args .at + length t) (sym e), w2 .holds ∙ ap (over (s .args .out .now) (s .args .at)) (sym e))
 
-magnitude-requires-2 : tie.Need-magnitude-requires-2
-magnitude-requires-2 c κs = search needs
-
 put-decimal-requires-2 : tie.Need-put-decimal-requires-2
 put-decimal-requires-2 c κs =
     let s = c .before .before .before .before in
     let e = ap length (integer-natural (s .args .z) (s .fits .z) (c .magnitude2 .ensures) (c .before .before .if1 .left)) in
     omega (arith, s .pre)
-
-same-length-2 : tie.Need-same-length-2
-same-length-2 c = search needs
 
 returns-2 : tie.Need-returns-2
 returns-2 c =
@@ -70,13 +53,13 @@ pub put-integer-spec : {M : Type 1} → statement M
 put-integer-spec =
     tie.close
     (tie.spec
-    slice-aggregate-put
+    (λ c. search needs)
     put-requires
-    magnitude-requires
+    (λ c κs. search needs)
     put-decimal-requires
-    same-length
+    (λ c. search needs)
     returns
-    magnitude-requires-2
+    (λ c κs. search needs)
     put-decimal-requires-2
-    same-length-2
+    (λ c. search needs)
     returns-2)

@@ -1,6 +1,6 @@
 -- `imports::put_line` meets its contract: the parts of the line one after the other. Assumes nothing.
 use Prim.Native.Nat.{ℕ, _+_, _≤_}
-use mathlib.Core.Path.{_≡_, sym, ap, _∙_}
+use mathlib.Core.Path.{_≡_, sym, ap}
 use mathlib.Core.List.{List}
 use native.Mathlib.Omega.{arith}
 use lib.ListN.{length}
@@ -13,7 +13,7 @@ use Rattle.text.proofs.MemoryLaws.{wrote-none, wrote-more}
 use Rattle.instructions.specs.Columns.{kindAt}
 use Rattle.routine.specs.Layout.{list}
 use Rattle.imports.specs.Lines.{argumentIn, lineIn}
-use Rattle.imports.proofs.LineLaws.{room-as, put-as, line-length}
+use Rattle.imports.proofs.LineLaws.{put-as, line-length}
 use borrow.Author.Needs.{needs}
 use Rattle.imports.proofs.put_line.Statement.{statement}
 use Rattle.imports.proofs.put_line.Tie as tie
@@ -32,17 +32,11 @@ room s = omega (arith, s .pre .2, line-length (list (s .args .primitives .now)) 
 put-decimal-requires : tie.Need-put-decimal-requires
 put-decimal-requires c κs = omega (arith, room (c .before .before .before .before))
 
-slice-aggregate-put : tie.Need-slice-aggregate-put
-slice-aggregate-put c = search needs
-
 put-requires : tie.Need-put-requires
 put-requires c κs = omega (arith, room (c .before .before .before .before .before .before .before .before .before))
 
 put-name-requires : tie.Need-put-name-requires
 put-name-requires c κs = (c .before .before .before .before .before .before .before .before .before .before .before .before .before .pre .0, omega (arith, room (c .before .before .before .before .before .before .before .before .before .before .before .before .before)))
-
-slice-aggregate-put-2 : tie.Need-slice-aggregate-put-2
-slice-aggregate-put-2 c = search needs
 
 put-requires-2 : tie.Need-put-requires-2
 put-requires-2 c κs = omega (arith, room (c .before .before .before .before .before .before .before .before .before .before .before .before .before .before .before .before .before .before))
@@ -52,14 +46,8 @@ put-argument-requires c κs =
     let s = c .before .before .before .before .before .before .before .before .before .before .before .before .before .before .before .before .before .before .before .before .before .before in
     (s .pre .0, s .pre .1, omega (arith, room s, ap length (passed s)))
 
-slice-aggregate-put-3 : tie.Need-slice-aggregate-put-3
-slice-aggregate-put-3 c = search needs
-
 put-requires-3 : tie.Need-put-requires-3
 put-requires-3 c κs = omega (arith, room (c .before .before .before .before .before .before .before .before .before .before .before .before .before .before .before .before .before .before .before .before .before .before .before .before .before .before .before), ap length (passed (c .before .before .before .before .before .before .before .before .before .before .before .before .before .before .before .before .before .before .before .before .before .before .before .before .before .before .before)))
-
-same-length : tie.Need-same-length
-same-length c = search needs
 
 returns : tie.Need-returns
 unfolding lineIn
@@ -86,13 +74,13 @@ put-line-spec =
     tie.close
     (tie.spec
     put-decimal-requires
-    slice-aggregate-put
+    (λ c. search needs)
     put-requires
     put-name-requires
-    slice-aggregate-put-2
+    (λ c. search needs)
     put-requires-2
     put-argument-requires
-    slice-aggregate-put-3
+    (λ c. search needs)
     put-requires-3
-    same-length
+    (λ c. search needs)
     returns)

@@ -1,7 +1,6 @@
 -- `imports::put_lines` meets its contract. The loop's invariant: the lines of the instructions before `index` are written (`Writing`). The
 -- measure is the length of what is left. Assumes nothing.
-use Prim.Native.Nat.{ℕ, _+_, _*_, _≤_}
-use mathlib.Core.Path.{_≡_, refl, sym, ap, _∙_}
+use mathlib.Core.Path.{_≡_, sym, ap, _∙_}
 use native.Mathlib.Omega.{arith}
 use lib.ListN.{length}
 use mir.Syntax.{w32}
@@ -43,12 +42,6 @@ loop-holds : tie.Need-loop-holds Inv-loop μ-loop
 loop-holds c =
     let s = c .before .before .before .before in
     writing-starts (list (s .args .primitives .now)) (s .args .out .now) (s .args .at) _ (s .pre .0) (omega (arith, s .pre .3))
-
-read-head-requires : tie.Need-read-head-requires Inv-loop μ-loop
-read-head-requires c κs = search needs
-
-enum-known-k : tie.Need-enum-known-k Inv-loop μ-loop
-enum-known-k c = search needs
 
 enum-told : tie.Need-enum-told Inv-loop μ-loop
 enum-told c = search needs
@@ -115,8 +108,8 @@ put-lines-spec =
     Inv-loop
     μ-loop
     loop-holds
-    read-head-requires
-    enum-known-k
+    (λ c κs. search needs)
+    (λ c. search needs)
     enum-told
     same-length
     returns

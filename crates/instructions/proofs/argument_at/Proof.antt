@@ -8,12 +8,6 @@ use borrow.Author.Needs.{needs}
 use Rattle.instructions.proofs.argument_at.Statement.{statement}
 use Rattle.instructions.proofs.argument_at.Tie as tie
 
-argument-code-at-requires : tie.Need-argument-code-at-requires
-argument-code-at-requires c κs = search needs
-
-range-at-requires : tie.Need-range-at-requires
-range-at-requires c κs = search needs
-
 returns : tie.Need-returns
 returns c = decoded-is 0 _ (sym (c .match .keys1) ∙ c .before .argument-code-at .ensures)
 
@@ -32,4 +26,4 @@ returns-4 c =
 pub argument-at-spec : {M : Type 1} → statement M
 argument-at-spec =
     tie.close
-    (tie.spec argument-code-at-requires range-at-requires returns returns-2 returns-3 returns-4)
+    (tie.spec (λ c κs. search needs) (λ c κs. search needs) returns returns-2 returns-3 returns-4)

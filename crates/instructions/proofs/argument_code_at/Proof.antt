@@ -7,12 +7,9 @@ use borrow.Author.Needs.{needs}
 use Rattle.instructions.proofs.argument_code_at.Statement.{statement}
 use Rattle.instructions.proofs.argument_code_at.Tie as tie
 
-array-read-result : tie.Need-array-read-result
-array-read-result c = search needs
-
 returns : tie.Need-returns
 unfolding kinds argumentCode
 returns c = natural-at (λ r. argumentCode (r .argument)) (c .args .k) (c .pre)
 
 pub argument-code-at-spec : {M : Type 1} → statement M
-argument-code-at-spec = tie.close (tie.spec array-read-result returns)
+argument-code-at-spec = tie.close (tie.spec (λ c. search needs) returns)

@@ -9,12 +9,9 @@ use borrow.Author.Needs.{needs}
 use Rattle.instructions.proofs.calls_at.Statement.{statement}
 use Rattle.instructions.proofs.calls_at.Tie as tie
 
-array-read-result : tie.Need-array-read-result
-array-read-result c = search needs
-
 returns : tie.Need-returns
 unfolding kinds argumentCode
 returns c = column-at (λ r. argumentCode (r .argument)) (λ x. eqb x 3) (λ r. calls (r .argument)) 0 refl (c .args .k) (c .pre)
 
 pub calls-at-spec : {M : Type 1} → statement M
-calls-at-spec = tie.close (tie.spec array-read-result returns)
+calls-at-spec = tie.close (tie.spec (λ c. search needs) returns)

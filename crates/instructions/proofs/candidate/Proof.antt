@@ -9,15 +9,6 @@ use borrow.Author.Needs.{needs}
 use Rattle.instructions.proofs.candidate.Statement.{statement}
 use Rattle.instructions.proofs.candidate.Tie as tie
 
-name-key-requires : tie.Need-name-key-requires
-name-key-requires c κs = search needs
-
-array-read-wide : tie.Need-array-read-wide
-array-read-wide c = search needs
-
-wide-requires : tie.Need-wide-requires
-wide-requires c κs = search needs
-
 returns : tie.Need-returns
 unfolding kinds kindNames
 returns c =
@@ -25,4 +16,4 @@ returns c =
     (subst (λ n. n < 61) (sym (c .wide .ensures .0)) (key-low (key .result)), λ k h e. c .wide .ensures .0 ∙ ap (λ i. getD byKey i 0) (key .ensures) ∙ keyed (c .before .before .before .args .w .now) k h e)
 
 pub candidate-spec : {M : Type 1} → statement M
-candidate-spec = tie.close (tie.spec name-key-requires array-read-wide wide-requires returns)
+candidate-spec = tie.close (tie.spec (λ c κs. search needs) (λ c. search needs) (λ c κs. search needs) returns)

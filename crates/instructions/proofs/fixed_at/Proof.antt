@@ -14,9 +14,6 @@ use Rattle.instructions.proofs.ColumnLaws.{column-at}
 use Rattle.instructions.proofs.fixed_at.Statement.{statement}
 use Rattle.instructions.proofs.fixed_at.Tie as tie
 
-array-read-result : tie.Need-array-read-result
-array-read-result c = search needs
-
 cast-result : tie.Need-cast-result
 unfolding kinds
 cast-result c = record { sfits = ltb-true _ (2 ^ 31) (column-at (λ r. natAbs (r .fixed)) (λ x. ltb x (2 ^ 31)) (λ r. true) 0 refl (c .args .k) (c .pre)) }
@@ -26,4 +23,4 @@ unfolding kinds
 returns c = column-at (λ r. natAbs (r .fixed)) (toZ w32) (λ r. r .fixed) 0 refl (c .args .k) (c .pre)
 
 pub fixed-at-spec : {M : Type 1} → statement M
-fixed-at-spec = tie.close (tie.spec array-read-result cast-result returns)
+fixed-at-spec = tie.close (tie.spec (λ c. search needs) cast-result returns)

@@ -9,15 +9,9 @@ use borrow.Author.Needs.{needs}
 use Rattle.instructions.proofs.high_at.Statement.{statement}
 use Rattle.instructions.proofs.high_at.Tie as tie
 
-mul-result : tie.Need-mul-result
-mul-result c = search needs
-
-array-copy-out-result : tie.Need-array-copy-out-result
-array-copy-out-result c = search needs
-
 returns : tie.Need-returns
 unfolding kinds rangeOf
 returns c = integer-at w64 (λ r. rangeOf (r .argument) .high) refl (c .before .args .k) (c .before .pre)
 
 pub high-at-spec : {M : Type 1} → statement M
-high-at-spec = tie.close (tie.spec mul-result array-copy-out-result returns)
+high-at-spec = tie.close (tie.spec (λ c. search needs) (λ c. search needs) returns)

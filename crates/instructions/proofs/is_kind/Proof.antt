@@ -5,14 +5,8 @@ use borrow.Author.Needs.{needs}
 use Rattle.instructions.proofs.is_kind.Statement.{statement}
 use Rattle.instructions.proofs.is_kind.Tie as tie
 
-kind-named-requires : tie.Need-kind-named-requires
-kind-named-requires c κs = search needs
-
 enum-told : tie.Need-enum-told
 enum-told c = search needs
-
-enum-told-2 : tie.Need-enum-told-2
-enum-told-2 c = search needs
 
 returns : tie.Need-returns
 returns c = sym (among-place 0 _ _ ∙ ap isFound (sym (c .before .before .kind-named .ensures) ∙ c .enum-told2 .given .1))
@@ -21,4 +15,4 @@ returns-2 : tie.Need-returns-2
 returns-2 c = sym (among-place 0 _ _ ∙ ap isFound (sym (c .before .before .kind-named .ensures) ∙ c .enum-told .given .1))
 
 pub is-kind-spec : {M : Type 1} → statement M
-is-kind-spec = tie.close (tie.spec kind-named-requires enum-told enum-told-2 returns returns-2)
+is-kind-spec = tie.close (tie.spec (λ c κs. search needs) enum-told (λ c. search needs) returns returns-2)

@@ -1,25 +1,15 @@
 -- `instructions::is_name_of` meets its contract: that each name stands in NAMES from its start to the space before the next is computed.
 -- Assumes nothing.
-use Prim.Native.Nat.{_+_, _-_, _<_, _≤_}
+use Prim.Native.Nat.{_-_, _≤_}
 use mathlib.Core.Path.{ap, ap₂, _∙_}
 use native.Mathlib.Omega.{arith}
 use lib.ListN.{take, drop}
 use Rattle.text.specs.Text.{equals}
 use Rattle.instructions.specs.Kinds.{kinds, kindNames}
-use Rattle.instructions.specs.Columns.{kindAt, nameStart}
 use Rattle.instructions.proofs.NameLaws.{start-less, start-low, joined, slice-is}
 use borrow.Author.Needs.{needs}
 use Rattle.instructions.proofs.is_name_of.Statement.{statement}
 use Rattle.instructions.proofs.is_name_of.Tie as tie
-
-name-start-requires : tie.Need-name-start-requires
-name-start-requires c κs = search needs
-
-add-name-start : tie.Need-add-name-start
-add-name-start c = search needs
-
-name-start-requires-2 : tie.Need-name-start-requires-2
-name-start-requires-2 c κs = search needs
 
 starts-apart : (c : tie.After-name-start2) → c .before .name-start .result ≤ c .name-start2 .result - 1
 starts-apart c = omega (arith, c .before .name-start .ensures, c .name-start2 .ensures, start-less (c .before .before .before .args .k) (c .before .before .before .pre))
@@ -39,9 +29,6 @@ part-same-start c = starts-apart (c .before)
 part-same-end : tie.Need-part-same-end
 part-same-end c = next-within (c .before)
 
-same-requires : tie.Need-same-requires
-same-requires c κs = search needs
-
 returns : tie.Need-returns
 unfolding kinds kindNames
 returns c =
@@ -55,12 +42,12 @@ pub is-name-of-spec : {M : Type 1} → statement M
 is-name-of-spec =
     tie.close
     (tie.spec
-    name-start-requires
-    add-name-start
-    name-start-requires-2
+    (λ c κs. search needs)
+    (λ c. search needs)
+    (λ c κs. search needs)
     sub-same
     sub-same-2
     part-same-start
     part-same-end
-    same-requires
+    (λ c κs. search needs)
     returns)

@@ -1,7 +1,7 @@
 -- `instructions::kind_coded` meets its contract. The loop's invariant: the opcode is sought among those from k on. The measure is how
 -- many are left. Assumes nothing.
 use Prim.Native.Nat.{_<_, _≤_, _-_}
-use mathlib.Core.Path.{_≡_, refl, sym, ap, _∙_}
+use mathlib.Core.Path.{_≡_, refl, sym, _∙_}
 use native.Mathlib.Omega.{arith}
 use native.Mathlib.Numerals.{add-one}
 use lib.ListN.{getD, drop}
@@ -22,9 +22,6 @@ loop-holds : tie.Need-loop-holds Inv-loop μ-loop
 unfolding kindCoded
 loop-holds c = (omega arith, refl)
 
-opcode-at-requires : tie.Need-opcode-at-requires Inv-loop μ-loop
-opcode-at-requires c κs = search needs
-
 returns : tie.Need-returns Inv-loop μ-loop
 unfolding kinds opcodes
 returns c =
@@ -33,12 +30,6 @@ returns c =
     let k = l .loop .k in
     let h : k < 61 = omega arith in
     sym (l .loop .inv .1 ∙ place-here k o opcodes k h (c .if1 .taken ∙ c .before .opcode-at .ensures ∙ sym (opcode-of k h)))
-
-add-k : tie.Need-add-k Inv-loop μ-loop
-add-k c = search needs
-
-loop-less : tie.Need-loop-less Inv-loop μ-loop
-loop-less c = search needs
 
 loop-again : tie.Need-loop-again Inv-loop μ-loop
 unfolding kinds opcodes
@@ -63,9 +54,9 @@ kind-coded-spec =
     Inv-loop
     μ-loop
     loop-holds
-    opcode-at-requires
+    (λ c κs. search needs)
     returns
-    add-k
-    loop-less
+    (λ c. search needs)
+    (λ c. search needs)
     loop-again
     returns-2)

@@ -12,12 +12,6 @@ returns c = let w = c .before .before .args .w .now in sym (not-named w (λ a. o
 returns-2 : tie.Need-returns-2
 returns-2 c = let w = c .before .before .before .args .w .now in sym (not-named w (λ a. omega (arith, c .if2 .taken, name-length w a)))
 
-candidate-requires : tie.Need-candidate-requires
-candidate-requires c κs = search needs
-
-is-name-of-requires : tie.Need-is-name-of-requires
-is-name-of-requires c κs = search needs
-
 returns-3 : tie.Need-returns-3
 returns-3 c =
     let k = c .before .before .candidate in
@@ -31,4 +25,4 @@ returns-4 c =
 pub kind-named-spec : {M : Type 1} → statement M
 kind-named-spec =
     tie.close
-    (tie.spec returns returns-2 candidate-requires is-name-of-requires returns-3 returns-4)
+    (tie.spec returns returns-2 (λ c κs. search needs) (λ c κs. search needs) returns-3 returns-4)

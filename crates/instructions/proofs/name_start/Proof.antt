@@ -6,12 +6,6 @@ use borrow.Author.Needs.{needs}
 use Rattle.instructions.proofs.name_start.Statement.{statement}
 use Rattle.instructions.proofs.name_start.Tie as tie
 
-mul-result : tie.Need-mul-result
-mul-result c = search needs
-
-array-read-result : tie.Need-array-read-result
-array-read-result c = search needs
-
 cast-result : tie.Need-cast-result
 unfolding kinds kindNames
 cast-result c = start-fits (c .args .k) (c .pre)
@@ -21,4 +15,4 @@ unfolding kinds kindNames
 returns c = refl
 
 pub name-start-spec : {M : Type 1} → statement M
-name-start-spec = tie.close (tie.spec mul-result array-read-result cast-result returns)
+name-start-spec = tie.close (tie.spec (λ c. search needs) (λ c. search needs) cast-result returns)

@@ -11,9 +11,6 @@ use Rattle.instructions.proofs.ColumnLaws.{column-at, natural-at}
 use Rattle.instructions.proofs.opcode_at.Statement.{statement}
 use Rattle.instructions.proofs.opcode_at.Tie as tie
 
-array-read-result : tie.Need-array-read-result
-array-read-result c = search needs
-
 cast-result : tie.Need-cast-result
 unfolding kinds
 cast-result c = record { fits = ltb-true _ (2 ^ 32) (column-at (λ r. r .opcode) (λ x. ltb x (2 ^ 32)) (λ r. true) 0 refl (c .args .k) (c .pre)) }
@@ -23,4 +20,4 @@ unfolding kinds
 returns c = natural-at (λ r. r .opcode) (c .args .k) (c .pre)
 
 pub opcode-at-spec : {M : Type 1} → statement M
-opcode-at-spec = tie.close (tie.spec array-read-result cast-result returns)
+opcode-at-spec = tie.close (tie.spec (λ c. search needs) cast-result returns)

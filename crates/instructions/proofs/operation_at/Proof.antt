@@ -7,12 +7,9 @@ use borrow.Author.Needs.{needs}
 use Rattle.instructions.proofs.operation_at.Statement.{statement}
 use Rattle.instructions.proofs.operation_at.Tie as tie
 
-array-read-result : tie.Need-array-read-result
-array-read-result c = search needs
-
 returns : tie.Need-returns
 unfolding kinds operationCode unaryCode binaryCode comparisonCode
 returns c = natural-at (λ r. operationCode (r .operation)) (c .args .k) (c .pre)
 
 pub operation-at-spec : {M : Type 1} → statement M
-operation-at-spec = tie.close (tie.spec array-read-result returns)
+operation-at-spec = tie.close (tie.spec (λ c. search needs) returns)

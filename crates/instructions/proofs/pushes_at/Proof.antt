@@ -9,12 +9,9 @@ use borrow.Author.Needs.{needs}
 use Rattle.instructions.proofs.pushes_at.Statement.{statement}
 use Rattle.instructions.proofs.pushes_at.Tie as tie
 
-array-read-result : tie.Need-array-read-result
-array-read-result c = search needs
-
 returns : tie.Need-returns
 unfolding kinds
 returns c = column-at (λ r. cond (r .pushes) 1 0) (λ x. eqb x 1) (λ r. r .pushes) 0 refl (c .args .k) (c .pre)
 
 pub pushes-at-spec : {M : Type 1} → statement M
-pushes-at-spec = tie.close (tie.spec array-read-result returns)
+pushes-at-spec = tie.close (tie.spec (λ c. search needs) returns)

@@ -1,9 +1,9 @@
 -- `instructions::put_name` meets its contract: word k of NAMES is the name of kind k, by computation. Assumes nothing.
 use Prim.Native.Nat.{_+_}
-use mathlib.Core.Path.{_≡_, refl, sym, ap, _∙_}
+use mathlib.Core.Path.{_≡_, refl, ap, _∙_}
 use mathlib.Core.List.{[]}
 use native.Mathlib.Omega.{arith}
-use lib.ListN.{length, getD}
+use lib.ListN.{length}
 use Rattle.text.specs.Text.{split, words}
 use Rattle.text.specs.Memory.{over}
 use Rattle.instructions.specs.Kinds.{kinds, kindNames}
@@ -20,17 +20,8 @@ named c =
     let s = c .before .before .before .before in
     c .word-at .ensures ∙ column-at (λ r. r .name) (λ x. x) (λ r. r .name) [] refl (s .args .k) (s .pre .0)
 
-slice-aggregate-word-at : tie.Need-slice-aggregate-word-at
-slice-aggregate-word-at c = search needs
-
-word-at-requires : tie.Need-word-at-requires
-word-at-requires c κs = search needs
-
 put-requires : tie.Need-put-requires
 put-requires c κs = omega (arith, c .before .before .before .before .pre .1, ap length (named c))
-
-same-length : tie.Need-same-length
-same-length c = search needs
 
 returns : tie.Need-returns
 returns c =
@@ -41,4 +32,4 @@ returns c =
 
 pub put-name-spec : {M : Type 1} → statement M
 put-name-spec =
-    tie.close (tie.spec slice-aggregate-word-at word-at-requires put-requires same-length returns)
+    tie.close (tie.spec (λ c. search needs) (λ c κs. search needs) put-requires (λ c. search needs) returns)

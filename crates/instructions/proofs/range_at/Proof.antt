@@ -6,12 +6,6 @@ use borrow.Author.Needs.{needs}
 use Rattle.instructions.proofs.range_at.Statement.{statement}
 use Rattle.instructions.proofs.range_at.Tie as tie
 
-low-at-requires : tie.Need-low-at-requires
-low-at-requires c κs = search needs
-
-high-at-requires : tie.Need-high-at-requires
-high-at-requires c κs = search needs
-
 returns : tie.Need-returns
 returns c =
     let low = toZ-ofZ w64 _ record { sfits = c .before .low-at .ok } ∙ c .before .low-at .ensures in
@@ -19,4 +13,4 @@ returns c =
     λ i. record { low = low i; high = high i }
 
 pub range-at-spec : {M : Type 1} → statement M
-range-at-spec = tie.close (tie.spec low-at-requires high-at-requires returns)
+range-at-spec = tie.close (tie.spec (λ c κs. search needs) (λ c κs. search needs) returns)

@@ -12,35 +12,17 @@ use Rattle.interrupts.proofs.interrupted.Tie as tie
 all-sizes : (s : tie.Start) → length (s .args .x .sizes) ≡ 8
 all-sizes s = search (s .good, needs, length-images)
 
-steps-of-requires : tie.Need-steps-of-requires
-steps-of-requires c κs = search needs
-
-array-share-prefix-codes : tie.Need-array-share-prefix-codes
-array-share-prefix-codes c = search needs
-
 slice-aggregate-interrupt : tie.Need-slice-aggregate-interrupt
 slice-aggregate-interrupt c = let s = c .before .before .before .before .before .before .before .before .before .before .before .before .before in let n = s .pre .full .codes in let h = s .pre .few in sym (taken _ (s .args .x .columns .codes) (omega arith))
-
-array-share-prefix-operands : tie.Need-array-share-prefix-operands
-array-share-prefix-operands c = search needs
 
 slice-aggregate-interrupt-2 : tie.Need-slice-aggregate-interrupt-2
 slice-aggregate-interrupt-2 c = let s = c .before .before .before .before .before .before .before .before .before .before .before .before .before .before in let n = s .pre .full .operands in let h = s .pre .few in sym (taken _ (s .args .x .columns .operands) (omega arith))
 
-array-share-prefix-cycles : tie.Need-array-share-prefix-cycles
-array-share-prefix-cycles c = search needs
-
 slice-aggregate-interrupt-3 : tie.Need-slice-aggregate-interrupt-3
 slice-aggregate-interrupt-3 c = let s = c .before .before .before .before .before .before .before .before .before .before .before .before .before .before .before in let n = s .pre .full .cycles in let h = s .pre .few in sym (taken _ (s .args .x .columns .cycles) (omega arith))
 
-array-share-prefix-words : tie.Need-array-share-prefix-words
-array-share-prefix-words c = search needs
-
 slice-aggregate-interrupt-4 : tie.Need-slice-aggregate-interrupt-4
 slice-aggregate-interrupt-4 c = let s = c .before .before .before .before .before .before .before .before .before .before .before .before .before .before .before .before in let n = s .pre .full .words in let h = s .pre .few in sym (taken _ (s .args .x .columns .words) (omega arith))
-
-array-share-prefix-extras : tie.Need-array-share-prefix-extras
-array-share-prefix-extras c = search needs
 
 slice-aggregate-interrupt-5 : tie.Need-slice-aggregate-interrupt-5
 slice-aggregate-interrupt-5 c = let s = c .before .before .before .before .before .before .before .before .before .before .before .before .before .before .before .before .before in let n = s .pre .full .extras in let h = s .pre .few in sym (taken _ (s .args .x .columns .extras) (omega arith))
@@ -67,16 +49,16 @@ pub interrupted-spec : {M : Type 1} → statement M
 interrupted-spec =
     tie.close
     (tie.spec
-    steps-of-requires
-    array-share-prefix-codes
+    (λ c κs. search needs)
+    (λ c. search needs)
     slice-aggregate-interrupt
-    array-share-prefix-operands
+    (λ c. search needs)
     slice-aggregate-interrupt-2
-    array-share-prefix-cycles
+    (λ c. search needs)
     slice-aggregate-interrupt-3
-    array-share-prefix-words
+    (λ c. search needs)
     slice-aggregate-interrupt-4
-    array-share-prefix-extras
+    (λ c. search needs)
     slice-aggregate-interrupt-5
     array-share-prefix-sizes
     slice-aggregate-interrupt-6

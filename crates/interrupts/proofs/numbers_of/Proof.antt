@@ -1,5 +1,5 @@
 -- `interrupts::numbers_of` meets its contract. Assumes nothing.
-use mathlib.Core.Path.{_≡_, refl}
+use mathlib.Core.Path.{_≡_}
 use mathlib.Core.Bool.{cond}
 use mathlib.Core.Logic.{⊎-elim}
 use borrow.Author.Needs.{needs}
@@ -17,19 +17,10 @@ enum-told c = search needs
 returns : tie.Need-returns
 returns c = numbered-accepted _ _ _ (stopped-is (c .before .before)) (c .enum-told .given .1)
 
-enum-known-verdict : tie.Need-enum-known-verdict
-enum-known-verdict c = search needs
-
-number-requires : tie.Need-number-requires
-number-requires c κs = search needs
-
-place-requires : tie.Need-place-requires
-place-requires c κs = search needs
-
 returns-2 : tie.Need-returns-2
 returns-2 c = numbered-refused _ _ _ (stopped-is (c .before .before .before .before .before)) _ (c .before .before .before .verdict .given .1) _ _ (c .before .number .ensures) (c .place .ensures)
 
 pub numbers-of-spec : {M : Type 1} → statement M
 numbers-of-spec =
     tie.close
-    (tie.spec enum-told returns enum-known-verdict number-requires place-requires returns-2)
+    (tie.spec enum-told returns (λ c. search needs) (λ c κs. search needs) (λ c κs. search needs) returns-2)

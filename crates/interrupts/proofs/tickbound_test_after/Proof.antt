@@ -14,16 +14,10 @@ use Rattle.interrupts.proofs.InterruptLaws.{answer-short, answer-refuse
 use Rattle.interrupts.proofs.tickbound_test_after.Statement.{statement}
 use Rattle.interrupts.proofs.tickbound_test_after.Tie as tie
 
-number-requires : tie.Need-number-requires
-number-requires c κs = search needs
-
 returns : tie.Need-returns
 returns c =
     let a = c .before .before .before .before .args in
     tells-refusal _ (now (a .out)) _ (answer-short (now (a .text)) (a .n) (length (now (a .out))) (c .before .if1 .taken)) _ (c .number .ensures)
-
-check-requires : tie.Need-check-requires
-check-requires c κs = search needs
 
 enum-told : tie.Need-enum-told
 enum-told c = search needs
@@ -33,18 +27,6 @@ routine-of-requires c κs = accepted-reading _ Run (sym (c .before .before .chec
 
 interrupted-requires : tie.Need-interrupted-requires
 interrupted-requires c κs = c .routine-of .ensures .1
-
-put-numbers-requires : tie.Need-put-numbers-requires
-put-numbers-requires c κs = search needs
-
-enum-known-verdict : tie.Need-enum-known-verdict
-enum-known-verdict c = search needs
-
-number-requires-2 : tie.Need-number-requires-2
-number-requires-2 c κs = search needs
-
-same-length : tie.Need-same-length
-same-length c = search needs
 
 returns-2 : tie.Need-returns-2
 unfolding readBy
@@ -68,15 +50,15 @@ pub tickbound-test-after-spec : {M : Type 1} → statement M
 tickbound-test-after-spec =
     tie.close
     (tie.spec
-    number-requires
+    (λ c κs. search needs)
     returns
-    check-requires
+    (λ c κs. search needs)
     enum-told
     routine-of-requires
     interrupted-requires
-    put-numbers-requires
-    enum-known-verdict
-    number-requires-2
-    same-length
+    (λ c κs. search needs)
+    (λ c. search needs)
+    (λ c κs. search needs)
+    (λ c. search needs)
     returns-2
     returns-3)

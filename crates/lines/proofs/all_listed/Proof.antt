@@ -7,19 +7,10 @@ use borrow.Author.Needs.{needs}
 use Rattle.lines.proofs.all_listed.Statement.{statement}
 use Rattle.lines.proofs.all_listed.Tie as tie
 
-slice-aggregate-same : tie.Need-slice-aggregate-same
-slice-aggregate-same c = search needs
-
-same-requires : tie.Need-same-requires
-same-requires c κs = search needs
-
 returns : tie.Need-returns
 unfolding all
 returns c =
     sym (ap (all (wordTest (c .before .before .before .before .args .t))) (list-none (c .before .before .before .before .args .line .now) (sym (c .before .same .ensures) ∙ c .if1 .taken)))
-
-all-words-requires : tie.Need-all-words-requires
-all-words-requires c κs = search needs
 
 returns-2 : tie.Need-returns-2
 returns-2 c =
@@ -27,4 +18,4 @@ returns-2 c =
 
 pub all-listed-spec : {M : Type 1} → statement M
 all-listed-spec =
-    tie.close (tie.spec slice-aggregate-same same-requires returns all-words-requires returns-2)
+    tie.close (tie.spec (λ c. search needs) (λ c κs. search needs) returns (λ c κs. search needs) returns-2)

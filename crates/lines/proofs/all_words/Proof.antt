@@ -21,40 +21,16 @@ Inv-loop t line rest₀ e₀ rest e = (e ≡ firstLength 32 rest) × (length res
 abbrev μ-loop : tie.MeasureT-loop
 μ-loop t line rest₀ e₀ rest e = length rest
 
-piece-length-requires : tie.Need-piece-length-requires Inv-loop μ-loop
-piece-length-requires c κs = search needs
-
 loop-holds : tie.Need-loop-holds Inv-loop μ-loop
 loop-holds c = (c .piece-length .ensures, omega arith, refl)
 
 slice-aggregate-word-passes : tie.Need-slice-aggregate-word-passes Inv-loop μ-loop
 slice-aggregate-word-passes c = sym (length-take-le _ _ (le-of-lt (c .before .loop-test .taken)))
 
-word-passes-requires : tie.Need-word-passes-requires Inv-loop μ-loop
-word-passes-requires c κs = search needs
-
 returns : tie.Need-returns Inv-loop μ-loop
 returns c =
     let l = c .before .before .before .before in
     sym (l .loop .inv .2 ∙ all-stop (wordTest (c .before .before .before .before .before .before .before .args .t)) (l .loop .rest .now) (l .loop .e) (l .loop .inv .0) (c .before .before .before .loop-test .taken) (sym (c .before .word-passes .ensures) ∙ not-true _ (c .if1 .taken)))
-
-add-rest : tie.Need-add-rest Inv-loop μ-loop
-add-rest c = search needs
-
-sub-rest : tie.Need-sub-rest Inv-loop μ-loop
-sub-rest c = search needs
-
-part-rest-start : tie.Need-part-rest-start Inv-loop μ-loop
-part-rest-start c = search needs
-
-part-rest-end : tie.Need-part-rest-end Inv-loop μ-loop
-part-rest-end c = search needs
-
-piece-length-requires-2 : tie.Need-piece-length-requires-2 Inv-loop μ-loop
-piece-length-requires-2 c κs = search needs
-
-loop-less : tie.Need-loop-less Inv-loop μ-loop
-loop-less c = search needs
 
 loop-again : tie.Need-loop-again Inv-loop μ-loop
 loop-again c =
@@ -63,9 +39,6 @@ loop-again c =
       omega arith,
       l .loop .inv .2 ∙ all-next (wordTest (c .before .before .before .before .before .before .before .before .before .args .t)) (l .loop .rest .now) (l .loop .e) (l .loop .inv .0) (c .before .before .before .before .before .loop-test .taken) (sym (c .before .before .before .word-passes .ensures) ∙ not-false _ (c .before .before .if1 .left)),
     )
-
-word-passes-requires-2 : tie.Need-word-passes-requires-2 Inv-loop μ-loop
-word-passes-requires-2 c κs = search needs
 
 returns-2 : tie.Need-returns-2 Inv-loop μ-loop
 returns-2 c =
@@ -79,17 +52,17 @@ all-words-spec =
     (tie.spec
     Inv-loop
     μ-loop
-    piece-length-requires
+    (λ c κs. search needs)
     loop-holds
     slice-aggregate-word-passes
-    word-passes-requires
+    (λ c κs. search needs)
     returns
-    add-rest
-    sub-rest
-    part-rest-start
-    part-rest-end
-    piece-length-requires-2
-    loop-less
+    (λ c. search needs)
+    (λ c. search needs)
+    (λ c. search needs)
+    (λ c. search needs)
+    (λ c κs. search needs)
+    (λ c. search needs)
     loop-again
-    word-passes-requires-2
+    (λ c κs. search needs)
     returns-2)

@@ -8,9 +8,6 @@ use borrow.Author.Needs.{needs}
 use Rattle.lines.proofs.answer_in_range.Statement.{statement}
 use Rattle.lines.proofs.answer_in_range.Tie as tie
 
-number-range-requires : tie.Need-number-range-requires
-number-range-requires c κs = search needs
-
 is-within-requires : tie.Need-is-within-requires
 is-within-requires c κs = subst Near (sym (c .number-range .ensures)) near-numbers
 
@@ -19,4 +16,4 @@ returns c =
     c .is-within .ensures ∙ ap (λ r. within r (value (c .before .before .before .args .line .now))) (c .before .number-range .ensures)
 
 pub answer-in-range-spec : {M : Type 1} → statement M
-answer-in-range-spec = tie.close (tie.spec number-range-requires is-within-requires returns)
+answer-in-range-spec = tie.close (tie.spec (λ c κs. search needs) is-within-requires returns)

@@ -11,11 +11,8 @@ returns : tie.Need-returns
 returns c =
     and-false (isNumeral (numeral (c .before .before .args .line .now))) (le-ltb (c .before .before .args .k) 64 (c .if1 .taken))
 
-is-numeral-requires : tie.Need-is-numeral-requires
-is-numeral-requires c κs = search needs
-
 returns-2 : tie.Need-returns-2
 returns-2 c = and-true (lt-ltb (c .before .before .before .args .k) 64 (c .before .if1 .left)) (c .is-numeral .ensures)
 
 pub answer-laid-out-spec : {M : Type 1} → statement M
-answer-laid-out-spec = tie.close (tie.spec returns is-numeral-requires returns-2)
+answer-laid-out-spec = tie.close (tie.spec returns (λ c κs. search needs) returns-2)

@@ -15,35 +15,20 @@ use Rattle.lines.proofs.argument_in_range.Tie as tie
 found : (c : tie.After-known-told) → place (op (c .before .before .before .before .before .args .line .now)) kindNames ≡ At (c .before .k .given .0 .0)
 found c = sym (c .before .before .before .kind-of .ensures) ∙ c .before .k .given .1
 
-kind-of-requires : tie.Need-kind-of-requires
-kind-of-requires c κs = search needs
-
-enum-known-k : tie.Need-enum-known-k
-enum-known-k c = search needs
-
 enum-told : tie.Need-enum-told
 enum-told c = search needs
 
 returns : tie.Need-returns
 returns c = on-unknown _ _ (sym (c .before .before .kind-of .ensures) ∙ c .enum-told .given .1)
 
-word-at-requires : tie.Need-word-at-requires
-word-at-requires c κs = search needs
-
 argument-at-requires : tie.Need-argument-at-requires
 argument-at-requires c κs = kind-below _ (found (c .before))
-
-enum-told-2 : tie.Need-enum-told-2
-enum-told-2 c = search needs
 
 range-at-requires : tie.Need-range-at-requires
 range-at-requires c κs = kind-below _ (found (c .before .before .before .before))
 
 is-within-requires : tie.Need-is-within-requires
 is-within-requires c κs = near-at _ (kind-below _ (found (c .before .before .before .before .before))) (c .range-at .ensures)
-
-enum-known-r : tie.Need-enum-known-r
-enum-known-r c = search needs
 
 is-within-requires-2 : tie.Need-is-within-requires-2
 is-within-requires-2 c κs = let m = c .before .before .before in near-within _ (kind-below _ (found (m .before .before))) (m .argument-at .ensures) (c .before .r .given .1)
@@ -76,16 +61,16 @@ pub argument-in-range-spec : {M : Type 1} → statement M
 argument-in-range-spec =
     tie.close
     (tie.spec
-    kind-of-requires
-    enum-known-k
+    (λ c κs. search needs)
+    (λ c. search needs)
     enum-told
     returns
-    word-at-requires
+    (λ c κs. search needs)
     argument-at-requires
-    enum-told-2
+    (λ c. search needs)
     range-at-requires
     is-within-requires
-    enum-known-r
+    (λ c. search needs)
     is-within-requires-2
     returns-2
     returns-3

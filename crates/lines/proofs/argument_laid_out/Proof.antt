@@ -16,53 +16,14 @@ use Rattle.lines.proofs.argument_laid_out.Tie as tie
 found : (c : tie.After-known-told) → place (op (c .before .before .before .before .before .args .line .now)) kindNames ≡ At (c .before .k .given .0 .0)
 found c = sym (c .before .before .before .kind-of .ensures) ∙ c .before .k .given .1
 
-kind-of-requires : tie.Need-kind-of-requires
-kind-of-requires c κs = search needs
-
-enum-known-k : tie.Need-enum-known-k
-enum-known-k c = search needs
-
 enum-told : tie.Need-enum-told
 enum-told c = search needs
 
 returns : tie.Need-returns
 returns c = on-unknown _ _ (sym (c .before .before .kind-of .ensures) ∙ c .enum-told .given .1)
 
-word-at-requires : tie.Need-word-at-requires
-word-at-requires c κs = search needs
-
 argument-at-requires : tie.Need-argument-at-requires
 argument-at-requires c κs = kind-below _ (found (c .before))
-
-enum-told-2 : tie.Need-enum-told-2
-enum-told-2 c = search needs
-
-slice-aggregate-same : tie.Need-slice-aggregate-same
-slice-aggregate-same c = search needs
-
-same-requires : tie.Need-same-requires
-same-requires c κs = search needs
-
-enum-told-3 : tie.Need-enum-told-3
-enum-told-3 c = search needs
-
-is-numeral-requires : tie.Need-is-numeral-requires
-is-numeral-requires c κs = search needs
-
-enum-told-4 : tie.Need-enum-told-4
-enum-told-4 c = search needs
-
-slice-aggregate-same-2 : tie.Need-slice-aggregate-same-2
-slice-aggregate-same-2 c = search needs
-
-same-requires-2 : tie.Need-same-requires-2
-same-requires-2 c κs = search needs
-
-enum-told-5 : tie.Need-enum-told-5
-enum-told-5 c = search needs
-
-is-numeral-requires-2 : tie.Need-is-numeral-requires-2
-is-numeral-requires-2 c κs = search needs
 
 returns-2 : tie.Need-returns-2
 unfolding argumentLaidOut
@@ -100,22 +61,22 @@ pub argument-laid-out-spec : {M : Type 1} → statement M
 argument-laid-out-spec =
     tie.close
     (tie.spec
-    kind-of-requires
-    enum-known-k
+    (λ c κs. search needs)
+    (λ c. search needs)
     enum-told
     returns
-    word-at-requires
+    (λ c κs. search needs)
     argument-at-requires
-    enum-told-2
-    slice-aggregate-same
-    same-requires
-    enum-told-3
-    is-numeral-requires
-    enum-told-4
-    slice-aggregate-same-2
-    same-requires-2
-    enum-told-5
-    is-numeral-requires-2
+    (λ c. search needs)
+    (λ c. search needs)
+    (λ c κs. search needs)
+    (λ c. search needs)
+    (λ c κs. search needs)
+    (λ c. search needs)
+    (λ c. search needs)
+    (λ c κs. search needs)
+    (λ c. search needs)
+    (λ c κs. search needs)
     returns-2
     returns-3
     returns-4

@@ -17,12 +17,6 @@ use Rattle.lines.proofs.argument_named.Tie as tie
 found : (c : tie.After-known-told) → place (op (c .before .before .before .before .before .before .args .line .now)) kindNames ≡ At (c .before .k .given .0 .0)
 found c = sym (c .before .before .before .kind-of .ensures) ∙ c .before .k .given .1
 
-kind-of-requires : tie.Need-kind-of-requires
-kind-of-requires c κs = search needs
-
-enum-known-k : tie.Need-enum-known-k
-enum-known-k c = search needs
-
 enum-told : tie.Need-enum-told
 enum-told c = search needs
 
@@ -33,14 +27,8 @@ returns c =
     let test = argumentNamed (list (start .args .primitives .now)) (arg line) in
     and-false (onArgument test line) (op-unknown test line (sym (c .before .before .kind-of .ensures) ∙ c .enum-told .given .1))
 
-word-at-requires : tie.Need-word-at-requires
-word-at-requires c κs = search needs
-
 calls-at-requires : tie.Need-calls-at-requires
 calls-at-requires c κs = kind-below _ (found (c .before))
-
-is-listed-requires : tie.Need-is-listed-requires
-is-listed-requires c κs = search needs
 
 returns-2 : tie.Need-returns-2
 unfolding argumentNamed
@@ -69,12 +57,12 @@ pub argument-named-spec : {M : Type 1} → statement M
 argument-named-spec =
     tie.close
     (tie.spec
-    kind-of-requires
-    enum-known-k
+    (λ c κs. search needs)
+    (λ c. search needs)
     enum-told
     returns
-    word-at-requires
+    (λ c κs. search needs)
     calls-at-requires
-    is-listed-requires
+    (λ c κs. search needs)
     returns-2
     returns-3)

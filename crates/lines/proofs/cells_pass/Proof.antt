@@ -10,12 +10,6 @@ use borrow.Author.Needs.{needs}
 use Rattle.lines.proofs.cells_pass.Statement.{statement}
 use Rattle.lines.proofs.cells_pass.Tie as tie
 
-holds-cells-requires : tie.Need-holds-cells-requires
-holds-cells-requires c κs = search needs
-
-all-listed-requires : tie.Need-all-listed-requires
-all-listed-requires c κs = search needs
-
 returns : tie.Need-returns
 unfolding onCells
 returns c =
@@ -29,4 +23,4 @@ returns-2 c =
     arm (λ b. cond b (all (wordTest (a .t)) (list (a .line .now))) true) (sym (c .before .holds-cells .ensures) ∙ c .if1 .left) refl
 
 pub cells-pass-spec : {M : Type 1} → statement M
-cells-pass-spec = tie.close (tie.spec holds-cells-requires all-listed-requires returns returns-2)
+cells-pass-spec = tie.close (tie.spec (λ c κs. search needs) (λ c κs. search needs) returns returns-2)

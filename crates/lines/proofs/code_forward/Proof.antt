@@ -16,12 +16,6 @@ use Rattle.lines.proofs.code_forward.Tie as tie
 found : (c : tie.After-known-told) → place (op (c .before .before .before .before .before .args .line .now)) kindNames ≡ At (c .before .i .given .0 .0)
 found c = sym (c .before .before .before .kind-of .ensures) ∙ c .before .i .given .1
 
-kind-of-requires : tie.Need-kind-of-requires
-kind-of-requires c κs = search needs
-
-enum-known-i : tie.Need-enum-known-i
-enum-known-i c = search needs
-
 enum-told : tie.Need-enum-told
 enum-told c = search needs
 
@@ -32,9 +26,6 @@ returns c = on-unknown _ _ (sym (c .before .before .kind-of .ensures) ∙ c .enu
 argument-at-requires : tie.Need-argument-at-requires
 argument-at-requires c κs = kind-below _ (found c)
 
-enum-told-2 : tie.Need-enum-told-2
-enum-told-2 c = search needs
-
 returns-2 : tie.Need-returns-2
 unfolding codeForward
 returns-2 c =
@@ -44,16 +35,10 @@ returns-2 c =
     let own = a .first +ℤ pos (a .k) in
     on-taken (argumentForward own (arg line)) line (found (m .before)) (m .argument-at .ensures) (no-jump own (arg line) (m .argument-at .result) (c .match2 .keys2))
 
-cast-own : tie.Need-cast-own
-cast-own c = search needs
-
 add-own : tie.Need-add-own
 add-own c =
     let start = c .before .before .before .before .before .before .before .before in
     sum-fits (start .args .first) (start .args .k) (start .pre .0) (start .pre .1)
-
-word-at-requires : tie.Need-word-at-requires
-word-at-requires c κs = search needs
 
 is-above-requires : tie.Need-is-above-requires
 is-above-requires c κs =
@@ -74,15 +59,15 @@ pub code-forward-spec : {M : Type 1} → statement M
 code-forward-spec =
     tie.close
     (tie.spec
-    kind-of-requires
-    enum-known-i
+    (λ c κs. search needs)
+    (λ c. search needs)
     enum-told
     returns
     argument-at-requires
-    enum-told-2
+    (λ c. search needs)
     returns-2
-    cast-own
+    (λ c. search needs)
     add-own
-    word-at-requires
+    (λ c κs. search needs)
     is-above-requires
     returns-3)

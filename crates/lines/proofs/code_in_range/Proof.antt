@@ -9,17 +9,8 @@ use borrow.Author.Needs.{needs}
 use Rattle.lines.proofs.code_in_range.Statement.{statement}
 use Rattle.lines.proofs.code_in_range.Tie as tie
 
-word-at-requires : tie.Need-word-at-requires
-word-at-requires c κs = search needs
-
-at-range-requires : tie.Need-at-range-requires
-at-range-requires c κs = search needs
-
 is-within-requires : tie.Need-is-within-requires
 is-within-requires c κs = subst Near (sym (c .at-range .ensures)) (near-at-range (c .before .before .before .args .k))
-
-argument-in-range-requires : tie.Need-argument-in-range-requires
-argument-in-range-requires c κs = search needs
 
 returns : tie.Need-returns
 unfolding codeInRange
@@ -37,9 +28,9 @@ pub code-in-range-spec : {M : Type 1} → statement M
 code-in-range-spec =
     tie.close
     (tie.spec
-    word-at-requires
-    at-range-requires
+    (λ c κs. search needs)
+    (λ c κs. search needs)
     is-within-requires
-    argument-in-range-requires
+    (λ c κs. search needs)
     returns
     returns-2)

@@ -18,9 +18,6 @@ returns c =
     let line = c .before .before .args .line .now in
     stop-first _ (eqb (length (words line)) 3) (isNumeral (numeral (at line))) (onArgument (argumentLaidOut (arg line)) line) (le-ltb (c .before .before .args .k) 1024 (omega (arith, c .if1 .taken)))
 
-count-words-requires : tie.Need-count-words-requires
-count-words-requires c κs = search needs
-
 returns-2 : tie.Need-returns-2
 unfolding codeLaidOut
 returns-2 c =
@@ -28,15 +25,6 @@ returns-2 c =
     stop-second _ _ (isNumeral (numeral (at line))) (onArgument (argumentLaidOut (arg line)) line)
     (lt-ltb (c .before .before .before .before .args .k) 1024 (omega (arith, c .before .before .if1 .left)))
     (ne-eqb (length (words line)) 3 (λ e. c .if2 .taken (c .before .count-words .ensures ∙ e)))
-
-word-at-requires : tie.Need-word-at-requires
-word-at-requires c κs = search needs
-
-is-numeral-requires : tie.Need-is-numeral-requires
-is-numeral-requires c κs = search needs
-
-argument-laid-out-requires : tie.Need-argument-laid-out-requires
-argument-laid-out-requires c κs = search needs
 
 returns-3 : tie.Need-returns-3
 unfolding codeLaidOut
@@ -62,10 +50,10 @@ code-laid-out-spec =
     tie.close
     (tie.spec
     returns
-    count-words-requires
+    (λ c κs. search needs)
     returns-2
-    word-at-requires
-    is-numeral-requires
-    argument-laid-out-requires
+    (λ c κs. search needs)
+    (λ c κs. search needs)
+    (λ c κs. search needs)
     returns-3
     returns-4)

@@ -10,22 +10,13 @@ use borrow.Author.Needs.{needs}
 use Rattle.lines.proofs.code_named.Statement.{statement}
 use Rattle.lines.proofs.code_named.Tie as tie
 
-cast-next : tie.Need-cast-next
-cast-next c = search needs
-
 add-next : tie.Need-add-next
 add-next c =
     let start = c .before .before in sum-fits (start .args .first) (start .args .k) (start .pre .0) (start .pre .1)
 
-word-at-requires : tie.Need-word-at-requires
-word-at-requires c κs = search needs
-
 is-within-requires : tie.Need-is-within-requires
 is-within-requires c κs =
     let start = c .before .before .before in sum-range (start .args .first) (start .args .k) (start .pre .0) (start .pre .1)
-
-argument-named-requires : tie.Need-argument-named-requires
-argument-named-requires c κs = search needs
 
 returns : tie.Need-returns
 unfolding codeNamed
@@ -47,10 +38,10 @@ pub code-named-spec : {M : Type 1} → statement M
 code-named-spec =
     tie.close
     (tie.spec
-    cast-next
+    (λ c. search needs)
     add-next
-    word-at-requires
+    (λ c κs. search needs)
     is-within-requires
-    argument-named-requires
+    (λ c κs. search needs)
     returns
     returns-2)

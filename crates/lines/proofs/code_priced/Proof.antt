@@ -6,15 +6,9 @@ use borrow.Author.Needs.{needs}
 use Rattle.lines.proofs.code_priced.Statement.{statement}
 use Rattle.lines.proofs.code_priced.Tie as tie
 
-word-at-requires : tie.Need-word-at-requires
-word-at-requires c κs = search needs
-
-is-listed-requires : tie.Need-is-listed-requires
-is-listed-requires c κs = search needs
-
 returns : tie.Need-returns
 returns c =
     c .is-listed .ensures ∙ ap (λ w. among w (list (c .before .before .before .before .args .kinds .now))) (c .before .word-at .ensures)
 
 pub code-priced-spec : {M : Type 1} → statement M
-code-priced-spec = tie.close (tie.spec word-at-requires is-listed-requires returns)
+code-priced-spec = tie.close (tie.spec (λ c κs. search needs) (λ c κs. search needs) returns)

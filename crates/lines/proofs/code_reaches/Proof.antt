@@ -17,12 +17,6 @@ use Rattle.lines.proofs.code_reaches.Tie as tie
 found : (c : tie.After-known-told) → place (op (c .before .before .before .before .before .args .line .now)) kindNames ≡ At (c .before .k .given .0 .0)
 found c = sym (c .before .before .before .kind-of .ensures) ∙ c .before .k .given .1
 
-kind-of-requires : tie.Need-kind-of-requires
-kind-of-requires c κs = search needs
-
-enum-known-k : tie.Need-enum-known-k
-enum-known-k c = search needs
-
 enum-told : tie.Need-enum-told
 enum-told c = search needs
 
@@ -32,21 +26,12 @@ returns c = on-unknown _ _ (sym (c .before .before .kind-of .ensures) ∙ c .enu
 argument-at-requires : tie.Need-argument-at-requires
 argument-at-requires c κs = kind-below _ (found c)
 
-enum-told-2 : tie.Need-enum-told-2
-enum-told-2 c = search needs
-
 returns-2 : tie.Need-returns-2
 returns-2 c =
     let m = c .before in
     let a = m .before .before .before .before .before .before .args in
     let line = a .line .now in
     on-taken (argumentReaches (a .first) (a .n) (arg line)) line (found (m .before)) (m .argument-at .ensures) (no-target (a .first) (a .n) (arg line) (m .argument-at .result) (c .match2 .keys2))
-
-word-at-requires : tie.Need-word-at-requires
-word-at-requires c κs = search needs
-
-is-reached-requires : tie.Need-is-reached-requires
-is-reached-requires c κs = search needs
 
 returns-3 : tie.Need-returns-3
 returns-3 c =
@@ -61,13 +46,13 @@ pub code-reaches-spec : {M : Type 1} → statement M
 code-reaches-spec =
     tie.close
     (tie.spec
-    kind-of-requires
-    enum-known-k
+    (λ c κs. search needs)
+    (λ c. search needs)
     enum-told
     returns
     argument-at-requires
-    enum-told-2
+    (λ c. search needs)
     returns-2
-    word-at-requires
-    is-reached-requires
+    (λ c κs. search needs)
+    (λ c κs. search needs)
     returns-3)

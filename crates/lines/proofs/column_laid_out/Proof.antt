@@ -29,16 +29,10 @@ not-cells Cell ws o = absurd (miss (0 ∷ 1 ∷ 2 ∷ 3 ∷ []) 4 tt o)
 enum-told : tie.Need-enum-told
 enum-told c = search needs
 
-all-listed-requires : tie.Need-all-listed-requires
-all-listed-requires c κs = search needs
-
 returns : tie.Need-returns
 unfolding columnLaidOut wordTest
 returns c =
     arm (λ k. columnLaidOut k (list (c .before .before .before .before .args .line .now))) (c .before .enum-told .given .1) (c .all-listed .ensures)
-
-all-listed-requires-2 : tie.Need-all-listed-requires-2
-all-listed-requires-2 c κs = search needs
 
 returns-2 : tie.Need-returns-2
 unfolding wordTest
@@ -46,4 +40,4 @@ returns-2 c = let a = c .before .before .before .args in c .all-listed2 .ensures
 
 pub column-laid-out-spec : {M : Type 1} → statement M
 column-laid-out-spec =
-    tie.close (tie.spec enum-told all-listed-requires returns all-listed-requires-2 returns-2)
+    tie.close (tie.spec enum-told (λ c κs. search needs) returns (λ c κs. search needs) returns-2)

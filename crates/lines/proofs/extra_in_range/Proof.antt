@@ -9,15 +9,6 @@ use borrow.Author.Needs.{needs}
 use Rattle.lines.proofs.extra_in_range.Statement.{statement}
 use Rattle.lines.proofs.extra_in_range.Tie as tie
 
-slice-aggregate-same : tie.Need-slice-aggregate-same
-slice-aggregate-same c = search needs
-
-same-requires : tie.Need-same-requires
-same-requires c κs = search needs
-
-extra-counts-requires : tie.Need-extra-counts-requires
-extra-counts-requires c κs = search needs
-
 is-within-requires : tie.Need-is-within-requires
 is-within-requires c κs = near-range 0 65535 (omega arith) (omega arith) (c .extra-counts .ensures)
 
@@ -26,15 +17,6 @@ returns c =
     let k = c .before .before .before in
     let a = k .before .before .before .before .args in
     c .is-within .ensures ∙ ap (λ r. within r (value (a .w .now))) (c .before .extra-counts .ensures ∙ sym (range-first (a .name .now) (sym (k .same .ensures) ∙ c .before .before .if1 .taken)))
-
-slice-aggregate-same-2 : tie.Need-slice-aggregate-same-2
-slice-aggregate-same-2 c = search needs
-
-same-requires-2 : tie.Need-same-requires-2
-same-requires-2 c κs = search needs
-
-extra-counts-requires-2 : tie.Need-extra-counts-requires-2
-extra-counts-requires-2 c κs = search needs
 
 is-within-requires-2 : tie.Need-is-within-requires-2
 is-within-requires-2 c κs = near-range 0 65535 (omega arith) (omega arith) (c .extra-counts2 .ensures)
@@ -46,9 +28,6 @@ returns-2 c =
     c .is-within2 .ensures
     ∙ ap (λ r. within r (value (a .w .now)))
     (c .before .extra-counts2 .ensures ∙ sym (range-second (a .name .now) (sym (k .same .ensures) ∙ c .before .before .before .before .before .if1 .left) (sym (c .before .before .before .same2 .ensures) ∙ c .before .before .if2 .taken)))
-
-no-extra-requires : tie.Need-no-extra-requires
-no-extra-requires c κs = search needs
 
 is-within-requires-3 : tie.Need-is-within-requires-3
 is-within-requires-3 c κs = near-range 0 0 (omega arith) (omega arith) (c .no-extra .ensures)
@@ -65,16 +44,16 @@ pub extra-in-range-spec : {M : Type 1} → statement M
 extra-in-range-spec =
     tie.close
     (tie.spec
-    slice-aggregate-same
-    same-requires
-    extra-counts-requires
+    (λ c. search needs)
+    (λ c κs. search needs)
+    (λ c κs. search needs)
     is-within-requires
     returns
-    slice-aggregate-same-2
-    same-requires-2
-    extra-counts-requires-2
+    (λ c. search needs)
+    (λ c κs. search needs)
+    (λ c κs. search needs)
     is-within-requires-2
     returns-2
-    no-extra-requires
+    (λ c κs. search needs)
     is-within-requires-3
     returns-3)

@@ -30,46 +30,16 @@ Inv-loop names line above₀ rest₀ e₀ above rest e =
 abbrev μ-loop : tie.MeasureT-loop
 μ-loop names line above₀ rest₀ e₀ above rest e = length rest
 
-piece-length-requires : tie.Need-piece-length-requires Inv-loop μ-loop
-piece-length-requires c κs = search needs
-
 loop-holds : tie.Need-loop-holds Inv-loop μ-loop
 loop-holds c = (c .piece-length .ensures, omega arith, refl)
 
-word-at-requires : tie.Need-word-at-requires Inv-loop μ-loop
-word-at-requires c κs = search needs
-
 slice-aggregate-extra-in-range : tie.Need-slice-aggregate-extra-in-range Inv-loop μ-loop
 slice-aggregate-extra-in-range c = sym (length-take-le _ _ (le-of-lt (c .before .before .loop-test .taken)))
-
-extra-in-range-requires : tie.Need-extra-in-range-requires Inv-loop μ-loop
-extra-in-range-requires c κs = search needs
 
 returns : tie.Need-returns Inv-loop μ-loop
 returns c =
     let l = c .before .before .before .before .before .loop in
     sym (l .inv .2 ∙ extras-stop (words (l .above .now)) (l .rest .now) (l .e) (l .inv .0) (c .before .before .before .before .loop-test .taken) (named (l .above .now) _ _ (c .before .before .before .word-at .ensures) (sym (c .before .extra-in-range .ensures) ∙ not-true _ (c .if1 .taken))))
-
-next-names-requires : tie.Need-next-names-requires Inv-loop μ-loop
-next-names-requires c κs = search needs
-
-add-rest : tie.Need-add-rest Inv-loop μ-loop
-add-rest c = search needs
-
-sub-rest : tie.Need-sub-rest Inv-loop μ-loop
-sub-rest c = search needs
-
-part-rest-start : tie.Need-part-rest-start Inv-loop μ-loop
-part-rest-start c = search needs
-
-part-rest-end : tie.Need-part-rest-end Inv-loop μ-loop
-part-rest-end c = search needs
-
-piece-length-requires-2 : tie.Need-piece-length-requires-2 Inv-loop μ-loop
-piece-length-requires-2 c κs = search needs
-
-loop-less : tie.Need-loop-less Inv-loop μ-loop
-loop-less c = search needs
 
 loop-again : tie.Need-loop-again Inv-loop μ-loop
 loop-again c =
@@ -80,12 +50,6 @@ loop-again c =
           ∙ extras-next (words (l .above .now)) (l .rest .now) (l .e) (l .inv .0) (c .before .before .before .before .before .before .before .loop-test .taken) (named (l .above .now) _ _ (c .before .before .before .before .before .before .word-at .ensures) (sym (c .before .before .before .before .extra-in-range .ensures) ∙ not-false _ (c .before .before .before .if1 .left)))
           ∙ sym (c .before .before .next-names .ensures _),
     )
-
-word-at-requires-2 : tie.Need-word-at-requires-2 Inv-loop μ-loop
-word-at-requires-2 c κs = search needs
-
-extra-in-range-requires-2 : tie.Need-extra-in-range-requires-2 Inv-loop μ-loop
-extra-in-range-requires-2 c κs = search needs
 
 returns-2 : tie.Need-returns-2 Inv-loop μ-loop
 returns-2 c =
@@ -99,20 +63,20 @@ extras-in-range-spec =
     (tie.spec
     Inv-loop
     μ-loop
-    piece-length-requires
+    (λ c κs. search needs)
     loop-holds
-    word-at-requires
+    (λ c κs. search needs)
     slice-aggregate-extra-in-range
-    extra-in-range-requires
+    (λ c κs. search needs)
     returns
-    next-names-requires
-    add-rest
-    sub-rest
-    part-rest-start
-    part-rest-end
-    piece-length-requires-2
-    loop-less
+    (λ c κs. search needs)
+    (λ c. search needs)
+    (λ c. search needs)
+    (λ c. search needs)
+    (λ c. search needs)
+    (λ c κs. search needs)
+    (λ c. search needs)
     loop-again
-    word-at-requires-2
-    extra-in-range-requires-2
+    (λ c κs. search needs)
+    (λ c κs. search needs)
     returns-2)

@@ -8,20 +8,11 @@ use borrow.Author.Needs.{needs}
 use Rattle.lines.proofs.extras_listed.Statement.{statement}
 use Rattle.lines.proofs.extras_listed.Tie as tie
 
-slice-aggregate-same : tie.Need-slice-aggregate-same
-slice-aggregate-same c = search needs
-
-same-requires : tie.Need-same-requires
-same-requires c κs = search needs
-
 returns : tie.Need-returns
 unfolding extrasInRange
 returns c =
     let a = c .before .before .before .before .before .args in
     sym (ap (extrasInRange (list (a .names .now))) (list-none (a .line .now) (sym (c .before .same .ensures) ∙ c .if1 .taken)))
-
-extras-in-range-requires : tie.Need-extras-in-range-requires
-extras-in-range-requires c κs = search needs
 
 returns-2 : tie.Need-returns-2
 returns-2 c =
@@ -31,4 +22,4 @@ returns-2 c =
 pub extras-listed-spec : {M : Type 1} → statement M
 extras-listed-spec =
     tie.close
-    (tie.spec slice-aggregate-same same-requires returns extras-in-range-requires returns-2)
+    (tie.spec (λ c. search needs) (λ c κs. search needs) returns (λ c κs. search needs) returns-2)

@@ -14,12 +14,6 @@ returns c =
     let start = c .before .before in
     reached-none (start .args .first) (start .args .n) (start .pre .0) (value (start .args .w .now)) (c .if1 .taken)
 
-sub-last : tie.Need-sub-last
-sub-last c = search needs
-
-cast-last : tie.Need-cast-last
-cast-last c = search needs
-
 add-last : tie.Need-add-last
 add-last c =
     let start = c .before .before in sum-fits (start .args .first) (start .args .n - 1) (start .pre .0) (omega (arith, start .pre .1))
@@ -36,4 +30,4 @@ returns-2 c =
 
 pub is-reached-spec : {M : Type 1} → statement M
 is-reached-spec =
-    tie.close (tie.spec returns sub-last cast-last add-last is-within-requires returns-2)
+    tie.close (tie.spec returns (λ c. search needs) (λ c. search needs) add-last is-within-requires returns-2)

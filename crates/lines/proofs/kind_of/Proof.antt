@@ -6,14 +6,8 @@ use borrow.Author.Needs.{needs}
 use Rattle.lines.proofs.kind_of.Statement.{statement}
 use Rattle.lines.proofs.kind_of.Tie as tie
 
-word-at-requires : tie.Need-word-at-requires
-word-at-requires c κs = search needs
-
-kind-named-requires : tie.Need-kind-named-requires
-kind-named-requires c κs = search needs
-
 returns : tie.Need-returns
 returns c = c .kind-named .ensures ∙ ap (λ w. place w kindNames) (c .before .word-at .ensures)
 
 pub kind-of-spec : {M : Type 1} → statement M
-kind-of-spec = tie.close (tie.spec word-at-requires kind-named-requires returns)
+kind-of-spec = tie.close (tie.spec (λ c κs. search needs) (λ c κs. search needs) returns)

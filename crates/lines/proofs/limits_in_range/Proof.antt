@@ -11,20 +11,8 @@ use borrow.Author.Needs.{needs}
 use Rattle.lines.proofs.limits_in_range.Statement.{statement}
 use Rattle.lines.proofs.limits_in_range.Tie as tie
 
-listed-at-requires : tie.Need-listed-at-requires
-listed-at-requires c κs = search needs
-
-listed-at-requires-2 : tie.Need-listed-at-requires-2
-listed-at-requires-2 c κs = search needs
-
-budgets-requires : tie.Need-budgets-requires
-budgets-requires c κs = search needs
-
 is-within-requires : tie.Need-is-within-requires
 is-within-requires c κs = near-range 1 1000000 (omega arith) (omega arith) (c .budgets .ensures)
-
-ticks-requires : tie.Need-ticks-requires
-ticks-requires c κs = search needs
 
 is-within-requires-2 : tie.Need-is-within-requires-2
 is-within-requires-2 c κs = near-range 1 4000000000 (omega arith) (omega arith) (c .ticks .ensures)
@@ -45,11 +33,11 @@ pub limits-in-range-spec : {M : Type 1} → statement M
 limits-in-range-spec =
     tie.close
     (tie.spec
-    listed-at-requires
-    listed-at-requires-2
-    budgets-requires
+    (λ c κs. search needs)
+    (λ c κs. search needs)
+    (λ c κs. search needs)
     is-within-requires
-    ticks-requires
+    (λ c κs. search needs)
     is-within-requires-2
     returns
     returns-2)

@@ -10,33 +10,6 @@ use Rattle.lines.proofs.values_in_range.Tie as tie
 enum-told : tie.Need-enum-told
 enum-told c = search needs
 
-limits-in-range-requires : tie.Need-limits-in-range-requires
-limits-in-range-requires c κs = search needs
-
-enum-told-2 : tie.Need-enum-told-2
-enum-told-2 c = search needs
-
-all-listed-requires : tie.Need-all-listed-requires
-all-listed-requires c κs = search needs
-
-enum-told-3 : tie.Need-enum-told-3
-enum-told-3 c = search needs
-
-all-listed-requires-2 : tie.Need-all-listed-requires-2
-all-listed-requires-2 c κs = search needs
-
-enum-told-4 : tie.Need-enum-told-4
-enum-told-4 c = search needs
-
-extras-listed-requires : tie.Need-extras-listed-requires
-extras-listed-requires c κs = search needs
-
-enum-told-5 : tie.Need-enum-told-5
-enum-told-5 c = search needs
-
-all-listed-requires-3 : tie.Need-all-listed-requires-3
-all-listed-requires-3 c κs = search needs
-
 returns : tie.Need-returns
 unfolding columnInRange wordTest
 returns c =
@@ -67,15 +40,15 @@ values-in-range-spec =
     tie.close
     (tie.spec
     enum-told
-    limits-in-range-requires
-    enum-told-2
-    all-listed-requires
-    enum-told-3
-    all-listed-requires-2
-    enum-told-4
-    extras-listed-requires
-    enum-told-5
-    all-listed-requires-3
+    (λ c κs. search needs)
+    (λ c. search needs)
+    (λ c κs. search needs)
+    (λ c. search needs)
+    (λ c κs. search needs)
+    (λ c. search needs)
+    (λ c κs. search needs)
+    (λ c. search needs)
+    (λ c κs. search needs)
     returns
     returns-2
     returns-3

@@ -8,15 +8,6 @@ use borrow.Author.Needs.{needs}
 use Rattle.lines.proofs.values_laid_out.Statement.{statement}
 use Rattle.lines.proofs.values_laid_out.Tie as tie
 
-count-listed-requires : tie.Need-count-listed-requires
-count-listed-requires c κs = search needs
-
-count-listed-requires-2 : tie.Need-count-listed-requires-2
-count-listed-requires-2 c κs = search needs
-
-column-laid-out-requires : tie.Need-column-laid-out-requires
-column-laid-out-requires c κs = search needs
-
 returns : tie.Need-returns
 unfolding valuesLaidOut
 returns c =
@@ -33,8 +24,8 @@ pub values-laid-out-spec : {M : Type 1} → statement M
 values-laid-out-spec =
     tie.close
     (tie.spec
-    count-listed-requires
-    count-listed-requires-2
-    column-laid-out-requires
+    (λ c κs. search needs)
+    (λ c κs. search needs)
+    (λ c κs. search needs)
     returns
     returns-2)

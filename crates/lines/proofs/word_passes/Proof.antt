@@ -1,6 +1,5 @@
 -- `lines::word_passes` meets its contract. Assumes nothing.
 use mathlib.Core.Path.{ap, _∙_}
-use mathlib.Core.Bool.{not}
 use native.Mathlib.Omega.{arith}
 use Rattle.numbers.specs.Numbers.{within}
 use Rattle.routine.specs.Rows.{value}
@@ -13,68 +12,11 @@ use Rattle.lines.proofs.word_passes.Tie as tie
 enum-told : tie.Need-enum-told
 enum-told c = search needs
 
-enum-told-2 : tie.Need-enum-told-2
-enum-told-2 c = search needs
-
-is-numeral-requires : tie.Need-is-numeral-requires
-is-numeral-requires c κs = search needs
-
-enum-told-3 : tie.Need-enum-told-3
-enum-told-3 c = search needs
-
-cycle-counts-requires : tie.Need-cycle-counts-requires
-cycle-counts-requires c κs = search needs
-
 is-within-requires : tie.Need-is-within-requires
 is-within-requires c κs = near-range 0 65535 (omega arith) (omega arith) (c .cycle-counts .ensures)
 
-enum-told-4 : tie.Need-enum-told-4
-enum-told-4 c = search needs
-
-word-counts-requires : tie.Need-word-counts-requires
-word-counts-requires c κs = search needs
-
 is-within-requires-2 : tie.Need-is-within-requires-2
 is-within-requires-2 c κs = near-range 0 255 (omega arith) (omega arith) (c .word-counts .ensures)
-
-enum-told-5 : tie.Need-enum-told-5
-enum-told-5 c = search needs
-
-is-cell-requires : tie.Need-is-cell-requires
-is-cell-requires c κs = search needs
-
-enum-told-6 : tie.Need-enum-told-6
-enum-told-6 c = search needs
-
-cell-in-range-requires : tie.Need-cell-in-range-requires
-cell-in-range-requires c κs = search needs
-
-enum-known-t : tie.Need-enum-known-t
-enum-known-t c = search needs
-
-cast-cell-present : tie.Need-cast-cell-present
-cast-cell-present c = search needs
-
-cell-present-requires : tie.Need-cell-present-requires
-cell-present-requires c κs = search needs
-
-enum-told-7 : tie.Need-enum-told-7
-enum-told-7 c = search needs
-
-is-single-requires : tie.Need-is-single-requires
-is-single-requires c κs = search needs
-
-enum-told-8 : tie.Need-enum-told-8
-enum-told-8 c = search needs
-
-is-kind-requires : tie.Need-is-kind-requires
-is-kind-requires c κs = search needs
-
-enum-told-9 : tie.Need-enum-told-9
-enum-told-9 c = search needs
-
-is-name-requires : tie.Need-is-name-requires
-is-name-requires c κs = search needs
 
 returns : tie.Need-returns
 unfolding wordTest
@@ -131,27 +73,27 @@ word-passes-spec =
     tie.close
     (tie.spec
     enum-told
-    enum-told-2
-    is-numeral-requires
-    enum-told-3
-    cycle-counts-requires
+    (λ c. search needs)
+    (λ c κs. search needs)
+    (λ c. search needs)
+    (λ c κs. search needs)
     is-within-requires
-    enum-told-4
-    word-counts-requires
+    (λ c. search needs)
+    (λ c κs. search needs)
     is-within-requires-2
-    enum-told-5
-    is-cell-requires
-    enum-told-6
-    cell-in-range-requires
-    enum-known-t
-    cast-cell-present
-    cell-present-requires
-    enum-told-7
-    is-single-requires
-    enum-told-8
-    is-kind-requires
-    enum-told-9
-    is-name-requires
+    (λ c. search needs)
+    (λ c κs. search needs)
+    (λ c. search needs)
+    (λ c κs. search needs)
+    (λ c. search needs)
+    (λ c. search needs)
+    (λ c κs. search needs)
+    (λ c. search needs)
+    (λ c κs. search needs)
+    (λ c. search needs)
+    (λ c κs. search needs)
+    (λ c. search needs)
+    (λ c κs. search needs)
     returns
     returns-2
     returns-3

@@ -5,17 +5,11 @@ use Rattle.listings.proofs.LineLaws.{line-below, line-there}
 use Rattle.listings.proofs.code_line.Statement.{statement}
 use Rattle.listings.proofs.code_line.Tie as tie
 
-line-at-requires : tie.Need-line-at-requires
-line-at-requires c κs = search needs
-
 returns : tie.Need-returns
 returns c = let a = c .before .before .before .args in c .line-at .ensures ∙ line-below _ (a .first) (a .at) (c .before .if1 .taken)
-
-line-at-requires-2 : tie.Need-line-at-requires-2
-line-at-requires-2 c κs = search needs
 
 returns-2 : tie.Need-returns-2
 returns-2 c = let a = c .before .before .before .args in c .line-at2 .ensures ∙ line-there _ (a .first) (a .at)
 
 pub code-line-spec : {M : Type 1} → statement M
-code-line-spec = tie.close (tie.spec line-at-requires returns line-at-requires-2 returns-2)
+code-line-spec = tie.close (tie.spec (λ c κs. search needs) returns (λ c κs. search needs) returns-2)

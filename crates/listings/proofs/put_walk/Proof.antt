@@ -46,9 +46,6 @@ add-spent c = omega (arith, sums-fit (c .before .before .before .before .before 
 add-sum : tie.Need-add-sum Inv-loop μ-loop
 add-sum c = omega (arith, sums-fit (c .before .before .before .before .before .before .loop .inv) (c .before .before .before .before .before .loop-test .taken) (c .before .before .before .before .walk .result) (c .before .before .before .before .walk .ensures) .1)
 
-code-line-requires : tie.Need-code-line-requires Inv-loop μ-loop
-code-line-requires c κs = search needs
-
 sub-height : tie.Need-sub-height Inv-loop μ-loop
 sub-height c = omega (arith, c .before .before .before .before .before .before .before .before .loop .inv .formed .free)
 
@@ -90,7 +87,7 @@ put-walk-spec =
     returns
     add-spent
     add-sum
-    code-line-requires
+    (λ c κs. search needs)
     sub-height
     put-entry-requires
     same-length-2

@@ -16,9 +16,6 @@ use borrow.Author.Needs.{needs}
 use Rattle.merging.proofs.carry.Statement.{statement}
 use Rattle.merging.proofs.carry.Tie as tie
 
-unknown-requires : tie.Need-unknown-requires
-unknown-requires c κs = search needs
-
 step-requires : tie.Need-step-requires
 step-requires c κs =
     let start = c .before .before .before .before .before .before .before .before .before .before .before in
@@ -59,12 +56,6 @@ add-t36 c =
     let end : a .first + length (a .codes .now) ≤ 65536 = limits .2 in
     search needs
 
-refused-requires : tie.Need-refused-requires
-refused-requires c κs = search needs
-
-enum-known-next : tie.Need-enum-known-next
-enum-known-next c = search needs
-
 paid-requires : tie.Need-paid-requires
 paid-requires c κs =
     let start = c .before .before .before .before .before .before .before .before .before .before .before .before .before .before .before .before .before .before .before in
@@ -74,12 +65,6 @@ paid-requires c κs =
     let few : a .j < a .n = limits .3 in
     let most : a .n ≤ 1025 = limits .1 in
     (omega (arith, way .2), omega (arith, way .3), subst Small (c .before .next .given .1) (c .before .before .before .before .before .before .before .step .ensures .1 .1 .0 .2))
-
-ended-requires : tie.Need-ended-requires
-ended-requires c κs = search needs
-
-enum-known-next-2 : tie.Need-enum-known-next-2
-enum-known-next-2 c = search needs
 
 paid-requires-2 : tie.Need-paid-requires-2
 paid-requires-2 c κs =
@@ -103,9 +88,6 @@ onward-requires c κs =
     let s = whole (a .sizes .now) (a .w .blocks) (a .w .state) in
     let numeric = goes-numeric (codeOf (a .first) (a .codes .now) (a .operands .now) (a .cycles .now) (a .words .now) (a .extras .now)) s _ _ (way .0 .1) (leads-goes (st .result .next) price _ (λ u. step (codeOf (a .first) (a .codes .now) (a .operands .now) (a .cycles .now) (a .words .now) (a .extras .now)) u s) _ (c .before .before .before .before .before .next2 .given .1) (c .before .before .before .before .before .before .before .before .before .before .before .before .unknown .ensures) (st .ensures .0)) in
     (limits .0, limits .1, omega arith, limits .3, (paid-formed (a .w) _ _ _ _ (c .before .before .before .paid2 .ensures) (c .before .before .before .before .before .before .before .before .before .before .before .step .ensures .1 .1 .0 .0) (same-fields (c .before .before .before .before .before .before .before .before .before .before .before .step .result .change) _ _ (c .before .before .before .before .before .before .before .before .before .before .before .step .ensures .1 .1 .1) (way .0 .0 .fields)), paid-numeric (a .sizes .now) (a .w) _ _ _ _ (c .before .before .before .paid2 .ensures) numeric), limits .4)
-
-enum-known-next-3 : tie.Need-enum-known-next-3
-enum-known-next-3 c = search needs
 
 jump-requires : tie.Need-jump-requires
 jump-requires c κs = c .before .before .before .before .before .before .before .step .ensures .1 .1 .0 .0
@@ -210,15 +192,6 @@ returns-2 c =
           (stays-agree ns (a .first) (a .n) (a .j) hs es fs sums tab (a .w) agree),
     )
 
-same-length : tie.Need-same-length
-same-length c = search needs
-
-same-length-2 : tie.Need-same-length-2
-same-length-2 c = search needs
-
-same-length-3 : tie.Need-same-length-3
-same-length-3 c = search needs
-
 returns-3 : tie.Need-returns-3
 returns-3 c =
     let start = c .before .before .before .before .before .before .before .before .before .before .before .before .before .before .before .before .before .before .before .before .before .before .before .before .before .before .before .before .before .before in
@@ -252,15 +225,6 @@ returns-3 c =
           (λ rest. carried-goes rest (a .first + a .j) tab q s _ (spentOf (a .w)) (ofPrice price) _ _ lead (paid-as ns (a .w) (v .result) _ _ price (v .ensures)))
           (goes-agree ns (a .first) (a .n) (a .j) hs es fs sums (o .last .0) (o .last .1 .0) (o .last .1 .1 .0) (v .result) (o .result) (o .ensures .0) tab agree),
     )
-
-same-length-4 : tie.Need-same-length-4
-same-length-4 c = search needs
-
-same-length-5 : tie.Need-same-length-5
-same-length-5 c = search needs
-
-same-length-6 : tie.Need-same-length-6
-same-length-6 c = search needs
 
 returns-4 : tie.Need-returns-4
 returns-4 c =
@@ -310,20 +274,20 @@ pub carry-spec : {M : Type 1} → statement M
 carry-spec =
     tie.close
     (tie.spec
-    unknown-requires
+    (λ c κs. search needs)
     step-requires
     sub-reached
     reached-requires
     enum-told
     add-t36
-    refused-requires
-    enum-known-next
+    (λ c κs. search needs)
+    (λ c. search needs)
     paid-requires
-    ended-requires
-    enum-known-next-2
+    (λ c κs. search needs)
+    (λ c. search needs)
     paid-requires-2
     onward-requires
-    enum-known-next-3
+    (λ c. search needs)
     jump-requires
     paid-requires-3
     send-requires
@@ -331,11 +295,11 @@ carry-spec =
     onward-requires-2
     returns
     returns-2
-    same-length
-    same-length-2
-    same-length-3
+    (λ c. search needs)
+    (λ c. search needs)
+    (λ c. search needs)
     returns-3
-    same-length-4
-    same-length-5
-    same-length-6
+    (λ c. search needs)
+    (λ c. search needs)
+    (λ c. search needs)
     returns-4)

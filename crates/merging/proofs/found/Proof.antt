@@ -6,17 +6,11 @@ use borrow.Author.Needs.{needs}
 use Rattle.merging.proofs.found.Statement.{statement}
 use Rattle.merging.proofs.found.Tie as tie
 
-shared-slice-read-mark : tie.Need-shared-slice-read-mark
-shared-slice-read-mark c = search needs
-
 returns : tie.Need-returns
 returns c =
     let a = c .before .before .before .before .before .args in
     let e : getD (a .head .now) 0 0 ≡ 0 = c .if1 .taken in
     (λ ns. came-nothing ns (a .at) (a .head .now) (a .entries .now) (a .fields .now) (a .w) e, λ ns. tt)
-
-take-requires : tie.Need-take-requires
-take-requires c κs = search needs
 
 returns-2 : tie.Need-returns-2
 returns-2 c =
@@ -33,4 +27,4 @@ returns-3 c =
     (λ ns. came-unlike ns (a .at) (a .head .now) (a .entries .now) (a .fields .now) (a .w) n m, λ ns. tt)
 
 pub found-spec : {M : Type 1} → statement M
-found-spec = tie.close (tie.spec shared-slice-read-mark returns take-requires returns-2 returns-3)
+found-spec = tie.close (tie.spec (λ c. search needs) returns (λ c κs. search needs) returns-2 returns-3)

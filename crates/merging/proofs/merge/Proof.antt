@@ -20,27 +20,12 @@ abbrev μ-loop : tie.MeasureT-loop
 μ-loop codes operands cycles words extras sizes first heads₀ entries₀ fields₀ n j₀ p₀ heads entries fields j p =
     n - j
 
-add-n : tie.Need-add-n Inv-loop μ-loop
-add-n c = search needs
-
-sub-j : tie.Need-sub-j Inv-loop μ-loop
-sub-j c = search needs
-
 loop-holds : tie.Need-loop-holds Inv-loop μ-loop
 loop-holds c =
     let start = c .before .before .before .before .before .before in
     let a = start .args in
     let limits = start .pre .1 in
     begins (codeOf (a .first) (a .codes .now) (a .operands .now) (a .cycles .now) (a .words .now) (a .extras .now)) (a .sizes .now) (a .first) (length (a .codes .now)) 5125 65600 131200 (a .start) (a .blocks) (code-first (a .first) (a .codes .now) (a .operands .now) (a .cycles .now) (a .words .now) (a .extras .now)) (code-count (a .first) (a .codes .now) (a .operands .now) (a .cycles .now) (a .words .now) (a .extras .now)) (limits .5) (limits .6) refl refl refl (limits .2) (limits .3) (limits .4)
-
-slice-aggregate-visit : tie.Need-slice-aggregate-visit Inv-loop μ-loop
-slice-aggregate-visit c = search needs
-
-slice-aggregate-visit-2 : tie.Need-slice-aggregate-visit-2 Inv-loop μ-loop
-slice-aggregate-visit-2 c = search needs
-
-slice-aggregate-visit-3 : tie.Need-slice-aggregate-visit-3 Inv-loop μ-loop
-slice-aggregate-visit-3 c = search needs
 
 visit-requires : tie.Need-visit-requires Inv-loop μ-loop
 visit-requires c κs =
@@ -52,9 +37,6 @@ visit-requires c κs =
 
 enum-told : tie.Need-enum-told Inv-loop μ-loop
 enum-told c = search needs
-
-enum-told-2 : tie.Need-enum-told-2 Inv-loop μ-loop
-enum-told-2 c = search needs
 
 returns : tie.Need-returns Inv-loop μ-loop
 returns c =
@@ -75,9 +57,6 @@ add-j c =
     let t : c .before .before .before .before .before .before .before .before .before .before .before .loop .j < length (start .args .codes .now) + 1 = c .before .before .before .before .before .before .before .before .before .before .loop-test .taken in
     let few : length (start .args .codes .now) ≤ 1024 = start .pre .0 .few in
     search needs
-
-loop-less : tie.Need-loop-less Inv-loop μ-loop
-loop-less c = search needs
 
 loop-again : tie.Need-loop-again Inv-loop μ-loop
 loop-again c =
@@ -103,17 +82,17 @@ merge-spec =
     (tie.spec
     Inv-loop
     μ-loop
-    add-n
-    sub-j
+    (λ c. search needs)
+    (λ c. search needs)
     loop-holds
-    slice-aggregate-visit
-    slice-aggregate-visit-2
-    slice-aggregate-visit-3
+    (λ c. search needs)
+    (λ c. search needs)
+    (λ c. search needs)
     visit-requires
     enum-told
-    enum-told-2
+    (λ c. search needs)
     returns
     add-j
-    loop-less
+    (λ c. search needs)
     loop-again
     returns-2)

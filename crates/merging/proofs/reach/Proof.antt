@@ -9,25 +9,10 @@ use borrow.Author.Needs.{needs}
 use Rattle.merging.proofs.reach.Statement.{statement}
 use Rattle.merging.proofs.reach.Tie as tie
 
-found-requires : tie.Need-found-requires
-found-requires c κs = search needs
-
-same-length : tie.Need-same-length
-same-length c = search needs
-
-same-length-2 : tie.Need-same-length-2
-same-length-2 c = search needs
-
-same-length-3 : tie.Need-same-length-3
-same-length-3 c = search needs
-
 returns : tie.Need-returns
 returns c =
     let a = c .before .before .before .before .before .before .before .before .before .args in
     (c .found .ensures .0 (a .sizes .now) ∙ with-none (a .sizes .now) (a .here) (a .w) _ (not-true (a .here) (c .before .before .before .before .if1 .taken)), c .found .ensures .1 (a .sizes .now))
-
-slice-read-mark : tie.Need-slice-read-mark
-slice-read-mark c = search needs
 
 returns-2 : tie.Need-returns-2
 returns-2 c =
@@ -45,18 +30,6 @@ join-requires c κs =
     let a = start .args in
     (start .pre .0, comes-here (a .sizes .now) (a .here) (a .w) (a .at) (not-false (a .here) (c .before .before .before .before .before .if1 .left)) (start .pre .1) .1, start .pre .2)
 
-found-requires-2 : tie.Need-found-requires-2
-found-requires-2 c κs = search needs
-
-same-length-4 : tie.Need-same-length-4
-same-length-4 c = search needs
-
-same-length-5 : tie.Need-same-length-5
-same-length-5 c = search needs
-
-same-length-6 : tie.Need-same-length-6
-same-length-6 c = search needs
-
 returns-3 : tie.Need-returns-3
 returns-3 c =
     let start = c .before .before .before .before .before .before .before .before .before .before .before .before .before .before .before .before .before .before .before .before .before in
@@ -73,16 +46,16 @@ pub reach-spec : {M : Type 1} → statement M
 reach-spec =
     tie.close
     (tie.spec
-    found-requires
-    same-length
-    same-length-2
-    same-length-3
+    (λ c κs. search needs)
+    (λ c. search needs)
+    (λ c. search needs)
+    (λ c. search needs)
     returns
-    slice-read-mark
+    (λ c. search needs)
     returns-2
     join-requires
-    found-requires-2
-    same-length-4
-    same-length-5
-    same-length-6
+    (λ c κs. search needs)
+    (λ c. search needs)
+    (λ c. search needs)
+    (λ c. search needs)
     returns-3)

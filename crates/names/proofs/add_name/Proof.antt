@@ -12,25 +12,10 @@ use Rattle.names.proofs.add_name.Reads as reads
 use Rattle.names.proofs.add_name.Lts as lts
 use Rattle.names.proofs.is_field.Reads as is-field-reads
 
-sub-last : tie.Need-sub-last
-sub-last c = search needs
-
-array-read-n : tie.Need-array-read-n
-array-read-n c = search needs
-
-cast-is-field : tie.Need-cast-is-field
-cast-is-field c = search needs
-
-is-field-requires : tie.Need-is-field-requires
-is-field-requires c κs = search needs
-
 add-sizes : tie.Need-add-sizes
 add-sizes c =
     let x = place-below _ _ _ (sym (c .before .is-field .ensures) ∙ c .if2 .taken) in
     omega arith
-
-array-write-sizes : tie.Need-array-write-sizes
-array-write-sizes c = search needs
 
 add-t17 : tie.Need-add-t17
 add-t17 c =
@@ -43,9 +28,6 @@ returns c =
     let s = c .before .before .before .before .before .before in
     let n : length (s .args .blocks .sizes) ≡ 8 = search needs in
     field-added (s .args .blocks) _ (s .pre) n (c .before .before .before .if1 .taken) (sym (c .before .before .is-field .ensures) ∙ c .before .if2 .taken)
-
-is-field-requires-2 : tie.Need-is-field-requires-2
-is-field-requires-2 c κs = search needs
 
 -- w does not name the next field of the last block
 apart : (c : lts.Joined1 (is-field-reads.Asked, is-field-reads.Learnt) reads.Pre reads.Post)
@@ -60,9 +42,6 @@ apart c =
 
 array-write-sizes-2 : tie.Need-array-write-sizes-2
 array-write-sizes-2 c = block-below _ _ _ (sym (c .before .is-field2 .ensures) ∙ c .if3 .taken)
-
-add-t22 : tie.Need-add-t22
-add-t22 c = search needs
 
 add-t23 : tie.Need-add-t23
 add-t23 c =
@@ -86,17 +65,17 @@ pub add-name-spec : {M : Type 1} → statement M
 add-name-spec =
     tie.close
     (tie.spec
-    sub-last
-    array-read-n
-    cast-is-field
-    is-field-requires
+    (λ c. search needs)
+    (λ c. search needs)
+    (λ c. search needs)
+    (λ c κs. search needs)
     add-sizes
-    array-write-sizes
+    (λ c. search needs)
     add-t17
     returns
-    is-field-requires-2
+    (λ c κs. search needs)
     array-write-sizes-2
-    add-t22
+    (λ c. search needs)
     add-t23
     returns-2
     returns-3)

@@ -21,12 +21,6 @@ Inv-loop line names rest₀ others₀ e₀ f₀ rest others e f =
 abbrev μ-loop : tie.MeasureT-loop
 μ-loop line names rest₀ others₀ e₀ f₀ rest others e f = length rest
 
-piece-length-requires : tie.Need-piece-length-requires Inv-loop μ-loop
-piece-length-requires c κs = search needs
-
-piece-length-requires-2 : tie.Need-piece-length-requires-2 Inv-loop μ-loop
-piece-length-requires-2 c κs = search needs
-
 loop-holds : tie.Need-loop-holds Inv-loop μ-loop
 loop-holds c = (c .before .piece-length .ensures, c .piece-length2 .ensures, omega arith, omega arith, refl)
 
@@ -42,48 +36,12 @@ slice-aggregate-same c = sym (length-take-le _ _ (le-of-lt (c .before .before .l
 slice-aggregate-same-2 : tie.Need-slice-aggregate-same-2 Inv-loop μ-loop
 slice-aggregate-same-2 c = sym (length-take-le _ _ (le-of-lt (c .before .before .if1 .left)))
 
-same-requires : tie.Need-same-requires Inv-loop μ-loop
-same-requires c κs = search needs
-
 returns-2 : tie.Need-returns-2 Inv-loop μ-loop
 returns-2 c =
     let t = c .before .before .before .before in
     let l = t .before .before in
     let i = l .loop .inv in
     sym (i .4 ∙ leads-differ _ _ _ _ (i .0) (t .before .loop-test .taken) (i .1) (t .if1 .left) (sym (c .before .same .ensures) ∙ not-true _ (c .if2 .taken)))
-
-add-rest : tie.Need-add-rest Inv-loop μ-loop
-add-rest c = search needs
-
-sub-rest : tie.Need-sub-rest Inv-loop μ-loop
-sub-rest c = search needs
-
-part-rest-start : tie.Need-part-rest-start Inv-loop μ-loop
-part-rest-start c = search needs
-
-part-rest-end : tie.Need-part-rest-end Inv-loop μ-loop
-part-rest-end c = search needs
-
-add-others : tie.Need-add-others Inv-loop μ-loop
-add-others c = search needs
-
-sub-others : tie.Need-sub-others Inv-loop μ-loop
-sub-others c = search needs
-
-part-others-start : tie.Need-part-others-start Inv-loop μ-loop
-part-others-start c = search needs
-
-part-others-end : tie.Need-part-others-end Inv-loop μ-loop
-part-others-end c = search needs
-
-piece-length-requires-3 : tie.Need-piece-length-requires-3 Inv-loop μ-loop
-piece-length-requires-3 c κs = search needs
-
-piece-length-requires-4 : tie.Need-piece-length-requires-4 Inv-loop μ-loop
-piece-length-requires-4 c κs = search needs
-
-loop-less : tie.Need-loop-less Inv-loop μ-loop
-loop-less c = search needs
 
 loop-again : tie.Need-loop-again Inv-loop μ-loop
 loop-again c =
@@ -101,9 +59,6 @@ loop-again c =
 slice-aggregate-same-3 : tie.Need-slice-aggregate-same-3 Inv-loop μ-loop
 slice-aggregate-same-3 c = sym (length-take-le _ _ (first-within _ _ (c .before .before .loop .inv .1)))
 
-same-requires-2 : tie.Need-same-requires-2 Inv-loop μ-loop
-same-requires-2 c κs = search needs
-
 returns-3 : tie.Need-returns-3 Inv-loop μ-loop
 returns-3 c =
     let t = c .before .before in
@@ -116,26 +71,26 @@ begins-spec =
     (tie.spec
     Inv-loop
     μ-loop
-    piece-length-requires
-    piece-length-requires-2
+    (λ c κs. search needs)
+    (λ c κs. search needs)
     loop-holds
     returns
     slice-aggregate-same
     slice-aggregate-same-2
-    same-requires
+    (λ c κs. search needs)
     returns-2
-    add-rest
-    sub-rest
-    part-rest-start
-    part-rest-end
-    add-others
-    sub-others
-    part-others-start
-    part-others-end
-    piece-length-requires-3
-    piece-length-requires-4
-    loop-less
+    (λ c. search needs)
+    (λ c. search needs)
+    (λ c. search needs)
+    (λ c. search needs)
+    (λ c. search needs)
+    (λ c. search needs)
+    (λ c. search needs)
+    (λ c. search needs)
+    (λ c κs. search needs)
+    (λ c κs. search needs)
+    (λ c. search needs)
     loop-again
     slice-aggregate-same-3
-    same-requires-2
+    (λ c κs. search needs)
     returns-3)

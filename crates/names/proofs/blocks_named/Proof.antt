@@ -24,19 +24,10 @@ Inv-loop line b₀ rest₀ e₀ b rest e =
 abbrev μ-loop : tie.MeasureT-loop
 μ-loop line b₀ rest₀ e₀ b rest e = length rest
 
-slice-aggregate-same : tie.Need-slice-aggregate-same Inv-loop μ-loop
-slice-aggregate-same c = search needs
-
-same-requires : tie.Need-same-requires Inv-loop μ-loop
-same-requires c κs = search needs
-
 returns : tie.Need-returns Inv-loop μ-loop
 returns c =
     let e = list-none _ (sym (c .before .same .ensures) ∙ c .if1 .taken) in
     none-named _ e
-
-piece-length-requires : tie.Need-piece-length-requires Inv-loop μ-loop
-piece-length-requires c κs = search needs
 
 loop-holds : tie.Need-loop-holds Inv-loop μ-loop
 loop-holds c =
@@ -54,24 +45,6 @@ returns-2 c =
     let t = a .before .before in
     let i = t .before .loop .inv in
     held (i .3) (i .2 ∙ grow-stop _ _ _ (i .0) (t .loop-test .taken) (sym (a .add-name .ensures .sum) ∙ c .if2 .taken ∙ i .3 .sum))
-
-add-rest : tie.Need-add-rest Inv-loop μ-loop
-add-rest c = search needs
-
-sub-rest : tie.Need-sub-rest Inv-loop μ-loop
-sub-rest c = search needs
-
-part-rest-start : tie.Need-part-rest-start Inv-loop μ-loop
-part-rest-start c = search needs
-
-part-rest-end : tie.Need-part-rest-end Inv-loop μ-loop
-part-rest-end c = search needs
-
-piece-length-requires-2 : tie.Need-piece-length-requires-2 Inv-loop μ-loop
-piece-length-requires-2 c κs = search needs
-
-loop-less : tie.Need-loop-less Inv-loop μ-loop
-loop-less c = search needs
 
 loop-again : tie.Need-loop-again Inv-loop μ-loop
 loop-again c =
@@ -100,20 +73,20 @@ blocks-named-spec =
     (tie.spec
     Inv-loop
     μ-loop
-    slice-aggregate-same
-    same-requires
+    (λ c. search needs)
+    (λ c κs. search needs)
     returns
-    piece-length-requires
+    (λ c κs. search needs)
     loop-holds
     slice-aggregate-add-name
     add-name-requires
     returns-2
-    add-rest
-    sub-rest
-    part-rest-start
-    part-rest-end
-    piece-length-requires-2
-    loop-less
+    (λ c. search needs)
+    (λ c. search needs)
+    (λ c. search needs)
+    (λ c. search needs)
+    (λ c κs. search needs)
+    (λ c. search needs)
     loop-again
     add-name-requires-2
     returns-3)

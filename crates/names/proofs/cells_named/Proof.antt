@@ -6,15 +6,9 @@ use borrow.Author.Needs.{needs}
 use Rattle.names.proofs.cells_named.Statement.{statement}
 use Rattle.names.proofs.cells_named.Tie as tie
 
-slice-aggregate-begins : tie.Need-slice-aggregate-begins
-slice-aggregate-begins c = search needs
-
-begins-requires : tie.Need-begins-requires
-begins-requires c κs = search needs
-
 returns : tie.Need-returns
 unfolding split words digits decimal stackNames cellNames
 returns c = c .begins .ensures
 
 pub cells-named-spec : {M : Type 1} → statement M
-cells-named-spec = tie.close (tie.spec slice-aggregate-begins begins-requires returns)
+cells-named-spec = tie.close (tie.spec (λ c. search needs) (λ c κs. search needs) returns)

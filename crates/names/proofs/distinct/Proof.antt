@@ -19,40 +19,16 @@ Inv-loop line rest₀ e₀ rest e = (e ≡ firstLength 32 rest) × (length rest 
 abbrev μ-loop : tie.MeasureT-loop
 μ-loop line rest₀ e₀ rest e = length rest
 
-piece-length-requires : tie.Need-piece-length-requires Inv-loop μ-loop
-piece-length-requires c κs = search needs
-
 loop-holds : tie.Need-loop-holds Inv-loop μ-loop
 loop-holds c = (c .piece-length .ensures, omega arith, refl)
 
 slice-aggregate-w : tie.Need-slice-aggregate-w Inv-loop μ-loop
 slice-aggregate-w c = sym (length-take-le _ _ (le-of-lt (c .before .loop-test .taken)))
 
-add-rest : tie.Need-add-rest Inv-loop μ-loop
-add-rest c = search needs
-
-sub-rest : tie.Need-sub-rest Inv-loop μ-loop
-sub-rest c = search needs
-
-part-rest-start : tie.Need-part-rest-start Inv-loop μ-loop
-part-rest-start c = search needs
-
-part-rest-end : tie.Need-part-rest-end Inv-loop μ-loop
-part-rest-end c = search needs
-
-is-among-requires : tie.Need-is-among-requires Inv-loop μ-loop
-is-among-requires c κs = search needs
-
 returns : tie.Need-returns Inv-loop μ-loop
 returns c =
     let t = c .before .before .before .before in
     sym (t .before .loop .inv .2 ∙ distinct-again _ _ (t .before .loop .inv .0) (t .loop-test .taken) (sym (c .before .is-among .ensures) ∙ c .if1 .taken))
-
-piece-length-requires-2 : tie.Need-piece-length-requires-2 Inv-loop μ-loop
-piece-length-requires-2 c κs = search needs
-
-loop-less : tie.Need-loop-less Inv-loop μ-loop
-loop-less c = search needs
 
 loop-again : tie.Need-loop-again Inv-loop μ-loop
 loop-again c =
@@ -74,16 +50,16 @@ distinct-spec =
     (tie.spec
     Inv-loop
     μ-loop
-    piece-length-requires
+    (λ c κs. search needs)
     loop-holds
     slice-aggregate-w
-    add-rest
-    sub-rest
-    part-rest-start
-    part-rest-end
-    is-among-requires
+    (λ c. search needs)
+    (λ c. search needs)
+    (λ c. search needs)
+    (λ c. search needs)
+    (λ c κs. search needs)
     returns
-    piece-length-requires-2
-    loop-less
+    (λ c κs. search needs)
+    (λ c. search needs)
     loop-again
     returns-2)

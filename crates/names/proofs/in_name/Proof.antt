@@ -4,14 +4,8 @@ use borrow.Author.Needs.{needs}
 use Rattle.names.proofs.in_name.Statement.{statement}
 use Rattle.names.proofs.in_name.Tie as tie
 
-is-capital-requires : tie.Need-is-capital-requires
-is-capital-requires c κs = search needs
-
 returns : tie.Need-returns
 returns c = rw (sym (c .before .is-capital .ensures) ∙ c .if1 .taken) refl
-
-is-digit-requires : tie.Need-is-digit-requires
-is-digit-requires c κs = search needs
 
 returns-2 : tie.Need-returns-2
 returns-2 c = rw (sym (c .before .before .before .is-capital .ensures) ∙ c .before .before .if1 .left, sym (c .before .is-digit .ensures) ∙ c .if2 .taken) refl
@@ -20,4 +14,4 @@ returns-3 : tie.Need-returns-3
 returns-3 c = rw (sym (c .before .before .before .is-capital .ensures) ∙ c .before .before .if1 .left, sym (c .before .is-digit .ensures) ∙ c .if2 .left) refl
 
 pub in-name-spec : {M : Type 1} → statement M
-in-name-spec = tie.close (tie.spec is-capital-requires returns is-digit-requires returns-2 returns-3)
+in-name-spec = tie.close (tie.spec (λ c κs. search needs) returns (λ c κs. search needs) returns-2 returns-3)

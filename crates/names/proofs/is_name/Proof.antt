@@ -25,12 +25,6 @@ returns c = sym (name-empty _ (c .if1 .taken))
 returns-2 : tie.Need-returns-2 Inv-loop μ-loop
 returns-2 c = sym (name-long _ (c .if2 .taken))
 
-shared-slice-read-is-capital : tie.Need-shared-slice-read-is-capital Inv-loop μ-loop
-shared-slice-read-is-capital c = search needs
-
-is-capital-requires : tie.Need-is-capital-requires Inv-loop μ-loop
-is-capital-requires c κs = search needs
-
 returns-3 : tie.Need-returns-3 Inv-loop μ-loop
 returns-3 c = sym (name-first _ (sym (c .before .is-capital .ensures) ∙ not-true _ (c .if3 .taken)))
 
@@ -39,22 +33,10 @@ loop-holds c =
     let t = c .before .before .before in
     (omega arith, omega arith, name-rest _ (omega arith) (t .if2 .left) (sym (c .before .is-capital .ensures) ∙ not-false _ (c .if3 .left)))
 
-shared-slice-read-in-name : tie.Need-shared-slice-read-in-name Inv-loop μ-loop
-shared-slice-read-in-name c = search needs
-
-in-name-requires : tie.Need-in-name-requires Inv-loop μ-loop
-in-name-requires c κs = search needs
-
 returns-4 : tie.Need-returns-4 Inv-loop μ-loop
 returns-4 c =
     let t = c .before .before .before in
     sym (t .before .loop .inv .2 ∙ all-fails inName _ _ (t .loop-test .taken) (sym (c .before .in-name .ensures) ∙ not-true _ (c .if4 .taken)))
-
-add-i : tie.Need-add-i Inv-loop μ-loop
-add-i c = search needs
-
-loop-less : tie.Need-loop-less Inv-loop μ-loop
-loop-less c = search needs
 
 loop-again : tie.Need-loop-again Inv-loop μ-loop
 loop-again c =
@@ -77,14 +59,14 @@ is-name-spec =
     μ-loop
     returns
     returns-2
-    shared-slice-read-is-capital
-    is-capital-requires
+    (λ c. search needs)
+    (λ c κs. search needs)
     returns-3
     loop-holds
-    shared-slice-read-in-name
-    in-name-requires
+    (λ c. search needs)
+    (λ c κs. search needs)
     returns-4
-    add-i
-    loop-less
+    (λ c. search needs)
+    (λ c. search needs)
     loop-again
     returns-5)

@@ -18,39 +18,6 @@ answer c x y {t = t} p q e = ap (read w32) q ∙ bit-read t ∙ ap bit (e ∙ ap
 enum-told : tie.Need-enum-told
 enum-told c = search needs
 
-bit-requires : tie.Need-bit-requires
-bit-requires c κs = search needs
-
-enum-told-2 : tie.Need-enum-told-2
-enum-told-2 c = search needs
-
-bit-requires-2 : tie.Need-bit-requires-2
-bit-requires-2 c κs = search needs
-
-enum-told-3 : tie.Need-enum-told-3
-enum-told-3 c = search needs
-
-bit-requires-3 : tie.Need-bit-requires-3
-bit-requires-3 c κs = search needs
-
-enum-told-4 : tie.Need-enum-told-4
-enum-told-4 c = search needs
-
-bit-requires-4 : tie.Need-bit-requires-4
-bit-requires-4 c κs = search needs
-
-enum-told-5 : tie.Need-enum-told-5
-enum-told-5 c = search needs
-
-bit-requires-5 : tie.Need-bit-requires-5
-bit-requires-5 c κs = search needs
-
-enum-told-6 : tie.Need-enum-told-6
-enum-told-6 c = search needs
-
-bit-requires-6 : tie.Need-bit-requires-6
-bit-requires-6 c κs = search needs
-
 returns : tie.Need-returns
 unfolding holds
 returns c = answer _ _ _ (c .before .enum-told .given .1) (c .bit .ensures) (same-bits w32 _ _ (c .before .before .before .fits .x) (c .before .before .before .fits .y))
@@ -80,17 +47,17 @@ compare-spec =
     tie.close
     (tie.spec
     enum-told
-    bit-requires
-    enum-told-2
-    bit-requires-2
-    enum-told-3
-    bit-requires-3
-    enum-told-4
-    bit-requires-4
-    enum-told-5
-    bit-requires-5
-    enum-told-6
-    bit-requires-6
+    (λ c κs. search needs)
+    (λ c. search needs)
+    (λ c κs. search needs)
+    (λ c. search needs)
+    (λ c κs. search needs)
+    (λ c. search needs)
+    (λ c κs. search needs)
+    (λ c. search needs)
+    (λ c κs. search needs)
+    (λ c. search needs)
+    (λ c κs. search needs)
     returns
     returns-2
     returns-3

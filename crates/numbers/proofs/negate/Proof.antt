@@ -9,9 +9,6 @@ use Rattle.numbers.proofs.SignedLaws.{read, zero-minus, wrap-negative, 
 use Rattle.numbers.proofs.negate.Statement.{statement}
 use Rattle.numbers.proofs.negate.Tie as tie
 
-wrapping-sub-requires : tie.Need-wrapping-sub-requires
-wrapping-sub-requires c κs = search needs
-
 returns : tie.Need-returns
 returns c = toZ-ofZ w32 _ (search needs) ∙ c .wrapping-sub .ensures ∙ ap wrap (zero-minus _ (c .before .before .fits .x))
 
@@ -25,4 +22,4 @@ returns-2 : tie.Need-returns-2
 returns-2 c = result-read (wrap-fits _) (exact c)
 
 pub negate-spec : {M : Type 1} → statement M
-negate-spec = tie.close (tie.spec wrapping-sub-requires returns sub-result returns-2)
+negate-spec = tie.close (tie.spec (λ c κs. search needs) returns sub-result returns-2)

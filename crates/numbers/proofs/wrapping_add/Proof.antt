@@ -18,9 +18,6 @@ cast-narrow-2 c = cast-fits (c .args .y) (c .fits .y)
 add-narrow : tie.Need-add-narrow
 add-narrow c = operation-fits _+ℤ_ sum-fits (c .fits .x) (c .fits .y)
 
-narrow-requires : tie.Need-narrow-requires
-narrow-requires c κs = search needs
-
 returns : tie.Need-returns
 returns c =
     toZ-ofZ w32 _ (search needs)
@@ -28,4 +25,4 @@ returns c =
     ∙ ap wrap (operation-read _+ℤ_ sum-fits (c .before .fits .x) (c .before .fits .y))
 
 pub wrapping-add-spec : {M : Type 1} → statement M
-wrapping-add-spec = tie.close (tie.spec cast-narrow cast-narrow-2 add-narrow narrow-requires returns)
+wrapping-add-spec = tie.close (tie.spec cast-narrow cast-narrow-2 add-narrow (λ c κs. search needs) returns)

@@ -4,9 +4,6 @@ use Rattle.instructions.specs.Columns.{operations, operationOf}
 use Rattle.outcomes.proofs.binary_of.Statement.{statement}
 use Rattle.outcomes.proofs.binary_of.Tie as tie
 
-comparison-of-requires : tie.Need-comparison-of-requires
-comparison-of-requires c κs = search needs
-
 returns : tie.Need-returns
 unfolding operations operationOf
 returns c = rw (c .match .keys1)
@@ -15,8 +12,5 @@ returns-2 : tie.Need-returns-2
 unfolding operations operationOf
 returns-2 c = rw (c .match .keys2)
 
-returns-3 : tie.Need-returns-3
-returns-3 c = search needs
-
 pub binary-of-spec : {M : Type 1} → statement M
-binary-of-spec = tie.close (tie.spec comparison-of-requires returns returns-2 returns-3)
+binary-of-spec = tie.close (tie.spec (λ c κs. search needs) returns returns-2 (λ c. search needs))

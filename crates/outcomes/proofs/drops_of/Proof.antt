@@ -24,8 +24,5 @@ returns-3 c =
     let missed = c .before .match .rest .1 in
     sym (drops-none _ _ (λ e. missed (inl e)) (λ e. missed (inr e)) (c .if1 .taken))
 
-returns-4 : tie.Need-returns-4
-returns-4 c = search needs
-
 pub drops-of-spec : {M : Type 1} → statement M
-drops-of-spec = tie.close (tie.spec returns returns-2 returns-3 returns-4)
+drops-of-spec = tie.close (tie.spec returns returns-2 returns-3 (λ c. search needs))

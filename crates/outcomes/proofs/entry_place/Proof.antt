@@ -23,9 +23,6 @@ place c =
     (λ w. omega (arith, entry-top code n (w .0 .left), w .1))
     (c .if1 .came)
 
-add-i : tie.Need-add-i
-add-i c = search needs
-
 returns : tie.Need-returns
 returns c = (c .if2 .taken, λ h. place (c .before))
 
@@ -33,4 +30,4 @@ returns-2 : tie.Need-returns-2
 returns-2 c = (omega arith, λ h. omega (arith, place (c .before)))
 
 pub entry-place-spec : {M : Type 1} → statement M
-entry-place-spec = tie.close (tie.spec add-i returns returns-2)
+entry-place-spec = tie.close (tie.spec (λ c. search needs) returns returns-2)

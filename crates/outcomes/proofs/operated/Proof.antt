@@ -1,6 +1,5 @@
 -- `outcomes::operated` meets its contract: each arm's code computes, and the default arm's is one that combines. Assumes nothing.
 use mathlib.Core.Path.{_≡_, ap, _∙_}
-use Prim.Native.Nat.{_≤_}
 use borrow.Author.Needs.{needs}
 use mir.Syntax.{w32}
 use mir.ValLaws.{toZ-ofZ}
@@ -17,22 +16,10 @@ use Rattle.outcomes.proofs.operated.Tie as tie
 same : (c : tie.Start) → read w32 (c .args .operand) ≡ c .args .operand
 same c = toZ-ofZ w32 (c .args .operand) (c .fits .operand)
 
-operate1-requires : tie.Need-operate1-requires
-operate1-requires c κs = search needs
-
-operate1-requires-2 : tie.Need-operate1-requires-2
-operate1-requires-2 c κs = search needs
-
-operate1-requires-3 : tie.Need-operate1-requires-3
-operate1-requires-3 c κs = search needs
-
 binary-of-requires : tie.Need-binary-of-requires
 binary-of-requires c κs =
     let rest = c .match .rest in
     (on-two-cells _ (c .before .pre .1) (rest .0 .0 .1) (rest .0 .1) (rest .1), c .before .pre .0)
-
-operate2-requires : tie.Need-operate2-requires
-operate2-requires c κs = search needs
 
 returns : tie.Need-returns
 unfolding operations operationOf operated
@@ -54,11 +41,11 @@ pub operated-spec : {M : Type 1} → statement M
 operated-spec =
     tie.close
     (tie.spec
-    operate1-requires
-    operate1-requires-2
-    operate1-requires-3
+    (λ c κs. search needs)
+    (λ c κs. search needs)
+    (λ c κs. search needs)
     binary-of-requires
-    operate2-requires
+    (λ c κs. search needs)
     returns
     returns-2
     returns-3

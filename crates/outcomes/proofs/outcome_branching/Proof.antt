@@ -20,27 +20,12 @@ found a e p q = sym (ap ofTested p ∙ ap done q) ∙ e
 branched : {z b : Bool} {m : Try Condition} (a : Cell) → z ≡ b → m ≡ condition a → branching b a m ≡ branching z a (condition a)
 branched a p q = ap₂ (λ b m. branching b a m) (sym p) q
 
-condition-of-requires : tie.Need-condition-of-requires
-condition-of-requires c κs = search needs
-
-enum-known-tested : tie.Need-enum-known-tested
-enum-known-tested c = search needs
-
 enum-told : tie.Need-enum-told
 enum-told c = search needs
 
 returns : tie.Need-returns
 unfolding branching
 returns c = branched _ refl (ap ofTested (sym (c .enum-told .given .1)) ∙ c .before .before .condition-of .ensures)
-
-enum-told-2 : tie.Need-enum-told-2
-enum-told-2 c = search needs
-
-enum-told-3 : tie.Need-enum-told-3
-enum-told-3 c = search needs
-
-enum-told-4 : tie.Need-enum-told-4
-enum-told-4 c = search needs
 
 returns-2 : tie.Need-returns-2
 unfolding branching
@@ -76,13 +61,13 @@ pub outcome-branching-spec : {M : Type 1} → statement M
 outcome-branching-spec =
     tie.close
     (tie.spec
-    condition-of-requires
-    enum-known-tested
+    (λ c κs. search needs)
+    (λ c. search needs)
     enum-told
     returns
-    enum-told-2
-    enum-told-3
-    enum-told-4
+    (λ c. search needs)
+    (λ c. search needs)
+    (λ c. search needs)
     returns-2
     returns-3
     returns-4

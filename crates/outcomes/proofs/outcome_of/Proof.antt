@@ -21,18 +21,6 @@ same c = toZ-ofZ w32 (c .args .operand) (c .fits .operand)
 found : (c : tie.After-index-of) → c .index-of .result ≡ index (c .before .args .operand)
 found c = c .index-of .ensures .0 ∙ ap index (same (c .before))
 
-index-of-requires : tie.Need-index-of-requires
-index-of-requires c κs = search needs
-
-number-requires : tie.Need-number-requires
-number-requires c κs = search needs
-
-outcome-branching-requires : tie.Need-outcome-branching-requires
-outcome-branching-requires c κs = search needs
-
-outcome-branching-requires-2 : tie.Need-outcome-branching-requires-2
-outcome-branching-requires-2 c κs = search needs
-
 returns : tie.Need-returns
 unfolding operations operationOf outcome
 returns c = rw (c .match .keys1)
@@ -125,10 +113,10 @@ pub outcome-of-spec : {M : Type 1} → statement M
 outcome-of-spec =
     tie.close
     (tie.spec
-    index-of-requires
-    number-requires
-    outcome-branching-requires
-    outcome-branching-requires-2
+    (λ c κs. search needs)
+    (λ c κs. search needs)
+    (λ c κs. search needs)
+    (λ c κs. search needs)
     returns
     returns-2
     returns-3

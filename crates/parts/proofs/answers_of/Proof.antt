@@ -40,29 +40,14 @@ below c =
 loop-holds : tie.Need-loop-holds Inv-loop μ-loop
 loop-holds c = (omega arith, refl, refl, refl, omega arith)
 
-first-line-requires : tie.Need-first-line-requires Inv-loop μ-loop
-first-line-requires c κs = search needs
-
-number-range-requires : tie.Need-number-range-requires Inv-loop μ-loop
-number-range-requires c κs = search needs
-
 number-of-requires : tie.Need-number-of-requires Inv-loop μ-loop
 number-of-requires c κs = numbers-fit _ (c .number-range .ensures)
-
-mul-values : tie.Need-mul-values Inv-loop μ-loop
-mul-values c = search needs
 
 array-set-from-values : tie.Need-array-set-from-values Inv-loop μ-loop
 array-set-from-values c = omega (arith, below (c .before .before .before))
 
-next-lines-requires : tie.Need-next-lines-requires Inv-loop μ-loop
-next-lines-requires c κs = search needs
-
 add-n : tie.Need-add-n Inv-loop μ-loop
 add-n c = omega (arith, below (c .before .before .before .before))
-
-loop-less : tie.Need-loop-less Inv-loop μ-loop
-loop-less c = search needs
 
 loop-again : tie.Need-loop-again Inv-loop μ-loop
 loop-again c =
@@ -96,13 +81,13 @@ answers-of-spec =
     Inv-loop
     μ-loop
     loop-holds
-    first-line-requires
-    number-range-requires
+    (λ c κs. search needs)
+    (λ c κs. search needs)
     number-of-requires
-    mul-values
+    (λ c. search needs)
     array-set-from-values
-    next-lines-requires
+    (λ c κs. search needs)
     add-n
-    loop-less
+    (λ c. search needs)
     loop-again
     returns)

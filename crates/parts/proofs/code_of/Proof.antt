@@ -6,21 +6,6 @@ use borrow.Author.Needs.{needs}
 use Rattle.parts.proofs.code_of.Statement.{statement}
 use Rattle.parts.proofs.code_of.Tie as tie
 
-operation-at-requires : tie.Need-operation-at-requires
-operation-at-requires c κs = search needs
-
-pushes-at-requires : tie.Need-pushes-at-requires
-pushes-at-requires c κs = search needs
-
-where-true-requires : tie.Need-where-true-requires
-where-true-requires c κs = search needs
-
-calls-at-requires : tie.Need-calls-at-requires
-calls-at-requires c κs = search needs
-
-where-true-requires-2 : tie.Need-where-true-requires-2
-where-true-requires-2 c κs = search needs
-
 add-result : tie.Need-add-result
 add-result c =
     omega (
@@ -49,11 +34,11 @@ pub code-of-spec : {M : Type 1} → statement M
 code-of-spec =
     tie.close
     (tie.spec
-    operation-at-requires
-    pushes-at-requires
-    where-true-requires
-    calls-at-requires
-    where-true-requires-2
+    (λ c κs. search needs)
+    (λ c κs. search needs)
+    (λ c κs. search needs)
+    (λ c κs. search needs)
+    (λ c κs. search needs)
     add-result
     add-result-2
     returns)

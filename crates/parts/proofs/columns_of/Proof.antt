@@ -36,48 +36,6 @@ loop-holds : tie.Need-loop-holds Inv-loop μ-loop
 unfolding instructionsOf
 loop-holds c = (omega arith, record { codes = refl; operands = refl; cycles = refl; words = refl; extras = refl }, refl, refl, λ j. omega arith)
 
-first-line-requires : tie.Need-first-line-requires Inv-loop μ-loop
-first-line-requires c κs = search needs
-
-entry-of-requires : tie.Need-entry-of-requires Inv-loop μ-loop
-entry-of-requires c κs = search needs
-
-array-write-codes : tie.Need-array-write-codes Inv-loop μ-loop
-array-write-codes c = search needs
-
-mul-operands : tie.Need-mul-operands Inv-loop μ-loop
-mul-operands c = search needs
-
-array-set-from-operands : tie.Need-array-set-from-operands Inv-loop μ-loop
-array-set-from-operands c = search needs
-
-mul-cycles : tie.Need-mul-cycles Inv-loop μ-loop
-mul-cycles c = search needs
-
-array-write-cycles : tie.Need-array-write-cycles Inv-loop μ-loop
-array-write-cycles c = search needs
-
-mul-words : tie.Need-mul-words Inv-loop μ-loop
-mul-words c = search needs
-
-array-write-words : tie.Need-array-write-words Inv-loop μ-loop
-array-write-words c = search needs
-
-mul-extras : tie.Need-mul-extras Inv-loop μ-loop
-mul-extras c = search needs
-
-array-write-extras : tie.Need-array-write-extras Inv-loop μ-loop
-array-write-extras c = search needs
-
-next-lines-requires : tie.Need-next-lines-requires Inv-loop μ-loop
-next-lines-requires c κs = search needs
-
-add-place : tie.Need-add-place Inv-loop μ-loop
-add-place c = search needs
-
-loop-less : tie.Need-loop-less Inv-loop μ-loop
-loop-less c = search needs
-
 loop-again : tie.Need-loop-again Inv-loop μ-loop
 loop-again c =
     let l = c .before .before .before .before .before .loop in
@@ -116,19 +74,19 @@ columns-of-spec =
     Inv-loop
     μ-loop
     loop-holds
-    first-line-requires
-    entry-of-requires
-    array-write-codes
-    mul-operands
-    array-set-from-operands
-    mul-cycles
-    array-write-cycles
-    mul-words
-    array-write-words
-    mul-extras
-    array-write-extras
-    next-lines-requires
-    add-place
-    loop-less
+    (λ c κs. search needs)
+    (λ c κs. search needs)
+    (λ c. search needs)
+    (λ c. search needs)
+    (λ c. search needs)
+    (λ c. search needs)
+    (λ c. search needs)
+    (λ c. search needs)
+    (λ c. search needs)
+    (λ c. search needs)
+    (λ c. search needs)
+    (λ c κs. search needs)
+    (λ c. search needs)
+    (λ c. search needs)
     loop-again
     returns)

@@ -25,26 +25,8 @@ kind-is c = found kindNames _ _ _ (c .index-of .ensures) (c .before .kind-named 
 kind-low : (c : tie.After-index-of) → c .index-of .result < 61
 kind-low c = omega (arith, kind-is c, kind-small (op (c .before .before .before .before .before .before .before .before .before .before .before .before .args .text .now)))
 
-word-at-requires : tie.Need-word-at-requires
-word-at-requires c κs = search needs
-
-word-at-requires-2 : tie.Need-word-at-requires-2
-word-at-requires-2 c κs = search needs
-
-kind-named-requires : tie.Need-kind-named-requires
-kind-named-requires c κs = search needs
-
-index-of-requires : tie.Need-index-of-requires
-index-of-requires c κs = search needs
-
 calls-at-requires : tie.Need-calls-at-requires
 calls-at-requires c κs = kind-low c
-
-index-listed-requires : tie.Need-index-listed-requires
-index-listed-requires c κs = search needs
-
-index-listed-requires-2 : tie.Need-index-listed-requires-2
-index-listed-requires-2 c κs = search needs
 
 code-of-requires : tie.Need-code-of-requires
 code-of-requires c κs = kind-low (c .before .before .before)
@@ -52,20 +34,11 @@ code-of-requires c κs = kind-low (c .before .before .before)
 operand-of-requires : tie.Need-operand-of-requires
 operand-of-requires c κs = kind-low (c .before .before .before .before)
 
-cycle-counts-requires : tie.Need-cycle-counts-requires
-cycle-counts-requires c κs = search needs
-
 price-of-requires : tie.Need-price-of-requires
 price-of-requires c κs = record { greatest = 65535; is = c .cycle-counts .ensures; small = omega arith }
 
-word-counts-requires : tie.Need-word-counts-requires
-word-counts-requires c κs = search needs
-
 price-of-requires-2 : tie.Need-price-of-requires-2
 price-of-requires-2 c κs = record { greatest = 255; is = c .word-counts .ensures; small = omega arith }
-
-extra-counts-requires : tie.Need-extra-counts-requires
-extra-counts-requires c κs = search needs
 
 natural-at-requires : tie.Need-natural-at-requires
 natural-at-requires c κs = record { least = 0; greatest = 65535; is = c .extra-counts .ensures; small = (omega arith, omega arith) }
@@ -98,19 +71,19 @@ pub entry-of-spec : {M : Type 1} → statement M
 entry-of-spec =
     tie.close
     (tie.spec
-    word-at-requires
-    word-at-requires-2
-    kind-named-requires
-    index-of-requires
+    (λ c κs. search needs)
+    (λ c κs. search needs)
+    (λ c κs. search needs)
+    (λ c κs. search needs)
     calls-at-requires
-    index-listed-requires
-    index-listed-requires-2
+    (λ c κs. search needs)
+    (λ c κs. search needs)
     code-of-requires
     operand-of-requires
-    cycle-counts-requires
+    (λ c κs. search needs)
     price-of-requires
-    word-counts-requires
+    (λ c κs. search needs)
     price-of-requires-2
-    extra-counts-requires
+    (λ c κs. search needs)
     natural-at-requires
     returns)

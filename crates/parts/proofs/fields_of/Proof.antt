@@ -24,15 +24,9 @@ abbrev μ-loop : tie.MeasureT-loop
 room : (c : tie.Start Inv-loop μ-loop) (k : ℕ) → k < c .args .count → k < length (c .args .t2)
 room c k h = let e : length (c .args .t2) ≡ 8 = search needs in let p = c .pre .0 in omega arith
 
-number-requires : tie.Need-number-requires Inv-loop μ-loop
-number-requires c κs = search needs
-
 loop-holds : tie.Need-loop-holds Inv-loop μ-loop
 unfolding total blocksOf blocksInLine
 loop-holds c = (omega arith, refl, refl)
-
-array-read-size : tie.Need-array-read-size Inv-loop μ-loop
-array-read-size c = search needs
 
 cast-size : tie.Need-cast-size Inv-loop μ-loop
 cast-size c =
@@ -40,9 +34,6 @@ cast-size c =
     let k = c .before .loop .k in
     let f : getD (start .args .t2) k 0 ≤ 16 = block-few (start .args .t2) (start .args .count) (start .pre .1) k (c .loop-test .taken) (room start k (c .loop-test .taken)) in
     omega arith
-
-mul-fill : tie.Need-mul-fill Inv-loop μ-loop
-mul-fill c = search needs
 
 fill-requires : tie.Need-fill-requires Inv-loop μ-loop
 fill-requires c κs =
@@ -65,12 +56,6 @@ add-from c =
     let t = passed-few (start .args .t2) (start .args .count) (start .pre .1) k (c .before .loop-test .taken) r in
     let q = start .pre .0 in
     omega arith
-
-add-k : tie.Need-add-k Inv-loop μ-loop
-add-k c = search needs
-
-loop-less : tie.Need-loop-less Inv-loop μ-loop
-loop-less c = search needs
 
 loop-again : tie.Need-loop-again Inv-loop μ-loop
 loop-again c =
@@ -98,14 +83,14 @@ fields-of-spec =
     (tie.spec
     Inv-loop
     μ-loop
-    number-requires
+    (λ c κs. search needs)
     loop-holds
-    array-read-size
+    (λ c. search needs)
     cast-size
-    mul-fill
+    (λ c. search needs)
     fill-requires
     add-from
-    add-k
-    loop-less
+    (λ c. search needs)
+    (λ c. search needs)
     loop-again
     returns)

@@ -30,24 +30,6 @@ loop-holds c = (omega arith, search (needs, length-images), refl, refl)
 add-cell-at : tie.Need-add-cell-at Inv-loop μ-loop
 add-cell-at c = omega (arith, list-length (c .before .before .before .args .values .now))
 
-cell-at-requires : tie.Need-cell-at-requires Inv-loop μ-loop
-cell-at-requires c κs = search needs
-
-add-j : tie.Need-add-j Inv-loop μ-loop
-add-j c = search needs
-
-mul-filled : tie.Need-mul-filled Inv-loop μ-loop
-mul-filled c = search needs
-
-array-set-from-filled : tie.Need-array-set-from-filled Inv-loop μ-loop
-array-set-from-filled c = search needs
-
-add-i : tie.Need-add-i Inv-loop μ-loop
-add-i c = search needs
-
-loop-less : tie.Need-loop-less Inv-loop μ-loop
-loop-less c = search needs
-
 loop-again : tie.Need-loop-again Inv-loop μ-loop
 loop-again c =
     let l = c .before .before .loop in
@@ -75,11 +57,11 @@ fill-spec =
     μ-loop
     loop-holds
     add-cell-at
-    cell-at-requires
-    add-j
-    mul-filled
-    array-set-from-filled
-    add-i
-    loop-less
+    (λ c κs. search needs)
+    (λ c. search needs)
+    (λ c. search needs)
+    (λ c. search needs)
+    (λ c. search needs)
+    (λ c. search needs)
     loop-again
     returns)

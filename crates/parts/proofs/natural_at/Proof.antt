@@ -5,14 +5,8 @@ use borrow.Author.Needs.{needs}
 use Rattle.parts.proofs.natural_at.Statement.{statement}
 use Rattle.parts.proofs.natural_at.Tie as tie
 
-listed-at-requires : tie.Need-listed-at-requires
-listed-at-requires c κs = search needs
-
-natural-of-requires : tie.Need-natural-of-requires
-natural-of-requires c κs = search needs
-
 returns : tie.Need-returns
 returns c = c .natural-of .ensures ∙ ap (naturalIn (c .before .before .before .args .range)) (c .before .listed-at .ensures)
 
 pub natural-at-spec : {M : Type 1} → statement M
-natural-at-spec = tie.close (tie.spec listed-at-requires natural-of-requires returns)
+natural-at-spec = tie.close (tie.spec (λ c κs. search needs) (λ c κs. search needs) returns)

@@ -13,35 +13,11 @@ use borrow.Author.Needs.{needs}
 use Rattle.parts.proofs.operand_of.Statement.{statement}
 use Rattle.parts.proofs.operand_of.Tie as tie
 
-argument-at-requires : tie.Need-argument-at-requires
-argument-at-requires c κs = search needs
-
 enum-told : tie.Need-enum-told
 enum-told c = search needs
 
-fixed-at-requires : tie.Need-fixed-at-requires
-fixed-at-requires c κs = search needs
-
-enum-told-2 : tie.Need-enum-told-2
-enum-told-2 c = search needs
-
-range-at-requires : tie.Need-range-at-requires
-range-at-requires c κs = search needs
-
 number-of-requires : tie.Need-number-of-requires
 number-of-requires c κs = addresses-fit _ (target-range (c .range-at .ensures) (c .before .before .before .argument-at .ensures) (c .before .enum-told2 .given .1))
-
-enum-told-3 : tie.Need-enum-told-3
-enum-told-3 c = search needs
-
-fixed-at-requires-2 : tie.Need-fixed-at-requires-2
-fixed-at-requires-2 c κs = search needs
-
-enum-told-4 : tie.Need-enum-told-4
-enum-told-4 c = search needs
-
-number-range-requires : tie.Need-number-range-requires
-number-range-requires c κs = search needs
 
 number-of-requires-2 : tie.Need-number-of-requires-2
 number-of-requires-2 c κs = numbers-fit _ (c .number-range .ensures)
@@ -67,16 +43,16 @@ pub operand-of-spec : {M : Type 1} → statement M
 operand-of-spec =
     tie.close
     (tie.spec
-    argument-at-requires
+    (λ c κs. search needs)
     enum-told
-    fixed-at-requires
-    enum-told-2
-    range-at-requires
+    (λ c κs. search needs)
+    (λ c. search needs)
+    (λ c κs. search needs)
     number-of-requires
-    enum-told-3
-    fixed-at-requires-2
-    enum-told-4
-    number-range-requires
+    (λ c. search needs)
+    (λ c κs. search needs)
+    (λ c. search needs)
+    (λ c κs. search needs)
     number-of-requires-2
     returns
     returns-2

@@ -2,7 +2,6 @@
 use native.Mathlib.Omega.{arith}
 use Rattle.routine.specs.Layout.{list}
 use Rattle.parts.proofs.EntryLaws.{price-natural, natural-small, with-primitive, without-primitive}
-use borrow.Author.Needs.{needs}
 use Rattle.parts.proofs.price_of.Statement.{statement}
 use Rattle.parts.proofs.price_of.Tie as tie
 

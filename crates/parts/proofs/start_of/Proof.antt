@@ -22,18 +22,6 @@ Inv-loop values first accu stack₀ count n free i₀ stack i =
 abbrev μ-loop : tie.MeasureT-loop
 μ-loop values first accu stack₀ count n free i₀ stack i = n - i
 
-cell-at-requires : tie.Need-cell-at-requires Inv-loop μ-loop
-cell-at-requires c κs = search needs
-
-number-requires : tie.Need-number-requires Inv-loop μ-loop
-number-requires c κs = search needs
-
-count-listed-requires : tie.Need-count-listed-requires Inv-loop μ-loop
-count-listed-requires c κs = search needs
-
-sub-n : tie.Need-sub-n Inv-loop μ-loop
-sub-n c = search needs
-
 sub-free : tie.Need-sub-free Inv-loop μ-loop
 sub-free c = ⊎-elim (λ w. omega arith) (λ w. omega arith) (c .before .if1 .came)
 
@@ -43,27 +31,6 @@ loop-holds c =
     let e = cells-length (list values) in
     let q = c .before .before .count-listed .ensures in
     ⊎-elim (λ w. (omega arith, refl, omega arith, omega arith, refl)) (λ w. (omega arith, refl, omega arith, omega arith, refl)) (c .before .if1 .came)
-
-add-cell-at : tie.Need-add-cell-at Inv-loop μ-loop
-add-cell-at c = search needs
-
-cell-at-requires-2 : tie.Need-cell-at-requires-2 Inv-loop μ-loop
-cell-at-requires-2 c κs = search needs
-
-add-j : tie.Need-add-j Inv-loop μ-loop
-add-j c = search needs
-
-mul-stack : tie.Need-mul-stack Inv-loop μ-loop
-mul-stack c = search needs
-
-array-set-from-stack : tie.Need-array-set-from-stack Inv-loop μ-loop
-array-set-from-stack c = search needs
-
-add-i : tie.Need-add-i Inv-loop μ-loop
-add-i c = search needs
-
-loop-less : tie.Need-loop-less Inv-loop μ-loop
-loop-less c = search needs
 
 loop-again : tie.Need-loop-again Inv-loop μ-loop
 loop-again c =
@@ -95,18 +62,18 @@ start-of-spec =
     (tie.spec
     Inv-loop
     μ-loop
-    cell-at-requires
-    number-requires
-    count-listed-requires
-    sub-n
+    (λ c κs. search needs)
+    (λ c κs. search needs)
+    (λ c κs. search needs)
+    (λ c. search needs)
     sub-free
     loop-holds
-    add-cell-at
-    cell-at-requires-2
-    add-j
-    mul-stack
-    array-set-from-stack
-    add-i
-    loop-less
+    (λ c. search needs)
+    (λ c κs. search needs)
+    (λ c. search needs)
+    (λ c. search needs)
+    (λ c. search needs)
+    (λ c. search needs)
+    (λ c. search needs)
     loop-again
     returns)

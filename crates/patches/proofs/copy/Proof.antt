@@ -11,9 +11,6 @@ use borrow.Author.Needs.{needs}
 use Rattle.patches.proofs.copy.Statement.{statement}
 use Rattle.patches.proofs.copy.Tie as tie
 
-check-requires : tie.Need-check-requires
-check-requires c κs = search needs
-
 enum-told : tie.Need-enum-told
 enum-told c = search needs
 
@@ -25,15 +22,6 @@ copy-at-requires c κs =
     let a = accepted-reading (s .args .text .now) Bound (sym (k .check .ensures) ∙ c .before .enum-told .given .1) in
     let r = read-passes (s .args .text .now) _ (a .1) in
     (r .0, r .2, s .pre)
-
-enum-known-verdict : tie.Need-enum-known-verdict
-enum-known-verdict c = search needs
-
-same-length : tie.Need-same-length
-same-length c = search needs
-
-returns : tie.Need-returns
-returns c = search needs
 
 returns-2 : tie.Need-returns-2
 unfolding readBy
@@ -47,10 +35,10 @@ pub copy-spec : {M : Type 1} → statement M
 copy-spec =
     tie.close
     (tie.spec
-    check-requires
+    (λ c κs. search needs)
     enum-told
     copy-at-requires
-    enum-known-verdict
-    same-length
-    returns
+    (λ c. search needs)
+    (λ c. search needs)
+    (λ c. search needs)
     returns-2)

@@ -8,15 +8,6 @@ use borrow.Author.Needs.{needs}
 use Rattle.patches.proofs.copy_at.Statement.{statement}
 use Rattle.patches.proofs.copy_at.Tie as tie
 
-body-of-requires : tie.Need-body-of-requires
-body-of-requires c κs = search needs
-
-first-address-requires : tie.Need-first-address-requires
-first-address-requires c κs = search needs
-
-count-code-requires : tie.Need-count-code-requires
-count-code-requires c κs = search needs
-
 returns : tie.Need-returns
 returns c =
     let d = c .before in
@@ -29,18 +20,12 @@ returns-2 c =
     let s = d .before .before .before .before .before .before in
     gives-refusal _ _ (copy-above (s .args .text .now) (s .pre .0) (s .pre .1) (s .args .address) (s .args .instruction .now) _ (d .before .before .body-of .ensures) _ _ (d .before .first-address .ensures) (d .count-code .ensures) (omega (arith, c .before .if1 .left)) (omega (arith, c .if2 .taken))) _
 
-add-put-copy : tie.Need-add-put-copy
-add-put-copy c = search needs
-
 put-copy-requires : tie.Need-put-copy-requires
 put-copy-requires c κs =
     let d = c .before .before .before in
     let s = d .before .before .before .before .before .before in
     let i = copy-inside (s .args .text .now) (s .pre .0) (s .pre .1) (s .args .address) (s .args .instruction .now) _ (d .before .before .body-of .ensures) _ _ (d .before .first-address .ensures) (d .count-code .ensures) (omega (arith, c .before .before .if1 .left)) (omega (arith, c .before .if2 .left)) in
     (s .pre .0, s .pre .1, i .0 .0, i .0 .1, s .pre .2)
-
-same-length : tie.Need-same-length
-same-length c = search needs
 
 returns-3 : tie.Need-returns-3
 returns-3 c =
@@ -54,12 +39,12 @@ pub copy-at-spec : {M : Type 1} → statement M
 copy-at-spec =
     tie.close
     (tie.spec
-    body-of-requires
-    first-address-requires
-    count-code-requires
+    (λ c κs. search needs)
+    (λ c κs. search needs)
+    (λ c κs. search needs)
     returns
     returns-2
-    add-put-copy
+    (λ c. search needs)
     put-copy-requires
-    same-length
+    (λ c. search needs)
     returns-3)

@@ -10,29 +10,8 @@ use borrow.Author.Needs.{needs}
 use Rattle.patches.proofs.put_copy.Statement.{statement}
 use Rattle.patches.proofs.put_copy.Tie as tie
 
-after-lines-requires : tie.Need-after-lines-requires
-after-lines-requires c κs = search needs
-
-first-line-requires : tie.Need-first-line-requires
-first-line-requires c κs = search needs
-
-word-at-requires : tie.Need-word-at-requires
-word-at-requires c κs = search needs
-
 after-line-requires : tie.Need-after-line-requires
 after-line-requires c κs = ap length (c .before .first-line .ensures)
-
-sub-start : tie.Need-sub-start
-sub-start c = search needs
-
-add-kept : tie.Need-add-kept
-add-kept c = search needs
-
-add-kept-2 : tie.Need-add-kept-2
-add-kept-2 c = search needs
-
-add-kept-3 : tie.Need-add-kept-3
-add-kept-3 c = search needs
 
 sub-if1 : tie.Need-sub-if1
 sub-if1 c =
@@ -60,9 +39,6 @@ put-parts-requires c κs =
     let t = length-take-le (length (s .args .text .now) - length (d .before .before .before .after-lines .result .now)) (s .args .text .now) (omega arith) in
     omega (arith, q .fits, s .pre .1, s .pre .4, c .before .before .if1 .left)
 
-same-length : tie.Need-same-length
-same-length c = search needs
-
 returns-2 : tie.Need-returns-2
 returns-2 c =
     let e = c .before .before in
@@ -75,17 +51,17 @@ pub put-copy-spec : {M : Type 1} → statement M
 put-copy-spec =
     tie.close
     (tie.spec
-    after-lines-requires
-    first-line-requires
-    word-at-requires
+    (λ c κs. search needs)
+    (λ c κs. search needs)
+    (λ c κs. search needs)
     after-line-requires
-    sub-start
-    add-kept
-    add-kept-2
-    add-kept-3
+    (λ c. search needs)
+    (λ c. search needs)
+    (λ c. search needs)
+    (λ c. search needs)
     sub-if1
     returns
     slice-aggregate-put-parts
     put-parts-requires
-    same-length
+    (λ c. search needs)
     returns-2)

@@ -7,18 +7,12 @@ use Rattle.console.proofs.PrintLaws.{line-held, line-printed}
 use Rattle.preview.proofs.answer.Statement.{statement}
 use Rattle.preview.proofs.answer.Tie as tie
 
-preview-requires : tie.Need-preview-requires
-preview-requires c κs = search needs
-
 put-line-requires : tie.Need-put-line-requires
 put-line-requires c κs =
     let b = c .before .before .before in
     let s = b .before .before .before .before .before in
     let a = previewAnswer (s .args .text .now) (s .args .address) (s .args .instruction .now) (length (s .args .out .now)) in
     line-held a (s .args .out .now) (b .preview .ensures .0) (b .preview .ensures .1) (s .pre)
-
-same-length : tie.Need-same-length
-same-length c = search needs
 
 returns : tie.Need-returns
 returns c =
@@ -29,4 +23,4 @@ returns c =
     (l .put-line .ensures .0, l .put-line .ensures .1 ∙ line-printed a (s .args .out .now) (b .preview .ensures .0) (b .preview .ensures .1))
 
 pub answer-spec : {M : Type 1} → statement M
-answer-spec = tie.close (tie.spec preview-requires put-line-requires same-length returns)
+answer-spec = tie.close (tie.spec (λ c κs. search needs) put-line-requires (λ c. search needs) returns)

@@ -4,27 +4,6 @@ use borrow.Author.Needs.{needs}
 use Rattle.reader.proofs.columns_in.Statement.{statement}
 use Rattle.reader.proofs.columns_in.Tie as tie
 
-text-of-requires : tie.Need-text-of-requires
-text-of-requires c κs = search needs
-
-text-of-requires-2 : tie.Need-text-of-requires-2
-text-of-requires-2 c κs = search needs
-
-text-of-requires-3 : tie.Need-text-of-requires-3
-text-of-requires-3 c κs = search needs
-
-text-of-requires-4 : tie.Need-text-of-requires-4
-text-of-requires-4 c κs = search needs
-
-text-of-requires-5 : tie.Need-text-of-requires-5
-text-of-requires-5 c κs = search needs
-
-text-of-requires-6 : tie.Need-text-of-requires-6
-text-of-requires-6 c κs = search needs
-
-text-of-requires-7 : tie.Need-text-of-requires-7
-text-of-requires-7 c κs = search needs
-
 columns-of-requires : tie.Need-columns-of-requires
 columns-of-requires c κs = counted-few _ _ _ (c .before .before .before .before .before .before .before .before .before .pre)
 
@@ -35,12 +14,12 @@ pub columns-in-spec : {M : Type 1} → statement M
 columns-in-spec =
     tie.close
     (tie.spec
-    text-of-requires
-    text-of-requires-2
-    text-of-requires-3
-    text-of-requires-4
-    text-of-requires-5
-    text-of-requires-6
-    text-of-requires-7
+    (λ c κs. search needs)
+    (λ c κs. search needs)
+    (λ c κs. search needs)
+    (λ c κs. search needs)
+    (λ c κs. search needs)
+    (λ c κs. search needs)
+    (λ c κs. search needs)
     columns-of-requires
     returns)

@@ -8,62 +8,23 @@ use borrow.Author.Needs.{needs}
 use Rattle.reader.proofs.routine_of.Statement.{statement}
 use Rattle.reader.proofs.routine_of.Tie as tie
 
-text-of-requires : tie.Need-text-of-requires
-text-of-requires c κs = search needs
-
-budgets-requires : tie.Need-budgets-requires
-budgets-requires c κs = search needs
-
 natural-at-requires : tie.Need-natural-at-requires
 natural-at-requires c κs = record { least = 1; greatest = 1000000; is = c .budgets .ensures; small = (omega arith, omega arith) }
-
-cast-budget : tie.Need-cast-budget
-cast-budget c = search needs
-
-ticks-requires : tie.Need-ticks-requires
-ticks-requires c κs = search needs
 
 natural-at-requires-2 : tie.Need-natural-at-requires-2
 natural-at-requires-2 c κs = record { least = 1; greatest = 4000000000; is = c .ticks .ensures; small = (omega arith, omega arith) }
 
-cast-tick : tie.Need-cast-tick
-cast-tick c = search needs
-
-text-of-requires-2 : tie.Need-text-of-requires-2
-text-of-requires-2 c κs = search needs
-
-blocks-named-requires : tie.Need-blocks-named-requires
-blocks-named-requires c κs = search needs
-
-text-of-requires-3 : tie.Need-text-of-requires-3
-text-of-requires-3 c κs = search needs
-
 fields-of-requires : tie.Need-fields-of-requires
 fields-of-requires c κs = fields-ready _ (c .before .before .before .before .before .before .before .before .before .before .pre) _ _ _ (c .before .before .before .text-of2 .ensures) (c .text-of3 .ensures) refl _ (c .before .before .blocks-named .ensures)
 
-body-of-requires : tie.Need-body-of-requires
-body-of-requires c κs = search needs
-
-first-address-requires : tie.Need-first-address-requires
-first-address-requires c κs = search needs
-
-count-code-requires : tie.Need-count-code-requires
-count-code-requires c κs = search needs
-
 columns-in-requires : tie.Need-columns-in-requires
 columns-in-requires c κs = counted _ (c .before .before .before .before .before .before .before .before .before .before .before .before .before .before .pre) _ (c .before .before .body-of .ensures) _ (c .count-code .ensures)
-
-text-of-requires-4 : tie.Need-text-of-requires-4
-text-of-requires-4 c κs = search needs
 
 start-of-requires : tie.Need-start-of-requires
 start-of-requires c κs = cells-ready _ (c .before .before .before .before .before .before .before .before .before .before .before .before .before .before .before .before .pre) _ _ _ (c .before .before .before .before .before .before .before .before .before .text-of2 .ensures) (c .before .before .before .before .before .before .text-of3 .ensures) (c .text-of4 .ensures) _ (c .before .before .before .before .before .before .before .before .blocks-named .ensures)
 
 add-after-lines : tie.Need-add-after-lines
 add-after-lines c = let k = counted _ (c .before .before .before .before .before .before .before .before .before .before .before .before .before .before .before .before .before .pre) _ (c .before .before .before .before .before .body-of .ensures) _ (c .before .before .before .count-code .ensures) in let h = k .few in omega arith
-
-after-lines-requires : tie.Need-after-lines-requires
-after-lines-requires c κs = search needs
 
 answers-of-requires : tie.Need-answers-of-requires
 answers-of-requires c κs = answers-small _ (c .before .before .before .before .before .before .before .before .before .before .before .before .before .before .before .before .before .before .pre) _ (c .before .before .before .before .before .before .body-of .ensures) _ (c .before .before .before .before .count-code .ensures) _ (c .after-lines .ensures .0)
@@ -106,24 +67,24 @@ pub routine-of-spec : {M : Type 1} → statement M
 routine-of-spec =
     tie.close
     (tie.spec
-    text-of-requires
-    budgets-requires
+    (λ c κs. search needs)
+    (λ c κs. search needs)
     natural-at-requires
-    cast-budget
-    ticks-requires
+    (λ c. search needs)
+    (λ c κs. search needs)
     natural-at-requires-2
-    cast-tick
-    text-of-requires-2
-    blocks-named-requires
-    text-of-requires-3
+    (λ c. search needs)
+    (λ c κs. search needs)
+    (λ c κs. search needs)
+    (λ c κs. search needs)
     fields-of-requires
-    body-of-requires
-    first-address-requires
-    count-code-requires
+    (λ c κs. search needs)
+    (λ c κs. search needs)
+    (λ c κs. search needs)
     columns-in-requires
-    text-of-requires-4
+    (λ c κs. search needs)
     start-of-requires
     add-after-lines
-    after-lines-requires
+    (λ c κs. search needs)
     answers-of-requires
     returns)

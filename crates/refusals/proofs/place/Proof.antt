@@ -4,69 +4,6 @@ use Rattle.refusals.specs.Refusals.{place}
 use Rattle.refusals.proofs.place.Statement.{statement}
 use Rattle.refusals.proofs.place.Tie as tie
 
-enum-told : tie.Need-enum-told
-enum-told c = search needs
-
-enum-told-2 : tie.Need-enum-told-2
-enum-told-2 c = search needs
-
-enum-known-refusal : tie.Need-enum-known-refusal
-enum-known-refusal c = search needs
-
-cast-result : tie.Need-cast-result
-cast-result c = search needs
-
-enum-known-refusal-2 : tie.Need-enum-known-refusal-2
-enum-known-refusal-2 c = search needs
-
-cast-result-2 : tie.Need-cast-result-2
-cast-result-2 c = search needs
-
-enum-known-refusal-3 : tie.Need-enum-known-refusal-3
-enum-known-refusal-3 c = search needs
-
-cast-result-3 : tie.Need-cast-result-3
-cast-result-3 c = search needs
-
-enum-known-refusal-4 : tie.Need-enum-known-refusal-4
-enum-known-refusal-4 c = search needs
-
-cast-result-4 : tie.Need-cast-result-4
-cast-result-4 c = search needs
-
-enum-known-refusal-5 : tie.Need-enum-known-refusal-5
-enum-known-refusal-5 c = search needs
-
-cast-result-5 : tie.Need-cast-result-5
-cast-result-5 c = search needs
-
-enum-known-refusal-6 : tie.Need-enum-known-refusal-6
-enum-known-refusal-6 c = search needs
-
-cast-result-6 : tie.Need-cast-result-6
-cast-result-6 c = search needs
-
-enum-known-refusal-7 : tie.Need-enum-known-refusal-7
-enum-known-refusal-7 c = search needs
-
-cast-result-7 : tie.Need-cast-result-7
-cast-result-7 c = search needs
-
-enum-known-refusal-8 : tie.Need-enum-known-refusal-8
-enum-known-refusal-8 c = search needs
-
-enum-known-refusal-9 : tie.Need-enum-known-refusal-9
-enum-known-refusal-9 c = search needs
-
-enum-known-refusal-10 : tie.Need-enum-known-refusal-10
-enum-known-refusal-10 c = search needs
-
-enum-known-refusal-11 : tie.Need-enum-known-refusal-11
-enum-known-refusal-11 c = search needs
-
-enum-known-refusal-12 : tie.Need-enum-known-refusal-12
-enum-known-refusal-12 c = search needs
-
 returns : tie.Need-returns
 unfolding place
 returns c = search needs
@@ -127,27 +64,27 @@ pub place-spec : {M : Type 1} → statement M
 place-spec =
     tie.close
     (tie.spec
-    enum-told
-    enum-told-2
-    enum-known-refusal
-    cast-result
-    enum-known-refusal-2
-    cast-result-2
-    enum-known-refusal-3
-    cast-result-3
-    enum-known-refusal-4
-    cast-result-4
-    enum-known-refusal-5
-    cast-result-5
-    enum-known-refusal-6
-    cast-result-6
-    enum-known-refusal-7
-    cast-result-7
-    enum-known-refusal-8
-    enum-known-refusal-9
-    enum-known-refusal-10
-    enum-known-refusal-11
-    enum-known-refusal-12
+    (λ c. search needs)
+    (λ c. search needs)
+    (λ c. search needs)
+    (λ c. search needs)
+    (λ c. search needs)
+    (λ c. search needs)
+    (λ c. search needs)
+    (λ c. search needs)
+    (λ c. search needs)
+    (λ c. search needs)
+    (λ c. search needs)
+    (λ c. search needs)
+    (λ c. search needs)
+    (λ c. search needs)
+    (λ c. search needs)
+    (λ c. search needs)
+    (λ c. search needs)
+    (λ c. search needs)
+    (λ c. search needs)
+    (λ c. search needs)
+    (λ c. search needs)
     returns
     returns-2
     returns-3

@@ -4,9 +4,8 @@ use mathlib.Core.Bool.{cond}
 use Prim.Native.Nat.{suc}
 use native.Mathlib.Numerals.{add-one}
 use native.Mathlib.Omega.{arith}
-use lib.ListN.{length}
 use borrow.Author.Needs.{needs}
-use Rattle.text.specs.Text.{isEmpty, lines}
+use Rattle.text.specs.Text.{isEmpty}
 use Rattle.text.proofs.LineLaws.{lines-none, lines-first}
 use Rattle.replays.specs.Replay.{agreed, differed}
 use Rattle.replays.specs.Held.{ofReplayed}
@@ -17,9 +16,6 @@ returns : tie.Need-returns
 unfolding ofReplayed
 returns c = let s = c .before .args in sym (ap (λ ls. cond (isEmpty ls) agreed (differed (suc (s .n)))) (lines-none (s .rest .now) (omega arith)))
 
-add-t3 : tie.Need-add-t3
-add-t3 c = search needs
-
 returns-2 : tie.Need-returns-2
 unfolding ofReplayed
 returns-2 c =
@@ -27,4 +23,4 @@ returns-2 c =
     ap differed (add-one (s .n)) ∙ sym (ap (λ ls. cond (isEmpty ls) agreed (differed (suc (s .n)))) (lines-first (s .rest .now) (omega arith)))
 
 pub after-stop-spec : {M : Type 1} → statement M
-after-stop-spec = tie.close (tie.spec returns add-t3 returns-2)
+after-stop-spec = tie.close (tie.spec returns (λ c. search needs) returns-2)

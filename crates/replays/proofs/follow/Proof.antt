@@ -1,6 +1,6 @@
 -- `replays::follow` meets its contract: the line is held against what the step leads to. Assumes nothing.
 use mathlib.Core.Path.{_≡_, subst}
-use mathlib.Core.Bool.{false, false≢true}
+use mathlib.Core.Bool.{false≢true}
 use mathlib.Core.List.{_∷_, []}
 use mathlib.Core.Logic.{⊎-elim}
 use Prim.Native.Nat.{ℕ}
@@ -28,18 +28,6 @@ no-way x h p e = ⊎-elim
     (λ (k : _≡_ {A = ℕ} 2 0). omega arith)
     (⊎-elim (λ (k : _≡_ {A = ℕ} 2 1). omega arith) (λ (k : _≡_ {A = ℕ} 2 3). omega arith))
     (subst (λ v. OneOf (0 ∷ 1 ∷ 3 ∷ []) (tagOf next.the-type v)) e h)
-
-answer-at-requires : tie.Need-answer-at-requires
-answer-at-requires c κs = search needs
-
-step-requires : tie.Need-step-requires
-step-requires c κs = search needs
-
-taken-after-requires : tie.Need-taken-after-requires
-taken-after-requires c κs = search needs
-
-enum-known-next : tie.Need-enum-known-next
-enum-known-next c = search needs
 
 returns : tie.Need-returns
 returns c =
@@ -70,9 +58,6 @@ returns-2 c =
       fits = s .pre .3;
       few = took .ensures .1;
     }
-
-enum-known-next-2 : tie.Need-enum-known-next-2
-enum-known-next-2 c = search needs
 
 returns-3 : tie.Need-returns-3
 returns-3 c =
@@ -121,13 +106,13 @@ pub follow-spec : {M : Type 1} → statement M
 follow-spec =
     tie.close
     (tie.spec
-    answer-at-requires
-    step-requires
-    taken-after-requires
-    enum-known-next
+    (λ c κs. search needs)
+    (λ c κs. search needs)
+    (λ c κs. search needs)
+    (λ c. search needs)
     returns
     returns-2
-    enum-known-next-2
+    (λ c. search needs)
     returns-3
     returns-4
     returns-5)

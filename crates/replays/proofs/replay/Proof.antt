@@ -28,20 +28,8 @@ Inv-loop codes operands cycles words extras sizes first answers trace state₀ b
 abbrev μ-loop : tie.MeasureT-loop
 μ-loop codes operands cycles words extras sizes first answers trace state₀ blocks₀ taken₀ rest₀ line₀ state blocks taken rest line = length rest
 
-next-lines-requires : tie.Need-next-lines-requires Inv-loop μ-loop
-next-lines-requires c κs = search needs
-
 loop-holds : tie.Need-loop-holds Inv-loop μ-loop
 loop-holds c = let s = c .before .before .before .before .before .before .before in begins _ _ _ _ _ _ _ (s .pre .2) (s .pre .3) (s .pre .4) (c .next-lines .ensures .0)
-
-first-line-requires : tie.Need-first-line-requires Inv-loop μ-loop
-first-line-requires c κs = search needs
-
-entry-of-requires : tie.Need-entry-of-requires Inv-loop μ-loop
-entry-of-requires c κs = search needs
-
-cast-follow : tie.Need-cast-follow Inv-loop μ-loop
-cast-follow c = search needs
 
 follow-requires : tie.Need-follow-requires Inv-loop μ-loop
 follow-requires c κs =
@@ -56,9 +44,6 @@ unfolding ofReplayed
 returns c =
     let b = c .before .before .before .before in
     differs (b .before .before .before .loop .inv) (b .before .before .loop-test .taken) _ (b .before .first-line .ensures) _ _ (b .entry-of .ensures .0) (b .entry-of .ensures .1) _ (c .before .before .follow .ensures) (not-true _ (c .if1 .taken))
-
-next-lines-requires-2 : tie.Need-next-lines-requires-2 Inv-loop μ-loop
-next-lines-requires-2 c κs = search needs
 
 after-stop-requires : tie.Need-after-stop-requires Inv-loop μ-loop
 after-stop-requires c κs = let i = c .before .before .before .before .before .before .before .before .before .loop .inv in let g = i .near in omega arith
@@ -90,14 +75,14 @@ replay-spec =
     (tie.spec
     Inv-loop
     μ-loop
-    next-lines-requires
+    (λ c κs. search needs)
     loop-holds
-    first-line-requires
-    entry-of-requires
-    cast-follow
+    (λ c κs. search needs)
+    (λ c κs. search needs)
+    (λ c. search needs)
     follow-requires
     returns
-    next-lines-requires-2
+    (λ c κs. search needs)
     after-stop-requires
     returns-2
     add-line

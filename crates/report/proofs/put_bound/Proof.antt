@@ -17,38 +17,23 @@ use Rattle.report.proofs.put_bound.Tie as tie
 abbrev whole : (s : tie.Start) → length (boundText (s .args .tick) (reportOf (s .args .cycles) (s .args .words) (s .args .depth) (s .args .steps) (s .args .path))) ≡ 36 + length (figures (reportOf (s .args .cycles) (s .args .words) (s .args .depth) (s .args .steps) 1)) + 1 + length (decimal (share (s .args .tick) (s .args .cycles))) + 1 + length (pathText (decode (s .args .path))) + 1
 whole s = bound-length (s .args .tick) (s .args .cycles) (s .args .words) (s .args .depth) (s .args .steps) (s .args .path)
 
-slice-aggregate-put : tie.Need-slice-aggregate-put
-slice-aggregate-put c = search needs
-
 put-requires : tie.Need-put-requires
 put-requires c κs = omega (arith, whole (c .before .before .before))
 
 put-figures-requires : tie.Need-put-figures-requires
 put-figures-requires c κs = omega (arith, whole (c .before .before .before .before .before .before .before))
 
-slice-aggregate-put-2 : tie.Need-slice-aggregate-put-2
-slice-aggregate-put-2 c = search needs
-
 put-requires-2 : tie.Need-put-requires-2
 put-requires-2 c κs = omega (arith, whole (c .before .before .before .before .before .before .before .before .before .before .before .before))
 
-share-requires : tie.Need-share-requires
-share-requires c κs = search needs
-
 put-decimal-requires : tie.Need-put-decimal-requires
 put-decimal-requires c κs = omega (arith, whole (c .before .before .before .before .before .before .before .before .before .before .before .before .before .before .before .before .before), ap (λ (n : ℕ). length (decimal n)) (c .before .share .ensures))
-
-slice-aggregate-put-3 : tie.Need-slice-aggregate-put-3
-slice-aggregate-put-3 c = search needs
 
 put-requires-3 : tie.Need-put-requires-3
 put-requires-3 c κs = omega (arith, whole (c .before .before .before .before .before .before .before .before .before .before .before .before .before .before .before .before .before .before .before .before .before .before), ap (λ (n : ℕ). length (decimal n)) (c .before .before .before .before .before .before .share .ensures))
 
 put-path-requires : tie.Need-put-path-requires
 put-path-requires c κs = omega (arith, whole (c .before .before .before .before .before .before .before .before .before .before .before .before .before .before .before .before .before .before .before .before .before .before .before .before .before .before), ap (λ (n : ℕ). length (decimal n)) (c .before .before .before .before .before .before .before .before .before .before .share .ensures))
-
-slice-aggregate-put-4 : tie.Need-slice-aggregate-put-4
-slice-aggregate-put-4 c = search needs
 
 put-requires-4 : tie.Need-put-requires-4
 put-requires-4 c κs =
@@ -58,9 +43,6 @@ put-requires-4 c κs =
     let q = c .before .before .before .before .before .before .before .before .before .before .before .before .before .before .before .before .before .before .put2 in
     let n = ap (λ (n : ℕ). length (decimal n)) (c .before .before .before .before .before .before .before .before .before .before .before .before .before .before .before .share .ensures) in
     omega (arith, whole s, s .pre .1, p .ensures .0, p .kept .0, f .ensures .0, f .kept .0, q .ensures .0, q .kept .0)
-
-same-length : tie.Need-same-length
-same-length c = search needs
 
 returns : tie.Need-returns
 returns c =
@@ -88,17 +70,17 @@ pub put-bound-spec : {M : Type 1} → statement M
 put-bound-spec =
     tie.close
     (tie.spec
-    slice-aggregate-put
+    (λ c. search needs)
     put-requires
     put-figures-requires
-    slice-aggregate-put-2
+    (λ c. search needs)
     put-requires-2
-    share-requires
+    (λ c κs. search needs)
     put-decimal-requires
-    slice-aggregate-put-3
+    (λ c. search needs)
     put-requires-3
     put-path-requires
-    slice-aggregate-put-4
+    (λ c. search needs)
     put-requires-4
-    same-length
+    (λ c. search needs)
     returns)

@@ -19,17 +19,11 @@ whole s = figures-length (s .args .cycles) (s .args .words) (s .args .depth) (s 
 put-decimal-requires : tie.Need-put-decimal-requires
 put-decimal-requires c κs = omega (arith, whole (c .before .before))
 
-slice-aggregate-put : tie.Need-slice-aggregate-put
-slice-aggregate-put c = search needs
-
 put-requires : tie.Need-put-requires
 put-requires c κs = omega (arith, whole (c .before .before .before .before .before .before .before))
 
 put-decimal-requires-2 : tie.Need-put-decimal-requires-2
 put-decimal-requires-2 c κs = omega (arith, whole (c .before .before .before .before .before .before .before .before .before .before .before))
-
-slice-aggregate-put-2 : tie.Need-slice-aggregate-put-2
-slice-aggregate-put-2 c = search needs
 
 put-requires-2 : tie.Need-put-requires-2
 put-requires-2 c κs = omega (arith, whole (c .before .before .before .before .before .before .before .before .before .before .before .before .before .before .before .before))
@@ -37,17 +31,11 @@ put-requires-2 c κs = omega (arith, whole (c .before .before .before .before .b
 put-decimal-requires-3 : tie.Need-put-decimal-requires-3
 put-decimal-requires-3 c κs = omega (arith, whole (c .before .before .before .before .before .before .before .before .before .before .before .before .before .before .before .before .before .before .before .before))
 
-slice-aggregate-put-3 : tie.Need-slice-aggregate-put-3
-slice-aggregate-put-3 c = search needs
-
 put-requires-3 : tie.Need-put-requires-3
 put-requires-3 c κs = omega (arith, whole (c .before .before .before .before .before .before .before .before .before .before .before .before .before .before .before .before .before .before .before .before .before .before .before .before .before))
 
 put-decimal-requires-4 : tie.Need-put-decimal-requires-4
 put-decimal-requires-4 c κs = omega (arith, whole (c .before .before .before .before .before .before .before .before .before .before .before .before .before .before .before .before .before .before .before .before .before .before .before .before .before .before .before .before .before))
-
-same-length : tie.Need-same-length
-same-length c = search needs
 
 returns : tie.Need-returns
 unfolding figures reportOf
@@ -85,14 +73,14 @@ put-figures-spec =
     tie.close
     (tie.spec
     put-decimal-requires
-    slice-aggregate-put
+    (λ c. search needs)
     put-requires
     put-decimal-requires-2
-    slice-aggregate-put-2
+    (λ c. search needs)
     put-requires-2
     put-decimal-requires-3
-    slice-aggregate-put-3
+    (λ c. search needs)
     put-requires-3
     put-decimal-requires-4
-    same-length
+    (λ c. search needs)
     returns)

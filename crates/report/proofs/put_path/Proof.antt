@@ -16,16 +16,10 @@ Inv-loop out₀ at path rest₀ e₀ out rest e = Continues out₀ out at e path
 abbrev μ-loop : tie.MeasureT-loop
 μ-loop out₀ at path rest₀ e₀ out rest e = rest
 
-slice-aggregate-put : tie.Need-slice-aggregate-put Inv-loop μ-loop
-slice-aggregate-put c = search needs
-
 put-requires : tie.Need-put-requires Inv-loop μ-loop
 put-requires c κs =
     let s = c .before .before .before .before in
     omega (arith, ap length (path-none (s .args .path) (c .before .before .if1 .taken)))
-
-same-length : tie.Need-same-length Inv-loop μ-loop
-same-length c = search needs
 
 returns : tie.Need-returns Inv-loop μ-loop
 returns c =
@@ -39,17 +33,11 @@ loop-holds c =
     let s = c .before .before in
     path-starts (s .args .out .now) (s .args .at) (s .args .path) (c .if1 .left) (s .pre)
 
-letter-requires : tie.Need-letter-requires Inv-loop μ-loop
-letter-requires c κs = search needs
-
 slice-write-out : tie.Need-slice-write-out Inv-loop μ-loop
 slice-write-out c = path-room (c .before .before .loop .inv) (c .before .loop-test .taken)
 
 add-e : tie.Need-add-e Inv-loop μ-loop
 add-e c = omega (arith, path-room (c .before .before .loop .inv) (c .before .loop-test .taken))
-
-loop-less : tie.Need-loop-less Inv-loop μ-loop
-loop-less c = search needs
 
 loop-again : tie.Need-loop-again Inv-loop μ-loop
 loop-again c = path-next (c .before .before .loop .inv) (c .before .loop-test .taken) _ (c .letter .ensures)
@@ -66,15 +54,15 @@ put-path-spec =
     (tie.spec
     Inv-loop
     μ-loop
-    slice-aggregate-put
+    (λ c. search needs)
     put-requires
-    same-length
+    (λ c. search needs)
     returns
     loop-holds
-    letter-requires
+    (λ c κs. search needs)
     slice-write-out
     add-e
-    loop-less
+    (λ c. search needs)
     loop-again
     same-length-2
     returns-2)

@@ -16,17 +16,11 @@ use Rattle.report.proofs.put_refusal.Tie as tie
 abbrev whole : (s : tie.Start) → length (refusalLine (s .args .number) (s .args .place)) ≡ 8 + length (decimal (s .args .number)) + 1 + length (decimal (s .args .place)) + 1
 whole s = refusal-length (s .args .number) (s .args .place)
 
-slice-aggregate-put : tie.Need-slice-aggregate-put
-slice-aggregate-put c = search needs
-
 put-requires : tie.Need-put-requires
 put-requires c κs = omega (arith, whole (c .before .before .before))
 
 put-decimal-requires : tie.Need-put-decimal-requires
 put-decimal-requires c κs = omega (arith, whole (c .before .before .before .before .before .before .before))
-
-slice-aggregate-put-2 : tie.Need-slice-aggregate-put-2
-slice-aggregate-put-2 c = search needs
 
 put-requires-2 : tie.Need-put-requires-2
 put-requires-2 c κs = omega (arith, whole (c .before .before .before .before .before .before .before .before .before .before .before .before))
@@ -34,14 +28,8 @@ put-requires-2 c κs = omega (arith, whole (c .before .before .before .before .b
 put-decimal-requires-2 : tie.Need-put-decimal-requires-2
 put-decimal-requires-2 c κs = omega (arith, whole (c .before .before .before .before .before .before .before .before .before .before .before .before .before .before .before .before))
 
-slice-aggregate-put-3 : tie.Need-slice-aggregate-put-3
-slice-aggregate-put-3 c = search needs
-
 put-requires-3 : tie.Need-put-requires-3
 put-requires-3 c κs = omega (arith, whole (c .before .before .before .before .before .before .before .before .before .before .before .before .before .before .before .before .before .before .before .before .before))
-
-same-length : tie.Need-same-length
-same-length c = search needs
 
 returns : tie.Need-returns
 unfolding refusalLine
@@ -65,13 +53,13 @@ pub put-refusal-spec : {M : Type 1} → statement M
 put-refusal-spec =
     tie.close
     (tie.spec
-    slice-aggregate-put
+    (λ c. search needs)
     put-requires
     put-decimal-requires
-    slice-aggregate-put-2
+    (λ c. search needs)
     put-requires-2
     put-decimal-requires-2
-    slice-aggregate-put-3
+    (λ c. search needs)
     put-requires-3
-    same-length
+    (λ c. search needs)
     returns)

@@ -16,23 +16,14 @@ use Rattle.report.proofs.put_run.Tie as tie
 abbrev whole : (s : tie.Start) → length (runText (reportOf (s .args .cycles) (s .args .words) (s .args .depth) (s .args .steps) 1)) ≡ 25 + length (figures (reportOf (s .args .cycles) (s .args .words) (s .args .depth) (s .args .steps) 1)) + 1
 whole s = run-length (s .args .cycles) (s .args .words) (s .args .depth) (s .args .steps) 1
 
-slice-aggregate-put : tie.Need-slice-aggregate-put
-slice-aggregate-put c = search needs
-
 put-requires : tie.Need-put-requires
 put-requires c κs = omega (arith, whole (c .before .before .before))
 
 put-figures-requires : tie.Need-put-figures-requires
 put-figures-requires c κs = omega (arith, whole (c .before .before .before .before .before .before .before))
 
-slice-aggregate-put-2 : tie.Need-slice-aggregate-put-2
-slice-aggregate-put-2 c = search needs
-
 put-requires-2 : tie.Need-put-requires-2
 put-requires-2 c κs = omega (arith, whole (c .before .before .before .before .before .before .before .before .before .before .before .before))
-
-same-length : tie.Need-same-length
-same-length c = search needs
 
 returns : tie.Need-returns
 unfolding runText
@@ -52,10 +43,10 @@ pub put-run-spec : {M : Type 1} → statement M
 put-run-spec =
     tie.close
     (tie.spec
-    slice-aggregate-put
+    (λ c. search needs)
     put-requires
     put-figures-requires
-    slice-aggregate-put-2
+    (λ c. search needs)
     put-requires-2
-    same-length
+    (λ c. search needs)
     returns)

@@ -8,18 +8,6 @@ use Rattle.report.proofs.ReportLaws.{share-below, share-above, share-ha
 use Rattle.report.proofs.share.Statement.{statement}
 use Rattle.report.proofs.share.Tie as tie
 
-mul-whole : tie.Need-mul-whole
-mul-whole c = search needs
-
-div-whole : tie.Need-div-whole
-div-whole c = search needs
-
-mul-twice : tie.Need-mul-twice
-mul-twice c = search needs
-
-rem-twice : tie.Need-rem-twice
-rem-twice c = search needs
-
 mul-twice-2 : tie.Need-mul-twice-2
 mul-twice-2 c = let l = mod-lt (c .args .cycles * 1000) (c .pre .0) in search needs
 
@@ -41,4 +29,4 @@ returns-3 c = let a = c .before .before .args in sym (share-half (a .tick) (a .c
 pub share-spec : {M : Type 1} → statement M
 share-spec =
     tie.close
-    (tie.spec mul-whole div-whole mul-twice rem-twice mul-twice-2 add-result add-result-2 returns returns-2 returns-3)
+    (tie.spec (λ c. search needs) (λ c. search needs) (λ c. search needs) (λ c. search needs) mul-twice-2 add-result add-result-2 returns returns-2 returns-3)

@@ -5,12 +5,9 @@ use borrow.Author.Needs.{needs}
 use Rattle.rows.proofs.all_known.Statement.{statement}
 use Rattle.rows.proofs.all_known.Tie as tie
 
-cells-pass-requires : tie.Need-cells-pass-requires
-cells-pass-requires c κs = search needs
-
 returns : tie.Need-returns
 unfolding allKnown wordTest
 returns c = c .cells-pass .ensures
 
 pub all-known-spec : {M : Type 1} → statement M
-all-known-spec = tie.close (tie.spec cells-pass-requires returns)
+all-known-spec = tie.close (tie.spec (λ c κs. search needs) returns)

@@ -11,27 +11,6 @@ use Rattle.rows.proofs.check.Tie as tie
 returns : tie.Need-returns
 returns c = check-long _ _ (c .if1 .taken)
 
-text-of-requires : tie.Need-text-of-requires
-text-of-requires c κs = search needs
-
-text-of-requires-2 : tie.Need-text-of-requires-2
-text-of-requires-2 c κs = search needs
-
-text-of-requires-3 : tie.Need-text-of-requires-3
-text-of-requires-3 c κs = search needs
-
-blocks-named-requires : tie.Need-blocks-named-requires
-blocks-named-requires c κs = search needs
-
-body-of-requires : tie.Need-body-of-requires
-body-of-requires c κs = search needs
-
-first-address-requires : tie.Need-first-address-requires
-first-address-requires c κs = search needs
-
-count-code-requires : tie.Need-count-code-requires
-count-code-requires c κs = search needs
-
 check-rows-requires : tie.Need-check-rows-requires
 check-rows-requires c κs =
     let found = c .before .before .before in
@@ -47,12 +26,12 @@ check-spec =
     tie.close
     (tie.spec
     returns
-    text-of-requires
-    text-of-requires-2
-    text-of-requires-3
-    blocks-named-requires
-    body-of-requires
-    first-address-requires
-    count-code-requires
+    (λ c κs. search needs)
+    (λ c κs. search needs)
+    (λ c κs. search needs)
+    (λ c κs. search needs)
+    (λ c κs. search needs)
+    (λ c κs. search needs)
+    (λ c κs. search needs)
     check-rows-requires
     returns-2)

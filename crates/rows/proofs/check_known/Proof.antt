@@ -8,9 +8,6 @@ use Rattle.rows.proofs.check_known.Tie as tie
 earliest-requires : tie.Need-earliest-requires
 earliest-requires c κs = let p = c .before .before .before .pre in (p .0, (p .1, due-known _))
 
-enum-known-known : tie.Need-enum-known-known
-enum-known-known c = search needs
-
 returns : tie.Need-returns
 returns c = known-fails _ _ (sym (c .before .before .before .earliest .ensures) ∙ c .before .known .given .1)
 
@@ -22,4 +19,4 @@ returns-2 c = known-passes _ (sym (c .before .before .earliest .ensures) ∙ c .
 
 pub check-known-spec : {M : Type 1} → statement M
 check-known-spec =
-    tie.close (tie.spec earliest-requires enum-known-known returns enum-told returns-2)
+    tie.close (tie.spec earliest-requires (λ c. search needs) returns enum-told returns-2)

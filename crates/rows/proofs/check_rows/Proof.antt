@@ -32,9 +32,6 @@ row-forward c = sym (c .before .before .earliest6 .ensures) ∙ c .enum-told6 .g
 earliest-requires : tie.Need-earliest-requires
 earliest-requires c κs = let p = c .before .before .before .pre in (p .0, (p .1, due-layout _))
 
-enum-known-layout : tie.Need-enum-known-layout
-enum-known-layout c = search needs
-
 returns : tie.Need-returns
 returns c = check-layout _ _ (c .before .before .before .before .before .before .before .pre .0) _ (sym (c .before .before .before .earliest .ensures) ∙ c .before .layout .given .1)
 
@@ -44,68 +41,32 @@ enum-told c = search needs
 earliest-requires-2 : tie.Need-earliest-requires-2
 earliest-requires-2 c κs = let p = c .before .before .before .before .before .before .pre in (p .0, (p .1, due-range _))
 
-enum-known-range : tie.Need-enum-known-range
-enum-known-range c = search needs
-
 returns-2 : tie.Need-returns-2
 returns-2 c = check-range _ _ (c .before .before .before .before .before .before .before .before .before .before .pre .0) _ (row-layout (c .before .before .before .before)) (sym (c .before .before .before .earliest2 .ensures) ∙ c .before .range .given .1)
-
-enum-told-2 : tie.Need-enum-told-2
-enum-told-2 c = search needs
 
 earliest-requires-3 : tie.Need-earliest-requires-3
 earliest-requires-3 c κs = let p = c .before .before .before .before .before .before .before .before .before .pre in (p .0, (p .1, due-after _ (row-range c)))
 
-enum-known-name : tie.Need-enum-known-name
-enum-known-name c = search needs
-
 returns-3 : tie.Need-returns-3
 returns-3 c = check-name _ _ (c .before .before .before .before .before .before .before .before .before .before .before .before .before .pre .0) _ (row-layout (c .before .before .before .before .before .before .before)) (row-range (c .before .before .before .before)) (sym (c .before .before .before .earliest3 .ensures) ∙ c .before .name .given .1)
-
-enum-told-3 : tie.Need-enum-told-3
-enum-told-3 c = search needs
 
 earliest-requires-4 : tie.Need-earliest-requires-4
 earliest-requires-4 c κs = let p = c .before .before .before .before .before .before .before .before .before .before .before .before .pre in (p .0, (p .1, due-after _ (row-range (c .before .before .before))))
 
-enum-known-price : tie.Need-enum-known-price
-enum-known-price c = search needs
-
 returns-4 : tie.Need-returns-4
 returns-4 c = check-price _ _ (c .before .before .before .before .before .before .before .before .before .before .before .before .before .before .before .before .pre .0) _ (row-layout (c .before .before .before .before .before .before .before .before .before .before)) (row-range (c .before .before .before .before .before .before .before)) (row-name (c .before .before .before .before)) (sym (c .before .before .before .earliest4 .ensures) ∙ c .before .price .given .1)
-
-enum-told-4 : tie.Need-enum-told-4
-enum-told-4 c = search needs
 
 earliest-requires-5 : tie.Need-earliest-requires-5
 earliest-requires-5 c κs = let p = c .before .before .before .before .before .before .before .before .before .before .before .before .before .before .before .pre in (p .0, (p .1, due-after _ (row-range (c .before .before .before .before .before .before))))
 
-enum-known-target : tie.Need-enum-known-target
-enum-known-target c = search needs
-
 returns-5 : tie.Need-returns-5
 returns-5 c = check-target _ _ (c .before .before .before .before .before .before .before .before .before .before .before .before .before .before .before .before .before .before .before .pre .0) _ (row-layout (c .before .before .before .before .before .before .before .before .before .before .before .before .before)) (row-range (c .before .before .before .before .before .before .before .before .before .before)) (row-name (c .before .before .before .before .before .before .before)) (row-price (c .before .before .before .before)) (sym (c .before .before .before .earliest5 .ensures) ∙ c .before .target .given .1)
-
-enum-told-5 : tie.Need-enum-told-5
-enum-told-5 c = search needs
 
 earliest-requires-6 : tie.Need-earliest-requires-6
 earliest-requires-6 c κs = let p = c .before .before .before .before .before .before .before .before .before .before .before .before .before .before .before .before .before .before .pre in (p .0, (p .1, due-after _ (row-range (c .before .before .before .before .before .before .before .before .before))))
 
-enum-known-forward : tie.Need-enum-known-forward
-enum-known-forward c = search needs
-
 returns-6 : tie.Need-returns-6
 returns-6 c = check-forward _ _ (c .before .before .before .before .before .before .before .before .before .before .before .before .before .before .before .before .before .before .before .before .before .before .pre .0) _ (row-layout (c .before .before .before .before .before .before .before .before .before .before .before .before .before .before .before .before)) (row-range (c .before .before .before .before .before .before .before .before .before .before .before .before .before)) (row-name (c .before .before .before .before .before .before .before .before .before .before)) (row-price (c .before .before .before .before .before .before .before)) (row-target (c .before .before .before .before)) (sym (c .before .before .before .earliest6 .ensures) ∙ c .before .forward .given .1)
-
-enum-told-6 : tie.Need-enum-told-6
-enum-told-6 c = search needs
-
-enum-told-7 : tie.Need-enum-told-7
-enum-told-7 c = search needs
-
-enum-told-8 : tie.Need-enum-told-8
-enum-told-8 c = search needs
 
 check-known-requires : tie.Need-check-known-requires
 check-known-requires c κs = let p = c .before .before .before .before .before .before .before .before .before .before .before .before .before .before .before .before .before .before .before .before .before .before .before .pre in (p .0, p .1)
@@ -121,31 +82,31 @@ check-rows-spec =
     tie.close
     (tie.spec
     earliest-requires
-    enum-known-layout
+    (λ c. search needs)
     returns
     enum-told
     earliest-requires-2
-    enum-known-range
+    (λ c. search needs)
     returns-2
-    enum-told-2
+    (λ c. search needs)
     earliest-requires-3
-    enum-known-name
+    (λ c. search needs)
     returns-3
-    enum-told-3
+    (λ c. search needs)
     earliest-requires-4
-    enum-known-price
+    (λ c. search needs)
     returns-4
-    enum-told-4
+    (λ c. search needs)
     earliest-requires-5
-    enum-known-target
+    (λ c. search needs)
     returns-5
-    enum-told-5
+    (λ c. search needs)
     earliest-requires-6
-    enum-known-forward
+    (λ c. search needs)
     returns-6
-    enum-told-6
-    enum-told-7
-    enum-told-8
+    (λ c. search needs)
+    (λ c. search needs)
+    (λ c. search needs)
     check-known-requires
     returns-7
     returns-8)

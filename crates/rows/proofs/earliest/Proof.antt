@@ -19,9 +19,6 @@ abbrev μ-loop : tie.MeasureT-loop
 loop-holds : tie.Need-loop-holds Inv-loop μ-loop
 loop-holds c = scanned-start _ _
 
-first-line-requires : tie.Need-first-line-requires Inv-loop μ-loop
-first-line-requires c κs = search needs
-
 line-ends-requires : tie.Need-line-ends-requires Inv-loop μ-loop
 line-ends-requires c κs = ap length (c .first-line .ensures)
 
@@ -39,9 +36,6 @@ cast-t19 c = let v = c .before .before .before .before .before .before .loop .in
 
 returns : tie.Need-returns Inv-loop μ-loop
 returns c = scanned-fails (c .before .before .before .before .before .before .loop .inv) (c .before .before .before .before .before .loop-test .taken) (c .before .before .before .before .first-line .ensures) (c .before .before .before .line-ends .ensures) (c .before .before .role-of .ensures) (c .before .passes .ensures) (c .if1 .taken)
-
-heading-after-requires : tie.Need-heading-after-requires Inv-loop μ-loop
-heading-after-requires c κs = search needs
 
 after-line-requires : tie.Need-after-line-requires Inv-loop μ-loop
 after-line-requires c κs = ap length (c .before .before .before .before .before .first-line .ensures)
@@ -77,14 +71,14 @@ earliest-spec =
     Inv-loop
     μ-loop
     loop-holds
-    first-line-requires
+    (λ c κs. search needs)
     line-ends-requires
     role-of-requires
     passes-requires
     add-t18
     cast-t19
     returns
-    heading-after-requires
+    (λ c κs. search needs)
     after-line-requires
     add-passed
     loop-less

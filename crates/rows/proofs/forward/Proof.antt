@@ -9,9 +9,6 @@ use borrow.Author.Needs.{needs}
 use Rattle.rows.proofs.forward.Statement.{statement}
 use Rattle.rows.proofs.forward.Tie as tie
 
-enum-known-role : tie.Need-enum-known-role
-enum-known-role c = search needs
-
 returns : tie.Need-returns
 returns c = forward-other _ (c .before .before .before .args .role) _ (c .match .keys2)
 
@@ -32,4 +29,4 @@ returns-2 c =
 
 pub forward-spec : {M : Type 1} → statement M
 forward-spec =
-    tie.close (tie.spec enum-known-role returns cast-code-forward code-forward-requires returns-2)
+    tie.close (tie.spec (λ c. search needs) returns cast-code-forward code-forward-requires returns-2)

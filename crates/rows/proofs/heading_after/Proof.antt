@@ -10,9 +10,6 @@ returns : tie.Need-returns
 unfolding headingAfter
 returns c = rw (lt-ltb 0 (c .before .before .args .heading) (c .if1 .taken))
 
-is-heading-requires : tie.Need-is-heading-requires
-is-heading-requires c κs = search needs
-
 returns-2 : tie.Need-returns-2
 unfolding headingAfter
 returns-2 c = rw (le-ltb 0 (c .before .before .before .before .args .heading) (c .before .before .if1 .left), sym (c .before .is-heading .ensures) ∙ c .if2 .taken)
@@ -22,4 +19,4 @@ unfolding headingAfter
 returns-3 c = rw (le-ltb 0 (c .before .before .before .before .args .heading) (c .before .before .if1 .left), sym (c .before .is-heading .ensures) ∙ c .if2 .left)
 
 pub heading-after-spec : {M : Type 1} → statement M
-heading-after-spec = tie.close (tie.spec returns is-heading-requires returns-2 returns-3)
+heading-after-spec = tie.close (tie.spec returns (λ c κs. search needs) returns-2 returns-3)

@@ -8,30 +8,6 @@ use borrow.Author.Needs.{needs}
 use Rattle.rows.proofs.in_range.Statement.{statement}
 use Rattle.rows.proofs.in_range.Tie as tie
 
-enum-told : tie.Need-enum-told
-enum-told c = search needs
-
-enum-known-role : tie.Need-enum-known-role
-enum-known-role c = search needs
-
-text-of-requires : tie.Need-text-of-requires
-text-of-requires c κs = search needs
-
-values-in-range-requires : tie.Need-values-in-range-requires
-values-in-range-requires c κs = search needs
-
-enum-known-role-2 : tie.Need-enum-known-role-2
-enum-known-role-2 c = search needs
-
-code-in-range-requires : tie.Need-code-in-range-requires
-code-in-range-requires c κs = search needs
-
-enum-told-2 : tie.Need-enum-told-2
-enum-told-2 c = search needs
-
-answer-in-range-requires : tie.Need-answer-in-range-requires
-answer-in-range-requires c κs = search needs
-
 returns : tie.Need-returns
 unfolding inRange
 returns c = search needs
@@ -51,14 +27,14 @@ pub in-range-spec : {M : Type 1} → statement M
 in-range-spec =
     tie.close
     (tie.spec
-    enum-told
-    enum-known-role
-    text-of-requires
-    values-in-range-requires
-    enum-known-role-2
-    code-in-range-requires
-    enum-told-2
-    answer-in-range-requires
+    (λ c. search needs)
+    (λ c. search needs)
+    (λ c κs. search needs)
+    (λ c κs. search needs)
+    (λ c. search needs)
+    (λ c κs. search needs)
+    (λ c. search needs)
+    (λ c κs. search needs)
     returns
     returns-2
     returns-3

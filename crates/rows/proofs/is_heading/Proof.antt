@@ -7,12 +7,6 @@ use borrow.Author.Needs.{needs}
 use Rattle.rows.proofs.is_heading.Statement.{statement}
 use Rattle.rows.proofs.is_heading.Tie as tie
 
-slice-aggregate-same : tie.Need-slice-aggregate-same
-slice-aggregate-same c = search needs
-
-same-requires : tie.Need-same-requires
-same-requires c κs = search needs
-
 returns : tie.Need-returns
 unfolding isHeading
 returns c = rw (lt-ltb (length layout) (c .before .before .before .before .args .i) (c .before .before .if1 .taken)) (c .same .ensures)
@@ -22,4 +16,4 @@ unfolding isHeading
 returns-2 c = rw (le-ltb (length layout) (c .before .before .args .i) (c .if1 .left))
 
 pub is-heading-spec : {M : Type 1} → statement M
-is-heading-spec = tie.close (tie.spec slice-aggregate-same same-requires returns returns-2)
+is-heading-spec = tie.close (tie.spec (λ c. search needs) (λ c κs. search needs) returns returns-2)

@@ -8,18 +8,12 @@ use Rattle.rows.proofs.laid_out_line.Tie as tie
 returns : tie.Need-returns
 returns c = unended _ _ _ _ _ refl (c .if1 .taken)
 
-all-words-requires : tie.Need-all-words-requires
-all-words-requires c κs = search needs
-
 returns-2 : tie.Need-returns-2
 returns-2 c = unfilled _ _ _ _ _ (c .before .all-words .ensures) (c .before .before .if1 .left) (c .if2 .taken)
-
-laid-out-requires : tie.Need-laid-out-requires
-laid-out-requires c κs = search needs
 
 returns-3 : tie.Need-returns-3
 returns-3 c = well-laid _ _ _ _ _ (c .before .before .all-words .ensures) (c .before .before .before .if1 .left) (c .before .if2 .left) (c .laid-out .ensures)
 
 pub laid-out-line-spec : {M : Type 1} → statement M
 laid-out-line-spec =
-    tie.close (tie.spec returns all-words-requires returns-2 laid-out-requires returns-3)
+    tie.close (tie.spec returns (λ c κs. search needs) returns-2 (λ c κs. search needs) returns-3)

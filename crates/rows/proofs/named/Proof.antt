@@ -12,32 +12,14 @@ use borrow.Author.Needs.{needs}
 use Rattle.rows.proofs.named.Statement.{statement}
 use Rattle.rows.proofs.named.Tie as tie
 
-enum-known-role : tie.Need-enum-known-role
-enum-known-role c = search needs
-
-well-named-requires : tie.Need-well-named-requires
-well-named-requires c κs = search needs
-
 enum-told : tie.Need-enum-told
 enum-told c = search needs
-
-cast-t10 : tie.Need-cast-t10
-cast-t10 c = search needs
-
-cells-pass-requires : tie.Need-cells-pass-requires
-cells-pass-requires c κs = search needs
-
-enum-known-role-2 : tie.Need-enum-known-role-2
-enum-known-role-2 c = search needs
 
 cast-code-named : tie.Need-cast-code-named
 cast-code-named c = search needs
 
 code-named-requires : tie.Need-code-named-requires
 code-named-requires c κs = let s = c .before .before .before .before .before .before in (rw (toZ-ofZ w64 _ (cast-code-named c)) (first-within (s .args .first) (s .pre .0 .low)), small-code (s .args .role) _ (c .before .role2 .given .1) (s .pre .1))
-
-enum-told-2 : tie.Need-enum-told-2
-enum-told-2 c = search needs
 
 returns : tie.Need-returns
 unfolding named
@@ -68,15 +50,15 @@ pub named-spec : {M : Type 1} → statement M
 named-spec =
     tie.close
     (tie.spec
-    enum-known-role
-    well-named-requires
+    (λ c. search needs)
+    (λ c κs. search needs)
     enum-told
-    cast-t10
-    cells-pass-requires
-    enum-known-role-2
+    (λ c. search needs)
+    (λ c κs. search needs)
+    (λ c. search needs)
     cast-code-named
     code-named-requires
-    enum-told-2
+    (λ c. search needs)
     returns
     returns-2
     returns-3

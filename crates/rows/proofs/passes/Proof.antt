@@ -12,44 +12,17 @@ use Rattle.rows.proofs.passes.Tie as tie
 enum-told : tie.Need-enum-told
 enum-told c = search needs
 
-laid-out-line-requires : tie.Need-laid-out-line-requires
-laid-out-line-requires c κs = search needs
-
-enum-told-2 : tie.Need-enum-told-2
-enum-told-2 c = search needs
-
-in-range-requires : tie.Need-in-range-requires
-in-range-requires c κs = search needs
-
-enum-told-3 : tie.Need-enum-told-3
-enum-told-3 c = search needs
-
 named-requires : tie.Need-named-requires
 named-requires c κs = let p = c .before .before .before .before .before .before .pre in (name-context (p .0) (p .1 .0 .names-row (c .enum-told3 .given .1)), p .1 .1)
-
-enum-told-4 : tie.Need-enum-told-4
-enum-told-4 c = search needs
 
 priced-requires : tie.Need-priced-requires
 priced-requires c κs = c .before .before .before .before .before .before .pre .0 .kinds-line
 
-enum-told-5 : tie.Need-enum-told-5
-enum-told-5 c = search needs
-
 reaches-requires : tie.Need-reaches-requires
 reaches-requires c κs = let p = c .before .before .before .before .before .before .pre in target-context (p .0) (p .1 .0 .targets-row (c .enum-told5 .given .1))
 
-enum-told-6 : tie.Need-enum-told-6
-enum-told-6 c = search needs
-
 forward-requires : tie.Need-forward-requires
 forward-requires c κs = let p = c .before .before .before .before .before .before .pre in (forward-context (p .0) (p .1 .0 .jumps-row (c .enum-told6 .given .1)), p .1 .1)
-
-enum-told-7 : tie.Need-enum-told-7
-enum-told-7 c = search needs
-
-all-known-requires : tie.Need-all-known-requires
-all-known-requires c κs = search needs
 
 returns : tie.Need-returns
 returns c = arm (λ r. test r (lines (now (c .before .before .before .before .before .before .before .args .text))) (c .before .before .before .before .before .before .before .args .role) (lineWith (now (c .before .before .before .before .before .before .before .args .line)) (c .before .before .before .before .before .before .before .args .ended))) (c .before .enum-told .given .1) (c .laid-out-line .ensures)
@@ -83,19 +56,19 @@ passes-spec =
     tie.close
     (tie.spec
     enum-told
-    laid-out-line-requires
-    enum-told-2
-    in-range-requires
-    enum-told-3
+    (λ c κs. search needs)
+    (λ c. search needs)
+    (λ c κs. search needs)
+    (λ c. search needs)
     named-requires
-    enum-told-4
+    (λ c. search needs)
     priced-requires
-    enum-told-5
+    (λ c. search needs)
     reaches-requires
-    enum-told-6
+    (λ c. search needs)
     forward-requires
-    enum-told-7
-    all-known-requires
+    (λ c. search needs)
+    (λ c κs. search needs)
     returns
     returns-2
     returns-3

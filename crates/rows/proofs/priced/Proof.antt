@@ -15,9 +15,6 @@ returns : tie.Need-returns
 unfolding priced
 returns c = not-code _ (c .before .before .before .before .args .role) _ (c .match .keys2)
 
-code-priced-requires : tie.Need-code-priced-requires
-code-priced-requires c κs = search needs
-
 returns-2 : tie.Need-returns-2
 returns-2 c =
     let start = c .before .before .before .before .before .before in
@@ -26,4 +23,4 @@ returns-2 c =
     arm (λ o. priced ls o line) (c .before .enum-told .given .1) (priced-code ls line _ _ (start .pre) _ (c .code-priced .ensures))
 
 pub priced-spec : {M : Type 1} → statement M
-priced-spec = tie.close (tie.spec enum-told returns code-priced-requires returns-2)
+priced-spec = tie.close (tie.spec enum-told returns (λ c κs. search needs) returns-2)

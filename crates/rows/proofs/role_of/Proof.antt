@@ -10,9 +10,6 @@ use borrow.Author.Needs.{needs}
 use Rattle.rows.proofs.role_of.Statement.{statement}
 use Rattle.rows.proofs.role_of.Tie as tie
 
-role-at-requires : tie.Need-role-at-requires
-role-at-requires c κs = search needs
-
 returns : tie.Need-returns
 unfolding roleOf
 returns c = rw (lt-ltb (c .before .before .before .args .i) (length layout) (c .before .if1 .taken)) (c .role-at .ensures)
@@ -27,9 +24,6 @@ returns-2 : tie.Need-returns-2
 unfolding roleOf
 returns-2 c = rw (le-ltb (c .before .before .before .args .i) (length layout) (c .before .if1 .left), lt-ltb 0 (c .before .before .before .args .heading) (c .if2 .taken))
 
-is-heading-requires : tie.Need-is-heading-requires
-is-heading-requires c κs = search needs
-
 returns-3 : tie.Need-returns-3
 unfolding roleOf
 returns-3 c = rw (le-ltb (c .before .before .before .before .before .args .i) (length layout) (c .before .before .before .if1 .left), le-ltb 0 (c .before .before .before .before .before .args .heading) (c .before .before .if2 .left), sym (c .before .is-heading .ensures) ∙ c .if3 .taken)
@@ -41,4 +35,4 @@ returns-4 c = rw (le-ltb (c .before .before .before .before .before .args .i) (l
 pub role-of-spec : {M : Type 1} → statement M
 role-of-spec =
     tie.close
-    (tie.spec role-at-requires returns sub-t5 sub-t6 returns-2 is-heading-requires returns-3 returns-4)
+    (tie.spec (λ c κs. search needs) returns sub-t5 sub-t6 returns-2 (λ c κs. search needs) returns-3 returns-4)

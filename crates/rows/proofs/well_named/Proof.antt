@@ -9,47 +9,11 @@ use borrow.Author.Needs.{needs}
 use Rattle.rows.proofs.well_named.Statement.{statement}
 use Rattle.rows.proofs.well_named.Tie as tie
 
-slice-aggregate-same : tie.Need-slice-aggregate-same
-slice-aggregate-same c = search needs
-
-same-requires : tie.Need-same-requires
-same-requires c κs = search needs
-
 returns : tie.Need-returns
 returns c = named-none (c .before .before .before .before .args .line .now) _ (sym (c .before .same .ensures) ∙ c .if1 .taken)
 
 enum-told : tie.Need-enum-told
 enum-told c = search needs
-
-all-words-requires : tie.Need-all-words-requires
-all-words-requires c κs = search needs
-
-distinct-requires : tie.Need-distinct-requires
-distinct-requires c κs = search needs
-
-enum-told-2 : tie.Need-enum-told-2
-enum-told-2 c = search needs
-
-all-words-requires-2 : tie.Need-all-words-requires-2
-all-words-requires-2 c κs = search needs
-
-distinct-requires-2 : tie.Need-distinct-requires-2
-distinct-requires-2 c κs = search needs
-
-enum-told-3 : tie.Need-enum-told-3
-enum-told-3 c = search needs
-
-cells-named-requires : tie.Need-cells-named-requires
-cells-named-requires c κs = search needs
-
-enum-told-4 : tie.Need-enum-told-4
-enum-told-4 c = search needs
-
-blocks-named-requires : tie.Need-blocks-named-requires
-blocks-named-requires c κs = search needs
-
-count-words-requires : tie.Need-count-words-requires
-count-words-requires c κs = search needs
 
 returns-2 : tie.Need-returns-2
 returns-2 c =
@@ -95,20 +59,20 @@ pub well-named-spec : {M : Type 1} → statement M
 well-named-spec =
     tie.close
     (tie.spec
-    slice-aggregate-same
-    same-requires
+    (λ c. search needs)
+    (λ c κs. search needs)
     returns
     enum-told
-    all-words-requires
-    distinct-requires
-    enum-told-2
-    all-words-requires-2
-    distinct-requires-2
-    enum-told-3
-    cells-named-requires
-    enum-told-4
-    blocks-named-requires
-    count-words-requires
+    (λ c κs. search needs)
+    (λ c κs. search needs)
+    (λ c. search needs)
+    (λ c κs. search needs)
+    (λ c κs. search needs)
+    (λ c. search needs)
+    (λ c κs. search needs)
+    (λ c. search needs)
+    (λ c κs. search needs)
+    (λ c κs. search needs)
     returns-2
     returns-3
     returns-4

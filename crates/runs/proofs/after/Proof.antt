@@ -49,20 +49,11 @@ stops-small c = subst Small (c .before .next .given .1) (c .before .before .befo
 goes-small : (c : tie.After-known-told2 Inv-loop μ-loop) → SmallPrice (c .before .next2 .given .0 .0)
 goes-small c = subst Small (c .before .next2 .given .1) (c .before .before .before .before .step .ensures .1 .1 .0 .2)
 
-sub-depth : tie.Need-sub-depth Inv-loop μ-loop
-sub-depth c = search needs
-
 loop-holds : tie.Need-loop-holds Inv-loop μ-loop
 loop-holds c = let s = c .before .before .before .before .before .before in begins _ _ _ _ (s .args .start) (s .args .fields) (s .pre .1 .formed) (s .pre .1 .fits)
 
-answer-at-requires : tie.Need-answer-at-requires Inv-loop μ-loop
-answer-at-requires c κs = search needs
-
 step-requires : tie.Need-step-requires Inv-loop μ-loop
 step-requires c κs = let s = c .before .before .before .before .before .before .before .before .before in let i = c .before .before .loop .inv in (s .pre .0, s .pre .1 .addresses, i .formed, i .fits)
-
-enum-known-next : tie.Need-enum-known-next Inv-loop μ-loop
-enum-known-next c = search needs
 
 taken-after-requires : tie.Need-taken-after-requires Inv-loop μ-loop
 taken-after-requires c κs = let i = c .before .before .before .before .before .before .loop .inv in omega (arith, i .taken, c .before .before .before .before .before .loop-test .taken, c .before .before .before .before .before .before .before .before .before .before .before .before .before .pre .1 .steps)
@@ -84,9 +75,6 @@ returns c =
     let e = stops-out _ _ _ _ _ _ i (x .result .next) (x .result .state) (x .result .blocks) (x .result .calls) _ (c .before .before .before .before .before .before .before .answer-at .ensures) (x .ensures .0) (x .ensures .1 .0)
     (c .before .before .before .before .next .given .0 .0) (took .result) (record { drops = took .ensures .0; few = took .ensures .1 }) (stops-small (c .before .before .before)) (c .before .before .before .before .next .given .1) (c .before .before .before .before .before .before .before .before .loop-test .taken) in
     (e, (safe-from _ _ _ _ _ e, (i .formed, i .fits)))
-
-enum-known-next-2 : tie.Need-enum-known-next-2 Inv-loop μ-loop
-enum-known-next-2 c = search needs
 
 returns-2 : tie.Need-returns-2 Inv-loop μ-loop
 returns-2 c =
@@ -111,9 +99,6 @@ sub-h c = c .before .before .before .before .before .before .before .before .bef
 deepest : (c : tie.Joined1 Inv-loop μ-loop) → c .if1 .depth ≡ max (c .before .before .before .before .before .before .before .before .before .before .before .before .before .loop .depth) (64 - c .before .before .before .before .before .before .before .before .before .before .step .result .state .free)
 deepest c = ⊎-elim (λ x. omega (arith, x .0 .taken, x .1)) (λ x. omega (arith, x .0 .left, x .1)) (c .if1 .came)
 
-enum-known-change : tie.Need-enum-known-change Inv-loop μ-loop
-enum-known-change c = search needs
-
 -- the place of the field that was set
 field-within : (c : tie.After-known-told3 Inv-loop μ-loop) → c .before .change .given .0 .0 < 128
 field-within c = let x = c .before .before .before .before .before .before .before .before .before .before .before .before .before .step in set-one (x .result .change) (c .before .before .before .before .before .before .before .before .before .before .before .before .before .before .before .before .loop .blocks) (x .result .blocks) _ _ (x .ensures .1 .1 .1) (c .before .change .given .1) .0
@@ -123,9 +108,6 @@ mul-blocks c = omega (arith, field-within c)
 
 array-set-from-blocks : tie.Need-array-set-from-blocks Inv-loop μ-loop
 array-set-from-blocks c = field-within c
-
-enum-told : tie.Need-enum-told Inv-loop μ-loop
-enum-told c = search needs
 
 -- the blocks are those that the step left
 handed : (c : tie.At-match3-came Inv-loop μ-loop) → c .match3 .blocks ≡ c .before .before .before .before .before .before .before .before .before .before .before .step .result .blocks
@@ -162,26 +144,26 @@ after-spec =
     (tie.spec
     Inv-loop
     μ-loop
-    sub-depth
+    (λ c. search needs)
     loop-holds
-    answer-at-requires
+    (λ c κs. search needs)
     step-requires
-    enum-known-next
+    (λ c. search needs)
     taken-after-requires
     add-t32
     add-t33
     add-t34
     returns
-    enum-known-next-2
+    (λ c. search needs)
     returns-2
     taken-after-requires-2
     add-spent
     add-sum
     sub-h
-    enum-known-change
+    (λ c. search needs)
     mul-blocks
     array-set-from-blocks
-    enum-told
+    (λ c. search needs)
     add-made
     loop-less
     loop-again

@@ -11,20 +11,8 @@ use Rattle.runs.proofs.RunLaws.{answer-out, answer-in}
 use Rattle.runs.proofs.answer_at.Statement.{statement}
 use Rattle.runs.proofs.answer_at.Tie as tie
 
-number-requires : tie.Need-number-requires
-number-requires c κs = search needs
-
 returns : tie.Need-returns
 returns c = c .number .ensures ∙ answer-out _ _ (c .before .if1 .taken)
-
-mul-number : tie.Need-mul-number
-mul-number c = search needs
-
-shared-slice-copy-out-number : tie.Need-shared-slice-copy-out-number
-shared-slice-copy-out-number c = search needs
-
-number-requires-2 : tie.Need-number-requires-2
-number-requires-2 c κs = search needs
 
 returns-2 : tie.Need-returns-2
 returns-2 c =
@@ -36,9 +24,9 @@ pub answer-at-spec : {M : Type 1} → statement M
 answer-at-spec =
     tie.close
     (tie.spec
-    number-requires
+    (λ c κs. search needs)
     returns
-    mul-number
-    shared-slice-copy-out-number
-    number-requires-2
+    (λ c. search needs)
+    (λ c. search needs)
+    (λ c κs. search needs)
     returns-2)

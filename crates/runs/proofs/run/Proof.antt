@@ -4,16 +4,10 @@ use Rattle.runs.proofs.RunLaws.{run-judged, within-bound}
 use Rattle.runs.proofs.run.Statement.{statement}
 use Rattle.runs.proofs.run.Tie as tie
 
-after-requires : tie.Need-after-requires
-after-requires c κs = search needs
-
-judge-requires : tie.Need-judge-requires
-judge-requires c κs = search needs
-
 returns : tie.Need-returns
 returns c =
     let e = run-judged _ _ _ _ _ (c .judge .result) (c .judge .ensures _ _) (c .before .after .ensures .0) in
     (e, within-bound _ _ _ _ (c .judge .result) e)
 
 pub run-spec : {M : Type 1} → statement M
-run-spec = tie.close (tie.spec after-requires judge-requires returns)
+run-spec = tie.close (tie.spec (λ c κs. search needs) (λ c κs. search needs) returns)

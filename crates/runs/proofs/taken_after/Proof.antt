@@ -4,9 +4,6 @@ use Rattle.runs.proofs.RunLaws.{takes-one, takes-none}
 use Rattle.runs.proofs.taken_after.Statement.{statement}
 use Rattle.runs.proofs.taken_after.Tie as tie
 
-add-result : tie.Need-add-result
-add-result c = search needs
-
 returns : tie.Need-returns
 returns c = (λ answers. rw (c .if1 .taken) (takes-one answers (c .before .args .taken)), search needs)
 
@@ -14,4 +11,4 @@ returns-2 : tie.Need-returns-2
 returns-2 c = (λ answers. rw (c .if1 .left) (takes-none _), search needs)
 
 pub taken-after-spec : {M : Type 1} → statement M
-taken-after-spec = tie.close (tie.spec add-result returns returns-2)
+taken-after-spec = tie.close (tie.spec (λ c. search needs) returns returns-2)

@@ -8,9 +8,6 @@ use Rattle.searches.proofs.is_moved.Tie as tie
 enum-told : tie.Need-enum-told
 enum-told c = search needs
 
-enum-told-2 : tie.Need-enum-told-2
-enum-told-2 c = search needs
-
 returns : tie.Need-returns
 returns c = let s = c .before .before .before in moved-cycles (s .args .figure) (s .args .found) _ (c .before .enum-told .given .1) refl
 
@@ -18,4 +15,4 @@ returns-2 : tie.Need-returns-2
 returns-2 c = let s = c .before .before in moved-refused (s .args .figure) (s .args .found) _ (c .enum-told2 .given .1)
 
 pub is-moved-spec : {M : Type 1} → statement M
-is-moved-spec = tie.close (tie.spec enum-told enum-told-2 returns returns-2)
+is-moved-spec = tie.close (tie.spec enum-told (λ c. search needs) returns returns-2)

@@ -12,9 +12,6 @@ use borrow.Author.Needs.{needs}
 use Rattle.searches.proofs.is_moved_by.Statement.{statement}
 use Rattle.searches.proofs.is_moved_by.Tie as tie
 
-number-requires : tie.Need-number-requires
-number-requires c κs = search needs
-
 with-entry-requires : tie.Need-with-entry-requires
 with-entry-requires c κs = let s = c .before .before .before .before .before .before in (s .pre .0 .explorable .formed, s .pre .0 .explorable .fits, s .pre .1)
 
@@ -35,9 +32,6 @@ explore-requires c κs =
       },
     )
 
-is-moved-requires : tie.Need-is-moved-requires
-is-moved-requires c κs = search needs
-
 returns : tie.Need-returns
 returns c =
     let s = c .before .before .before .before .before .before .before .before .before .before in
@@ -52,9 +46,9 @@ pub is-moved-by-spec : {M : Type 1} → statement M
 is-moved-by-spec =
     tie.close
     (tie.spec
-    number-requires
+    (λ c κs. search needs)
     with-entry-requires
     with-field-requires
     explore-requires
-    is-moved-requires
+    (λ c κs. search needs)
     returns)

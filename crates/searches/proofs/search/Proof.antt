@@ -9,24 +9,12 @@ use Rattle.searches.proofs.search.Tie as tie
 explore-requires : tie.Need-explore-requires
 explore-requires c κs = let s = c .before .before .before .before .before in (s .pre .sized, s .pre .explorable)
 
-enum-known-verdict : tie.Need-enum-known-verdict
-enum-known-verdict c = search needs
-
 returns : tie.Need-returns
 returns c =
     search-refused _ _ _ (c .before .before .before .explore .result) _ (shows-bound _ _ _ _ _ refl (c .before .before .before .explore .ensures .0 .shows)) (c .before .verdict .given .1)
 
 enum-told : tie.Need-enum-told
 enum-told c = search needs
-
-try-amounts-requires : tie.Need-try-amounts-requires
-try-amounts-requires c κs = search needs
-
-enum-known-hit : tie.Need-enum-known-hit
-enum-known-hit c = search needs
-
-enum-told-2 : tie.Need-enum-told-2
-enum-told-2 c = search needs
 
 returns-2 : tie.Need-returns-2
 returns-2 c =
@@ -43,11 +31,11 @@ search-spec =
     tie.close
     (tie.spec
     explore-requires
-    enum-known-verdict
+    (λ c. search needs)
     returns
     enum-told
-    try-amounts-requires
-    enum-known-hit
-    enum-told-2
+    (λ c κs. search needs)
+    (λ c. search needs)
+    (λ c. search needs)
     returns-2
     returns-3)

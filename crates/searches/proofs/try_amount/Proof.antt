@@ -1,6 +1,6 @@
 -- `searches::try_amount` meets its contract: what is left of the places is what there is. Assumes nothing.
 use Prim.Native.Nat.{_-_}
-use mathlib.Core.Path.{_≡_, sym, ap, _∙_}
+use mathlib.Core.Path.{sym, ap, _∙_}
 use native.Mathlib.Omega.{arith}
 use Rattle.states.specs.Columns.{codeOf}
 use Rattle.states.specs.View.{whole}
@@ -35,9 +35,6 @@ position-of-requires c κs = omega (arith, c .loop-test .taken)
 try-place-requires : tie.Need-try-place-requires Inv-loop μ-loop
 try-place-requires c κs = let s = c .before .before .before .before .before .before .before .before in s .pre
 
-enum-known-hit : tie.Need-enum-known-hit Inv-loop μ-loop
-enum-known-hit c = search needs
-
 returns : tie.Need-returns Inv-loop μ-loop
 returns c =
     let s = c .before .before .before .before .before .before .before .before .before .before .before .before in
@@ -71,7 +68,7 @@ try-amount-spec =
     loop-holds
     position-of-requires
     try-place-requires
-    enum-known-hit
+    (λ c. search needs)
     returns
     enum-told
     add-k

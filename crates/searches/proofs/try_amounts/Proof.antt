@@ -1,6 +1,6 @@
 -- `searches::try_amounts` meets its contract: what is left of the amounts is what there is. Assumes nothing.
 use Prim.Native.Nat.{_-_}
-use mathlib.Core.Path.{_≡_, sym, ap, _∙_}
+use mathlib.Core.Path.{sym, ap, _∙_}
 use native.Mathlib.Omega.{arith}
 use Rattle.states.specs.Columns.{codeOf}
 use Rattle.states.specs.View.{whole}
@@ -27,9 +27,6 @@ loop-holds c = let s = c .before .before .before .before .before in amounts-left
 
 try-amount-requires : tie.Need-try-amount-requires Inv-loop μ-loop
 try-amount-requires c κs = let s = c .before .before .before .before .before .before .before in (s .pre, c .loop-test .taken)
-
-enum-known-hit : tie.Need-enum-known-hit Inv-loop μ-loop
-enum-known-hit c = search needs
 
 returns : tie.Need-returns Inv-loop μ-loop
 returns c =
@@ -61,7 +58,7 @@ try-amounts-spec =
     μ-loop
     loop-holds
     try-amount-requires
-    enum-known-hit
+    (λ c. search needs)
     returns
     enum-told
     add-amount

@@ -30,9 +30,6 @@ raise c = toZ-ofZ w64 _ (search needs) ∙ c .raised .ensures ∙ ap (λ z. z +�
 number-at-requires : tie.Need-number-at-requires
 number-at-requires c κs = let s = c .before .before .before .before .before in (s .pre .0 .explorable .formed, s .pre .0 .explorable .fits)
 
-enum-known-held : tie.Need-enum-known-held
-enum-known-held c = search needs
-
 enum-told : tie.Need-enum-told
 enum-told c = search needs
 
@@ -47,16 +44,10 @@ lowered-requires c κs = let s = c .before .before .before .before .before .befo
 try-value-requires : tie.Need-try-value-requires
 try-value-requires c κs = let s = c .before .before .before .before .before .before .before .before .before .before in (s .pre .0, number-present (s .args .p) _ _ (holds (c .before)))
 
-enum-known-down : tie.Need-enum-known-down
-enum-known-down c = search needs
-
 returns-2 : tie.Need-returns-2
 returns-2 c =
     let s = c .before .before .before .before .before .before .before .before .before .before .before .before .before .before in
     place-down _ _ _ _ (s .args .amount) (s .args .p) _ (holds (c .before .before .before .before .before)) _ _ (lower (c .before .before .before .before)) (sym (ap ofHit (c .before .down .given .1)) ∙ c .before .before .before .try-value .ensures)
-
-enum-told-2 : tie.Need-enum-told-2
-enum-told-2 c = search needs
 
 raised-requires : tie.Need-raised-requires
 raised-requires c κs = let s = c .before .before .before .before .before .before .before .before .before .before .before .before .before in s .pre .1
@@ -75,14 +66,14 @@ try-place-spec =
     tie.close
     (tie.spec
     number-at-requires
-    enum-known-held
+    (λ c. search needs)
     enum-told
     returns
     lowered-requires
     try-value-requires
-    enum-known-down
+    (λ c. search needs)
     returns-2
-    enum-told-2
+    (λ c. search needs)
     raised-requires
     try-value-requires-2
     returns-3)

@@ -15,12 +15,6 @@ tested c =
     let s = c .before .before .before .before .before .before .before in
     sym (c .within .ensures ∙ ap₂ within (c .before .number-range .ensures) (toZ-ofZ w64 (s .args .v) (s .fits .v)))
 
-number-range-requires : tie.Need-number-range-requires
-number-range-requires c κs = search needs
-
-within-requires : tie.Need-within-requires
-within-requires c κs = search needs
-
 returns : tie.Need-returns
 returns c =
     let s = c .before .before .before .before .before .before .before .before in
@@ -48,8 +42,8 @@ pub try-value-spec : {M : Type 1} → statement M
 try-value-spec =
     tie.close
     (tie.spec
-    number-range-requires
-    within-requires
+    (λ c κs. search needs)
+    (λ c κs. search needs)
     returns
     cast-n
     is-moved-by-requires

@@ -18,9 +18,6 @@ returns c =
     let start = c .before .before .before in
     gives-refusal _ _ (nearest-short (start .args .text .now) (length (start .args .out .now)) (c .if1 .taken)) _
 
-check-requires : tie.Need-check-requires
-check-requires c κs = search needs
-
 enum-told : tie.Need-enum-told
 enum-told c = search needs
 
@@ -29,12 +26,6 @@ routine-of-requires c κs = accepted-reading _ Bound (sym (c .before .before .ch
 
 nearest-routine-requires : tie.Need-nearest-routine-requires
 nearest-routine-requires c κs = (c .before .routine-of .ensures .1, c .before .before .before .before .before .if1 .left)
-
-enum-known-verdict : tie.Need-enum-known-verdict
-enum-known-verdict c = search needs
-
-same-length : tie.Need-same-length
-same-length c = search needs
 
 returns-2 : tie.Need-returns-2
 unfolding readBy
@@ -61,11 +52,11 @@ nearest-spec =
     tie.close
     (tie.spec
     returns
-    check-requires
+    (λ c κs. search needs)
     enum-told
     routine-of-requires
     nearest-routine-requires
-    enum-known-verdict
-    same-length
+    (λ c. search needs)
+    (λ c. search needs)
     returns-2
     returns-3)

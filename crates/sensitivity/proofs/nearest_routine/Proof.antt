@@ -14,34 +14,19 @@ use Rattle.sensitivity.proofs.nearest_routine.Tie as tie
 sought-requires : tie.Need-sought-requires
 sought-requires c κs = c .before .pre .0
 
-enum-known-found : tie.Need-enum-known-found
-enum-known-found c = search needs
-
 put-change-requires : tie.Need-put-change-requires
 put-change-requires c κs = let s = c .before .before .before .before .before .before in omega (arith, held-length (s .args .routine) (s .pre .0) _ (sym (c .before .before .before .before .sought .ensures) ∙ ap ofSought (c .before .before .found .given .1)), s .pre .1)
 
 enum-told : tie.Need-enum-told
 enum-told c = search needs
 
-slice-aggregate-put : tie.Need-slice-aggregate-put
-slice-aggregate-put c = search needs
-
 put-requires : tie.Need-put-requires
 put-requires c κs = omega (arith, c .before .before .before .before .before .before .pre .1)
-
-enum-known-found-2 : tie.Need-enum-known-found-2
-enum-known-found-2 c = search needs
-
-same-length : tie.Need-same-length
-same-length c = search needs
 
 returns : tie.Need-returns
 returns c =
     let p = c .before .before .put-change .ensures in
     gives-report _ _ (says-change _ _ (sym (c .before .before .before .before .before .before .before .sought .ensures) ∙ ap ofSought (c .before .before .before .before .before .found .given .1))) _ (p .0) _ _ (p .1)
-
-same-length-2 : tie.Need-same-length-2
-same-length-2 c = search needs
 
 returns-2 : tie.Need-returns-2
 returns-2 c =
@@ -58,14 +43,14 @@ nearest-routine-spec =
     tie.close
     (tie.spec
     sought-requires
-    enum-known-found
+    (λ c. search needs)
     put-change-requires
     enum-told
-    slice-aggregate-put
+    (λ c. search needs)
     put-requires
-    enum-known-found-2
-    same-length
+    (λ c. search needs)
+    (λ c. search needs)
     returns
-    same-length-2
+    (λ c. search needs)
     returns-2
     returns-3)

@@ -17,23 +17,14 @@ use Rattle.sensitivity.proofs.put_change.Lts as lts
 put-name-requires : tie.Need-put-name-requires
 put-name-requires c κs = omega (arith, c .before .before .pre, line-length (c .before .before .args .change))
 
-slice-aggregate-put : tie.Need-slice-aggregate-put
-slice-aggregate-put c = search needs
-
 put-requires : tie.Need-put-requires
 put-requires c κs = omega (arith, c .before .before .before .before .before .before .before .pre, line-length (c .before .before .before .before .before .before .before .args .change), c .before .before .before .before .put-name .ensures .0)
 
 put-integer-requires : tie.Need-put-integer-requires
 put-integer-requires c κs = let s = c .before .before .before .before .before .before .before .before .before .before .before .before in let v = toZ-ofZ w32 (s .args .change .value) (search needs) in rw v (omega (arith, s .pre, line-length (s .args .change), c .before .before .before .before .before .before .before .before .before .put-name .ensures .0, c .before .before .before .before .put .ensures .0))
 
-slice-aggregate-put-2 : tie.Need-slice-aggregate-put-2
-slice-aggregate-put-2 c = search needs
-
 put-requires-2 : tie.Need-put-requires-2
 put-requires-2 c κs = let s = c .before .before .before .before .before .before .before .before .before .before .before .before .before .before .before .before .before in let v = toZ-ofZ w32 (s .args .change .value) (search needs) in omega (arith, s .pre, line-length (s .args .change), c .before .before .before .before .before .before .before .before .before .before .before .before .before .before .put-name .ensures .0, c .before .before .before .before .before .before .before .before .before .put .ensures .0, rw v at (c .before .before .before .before .put-integer .ensures .0))
-
-same-length : tie.Need-same-length
-same-length c = search needs
 
 returns : tie.Need-returns
 returns c =
@@ -51,10 +42,10 @@ put-change-spec =
     tie.close
     (tie.spec
     put-name-requires
-    slice-aggregate-put
+    (λ c. search needs)
     put-requires
     put-integer-requires
-    slice-aggregate-put-2
+    (λ c. search needs)
     put-requires-2
-    same-length
+    (λ c. search needs)
     returns)

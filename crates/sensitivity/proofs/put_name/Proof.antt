@@ -15,17 +15,8 @@ use Rattle.sensitivity.proofs.put_name.Tie as tie
 enum-told : tie.Need-enum-told
 enum-told c = search needs
 
-slice-aggregate-put : tie.Need-slice-aggregate-put
-slice-aggregate-put c = search needs
-
 put-requires : tie.Need-put-requires
 put-requires c κs = omega (arith, c .before .before .before .before .before .pre, accu-name-length _ (c .before .before .enum-told .given .1))
-
-enum-known-p : tie.Need-enum-known-p
-enum-known-p c = search needs
-
-slice-aggregate-put-2 : tie.Need-slice-aggregate-put-2
-slice-aggregate-put-2 c = search needs
 
 put-requires-2 : tie.Need-put-requires-2
 put-requires-2 c κs = omega (arith, c .before .before .before .before .before .before .pre, entry-name-length _ _ (c .before .before .before .p .given .1))
@@ -33,32 +24,17 @@ put-requires-2 c κs = omega (arith, c .before .before .before .before .before .
 put-decimal-requires : tie.Need-put-decimal-requires
 put-decimal-requires c κs = omega (arith, c .before .before .before .before .before .before .before .before .before .before .pre, entry-name-length _ _ (c .before .before .before .before .before .before .before .p .given .1), c .before .before .before .put2 .ensures .0)
 
-enum-known-p-2 : tie.Need-enum-known-p-2
-enum-known-p-2 c = search needs
-
-slice-aggregate-put-3 : tie.Need-slice-aggregate-put-3
-slice-aggregate-put-3 c = search needs
-
 put-requires-3 : tie.Need-put-requires-3
 put-requires-3 c κs = omega (arith, c .before .before .before .before .before .before .pre, field-name-length _ _ _ (c .before .before .before .p2 .given .1))
 
-cast-put-decimal : tie.Need-cast-put-decimal
-cast-put-decimal c = search needs
-
 put-decimal-requires-2 : tie.Need-put-decimal-requires-2
 put-decimal-requires-2 c κs = omega (arith, c .before .before .before .before .before .before .before .before .before .before .pre, field-name-length _ _ _ (c .before .before .before .before .before .before .before .p2 .given .1), c .before .before .before .put3 .ensures .0)
-
-slice-aggregate-put-4 : tie.Need-slice-aggregate-put-4
-slice-aggregate-put-4 c = search needs
 
 put-requires-4 : tie.Need-put-requires-4
 put-requires-4 c κs = omega (arith, c .before .before .before .before .before .before .before .before .before .before .before .before .before .before .before .pre, field-name-length _ _ _ (c .before .before .before .before .before .before .before .before .before .before .before .before .p2 .given .1), c .before .before .before .before .before .before .before .before .put3 .ensures .0, c .before .before .before .before .put-decimal2 .ensures .0)
 
 put-decimal-requires-3 : tie.Need-put-decimal-requires-3
 put-decimal-requires-3 c κs = omega (arith, c .before .before .before .before .before .before .before .before .before .before .before .before .before .before .before .before .before .before .before .pre, field-name-length _ _ _ (c .before .before .before .before .before .before .before .before .before .before .before .before .before .before .before .before .p2 .given .1), c .before .before .before .before .before .before .before .before .before .before .before .before .put3 .ensures .0, c .before .before .before .before .before .before .before .before .put-decimal2 .ensures .0, c .before .before .before .put4 .ensures .0)
-
-same-length : tie.Need-same-length
-same-length c = search needs
 
 returns : tie.Need-returns
 returns c =
@@ -68,9 +44,6 @@ returns c =
     let w1 = wrote-more w0 (bytes "ACCU") (c .before .before .put .ensures) in
     (w1 .ends ∙ ap (λ t. 0 + length t) (sym e), w1 .holds ∙ ap (over (s .args .out .now) 0) (sym e))
 
-same-length-2 : tie.Need-same-length-2
-same-length-2 c = search needs
-
 returns-2 : tie.Need-returns-2
 returns-2 c =
     let s = c .before .before .before .before .before .before .before .before .before .before .before .before .before in
@@ -79,9 +52,6 @@ returns-2 c =
     let w1 = wrote-more w0 (bytes "S") (c .before .before .before .before .before .before .put2 .ensures) in
     let w2 = wrote-more w1 (decimal (c .before .before .before .before .before .before .before .before .before .before .p .given .0 .0)) (c .before .before .put-decimal .ensures) in
     (w2 .ends ∙ ap (λ t. 0 + length t) (sym e), w2 .holds ∙ ap (over (s .args .out .now) 0) (sym e))
-
-same-length-3 : tie.Need-same-length-3
-same-length-3 c = search needs
 
 returns-3 : tie.Need-returns-3
 returns-3 c =
@@ -99,23 +69,23 @@ put-name-spec =
     tie.close
     (tie.spec
     enum-told
-    slice-aggregate-put
+    (λ c. search needs)
     put-requires
-    enum-known-p
-    slice-aggregate-put-2
+    (λ c. search needs)
+    (λ c. search needs)
     put-requires-2
     put-decimal-requires
-    enum-known-p-2
-    slice-aggregate-put-3
+    (λ c. search needs)
+    (λ c. search needs)
     put-requires-3
-    cast-put-decimal
+    (λ c. search needs)
     put-decimal-requires-2
-    slice-aggregate-put-4
+    (λ c. search needs)
     put-requires-4
     put-decimal-requires-3
-    same-length
+    (λ c. search needs)
     returns
-    same-length-2
+    (λ c. search needs)
     returns-2
-    same-length-3
+    (λ c. search needs)
     returns-3)

@@ -37,28 +37,16 @@ module _ (ns : List ℕ) (a : Cell) (n : ℕ) where
     unfolding slot _>>=_
     field h g = rw (e, lt-ltb k (length ns) h, lt-ltb n (getD ns k 0) g)
 
-block-requires : tie.Need-block-requires
-block-requires c κs = search needs
-
-enum-known-handled : tie.Need-enum-known-handled
-enum-known-handled c = search needs
-
 enum-told : tie.Need-enum-told
 enum-told c = search needs
 
 returns : tie.Need-returns
 returns c = no-handle _ _ _ (found _ (c .before .before .block .ensures) (c .enum-told .given .1))
 
-cast-k : tie.Need-cast-k
-cast-k c = search needs
-
 returns-2 : tie.Need-returns-2
 returns-2 c =
     let handled = c .before .before in
     no-block _ _ _ _ (found _ (handled .before .before .block .ensures) (handled .handled .given .1)) (c .if1 .taken)
-
-shared-slice-read-if2 : tie.Need-shared-slice-read-if2
-shared-slice-read-if2 c = search needs
 
 cast-if2 : tie.Need-cast-if2
 cast-if2 c = omega (arith, c .shared-slice-known2 .given (c .before .before .before .handled .given .0 .0))
@@ -67,9 +55,6 @@ returns-3 : tie.Need-returns-3
 returns-3 c =
     let handled = c .before .before .before .before in
     no-field _ _ _ _ (found _ (handled .before .before .block .ensures) (handled .handled .given .1)) (c .before .before .if1 .left) (c .if2 .taken)
-
-mul-t7 : tie.Need-mul-t7
-mul-t7 c = search needs
 
 add-t11 : tie.Need-add-t11
 add-t11 c = omega (arith, c .before .shared-slice-known2 .given (c .before .before .before .before .handled .given .0 .0))
@@ -83,15 +68,15 @@ pub slot-of-spec : {M : Type 1} → statement M
 slot-of-spec =
     tie.close
     (tie.spec
-    block-requires
-    enum-known-handled
+    (λ c κs. search needs)
+    (λ c. search needs)
     enum-told
     returns
-    cast-k
+    (λ c. search needs)
     returns-2
-    shared-slice-read-if2
+    (λ c. search needs)
     cast-if2
     returns-3
-    mul-t7
+    (λ c. search needs)
     add-t11
     returns-4)

@@ -130,12 +130,6 @@ module _ (a : tie.After-outcome-of) where
         × ((l .calls ≡ takesAnswer (code s) (whole (s .args .sizes .now) (s .args .t10) (s .args .t9))) × ((WellFormed w × Fits (s .args .sizes .now) (s .args .t10) × Cheap) × Differs Nothing (s .args .t10) (s .args .t10)))
     kept = changed Nothing (s .args .t10) (s .pre .3) refl
 
-fetch-requires : tie.Need-fetch-requires
-fetch-requires c κs = search needs
-
-enum-known-fetched : tie.Need-enum-known-fetched
-enum-known-fetched c = search needs
-
 enum-told : tie.Need-enum-told
 enum-told c = search needs
 
@@ -155,58 +149,22 @@ returns-2 c =
       (calls (code s) (s .args .answer) (s .args .sizes .now) (s .args .t10) (s .args .t9) (line k) (found k), ((s .pre .2, s .pre .3, tt), refl)),
     )
 
-push-requires : tie.Need-push-requires
-push-requires c κs = search needs
-
-index-of-requires : tie.Need-index-of-requires
-index-of-requires c κs = search needs
-
 entry-place-requires : tie.Need-entry-place-requires
 entry-place-requires c κs = (omega (arith, c .index-of .ensures .1), ready (c .before .before) .formed .free)
 
 drops-of-requires : tie.Need-drops-of-requires
 drops-of-requires c κs = known (c .before .before .before .before)
 
-cast-t49 : tie.Need-cast-t49
-cast-t49 c = search needs
-
-cast-t50 : tie.Need-cast-t50
-cast-t50 c = search needs
-
-cast-t49-2 : tie.Need-cast-t49-2
-cast-t49-2 c = search needs
-
-cast-t50-2 : tie.Need-cast-t50-2
-cast-t50-2 c = search needs
-
-add-t51 : tie.Need-add-t51
-add-t51 c = search needs
-
-cast-t52 : tie.Need-cast-t52
-cast-t52 c = search needs
-
 sub-outcome-of : tie.Need-sub-outcome-of
 sub-outcome-of c = ready (c .before .before .before .before .before .before .before .before .before) .formed .free
 
-mul-outcome-of : tie.Need-mul-outcome-of
-mul-outcome-of c = search needs
-
-element-copy-out-outcome-of : tie.Need-element-copy-out-outcome-of
-element-copy-out-outcome-of c = search needs
-
 outcome-of-requires : tie.Need-outcome-of-requires
 outcome-of-requires c κs = known (c .before .before .before .before .before .before .before .before .before .before .before .before .before)
-
-enum-known-outcome : tie.Need-enum-known-outcome
-enum-known-outcome c = search needs
 
 -- ---- the accumulator becomes a cell
 
 pop-requires : tie.Need-pop-requires
 pop-requires c κs = let a = c .before .before .before in (prepared a .formed, arms.drop-room (arm a) _ _ (c .before .outcome .given .1) (settled a .drops-of .ensures))
-
-load-requires : tie.Need-load-requires
-load-requires c κs = search needs
 
 -- an accumulator that is loaded leaves the address
 loaded-at : (s w : State) (c : Cell) → view w ≡ load c (view s) → w .at ≡ s .at
@@ -230,20 +188,8 @@ returns-3 c =
 
 -- ---- an operation on cells
 
-enum-told-2 : tie.Need-enum-told-2
-enum-told-2 c = search needs
-
-mul-operated : tie.Need-mul-operated
-mul-operated c = search needs
-
-element-copy-out-operated : tie.Need-element-copy-out-operated
-element-copy-out-operated c = search needs
-
 operated-requires : tie.Need-operated-requires
 operated-requires c κs = let a = c .before .before .before .before .before in (known (lined a), arms.on-cells (arm a) (c .before .before .before .enum-told2 .given .1))
-
-enum-known-given : tie.Need-enum-known-given
-enum-known-given c = search needs
 
 -- what the operation gave
 given : (c : tie.After-operated) → ofOperand (c .operated .result) ≡ operated (operationOf (l (c .before .before .before .before .before .before) .code)) (l (c .before .before .before .before .before .before) .operand) (t (c .before .before .before .before .before .before) .accu) (entry (c .before .before .before .before .before .before))
@@ -251,9 +197,6 @@ given c = let a = c .before .before .before .before .before .before in c .operat
 
 pop-requires-2 : tie.Need-pop-requires-2
 pop-requires-2 c κs = let a = c .before .before .before .before .before .before .before .before .before in (prepared a .formed, arms.operate-room (arm a) _ (c .before .before .before .before .before .before .before .enum-told2 .given .1) (settled a .drops-of .ensures))
-
-load-requires-2 : tie.Need-load-requires-2
-load-requires-2 c κs = search needs
 
 advance-requires-2 : tie.Need-advance-requires-2
 advance-requires-2 c κs =
@@ -270,9 +213,6 @@ returns-4 c =
     (loaded-next v (c .before .load2 .result) (c .advance2 .result) _ (c .before .load2 .ensures .0) (c .advance2 .ensures .0)) (c .before .before .before .before .before .before .before .before .before .before .enum-told2 .given .1) (sym (given (c .before .before .before .before .before .before)) ∙ ap ofOperand (c .before .before .before .before .given .given .1)))
     (c .advance2 .result) (c .advance2 .ensures .1)
 
-enum-told-3 : tie.Need-enum-told-3
-enum-told-3 c = search needs
-
 returns-5 : tie.Need-returns-5
 unfolding ofNext
 returns-5 c =
@@ -280,9 +220,6 @@ returns-5 c =
     kept a tt _ (arms.operates-nothing (arm a) (c .before .before .before .before .before .before .enum-told2 .given .1) (sym (given (c .before .before)) ∙ ap ofOperand (c .enum-told3 .given .1))) (t a) (prepared a .formed)
 
 -- ---- an entry becomes the accumulator
-
-enum-told-4 : tie.Need-enum-told-4
-enum-told-4 c = search needs
 
 store-requires : tie.Need-store-requires
 store-requires c κs = let a = c .before .before in (prepared a .formed, arms.store-room (arm a) (c .enum-told4 .given .1))
@@ -299,15 +236,6 @@ returns-6 c =
 
 -- ---- a field is set
 
-enum-known-outcome-2 : tie.Need-enum-known-outcome-2
-enum-known-outcome-2 c = search needs
-
-slot-of-requires : tie.Need-slot-of-requires
-slot-of-requires c κs = search needs
-
-enum-known-field : tie.Need-enum-known-field
-enum-known-field c = search needs
-
 -- the place that was found
 set-slot : (c : tie.After-known-told5) → done (c .before .field .given .0 .0) ≡ ofSlot (c .before .before .before .slot-of .result)
 set-slot c = ap ofSlot (sym (c .before .field .given .1))
@@ -321,14 +249,8 @@ mul-blocks c = omega (arith, set-within c)
 array-set-from-blocks : tie.Need-array-set-from-blocks
 array-set-from-blocks c = set-within c
 
-number-requires : tie.Need-number-requires
-number-requires c κs = search needs
-
 pop-requires-3 : tie.Need-pop-requires-3
 pop-requires-3 c κs = let a = c .before .before .before .before .before .before .before .before .before in (prepared a .formed, arms.set-room (arm a) _ (c .before .before .before .before .before .before .before .outcome2 .given .1))
-
-load-requires-3 : tie.Need-load-requires-3
-load-requires-3 c κs = search needs
 
 advance-requires-4 : tie.Need-advance-requires-4
 advance-requires-4 c κs =
@@ -345,9 +267,6 @@ returns-7 c =
     (loaded-next v (c .before .load3 .result) (c .advance4 .result) _ (c .before .load3 .ensures .0) (c .advance4 .ensures .0) ∙ ap (λ z. load z (view (next v))) (c .before .before .before .number .ensures)))
     (c .advance4 .result) (c .advance4 .ensures .1) (Field (c .before .before .before .before .before .field .given .0 .0) _) _ (record { few = s a .pre .3 .few; room = simp length-set (s a .pre .3 .room) }) (set-within (c .before .before .before .before), refl)
 
-enum-told-5 : tie.Need-enum-told-5
-enum-told-5 c = search needs
-
 returns-8 : tie.Need-returns-8
 unfolding ofNext
 returns-8 c =
@@ -355,15 +274,6 @@ returns-8 c =
     kept a tt _ (arms.sets-nothing (arm a) _ (c .before .before .before .before .before .outcome2 .given .1) (ap ofSlot (sym (c .enum-told5 .given .1)) ∙ c .before .before .slot-of .ensures)) (t a) (prepared a .formed)
 
 -- ---- the accumulator becomes a field
-
-enum-told-6 : tie.Need-enum-told-6
-enum-told-6 c = search needs
-
-slot-of-requires-2 : tie.Need-slot-of-requires-2
-slot-of-requires-2 c κs = search needs
-
-enum-known-field-2 : tie.Need-enum-known-field-2
-enum-known-field-2 c = search needs
 
 get-slot : (c : tie.After-known-told6) → done (c .before .field2 .given .0 .0) ≡ ofSlot (c .before .before .before .slot-of2 .result)
 get-slot c = ap ofSlot (sym (c .before .field2 .given .1))
@@ -392,9 +302,6 @@ returns-9 c =
     (loaded-next (t a) (c .before .load4 .result) (c .advance5 .result) _ (c .before .load4 .ensures .0) (c .advance5 .ensures .0)))
     (c .advance5 .result) (c .advance5 .ensures .1)
 
-enum-told-7 : tie.Need-enum-told-7
-enum-told-7 c = search needs
-
 returns-10 : tie.Need-returns-10
 unfolding ofNext
 returns-10 c =
@@ -402,9 +309,6 @@ returns-10 c =
     kept a tt _ (arms.gets-nothing (arm a) (c .before .before .before .before .enum-told6 .given .1) (ap ofSlot (sym (c .enum-told7 .given .1)) ∙ c .before .before .slot-of2 .ensures)) (t a) (prepared a .formed)
 
 -- ---- branches, STOP, stuck
-
-enum-told-8 : tie.Need-enum-told-8
-enum-told-8 c = search needs
 
 jump-requires : tie.Need-jump-requires
 jump-requires c κs = let a = c .before .before in prepared a .formed
@@ -415,9 +319,6 @@ returns-11 c =
     let a = c .before .before .before in
     kept a (plain a) _ (arms.branches (arm a) (c .jump .result) (jumped-next (t a) (c .jump .result) _ (c .jump .ensures .0)) (c .before .enum-told8 .given .1)) (c .jump .result) (c .jump .ensures .1)
 
-enum-told-9 : tie.Need-enum-told-9
-enum-told-9 c = search needs
-
 jump-requires-2 : tie.Need-jump-requires-2
 jump-requires-2 c κs = let a = c .before .before in prepared a .formed
 
@@ -426,9 +327,6 @@ unfolding ofNext withExtra
 returns-12 c =
     let a = c .before .before .before in
     kept a (jumped a) _ (arms.jumps (arm a) (c .jump2 .result) (jumped-next (t a) (c .jump2 .result) _ (c .jump2 .ensures .0)) (c .before .enum-told9 .given .1)) (c .jump2 .result) (c .jump2 .ensures .1)
-
-enum-told-10 : tie.Need-enum-told-10
-enum-told-10 c = search needs
 
 advance-requires-6 : tie.Need-advance-requires-6
 advance-requires-6 c κs = let a = c .before .before in (prepared a .formed, near a _ refl)
@@ -439,15 +337,9 @@ returns-13 c =
     let a = c .before .before .before in
     kept a (plain a, jumped a) _ (opened (s a .args .sizes .now) (s a .args .t10) (t a) (c .advance6 .result) (arm a) (c .before .enum-told10 .given .1) (c .advance6 .ensures .0)) (c .advance6 .result) (c .advance6 .ensures .1)
 
-enum-told-11 : tie.Need-enum-told-11
-enum-told-11 c = search needs
-
 returns-14 : tie.Need-returns-14
 unfolding ofNext
 returns-14 c = let a = c .before .before in kept a (plain a) _ (arms.halts (arm a) (c .enum-told11 .given .1)) (t a) (prepared a .formed)
-
-enum-told-12 : tie.Need-enum-told-12
-enum-told-12 c = search needs
 
 returns-15 : tie.Need-returns-15
 unfolding ofNext
@@ -457,67 +349,67 @@ pub step-spec : {M : Type 1} → statement M
 step-spec =
     tie.close
     (tie.spec
-    fetch-requires
-    enum-known-fetched
+    (λ c κs. search needs)
+    (λ c. search needs)
     enum-told
     returns
     returns-2
-    push-requires
-    index-of-requires
+    (λ c κs. search needs)
+    (λ c κs. search needs)
     entry-place-requires
     drops-of-requires
-    cast-t49
-    cast-t50
-    cast-t49-2
-    cast-t50-2
-    add-t51
-    cast-t52
+    (λ c. search needs)
+    (λ c. search needs)
+    (λ c. search needs)
+    (λ c. search needs)
+    (λ c. search needs)
+    (λ c. search needs)
     sub-outcome-of
-    mul-outcome-of
-    element-copy-out-outcome-of
+    (λ c. search needs)
+    (λ c. search needs)
     outcome-of-requires
-    enum-known-outcome
+    (λ c. search needs)
     pop-requires
-    load-requires
+    (λ c κs. search needs)
     advance-requires
-    enum-told-2
-    mul-operated
-    element-copy-out-operated
+    (λ c. search needs)
+    (λ c. search needs)
+    (λ c. search needs)
     operated-requires
-    enum-known-given
+    (λ c. search needs)
     pop-requires-2
-    load-requires-2
+    (λ c κs. search needs)
     advance-requires-2
-    enum-told-3
-    enum-told-4
+    (λ c. search needs)
+    (λ c. search needs)
     store-requires
     advance-requires-3
-    enum-known-outcome-2
-    slot-of-requires
-    enum-known-field
+    (λ c. search needs)
+    (λ c κs. search needs)
+    (λ c. search needs)
     mul-blocks
     array-set-from-blocks
-    number-requires
+    (λ c κs. search needs)
     pop-requires-3
-    load-requires-3
+    (λ c κs. search needs)
     advance-requires-4
-    enum-told-5
-    enum-told-6
-    slot-of-requires-2
-    enum-known-field-2
+    (λ c. search needs)
+    (λ c. search needs)
+    (λ c κs. search needs)
+    (λ c. search needs)
     mul-load
     array-copy-out-load
     load-requires-4
     advance-requires-5
-    enum-told-7
-    enum-told-8
+    (λ c. search needs)
+    (λ c. search needs)
     jump-requires
-    enum-told-9
+    (λ c. search needs)
     jump-requires-2
-    enum-told-10
+    (λ c. search needs)
     advance-requires-6
-    enum-told-11
-    enum-told-12
+    (λ c. search needs)
+    (λ c. search needs)
     returns-3
     returns-4
     returns-5

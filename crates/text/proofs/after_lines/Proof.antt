@@ -24,15 +24,6 @@ returns c =
     let l = c .before .before in
     (sym (l .loop .inv .1 ∙ drop-lines-empty (l .loop .rest .now) (l .loop .left) (c .if1 .taken)), omega arith)
 
-next-lines-requires : tie.Need-next-lines-requires Inv-loop μ-loop
-next-lines-requires c κs = search needs
-
-sub-left : tie.Need-sub-left Inv-loop μ-loop
-sub-left c = search needs
-
-loop-less : tie.Need-loop-less Inv-loop μ-loop
-loop-less c = search needs
-
 loop-again : tie.Need-loop-again Inv-loop μ-loop
 loop-again c =
     let l = c .before .before .before in
@@ -44,4 +35,4 @@ returns-2 c =
     (sym (l .loop .inv .1 ∙ drop-none _ _ (c .loop-test .left)), omega arith)
 
 pub after-lines-spec : {M : Type 1} → statement M
-after-lines-spec = tie.close (tie.spec Inv-loop μ-loop loop-holds returns next-lines-requires sub-left loop-less loop-again returns-2)
+after-lines-spec = tie.close (tie.spec Inv-loop μ-loop loop-holds returns (λ c κs. search needs) (λ c. search needs) (λ c. search needs) loop-again returns-2)

@@ -17,32 +17,8 @@ Inv-loop line rest₀ n₀ e₀ rest n e = (e ≡ firstLength 32 rest) × (n + l
 abbrev μ-loop : tie.MeasureT-loop
 μ-loop line rest₀ n₀ e₀ rest n e = length rest
 
-piece-length-requires : tie.Need-piece-length-requires Inv-loop μ-loop
-piece-length-requires c κs = search needs
-
 loop-holds : tie.Need-loop-holds Inv-loop μ-loop
 loop-holds c = (c .piece-length .ensures, omega arith, omega arith)
-
-add-rest : tie.Need-add-rest Inv-loop μ-loop
-add-rest c = search needs
-
-sub-rest : tie.Need-sub-rest Inv-loop μ-loop
-sub-rest c = search needs
-
-part-rest-start : tie.Need-part-rest-start Inv-loop μ-loop
-part-rest-start c = search needs
-
-part-rest-end : tie.Need-part-rest-end Inv-loop μ-loop
-part-rest-end c = search needs
-
-piece-length-requires-2 : tie.Need-piece-length-requires-2 Inv-loop μ-loop
-piece-length-requires-2 c κs = search needs
-
-add-n : tie.Need-add-n Inv-loop μ-loop
-add-n c = search needs
-
-loop-less : tie.Need-loop-less Inv-loop μ-loop
-loop-less c = search needs
 
 loop-again : tie.Need-loop-again Inv-loop μ-loop
 loop-again c =
@@ -62,14 +38,14 @@ count-words-spec =
     (tie.spec
     Inv-loop
     μ-loop
-    piece-length-requires
+    (λ c κs. search needs)
     loop-holds
-    add-rest
-    sub-rest
-    part-rest-start
-    part-rest-end
-    piece-length-requires-2
-    add-n
-    loop-less
+    (λ c. search needs)
+    (λ c. search needs)
+    (λ c. search needs)
+    (λ c. search needs)
+    (λ c κs. search needs)
+    (λ c. search needs)
+    (λ c. search needs)
     loop-again
     returns)

@@ -21,9 +21,6 @@ abbrev μ-loop : tie.MeasureT-loop
 loop-holds : tie.Need-loop-holds Inv-loop μ-loop
 loop-holds c = (omega arith, omega arith, refl)
 
-shared-slice-read-d : tie.Need-shared-slice-read-d Inv-loop μ-loop
-shared-slice-read-d c = search needs
-
 returns : tie.Need-returns Inv-loop μ-loop
 returns c =
     let t = c .before .before in
@@ -34,17 +31,8 @@ returns-2 c =
     let t = c .before .before .before in
     sym (t .before .loop .inv .2 ∙ digits-above _ _ _ (t .loop-test .taken) (c .before .if1 .left) (c .if2 .taken))
 
-wide-requires : tie.Need-wide-requires Inv-loop μ-loop
-wide-requires c κs = search needs
-
 append-digit-requires : tie.Need-append-digit-requires Inv-loop μ-loop
 append-digit-requires c κs = omega arith
-
-add-i : tie.Need-add-i Inv-loop μ-loop
-add-i c = search needs
-
-loop-less : tie.Need-loop-less Inv-loop μ-loop
-loop-less c = search needs
 
 loop-again : tie.Need-loop-again Inv-loop μ-loop
 loop-again c =
@@ -69,12 +57,12 @@ digits-spec =
     Inv-loop
     μ-loop
     loop-holds
-    shared-slice-read-d
+    (λ c. search needs)
     returns
     returns-2
-    wide-requires
+    (λ c κs. search needs)
     append-digit-requires
-    add-i
-    loop-less
+    (λ c. search needs)
+    (λ c. search needs)
     loop-again
     returns-3)

@@ -20,9 +20,6 @@ Inv-loop w text rest₀ k₀ e₀ rest k e = (e ≡ firstLength 32 rest) × (k +
 abbrev μ-loop : tie.MeasureT-loop
 μ-loop w text rest₀ k₀ e₀ rest k e = length rest
 
-piece-length-requires : tie.Need-piece-length-requires Inv-loop μ-loop
-piece-length-requires c κs = search needs
-
 loop-holds : tie.Need-loop-holds Inv-loop μ-loop
 loop-holds c =
     let a = c .before .before .before .args in
@@ -31,37 +28,10 @@ loop-holds c =
 slice-aggregate-same : tie.Need-slice-aggregate-same Inv-loop μ-loop
 slice-aggregate-same c = sym (length-take-le _ _ (le-of-lt (c .before .loop-test .taken)))
 
-same-requires : tie.Need-same-requires Inv-loop μ-loop
-same-requires c κs = search needs
-
-add-t12 : tie.Need-add-t12 Inv-loop μ-loop
-add-t12 c = search needs
-
 returns : tie.Need-returns Inv-loop μ-loop
 returns c =
     let l = c .before .before .before .before in
     sym (l .loop .inv .2 ∙ find-here (l .loop .k) _ _ _ (l .loop .inv .0) (c .before .before .before .loop-test .taken) (sym (c .before .same .ensures) ∙ c .if1 .taken))
-
-add-rest : tie.Need-add-rest Inv-loop μ-loop
-add-rest c = search needs
-
-sub-rest : tie.Need-sub-rest Inv-loop μ-loop
-sub-rest c = search needs
-
-part-rest-start : tie.Need-part-rest-start Inv-loop μ-loop
-part-rest-start c = search needs
-
-part-rest-end : tie.Need-part-rest-end Inv-loop μ-loop
-part-rest-end c = search needs
-
-piece-length-requires-2 : tie.Need-piece-length-requires-2 Inv-loop μ-loop
-piece-length-requires-2 c κs = search needs
-
-add-k : tie.Need-add-k Inv-loop μ-loop
-add-k c = search needs
-
-loop-less : tie.Need-loop-less Inv-loop μ-loop
-loop-less c = search needs
 
 loop-again : tie.Need-loop-again Inv-loop μ-loop
 loop-again c =
@@ -70,19 +40,10 @@ loop-again c =
     let e = find-next (l .loop .k) _ _ _ (l .loop .inv .0) (j .before .before .before .loop-test .taken) (sym (j .before .same .ensures) ∙ j .if1 .left) in
     (c .piece-length2 .ensures, omega arith, l .loop .inv .2 ∙ e)
 
-same-requires-2 : tie.Need-same-requires-2 Inv-loop μ-loop
-same-requires-2 c κs = search needs
-
-add-t19 : tie.Need-add-t19 Inv-loop μ-loop
-add-t19 c = search needs
-
 returns-2 : tie.Need-returns-2 Inv-loop μ-loop
 returns-2 c =
     let l = c .before .before .before in
     sym (l .loop .inv .2 ∙ find-last (l .loop .k) _ _ _ (l .loop .inv .0) (c .before .before .loop-test .left) ∙ ap (λ (b : Bool). record { place = cond b (At (l .loop .k)) Missing; looked = l .loop .k + 1 }) (sym (c .before .same2 .ensures) ∙ c .if2 .taken))
-
-add-t21 : tie.Need-add-t21 Inv-loop μ-loop
-add-t21 c = search needs
 
 returns-3 : tie.Need-returns-3 Inv-loop μ-loop
 returns-3 c =
@@ -95,22 +56,22 @@ find-spec =
     (tie.spec
     Inv-loop
     μ-loop
-    piece-length-requires
+    (λ c κs. search needs)
     loop-holds
     slice-aggregate-same
-    same-requires
-    add-t12
+    (λ c κs. search needs)
+    (λ c. search needs)
     returns
-    add-rest
-    sub-rest
-    part-rest-start
-    part-rest-end
-    piece-length-requires-2
-    add-k
-    loop-less
+    (λ c. search needs)
+    (λ c. search needs)
+    (λ c. search needs)
+    (λ c. search needs)
+    (λ c κs. search needs)
+    (λ c. search needs)
+    (λ c. search needs)
     loop-again
-    same-requires-2
-    add-t19
-    add-t21
+    (λ c κs. search needs)
+    (λ c. search needs)
+    (λ c. search needs)
     returns-2
     returns-3)

@@ -8,9 +8,6 @@ use Rattle.text.proofs.LineLaws.{line-text}
 use Rattle.text.proofs.first_line.Statement.{statement}
 use Rattle.text.proofs.first_line.Tie as tie
 
-piece-length-requires : tie.Need-piece-length-requires
-piece-length-requires c κs = search needs
-
 slice-aggregate-result : tie.Need-slice-aggregate-result
 slice-aggregate-result c =
     let s = c .before .before .before .args .s .now in
@@ -20,4 +17,4 @@ returns : tie.Need-returns
 returns c = sym (line-text _ _ (c .before .piece-length .ensures))
 
 pub first-line-spec : {M : Type 1} → statement M
-first-line-spec = tie.close (tie.spec piece-length-requires slice-aggregate-result returns)
+first-line-spec = tie.close (tie.spec (λ c κs. search needs) slice-aggregate-result returns)

@@ -5,14 +5,8 @@ use Rattle.text.proofs.TextLaws.{isFound, among-place}
 use Rattle.text.proofs.is_among.Statement.{statement}
 use Rattle.text.proofs.is_among.Tie as tie
 
-find-requires : tie.Need-find-requires
-find-requires c κs = search needs
-
 enum-told : tie.Need-enum-told
 enum-told c = search needs
-
-enum-told-2 : tie.Need-enum-told-2
-enum-told-2 c = search needs
 
 returns : tie.Need-returns
 returns c = sym (among-place 0 _ _ ∙ ap (λ r. isFound (r .place)) (sym (c .before .before .find .ensures)) ∙ ap isFound (c .enum-told2 .given .1))
@@ -21,4 +15,4 @@ returns-2 : tie.Need-returns-2
 returns-2 c = sym (among-place 0 _ _ ∙ ap (λ r. isFound (r .place)) (sym (c .before .before .find .ensures)) ∙ ap isFound (c .enum-told .given .1))
 
 pub is-among-spec : {M : Type 1} → statement M
-is-among-spec = tie.close (tie.spec find-requires enum-told enum-told-2 returns returns-2)
+is-among-spec = tie.close (tie.spec (λ c κs. search needs) enum-told (λ c. search needs) returns returns-2)

@@ -9,12 +9,6 @@ use Rattle.text.proofs.natural.Tie as tie
 returns : tie.Need-returns
 returns c = sym (natural-none _ (c .if1 .taken))
 
-shared-slice-read-if2 : tie.Need-shared-slice-read-if2
-shared-slice-read-if2 c = search needs
-
-digits-requires : tie.Need-digits-requires
-digits-requires c κs = search needs
-
 returns-2 : tie.Need-returns-2
 returns-2 c = c .digits .ensures ∙ sym (ap held (natural-digits _ (c .before .before .before .if1 .left) (c .before .if2 .taken)))
 
@@ -27,4 +21,4 @@ returns-4 c = sym (natural-leading-zero _ (c .before .before .before .if1 .left)
 pub natural-spec : {M : Type 1} → statement M
 natural-spec =
     tie.close
-    (tie.spec returns shared-slice-read-if2 digits-requires returns-2 returns-3 returns-4)
+    (tie.spec returns (λ c. search needs) (λ c κs. search needs) returns-2 returns-3 returns-4)

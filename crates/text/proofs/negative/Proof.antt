@@ -8,12 +8,6 @@ use Rattle.text.proofs.NumeralLaws.{minus-fits, negative-zero, negative
 use Rattle.text.proofs.negative.Statement.{statement}
 use Rattle.text.proofs.negative.Tie as tie
 
-enum-known-m : tie.Need-enum-known-m
-enum-known-m c = search needs
-
-enum-told : tie.Need-enum-told
-enum-told c = search needs
-
 returns : tie.Need-returns
 unfolding clamped toNumeral
 returns c = search needs
@@ -22,15 +16,6 @@ returns-2 : tie.Need-returns-2
 returns-2 c =
     let m = c .before .before .m .given in
     sym (ap (λ x. clamped (negative (toNumeral x))) (m .1) ∙ negative-zero _ (c .if1 .taken))
-
-add-smaller : tie.Need-add-smaller
-add-smaller c = search needs
-
-smaller-requires : tie.Need-smaller-requires
-smaller-requires c κs = search needs
-
-cast-t6 : tie.Need-cast-t6
-cast-t6 c = search needs
 
 sub-t7 : tie.Need-sub-t7
 sub-t7 c = minus-fits (c .smaller .result) (omega arith)
@@ -43,4 +28,4 @@ returns-3 c =
 pub negative-spec : {M : Type 1} → statement M
 negative-spec =
     tie.close
-    (tie.spec enum-known-m enum-told returns returns-2 add-smaller smaller-requires cast-t6 sub-t7 returns-3)
+    (tie.spec (λ c. search needs) (λ c. search needs) returns returns-2 (λ c. search needs) (λ c κs. search needs) (λ c. search needs) sub-t7 returns-3)

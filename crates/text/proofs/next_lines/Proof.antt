@@ -5,9 +5,6 @@ use borrow.Author.Needs.{needs}
 use Rattle.text.proofs.next_lines.Statement.{statement}
 use Rattle.text.proofs.next_lines.Tie as tie
 
-first-line-requires : tie.Need-first-line-requires
-first-line-requires c κs = search needs
-
 after-line-requires : tie.Need-after-line-requires
 after-line-requires c κs = ap length (c .first-line .ensures)
 
@@ -15,4 +12,4 @@ returns : tie.Need-returns
 returns c = c .after-line .ensures
 
 pub next-lines-spec : {M : Type 1} → statement M
-next-lines-spec = tie.close (tie.spec first-line-requires after-line-requires returns)
+next-lines-spec = tie.close (tie.spec (λ c κs. search needs) after-line-requires returns)

@@ -7,21 +7,9 @@ use Rattle.text.proofs.NumeralLaws.{positive-read}
 use Rattle.text.proofs.positive.Statement.{statement}
 use Rattle.text.proofs.positive.Tie as tie
 
-enum-known-m : tie.Need-enum-known-m
-enum-known-m c = search needs
-
-enum-told : tie.Need-enum-told
-enum-told c = search needs
-
 returns : tie.Need-returns
 unfolding clamped toNumeral
 returns c = search needs
-
-smaller-requires : tie.Need-smaller-requires
-smaller-requires c κs = search needs
-
-cast-t4 : tie.Need-cast-t4
-cast-t4 c = search needs
 
 returns-2 : tie.Need-returns-2
 returns-2 c =
@@ -30,4 +18,4 @@ returns-2 c =
 
 pub positive-spec : {M : Type 1} → statement M
 positive-spec =
-    tie.close (tie.spec enum-known-m enum-told returns smaller-requires cast-t4 returns-2)
+    tie.close (tie.spec (λ c. search needs) (λ c. search needs) returns (λ c κs. search needs) (λ c. search needs) returns-2)

@@ -19,40 +19,13 @@ Inv-loop line k rest₀ left₀ e₀ rest left e = (e ≡ firstLength 32 rest) �
 abbrev μ-loop : tie.MeasureT-loop
 μ-loop line k rest₀ left₀ e₀ rest left e = left
 
-piece-length-requires : tie.Need-piece-length-requires Inv-loop μ-loop
-piece-length-requires c κs = search needs
-
 loop-holds : tie.Need-loop-holds Inv-loop μ-loop
 loop-holds c = (c .piece-length .ensures, omega arith, refl)
-
-slice-aggregate-result : tie.Need-slice-aggregate-result Inv-loop μ-loop
-slice-aggregate-result c = search needs
 
 returns : tie.Need-returns Inv-loop μ-loop
 returns c =
     let l = c .before .before .before in
     sym (l .loop .inv .2 ∙ word-none _ _ _ (l .loop .inv .0) (c .before .if1 .taken) (c .before .before .loop-test .taken))
-
-add-rest : tie.Need-add-rest Inv-loop μ-loop
-add-rest c = search needs
-
-sub-rest : tie.Need-sub-rest Inv-loop μ-loop
-sub-rest c = search needs
-
-part-rest-start : tie.Need-part-rest-start Inv-loop μ-loop
-part-rest-start c = search needs
-
-part-rest-end : tie.Need-part-rest-end Inv-loop μ-loop
-part-rest-end c = search needs
-
-piece-length-requires-2 : tie.Need-piece-length-requires-2 Inv-loop μ-loop
-piece-length-requires-2 c κs = search needs
-
-sub-left : tie.Need-sub-left Inv-loop μ-loop
-sub-left c = search needs
-
-loop-less : tie.Need-loop-less Inv-loop μ-loop
-loop-less c = search needs
 
 loop-again : tie.Need-loop-again Inv-loop μ-loop
 loop-again c =
@@ -75,17 +48,17 @@ word-at-spec =
     (tie.spec
     Inv-loop
     μ-loop
-    piece-length-requires
+    (λ c κs. search needs)
     loop-holds
-    slice-aggregate-result
+    (λ c. search needs)
     returns
-    add-rest
-    sub-rest
-    part-rest-start
-    part-rest-end
-    piece-length-requires-2
-    sub-left
-    loop-less
+    (λ c. search needs)
+    (λ c. search needs)
+    (λ c. search needs)
+    (λ c. search needs)
+    (λ c κs. search needs)
+    (λ c. search needs)
+    (λ c. search needs)
     loop-again
     slice-aggregate-result-2
     returns-2)

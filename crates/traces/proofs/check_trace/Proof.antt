@@ -20,12 +20,6 @@ returns c = check-long _ (c .if1 .taken)
 returns-2 : tie.Need-returns-2
 returns-2 c = check-empty _ (c .before .if1 .left) (c .if2 .taken)
 
-earliest-requires : tie.Need-earliest-requires
-earliest-requires c κs = search needs
-
-enum-known-layout : tie.Need-enum-known-layout
-enum-known-layout c = search needs
-
 returns-3 : tie.Need-returns-3
 unfolding lineTest
 returns-3 c = check-layout _ (c .before .before .before .before .before .if1 .left) (c .before .before .before .before .if2 .left) _ (sym (c .before .before .before .earliest .ensures) ∙ c .before .layout .given .1)
@@ -33,18 +27,9 @@ returns-3 c = check-layout _ (c .before .before .before .before .before .if1 .le
 enum-told : tie.Need-enum-told
 enum-told c = search needs
 
-earliest-requires-2 : tie.Need-earliest-requires-2
-earliest-requires-2 c κs = search needs
-
-enum-known-range : tie.Need-enum-known-range
-enum-known-range c = search needs
-
 returns-4 : tie.Need-returns-4
 unfolding lineTest
 returns-4 c = check-range _ (c .before .before .before .before .before .before .before .before .if1 .left) (c .before .before .before .before .before .before .before .if2 .left) _ (row-layout (c .before .before .before .before)) (sym (c .before .before .before .earliest2 .ensures) ∙ c .before .range .given .1)
-
-enum-told-2 : tie.Need-enum-told-2
-enum-told-2 c = search needs
 
 returns-5 : tie.Need-returns-5
 unfolding lineTest
@@ -56,12 +41,12 @@ check-trace-spec =
     (tie.spec
     returns
     returns-2
-    earliest-requires
-    enum-known-layout
+    (λ c κs. search needs)
+    (λ c. search needs)
     returns-3
     enum-told
-    earliest-requires-2
-    enum-known-range
+    (λ c κs. search needs)
+    (λ c. search needs)
     returns-4
-    enum-told-2
+    (λ c. search needs)
     returns-5)

@@ -17,12 +17,6 @@ abbrev μ-loop : tie.MeasureT-loop
 loop-holds : tie.Need-loop-holds Inv-loop μ-loop
 loop-holds c = scan-start _ _
 
-passes-requires : tie.Need-passes-requires Inv-loop μ-loop
-passes-requires c κs = search needs
-
-next-lines-requires : tie.Need-next-lines-requires Inv-loop μ-loop
-next-lines-requires c κs = search needs
-
 add-passed : tie.Need-add-passed Inv-loop μ-loop
 add-passed c = let v = c .before .before .before .before .loop .inv .size in let r = c .before .before .before .before .before .before .pre in omega arith
 
@@ -51,8 +45,8 @@ earliest-spec =
     Inv-loop
     μ-loop
     loop-holds
-    passes-requires
-    next-lines-requires
+    (λ c κs. search needs)
+    (λ c κs. search needs)
     add-passed
     loop-less
     loop-again

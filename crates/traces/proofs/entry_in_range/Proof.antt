@@ -9,20 +9,8 @@ use borrow.Author.Needs.{needs}
 use Rattle.traces.proofs.entry_in_range.Statement.{statement}
 use Rattle.traces.proofs.entry_in_range.Tie as tie
 
-word-at-requires : tie.Need-word-at-requires
-word-at-requires c κs = search needs
-
-word-at-requires-2 : tie.Need-word-at-requires-2
-word-at-requires-2 c κs = search needs
-
-addresses-requires : tie.Need-addresses-requires
-addresses-requires c κs = search needs
-
 is-within-requires : tie.Need-is-within-requires
 is-within-requires c κs = near-range 0 62000 (omega arith) (omega arith) (c .addresses .ensures)
-
-cycle-range-requires : tie.Need-cycle-range-requires
-cycle-range-requires c κs = search needs
 
 is-within-requires-2 : tie.Need-is-within-requires-2
 is-within-requires-2 c κs = near-range 0 4000000000 (omega arith) (omega arith) (c .cycle-range .ensures)
@@ -43,11 +31,11 @@ pub entry-in-range-spec : {M : Type 1} → statement M
 entry-in-range-spec =
     tie.close
     (tie.spec
-    word-at-requires
-    word-at-requires-2
-    addresses-requires
+    (λ c κs. search needs)
+    (λ c κs. search needs)
+    (λ c κs. search needs)
     is-within-requires
-    cycle-range-requires
+    (λ c κs. search needs)
     is-within-requires-2
     returns
     returns-2)

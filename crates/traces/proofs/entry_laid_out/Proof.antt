@@ -11,26 +11,11 @@ use borrow.Author.Needs.{needs}
 use Rattle.traces.proofs.entry_laid_out.Statement.{statement}
 use Rattle.traces.proofs.entry_laid_out.Tie as tie
 
-count-words-requires : tie.Need-count-words-requires
-count-words-requires c κs = search needs
-
 returns : tie.Need-returns
 unfolding entryLaidOut
 returns c =
     let line = c .before .before .before .args .line .now in
     and-stop _ (isNumeral (numeral (at line))) (isNumeral (numeral (cycles line))) (ne-eqb (length (words line)) 2 (λ e. c .if1 .taken (c .before .count-words .ensures ∙ e)))
-
-word-at-requires : tie.Need-word-at-requires
-word-at-requires c κs = search needs
-
-word-at-requires-2 : tie.Need-word-at-requires-2
-word-at-requires-2 c κs = search needs
-
-is-numeral-requires : tie.Need-is-numeral-requires
-is-numeral-requires c κs = search needs
-
-is-numeral-requires-2 : tie.Need-is-numeral-requires-2
-is-numeral-requires-2 c κs = search needs
 
 returns-2 : tie.Need-returns-2
 unfolding entryLaidOut
@@ -51,11 +36,11 @@ pub entry-laid-out-spec : {M : Type 1} → statement M
 entry-laid-out-spec =
     tie.close
     (tie.spec
-    count-words-requires
+    (λ c κs. search needs)
     returns
-    word-at-requires
-    word-at-requires-2
-    is-numeral-requires
-    is-numeral-requires-2
+    (λ c κs. search needs)
+    (λ c κs. search needs)
+    (λ c κs. search needs)
+    (λ c κs. search needs)
     returns-2
     returns-3)

@@ -8,11 +8,8 @@ use Rattle.traces.proofs.in_range.Tie as tie
 returns : tie.Need-returns
 returns c = let start = c .before .before in sym (names-ranged (start .args .k) (start .args .line .now) (c .if1 .taken))
 
-entry-in-range-requires : tie.Need-entry-in-range-requires
-entry-in-range-requires c κs = search needs
-
 returns-2 : tie.Need-returns-2
 returns-2 c = let start = c .before .before .before in c .entry-in-range .ensures ∙ sym (entry-ranged (start .args .k) (start .args .line .now) (c .before .if1 .left))
 
 pub in-range-spec : {M : Type 1} → statement M
-in-range-spec = tie.close (tie.spec returns entry-in-range-requires returns-2)
+in-range-spec = tie.close (tie.spec returns (λ c κs. search needs) returns-2)

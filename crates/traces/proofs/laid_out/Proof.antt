@@ -5,20 +5,11 @@ use borrow.Author.Needs.{needs}
 use Rattle.traces.proofs.laid_out.Statement.{statement}
 use Rattle.traces.proofs.laid_out.Tie as tie
 
-slice-aggregate-same : tie.Need-slice-aggregate-same
-slice-aggregate-same c = search needs
-
-same-requires : tie.Need-same-requires
-same-requires c κs = search needs
-
 returns : tie.Need-returns
 returns c = let start = c .before .before .before .before in c .same .ensures ∙ sym (names-laid (start .args .k) (start .args .line .now) (c .before .before .if1 .taken))
 
 returns-2 : tie.Need-returns-2
 returns-2 c = let start = c .before .before .before in sym (too-many (start .args .k) (start .args .line .now) (c .if2 .taken))
-
-entry-laid-out-requires : tie.Need-entry-laid-out-requires
-entry-laid-out-requires c κs = search needs
 
 returns-3 : tie.Need-returns-3
 returns-3 c = let start = c .before .before .before .before in c .entry-laid-out .ensures ∙ sym (entry-laid (start .args .k) (start .args .line .now) (c .before .before .if1 .left) (c .before .if2 .left))
@@ -27,9 +18,9 @@ pub laid-out-spec : {M : Type 1} → statement M
 laid-out-spec =
     tie.close
     (tie.spec
-    slice-aggregate-same
-    same-requires
+    (λ c. search needs)
+    (λ c κs. search needs)
     returns
     returns-2
-    entry-laid-out-requires
+    (λ c κs. search needs)
     returns-3)

@@ -8,14 +8,8 @@ use borrow.Author.Needs.{needs}
 use Rattle.traces.proofs.line_laid_out.Statement.{statement}
 use Rattle.traces.proofs.line_laid_out.Tie as tie
 
-first-line-requires : tie.Need-first-line-requires
-first-line-requires c κs = search needs
-
 line-ends-requires : tie.Need-line-ends-requires
 line-ends-requires c κs = ap length (c .first-line .ensures)
-
-laid-out-requires : tie.Need-laid-out-requires
-laid-out-requires c κs = search needs
 
 returns : tie.Need-returns
 unfolding lineLaidOut
@@ -29,4 +23,4 @@ returns-2 c =
 
 pub line-laid-out-spec : {M : Type 1} → statement M
 line-laid-out-spec =
-    tie.close (tie.spec first-line-requires line-ends-requires laid-out-requires returns returns-2)
+    tie.close (tie.spec (λ c κs. search needs) line-ends-requires (λ c κs. search needs) returns returns-2)

@@ -12,18 +12,6 @@ use Rattle.traces.proofs.passes.Tie as tie
 enum-told : tie.Need-enum-told
 enum-told c = search needs
 
-line-laid-out-requires : tie.Need-line-laid-out-requires
-line-laid-out-requires c κs = search needs
-
-enum-told-2 : tie.Need-enum-told-2
-enum-told-2 c = search needs
-
-first-line-requires : tie.Need-first-line-requires
-first-line-requires c κs = search needs
-
-in-range-requires : tie.Need-in-range-requires
-in-range-requires c κs = search needs
-
 returns : tie.Need-returns
 unfolding lineTest
 returns c =
@@ -42,9 +30,9 @@ passes-spec =
     tie.close
     (tie.spec
     enum-told
-    line-laid-out-requires
-    enum-told-2
-    first-line-requires
-    in-range-requires
+    (λ c κs. search needs)
+    (λ c. search needs)
+    (λ c κs. search needs)
+    (λ c κs. search needs)
     returns
     returns-2)

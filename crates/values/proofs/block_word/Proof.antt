@@ -11,9 +11,6 @@ use Rattle.values.proofs.block_word.Tie as tie
 enum-told : tie.Need-enum-told
 enum-told c = search needs
 
-enum-known-n : tie.Need-enum-known-n
-enum-known-n c = search needs
-
 returns : tie.Need-returns
 unfolding blockOf
 returns c = sym (ap blockOf (c .enum-told .given .1))
@@ -23,4 +20,4 @@ unfolding blockOf
 returns-2 c = ap Block (toZ-ofZ w64 _ (search needs)) ∙ sym (ap blockOf (c .before .n .given .1))
 
 pub block-word-spec : {M : Type 1} → statement M
-block-word-spec = tie.close (tie.spec enum-told enum-known-n returns returns-2)
+block-word-spec = tie.close (tie.spec enum-told (λ c. search needs) returns returns-2)

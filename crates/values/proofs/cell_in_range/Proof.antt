@@ -11,33 +11,6 @@ use borrow.Author.Needs.{needs}
 use Rattle.values.proofs.cell_in_range.Statement.{statement}
 use Rattle.values.proofs.cell_in_range.Tie as tie
 
-cell-word-requires : tie.Need-cell-word-requires
-cell-word-requires c κs = search needs
-
-enum-known-z : tie.Need-enum-known-z
-enum-known-z c = search needs
-
-number-range-requires : tie.Need-number-range-requires
-number-range-requires c κs = search needs
-
-within-requires : tie.Need-within-requires
-within-requires c κs = search needs
-
-enum-known-k : tie.Need-enum-known-k
-enum-known-k c = search needs
-
-handles-requires : tie.Need-handles-requires
-handles-requires c κs = search needs
-
-within-requires-2 : tie.Need-within-requires-2
-within-requires-2 c κs = search needs
-
-enum-known-lo : tie.Need-enum-known-lo
-enum-known-lo c = search needs
-
-span-in-range-requires : tie.Need-span-in-range-requires
-span-in-range-requires c κs = search needs
-
 returns : tie.Need-returns
 unfolding cellInRange
 returns c =
@@ -65,15 +38,15 @@ pub cell-in-range-spec : {M : Type 1} → statement M
 cell-in-range-spec =
     tie.close
     (tie.spec
-    cell-word-requires
-    enum-known-z
-    number-range-requires
-    within-requires
-    enum-known-k
-    handles-requires
-    within-requires-2
-    enum-known-lo
-    span-in-range-requires
+    (λ c κs. search needs)
+    (λ c. search needs)
+    (λ c κs. search needs)
+    (λ c κs. search needs)
+    (λ c. search needs)
+    (λ c κs. search needs)
+    (λ c κs. search needs)
+    (λ c. search needs)
+    (λ c κs. search needs)
     returns
     returns-2
     returns-3

@@ -15,38 +15,8 @@ use borrow.Author.Needs.{needs}
 use Rattle.values.proofs.cell_of.Statement.{statement}
 use Rattle.values.proofs.cell_of.Tie as tie
 
-cell-word-requires : tie.Need-cell-word-requires
-cell-word-requires c κs = search needs
-
 enum-told : tie.Need-enum-told
 enum-told c = search needs
-
-number-requires : tie.Need-number-requires
-number-requires c κs = search needs
-
-enum-told-2 : tie.Need-enum-told-2
-enum-told-2 c = search needs
-
-unknown-requires : tie.Need-unknown-requires
-unknown-requires c κs = search needs
-
-enum-known-z : tie.Need-enum-known-z
-enum-known-z c = search needs
-
-number-cell-requires : tie.Need-number-cell-requires
-number-cell-requires c κs = search needs
-
-enum-known-k : tie.Need-enum-known-k
-enum-known-k c = search needs
-
-handle-cell-requires : tie.Need-handle-cell-requires
-handle-cell-requires c κs = search needs
-
-enum-known-lo : tie.Need-enum-known-lo
-enum-known-lo c = search needs
-
-span-cell-requires : tie.Need-span-cell-requires
-span-cell-requires c κs = search needs
 
 returns : tie.Need-returns
 unfolding cellOf
@@ -81,17 +51,17 @@ pub cell-of-spec : {M : Type 1} → statement M
 cell-of-spec =
     tie.close
     (tie.spec
-    cell-word-requires
+    (λ c κs. search needs)
     enum-told
-    number-requires
-    enum-told-2
-    unknown-requires
-    enum-known-z
-    number-cell-requires
-    enum-known-k
-    handle-cell-requires
-    enum-known-lo
-    span-cell-requires
+    (λ c κs. search needs)
+    (λ c. search needs)
+    (λ c κs. search needs)
+    (λ c. search needs)
+    (λ c κs. search needs)
+    (λ c. search needs)
+    (λ c κs. search needs)
+    (λ c. search needs)
+    (λ c κs. search needs)
     returns
     returns-2
     returns-3

@@ -11,20 +11,11 @@ use borrow.Author.Needs.{needs}
 use Rattle.values.proofs.cell_present.Statement.{statement}
 use Rattle.values.proofs.cell_present.Tie as tie
 
-cell-word-requires : tie.Need-cell-word-requires
-cell-word-requires c κs = search needs
-
-enum-known-k : tie.Need-enum-known-k
-enum-known-k c = search needs
-
 returns : tie.Need-returns
 returns c =
     let start = c .before .before .before in
     let n = start .args .n in
     tested (cellPresent n) clampedCell (present-clamped n (start .pre)) (cellWord (start .args .w .now)) (c .before .cell-word .ensures) refl (not-block n (c .before .cell-word .result) (c .match .keys2))
-
-is-nearer-requires : tie.Need-is-nearer-requires
-is-nearer-requires c κs = search needs
 
 returns-2 : tie.Need-returns-2
 unfolding cellPresent
@@ -36,4 +27,4 @@ returns-2 c =
 
 pub cell-present-spec : {M : Type 1} → statement M
 cell-present-spec =
-    tie.close (tie.spec cell-word-requires enum-known-k returns is-nearer-requires returns-2)
+    tie.close (tie.spec (λ c κs. search needs) (λ c. search needs) returns (λ c κs. search needs) returns-2)

@@ -1,18 +1,11 @@
 -- `values::cell_word` meets its contract. Assumes nothing.
 use mathlib.Core.Path.{sym, ap, _∙_}
-use Rattle.text.specs.Decimal.{numeral}
 use Rattle.routine.specs.Rows.{blockOf}
 use Rattle.values.specs.Values.{clampedCell}
 use Rattle.values.proofs.ValueLaws.{block-clamped, word-unknown, word-none, word-block, word-spanned}
 use borrow.Author.Needs.{needs}
 use Rattle.values.proofs.cell_word.Statement.{statement}
 use Rattle.values.proofs.cell_word.Tie as tie
-
-slice-aggregate-same : tie.Need-slice-aggregate-same
-slice-aggregate-same c = search needs
-
-same-requires : tie.Need-same-requires
-same-requires c κs = search needs
 
 returns : tie.Need-returns
 unfolding clampedCell
@@ -24,24 +17,6 @@ unfolding clampedCell
 returns-2 c =
     sym (ap clampedCell (word-none (c .before .before .before .before .before .args .w .now) (sym (c .before .before .same .ensures) ∙ c .before .if1 .left) (c .if2 .taken)))
 
-shared-slice-read-if3 : tie.Need-shared-slice-read-if3
-shared-slice-read-if3 c = search needs
-
-sub-read-numeral : tie.Need-sub-read-numeral
-sub-read-numeral c = search needs
-
-part-read-numeral-start : tie.Need-part-read-numeral-start
-part-read-numeral-start c = search needs
-
-part-read-numeral-end : tie.Need-part-read-numeral-end
-part-read-numeral-end c = search needs
-
-read-numeral-requires : tie.Need-read-numeral-requires
-read-numeral-requires c κs = search needs
-
-block-word-requires : tie.Need-block-word-requires
-block-word-requires c κs = search needs
-
 returns-3 : tie.Need-returns-3
 returns-3 c =
     let start = c .before .before .before .before .before .before .before .before .before .before in
@@ -49,9 +24,6 @@ returns-3 c =
     ∙ ap blockOf (c .before .read-numeral .ensures)
     ∙ block-clamped _
     ∙ sym (ap clampedCell (word-block (start .args .w .now) (sym (c .before .before .before .before .before .before .before .same .ensures) ∙ c .before .before .before .before .before .before .if1 .left) (c .before .before .before .before .before .if2 .left) (c .before .before .before .if3 .taken)))
-
-spanned-requires : tie.Need-spanned-requires
-spanned-requires c κs = search needs
 
 returns-4 : tie.Need-returns-4
 returns-4 c =
@@ -63,16 +35,16 @@ pub cell-word-spec : {M : Type 1} → statement M
 cell-word-spec =
     tie.close
     (tie.spec
-    slice-aggregate-same
-    same-requires
+    (λ c. search needs)
+    (λ c κs. search needs)
     returns
     returns-2
-    shared-slice-read-if3
-    sub-read-numeral
-    part-read-numeral-start
-    part-read-numeral-end
-    read-numeral-requires
-    block-word-requires
+    (λ c. search needs)
+    (λ c. search needs)
+    (λ c. search needs)
+    (λ c. search needs)
+    (λ c κs. search needs)
+    (λ c κs. search needs)
     returns-3
-    spanned-requires
+    (λ c κs. search needs)
     returns-4)

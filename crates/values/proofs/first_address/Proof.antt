@@ -11,21 +11,6 @@ use borrow.Author.Needs.{needs}
 use Rattle.values.proofs.first_address.Statement.{statement}
 use Rattle.values.proofs.first_address.Tie as tie
 
-first-line-requires : tie.Need-first-line-requires
-first-line-requires c κs = search needs
-
-word-at-requires : tie.Need-word-at-requires
-word-at-requires c κs = search needs
-
-first-addresses-requires : tie.Need-first-addresses-requires
-first-addresses-requires c κs = search needs
-
-natural-of-requires : tie.Need-natural-of-requires
-natural-of-requires c κs = search needs
-
-cast-result : tie.Need-cast-result
-cast-result c = search needs
-
 returns : tie.Need-returns
 returns c =
     let body = c .before .before .before .before .before .args .body .now in
@@ -37,9 +22,9 @@ pub first-address-spec : {M : Type 1} → statement M
 first-address-spec =
     tie.close
     (tie.spec
-    first-line-requires
-    word-at-requires
-    first-addresses-requires
-    natural-of-requires
-    cast-result
+    (λ c κs. search needs)
+    (λ c κs. search needs)
+    (λ c κs. search needs)
+    (λ c κs. search needs)
+    (λ c. search needs)
     returns)

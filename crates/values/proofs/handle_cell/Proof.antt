@@ -19,22 +19,13 @@ use Rattle.values.proofs.handle_cell.Tie as tie
 held : (c : tie.After-inside) → toZ w64 (ofZ w64 (c .inside .result)) ≡ inside handles (c .before .before .args .k)
 held c = toZ-ofZ w64 _ (search needs) ∙ c .inside .ensures ∙ ap₂ inside (c .before .handles .ensures) (toZ-ofZ w64 (c .before .before .args .k) (c .before .before .fits .k))
 
-handles-requires : tie.Need-handles-requires
-handles-requires c κs = search needs
-
-inside-requires : tie.Need-inside-requires
-inside-requires c κs = search needs
-
 cast-handle : tie.Need-cast-handle
 cast-handle c =
     let n = natural-inside 0 7 (c .before .before .args .k) in
     (subst (λ z. T (nonNeg z)) (sym (held c)) (natural-sign n), subst (λ z. Fits w8 (natAbs z)) (sym (held c)) (omega (arith, n .below)))
 
-handle-requires : tie.Need-handle-requires
-handle-requires c κs = search needs
-
 returns : tie.Need-returns
 returns c = c .handle .ensures ∙ ap (λ z. handle (natAbs z)) (held (c .before))
 
 pub handle-cell-spec : {M : Type 1} → statement M
-handle-cell-spec = tie.close (tie.spec handles-requires inside-requires cast-handle handle-requires returns)
+handle-cell-spec = tie.close (tie.spec (λ c κs. search needs) (λ c κs. search needs) cast-handle (λ c κs. search needs) returns)

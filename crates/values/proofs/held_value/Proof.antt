@@ -9,14 +9,8 @@ use borrow.Author.Needs.{needs}
 use Rattle.values.proofs.held_value.Statement.{statement}
 use Rattle.values.proofs.held_value.Tie as tie
 
-read-numeral-requires : tie.Need-read-numeral-requires
-read-numeral-requires c κs = search needs
-
 enum-told : tie.Need-enum-told
 enum-told c = search needs
-
-enum-known-z : tie.Need-enum-known-z
-enum-known-z c = search needs
 
 returns : tie.Need-returns
 unfolding value valueOf
@@ -30,4 +24,4 @@ returns-2 c =
 
 pub held-value-spec : {M : Type 1} → statement M
 held-value-spec =
-    tie.close (tie.spec read-numeral-requires enum-told enum-known-z returns returns-2)
+    tie.close (tie.spec (λ c κs. search needs) enum-told (λ c. search needs) returns returns-2)

@@ -16,9 +16,6 @@ use Rattle.values.proofs.inside.Tie as tie
 seen : (r : Range) (z : ℤ) → SFits w64 z → {b : Bool} → b ≡ within r (toZ w64 (ofZ w64 z)) → within r z ≡ b
 seen r z h e = sym (e ∙ ap (within r) (toZ-ofZ w64 z h))
 
-within-requires : tie.Need-within-requires
-within-requires c κs = search needs
-
 returns : tie.Need-returns
 unfolding inside
 returns c =
@@ -30,4 +27,4 @@ returns-2 c =
     sym (ap (λ b. cond b (c .before .before .args .z) (pos 0)) (seen (c .before .before .args .range) (c .before .before .args .z) (c .before .before .fits .z) (c .before .within .ensures) ∙ c .if1 .left))
 
 pub inside-spec : {M : Type 1} → statement M
-inside-spec = tie.close (tie.spec within-requires returns returns-2)
+inside-spec = tie.close (tie.spec (λ c κs. search needs) returns returns-2)

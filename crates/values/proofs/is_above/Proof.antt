@@ -9,9 +9,6 @@ use borrow.Author.Needs.{needs}
 use Rattle.values.proofs.is_above.Statement.{statement}
 use Rattle.values.proofs.is_above.Tie as tie
 
-held-value-requires : tie.Need-held-value-requires
-held-value-requires c κs = search needs
-
 returns : tie.Need-returns
 returns c =
     let start = c .before .before in
@@ -19,4 +16,4 @@ returns c =
     ∙ lt-clamp (start .args .low) (value (start .args .w .now)) (start .pre)
 
 pub is-above-spec : {M : Type 1} → statement M
-is-above-spec = tie.close (tie.spec held-value-requires returns)
+is-above-spec = tie.close (tie.spec (λ c κs. search needs) returns)

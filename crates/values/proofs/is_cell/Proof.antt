@@ -7,9 +7,6 @@ use borrow.Author.Needs.{needs}
 use Rattle.values.proofs.is_cell.Statement.{statement}
 use Rattle.values.proofs.is_cell.Tie as tie
 
-cell-word-requires : tie.Need-cell-word-requires
-cell-word-requires c κs = search needs
-
 enum-told : tie.Need-enum-told
 enum-told c = search needs
 
@@ -23,4 +20,4 @@ returns-2 c =
     tested isCell clampedCell cell-clamped (cellWord (c .before .before .before .args .w .now)) (c .before .cell-word .ensures) refl (not-wrong (c .before .cell-word .result) (c .match .keys2))
 
 pub is-cell-spec : {M : Type 1} → statement M
-is-cell-spec = tie.close (tie.spec cell-word-requires enum-told returns returns-2)
+is-cell-spec = tie.close (tie.spec (λ c κs. search needs) enum-told returns returns-2)

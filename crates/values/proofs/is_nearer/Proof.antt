@@ -20,9 +20,6 @@ small n h = natural-read n (omega arith)
 minus : (n : ℕ) → n ≤ most → SFits w64 (pos 0 -ℤ toZ w64 n)
 minus n h = minus-fits n (omega arith)
 
-cast-m : tie.Need-cast-m
-cast-m c = search needs
-
 sub-result : tie.Need-sub-result
 sub-result c = minus (c .before .args .n) (c .before .pre)
 
@@ -39,4 +36,4 @@ returns-2 c =
     ∙ nearer-above (start .args .k) (start .args .n) (sym (ap (λ z. ltZ z (pos 0)) (toZ-ofZ w64 (start .args .k) (start .fits .k))) ∙ c .if1 .left)
 
 pub is-nearer-spec : {M : Type 1} → statement M
-is-nearer-spec = tie.close (tie.spec cast-m sub-result returns returns-2)
+is-nearer-spec = tie.close (tie.spec (λ c. search needs) sub-result returns returns-2)

@@ -7,14 +7,8 @@ use borrow.Author.Needs.{needs}
 use Rattle.values.proofs.is_numeral.Statement.{statement}
 use Rattle.values.proofs.is_numeral.Tie as tie
 
-read-numeral-requires : tie.Need-read-numeral-requires
-read-numeral-requires c κs = search needs
-
 enum-told : tie.Need-enum-told
 enum-told c = search needs
-
-enum-told-2 : tie.Need-enum-told-2
-enum-told-2 c = search needs
 
 returns : tie.Need-returns
 unfolding isNumeral
@@ -28,4 +22,4 @@ returns-2 c =
 
 pub is-numeral-spec : {M : Type 1} → statement M
 is-numeral-spec =
-    tie.close (tie.spec read-numeral-requires enum-told enum-told-2 returns returns-2)
+    tie.close (tie.spec (λ c κs. search needs) enum-told (λ c. search needs) returns returns-2)

@@ -1,7 +1,6 @@
 -- `values::is_single` meets its contract. Assumes nothing.
-use mathlib.Core.Path.{_≡_, refl, sym, ap, _∙_}
+use mathlib.Core.Path.{refl, sym, ap, _∙_}
 use mathlib.Core.Bool.{Bool, true, cond}
-use lib.IntN.{ℤ}
 use mir.Syntax.{w64}
 use Rattle.numbers.specs.Numbers.{same}
 use Rattle.numbers.proofs.SignedLaws.{read-both, same-bits}
@@ -12,17 +11,8 @@ use borrow.Author.Needs.{needs}
 use Rattle.values.proofs.is_single.Statement.{statement}
 use Rattle.values.proofs.is_single.Tie as tie
 
-cell-word-requires : tie.Need-cell-word-requires
-cell-word-requires c κs = search needs
-
 enum-told : tie.Need-enum-told
 enum-told c = search needs
-
-enum-known-lo : tie.Need-enum-known-lo
-enum-known-lo c = search needs
-
-span-in-range-requires : tie.Need-span-in-range-requires
-span-in-range-requires c κs = search needs
 
 returns : tie.Need-returns
 unfolding isSingle
@@ -51,10 +41,10 @@ pub is-single-spec : {M : Type 1} → statement M
 is-single-spec =
     tie.close
     (tie.spec
-    cell-word-requires
+    (λ c κs. search needs)
     enum-told
-    enum-known-lo
-    span-in-range-requires
+    (λ c. search needs)
+    (λ c κs. search needs)
     returns
     returns-2
     returns-3

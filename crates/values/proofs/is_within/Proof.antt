@@ -9,12 +9,6 @@ use borrow.Author.Needs.{needs}
 use Rattle.values.proofs.is_within.Statement.{statement}
 use Rattle.values.proofs.is_within.Tie as tie
 
-held-value-requires : tie.Need-held-value-requires
-held-value-requires c κs = search needs
-
-within-requires : tie.Need-within-requires
-within-requires c κs = search needs
-
 returns : tie.Need-returns
 returns c =
     let start = c .before .before .before in
@@ -23,4 +17,4 @@ returns c =
     ∙ within-clamp (start .args .range) (value (start .args .w .now)) (start .pre)
 
 pub is-within-spec : {M : Type 1} → statement M
-is-within-spec = tie.close (tie.spec held-value-requires within-requires returns)
+is-within-spec = tie.close (tie.spec (λ c κs. search needs) (λ c κs. search needs) returns)

@@ -11,9 +11,6 @@ use Rattle.values.proofs.known_word.Tie as tie
 enum-told : tie.Need-enum-told
 enum-told c = search needs
 
-enum-known-n : tie.Need-enum-known-n
-enum-known-n c = search needs
-
 returns : tie.Need-returns
 unfolding knownOf
 returns c = sym (ap knownOf (c .enum-told .given .1))
@@ -23,4 +20,4 @@ unfolding knownOf
 returns-2 c = ap Known (toZ-ofZ w64 _ (search needs)) ∙ sym (ap knownOf (c .before .n .given .1))
 
 pub known-word-spec : {M : Type 1} → statement M
-known-word-spec = tie.close (tie.spec enum-told enum-known-n returns returns-2)
+known-word-spec = tie.close (tie.spec enum-told (λ c. search needs) returns returns-2)

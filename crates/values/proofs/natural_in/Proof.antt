@@ -2,7 +2,6 @@
 use Prim.Native.Nat.{ℕ}
 use mathlib.Core.Path.{_≡_, ap, ap₂, _∙_}
 use native.Mathlib.Omega.{arith}
-use lib.IntN.{pos}
 use mir.Syntax.{w32, w64}
 use mir.Val.{Fits, toZ}
 use mir.ValLaws.{toZ-pos}
@@ -16,12 +15,6 @@ use Rattle.values.proofs.natural_in.Tie as tie
 -- a range by its ends, of 32 bits each, in 64 bits
 ends : (low high : ℕ) → Fits w32 low → Fits w32 high → _≡_ {A = Range} (record { low = toZ w64 low; high = toZ w64 high }) (range low high)
 ends low high a b = ap₂ (λ x y. record { low = x; high = y }) (toZ-pos w64 low (omega arith)) (toZ-pos w64 high (omega arith))
-
-cast-t4 : tie.Need-cast-t4
-cast-t4 c = search needs
-
-cast-t5 : tie.Need-cast-t5
-cast-t5 c = search needs
 
 natural-of-requires : tie.Need-natural-of-requires
 natural-of-requires c κs =
@@ -39,4 +32,4 @@ returns c =
     c .natural-of .ensures ∙ ap (λ r. naturalIn r (start .args .w .now)) (ends (start .args .low) (start .args .high) (start .fits .low) (start .fits .high))
 
 pub natural-in-spec : {M : Type 1} → statement M
-natural-in-spec = tie.close (tie.spec cast-t4 cast-t5 natural-of-requires returns)
+natural-in-spec = tie.close (tie.spec (λ c. search needs) (λ c. search needs) natural-of-requires returns)

@@ -14,17 +14,8 @@ use Rattle.values.proofs.number_cell.Tie as tie
 held : (c : tie.After-inside) → toZ w64 (ofZ w64 (c .inside .result)) ≡ inside numbers (c .before .before .args .z)
 held c = toZ-ofZ w64 _ (search needs) ∙ c .inside .ensures ∙ ap₂ inside (c .before .number-range .ensures) (toZ-ofZ w64 (c .before .before .args .z) (c .before .before .fits .z))
 
-number-range-requires : tie.Need-number-range-requires
-number-range-requires c κs = search needs
-
-inside-requires : tie.Need-inside-requires
-inside-requires c κs = search needs
-
 cast-number : tie.Need-cast-number
 cast-number c = subst (SFits w32) (sym (held c)) (inside-numbers-fits (c .before .before .args .z))
-
-number-requires : tie.Need-number-requires
-number-requires c κs = search needs
 
 returns : tie.Need-returns
 returns c =
@@ -32,4 +23,4 @@ returns c =
 
 pub number-cell-spec : {M : Type 1} → statement M
 number-cell-spec =
-    tie.close (tie.spec number-range-requires inside-requires cast-number number-requires returns)
+    tie.close (tie.spec (λ c κs. search needs) (λ c κs. search needs) cast-number (λ c κs. search needs) returns)

@@ -9,12 +9,6 @@ use borrow.Author.Needs.{needs}
 use Rattle.values.proofs.number_in.Statement.{statement}
 use Rattle.values.proofs.number_in.Tie as tie
 
-held-value-requires : tie.Need-held-value-requires
-held-value-requires c κs = search needs
-
-inside-requires : tie.Need-inside-requires
-inside-requires c κs = search needs
-
 returns : tie.Need-returns
 returns c =
     let start = c .before .before .before in
@@ -24,4 +18,4 @@ returns c =
     ∙ inside-clamp (start .args .range) (value (start .args .w .now)) (start .pre)
 
 pub number-in-spec : {M : Type 1} → statement M
-number-in-spec = tie.close (tie.spec held-value-requires inside-requires returns)
+number-in-spec = tie.close (tie.spec (λ c κs. search needs) (λ c κs. search needs) returns)

@@ -24,18 +24,6 @@ held-fits z e = subst (SFits w32) (sym e) (inside-numbers-fits z)
 held-read : (z : ℤ) {x : ℤ} → x ≡ inside numbers z → read w32 x ≡ inside numbers z
 held-read z e = toZ-ofZ w32 _ (held-fits z e) ∙ e
 
-number-range-requires : tie.Need-number-range-requires
-number-range-requires c κs = search needs
-
-inside-requires : tie.Need-inside-requires
-inside-requires c κs = search needs
-
-number-range-requires-2 : tie.Need-number-range-requires-2
-number-range-requires-2 c κs = search needs
-
-inside-requires-2 : tie.Need-inside-requires-2
-inside-requires-2 c κs = search needs
-
 cast-between : tie.Need-cast-between
 cast-between c =
     let start = c .before .before .before .before in
@@ -45,9 +33,6 @@ cast-between-2 : tie.Need-cast-between-2
 cast-between-2 c =
     let start = c .before .before .before .before in
     held-fits (start .args .hi) (held (start .args .hi) (start .fits .hi) (search needs) (c .inside2 .ensures) (c .before .number-range2 .ensures))
-
-between-requires : tie.Need-between-requires
-between-requires c κs = search needs
 
 returns : tie.Need-returns
 returns c =
@@ -61,11 +46,11 @@ pub span-cell-spec : {M : Type 1} → statement M
 span-cell-spec =
     tie.close
     (tie.spec
-    number-range-requires
-    inside-requires
-    number-range-requires-2
-    inside-requires-2
+    (λ c κs. search needs)
+    (λ c κs. search needs)
+    (λ c κs. search needs)
+    (λ c κs. search needs)
     cast-between
     cast-between-2
-    between-requires
+    (λ c κs. search needs)
     returns)

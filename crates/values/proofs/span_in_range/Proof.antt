@@ -40,22 +40,10 @@ module _ (lo hi : ℤ) where
   pub both-inside : within numbers lo ≡ true → within numbers hi ≡ true → leZ lo hi ≡ spanInRange lo hi
   both-inside p q = ap₂ (λ (a b : Bool). a && b && leZ lo hi) (sym p) (sym q)
 
-number-range-requires : tie.Need-number-range-requires
-number-range-requires c κs = search needs
-
-within-requires : tie.Need-within-requires
-within-requires c κs = search needs
-
 returns : tie.Need-returns
 returns c =
     let start = c .before .before .before in
     low-outside (start .args .lo) (start .args .hi) (inner (start .args .lo) (start .fits .lo) (c .before .within .ensures) (c .before .before .number-range .ensures) ∙ no _ (c .if1 .taken))
-
-number-range-requires-2 : tie.Need-number-range-requires-2
-number-range-requires-2 c κs = search needs
-
-within-requires-2 : tie.Need-within-requires-2
-within-requires-2 c κs = search needs
 
 returns-2 : tie.Need-returns-2
 returns-2 c =
@@ -73,10 +61,10 @@ pub span-in-range-spec : {M : Type 1} → statement M
 span-in-range-spec =
     tie.close
     (tie.spec
-    number-range-requires
-    within-requires
+    (λ c κs. search needs)
+    (λ c κs. search needs)
     returns
-    number-range-requires-2
-    within-requires-2
+    (λ c κs. search needs)
+    (λ c κs. search needs)
     returns-2
     returns-3)

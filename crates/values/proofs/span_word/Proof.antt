@@ -1,5 +1,5 @@
 -- `values::span_word` meets its contract. Assumes nothing.
-use mathlib.Core.Path.{_≡_, refl, sym, ap, ap₂, _∙_}
+use mathlib.Core.Path.{_≡_, refl, sym, ap₂, _∙_}
 use mir.Syntax.{w64}
 use mir.ValLaws.{toZ-ofZ}
 use Rattle.text.specs.declared.Numeral.{Numeral}
@@ -16,15 +16,6 @@ matched m n p q e = e ∙ sym (ap₂ spanOf p q)
 enum-told : tie.Need-enum-told
 enum-told c = search needs
 
-enum-known-m : tie.Need-enum-known-m
-enum-known-m c = search needs
-
-enum-told-2 : tie.Need-enum-told-2
-enum-told-2 c = search needs
-
-enum-known-n : tie.Need-enum-known-n
-enum-known-n c = search needs
-
 returns : tie.Need-returns
 unfolding spanOf
 returns c = matched _ _ (c .enum-told .given .1) refl refl
@@ -40,4 +31,4 @@ returns-3 c = matched _ _ (c .before .before .before .before .m .given .1) (c .b
 pub span-word-spec : {M : Type 1} → statement M
 span-word-spec =
     tie.close
-    (tie.spec enum-told enum-known-m enum-told-2 enum-known-n returns returns-2 returns-3)
+    (tie.spec enum-told (λ c. search needs) (λ c. search needs) (λ c. search needs) returns returns-2 returns-3)

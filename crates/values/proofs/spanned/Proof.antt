@@ -1,6 +1,6 @@
 -- `values::spanned` meets its contract. Assumes nothing.
 use Prim.Native.Nat.{_+_, _-_, _≤_}
-use mathlib.Core.Path.{_≡_, sym, ap, ap₂, _∙_}
+use mathlib.Core.Path.{sym, ap, ap₂, _∙_}
 use native.Mathlib.Omega.{arith}
 use lib.ListN.{length, take, drop, length-take}
 use Rattle.text.specs.Decimal.{numeral}
@@ -11,20 +11,11 @@ use borrow.Author.Needs.{needs}
 use Rattle.values.proofs.spanned.Statement.{statement}
 use Rattle.values.proofs.spanned.Tie as tie
 
-piece-length-requires : tie.Need-piece-length-requires
-piece-length-requires c κs = search needs
-
 add-next : tie.Need-add-next
 add-next c =
     let w = c .before .before .args .w .now in
     let h : c .piece-length .result ≤ length w = omega (arith, stop-within w, c .piece-length .ensures) in
     search needs
-
-read-numeral-requires : tie.Need-read-numeral-requires
-read-numeral-requires c κs = search needs
-
-known-word-requires : tie.Need-known-word-requires
-known-word-requires c κs = search needs
 
 returns : tie.Need-returns
 returns c =
@@ -33,30 +24,12 @@ returns c =
     c .known-word .ensures ∙ ap knownOf (c .before .read-numeral .ensures) ∙ known-clamped (numeral w)
     ∙ sym (ap clampedCell (known-end w (n .result) (n .ensures) (omega arith)))
 
-shared-slice-read-if2 : tie.Need-shared-slice-read-if2
-shared-slice-read-if2 c = search needs
-
-read-numeral-requires-2 : tie.Need-read-numeral-requires-2
-read-numeral-requires-2 c κs = search needs
-
-known-word-requires-2 : tie.Need-known-word-requires-2
-known-word-requires-2 c κs = search needs
-
 returns-2 : tie.Need-returns-2
 returns-2 c =
     let w = c .before .before .before .before .before .before .before .args .w .now in
     let n = c .before .before .before .before .before .piece-length in
     c .known-word2 .ensures ∙ ap knownOf (c .before .read-numeral2 .ensures) ∙ known-clamped (numeral w)
     ∙ sym (ap clampedCell (known-first w (n .result) (n .ensures) (c .before .before .if2 .taken)))
-
-shared-slice-read-if3 : tie.Need-shared-slice-read-if3
-shared-slice-read-if3 c = search needs
-
-read-numeral-requires-3 : tie.Need-read-numeral-requires-3
-read-numeral-requires-3 c κs = search needs
-
-known-word-requires-3 : tie.Need-known-word-requires-3
-known-word-requires-3 c κs = search needs
 
 returns-3 : tie.Need-returns-3
 returns-3 c =
@@ -65,33 +38,12 @@ returns-3 c =
     c .known-word3 .ensures ∙ ap knownOf (c .before .read-numeral3 .ensures) ∙ known-clamped (numeral w)
     ∙ sym (ap clampedCell (known-second w (n .result) (n .ensures) (c .before .before .if3 .taken)))
 
-add-after : tie.Need-add-after
-add-after c = search needs
-
 slice-aggregate-read-numeral : tie.Need-slice-aggregate-read-numeral
 slice-aggregate-read-numeral c =
     let w = c .before .before .before .before .before .before .before .before .args .w .now in
     let n = c .before .before .before .before .before .before .piece-length in
     let h : n .result ≤ length w = omega (arith, stop-within w, n .ensures) in
     simp length-take (omega arith)
-
-read-numeral-requires-4 : tie.Need-read-numeral-requires-4
-read-numeral-requires-4 c κs = search needs
-
-sub-read-numeral : tie.Need-sub-read-numeral
-sub-read-numeral c = search needs
-
-part-read-numeral-start : tie.Need-part-read-numeral-start
-part-read-numeral-start c = search needs
-
-part-read-numeral-end : tie.Need-part-read-numeral-end
-part-read-numeral-end c = search needs
-
-read-numeral-requires-5 : tie.Need-read-numeral-requires-5
-read-numeral-requires-5 c κs = search needs
-
-span-word-requires : tie.Need-span-word-requires
-span-word-requires c κs = search needs
 
 returns-4 : tie.Need-returns-4
 returns-4 c =
@@ -106,25 +58,25 @@ pub spanned-spec : {M : Type 1} → statement M
 spanned-spec =
     tie.close
     (tie.spec
-    piece-length-requires
+    (λ c κs. search needs)
     add-next
-    read-numeral-requires
-    known-word-requires
+    (λ c κs. search needs)
+    (λ c κs. search needs)
     returns
-    shared-slice-read-if2
-    read-numeral-requires-2
-    known-word-requires-2
+    (λ c. search needs)
+    (λ c κs. search needs)
+    (λ c κs. search needs)
     returns-2
-    shared-slice-read-if3
-    read-numeral-requires-3
-    known-word-requires-3
+    (λ c. search needs)
+    (λ c κs. search needs)
+    (λ c κs. search needs)
     returns-3
-    add-after
+    (λ c. search needs)
     slice-aggregate-read-numeral
-    read-numeral-requires-4
-    sub-read-numeral
-    part-read-numeral-start
-    part-read-numeral-end
-    read-numeral-requires-5
-    span-word-requires
+    (λ c κs. search needs)
+    (λ c. search needs)
+    (λ c. search needs)
+    (λ c. search needs)
+    (λ c κs. search needs)
+    (λ c κs. search needs)
     returns-4)

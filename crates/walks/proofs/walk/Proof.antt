@@ -6,23 +6,8 @@ use Rattle.walks.proofs.ArmLaws.{at-stuck, at-stop, at-way, at-no-decis
 use Rattle.walks.proofs.walk.Statement.{statement}
 use Rattle.walks.proofs.walk.Tie as tie
 
-unknown-requires : tie.Need-unknown-requires
-unknown-requires c κs = search needs
-
-step-requires : tie.Need-step-requires
-step-requires c κs = search needs
-
 enum-told : tie.Need-enum-told
 enum-told c = search needs
-
-enum-known-next : tie.Need-enum-known-next
-enum-known-next c = search needs
-
-enum-known-next-2 : tie.Need-enum-known-next-2
-enum-known-next-2 c = search needs
-
-enum-known-next-3 : tie.Need-enum-known-next-3
-enum-known-next-3 c = search needs
 
 returns : tie.Need-returns
 unfolding movesBy
@@ -56,9 +41,6 @@ returns-2 c =
       cycles = l .0 .cycles;
       words = l .0 .words;
     }
-
-jump-requires : tie.Need-jump-requires
-jump-requires c κs = search needs
 
 returns-3 : tie.Need-returns-3
 unfolding movesBy
@@ -130,15 +112,15 @@ pub walk-spec : {M : Type 1} → statement M
 walk-spec =
     tie.close
     (tie.spec
-    unknown-requires
-    step-requires
+    (λ c κs. search needs)
+    (λ c κs. search needs)
     enum-told
-    enum-known-next
-    enum-known-next-2
-    enum-known-next-3
+    (λ c. search needs)
+    (λ c. search needs)
+    (λ c. search needs)
     returns
     returns-2
-    jump-requires
+    (λ c κs. search needs)
     returns-3
     returns-4
     returns-5

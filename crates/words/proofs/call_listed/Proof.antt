@@ -8,23 +8,8 @@ use borrow.Author.Needs.{needs}
 use Rattle.words.proofs.call_listed.Statement.{statement}
 use Rattle.words.proofs.call_listed.Tie as tie
 
-argument-at-requires : tie.Need-argument-at-requires
-argument-at-requires c κs = search needs
-
 enum-told : tie.Need-enum-told
 enum-told c = search needs
-
-enum-told-2 : tie.Need-enum-told-2
-enum-told-2 c = search needs
-
-enum-told-3 : tie.Need-enum-told-3
-enum-told-3 c = search needs
-
-is-place-requires : tie.Need-is-place-requires
-is-place-requires c κs = search needs
-
-enum-told-4 : tie.Need-enum-told-4
-enum-told-4 c = search needs
 
 returns : tie.Need-returns
 unfolding callListed
@@ -53,12 +38,12 @@ pub call-listed-spec : {M : Type 1} → statement M
 call-listed-spec =
     tie.close
     (tie.spec
-    argument-at-requires
+    (λ c κs. search needs)
     enum-told
-    enum-told-2
-    enum-told-3
-    is-place-requires
-    enum-told-4
+    (λ c. search needs)
+    (λ c. search needs)
+    (λ c κs. search needs)
+    (λ c. search needs)
     returns
     returns-2
     returns-3

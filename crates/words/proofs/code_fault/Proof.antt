@@ -12,20 +12,11 @@ use Rattle.words.proofs.code_fault.Tie as tie
 none : (c : tie.After-enum-told) → wordFault (c .before .before .before .before .args .listed) (wordsOf (c .before .before .before .before .args .words .now)) ≡ Missing
 none c = sym (c .before .before .word-fault .ensures) ∙ c .enum-told .given .1
 
-word-fault-requires : tie.Need-word-fault-requires
-word-fault-requires c κs = search needs
-
-enum-known-i : tie.Need-enum-known-i
-enum-known-i c = search needs
-
 enum-told : tie.Need-enum-told
 enum-told c = search needs
 
 numbers-of-requires : tie.Need-numbers-of-requires
 numbers-of-requires c κs = readable-of _ _ (none c)
-
-slice-aggregate-offset-fault : tie.Need-slice-aggregate-offset-fault
-slice-aggregate-offset-fault c = search needs
 
 offset-fault-requires : tie.Need-offset-fault-requires
 offset-fault-requires c κs = (readable-of _ _ (none (c .before .before)), c .before .numbers-of .ensures)
@@ -40,11 +31,11 @@ pub code-fault-spec : {M : Type 1} → statement M
 code-fault-spec =
     tie.close
     (tie.spec
-    word-fault-requires
-    enum-known-i
+    (λ c κs. search needs)
+    (λ c. search needs)
     enum-told
     numbers-of-requires
-    slice-aggregate-offset-fault
+    (λ c. search needs)
     offset-fault-requires
     returns
     returns-2)

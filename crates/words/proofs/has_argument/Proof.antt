@@ -5,20 +5,8 @@ use borrow.Author.Needs.{needs}
 use Rattle.words.proofs.has_argument.Statement.{statement}
 use Rattle.words.proofs.has_argument.Tie as tie
 
-argument-at-requires : tie.Need-argument-at-requires
-argument-at-requires c κs = search needs
-
 enum-told : tie.Need-enum-told
 enum-told c = search needs
-
-enum-told-2 : tie.Need-enum-told-2
-enum-told-2 c = search needs
-
-enum-told-3 : tie.Need-enum-told-3
-enum-told-3 c = search needs
-
-enum-told-4 : tie.Need-enum-told-4
-enum-told-4 c = search needs
 
 returns : tie.Need-returns
 returns c = sym (ap hasArgument (sym (c .before .before .argument-at .ensures) ∙ c .enum-told .given .1))
@@ -36,11 +24,11 @@ pub has-argument-spec : {M : Type 1} → statement M
 has-argument-spec =
     tie.close
     (tie.spec
-    argument-at-requires
+    (λ c κs. search needs)
     enum-told
-    enum-told-2
-    enum-told-3
-    enum-told-4
+    (λ c. search needs)
+    (λ c. search needs)
+    (λ c. search needs)
     returns
     returns-2
     returns-3

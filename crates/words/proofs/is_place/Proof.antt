@@ -8,11 +8,8 @@ use Rattle.words.proofs.is_place.Tie as tie
 returns : tie.Need-returns
 returns c = sym (place-negative (c .before .args .listed) (c .before .args .argument) (c .before .fits .argument) (c .if1 .taken))
 
-cast-result : tie.Need-cast-result
-cast-result c = search needs
-
 returns-2 : tie.Need-returns-2
 returns-2 c = place-natural (c .before .args .listed) (c .before .args .argument) (c .before .fits .argument) (c .before .pre) (c .if1 .left)
 
 pub is-place-spec : {M : Type 1} → statement M
-is-place-spec = tie.close (tie.spec returns cast-result returns-2)
+is-place-spec = tie.close (tie.spec returns (λ c. search needs) returns-2)

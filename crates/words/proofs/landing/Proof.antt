@@ -10,15 +10,6 @@ use borrow.Author.Needs.{needs}
 use Rattle.words.proofs.landing.Statement.{statement}
 use Rattle.words.proofs.landing.Tie as tie
 
-add-sum : tie.Need-add-sum
-add-sum c = search needs
-
-cast-sum : tie.Need-cast-sum
-cast-sum c = search needs
-
-sum-requires : tie.Need-sum-requires
-sum-requires c κs = search needs
-
 returns : tie.Need-returns
 returns c =
     let s = c .before in
@@ -27,4 +18,4 @@ returns c =
     ∙ ap₂ _+ℤ_ (toZ-pos w32 (s .args .index + 1) (omega arith) ∙ ap pos (add-one (s .args .index))) (toZ-ofZ w32 (s .args .argument) (s .fits .argument))
 
 pub landing-spec : {M : Type 1} → statement M
-landing-spec = tie.close (tie.spec add-sum cast-sum sum-requires returns)
+landing-spec = tie.close (tie.spec (λ c. search needs) (λ c. search needs) (λ c κs. search needs) returns)

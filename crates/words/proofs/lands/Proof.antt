@@ -10,29 +10,8 @@ use borrow.Author.Needs.{needs}
 use Rattle.words.proofs.lands.Statement.{statement}
 use Rattle.words.proofs.lands.Tie as tie
 
-argument-at-requires : tie.Need-argument-at-requires
-argument-at-requires c κs = search needs
-
 enum-told : tie.Need-enum-told
 enum-told c = search needs
-
-enum-told-2 : tie.Need-enum-told-2
-enum-told-2 c = search needs
-
-landing-requires : tie.Need-landing-requires
-landing-requires c κs = search needs
-
-number-at-requires : tie.Need-number-at-requires
-number-at-requires c κs = search needs
-
-is-found-requires : tie.Need-is-found-requires
-is-found-requires c κs = search needs
-
-enum-told-3 : tie.Need-enum-told-3
-enum-told-3 c = search needs
-
-enum-told-4 : tie.Need-enum-told-4
-enum-told-4 c = search needs
 
 returns : tie.Need-returns
 unfolding landsIn
@@ -62,14 +41,14 @@ pub lands-spec : {M : Type 1} → statement M
 lands-spec =
     tie.close
     (tie.spec
-    argument-at-requires
+    (λ c κs. search needs)
     enum-told
-    enum-told-2
-    landing-requires
-    number-at-requires
-    is-found-requires
-    enum-told-3
-    enum-told-4
+    (λ c. search needs)
+    (λ c κs. search needs)
+    (λ c κs. search needs)
+    (λ c κs. search needs)
+    (λ c. search needs)
+    (λ c. search needs)
     returns
     returns-2
     returns-3

@@ -1,18 +1,15 @@
 -- `words::number_at` meets its contract. Assumes nothing.
-use Prim.Native.Nat.{ℕ, _<_, _≤_}
-use mathlib.Core.Path.{_≡_, sym, ap, subst, _∙_}
-use mathlib.Core.Bool.{Bool, cond}
+use mathlib.Core.Path.{_≡_, sym, ap, _∙_}
+use mathlib.Core.Bool.{cond}
 use native.Mathlib.Omega.{arith}
-use lib.Dec.{T, ltb}
-use lib.IntN.{ℤ, pos, natAbs}
-use lib.ListN.{length, getD}
-use lib.Signed.{ltZ, nonNeg}
+use lib.IntN.{natAbs}
+use lib.ListN.{getD}
 use borrow.Author.Tests.{lt-ltb, le-ltb}
 use mir.Syntax.{w64}
-use mir.Val.{Fits, ofZ, toZ}
-use mir.ValLaws.{toZ-ofZ, toZ-fits, ofZ-fits}
+use mir.Val.{ofZ, toZ}
+use mir.ValLaws.{toZ-ofZ}
 use Rattle.text.specs.declared.Place.the-variants.{At, Missing}
-use Rattle.words.specs.Held.{numberHeld, numberIn}
+use Rattle.words.specs.Held.{numberIn}
 use Rattle.words.proofs.OffsetLaws.{number-negative, index-fits, Natural, index-natural}
 use borrow.Author.Needs.{needs}
 use Rattle.words.proofs.number_at.Statement.{statement}
@@ -39,15 +36,6 @@ cast-n c = (natural c .natural, index-fits (c .before .args .index) (c .before .
 returns-2 : tie.Need-returns-2
 returns-2 c = sym (sym (found (c .before .before)) ∙ natural (c .before) .past (c .if2 .taken))
 
-mul-number : tie.Need-mul-number
-mul-number c = search needs
-
-shared-slice-read-number : tie.Need-shared-slice-read-number
-shared-slice-read-number c = search needs
-
-cast-t9 : tie.Need-cast-t9
-cast-t9 c = search needs
-
 returns-3 : tie.Need-returns-3
 returns-3 c =
     let i = c .before .before .before in
@@ -69,8 +57,8 @@ number-at-spec =
     returns
     cast-n
     returns-2
-    mul-number
-    shared-slice-read-number
-    cast-t9
+    (λ c. search needs)
+    (λ c. search needs)
+    (λ c. search needs)
     returns-3
     returns-4)

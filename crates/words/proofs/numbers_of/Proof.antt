@@ -1,12 +1,10 @@
 -- `words::numbers_of` meets its contract. The loop's invariant: the instructions before `index` are entered (`Numbering`). The measure is
 -- the length of what is left. Assumes nothing.
-use Prim.Native.Nat.{ℕ, _*_, _≤_}
-use mathlib.Core.Path.{_≡_, refl, sym, ap, _∙_}
+use mathlib.Core.Path.{refl, sym, _∙_}
 use native.Mathlib.Omega.{arith}
 use lib.ListN.{length}
 use borrow.Author.Needs.{needs}
 use Rattle.words.specs.Words.{wordsOf}
-use Rattle.words.specs.Held.{sizeOf}
 use Rattle.words.proofs.HeadLaws.{Read, size-small, head-read, head-fits, words-some, entries-none}
 use Rattle.words.proofs.NumberingLaws.{Numbering, numbering-starts, numbering-reads, numbering-room, numbering-next, numbering-ends}
 use Rattle.words.proofs.numbers_of.Statement.{statement}
@@ -24,12 +22,6 @@ instruction c = head-read _ _ _ _ (sym (c .before .before .before .read-head .en
 
 loop-holds : tie.Need-loop-holds Inv-loop μ-loop
 loop-holds c = numbering-starts _ _ (c .before .pre) refl refl
-
-read-head-requires : tie.Need-read-head-requires Inv-loop μ-loop
-read-head-requires c κs = search needs
-
-enum-known-k : tie.Need-enum-known-k Inv-loop μ-loop
-enum-known-k c = search needs
 
 enum-told : tie.Need-enum-told Inv-loop μ-loop
 enum-told c = search needs
@@ -82,8 +74,8 @@ numbers-of-spec =
     Inv-loop
     μ-loop
     loop-holds
-    read-head-requires
-    enum-known-k
+    (λ c κs. search needs)
+    (λ c. search needs)
     enum-told
     returns
     mul-numbers

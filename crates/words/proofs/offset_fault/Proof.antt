@@ -1,6 +1,6 @@
 -- `words::offset_fault` meets its contract. The loop's invariant: the fault sought is that of the words left, the first of which has the
 -- index `index`. The measure is the length of what is left. Assumes nothing.
-use Prim.Native.Nat.{ℕ, suc, _+_, _*_, _<_, _≤_}
+use Prim.Native.Nat.{suc, _+_}
 use mathlib.Core.Path.{_≡_, refl, sym, ap, _∙_}
 use native.Mathlib.Omega.{arith}
 use native.Mathlib.Numerals.{add-one}
@@ -13,7 +13,7 @@ use borrow.Author.Tests.{not-true, not-false}
 use Rattle.instructions.specs.Columns.{kindAt}
 use Rattle.words.specs.Words.{wordsOf}
 use Rattle.words.specs.Decoding.{itemOf, opcode, entries, decoded, items, lands, offsetFault}
-use Rattle.words.specs.Held.{sizeOf, landsIn}
+use Rattle.words.specs.Held.{landsIn}
 use Rattle.words.proofs.HeadLaws.{Read, size-small, head-read, head-fits, words-some, entries-none}
 use Rattle.words.proofs.OffsetLaws.{Ahead, ahead-starts, ahead-reads, ahead-room, ahead-next, lands-in, offset-here, offset-next, offset-none}
 use Rattle.words.proofs.offset_fault.Statement.{statement}
@@ -46,12 +46,6 @@ tested c =
 loop-holds : tie.Need-loop-holds Inv-loop μ-loop
 unfolding decoded
 loop-holds c = (ahead-starts (c .before .before .pre .0), refl)
-
-read-head-requires : tie.Need-read-head-requires Inv-loop μ-loop
-read-head-requires c κs = search needs
-
-enum-known-k : tie.Need-enum-known-k Inv-loop μ-loop
-enum-known-k c = search needs
 
 enum-told : tie.Need-enum-told Inv-loop μ-loop
 enum-told c = search needs
@@ -108,8 +102,8 @@ offset-fault-spec =
     Inv-loop
     μ-loop
     loop-holds
-    read-head-requires
-    enum-known-k
+    (λ c κs. search needs)
+    (λ c. search needs)
     enum-told
     returns
     lands-requires

@@ -1,12 +1,10 @@
 -- `words::read_head` meets its contract. Assumes nothing.
-use Prim.Native.Nat.{ℕ, _<_}
-use mathlib.Core.Path.{_≡_, sym, ap, _∙_}
-use Rattle.text.specs.declared.Place.the-variants.{At}
+use mathlib.Core.Path.{sym, ap, _∙_}
 use Rattle.instructions.specs.Opcodes.{kindCoded}
 use Rattle.instructions.proofs.OpcodeLaws.{opcode-of-kind}
 use Rattle.words.specs.Words.{wordsOf}
 use Rattle.words.specs.Held.{withArgument}
-use Rattle.words.proofs.WordLaws.{firstOf, part-is}
+use Rattle.words.proofs.WordLaws.{part-is}
 use Rattle.words.proofs.HeadLaws.{head-short, head-unknown, head-argument, head-plain}
 use borrow.Author.Needs.{needs}
 use Rattle.words.proofs.read_head.Statement.{statement}
@@ -14,15 +12,6 @@ use Rattle.words.proofs.read_head.Tie as tie
 
 returns : tie.Need-returns
 returns c = sym (head-short (c .before .before .args .words .now) (c .if1 .taken))
-
-first-word-requires : tie.Need-first-word-requires
-first-word-requires c κs = search needs
-
-kind-coded-requires : tie.Need-kind-coded-requires
-kind-coded-requires c κs = search needs
-
-enum-known-k : tie.Need-enum-known-k
-enum-known-k c = search needs
 
 enum-told : tie.Need-enum-told
 enum-told c = search needs
@@ -35,18 +24,6 @@ returns-2 c =
 
 has-argument-requires : tie.Need-has-argument-requires
 has-argument-requires c κs = opcode-of-kind _ _ (sym (c .before .before .before .kind-coded .ensures) ∙ c .before .k .given .1) .0
-
-sub-with-argument : tie.Need-sub-with-argument
-sub-with-argument c = search needs
-
-part-with-argument-start : tie.Need-part-with-argument-start
-part-with-argument-start c = search needs
-
-part-with-argument-end : tie.Need-part-with-argument-end
-part-with-argument-end c = search needs
-
-with-argument-requires : tie.Need-with-argument-requires
-with-argument-requires c κs = search needs
 
 returns-3 : tie.Need-returns-3
 returns-3 c =
@@ -71,15 +48,15 @@ read-head-spec =
     tie.close
     (tie.spec
     returns
-    first-word-requires
-    kind-coded-requires
-    enum-known-k
+    (λ c κs. search needs)
+    (λ c κs. search needs)
+    (λ c. search needs)
     enum-told
     returns-2
     has-argument-requires
-    sub-with-argument
-    part-with-argument-start
-    part-with-argument-end
-    with-argument-requires
+    (λ c. search needs)
+    (λ c. search needs)
+    (λ c. search needs)
+    (λ c κs. search needs)
     returns-3
     returns-4)

@@ -17,9 +17,6 @@ kept c = signed-kept (c .before .args .word) (search needs) (c .if1 .taken)
 lowered : (c : tie.Else1) → signed wordBits (c .before .args .word) ≡ toZ w64 (c .before .args .word) -ℤ pos (modulus wordBits)
 lowered c = signed-lowered (c .before .args .word) (search needs) (c .if1 .left)
 
-cast-z : tie.Need-cast-z
-cast-z c = search needs
-
 cast-result : tie.Need-cast-result
 cast-result c = result-fits (signed-fits (c .before .args .word)) (kept c)
 
@@ -36,4 +33,4 @@ returns-2 : tie.Need-returns-2
 returns-2 c = result-back (signed-fits (c .before .args .word)) (lowered c)
 
 pub signed-spec : {M : Type 1} → statement M
-signed-spec = tie.close (tie.spec cast-z cast-result returns sub-result cast-result-2 returns-2)
+signed-spec = tie.close (tie.spec (λ c. search needs) cast-result returns sub-result cast-result-2 returns-2)

@@ -13,12 +13,6 @@ use Rattle.words.proofs.with_argument.Tie as tie
 returns : tie.Need-returns
 returns c = let a = c .before .before .args in sym (argument-short (a .k) (a .words .now) (c .if1 .taken))
 
-first-word-requires : tie.Need-first-word-requires
-first-word-requires c κs = search needs
-
-signed-requires : tie.Need-signed-requires
-signed-requires c κs = search needs
-
 returns-2 : tie.Need-returns-2
 returns-2 c =
     let a = c .before .before .before .before .args in
@@ -26,4 +20,4 @@ returns-2 c =
     ∙ sym (argument-read (a .k) (a .words .now) (c .before .before .if1 .left))
 
 pub with-argument-spec : {M : Type 1} → statement M
-with-argument-spec = tie.close (tie.spec returns first-word-requires signed-requires returns-2)
+with-argument-spec = tie.close (tie.spec returns (λ c κs. search needs) (λ c κs. search needs) returns-2)

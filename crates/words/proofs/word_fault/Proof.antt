@@ -1,7 +1,7 @@
 -- `words::word_fault` meets its contract. The loop's invariant: the fault sought is that of the words left, the first of which has the
 -- index `index`, after `count` instructions. The measure is the length of what is left. Assumes nothing.
-use Prim.Native.Nat.{ℕ, suc, _+_, _*_, _<_, _≤_}
-use mathlib.Core.Path.{_≡_, refl, sym, ap, _∙_}
+use Prim.Native.Nat.{_+_, _*_, _≤_}
+use mathlib.Core.Path.{_≡_, sym, ap, _∙_}
 use native.Mathlib.Omega.{arith}
 use native.Mathlib.Numerals.{add-one}
 use lib.ListN.{length}
@@ -45,12 +45,6 @@ listed c =
 loop-holds : tie.Need-loop-holds Inv-loop μ-loop
 loop-holds c = let a = c .before .before .args in (fault-starts (a .listed) (a .words .now) (omega arith), omega arith, omega arith)
 
-read-head-requires : tie.Need-read-head-requires Inv-loop μ-loop
-read-head-requires c κs = search needs
-
-enum-known-k : tie.Need-enum-known-k Inv-loop μ-loop
-enum-known-k c = search needs
-
 enum-told : tie.Need-enum-told Inv-loop μ-loop
 enum-told c = search needs
 
@@ -70,9 +64,6 @@ returns-3 c =
 call-listed-requires : tie.Need-call-listed-requires Inv-loop μ-loop
 call-listed-requires c κs = (search needs, instruction (c .before) .known)
 
-add-t15 : tie.Need-add-t15 Inv-loop μ-loop
-add-t15 c = search needs
-
 returns-4 : tie.Need-returns-4 Inv-loop μ-loop
 returns-4 c =
     let i = c .before .before .before in
@@ -91,9 +82,6 @@ add-index c =
     let f = fits i in
     let l = i .before .before .before .before .before in
     omega (arith, c .size-of .ensures, l .loop .inv .1)
-
-add-count : tie.Need-add-count Inv-loop μ-loop
-add-count c = search needs
 
 loop-less : tie.Need-loop-less Inv-loop μ-loop
 loop-less c =
@@ -125,18 +113,18 @@ word-fault-spec =
     μ-loop
     returns
     loop-holds
-    read-head-requires
-    enum-known-k
+    (λ c κs. search needs)
+    (λ c. search needs)
     enum-told
     returns-2
     returns-3
     call-listed-requires
-    add-t15
+    (λ c. search needs)
     returns-4
     after-requires
     size-of-requires
     add-index
-    add-count
+    (λ c. search needs)
     loop-less
     loop-again
     returns-5)

@@ -5,17 +5,11 @@ use borrow.Author.Needs.{needs}
 use Rattle.routine.proofs.layout.at_range.Statement.{statement}
 use Rattle.routine.proofs.layout.at_range.Tie as tie
 
-first-addresses-requires : tie.Need-first-addresses-requires
-first-addresses-requires c κs = search needs
-
 returns : tie.Need-returns
 returns c = c .first-addresses .ensures ∙ at-first (c .before .before .args .k) (c .before .if1 .taken)
-
-addresses-requires : tie.Need-addresses-requires
-addresses-requires c κs = search needs
 
 returns-2 : tie.Need-returns-2
 returns-2 c = c .addresses .ensures ∙ at-later (c .before .before .args .k) (c .before .if1 .left)
 
 pub at-range-spec : {M : Type 1} → statement M
-at-range-spec = tie.close (tie.spec first-addresses-requires returns addresses-requires returns-2)
+at-range-spec = tie.close (tie.spec (λ c κs. search needs) returns (λ c κs. search needs) returns-2)

@@ -4,12 +4,9 @@ use borrow.Author.Needs.{needs}
 use Rattle.routine.proofs.layout.body_of.Statement.{statement}
 use Rattle.routine.proofs.layout.body_of.Tie as tie
 
-after-lines-requires : tie.Need-after-lines-requires
-after-lines-requires c κs = search needs
-
 returns : tie.Need-returns
 unfolding body
 returns c = c .after-lines .ensures .0
 
 pub body-of-spec : {M : Type 1} → statement M
-body-of-spec = tie.close (tie.spec after-lines-requires returns)
+body-of-spec = tie.close (tie.spec (λ c κs. search needs) returns)

@@ -20,9 +20,6 @@ abbrev μ-loop : tie.MeasureT-loop
 returns : tie.Need-returns Inv-loop μ-loop
 returns c = sym (code-none _ (c .if1 .taken))
 
-next-lines-requires : tie.Need-next-lines-requires Inv-loop μ-loop
-next-lines-requires c κs = search needs
-
 loop-holds : tie.Need-loop-holds Inv-loop μ-loop
 loop-holds c =
     let body = c .before .before .before .args .body .now in
@@ -30,29 +27,14 @@ loop-holds c =
     let e = code-first body (lines (c .next-lines .result .now)) h (c .next-lines .ensures .0) in
     (omega arith, omega arith)
 
-first-line-requires : tie.Need-first-line-requires Inv-loop μ-loop
-first-line-requires c κs = search needs
-
 slice-aggregate-same : tie.Need-slice-aggregate-same Inv-loop μ-loop
 slice-aggregate-same c = refl
-
-same-requires : tie.Need-same-requires Inv-loop μ-loop
-same-requires c κs = search needs
 
 returns-2 : tie.Need-returns-2 Inv-loop μ-loop
 returns-2 c =
     let l = c .before .before .before .before .before in
     let e = code-answer (l .loop .rest .now) (c .before .before .before .first-line .result .now) (c .before .before .before .before .loop-test .taken) (c .before .before .before .first-line .ensures) (sym (c .before .same .ensures) ∙ c .if2 .taken) in
     omega arith
-
-next-lines-requires-2 : tie.Need-next-lines-requires-2 Inv-loop μ-loop
-next-lines-requires-2 c κs = search needs
-
-add-n : tie.Need-add-n Inv-loop μ-loop
-add-n c = search needs
-
-loop-less : tie.Need-loop-less Inv-loop μ-loop
-loop-less c = search needs
 
 loop-again : tie.Need-loop-again Inv-loop μ-loop
 loop-again c =
@@ -77,14 +59,14 @@ count-code-spec =
     Inv-loop
     μ-loop
     returns
-    next-lines-requires
+    (λ c κs. search needs)
     loop-holds
-    first-line-requires
+    (λ c κs. search needs)
     slice-aggregate-same
-    same-requires
+    (λ c κs. search needs)
     returns-2
-    next-lines-requires-2
-    add-n
-    loop-less
+    (λ c κs. search needs)
+    (λ c. search needs)
+    (λ c. search needs)
     loop-again
     returns-3)

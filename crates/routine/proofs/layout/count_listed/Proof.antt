@@ -6,18 +6,9 @@ use borrow.Author.Needs.{needs}
 use Rattle.routine.proofs.layout.count_listed.Statement.{statement}
 use Rattle.routine.proofs.layout.count_listed.Tie as tie
 
-slice-aggregate-same : tie.Need-slice-aggregate-same
-slice-aggregate-same c = search needs
-
-same-requires : tie.Need-same-requires
-same-requires c κs = search needs
-
 returns : tie.Need-returns
 returns c =
     sym (ap length (list-none (c .before .before .before .before .args .line .now) (sym (c .before .same .ensures) ∙ c .if1 .taken)))
-
-count-words-requires : tie.Need-count-words-requires
-count-words-requires c κs = search needs
 
 returns-2 : tie.Need-returns-2
 returns-2 c =
@@ -25,4 +16,4 @@ returns-2 c =
 
 pub count-listed-spec : {M : Type 1} → statement M
 count-listed-spec =
-    tie.close (tie.spec slice-aggregate-same same-requires returns count-words-requires returns-2)
+    tie.close (tie.spec (λ c. search needs) (λ c κs. search needs) returns (λ c κs. search needs) returns-2)

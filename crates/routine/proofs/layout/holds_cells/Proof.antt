@@ -8,17 +8,11 @@ use borrow.Author.Needs.{needs}
 use Rattle.routine.proofs.layout.holds_cells.Statement.{statement}
 use Rattle.routine.proofs.layout.holds_cells.Tie as tie
 
-is-values-requires : tie.Need-is-values-requires
-is-values-requires c κs = search needs
-
 returns : tie.Need-returns
 returns c = or-true (isValues Fields Cell (c .before .before .args .role)) (sym (c .before .is-values .ensures) ∙ c .if1 .taken)
-
-is-values-requires-2 : tie.Need-is-values-requires-2
-is-values-requires-2 c κs = search needs
 
 returns-2 : tie.Need-returns-2
 returns-2 c = or-false (sym (c .before .before .is-values .ensures) ∙ c .before .if1 .left) (c .is-values2 .ensures)
 
 pub holds-cells-spec : {M : Type 1} → statement M
-holds-cells-spec = tie.close (tie.spec is-values-requires returns is-values-requires-2 returns-2)
+holds-cells-spec = tie.close (tie.spec (λ c κs. search needs) returns (λ c κs. search needs) returns-2)

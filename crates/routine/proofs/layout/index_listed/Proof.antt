@@ -5,15 +5,9 @@ use borrow.Author.Needs.{needs}
 use Rattle.routine.proofs.layout.index_listed.Statement.{statement}
 use Rattle.routine.proofs.layout.index_listed.Tie as tie
 
-look-up-requires : tie.Need-look-up-requires
-look-up-requires c κs = search needs
-
-index-of-requires : tie.Need-index-of-requires
-index-of-requires c κs = search needs
-
 returns : tie.Need-returns
 unfolding find
 returns c = c .index-of .ensures ∙ ap (λ r. indexOf (r .place)) (c .before .look-up .ensures)
 
 pub index-listed-spec : {M : Type 1} → statement M
-index-listed-spec = tie.close (tie.spec look-up-requires index-of-requires returns)
+index-listed-spec = tie.close (tie.spec (λ c κs. search needs) (λ c κs. search needs) returns)

@@ -6,23 +6,8 @@ use borrow.Author.Needs.{needs}
 use Rattle.routine.proofs.layout.is_values.Statement.{statement}
 use Rattle.routine.proofs.layout.is_values.Tie as tie
 
-enum-known-role : tie.Need-enum-known-role
-enum-known-role c = search needs
-
 returns : tie.Need-returns
 returns c = not-values _ _ (c .before .args .role) (c .match .keys2)
-
-section-place-requires : tie.Need-section-place-requires
-section-place-requires c κs = search needs
-
-section-place-requires-2 : tie.Need-section-place-requires-2
-section-place-requires-2 c κs = search needs
-
-column-place-requires : tie.Need-column-place-requires
-column-place-requires c κs = search needs
-
-column-place-requires-2 : tie.Need-column-place-requires-2
-column-place-requires-2 c κs = search needs
 
 returns-2 : tie.Need-returns-2
 returns-2 c =
@@ -42,11 +27,11 @@ pub is-values-spec : {M : Type 1} → statement M
 is-values-spec =
     tie.close
     (tie.spec
-    enum-known-role
+    (λ c. search needs)
     returns
-    section-place-requires
-    section-place-requires-2
-    column-place-requires
-    column-place-requires-2
+    (λ c κs. search needs)
+    (λ c κs. search needs)
+    (λ c κs. search needs)
+    (λ c κs. search needs)
     returns-2
     returns-3)

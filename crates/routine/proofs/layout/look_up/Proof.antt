@@ -6,21 +6,12 @@ use borrow.Author.Needs.{needs}
 use Rattle.routine.proofs.layout.look_up.Statement.{statement}
 use Rattle.routine.proofs.layout.look_up.Tie as tie
 
-slice-aggregate-same : tie.Need-slice-aggregate-same
-slice-aggregate-same c = search needs
-
-same-requires : tie.Need-same-requires
-same-requires c κs = search needs
-
 returns : tie.Need-returns
 returns c = sym (ap (lookup _) (list-none _ (sym (c .before .same .ensures) ∙ c .if1 .taken)))
-
-find-requires : tie.Need-find-requires
-find-requires c κs = search needs
 
 returns-2 : tie.Need-returns-2
 returns-2 c = c .find .ensures ∙ sym (ap (lookup _) (list-words _ (sym (c .before .before .same .ensures) ∙ c .before .if1 .left)))
 
 pub look-up-spec : {M : Type 1} → statement M
 look-up-spec =
-    tie.close (tie.spec slice-aggregate-same same-requires returns find-requires returns-2)
+    tie.close (tie.spec (λ c. search needs) (λ c κs. search needs) returns (λ c κs. search needs) returns-2)

@@ -6,14 +6,8 @@ use borrow.Author.Needs.{needs}
 use Rattle.routine.proofs.layout.role_at.Statement.{statement}
 use Rattle.routine.proofs.layout.role_at.Tie as tie
 
-mul-result : tie.Need-mul-result
-mul-result c = search needs
-
-array-copy-out-result : tie.Need-array-copy-out-result
-array-copy-out-result c = search needs
-
 returns : tie.Need-returns
 returns c = getD-any layout (c .before .args .i) _ (Code 0) (c .before .pre)
 
 pub role-at-spec : {M : Type 1} → statement M
-role-at-spec = tie.close (tie.spec mul-result array-copy-out-result returns)
+role-at-spec = tie.close (tie.spec (λ c. search needs) (λ c. search needs) returns)

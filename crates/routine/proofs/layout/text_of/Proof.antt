@@ -20,15 +20,6 @@ abbrev μ-loop : tie.MeasureT-loop
 loop-holds : tie.Need-loop-holds Inv-loop μ-loop
 loop-holds c = (omega arith, refl)
 
-role-at-requires : tie.Need-role-at-requires Inv-loop μ-loop
-role-at-requires c κs = search needs
-
-is-role-requires : tie.Need-is-role-requires Inv-loop μ-loop
-is-role-requires c κs = search needs
-
-first-line-requires : tie.Need-first-line-requires Inv-loop μ-loop
-first-line-requires c κs = search needs
-
 returns : tie.Need-returns Inv-loop μ-loop
 returns c =
     let r = c .before .before .before .before .before .before .before .args .role in
@@ -36,24 +27,12 @@ returns c =
     let e = sym (ap (isRole r) (c .before .before .before .role-at .ensures)) ∙ sym (c .before .before .is-role .ensures) ∙ c .before .if1 .taken in
     c .first-line .ensures ∙ sym (l .inv .1 ∙ text-here r (l .i) (c .before .before .before .before .loop-test .taken) (lines (l .rest .now)) e)
 
-next-lines-requires : tie.Need-next-lines-requires Inv-loop μ-loop
-next-lines-requires c κs = search needs
-
-add-i : tie.Need-add-i Inv-loop μ-loop
-add-i c = search needs
-
-loop-less : tie.Need-loop-less Inv-loop μ-loop
-loop-less c = search needs
-
 loop-again : tie.Need-loop-again Inv-loop μ-loop
 loop-again c =
     let r = c .before .before .before .before .before .before .before .args .role in
     let l = c .before .before .before .before .before .loop in
     let e = sym (ap (isRole r) (c .before .before .before .role-at .ensures)) ∙ sym (c .before .before .is-role .ensures) ∙ c .before .if1 .left in
     (omega arith, l .inv .1 ∙ text-next r (l .i) (c .before .before .before .before .loop-test .taken) (lines (l .rest .now)) e ∙ ap (textAt r (drop (l .i + 1) layout)) (sym (c .next-lines .ensures .0)))
-
-slice-aggregate-result : tie.Need-slice-aggregate-result Inv-loop μ-loop
-slice-aggregate-result c = search needs
 
 returns-2 : tie.Need-returns-2 Inv-loop μ-loop
 returns-2 c =
@@ -69,13 +48,13 @@ text-of-spec =
     Inv-loop
     μ-loop
     loop-holds
-    role-at-requires
-    is-role-requires
-    first-line-requires
+    (λ c κs. search needs)
+    (λ c κs. search needs)
+    (λ c κs. search needs)
     returns
-    next-lines-requires
-    add-i
-    loop-less
+    (λ c κs. search needs)
+    (λ c. search needs)
+    (λ c. search needs)
     loop-again
-    slice-aggregate-result
+    (λ c. search needs)
     returns-2)

@@ -5,12 +5,9 @@ use borrow.Author.Needs.{needs}
 use Rattle.states.proofs.State.advance.Statement.{statement}
 use Rattle.states.proofs.State.advance.Tie as tie
 
-add-self : tie.Need-add-self
-add-self c = search needs
-
 returns : tie.Need-returns
 unfolding advance jump
 returns c = (simp add-one, record { free = c .before .pre .0 .free; places = c .before .pre .0 .places })
 
 pub advance-spec : {M : Type 1} → statement M
-advance-spec = tie.close (tie.spec add-self returns)
+advance-spec = tie.close (tie.spec (λ c. search needs) returns)

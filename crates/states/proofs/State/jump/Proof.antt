@@ -1,7 +1,6 @@
 -- `states::State::jump` meets its contract. Assumes nothing.
 use mathlib.Core.Path.{refl}
 use Rattle.machine.specs.Machine.{jump}
-use borrow.Author.Needs.{needs}
 use Rattle.states.proofs.State.jump.Statement.{statement}
 use Rattle.states.proofs.State.jump.Tie as tie
 

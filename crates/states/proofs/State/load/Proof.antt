@@ -1,7 +1,6 @@
 -- `states::State::load` meets its contract. Assumes nothing.
 use mathlib.Core.Path.{refl}
 use Rattle.machine.specs.Machine.{load}
-use borrow.Author.Needs.{needs}
 use Rattle.states.proofs.State.load.Statement.{statement}
 use Rattle.states.proofs.State.load.Tie as tie
 

@@ -4,11 +4,8 @@ use Rattle.states.proofs.StateLaws.{pop-is}
 use Rattle.states.proofs.State.pop.Statement.{statement}
 use Rattle.states.proofs.State.pop.Tie as tie
 
-add-self : tie.Need-add-self
-add-self c = search needs
-
 returns : tie.Need-returns
 returns c = let start = c .before in (pop-is (start .args .self) (start .pre .0) (start .args .n) (start .pre .1), record { free = start .pre .1; places = start .pre .0 .places })
 
 pub pop-spec : {M : Type 1} → statement M
-pop-spec = tie.close (tie.spec add-self returns)
+pop-spec = tie.close (tie.spec (λ c. search needs) returns)

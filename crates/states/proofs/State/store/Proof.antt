@@ -7,18 +7,6 @@ use Rattle.states.proofs.StateLaws.{stored, store-is, store-formed}
 use Rattle.states.proofs.State.store.Statement.{statement}
 use Rattle.states.proofs.State.store.Tie as tie
 
-add-entry : tie.Need-add-entry
-add-entry c = search needs
-
-mul-stack : tie.Need-mul-stack
-mul-stack c = search needs
-
-array-set-from-stack : tie.Need-array-set-from-stack
-array-set-from-stack c = search needs
-
-number-requires : tie.Need-number-requires
-number-requires c κs = search needs
-
 returns : tie.Need-returns
 returns c =
     let start = c .before .before .before .before in
@@ -29,4 +17,4 @@ returns c =
     )
 
 pub store-spec : {M : Type 1} → statement M
-store-spec = tie.close (tie.spec add-entry mul-stack array-set-from-stack number-requires returns)
+store-spec = tie.close (tie.spec (λ c. search needs) (λ c. search needs) (λ c. search needs) (λ c κs. search needs) returns)
