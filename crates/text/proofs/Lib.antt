@@ -6,3 +6,4 @@ pub mod DecimalLaws
 pub mod NumeralLaws
 pub mod ClampLaws
 pub mod MemoryLaws
+pub mod PlaceLaws

@@ -1,86 +1,74 @@
 -- `report::put_bound` meets its contract: the parts of the report one after the other. Assumes nothing.
-use Prim.Native.Nat.{ℕ, _+_, zero-le}
-use mathlib.Core.Path.{_≡_, ap}
-use native.Mathlib.Omega.{arith}
+use Prim.Native.Nat.{ℕ, _≤_}
+use mathlib.Core.Path.{ap}
+use mathlib.Core.List.{List, [], _∷_}
 use lib.ListN.{length}
 use Rattle.text.specs.Text.{bytes}
 use Rattle.text.specs.Decimal.{decimal}
-use Rattle.text.proofs.MemoryLaws.{wrote-none, wrote-more, wrote-start}
 use Rattle.report.specs.Report.{share, pathText, space, feed, figures, boundText}
 use Rattle.report.specs.Decode.{decode, reportOf}
-use Rattle.report.proofs.PutLaws.{bound-length, bound-wrote}
+use Rattle.text.proofs.PlaceLaws.{Place, joined, begins-first, room, room-as, next, next-as, finished-first}
 use borrow.Author.Needs.{needs}
 use Rattle.report.proofs.put_bound.Statement.{statement}
 use Rattle.report.proofs.put_bound.Tie as tie
 
--- the length of the whole, which each part is within
-abbrev whole : (s : tie.Start) → length (boundText (s .args .tick) (reportOf (s .args .cycles) (s .args .words) (s .args .depth) (s .args .steps) (s .args .path))) ≡ 36 + length (figures (reportOf (s .args .cycles) (s .args .words) (s .args .depth) (s .args .steps) 1)) + 1 + length (decimal (share (s .args .tick) (s .args .cycles))) + 1 + length (pathText (decode (s .args .path))) + 1
-whole s = bound-length (s .args .tick) (s .args .cycles) (s .args .words) (s .args .depth) (s .args .steps) (s .args .path)
+-- the parts of the report
+abbrev parts : tie.Start → List (List ℕ)
+parts s =
+    let a = s .args in
+    bytes "CYCLES WORDS DEPTH STEPS SHARE PATH\n" ∷ figures (reportOf (a .cycles) (a .words) (a .depth) (a .steps) 1) ∷ space ∷ decimal (share (a .tick) (a .cycles)) ∷ space ∷ pathText (decode (a .path)) ∷ feed ∷ []
 
-put-requires : tie.Need-put-requires
-put-requires c κs = omega (arith, whole (c .before .before .before))
+-- the first n parts stand in o, up to e
+abbrev At : ℕ → ℕ → List ℕ → Type 0
+At = Place (λ (s : tie.Start). s .args .out .now) (λ s. 0) parts
 
-put-figures-requires : tie.Need-put-figures-requires
-put-figures-requires c κs = omega (arith, whole (c .before .before .before .before .before .before .before))
+fits : (s : tie.Start) → length (joined [] (parts s)) ≤ length (s .args .out .now)
+unfolding boundText reportOf figures
+fits s = s .pre .1
 
-put-requires-2 : tie.Need-put-requires-2
-put-requires-2 c κs = omega (arith, whole (c .before .before .before .before .before .before .before .before .before .before .before .before))
+abbrev w0 : (s : tie.Start) → At 0 0 (s .args .out .now)
+w0 s = begins-first s (fits s)
 
-put-decimal-requires : tie.Need-put-decimal-requires
-put-decimal-requires c κs = omega (arith, whole (c .before .before .before .before .before .before .before .before .before .before .before .before .before .before .before .before .before), ap (λ (n : ℕ). length (decimal n)) (c .before .share .ensures))
+abbrev w1 : (c : tie.After-put) → At 1 (c .put .result) (c .put .last .0)
+w1 c = next (w0 (c .before .before .before .before)) (c .put .ensures)
 
-put-requires-3 : tie.Need-put-requires-3
-put-requires-3 c κs = omega (arith, whole (c .before .before .before .before .before .before .before .before .before .before .before .before .before .before .before .before .before .before .before .before .before .before), ap (λ (n : ℕ). length (decimal n)) (c .before .before .before .before .before .before .share .ensures))
+abbrev w2 : (c : tie.After-put-figures) → At 2 (c .put-figures .result) (c .put-figures .last .0)
+w2 c = next (w1 (c .before .before .before .before)) (c .put-figures .ensures)
 
-put-path-requires : tie.Need-put-path-requires
-put-path-requires c κs = omega (arith, whole (c .before .before .before .before .before .before .before .before .before .before .before .before .before .before .before .before .before .before .before .before .before .before .before .before .before .before), ap (λ (n : ℕ). length (decimal n)) (c .before .before .before .before .before .before .before .before .before .before .share .ensures))
+abbrev w3 : (c : tie.After-put2) → At 3 (c .put2 .result) (c .put2 .last .0)
+w3 c = next (w2 (c .before .before .before .before .before)) (c .put2 .ensures)
 
-put-requires-4 : tie.Need-put-requires-4
-put-requires-4 c κs =
-    let s = c .before .before .before .before .before .before .before .before .before .before .before .before .before .before .before .before .before .before .before .before .before .before .before .before .before .before .before .before .before .before .before in
-    let p = c .before .before .before .before .before .before .before .before .before .before .before .before .before .before .before .before .before .before .before .before .before .before .before .before .before .before .before .put in
-    let f = c .before .before .before .before .before .before .before .before .before .before .before .before .before .before .before .before .before .before .before .before .before .before .before .put-figures in
-    let q = c .before .before .before .before .before .before .before .before .before .before .before .before .before .before .before .before .before .before .put2 in
-    let n = ap (λ (n : ℕ). length (decimal n)) (c .before .before .before .before .before .before .before .before .before .before .before .before .before .before .before .share .ensures) in
-    omega (arith, whole s, s .pre .1, p .ensures .0, p .kept .0, f .ensures .0, f .kept .0, q .ensures .0, q .kept .0)
+abbrev w4 : (c : tie.After-put-decimal) → At 4 (c .put-decimal .result) (c .put-decimal .last .0)
+w4 c = next-as (w3 (c .before .before .before .before .before)) (ap decimal (c .before .before .share .ensures)) (c .put-decimal .ensures)
+
+abbrev w5 : (c : tie.After-put3) → At 5 (c .put3 .result) (c .put3 .last .0)
+w5 c = next (w4 (c .before .before .before .before .before)) (c .put3 .ensures)
+
+abbrev w6 : (c : tie.After-put-path) → At 6 (c .put-path .result) (c .put-path .last .0)
+w6 c = next (w5 (c .before .before .before .before)) (c .put-path .ensures)
+
+abbrev w7 : (c : tie.After-put4) → At 7 (c .put4 .result) (c .put4 .last .0)
+w7 c = next (w6 (c .before .before .before .before .before)) (c .put4 .ensures)
 
 returns : tie.Need-returns
-returns c =
-    let c8 = c .before .before in
-    let c7 = c8 .before .before .before .before .before in
-    let c6 = c7 .before .before .before .before in
-    let c5 = c6 .before .before .before .before .before in
-    let c4 = c5 .before .before in
-    let c3 = c4 .before .before .before in
-    let c2 = c3 .before .before .before .before .before in
-    let c1 = c2 .before .before .before .before in
-    let s = c1 .before .before .before .before in
-    let a = s .args in
-    let w0 = wrote-none (a .out .now) 0 zero-le in
-    let w1 = wrote-more w0 (bytes "CYCLES WORDS DEPTH STEPS SHARE PATH\n") (c1 .put .ensures) in
-    let w2 = wrote-more w1 (figures (reportOf (a .cycles) (a .words) (a .depth) (a .steps) 1)) (c2 .put-figures .ensures) in
-    let w3 = wrote-more w2 space (c3 .put2 .ensures) in
-    let w4 = wrote-more w3 (decimal (c4 .share .result)) (c5 .put-decimal .ensures) in
-    let w5 = wrote-more w4 space (c6 .put3 .ensures) in
-    let w6 = wrote-more w5 (pathText (decode (a .path))) (c7 .put-path .ensures) in
-    let w7 = wrote-more w6 feed (c8 .put4 .ensures) in
-    wrote-start (bound-wrote (a .tick) (a .cycles) (a .words) (a .depth) (a .steps) (a .path) (c4 .share .result) (c4 .share .ensures) w7)
+unfolding boundText reportOf figures
+returns c = finished-first (w7 (c .before .before))
 
 pub put-bound-spec : {M : Type 1} → statement M
 put-bound-spec =
     tie.close
     (tie.spec
     (λ c. search needs)
-    put-requires
-    put-figures-requires
+    (λ c κs. room (w0 (c .before .before .before)))
+    (λ c κs. room (w1 (c .before .before .before)))
     (λ c. search needs)
-    put-requires-2
+    (λ c κs. room (w2 (c .before .before .before .before)))
     (λ c κs. search needs)
-    put-decimal-requires
+    (λ c κs. room-as (w3 (c .before .before .before .before)) (ap decimal (c .before .share .ensures)))
     (λ c. search needs)
-    put-requires-3
-    put-path-requires
+    (λ c κs. room (w4 (c .before .before .before .before)))
+    (λ c κs. room (w5 (c .before .before .before)))
     (λ c. search needs)
-    put-requires-4
+    (λ c κs. room (w6 (c .before .before .before .before)))
     (λ c. search needs)
     returns)

@@ -1,65 +1,60 @@
 -- `report::put_refusal` meets its contract: the parts of the line one after the other. Assumes nothing.
-use Prim.Native.Nat.{_+_, zero-le}
-use mathlib.Core.Path.{_≡_}
-use native.Mathlib.Omega.{arith}
+use Prim.Native.Nat.{ℕ, _≤_}
+use mathlib.Core.List.{List, [], _∷_}
 use lib.ListN.{length}
 use Rattle.text.specs.Text.{bytes}
 use Rattle.text.specs.Decimal.{decimal}
-use Rattle.text.proofs.MemoryLaws.{wrote-none, wrote-more, wrote-start}
 use Rattle.report.specs.Report.{space, feed, refusalLine}
-use Rattle.report.proofs.PutLaws.{refusal-length}
+use Rattle.text.proofs.PlaceLaws.{Place, joined, begins-first, room, next, finished-first}
 use borrow.Author.Needs.{needs}
 use Rattle.report.proofs.put_refusal.Statement.{statement}
 use Rattle.report.proofs.put_refusal.Tie as tie
 
--- the length of the whole, which each part is within
-abbrev whole : (s : tie.Start) → length (refusalLine (s .args .number) (s .args .place)) ≡ 8 + length (decimal (s .args .number)) + 1 + length (decimal (s .args .place)) + 1
-whole s = refusal-length (s .args .number) (s .args .place)
+-- the parts of the line
+abbrev parts : tie.Start → List (List ℕ)
+parts s = bytes "REFUSED " ∷ decimal (s .args .number) ∷ space ∷ decimal (s .args .place) ∷ feed ∷ []
 
-put-requires : tie.Need-put-requires
-put-requires c κs = omega (arith, whole (c .before .before .before))
+-- the first n parts stand in o, up to e
+abbrev At : ℕ → ℕ → List ℕ → Type 0
+At = Place (λ (s : tie.Start). s .args .out .now) (λ s. 0) parts
 
-put-decimal-requires : tie.Need-put-decimal-requires
-put-decimal-requires c κs = omega (arith, whole (c .before .before .before .before .before .before .before))
+fits : (s : tie.Start) → length (joined [] (parts s)) ≤ length (s .args .out .now)
+unfolding refusalLine
+fits s = s .pre
 
-put-requires-2 : tie.Need-put-requires-2
-put-requires-2 c κs = omega (arith, whole (c .before .before .before .before .before .before .before .before .before .before .before .before))
+abbrev w0 : (s : tie.Start) → At 0 0 (s .args .out .now)
+w0 s = begins-first s (fits s)
 
-put-decimal-requires-2 : tie.Need-put-decimal-requires-2
-put-decimal-requires-2 c κs = omega (arith, whole (c .before .before .before .before .before .before .before .before .before .before .before .before .before .before .before .before))
+abbrev w1 : (c : tie.After-put) → At 1 (c .put .result) (c .put .last .0)
+w1 c = next (w0 (c .before .before .before .before)) (c .put .ensures)
 
-put-requires-3 : tie.Need-put-requires-3
-put-requires-3 c κs = omega (arith, whole (c .before .before .before .before .before .before .before .before .before .before .before .before .before .before .before .before .before .before .before .before .before))
+abbrev w2 : (c : tie.After-put-decimal) → At 2 (c .put-decimal .result) (c .put-decimal .last .0)
+w2 c = next (w1 (c .before .before .before .before)) (c .put-decimal .ensures)
+
+abbrev w3 : (c : tie.After-put2) → At 3 (c .put2 .result) (c .put2 .last .0)
+w3 c = next (w2 (c .before .before .before .before .before)) (c .put2 .ensures)
+
+abbrev w4 : (c : tie.After-put-decimal2) → At 4 (c .put-decimal2 .result) (c .put-decimal2 .last .0)
+w4 c = next (w3 (c .before .before .before .before)) (c .put-decimal2 .ensures)
+
+abbrev w5 : (c : tie.After-put3) → At 5 (c .put3 .result) (c .put3 .last .0)
+w5 c = next (w4 (c .before .before .before .before .before)) (c .put3 .ensures)
 
 returns : tie.Need-returns
 unfolding refusalLine
-returns c =
-    let c5 = c .before .before in
-    let c4 = c5 .before .before .before .before .before in
-    let c3 = c4 .before .before .before .before in
-    let c2 = c3 .before .before .before .before .before in
-    let c1 = c2 .before .before .before .before in
-    let s = c1 .before .before .before .before in
-    let a = s .args in
-    let w0 = wrote-none (a .out .now) 0 zero-le in
-    let w1 = wrote-more w0 (bytes "REFUSED ") (c1 .put .ensures) in
-    let w2 = wrote-more w1 (decimal (a .number)) (c2 .put-decimal .ensures) in
-    let w3 = wrote-more w2 space (c3 .put2 .ensures) in
-    let w4 = wrote-more w3 (decimal (a .place)) (c4 .put-decimal2 .ensures) in
-    let w5 = wrote-more w4 feed (c5 .put3 .ensures) in
-    wrote-start w5
+returns c = finished-first (w5 (c .before .before))
 
 pub put-refusal-spec : {M : Type 1} → statement M
 put-refusal-spec =
     tie.close
     (tie.spec
     (λ c. search needs)
-    put-requires
-    put-decimal-requires
+    (λ c κs. room (w0 (c .before .before .before)))
+    (λ c κs. room (w1 (c .before .before .before)))
     (λ c. search needs)
-    put-requires-2
-    put-decimal-requires-2
+    (λ c κs. room (w2 (c .before .before .before .before)))
+    (λ c κs. room (w3 (c .before .before .before)))
     (λ c. search needs)
-    put-requires-3
+    (λ c κs. room (w4 (c .before .before .before .before)))
     (λ c. search needs)
     returns)

@@ -1,52 +1,51 @@
--- `report::put_run` meets its contract: the parts of the line one after the other. Assumes nothing.
-use Prim.Native.Nat.{_+_, zero-le}
-use mathlib.Core.Path.{_≡_}
-use native.Mathlib.Omega.{arith}
+-- `report::put_run` meets its contract: the parts of the report one after the other. Assumes nothing.
+use Prim.Native.Nat.{ℕ, _≤_}
+use mathlib.Core.List.{List, [], _∷_}
 use lib.ListN.{length}
 use Rattle.text.specs.Text.{bytes}
-use Rattle.text.proofs.MemoryLaws.{wrote-none, wrote-more, wrote-start}
 use Rattle.report.specs.Report.{feed, figures, runText}
 use Rattle.report.specs.Decode.{reportOf}
-use Rattle.report.proofs.PutLaws.{run-length}
+use Rattle.text.proofs.PlaceLaws.{Place, joined, begins-first, room, next, finished-first}
 use borrow.Author.Needs.{needs}
 use Rattle.report.proofs.put_run.Statement.{statement}
 use Rattle.report.proofs.put_run.Tie as tie
 
--- the length of the whole, which each part is within
-abbrev whole : (s : tie.Start) → length (runText (reportOf (s .args .cycles) (s .args .words) (s .args .depth) (s .args .steps) 1)) ≡ 25 + length (figures (reportOf (s .args .cycles) (s .args .words) (s .args .depth) (s .args .steps) 1)) + 1
-whole s = run-length (s .args .cycles) (s .args .words) (s .args .depth) (s .args .steps) 1
+-- the parts of the report
+abbrev parts : tie.Start → List (List ℕ)
+parts s = bytes "CYCLES WORDS DEPTH STEPS\n" ∷ figures (reportOf (s .args .cycles) (s .args .words) (s .args .depth) (s .args .steps) 1) ∷ feed ∷ []
 
-put-requires : tie.Need-put-requires
-put-requires c κs = omega (arith, whole (c .before .before .before))
+-- the first n parts stand in o, up to e
+abbrev At : ℕ → ℕ → List ℕ → Type 0
+At = Place (λ (s : tie.Start). s .args .out .now) (λ s. 0) parts
 
-put-figures-requires : tie.Need-put-figures-requires
-put-figures-requires c κs = omega (arith, whole (c .before .before .before .before .before .before .before))
+fits : (s : tie.Start) → length (joined [] (parts s)) ≤ length (s .args .out .now)
+unfolding runText
+fits s = s .pre
 
-put-requires-2 : tie.Need-put-requires-2
-put-requires-2 c κs = omega (arith, whole (c .before .before .before .before .before .before .before .before .before .before .before .before))
+abbrev w0 : (s : tie.Start) → At 0 0 (s .args .out .now)
+w0 s = begins-first s (fits s)
+
+abbrev w1 : (c : tie.After-put) → At 1 (c .put .result) (c .put .last .0)
+w1 c = next (w0 (c .before .before .before .before)) (c .put .ensures)
+
+abbrev w2 : (c : tie.After-put-figures) → At 2 (c .put-figures .result) (c .put-figures .last .0)
+w2 c = next (w1 (c .before .before .before .before)) (c .put-figures .ensures)
+
+abbrev w3 : (c : tie.After-put2) → At 3 (c .put2 .result) (c .put2 .last .0)
+w3 c = next (w2 (c .before .before .before .before .before)) (c .put2 .ensures)
 
 returns : tie.Need-returns
 unfolding runText
-returns c =
-    let c3 = c .before .before in
-    let c2 = c3 .before .before .before .before .before in
-    let c1 = c2 .before .before .before .before in
-    let s = c1 .before .before .before .before in
-    let a = s .args in
-    let w0 = wrote-none (a .out .now) 0 zero-le in
-    let w1 = wrote-more w0 (bytes "CYCLES WORDS DEPTH STEPS\n") (c1 .put .ensures) in
-    let w2 = wrote-more w1 (figures (reportOf (a .cycles) (a .words) (a .depth) (a .steps) 1)) (c2 .put-figures .ensures) in
-    let w3 = wrote-more w2 feed (c3 .put2 .ensures) in
-    wrote-start w3
+returns c = finished-first (w3 (c .before .before))
 
 pub put-run-spec : {M : Type 1} → statement M
 put-run-spec =
     tie.close
     (tie.spec
     (λ c. search needs)
-    put-requires
-    put-figures-requires
+    (λ c κs. room (w0 (c .before .before .before)))
+    (λ c κs. room (w1 (c .before .before .before)))
     (λ c. search needs)
-    put-requires-2
+    (λ c κs. room (w2 (c .before .before .before .before)))
     (λ c. search needs)
     returns)
