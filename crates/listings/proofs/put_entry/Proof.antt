@@ -1,91 +1,85 @@
 -- `listings::put_entry` meets its contract: the parts of the line one after the other. Assumes nothing.
-use Prim.Native.Nat.{_+_, _≤_}
-use mathlib.Core.Path.{_∙_}
-use native.Mathlib.Omega.{arith}
+use Prim.Native.Nat.{ℕ, _+_, _≤_}
+use mathlib.Core.List.{List, [], _∷_}
 use lib.ListN.{length}
 use Rattle.text.specs.Decimal.{decimal}
-use Rattle.text.proofs.MemoryLaws.{wrote-none, wrote-more}
+use Rattle.text.proofs.PlaceLaws.{Place, joined, begins, kept, room, next, finished}
 use Rattle.report.specs.Report.{space, feed, pathText}
 use Rattle.report.specs.Decode.{decode}
 use Rattle.listings.specs.Listing.{entryText}
-use Rattle.listings.proofs.LineLaws.{entry-length}
 use borrow.Author.Needs.{needs}
 use Rattle.listings.proofs.put_entry.Statement.{statement}
 use Rattle.listings.proofs.put_entry.Tie as tie
 
--- the length of the whole, which each part is within
-room : (s : tie.Start) → s .args .at + (length (s .args .line .now) + 1 + length (decimal (s .args .cycles)) + 1 + length (decimal (s .args .words)) + 1 + length (decimal (s .args .depth)) + 1 + length (pathText (decode (s .args .way))) + 1) ≤ length (s .args .out .now)
-room s = omega (arith, s .pre, entry-length (s .args .line .now) (s .args .cycles) (s .args .words) (s .args .depth) (decode (s .args .way)))
+-- the parts of the line
+abbrev parts : tie.Start → List (List ℕ)
+parts s =
+    let a = s .args in
+    a .line .now ∷ space ∷ decimal (a .cycles) ∷ space ∷ decimal (a .words) ∷ space ∷ decimal (a .depth) ∷ space ∷ pathText (decode (a .way)) ∷ feed ∷ []
 
-put-requires : tie.Need-put-requires
-put-requires c κs = omega (arith, room (c .before .before .before))
+-- the first n parts stand in o, up to e
+abbrev At : ℕ → ℕ → List ℕ → Type 0
+At = Place (λ (s : tie.Start). s .args .out .now) (λ s. s .args .at) parts
 
-put-requires-2 : tie.Need-put-requires-2
-put-requires-2 c κs = omega (arith, room (c .before .before .before .before .before .before .before .before), c .before .before .before .before .put .ensures .0, c .before .before .before .before .put .kept .0)
+fits : (s : tie.Start) → s .args .at + length (joined [] (parts s)) ≤ length (s .args .out .now)
+unfolding entryText
+fits s = s .pre
 
-put-decimal-requires : tie.Need-put-decimal-requires
-put-decimal-requires c κs = omega (arith, room (c .before .before .before .before .before .before .before .before .before .before .before .before), c .before .before .before .before .before .before .before .before .put .ensures .0, c .before .before .before .before .before .before .before .before .put .kept .0, c .before .before .before .put2 .ensures .0, c .before .before .before .put2 .kept .0)
+abbrev w0 : (s : tie.Start) → At 0 (s .args .at) (s .args .out .now)
+w0 s = begins s (fits s)
 
-put-requires-3 : tie.Need-put-requires-3
-put-requires-3 c κs = omega (arith, room (c .before .before .before .before .before .before .before .before .before .before .before .before .before .before .before .before .before), c .before .before .before .before .before .before .before .before .before .before .before .before .before .put .ensures .0, c .before .before .before .before .before .before .before .before .before .before .before .before .before .put .kept .0, c .before .before .before .before .before .before .before .before .put2 .ensures .0, c .before .before .before .before .before .before .before .before .put2 .kept .0, c .before .before .before .before .put-decimal .ensures .0, c .before .before .before .before .put-decimal .kept .0)
+abbrev w1 : (c : tie.After-put) → At 1 (c .put .result) (c .put .last .0)
+w1 c = next (w0 (c .before .before .before .before)) (c .put .ensures)
 
-put-decimal-requires-2 : tie.Need-put-decimal-requires-2
-put-decimal-requires-2 c κs = omega (arith, room (c .before .before .before .before .before .before .before .before .before .before .before .before .before .before .before .before .before .before .before .before .before), c .before .before .before .before .before .before .before .before .before .before .before .before .before .before .before .before .before .put .ensures .0, c .before .before .before .before .before .before .before .before .before .before .before .before .before .before .before .before .before .put .kept .0, c .before .before .before .before .before .before .before .before .before .before .before .before .put2 .ensures .0, c .before .before .before .before .before .before .before .before .before .before .before .before .put2 .kept .0, c .before .before .before .before .before .before .before .before .put-decimal .ensures .0, c .before .before .before .before .before .before .before .before .put-decimal .kept .0, c .before .before .before .put3 .ensures .0, c .before .before .before .put3 .kept .0)
+abbrev w2 : (c : tie.After-put2) → At 2 (c .put2 .result) (c .put2 .last .0)
+w2 c = next (w1 (c .before .before .before .before .before)) (c .put2 .ensures)
 
-put-requires-4 : tie.Need-put-requires-4
-put-requires-4 c κs = omega (arith, room (c .before .before .before .before .before .before .before .before .before .before .before .before .before .before .before .before .before .before .before .before .before .before .before .before .before .before), c .before .before .before .before .before .before .before .before .before .before .before .before .before .before .before .before .before .before .before .before .before .before .put .ensures .0, c .before .before .before .before .before .before .before .before .before .before .before .before .before .before .before .before .before .before .before .before .before .before .put .kept .0, c .before .before .before .before .before .before .before .before .before .before .before .before .before .before .before .before .before .put2 .ensures .0, c .before .before .before .before .before .before .before .before .before .before .before .before .before .before .before .before .before .put2 .kept .0, c .before .before .before .before .before .before .before .before .before .before .before .before .before .put-decimal .ensures .0, c .before .before .before .before .before .before .before .before .before .before .before .before .before .put-decimal .kept .0, c .before .before .before .before .before .before .before .before .put3 .ensures .0, c .before .before .before .before .before .before .before .before .put3 .kept .0, c .before .before .before .before .put-decimal2 .ensures .0, c .before .before .before .before .put-decimal2 .kept .0)
+abbrev w3 : (c : tie.After-put-decimal) → At 3 (c .put-decimal .result) (c .put-decimal .last .0)
+w3 c = next (w2 (c .before .before .before .before)) (c .put-decimal .ensures)
 
-put-decimal-requires-3 : tie.Need-put-decimal-requires-3
-put-decimal-requires-3 c κs = omega (arith, room (c .before .before .before .before .before .before .before .before .before .before .before .before .before .before .before .before .before .before .before .before .before .before .before .before .before .before .before .before .before .before), c .before .before .before .before .before .before .before .before .before .before .before .before .before .before .before .before .before .before .before .before .before .before .before .before .before .before .put .ensures .0, c .before .before .before .before .before .before .before .before .before .before .before .before .before .before .before .before .before .before .before .before .before .before .before .before .before .before .put .kept .0, c .before .before .before .before .before .before .before .before .before .before .before .before .before .before .before .before .before .before .before .before .before .put2 .ensures .0, c .before .before .before .before .before .before .before .before .before .before .before .before .before .before .before .before .before .before .before .before .before .put2 .kept .0, c .before .before .before .before .before .before .before .before .before .before .before .before .before .before .before .before .before .put-decimal .ensures .0, c .before .before .before .before .before .before .before .before .before .before .before .before .before .before .before .before .before .put-decimal .kept .0, c .before .before .before .before .before .before .before .before .before .before .before .before .put3 .ensures .0, c .before .before .before .before .before .before .before .before .before .before .before .before .put3 .kept .0, c .before .before .before .before .before .before .before .before .put-decimal2 .ensures .0, c .before .before .before .before .before .before .before .before .put-decimal2 .kept .0, c .before .before .before .put4 .ensures .0, c .before .before .before .put4 .kept .0)
+abbrev w4 : (c : tie.After-put3) → At 4 (c .put3 .result) (c .put3 .last .0)
+w4 c = next (w3 (c .before .before .before .before .before)) (c .put3 .ensures)
 
-put-requires-5 : tie.Need-put-requires-5
-put-requires-5 c κs = omega (arith, room (c .before .before .before .before .before .before .before .before .before .before .before .before .before .before .before .before .before .before .before .before .before .before .before .before .before .before .before .before .before .before .before .before .before .before .before), c .before .before .before .before .before .before .before .before .before .before .before .before .before .before .before .before .before .before .before .before .before .before .before .before .before .before .before .before .before .before .before .put .ensures .0, c .before .before .before .before .before .before .before .before .before .before .before .before .before .before .before .before .before .before .before .before .before .before .before .before .before .before .before .before .before .before .before .put .kept .0, c .before .before .before .before .before .before .before .before .before .before .before .before .before .before .before .before .before .before .before .before .before .before .before .before .before .before .put2 .ensures .0, c .before .before .before .before .before .before .before .before .before .before .before .before .before .before .before .before .before .before .before .before .before .before .before .before .before .before .put2 .kept .0, c .before .before .before .before .before .before .before .before .before .before .before .before .before .before .before .before .before .before .before .before .before .before .put-decimal .ensures .0, c .before .before .before .before .before .before .before .before .before .before .before .before .before .before .before .before .before .before .before .before .before .before .put-decimal .kept .0, c .before .before .before .before .before .before .before .before .before .before .before .before .before .before .before .before .before .put3 .ensures .0, c .before .before .before .before .before .before .before .before .before .before .before .before .before .before .before .before .before .put3 .kept .0, c .before .before .before .before .before .before .before .before .before .before .before .before .before .put-decimal2 .ensures .0, c .before .before .before .before .before .before .before .before .before .before .before .before .before .put-decimal2 .kept .0, c .before .before .before .before .before .before .before .before .put4 .ensures .0, c .before .before .before .before .before .before .before .before .put4 .kept .0, c .before .before .before .before .put-decimal3 .ensures .0, c .before .before .before .before .put-decimal3 .kept .0)
+abbrev w5 : (c : tie.After-put-decimal2) → At 5 (c .put-decimal2 .result) (c .put-decimal2 .last .0)
+w5 c = next (w4 (c .before .before .before .before)) (c .put-decimal2 .ensures)
 
-put-path-requires : tie.Need-put-path-requires
-put-path-requires c κs = omega (arith, room (c .before .before .before .before .before .before .before .before .before .before .before .before .before .before .before .before .before .before .before .before .before .before .before .before .before .before .before .before .before .before .before .before .before .before .before .before .before .before .before), c .before .before .before .before .before .before .before .before .before .before .before .before .before .before .before .before .before .before .before .before .before .before .before .before .before .before .before .before .before .before .before .before .before .before .before .put .ensures .0, c .before .before .before .before .before .before .before .before .before .before .before .before .before .before .before .before .before .before .before .before .before .before .before .before .before .before .before .before .before .before .before .before .before .before .before .put .kept .0, c .before .before .before .before .before .before .before .before .before .before .before .before .before .before .before .before .before .before .before .before .before .before .before .before .before .before .before .before .before .before .put2 .ensures .0, c .before .before .before .before .before .before .before .before .before .before .before .before .before .before .before .before .before .before .before .before .before .before .before .before .before .before .before .before .before .before .put2 .kept .0, c .before .before .before .before .before .before .before .before .before .before .before .before .before .before .before .before .before .before .before .before .before .before .before .before .before .before .put-decimal .ensures .0, c .before .before .before .before .before .before .before .before .before .before .before .before .before .before .before .before .before .before .before .before .before .before .before .before .before .before .put-decimal .kept .0, c .before .before .before .before .before .before .before .before .before .before .before .before .before .before .before .before .before .before .before .before .before .put3 .ensures .0, c .before .before .before .before .before .before .before .before .before .before .before .before .before .before .before .before .before .before .before .before .before .put3 .kept .0, c .before .before .before .before .before .before .before .before .before .before .before .before .before .before .before .before .before .put-decimal2 .ensures .0, c .before .before .before .before .before .before .before .before .before .before .before .before .before .before .before .before .before .put-decimal2 .kept .0, c .before .before .before .before .before .before .before .before .before .before .before .before .put4 .ensures .0, c .before .before .before .before .before .before .before .before .before .before .before .before .put4 .kept .0, c .before .before .before .before .before .before .before .before .put-decimal3 .ensures .0, c .before .before .before .before .before .before .before .before .put-decimal3 .kept .0, c .before .before .before .put5 .ensures .0, c .before .before .before .put5 .kept .0)
+abbrev w6 : (c : tie.After-put4) → At 6 (c .put4 .result) (c .put4 .last .0)
+w6 c = next (w5 (c .before .before .before .before .before)) (c .put4 .ensures)
 
-put-requires-6 : tie.Need-put-requires-6
-put-requires-6 c κs = omega (arith, room (c .before .before .before .before .before .before .before .before .before .before .before .before .before .before .before .before .before .before .before .before .before .before .before .before .before .before .before .before .before .before .before .before .before .before .before .before .before .before .before .before .before .before .before .before), c .before .before .before .before .before .before .before .before .before .before .before .before .before .before .before .before .before .before .before .before .before .before .before .before .before .before .before .before .before .before .before .before .before .before .before .before .before .before .before .before .put .ensures .0, c .before .before .before .before .before .before .before .before .before .before .before .before .before .before .before .before .before .before .before .before .before .before .before .before .before .before .before .before .before .before .before .before .before .before .before .before .before .before .before .before .put .kept .0, c .before .before .before .before .before .before .before .before .before .before .before .before .before .before .before .before .before .before .before .before .before .before .before .before .before .before .before .before .before .before .before .before .before .before .before .put2 .ensures .0, c .before .before .before .before .before .before .before .before .before .before .before .before .before .before .before .before .before .before .before .before .before .before .before .before .before .before .before .before .before .before .before .before .before .before .before .put2 .kept .0, c .before .before .before .before .before .before .before .before .before .before .before .before .before .before .before .before .before .before .before .before .before .before .before .before .before .before .before .before .before .before .before .put-decimal .ensures .0, c .before .before .before .before .before .before .before .before .before .before .before .before .before .before .before .before .before .before .before .before .before .before .before .before .before .before .before .before .before .before .before .put-decimal .kept .0, c .before .before .before .before .before .before .before .before .before .before .before .before .before .before .before .before .before .before .before .before .before .before .before .before .before .before .put3 .ensures .0, c .before .before .before .before .before .before .before .before .before .before .before .before .before .before .before .before .before .before .before .before .before .before .before .before .before .before .put3 .kept .0, c .before .before .before .before .before .before .before .before .before .before .before .before .before .before .before .before .before .before .before .before .before .before .put-decimal2 .ensures .0, c .before .before .before .before .before .before .before .before .before .before .before .before .before .before .before .before .before .before .before .before .before .before .put-decimal2 .kept .0, c .before .before .before .before .before .before .before .before .before .before .before .before .before .before .before .before .before .put4 .ensures .0, c .before .before .before .before .before .before .before .before .before .before .before .before .before .before .before .before .before .put4 .kept .0, c .before .before .before .before .before .before .before .before .before .before .before .before .before .put-decimal3 .ensures .0, c .before .before .before .before .before .before .before .before .before .before .before .before .before .put-decimal3 .kept .0, c .before .before .before .before .before .before .before .before .put5 .ensures .0, c .before .before .before .before .before .before .before .before .put5 .kept .0, c .before .before .before .before .put-path .ensures .0, c .before .before .before .before .put-path .kept .0)
+abbrev w7 : (c : tie.After-put-decimal3) → At 7 (c .put-decimal3 .result) (c .put-decimal3 .last .0)
+w7 c = next (w6 (c .before .before .before .before)) (c .put-decimal3 .ensures)
 
-same-length : tie.Need-same-length
-same-length c = c .before .before .put6 .kept .0 ∙ c .before .before .before .before .before .before .before .put-path .kept .0 ∙ c .before .before .before .before .before .before .before .before .before .before .before .put5 .kept .0 ∙ c .before .before .before .before .before .before .before .before .before .before .before .before .before .before .before .before .put-decimal3 .kept .0 ∙ c .before .before .before .before .before .before .before .before .before .before .before .before .before .before .before .before .before .before .before .before .put4 .kept .0 ∙ c .before .before .before .before .before .before .before .before .before .before .before .before .before .before .before .before .before .before .before .before .before .before .before .before .before .put-decimal2 .kept .0 ∙ c .before .before .before .before .before .before .before .before .before .before .before .before .before .before .before .before .before .before .before .before .before .before .before .before .before .before .before .before .before .put3 .kept .0 ∙ c .before .before .before .before .before .before .before .before .before .before .before .before .before .before .before .before .before .before .before .before .before .before .before .before .before .before .before .before .before .before .before .before .before .before .put-decimal .kept .0 ∙ c .before .before .before .before .before .before .before .before .before .before .before .before .before .before .before .before .before .before .before .before .before .before .before .before .before .before .before .before .before .before .before .before .before .before .before .before .before .before .put2 .kept .0 ∙ c .before .before .before .before .before .before .before .before .before .before .before .before .before .before .before .before .before .before .before .before .before .before .before .before .before .before .before .before .before .before .before .before .before .before .before .before .before .before .before .before .before .before .before .put .kept .0
+abbrev w8 : (c : tie.After-put5) → At 8 (c .put5 .result) (c .put5 .last .0)
+w8 c = next (w7 (c .before .before .before .before .before)) (c .put5 .ensures)
+
+abbrev w9 : (c : tie.After-put-path) → At 9 (c .put-path .result) (c .put-path .last .0)
+w9 c = next (w8 (c .before .before .before .before)) (c .put-path .ensures)
+
+abbrev w10 : (c : tie.After-put6) → At 10 (c .put6 .result) (c .put6 .last .0)
+w10 c = next (w9 (c .before .before .before .before .before)) (c .put6 .ensures)
 
 returns : tie.Need-returns
 unfolding entryText
-returns c =
-    let s = c .before .before .before .before .before .before .before .before .before .before .before .before .before .before .before .before .before .before .before .before .before .before .before .before .before .before .before .before .before .before .before .before .before .before .before .before .before .before .before .before .before .before .before .before .before .before .before in
-    let a = s .args in
-    let w0 = wrote-none (a .out .now) (a .at) (omega (arith, room s)) in
-    let w1 = wrote-more w0 (a .line .now) (c .before .before .before .before .before .before .before .before .before .before .before .before .before .before .before .before .before .before .before .before .before .before .before .before .before .before .before .before .before .before .before .before .before .before .before .before .before .before .before .before .before .before .before .put .ensures) in
-    let w2 = wrote-more w1 space (c .before .before .before .before .before .before .before .before .before .before .before .before .before .before .before .before .before .before .before .before .before .before .before .before .before .before .before .before .before .before .before .before .before .before .before .before .before .before .put2 .ensures) in
-    let w3 = wrote-more w2 (decimal (a .cycles)) (c .before .before .before .before .before .before .before .before .before .before .before .before .before .before .before .before .before .before .before .before .before .before .before .before .before .before .before .before .before .before .before .before .before .before .put-decimal .ensures) in
-    let w4 = wrote-more w3 space (c .before .before .before .before .before .before .before .before .before .before .before .before .before .before .before .before .before .before .before .before .before .before .before .before .before .before .before .before .before .put3 .ensures) in
-    let w5 = wrote-more w4 (decimal (a .words)) (c .before .before .before .before .before .before .before .before .before .before .before .before .before .before .before .before .before .before .before .before .before .before .before .before .before .put-decimal2 .ensures) in
-    let w6 = wrote-more w5 space (c .before .before .before .before .before .before .before .before .before .before .before .before .before .before .before .before .before .before .before .before .put4 .ensures) in
-    let w7 = wrote-more w6 (decimal (a .depth)) (c .before .before .before .before .before .before .before .before .before .before .before .before .before .before .before .before .put-decimal3 .ensures) in
-    let w8 = wrote-more w7 space (c .before .before .before .before .before .before .before .before .before .before .before .put5 .ensures) in
-    let w9 = wrote-more w8 (pathText (decode (a .way))) (c .before .before .before .before .before .before .before .put-path .ensures) in
-    let w10 = wrote-more w9 feed (c .before .before .put6 .ensures) in
-    (w10 .ends, w10 .holds)
+returns c = finished (w10 (c .before .before))
 
 pub put-entry-spec : {M : Type 1} → statement M
 put-entry-spec =
     tie.close
     (tie.spec
-    put-requires
+    (λ c κs. room (w0 (c .before .before .before)))
     (λ c. search needs)
-    put-requires-2
-    put-decimal-requires
+    (λ c κs. room (w1 (c .before .before .before .before)))
+    (λ c κs. room (w2 (c .before .before .before)))
     (λ c. search needs)
-    put-requires-3
-    put-decimal-requires-2
+    (λ c κs. room (w3 (c .before .before .before .before)))
+    (λ c κs. room (w4 (c .before .before .before)))
     (λ c. search needs)
-    put-requires-4
-    put-decimal-requires-3
+    (λ c κs. room (w5 (c .before .before .before .before)))
+    (λ c κs. room (w6 (c .before .before .before)))
     (λ c. search needs)
-    put-requires-5
-    put-path-requires
+    (λ c κs. room (w7 (c .before .before .before .before)))
+    (λ c κs. room (w8 (c .before .before .before)))
     (λ c. search needs)
-    put-requires-6
-    same-length
+    (λ c κs. room (w9 (c .before .before .before .before)))
+    (λ c. kept (w10 (c .before .before)))
     returns)

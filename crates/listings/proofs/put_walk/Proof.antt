@@ -1,5 +1,6 @@
 -- `listings::put_walk` meets its contract. The loop's invariant: what is written and the lines that are left are the whole (`Writing`). The
 -- measure is the number of moves that may be left. Assumes nothing.
+use Prim.Native.Nat.{_+_, _<_, _≤_}
 use mathlib.Core.Path.{_∙_}
 use native.Mathlib.Omega.{arith}
 use lib.ListN.{length}
@@ -25,52 +26,58 @@ Inv-loop out₀ at body codes operands cycles words extras sizes first path e₀
 abbrev μ-loop : tie.MeasureT-loop
 μ-loop out₀ at body codes operands cycles words extras sizes first path e₀ state₀ blocks₀ rest₀ spent₀ sum₀ left₀ out e state blocks rest spent sum left = left
 
+-- the places of a turn: from the loop's test back to the start, from the step that was walked to the test, from the code line to the step
+abbrev start : tie.At-loop Inv-loop μ-loop → tie.Start Inv-loop μ-loop
+start c = c .before .before .before .before .before .before .before .before
+
+abbrev test : tie.After-walk Inv-loop μ-loop → tie.At-loop Inv-loop μ-loop
+test c = c .before .before
+
+abbrev walked : tie.After-code-line Inv-loop μ-loop → tie.After-walk Inv-loop μ-loop
+walked c = c .before .before .before .before .before
+
 loop-holds : tie.Need-loop-holds Inv-loop μ-loop
 loop-holds c = let s = c .before .before .before .before .before .before .before in writing-starts _ _ _ _ _ (s .args .at) (s .args .start) (s .args .fields) (s .args .path) _ (omega (arith, s .pre .1)) (s .pre .0 .2) (s .pre .0 .3) (s .pre .0 .0 .few)
 
 walk-requires : tie.Need-walk-requires Inv-loop μ-loop
 walk-requires c κs =
-    let s = c .before .before .before .before .before .before .before .before .before in
+    let s = start (c .before) in
     let i = c .before .loop .inv in
     (s .pre .0 .0, s .pre .0 .1, i .formed, i .fits)
 
-same-length : tie.Need-same-length Inv-loop μ-loop
-same-length c = c .before .before .before .before .loop .inv .long
-
 returns : tie.Need-returns Inv-loop μ-loop
-returns c = writing-stuck (c .before .before .before .before .loop .inv) (c .before .before .before .loop-test .taken) (c .before .before .walk .result) (c .before .before .walk .ensures) (c .if1 .taken)
+returns c = let b = c .before .before in writing-stuck (test b .loop .inv) (b .before .loop-test .taken) (b .walk .result) (b .walk .ensures) (c .if1 .taken)
 
-add-spent : tie.Need-add-spent Inv-loop μ-loop
-add-spent c = omega (arith, sums-fit (c .before .before .before .before .before .loop .inv) (c .before .before .before .before .loop-test .taken) (c .before .before .before .walk .result) (c .before .before .before .walk .ensures) .0)
-
-add-sum : tie.Need-add-sum Inv-loop μ-loop
-add-sum c = omega (arith, sums-fit (c .before .before .before .before .before .before .loop .inv) (c .before .before .before .before .before .loop-test .taken) (c .before .before .before .before .walk .result) (c .before .before .before .before .walk .ensures) .1)
-
-sub-height : tie.Need-sub-height Inv-loop μ-loop
-sub-height c = omega (arith, c .before .before .before .before .before .before .before .before .loop .inv .formed .free)
+sums : (c : tie.After-walk Inv-loop μ-loop) → (test c .loop .spent + c .walk .result .cycles ≤ 8796093022208) × (test c .loop .sum + c .walk .result .words ≤ 4398046511104)
+sums c = sums-fit (test c .loop .inv) (c .before .loop-test .taken) (c .walk .result) (c .walk .ensures)
 
 put-entry-requires : tie.Need-put-entry-requires Inv-loop μ-loop
 put-entry-requires c κs =
-    let s = c .before .before .before .before .before .before .before .before .before .before .before .before .before .before .before .before .before in
-    writing-room (c .before .before .before .before .before .before .before .before .before .loop .inv) (c .before .before .before .before .before .before .before .before .loop-test .taken) (c .before .before .before .before .before .before .before .walk .result) (c .before .before .before .before .before .before .before .walk .ensures) (c .before .before .before .before .before .if1 .left) (c .before .before .code-line .result .now) (c .before .before .code-line .ensures) (s .pre .1)
+    let m = c .before .before in
+    let b = walked m in
+    let l = test b in
+    writing-room (l .loop .inv) (b .before .loop-test .taken) (b .walk .result) (b .walk .ensures) (m .before .before .before .if1 .left) (m .code-line .result .now) (m .code-line .ensures) (start l .pre .1)
 
 same-length-2 : tie.Need-same-length-2 Inv-loop μ-loop
-same-length-2 c = c .before .before .before .put-entry .kept .0 ∙ c .before .before .before .before .before .before .before .before .before .before .before .before .before .loop .inv .long
+same-length-2 c = let p = c .before .before .before in p .put-entry .kept .0 ∙ test (walked (p .before .before .before)) .loop .inv .long
 
 returns-2 : tie.Need-returns-2 Inv-loop μ-loop
-returns-2 c = writing-stops (c .before .before .before .before .before .before .before .before .before .before .before .before .before .loop .inv) (c .before .before .before .before .before .before .before .before .before .before .before .before .loop-test .taken) (c .before .before .before .before .before .before .before .before .before .before .before .walk .result) (c .before .before .before .before .before .before .before .before .before .before .before .walk .ensures) (c .before .before .before .before .before .before .before .before .before .if1 .left) (c .before .before .before .before .before .before .code-line .result .now) (c .before .before .before .before .before .before .code-line .ensures) (c .before .before .before .put-entry .ensures) (c .if2 .taken)
+returns-2 c =
+    let p = c .before .before .before in
+    let m = p .before .before .before in
+    let b = walked m in
+    writing-stops (test b .loop .inv) (b .before .loop-test .taken) (b .walk .result) (b .walk .ensures) (m .before .before .before .if1 .left) (m .code-line .result .now) (m .code-line .ensures) (p .put-entry .ensures) (c .if2 .taken)
 
-sub-left : tie.Need-sub-left Inv-loop μ-loop
-sub-left c = omega (arith, c .before .before .before .before .before .before .before .before .before .before .before .before .before .before .loop-test .taken)
-
-loop-less : tie.Need-loop-less Inv-loop μ-loop
-loop-less c = omega (arith, c .before .before .before .before .before .before .before .before .before .before .before .before .before .before .loop-test .taken)
+-- a move is left
+some : (c : tie.After-put-entry Inv-loop μ-loop) → 0 < test (walked (c .before .before .before)) .loop .left
+some c = walked (c .before .before .before) .before .loop-test .taken
 
 loop-again : tie.Need-loop-again Inv-loop μ-loop
-loop-again c = writing-next (c .before .before .before .before .before .before .before .before .before .before .before .before .before .before .before .loop .inv) (c .before .before .before .before .before .before .before .before .before .before .before .before .before .before .loop-test .taken) (c .before .before .before .before .before .before .before .before .before .before .before .before .before .walk .result) (c .before .before .before .before .before .before .before .before .before .before .before .before .before .walk .ensures) (c .before .before .before .before .before .before .before .before .before .before .before .if1 .left) (c .before .before .before .before .before .before .before .before .code-line .result .now) (c .before .before .before .before .before .before .before .before .code-line .ensures) (c .before .before .before .before .before .put-entry .ensures) (c .before .before .if2 .left) (c .before .before .before .before .before .put-entry .kept .0)
-
-same-length-3 : tie.Need-same-length-3 Inv-loop μ-loop
-same-length-3 c = c .before .loop .inv .long
+loop-again c =
+    let p = c .before .before .before .before .before in
+    let m = p .before .before .before in
+    let b = walked m in
+    writing-next (test b .loop .inv) (b .before .loop-test .taken) (b .walk .result) (b .walk .ensures) (m .before .before .before .if1 .left) (m .code-line .result .now) (m .code-line .ensures) (p .put-entry .ensures) (c .before .before .if2 .left) (p .put-entry .kept .0)
 
 returns-3 : tie.Need-returns-3 Inv-loop μ-loop
 returns-3 c = writing-ends (c .before .loop .inv) (omega arith)
@@ -83,17 +90,17 @@ put-walk-spec =
     μ-loop
     loop-holds
     walk-requires
-    same-length
+    (λ c. test (c .before .before) .loop .inv .long)
     returns
-    add-spent
-    add-sum
+    (λ c. omega (arith, sums (c .before .before .before) .0))
+    (λ c. omega (arith, sums (c .before .before .before .before) .1))
     (λ c κs. search needs)
-    sub-height
+    (λ c. omega (arith, test (walked (c .before)) .loop .inv .formed .free))
     put-entry-requires
     same-length-2
     returns-2
-    sub-left
-    loop-less
+    (λ c. omega (arith, some (c .before .before .before .before .before)))
+    (λ c. omega (arith, some (c .before .before .before .before .before)))
     loop-again
-    same-length-3
+    (λ c. c .before .loop .inv .long)
     returns-3)
