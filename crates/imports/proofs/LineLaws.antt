@@ -12,10 +12,9 @@ use Rattle.text.specs.Memory.{over}
 use Rattle.instructions.specs.declared.Argument.{Argument}
 use Rattle.instructions.specs.declared.Argument.the-variants.{Absent, Target, Primitive, Within}
 use Rattle.text.specs.declared.Place.{Place}
-use Rattle.instructions.specs.Columns.{kindAt}
 use Rattle.words.specs.Lines.{integer}
 use Rattle.words.specs.Held.{numberIn}
-use Rattle.imports.specs.Lines.{argumentIn, lineIn}
+use Rattle.imports.specs.Lines.{argumentIn}
 
 -- ---- a text that is put, by another name
 
@@ -48,8 +47,3 @@ module _ (ps : List (List ℕ)) (t : List ℕ) (i : ℕ) (z : ℤ) {a : Argument
 
 pub parts-length : (n k a : List ℕ) → length (n ++ bytes " " ++ k ++ bytes " " ++ a ++ bytes "\n") ≡ length n + 1 + length k + 1 + length a + 1
 parts-length n k a = simp length-append (omega arith)
-
-pub line-length : (ps : List (List ℕ)) (t : List ℕ) (n i k : ℕ) (z : ℤ)
-    → length (lineIn ps t n i k z) ≡ length (decimal n) + 1 + length (kindAt k .name) + 1 + length (argumentIn ps t i z (kindAt k .argument)) + 1
-unfolding lineIn
-line-length ps t n i k z = parts-length (decimal n) (kindAt k .name) (argumentIn ps t i z (kindAt k .argument))

@@ -21,66 +21,66 @@ use Rattle.imports.proofs.put_argument.Tie as tie
 abbrev whole : tie.Start → List ℕ
 whole s = argumentIn (list (s .args .primitives .now)) (s .args .numbers .now) (s .args .index) (s .args .argument) (kindAt (s .args .k) .argument)
 
-absent : (c : tie.After-put-arg2) → whole (c .before .before .before .before .before .before .before .before) ≡ bytes "-"
-absent c =
-    let s = c .before .before .before .before .before .before .before .before in
-    argument-absent (list (s .args .primitives .now)) (s .args .numbers .now) (s .args .index) (s .args .argument) (sym (c .before .before .before .before .argument-at .ensures) ∙ c .before .before .enum-told .given .1)
+-- the start, from where it is known what the kind takes
+abbrev start : tie.After-argument-at → tie.Start
+start c = c .before .before .before .before
 
-target : (c : tie.After-put-decimal-arg) → whole (c .before .before .before .before .before .before .before .before .before .before) ≡ decimal (c .before .index-of .result)
+passed : (c : tie.After-argument-at) → toZ w32 (ofZ w32 (start c .args .argument)) ≡ start c .args .argument
+passed c = toZ-ofZ w32 (start c .args .argument) (start c .fits .argument)
+
+-- ARG by what the kind takes
+absent : (c : tie.After-enum-told) → whole (start (c .before .before)) ≡ bytes "-"
+absent c = argument-absent _ _ _ _ (sym (c .before .before .argument-at .ensures) ∙ c .enum-told .given .1)
+
+target : (c : tie.After-index-of) → whole (start (c .before .before .before .before .before)) ≡ decimal (c .index-of .result)
 target c =
-    let s = c .before .before .before .before .before .before .before .before .before .before in
-    argument-target (list (s .args .primitives .now)) (s .args .numbers .now) (s .args .index) (s .args .argument) (sym (c .before .before .before .before .before .before .argument-at .ensures) ∙ c .before .before .before .before .enum-told2 .given .1)
-    (c .before .before .before .landing .ensures ∙ ap (λ z. pos (suc (s .args .index)) +ℤ z) (toZ-ofZ w32 (s .args .argument) (s .fits .argument)))
+    let l = c .before .before in
+    let k = l .before .before .before in
+    argument-target _ _ _ _ (sym (k .argument-at .ensures) ∙ l .before .enum-told2 .given .1)
+    (l .landing .ensures ∙ ap (λ z. pos (suc (start k .args .index)) +ℤ z) (passed k))
     (toZ-ofZ w64 _ (search needs))
-    (c .before .before .number-at .ensures)
-    (c .before .index-of .ensures)
+    (c .before .number-at .ensures)
+    (c .index-of .ensures)
 
-primitive : (c : tie.After-put-arg3) → whole (c .before .before .before .before .before .before .before .before .before) ≡ c .before .listed-at .result .now
+primitive : (c : tie.After-listed-at) → whole (start (c .before .before .before .before)) ≡ c .listed-at .result .now
 primitive c =
-    let s = c .before .before .before .before .before .before .before .before .before in
-    argument-primitive (list (s .args .primitives .now)) (s .args .numbers .now) (s .args .index) (s .args .argument) (sym (c .before .before .before .before .before .argument-at .ensures) ∙ c .before .before .before .enum-told3 .given .1)
-    (toZ-ofZ w32 (s .args .argument) (s .fits .argument))
-    (c .before .before .magnitude .ensures)
-    (c .before .listed-at .ensures)
+    let t = c .before .before in
+    let k = t .before .before in
+    argument-primitive _ _ _ _ (sym (k .argument-at .ensures) ∙ t .enum-told3 .given .1) (passed k) (c .before .magnitude .ensures) (c .listed-at .ensures)
 
-within : (c : tie.After-put-integer-arg) → whole (c .before .before .before .before .before .before .before) ≡ integer (toZ w32 (ofZ w32 (c .before .before .before .before .before .before .before .args .argument)))
-within c =
-    let s = c .before .before .before .before .before .before .before in
-    argument-within (list (s .args .primitives .now)) (s .args .numbers .now) (s .args .index) (s .args .argument) (sym (c .before .before .before .argument-at .ensures) ∙ c .before .enum-told4 .given .1) (toZ-ofZ w32 (s .args .argument) (s .fits .argument))
-
-enum-told : tie.Need-enum-told
-enum-told c = search needs
+within : (c : tie.After-enum-told4) → whole (start (c .before .before)) ≡ integer (toZ w32 (ofZ w32 (start (c .before .before) .args .argument)))
+within c = let k = c .before .before in argument-within _ _ _ _ (sym (k .argument-at .ensures) ∙ c .enum-told4 .given .1) (passed k)
 
 put-requires : tie.Need-put-requires
-put-requires c κs = room-as (c .before .before .before .before .before .before .before .before .args .at) (absent c) (c .before .before .before .before .before .before .before .before .pre .2)
+put-requires c κs = let t = c .before .before in room-as _ (absent t) (start (t .before .before) .pre .2)
 
 put-decimal-requires : tie.Need-put-decimal-requires
-put-decimal-requires c κs = room-as (c .before .before .before .before .before .before .before .before .before .before .args .at) (target c) (c .before .before .before .before .before .before .before .before .before .before .pre .2)
+put-decimal-requires c κs = room-as _ (target (c .before)) (start (c .before .before .before .before .before .before) .pre .2)
 
 put-requires-2 : tie.Need-put-requires-2
-put-requires-2 c κs = room-as (c .before .before .before .before .before .before .before .before .before .args .at) (primitive c) (c .before .before .before .before .before .before .before .before .before .pre .2)
+put-requires-2 c κs = room-as _ (primitive (c .before)) (start (c .before .before .before .before .before) .pre .2)
 
 put-integer-requires : tie.Need-put-integer-requires
-put-integer-requires c κs = room-as (c .before .before .before .before .before .before .before .args .at) (within c) (c .before .before .before .before .before .before .before .pre .2)
+put-integer-requires c κs = room-as _ (within (c .before)) (start (c .before .before .before) .pre .2)
 
 returns : tie.Need-returns
-returns c = put-as (c .before .before .before .before .before .before .before .before .before .before .before .args .out .now) (c .before .before .before .before .before .before .before .before .before .before .before .args .at) (absent (c .before .before .before)) (c .before .before .put .ensures)
+returns c = let p = c .before .before in put-as _ _ (absent (p .before .before .before)) (p .put .ensures)
 
 returns-2 : tie.Need-returns-2
-returns-2 c = put-as (c .before .before .before .before .before .before .before .before .before .before .before .before .before .args .out .now) (c .before .before .before .before .before .before .before .before .before .before .before .before .before .args .at) (target (c .before .before .before)) (c .before .before .put-decimal .ensures)
+returns-2 c = let p = c .before .before in put-as _ _ (target (p .before .before)) (p .put-decimal .ensures)
 
 returns-3 : tie.Need-returns-3
-returns-3 c = put-as (c .before .before .before .before .before .before .before .before .before .before .before .before .args .out .now) (c .before .before .before .before .before .before .before .before .before .before .before .before .args .at) (primitive (c .before .before .before)) (c .before .before .put2 .ensures)
+returns-3 c = let p = c .before .before in put-as _ _ (primitive (p .before .before)) (p .put2 .ensures)
 
 returns-4 : tie.Need-returns-4
-returns-4 c = put-as (c .before .before .before .before .before .before .before .before .before .before .args .out .now) (c .before .before .before .before .before .before .before .before .before .before .args .at) (within (c .before .before .before)) (c .before .before .put-integer .ensures)
+returns-4 c = let p = c .before .before in put-as _ _ (within (p .before .before)) (p .put-integer .ensures)
 
 pub put-argument-spec : {M : Type 1} → statement M
 put-argument-spec =
     tie.close
     (tie.spec
     (λ c κs. search needs)
-    enum-told
+    (λ c. search needs)
     (λ c. search needs)
     put-requires
     (λ c. search needs)

@@ -1,19 +1,17 @@
 -- `imports::put_line` meets its contract: the parts of the line one after the other. Assumes nothing.
 use Prim.Native.Nat.{ℕ, _+_, _≤_}
-use mathlib.Core.Path.{_≡_, sym, ap}
-use mathlib.Core.List.{List}
-use native.Mathlib.Omega.{arith}
+use mathlib.Core.Path.{_≡_, ap}
+use mathlib.Core.List.{List, [], _∷_}
 use lib.ListN.{length}
 use mir.Syntax.{w32}
 use mir.Val.{ofZ, toZ}
 use mir.ValLaws.{toZ-ofZ}
 use Rattle.text.specs.Text.{bytes}
 use Rattle.text.specs.Decimal.{decimal}
-use Rattle.text.proofs.MemoryLaws.{wrote-none, wrote-more}
+use Rattle.text.proofs.PlaceLaws.{Place, joined, begins, room, room-as, next, next-as, finished}
 use Rattle.instructions.specs.Columns.{kindAt}
 use Rattle.routine.specs.Layout.{list}
 use Rattle.imports.specs.Lines.{argumentIn, lineIn}
-use Rattle.imports.proofs.LineLaws.{put-as, line-length}
 use borrow.Author.Needs.{needs}
 use Rattle.imports.proofs.put_line.Statement.{statement}
 use Rattle.imports.proofs.put_line.Tie as tie
@@ -22,65 +20,58 @@ use Rattle.imports.proofs.put_line.Tie as tie
 abbrev arg : tie.Start → List ℕ
 arg s = argumentIn (list (s .args .primitives .now)) (s .args .numbers .now) (s .args .index) (s .args .argument) (kindAt (s .args .k) .argument)
 
-passed : (s : tie.Start) → arg s ≡ argumentIn (list (s .args .primitives .now)) (s .args .numbers .now) (s .args .index) (toZ w32 (ofZ w32 (s .args .argument))) (kindAt (s .args .k) .argument)
-passed s = ap (λ z. argumentIn (list (s .args .primitives .now)) (s .args .numbers .now) (s .args .index) z (kindAt (s .args .k) .argument)) (sym (toZ-ofZ w32 (s .args .argument) (s .fits .argument)))
+passed : (s : tie.Start) → argumentIn (list (s .args .primitives .now)) (s .args .numbers .now) (s .args .index) (toZ w32 (ofZ w32 (s .args .argument))) (kindAt (s .args .k) .argument) ≡ arg s
+passed s = ap (λ z. argumentIn (list (s .args .primitives .now)) (s .args .numbers .now) (s .args .index) z (kindAt (s .args .k) .argument)) (toZ-ofZ w32 (s .args .argument) (s .fits .argument))
 
--- the length of the whole, which each part is within
-room : (s : tie.Start) → s .args .at + (length (decimal (s .args .n)) + 1 + length (kindAt (s .args .k) .name) + 1 + length (arg s) + 1) ≤ length (s .args .out .now)
-room s = omega (arith, s .pre .2, line-length (list (s .args .primitives .now)) (s .args .numbers .now) (s .args .n) (s .args .index) (s .args .k) (s .args .argument))
+-- the parts of the line
+abbrev parts : tie.Start → List (List ℕ)
+parts s = decimal (s .args .n) ∷ bytes " " ∷ kindAt (s .args .k) .name ∷ bytes " " ∷ arg s ∷ bytes "\n" ∷ []
 
-put-decimal-requires : tie.Need-put-decimal-requires
-put-decimal-requires c κs = omega (arith, room (c .before .before .before .before))
+-- the first n parts stand in o, up to e
+abbrev At : ℕ → ℕ → List ℕ → Type 0
+At = Place (λ (s : tie.Start). s .args .out .now) (λ s. s .args .at) parts
 
-put-requires : tie.Need-put-requires
-put-requires c κs = omega (arith, room (c .before .before .before .before .before .before .before .before .before))
+fits : (s : tie.Start) → s .args .at + length (joined [] (parts s)) ≤ length (s .args .out .now)
+unfolding lineIn
+fits s = s .pre .2
 
-put-name-requires : tie.Need-put-name-requires
-put-name-requires c κs = (c .before .before .before .before .before .before .before .before .before .before .before .before .before .pre .0, omega (arith, room (c .before .before .before .before .before .before .before .before .before .before .before .before .before)))
+abbrev w0 : (s : tie.Start) → At 0 (s .args .at) (s .args .out .now)
+w0 s = begins s (fits s)
 
-put-requires-2 : tie.Need-put-requires-2
-put-requires-2 c κs = omega (arith, room (c .before .before .before .before .before .before .before .before .before .before .before .before .before .before .before .before .before .before))
+abbrev w1 : (c : tie.After-put-decimal) → At 1 (c .put-decimal .result) (c .put-decimal .last .0)
+w1 c = next (w0 (c .before .before .before .before .before)) (c .put-decimal .ensures)
 
-put-argument-requires : tie.Need-put-argument-requires
-put-argument-requires c κs =
-    let s = c .before .before .before .before .before .before .before .before .before .before .before .before .before .before .before .before .before .before .before .before .before .before in
-    (s .pre .0, s .pre .1, omega (arith, room s, ap length (passed s)))
+abbrev w2 : (c : tie.After-put) → At 2 (c .put .result) (c .put .last .0)
+w2 c = next (w1 (c .before .before .before .before .before)) (c .put .ensures)
 
-put-requires-3 : tie.Need-put-requires-3
-put-requires-3 c κs = omega (arith, room (c .before .before .before .before .before .before .before .before .before .before .before .before .before .before .before .before .before .before .before .before .before .before .before .before .before .before .before), ap length (passed (c .before .before .before .before .before .before .before .before .before .before .before .before .before .before .before .before .before .before .before .before .before .before .before .before .before .before .before)))
+abbrev w3 : (c : tie.After-put-name) → At 3 (c .put-name .result) (c .put-name .last .0)
+w3 c = next (w2 (c .before .before .before .before)) (c .put-name .ensures)
+
+abbrev w4 : (c : tie.After-put2) → At 4 (c .put2 .result) (c .put2 .last .0)
+w4 c = next (w3 (c .before .before .before .before .before)) (c .put2 .ensures)
+
+abbrev w5 : (c : tie.After-put-argument) → At 5 (c .put-argument .result) (c .put-argument .last .0)
+w5 c = let w = w4 (c .before .before .before .before) in next-as w (passed (w .start)) (c .put-argument .ensures)
+
+abbrev w6 : (c : tie.After-put3) → At 6 (c .put3 .result) (c .put3 .last .0)
+w6 c = next (w5 (c .before .before .before .before .before)) (c .put3 .ensures)
 
 returns : tie.Need-returns
 unfolding lineIn
-returns c =
-    let c6 = c .before .before in
-    let c5 = c6 .before .before .before .before .before in
-    let c4 = c5 .before .before .before .before in
-    let c3 = c4 .before .before .before .before .before in
-    let c2 = c3 .before .before .before .before in
-    let c1 = c2 .before .before .before .before .before in
-    let s = c1 .before .before .before .before .before in
-    let a = s .args in
-    let w0 = wrote-none (a .out .now) (a .at) (omega (arith, room s)) in
-    let w1 = wrote-more w0 (decimal (a .n)) (c1 .put-decimal .ensures) in
-    let w2 = wrote-more w1 (bytes " ") (c2 .put .ensures) in
-    let w3 = wrote-more w2 (kindAt (a .k) .name) (c3 .put-name .ensures) in
-    let w4 = wrote-more w3 (bytes " ") (c4 .put2 .ensures) in
-    let w5 = wrote-more w4 (arg s) (put-as _ _ (passed s) (c5 .put-argument .ensures)) in
-    let w6 = wrote-more w5 (bytes "\n") (c6 .put3 .ensures) in
-    (w6 .ends, w6 .holds)
+returns c = finished (w6 (c .before .before))
 
 pub put-line-spec : {M : Type 1} → statement M
 put-line-spec =
     tie.close
     (tie.spec
-    put-decimal-requires
+    (λ c κs. room (w0 (c .before .before .before .before)))
     (λ c. search needs)
-    put-requires
-    put-name-requires
+    (λ c κs. room (w1 (c .before .before .before .before)))
+    (λ c κs. let w = w2 (c .before .before .before) in (w .start .pre .0, room w))
     (λ c. search needs)
-    put-requires-2
-    put-argument-requires
+    (λ c κs. room (w3 (c .before .before .before .before)))
+    (λ c κs. let w = w4 (c .before .before .before) in (w .start .pre .0, w .start .pre .1, room-as w (passed (w .start))))
     (λ c. search needs)
-    put-requires-3
+    (λ c κs. room (w5 (c .before .before .before .before)))
     (λ c. search needs)
     returns)
