@@ -1,41 +1,70 @@
--- `generating::put_file` meets its contract. Assumes nothing.
-use mathlib.Core.Path.{sym, ap}
-use Prim.Native.Nat.{suc}
+-- `generating::put_file` meets its contract: the parts of the file one after the other. Assumes nothing.
+use Prim.Native.Nat.{ℕ, suc, _≤_, _%_}
+use mathlib.Core.Path.{_≡_, ap}
+use mathlib.Core.List.{List, [], _∷_}
 use native.Mathlib.Omega.{arith}
+use lib.ListN.{length, length-append}
 use Rattle.text.specs.Text.{bytes}
-use Rattle.text.proofs.MemoryLaws.{wrote-none, wrote-more, wrote-start}
-use Rattle.imports.proofs.LineLaws.{put-as}
+use Rattle.text.proofs.PlaceLaws.{Place, joined, begins-first, kept, room, next, next-as, finished-first}
 use Rattle.generator.specs.File.{count, codeFrom, prices, start, file}
-use Rattle.generator.proofs.FileLaws.{prices-short, start-short}
+use Rattle.generator.proofs.FileLaws.{prices-short, start-short, file-short}
 use Rattle.generating.proofs.CellLaws.{count-is}
 use borrow.Author.Needs.{needs}
 use Rattle.generating.proofs.put_file.Statement.{statement}
 use Rattle.generating.proofs.put_file.Tie as tie
 
-put-prices-requires : tie.Need-put-prices-requires
-put-prices-requires c κs = let s = c .before .before .before in (count-is (s .args .seed) (c .before .next .ensures), omega arith, omega (arith, s .pre))
+-- from the first draw: the start, the seed, and the number of instructions
+abbrev begin : tie.After-next → tie.Start
+begin c = c .before .before
+
+abbrev seed : tie.After-next → ℕ
+seed c = begin c .args .seed
+
+number : (c : tie.After-next) → c .next .result % 200 ≡ count (seed c)
+number c = count-is (seed c) (c .next .ensures)
+
+-- the parts of the file
+abbrev parts : tie.After-next → List (List ℕ)
+parts c = prices (seed c) ∷ start (seed c) ∷ bytes "AT OP ARG\n" ∷ codeFrom (seed c) 0 (suc (count (seed c))) ∷ []
+
+-- the first n parts stand in o, up to e
+abbrev At : ℕ → ℕ → List ℕ → Type 0
+At = Place (λ c. begin c .args .out .now) (λ c. 0) parts
+
+fits : (c : tie.After-next) → length (joined [] (parts c)) ≤ length (begin c .args .out .now)
+unfolding file
+fits c = omega (arith, begin c .pre, file-short (seed c))
+
+abbrev w0 : (c : tie.After-next) → At 0 0 (begin c .args .out .now)
+w0 c = begins-first c (fits c)
+
+abbrev w1 : (c : tie.After-put-prices) → At 1 (c .put-prices .result) (c .put-prices .last .0)
+w1 c = next (w0 (c .before .before)) (c .put-prices .ensures)
+
+abbrev w2 : (c : tie.After-put-start) → At 2 (c .put-start .result) (c .put-start .last .0)
+w2 c = next (w1 (c .before .before .before .before)) (c .put-start .ensures)
+
+abbrev w3 : (c : tie.After-put) → At 3 (c .put .result) (c .put .last .0)
+w3 c = next (w2 (c .before .before .before .before .before)) (c .put .ensures)
+
+abbrev w4 : (c : tie.After-put-code) → At 4 (c .put-code .result) (c .put-code .last .0)
+w4 c = let w = w3 (c .before .before .before .before) in next-as w (ap (λ m. codeFrom (seed (w .start)) 0 (suc m)) (number (w .start))) (c .put-code .ensures)
 
 put-start-requires : tie.Need-put-start-requires
-put-start-requires c κs = let s = c .before .before .before .before .before .before .before in (count-is (s .args .seed) (c .before .before .before .before .before .next .ensures), omega arith, omega (arith, s .pre, c .before .before .before .put-prices .ensures .0, c .before .before .before .put-prices .kept .0, prices-short (s .args .seed)))
-
-put-requires : tie.Need-put-requires
-put-requires c κs = let s = c .before .before .before .before .before .before .before .before .before .before .before .before in omega (arith, s .pre, c .before .before .before .before .before .before .before .before .put-prices .ensures .0, c .before .before .before .before .before .before .before .before .put-prices .kept .0, prices-short (s .args .seed), c .before .before .before .before .put-start .ensures .0, c .before .before .before .before .put-start .kept .0, start-short (s .args .seed))
+put-start-requires c κs =
+    let w = w1 (c .before .before .before) in
+    let t = w .start in
+    (number t, omega arith, omega (arith, begin t .pre, kept w, w .wrote .ends, prices-short (seed t)))
 
 put-code-requires : tie.Need-put-code-requires
-put-code-requires c κs = let s = c .before .before .before .before .before .before .before .before .before .before .before .before .before .before .before .before in (count-is (s .args .seed) (c .before .before .before .before .before .before .before .before .before .before .before .before .before .before .next .ensures), omega arith, omega (arith, s .pre, c .before .before .before .before .before .before .before .before .before .before .before .before .put-prices .ensures .0, c .before .before .before .before .before .before .before .before .before .before .before .before .put-prices .kept .0, prices-short (s .args .seed), c .before .before .before .before .before .before .before .before .put-start .ensures .0, c .before .before .before .before .before .before .before .before .put-start .kept .0, start-short (s .args .seed), c .before .before .before .put .ensures .0, c .before .before .before .put .kept .0))
+put-code-requires c κs =
+    let w = w3 (c .before .before .before) in
+    let t = w .start in
+    (number t, omega arith, omega (arith, begin t .pre, kept w, simp length-append at (w .wrote .ends), prices-short (seed t), start-short (seed t)))
 
 returns : tie.Need-returns
 unfolding file
-returns c =
-    let s = c .before .before .before .before .before .before .before .before .before .before .before .before .before .before .before .before .before .before .before in
-    let seed = s .args .seed in
-    let n = count-is seed (c .before .before .before .before .before .before .before .before .before .before .before .before .before .before .before .before .before .next .ensures) in
-    let w0 = wrote-none (s .args .out .now) 0 (omega arith) in
-    let w1 = wrote-more w0 (prices seed) (c .before .before .before .before .before .before .before .before .before .before .before .before .before .before .before .put-prices .ensures) in
-    let w2 = wrote-more w1 (start seed) (c .before .before .before .before .before .before .before .before .before .before .before .put-start .ensures) in
-    let w3 = wrote-more w2 (bytes "AT OP ARG\n") (c .before .before .before .before .before .before .put .ensures) in
-    let w4 = wrote-more w3 (codeFrom seed 0 (suc (count seed))) (put-as _ _ (ap (λ m. codeFrom seed 0 (suc m)) (sym n)) (c .before .before .put-code .ensures)) in
-    wrote-start w4
+returns c = finished-first (w4 (c .before .before))
 
 pub put-file-spec : {M : Type 1} → statement M
 put-file-spec =
@@ -43,10 +72,10 @@ put-file-spec =
     (tie.spec
     (λ c κs. search needs)
     (λ c. search needs)
-    put-prices-requires
+    (λ c κs. (number (c .before), omega arith, omega (arith, begin (c .before) .pre)))
     put-start-requires
     (λ c. search needs)
-    put-requires
+    (λ c κs. room (w2 (c .before .before .before .before)))
     put-code-requires
     (λ c. search needs)
     returns)

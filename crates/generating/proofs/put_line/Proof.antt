@@ -1,11 +1,12 @@
--- `generating::put_line` meets its contract. Assumes nothing.
-use Prim.Native.Nat.{_+_, _≤_}
+-- `generating::put_line` meets its contract: the parts of the line one after the other. Assumes nothing.
+use Prim.Native.Nat.{ℕ, _+_, _≤_}
+use mathlib.Core.List.{List, [], _∷_}
 use native.Mathlib.Omega.{arith}
-use lib.ListN.{length}
+use lib.ListN.{length, length-append}
 use Rattle.text.specs.Text.{bytes}
 use Rattle.text.specs.Decimal.{decimal}
 use Rattle.text.proofs.DecimalLaws.{decimal-length}
-use Rattle.text.proofs.MemoryLaws.{wrote-none, wrote-more}
+use Rattle.text.proofs.PlaceLaws.{Place, joined, begins, kept, room, next, finished}
 use Rattle.instructions.specs.Columns.{kindAt}
 use Rattle.generator.specs.File.{argument, lineOf}
 use Rattle.generator.proofs.WordLaws.{name-short}
@@ -14,61 +15,65 @@ use borrow.Author.Needs.{needs}
 use Rattle.generating.proofs.put_line.Statement.{statement}
 use Rattle.generating.proofs.put_line.Tie as tie
 
--- the length of the whole, which each part is within
-room : (s : tie.Start) → s .args .at + (length (decimal (s .args .k)) + 1 + length (kindAt (s .args .kind) .name) + 1 + length (argument (s .args .n) (s .args .k) (s .args .d) (kindAt (s .args .kind) .argument)) + 1) ≤ length (s .args .out .now)
-room s =
-    omega (arith, s .pre .4, decimal-length 3 (s .args .k) (omega (arith, s .pre .1)) (omega arith), name-short (s .args .kind), kind-short (s .args .n) (s .args .k) (s .args .d) (s .args .kind) (s .pre .2))
+-- the parts of the line
+abbrev parts : tie.Start → List (List ℕ)
+parts s =
+    let a = s .args in
+    decimal (a .k) ∷ bytes " " ∷ kindAt (a .kind) .name ∷ bytes " " ∷ argument (a .n) (a .k) (a .d) (kindAt (a .kind) .argument) ∷ bytes "\n" ∷ []
 
-put-decimal-requires : tie.Need-put-decimal-requires
-put-decimal-requires c κs = omega (arith, room (c .before .before))
+-- the first n parts stand in o, up to e
+abbrev At : ℕ → ℕ → List ℕ → Type 0
+At = Place (λ (s : tie.Start). s .args .out .now) (λ s. s .args .at) parts
 
-put-requires : tie.Need-put-requires
-put-requires c κs = omega (arith, room (c .before .before .before .before .before .before .before))
+number-short : (s : tie.Start) → length (decimal (s .args .k)) ≤ 3
+number-short s = decimal-length 3 (s .args .k) (omega (arith, s .pre .1)) (omega arith)
 
-put-name-requires : tie.Need-put-name-requires
-put-name-requires c κs = (c .before .before .before .before .before .before .before .before .before .before .before .pre .0, omega (arith, room (c .before .before .before .before .before .before .before .before .before .before .before)))
+fits : (s : tie.Start) → s .args .at + length (joined [] (parts s)) ≤ length (s .args .out .now)
+fits s = simp length-append (omega (arith, s .pre .4, number-short s, name-short (s .args .kind), kind-short (s .args .n) (s .args .k) (s .args .d) (s .args .kind) (s .pre .2)))
 
-put-requires-2 : tie.Need-put-requires-2
-put-requires-2 c κs = omega (arith, room (c .before .before .before .before .before .before .before .before .before .before .before .before .before .before .before .before))
+abbrev w0 : (s : tie.Start) → At 0 (s .args .at) (s .args .out .now)
+w0 s = begins s (fits s)
+
+abbrev w1 : (c : tie.After-put-decimal) → At 1 (c .put-decimal .result) (c .put-decimal .last .0)
+w1 c = next (w0 (c .before .before .before)) (c .put-decimal .ensures)
+
+abbrev w2 : (c : tie.After-put) → At 2 (c .put .result) (c .put .last .0)
+w2 c = next (w1 (c .before .before .before .before .before)) (c .put .ensures)
+
+abbrev w3 : (c : tie.After-put-name) → At 3 (c .put-name .result) (c .put-name .last .0)
+w3 c = next (w2 (c .before .before .before .before)) (c .put-name .ensures)
+
+abbrev w4 : (c : tie.After-put2) → At 4 (c .put2 .result) (c .put2 .last .0)
+w4 c = next (w3 (c .before .before .before .before .before)) (c .put2 .ensures)
+
+abbrev w5 : (c : tie.After-put-argument) → At 5 (c .put-argument .result) (c .put-argument .last .0)
+w5 c = next (w4 (c .before .before .before .before)) (c .put-argument .ensures)
+
+abbrev w6 : (c : tie.After-put3) → At 6 (c .put3 .result) (c .put3 .last .0)
+w6 c = next (w5 (c .before .before .before .before .before)) (c .put3 .ensures)
 
 put-argument-requires : tie.Need-put-argument-requires
-put-argument-requires c κs = let s = c .before .before .before .before .before .before .before .before .before .before .before .before .before .before .before .before .before .before .before .before in (s .pre .0, s .pre .2, s .pre .3, omega (arith, s .pre .4, decimal-length 3 (s .args .k) (omega (arith, s .pre .1)) (omega arith), name-short (s .args .kind)))
-
-put-requires-3 : tie.Need-put-requires-3
-put-requires-3 c κs = omega (arith, room (c .before .before .before .before .before .before .before .before .before .before .before .before .before .before .before .before .before .before .before .before .before .before .before .before .before))
+put-argument-requires c κs =
+    let w = w4 (c .before .before .before) in
+    let s = w .start in
+    (s .pre .0, s .pre .2, s .pre .3, omega (arith, s .pre .4, kept w, simp length-append at (w .wrote .ends), number-short s, name-short (s .args .kind)))
 
 returns : tie.Need-returns
 unfolding lineOf
-returns c =
-    let c6 = c .before .before in
-    let c5 = c6 .before .before .before .before .before in
-    let c4 = c5 .before .before .before .before in
-    let c3 = c4 .before .before .before .before .before in
-    let c2 = c3 .before .before .before .before in
-    let c1 = c2 .before .before .before .before .before in
-    let s = c1 .before .before .before in
-    let a = s .args in
-    let w0 = wrote-none (a .out .now) (a .at) (omega (arith, room s)) in
-    let w1 = wrote-more w0 (decimal (a .k)) (c1 .put-decimal .ensures) in
-    let w2 = wrote-more w1 (bytes " ") (c2 .put .ensures) in
-    let w3 = wrote-more w2 (kindAt (a .kind) .name) (c3 .put-name .ensures) in
-    let w4 = wrote-more w3 (bytes " ") (c4 .put2 .ensures) in
-    let w5 = wrote-more w4 (argument (a .n) (a .k) (a .d) (kindAt (a .kind) .argument)) (c5 .put-argument .ensures) in
-    let w6 = wrote-more w5 (bytes "\n") (c6 .put3 .ensures) in
-    (w6 .ends, w6 .holds)
+returns c = finished (w6 (c .before .before))
 
 pub put-line-spec : {M : Type 1} → statement M
 put-line-spec =
     tie.close
     (tie.spec
-    put-decimal-requires
+    (λ c κs. room (w0 (c .before .before)))
     (λ c. search needs)
-    put-requires
-    put-name-requires
+    (λ c κs. room (w1 (c .before .before .before .before)))
+    (λ c κs. let w = w2 (c .before .before .before) in (w .start .pre .0, room w))
     (λ c. search needs)
-    put-requires-2
+    (λ c κs. room (w3 (c .before .before .before .before)))
     put-argument-requires
     (λ c. search needs)
-    put-requires-3
+    (λ c κs. room (w5 (c .before .before .before .before)))
     (λ c. search needs)
     returns)
