@@ -19,17 +19,22 @@ returns-2 c =
 
 returns-3 : tie.Need-returns-3
 returns-3 c =
-    let start = c .before .before .before .before .before .before .before .before .before .before in
+    let at-if2 = c .before .before .before .before .before in
+    let at-if1 = at-if2 .before in
+    let at-same = at-if1 .before in
+    let start = at-same .before .before .before in
     c .block-word .ensures
     ∙ ap blockOf (c .before .read-numeral .ensures)
     ∙ block-clamped _
-    ∙ sym (ap clampedCell (word-block (start .args .w .now) (sym (c .before .before .before .before .before .before .before .same .ensures) ∙ c .before .before .before .before .before .before .if1 .left) (c .before .before .before .before .before .if2 .left) (c .before .before .before .if3 .taken)))
+    ∙ sym (ap clampedCell (word-block (start .args .w .now) (sym (at-same .same .ensures) ∙ at-if1 .if1 .left) (at-if2 .if2 .left) (c .before .before .before .if3 .taken)))
 
 returns-4 : tie.Need-returns-4
 returns-4 c =
-    let start = c .before .before .before .before .before .before .before .before in
+    let at-if1 = c .before .before .before .before in
+    let at-same = at-if1 .before in
+    let start = at-same .before .before .before in
     c .spanned .ensures
-    ∙ sym (ap clampedCell (word-spanned (start .args .w .now) (sym (c .before .before .before .before .before .same .ensures) ∙ c .before .before .before .before .if1 .left) (c .before .before .before .if2 .left) (c .before .if3 .left)))
+    ∙ sym (ap clampedCell (word-spanned (start .args .w .now) (sym (at-same .same .ensures) ∙ at-if1 .if1 .left) (c .before .before .before .if2 .left) (c .before .if3 .left)))
 
 pub cell-word-spec : {M : Type 1} → statement M
 cell-word-spec =

@@ -52,9 +52,11 @@ returns-2 c =
 
 returns-3 : tie.Need-returns-3
 returns-3 c =
-    let start = c .before .before .before .before .before .before in
+    let at-within = c .before .before .before .before in
+    let at-number-range = at-within .before in
+    let start = at-number-range .before in
     read-both leZ w64 _ _ (start .fits .lo) (start .fits .hi)
-    ∙ both-inside (start .args .lo) (start .args .hi) (inner (start .args .lo) (start .fits .lo) (c .before .before .before .before .within .ensures) (c .before .before .before .before .before .number-range .ensures) ∙ yes _ (c .before .before .before .if1 .left))
+    ∙ both-inside (start .args .lo) (start .args .hi) (inner (start .args .lo) (start .fits .lo) (at-within .within .ensures) (at-number-range .number-range .ensures) ∙ yes _ (c .before .before .before .if1 .left))
     (inner (start .args .hi) (start .fits .hi) (c .before .within2 .ensures) (c .before .before .number-range2 .ensures) ∙ yes _ (c .if2 .left))
 
 pub span-in-range-spec : {M : Type 1} → statement M

@@ -33,8 +33,10 @@ returns-2 c =
 
 returns-3 : tie.Need-returns-3
 returns-3 c =
-    let w = c .before .before .before .before .before .before .before .before .before .args .w .now in
-    let n = c .before .before .before .before .before .before .before .piece-length in
+    let at-piece-length = c .before .before .before .before .before .before .before in
+    let start = at-piece-length .before .before in
+    let w = start .args .w .now in
+    let n = at-piece-length .piece-length in
     c .known-word3 .ensures ∙ ap knownOf (c .before .read-numeral3 .ensures) ∙ known-clamped (numeral w)
     ∙ sym (ap clampedCell (known-second w (n .result) (n .ensures) (c .before .before .if3 .taken)))
 
@@ -47,12 +49,16 @@ slice-aggregate-read-numeral c =
 
 returns-4 : tie.Need-returns-4
 returns-4 c =
-    let w = c .before .before .before .before .before .before .before .before .before .before .before .before .args .w .now in
-    let n = c .before .before .before .before .before .before .before .before .before .before .piece-length in
+    let at-if3 = c .before .before .before .before .before in
+    let at-if2 = at-if3 .before .before in
+    let at-piece-length = at-if2 .before .before .before in
+    let start = at-piece-length .before .before in
+    let w = start .args .w .now in
+    let n = at-piece-length .piece-length in
     c .span-word .ensures
     ∙ ap₂ spanOf (c .before .before .before .read-numeral4 .ensures) (c .before .read-numeral5 .ensures)
     ∙ span-clamped (numeral (take (n .result) w)) (numeral (take (length w - (n .result + 2)) (drop (n .result + 2) w)))
-    ∙ sym (ap clampedCell (both-stops w (n .result) (n .ensures) (c .before .before .before .before .before .before .before .if2 .left) (c .before .before .before .before .before .if3 .left)))
+    ∙ sym (ap clampedCell (both-stops w (n .result) (n .ensures) (at-if2 .if2 .left) (at-if3 .if3 .left)))
 
 pub spanned-spec : {M : Type 1} → statement M
 spanned-spec =

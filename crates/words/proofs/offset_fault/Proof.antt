@@ -1,10 +1,10 @@
 -- `words::offset_fault` meets its contract. The loop's invariant: the fault sought is that of the words left, the first of which has the
 -- index `index`. The measure is the length of what is left. Assumes nothing.
-use Prim.Native.Nat.{suc, _+_}
+use Prim.Native.Nat.{ℕ, suc, _+_}
 use mathlib.Core.Path.{_≡_, refl, sym, ap, _∙_}
 use native.Mathlib.Omega.{arith}
 use native.Mathlib.Numerals.{add-one}
-use lib.IntN.{pos, _+ℤ_}
+use lib.IntN.{ℤ, pos, _+ℤ_}
 use lib.ListN.{length}
 use mir.Syntax.{w32}
 use mir.ValLaws.{toZ-ofZ}
@@ -27,21 +27,35 @@ Inv-loop words numbers rest₀ index₀ rest index =
 abbrev μ-loop : tie.MeasureT-loop
 μ-loop words numbers rest₀ index₀ rest index = length rest
 
--- the instruction that is read
-instruction : (c : tie.After-known-told Inv-loop μ-loop) → Read (c .before .before .before .before .before .loop .index) (c .before .k .given .0 .0) (c .before .k .given .0 .1 .0) (wordsOf (c .before .before .before .before .before .loop .rest .now))
+-- the places of a turn: from where the instruction is known back to the loop's test, and from there to the start
+abbrev test : tie.After-known-told Inv-loop μ-loop → tie.At-loop Inv-loop μ-loop
+test c = c .before .before .before .before .before
+
+abbrev start : tie.At-loop Inv-loop μ-loop → tie.Start Inv-loop μ-loop
+start c = c .before .before .before
+
+-- the instruction that is read: its kind and its argument
+abbrev kind : tie.After-known-told Inv-loop μ-loop → ℕ
+kind c = c .before .k .given .0 .0
+
+abbrev argument : tie.After-known-told Inv-loop μ-loop → ℤ
+argument c = c .before .k .given .0 .1 .0
+
+instruction : (c : tie.After-known-told Inv-loop μ-loop) → Read (test c .loop .index) (kind c) (argument c) (wordsOf (test c .loop .rest .now))
 instruction c = head-read _ _ _ _ (sym (c .before .before .before .read-head .ensures) ∙ c .before .k .given .1)
 
 -- the test of its offset
 tested : (c : tie.After-lands Inv-loop μ-loop)
-    → lands (items (decoded (wordsOf (c .before .before .before .before .before .before .before .before .before .args .words .now)))) (itemOf (c .before .before .before .before .before .before .loop .index) (c .before .before .k .given .0 .0) (c .before .before .k .given .0 .1 .0)) (kindAt (c .before .before .k .given .0 .0) .argument) ≡ c .lands .result
+    → let i = c .before in let l = test i in
+    lands (items (decoded (wordsOf (start l .args .words .now)))) (itemOf (l .loop .index) (kind i) (argument i)) (kindAt (kind i) .argument) ≡ c .lands .result
 tested c =
-    let k = c .before .before in
-    let l = k .before .before .before .before in
-    let s = l .before .before .before in
+    let i = c .before in
+    let l = test i in
+    let s = start l in
     sym
     (c .lands .ensures
-    ∙ ap (λ z. landsIn (s .args .numbers .now) (pos (suc (l .loop .index)) +ℤ z) (kindAt (k .k .given .0 .0) .argument)) (toZ-ofZ w32 (k .k .given .0 .1 .0) (search needs))
-    ∙ lands-in (s .pre .1) (itemOf (l .loop .index) (k .k .given .0 .0) (k .k .given .0 .1 .0)) (kindAt (k .k .given .0 .0) .argument))
+    ∙ ap (λ z. landsIn (s .args .numbers .now) (pos (suc (l .loop .index)) +ℤ z) (kindAt (kind i) .argument)) (toZ-ofZ w32 (argument i) (search needs))
+    ∙ lands-in (s .pre .1) (itemOf (l .loop .index) (kind i) (argument i)) (kindAt (kind i) .argument))
 
 loop-holds : tie.Need-loop-holds Inv-loop μ-loop
 unfolding decoded
@@ -56,15 +70,15 @@ returns c =
     ahead-reads (l .loop .inv .0) (words-some (l .loop .rest .now) (c .before .before .before .loop-test .taken)) (sym (c .before .before .read-head .ensures) ∙ c .enum-told .given .1)
 
 lands-requires : tie.Need-lands-requires Inv-loop μ-loop
-lands-requires c κs = (instruction c .known, ahead-room (c .before .before .before .before .before .loop .inv .0) (instruction c))
+lands-requires c κs = (instruction c .known, ahead-room (test c .loop .inv .0) (instruction c))
 
 add-t12 : tie.Need-add-t12 Inv-loop μ-loop
-add-t12 c = let i = c .before .before in let r = ahead-room (i .before .before .before .before .before .loop .inv .0) (instruction i) in omega arith
+add-t12 c = let i = c .before .before in let r = ahead-room (test i .loop .inv .0) (instruction i) in omega arith
 
 returns-2 : tie.Need-returns-2 Inv-loop μ-loop
 returns-2 c =
     let i = c .before .before in
-    let l = i .before .before .before .before .before in
+    let l = test i in
     rw (add-one (l .loop .index)) (sym (l .loop .inv .1 ∙ offset-here _ (instruction i) (tested (c .before) ∙ not-true _ (c .if1 .taken))))
 
 after-requires : tie.Need-after-requires Inv-loop μ-loop
@@ -78,17 +92,17 @@ size-of-requires c κs = instruction (c .before .before .before) .known
 add-index : tie.Need-add-index Inv-loop μ-loop
 add-index c =
     let i = c .before .before .before .before in
-    let r = ahead-room (i .before .before .before .before .before .loop .inv .0) (instruction i) in
-    let s = size-small (i .before .k .given .0 .0) in
+    let r = ahead-room (test i .loop .inv .0) (instruction i) in
+    let s = size-small (kind i) in
     omega (arith, c .size-of .ensures)
 
 loop-less : tie.Need-loop-less Inv-loop μ-loop
-loop-less c = let s = size-small (c .before .before .before .before .before .k .given .0 .0) in omega (arith, c .before .after .ensures .1)
+loop-less c = let s = size-small (kind (c .before .before .before .before)) in omega (arith, c .before .after .ensures .1)
 
 loop-again : tie.Need-loop-again Inv-loop μ-loop
 loop-again c =
     let i = c .before .before .before .before in
-    let l = i .before .before .before .before .before in
+    let l = test i in
     let t = tested (c .before .before .before) ∙ not-false _ (c .before .before .if1 .left) in
     (ahead-next (l .loop .inv .0) (instruction i) (c .size-of .ensures) (c .before .after .ensures .0), l .loop .inv .1 ∙ offset-next _ (instruction i) t (c .size-of .ensures) (c .before .after .ensures .0))
 

@@ -1,9 +1,10 @@
 -- `words::word_fault` meets its contract. The loop's invariant: the fault sought is that of the words left, the first of which has the
 -- index `index`, after `count` instructions. The measure is the length of what is left. Assumes nothing.
-use Prim.Native.Nat.{_+_, _*_, _≤_}
+use Prim.Native.Nat.{ℕ, _+_, _*_, _≤_}
 use mathlib.Core.Path.{_≡_, sym, ap, _∙_}
 use native.Mathlib.Omega.{arith}
 use native.Mathlib.Numerals.{add-one}
+use lib.IntN.{ℤ}
 use lib.ListN.{length}
 use mir.Syntax.{w32}
 use mir.ValLaws.{toZ-ofZ}
@@ -28,19 +29,32 @@ abbrev μ-loop : tie.MeasureT-loop
 returns : tie.Need-returns Inv-loop μ-loop
 returns c = let a = c .before .before .args in sym (fault-empty (a .listed) (a .words .now) (c .if1 .taken))
 
--- the instruction that is read
-instruction : (c : tie.After-known-told Inv-loop μ-loop) → Read (c .before .before .before .before .before .loop .index) (c .before .k .given .0 .0) (c .before .k .given .0 .1 .0) (wordsOf (c .before .before .before .before .before .loop .rest .now))
+-- the places of a turn: from where the instruction is known back to the loop's test, and from there to the start
+abbrev test : tie.After-known-told Inv-loop μ-loop → tie.At-loop Inv-loop μ-loop
+test c = c .before .before .before .before .before
+
+abbrev start : tie.At-loop Inv-loop μ-loop → tie.Start Inv-loop μ-loop
+start c = c .before .before .before
+
+-- the instruction that is read: its kind and its argument
+abbrev kind : tie.After-known-told Inv-loop μ-loop → ℕ
+kind c = c .before .k .given .0 .0
+
+abbrev argument : tie.After-known-told Inv-loop μ-loop → ℤ
+argument c = c .before .k .given .0 .1 .0
+
+instruction : (c : tie.After-known-told Inv-loop μ-loop) → Read (test c .loop .index) (kind c) (argument c) (wordsOf (test c .loop .rest .now))
 instruction c = head-read _ _ _ _ (sym (c .before .before .before .read-head .ensures) ∙ c .before .k .given .1)
 
-fits : (c : tie.After-known-told Inv-loop μ-loop) → 4 * sizeOf (c .before .k .given .0 .0) ≤ length (c .before .before .before .before .before .loop .rest .now)
+fits : (c : tie.After-known-told Inv-loop μ-loop) → 4 * sizeOf (kind c) ≤ length (test c .loop .rest .now)
 fits c = head-fits _ _ _ (sym (c .before .before .before .read-head .ensures) ∙ c .before .k .given .1)
 
 -- the test of its primitive
 listed : (c : tie.After-call-listed Inv-loop μ-loop)
-    → callListed (c .before .before .before .before .before .before .before .before .before .before .args .listed) (c .before .before .before .k .given .0 .1 .0) (kindAt (c .before .before .before .k .given .0 .0) .argument) ≡ c .call-listed .result
+    → let i = c .before .before in callListed (start (test i) .args .listed) (argument i) (kindAt (kind i) .argument) ≡ c .call-listed .result
 listed c =
-    let k = c .before .before .before in
-    sym (c .call-listed .ensures ∙ ap (λ z. callListed (k .before .before .before .before .before .before .before .args .listed) z (kindAt (k .k .given .0 .0) .argument)) (toZ-ofZ w32 (k .k .given .0 .1 .0) (search needs)))
+    let i = c .before .before in
+    sym (c .call-listed .ensures ∙ ap (λ z. callListed (start (test i) .args .listed) z (kindAt (kind i) .argument)) (toZ-ofZ w32 (argument i) (search needs)))
 
 loop-holds : tie.Need-loop-holds Inv-loop μ-loop
 loop-holds c = let a = c .before .before .args in (fault-starts (a .listed) (a .words .now) (omega arith), omega arith, omega arith)
@@ -57,9 +71,9 @@ returns-2 c =
 
 returns-3 : tie.Need-returns-3 Inv-loop μ-loop
 returns-3 c =
-    let l = c .before .before .before .before .before .before in
-    let r = instruction (c .before) in
-    sym (l .loop .inv .0 ∙ fault-many _ _ r (omega arith))
+    let i = c .before in
+    let r = instruction i in
+    sym (test i .loop .inv .0 ∙ fault-many _ _ r (omega arith))
 
 call-listed-requires : tie.Need-call-listed-requires Inv-loop μ-loop
 call-listed-requires c κs = (search needs, instruction (c .before) .known)
@@ -67,7 +81,7 @@ call-listed-requires c κs = (search needs, instruction (c .before) .known)
 returns-4 : tie.Need-returns-4 Inv-loop μ-loop
 returns-4 c =
     let i = c .before .before .before in
-    let l = i .before .before .before .before .before in
+    let l = test i in
     rw (add-one (l .loop .index)) (sym (l .loop .inv .0 ∙ fault-call _ _ (instruction i) (omega arith) (listed (c .before) ∙ not-true _ (c .if3 .taken))))
 
 after-requires : tie.Need-after-requires Inv-loop μ-loop
@@ -80,19 +94,19 @@ add-index : tie.Need-add-index Inv-loop μ-loop
 add-index c =
     let i = c .before .before .before .before .before in
     let f = fits i in
-    let l = i .before .before .before .before .before in
+    let l = test i in
     omega (arith, c .size-of .ensures, l .loop .inv .1)
 
 loop-less : tie.Need-loop-less Inv-loop μ-loop
 loop-less c =
     let i = c .before .before .before .before .before in
-    let s = size-small (i .before .k .given .0 .0) in
+    let s = size-small (kind i) in
     omega (arith, c .before .after .ensures .1)
 
 loop-again : tie.Need-loop-again Inv-loop μ-loop
 loop-again c =
     let i = c .before .before .before .before .before in
-    let l = i .before .before .before .before .before in
+    let l = test i in
     let t = listed (c .before .before .before) ∙ not-false _ (c .before .before .if3 .left) in
     let n = fault-next _ (l .loop .count) (instruction i) (omega arith) t (c .size-of .ensures) (c .before .after .ensures .0) in (
       l .loop .inv .0 ∙ n,
