@@ -34,10 +34,12 @@ returns c =
 
 loop-again : tie.Need-loop-again Inv-loop μ-loop
 loop-again c =
-    let l = c .before .before .before .before .before .before in (
+    let at-loop-test = c .before .before .before .before .before in
+    let l = at-loop-test .before in
+    let start = l .before .before .before in (
       c .piece-length2 .ensures,
       omega arith,
-      l .loop .inv .2 ∙ all-next (wordTest (c .before .before .before .before .before .before .before .before .before .args .t)) (l .loop .rest .now) (l .loop .e) (l .loop .inv .0) (c .before .before .before .before .before .loop-test .taken) (sym (c .before .before .before .word-passes .ensures) ∙ not-false _ (c .before .before .if1 .left)),
+      l .loop .inv .2 ∙ all-next (wordTest (start .args .t)) (l .loop .rest .now) (l .loop .e) (l .loop .inv .0) (at-loop-test .loop-test .taken) (sym (c .before .before .before .word-passes .ensures) ∙ not-false _ (c .before .before .if1 .left)),
     )
 
 returns-2 : tie.Need-returns-2 Inv-loop μ-loop

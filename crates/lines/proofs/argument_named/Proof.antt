@@ -33,10 +33,11 @@ calls-at-requires c κs = kind-below _ (found (c .before))
 returns-2 : tie.Need-returns-2
 unfolding argumentNamed
 returns-2 c =
-    let start = c .before .before .before .before .before .before .before .before .before .before in
+    let c1 = c .before .before .before .before in
+    let start = c1 .before .before .before .before .before .before in
     let line = start .args .line .now in
     let ps = list (start .args .primitives .now) in
-    let q = found (c .before .before .before .before) in
+    let q = found c1 in
     and-true (op-known (argumentNamed ps (arg line)) line q)
     (on-taken (argumentNamed ps (arg line)) line q refl
     (arm (λ b. cond b (among (arg line) ps) true) (sym (c .before .before .calls-at .ensures) ∙ c .before .if1 .taken)
@@ -45,7 +46,8 @@ returns-2 c =
 returns-3 : tie.Need-returns-3
 unfolding argumentNamed
 returns-3 c =
-    let start = c .before .before .before .before .before .before .before .before .before in
+    let c1 = c .before .before .before .before in
+    let start = c1 .before .before .before .before .before in
     let line = start .args .line .now in
     let ps = list (start .args .primitives .now) in
     let q = found (c .before .before .before) in

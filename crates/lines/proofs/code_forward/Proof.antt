@@ -42,7 +42,8 @@ add-own c =
 
 is-above-requires : tie.Need-is-above-requires
 is-above-requires c κs =
-    let start = c .before .before .before .before .before .before .before .before .before in
+    let m = c .before .before .before in
+    let start = m .before .before .before .before .before .before in
     own-near (start .args .first) (start .args .k) (start .pre .0) (start .pre .1)
 
 returns-3 : tie.Need-returns-3

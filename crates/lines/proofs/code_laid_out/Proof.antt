@@ -29,20 +29,27 @@ returns-2 c =
 returns-3 : tie.Need-returns-3
 unfolding codeLaidOut
 returns-3 c =
-    let line = c .before .before .before .before .before .before .before .before .args .line .now in
+    let at-if2 = c .before .before .before .before in
+    let at-count-words = at-if2 .before in
+    let at-if1 = at-count-words .before in
+    let start = at-if1 .before .before in
+    let line = start .args .line .now in
     through _ _ _ _
-    (lt-ltb (c .before .before .before .before .before .before .before .before .args .k) 1024 (omega (arith, c .before .before .before .before .before .before .if1 .left)))
-    (eq-eqb (length (words line)) 3 (sym (c .before .before .before .before .before .count-words .ensures) ∙ c .before .before .before .before .if2 .left))
+    (lt-ltb (start .args .k) 1024 (omega (arith, at-if1 .if1 .left)))
+    (eq-eqb (length (words line)) 3 (sym (at-count-words .count-words .ensures) ∙ at-if2 .if2 .left))
     (sym (c .before .before .is-numeral .ensures ∙ ap (λ w. isNumeral (numeral w)) (c .before .before .before .word-at .ensures)) ∙ c .before .if3 .taken)
     (c .argument-laid-out .ensures)
 
 returns-4 : tie.Need-returns-4
 unfolding codeLaidOut
 returns-4 c =
-    let line = c .before .before .before .before .before .before .before .args .line .now in
+    let at-count-words = c .before .before .before .before in
+    let at-if1 = at-count-words .before in
+    let start = at-if1 .before .before in
+    let line = start .args .line .now in
     stop-third _ _ _ (onArgument (argumentLaidOut (arg line)) line)
-    (lt-ltb (c .before .before .before .before .before .before .before .args .k) 1024 (omega (arith, c .before .before .before .before .before .if1 .left)))
-    (eq-eqb (length (words line)) 3 (sym (c .before .before .before .before .count-words .ensures) ∙ c .before .before .before .if2 .left))
+    (lt-ltb (start .args .k) 1024 (omega (arith, at-if1 .if1 .left)))
+    (eq-eqb (length (words line)) 3 (sym (at-count-words .count-words .ensures) ∙ c .before .before .before .if2 .left))
     (sym (c .before .is-numeral .ensures ∙ ap (λ w. isNumeral (numeral w)) (c .before .before .word-at .ensures)) ∙ c .if3 .left)
 
 pub code-laid-out-spec : {M : Type 1} → statement M

@@ -23,22 +23,26 @@ is-within-requires-2 c κs = near-range 0 65535 (omega arith) (omega arith) (c .
 
 returns-2 : tie.Need-returns-2
 returns-2 c =
-    let k = c .before .before .before .before .before .before in
-    let a = k .before .before .before .before .args in
+    let at-if1 = c .before .before .before .before .before in
+    let k = at-if1 .before in
+    let start = k .before .before .before .before in
+    let a = start .args in
     c .is-within2 .ensures
     ∙ ap (λ r. within r (value (a .w .now)))
-    (c .before .extra-counts2 .ensures ∙ sym (range-second (a .name .now) (sym (k .same .ensures) ∙ c .before .before .before .before .before .if1 .left) (sym (c .before .before .before .same2 .ensures) ∙ c .before .before .if2 .taken)))
+    (c .before .extra-counts2 .ensures ∙ sym (range-second (a .name .now) (sym (k .same .ensures) ∙ at-if1 .if1 .left) (sym (c .before .before .before .same2 .ensures) ∙ c .before .before .if2 .taken)))
 
 is-within-requires-3 : tie.Need-is-within-requires-3
 is-within-requires-3 c κs = near-range 0 0 (omega arith) (omega arith) (c .no-extra .ensures)
 
 returns-3 : tie.Need-returns-3
 returns-3 c =
-    let k = c .before .before .before .before .before .before in
-    let a = k .before .before .before .before .args in
+    let at-if1 = c .before .before .before .before .before in
+    let k = at-if1 .before in
+    let start = k .before .before .before .before in
+    let a = start .args in
     c .is-within3 .ensures
     ∙ ap (λ r. within r (value (a .w .now)))
-    (c .before .no-extra .ensures ∙ sym (range-other (a .name .now) (sym (k .same .ensures) ∙ c .before .before .before .before .before .if1 .left) (sym (c .before .before .before .same2 .ensures) ∙ c .before .before .if2 .left)))
+    (c .before .no-extra .ensures ∙ sym (range-other (a .name .now) (sym (k .same .ensures) ∙ at-if1 .if1 .left) (sym (c .before .before .before .same2 .ensures) ∙ c .before .before .if2 .left)))
 
 pub extra-in-range-spec : {M : Type 1} → statement M
 extra-in-range-spec =

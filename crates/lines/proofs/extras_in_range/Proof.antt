@@ -43,11 +43,15 @@ returns c =
 
 loop-again : tie.Need-loop-again Inv-loop μ-loop
 loop-again c =
-    let l = c .before .before .before .before .before .before .before .before .loop in (
+    let at-extra-in-range = c .before .before .before .before in
+    let at-word-at = at-extra-in-range .before .before in
+    let at-loop-test = at-word-at .before in
+    let at-loop = at-loop-test .before in
+    let l = at-loop .loop in (
       c .piece-length2 .ensures,
       omega arith,
       l .inv .2
-          ∙ extras-next (words (l .above .now)) (l .rest .now) (l .e) (l .inv .0) (c .before .before .before .before .before .before .before .loop-test .taken) (named (l .above .now) _ _ (c .before .before .before .before .before .before .word-at .ensures) (sym (c .before .before .before .before .extra-in-range .ensures) ∙ not-false _ (c .before .before .before .if1 .left)))
+          ∙ extras-next (words (l .above .now)) (l .rest .now) (l .e) (l .inv .0) (at-loop-test .loop-test .taken) (named (l .above .now) _ _ (at-word-at .word-at .ensures) (sym (at-extra-in-range .extra-in-range .ensures) ∙ not-false _ (c .before .before .before .if1 .left)))
           ∙ sym (c .before .before .next-names .ensures _),
     )
 

@@ -20,8 +20,11 @@ is-within-requires-2 c κs = near-range 1 4000000000 (omega arith) (omega arith)
 returns : tie.Need-returns
 unfolding columnInRange
 returns c =
-    and-true (sym (c .before .before .before .is-within .ensures ∙ ap₂ (λ r w. within r (value w)) (c .before .before .before .before .budgets .ensures) (c .before .before .before .before .before .before .listed-at .ensures)) ∙ c .before .before .if1 .taken)
-    (c .is-within2 .ensures ∙ ap₂ (λ r w. within r (value w)) (c .before .ticks .ensures) (c .before .before .before .before .before .listed-at2 .ensures))
+    let at-budgets = c .before .before .before .before in
+    let at-listed-at2 = at-budgets .before in
+    let at-listed-at = at-listed-at2 .before in
+    and-true (sym (c .before .before .before .is-within .ensures ∙ ap₂ (λ r w. within r (value w)) (at-budgets .budgets .ensures) (at-listed-at .listed-at .ensures)) ∙ c .before .before .if1 .taken)
+    (c .is-within2 .ensures ∙ ap₂ (λ r w. within r (value w)) (c .before .ticks .ensures) (at-listed-at2 .listed-at2 .ensures))
 
 returns-2 : tie.Need-returns-2
 unfolding columnInRange
