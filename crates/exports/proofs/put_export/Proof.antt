@@ -15,7 +15,11 @@ array-share-prefix-indices : tie.Need-array-share-prefix-indices
 array-share-prefix-indices c = omega (arith, code-ready _ (c .before .before .before .before .before .before .before .before .pre .0) _ (c .before .before .before .before .body-of .ensures) _ (c .before .before .count-code .ensures) .0)
 
 slice-aggregate-put-lines : tie.Need-slice-aggregate-put-lines
-slice-aggregate-put-lines c = sym (indices-count _ (c .before .before .before .before .before .before .before .before .before .pre .0) _ (c .before .before .before .before .before .body-of .ensures) _ (c .before .before .before .count-code .ensures) _ (c .before .before .before .before .first-address .ensures) _ (c .before .before .indices-of .ensures))
+slice-aggregate-put-lines c =
+    let at-first-address = c .before .before .before .before in
+    let at-body-of = at-first-address .before in
+    let start = at-body-of .before .before .before .before in
+    sym (indices-count _ (start .pre .0) _ (at-body-of .body-of .ensures) _ (c .before .before .before .count-code .ensures) _ (at-first-address .first-address .ensures) _ (c .before .before .indices-of .ensures))
 
 put-lines-requires : tie.Need-put-lines-requires
 put-lines-requires c κs =

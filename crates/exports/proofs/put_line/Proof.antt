@@ -25,19 +25,24 @@ returns : tie.Need-returns
 unfolding bytesOf
 returns c =
     let p2 = c .before .before in
-    let z = p2 .before .before .before in
-    let p1 = z .before .before .before .before .before .before in
-    let k = p1 .before .before .before in
+    let at-word-of = p2 .before in
+    let z = at-word-of .before .before in
+    let at-word-at = z .before in
+    let at-if1 = at-word-at .before in
+    let at-has-argument = at-if1 .before in
+    let p1 = at-has-argument .before .before .before in
+    let at-opcode-at = p1 .before in
+    let k = at-opcode-at .before .before in
     let s = k .before .before .before .before .before in
     let a = s .args in
-    let l = line-with (list (a .primitives .now)) (a .indices .now) (a .first) (a .index) (a .line .now) (k .kind-of .ensures .0) (p1 .before .opcode-at .ensures)
-    (sym (z .before .before .before .has-argument .ensures) ∙ z .before .before .if1 .taken) (z .before .word-at .ensures)
+    let l = line-with (list (a .primitives .now)) (a .indices .now) (a .first) (a .index) (a .line .now) (k .kind-of .ensures .0) (at-opcode-at .opcode-at .ensures)
+    (sym (at-has-argument .has-argument .ensures) ∙ at-if1 .if1 .taken) (at-word-at .word-at .ensures)
     (toZ-ofZ w32 (z .argument-word .result) (search needs) ∙ z .argument-word .ensures) in
     let w0 = wrote-none (a .out .now) (4 * a .index) (omega (arith, s .pre .1)) in
-    let w1 = wrote-more w0 (bytesOf (p1 .before .opcode-at .result)) (p1 .put-word .ensures) in
-    let w2 = wrote-more w1 (bytesOf (p2 .before .word-of .result)) (p2 .put-word2 .ensures) in (
+    let w1 = wrote-more w0 (bytesOf (at-opcode-at .opcode-at .result)) (p1 .put-word .ensures) in
+    let w2 = wrote-more w1 (bytesOf (at-word-of .word-of .result)) (p2 .put-word2 .ensures) in (
       omega (arith, l .1),
-      w2 .holds ∙ ap (λ r. over (a .out .now) (4 * a .index) (bytesOf (p1 .before .opcode-at .result) ++ bytesOf r)) (p2 .before .word-of .ensures) ∙ ap (over (a .out .now) (4 * a .index)) (sym (l .0)),
+      w2 .holds ∙ ap (λ r. over (a .out .now) (4 * a .index) (bytesOf (at-opcode-at .opcode-at .result) ++ bytesOf r)) (at-word-of .word-of .ensures) ∙ ap (over (a .out .now) (4 * a .index)) (sym (l .0)),
     )
 
 returns-2 : tie.Need-returns-2

@@ -40,10 +40,12 @@ put-line-requires c κs =
 
 loop-again : tie.Need-loop-again Inv-loop μ-loop
 loop-again c =
-    let l = c .before .before .before .before .before .before .before .loop in
-    let s = c .before .before .before .before .before .before .before .before .before .before .before .before in
+    let at-first-line = c .before .before .before .before .before in
+    let at-loop = at-first-line .before .before in
+    let s = at-loop .before .before .before .before .before in
+    let l = at-loop .loop in
     let ls = lines (s .args .body .now) in
-    let f = c .before .before .before .before .before .first-line in
+    let f = at-first-line .first-line in
     let p = c .before .before .before .put-line in
     let ps = list (s .args .primitives .now) in
     let n = length (s .args .indices .now) in
