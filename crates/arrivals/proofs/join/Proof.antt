@@ -10,9 +10,11 @@ use Rattle.arrivals.proofs.join.Tie as tie
 
 returns : tie.Need-returns
 returns c =
-    let start = c .before .before .before .before .before .before .before .before .before .before .before .before .before .before .before .before in
+    let at-put = c .before .before .before .before .before .before in
+    let c1 = at-put .before .before .before .before .before in
+    let start = c1 .before .before .before .before .before in
     let a = start .args in
-    let p = c .before .before .before .before .before .before .put in
+    let p = at-put .put in
     let ns = a .sizes .now in
     let at = a .w .state .at in
     let m : getD (a .head .now) 0 0 ≡ 0 = search needs in
@@ -22,13 +24,17 @@ returns c =
 
 returns-2 : tie.Need-returns-2
 returns-2 c =
-    let start = c .before .before .before .before .before .before .before .before .before .before .before .before .before .before .before .before .before .before .before .before .before .before .before .before .before .before .before in
+    let at-meet = c .before .before .before .before .before .before in
+    let c1 = at-meet .before .before .before .before .before in
+    let at-put2 = c1 .before .before .before .before .before in
+    let at-if2 = at-put2 .before .before .before .before in
+    let start = at-if2 .before .before .before .before .before .before .before in
     let a = start .args in
-    let p = c .before .before .before .before .before .before .before .before .before .before .before .before .before .before .before .before .put2 in
+    let p = at-put2 .put2 in
     let ns = a .sizes .now in
     let at = a .w .state .at in
-    let m : getD (a .head .now) 0 0 ≡ 1 = c .before .before .before .before .before .before .before .before .before .before .before .before .before .before .before .before .before .before .before .before .if2 .taken in
-    c .before .before .before .before .before .before .meet .ensures at at
+    let m : getD (a .head .now) 0 0 ≡ 1 = at-if2 .if2 .taken in
+    at-meet .meet .ensures at at
     ∙ next-joined _ _ _ _ (arrivalOf ns (a .w)) (p .ensures .1 ns (start .pre .1 .1))
     ∙ ap (λ (s : Slot). join s (arrivalOf ns (a .w))) (sym (slot-held ns at (a .head .now) (a .entries .now) (a .fields .now) m))
 

@@ -12,8 +12,10 @@ use Rattle.arrivals.proofs.meet.Tie as tie
 
 returns : tie.Need-returns
 returns c =
-    let start = c .before .before .before .before .before .before .before .before .before .before .before .before .before .before .before .before .before .before in
-    let m = c .before .before .before .before .before .before .before .merge-states in
+    let at-merge-states = c .before .before .before .before .before .before .before in
+    let c1 = at-merge-states .before .before .before .before .before in
+    let start = c1 .before .before .before .before .before .before in
+    let m = at-merge-states .merge-states in
     let n : length (m .last .0) ≡ 5 = omega arith in
     λ x y.
     row-unlike _ x (m .last .0) _ _ _ _ n
@@ -24,13 +26,16 @@ slice-write-head-3 c = simp length-set (omega arith)
 
 returns-2 : tie.Need-returns-2
 returns-2 c =
-    let start = c .before .before .before .before .before .before .before .before .before .before .before .before .before .before .before .before .before .before .before .before .before .before .before .before in
+    let at-if1 = c .before .before .before .before .before .before in
+    let at-merge-states = at-if1 .before .before .before .before .before .before .before in
+    let c1 = at-merge-states .before .before .before .before .before in
+    let start = c1 .before .before .before .before .before .before in
     let a = start .args in
-    let m = c .before .before .before .before .before .before .before .before .before .before .before .before .before .merge-states in
+    let m = at-merge-states .merge-states in
     let n : length (m .last .0) ≡ 5 = omega arith in
     λ x y.
     row-met _ x (a .head .now) (m .last .0) _ _ (a .h .now) _ _ _ (start .pre .0 .0) n (m .ensures .1) (start .pre .3) (c .before .before .before .larger .ensures) (c .larger2 .ensures)
-    (ap (λ (b : Bool). ofStates (start .args .sizes .now) x b (m .last .0) (m .last .1 .0) (m .last .1 .1 .0)) (sym (not-false (m .result) (c .before .before .before .before .before .before .if1 .left))) ∙ m .ensures .0 x y)
+    (ap (λ (b : Bool). ofStates (start .args .sizes .now) x b (m .last .0) (m .last .1 .0) (m .last .1 .1 .0)) (sym (not-false (m .result) (at-if1 .if1 .left))) ∙ m .ensures .0 x y)
 
 pub meet-spec : {M : Type 1} → statement M
 meet-spec =

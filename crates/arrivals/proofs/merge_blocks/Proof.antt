@@ -64,8 +64,9 @@ merge-cells-requires c κs =
 same-length : tie.Need-same-length Inv-loop μ-loop
 same-length c =
     let m = c .before .before .before in
-    let l = m .before .before .before .before .before .loop in
-    let start = m .before .before .before .before .before .before .before .before .before in
+    let at-loop = m .before .before .before .before .before in
+    let start = at-loop .before .before .before .before in
+    let l = at-loop .loop in
     let z = l .k * 16 + getD (start .args .sizes .now) (l .k) 0 - l .k * 16 in
     let n : length (m .merge-cells .last .0) ≡ length (take z (drop (l .k * 16) (l .held))) = c .before .before .held .given .0 in
     same-len-mid (l .k * 16) z (l .held) (m .merge-cells .last .0) n ∙ l .inv .1 ∙ sym (start .pre .0)
@@ -73,8 +74,9 @@ same-length c =
 returns : tie.Need-returns Inv-loop μ-loop
 returns c =
     let m = c .before .before .before in
-    let l = m .before .before .before .before .before .loop in
-    let start = m .before .before .before .before .before .before .before .before .before in
+    let at-loop = m .before .before .before .before .before in
+    let start = at-loop .before .before .before .before in
+    let l = at-loop .loop in
     let a = start .args in
     let s = getD (a .sizes .now) (l .k) 0 in
     let e : l .k * 16 + s - l .k * 16 ≡ s = omega arith in
@@ -83,8 +85,9 @@ returns c =
 loop-again : tie.Need-loop-again Inv-loop μ-loop
 loop-again c =
     let m = c .before .before .before in
-    let l = m .before .before .before .before .before .loop in
-    let start = m .before .before .before .before .before .before .before .before .before in
+    let at-loop = m .before .before .before .before .before in
+    let start = at-loop .before .before .before .before in
+    let l = at-loop .loop in
     let a = start .args in
     let s = getD (a .sizes .now) (l .k) 0 in
     let z = l .k * 16 + s - l .k * 16 in

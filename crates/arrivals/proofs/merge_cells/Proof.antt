@@ -38,18 +38,26 @@ same-length c = c .before .before .before .before .before .before .before .befor
 returns : tie.Need-returns Inv-loop μ-loop
 returns c =
     let m = c .before .before in
-    let l = m .before .before .before .before .before .before .loop in
-    let came = m .before .before .before .before .before .before .before .before .before .args .came .now in
-    let e = ap ofOperand (sym (c .enum-told .given .1)) ∙ m .merge .ensures ∙ ap₂ mergeCells (m .before .before .before .decode .ensures) (m .before .decode2 .ensures) ∙ sym (ap₂ mergeCells (cells-at (l .held) (l .i)) (cells-at came (l .i))) in
+    let at-decode = m .before .before .before in
+    let at-loop = at-decode .before .before .before in
+    let start = at-loop .before .before .before in
+    let l = at-loop .loop in
+    let came = start .args .came .now in
+    let e = ap ofOperand (sym (c .enum-told .given .1)) ∙ m .merge .ensures ∙ ap₂ mergeCells (at-decode .decode .ensures) (m .before .decode2 .ensures) ∙ sym (ap₂ mergeCells (cells-at (l .held) (l .i)) (cells-at came (l .i))) in
     sym (none-merged mergeCells (cellOf 0) _ (cellsOf (l .held)) (cellsOf came) (l .i) (rw cells-length (omega arith)) (rw cells-length (omega arith)) e (l .inv .2))
 
 loop-again : tie.Need-loop-again Inv-loop μ-loop
 loop-again c =
-    let m = c .before .before .before .before in
-    let l = m .before .before .before .before .before .before .loop in
-    let came = m .before .before .before .before .before .before .before .before .before .args .came .now in
-    let kept = merged-confined (decoded-confined _ (m .before .before .before .decode .ensures)) (decoded-confined _ (m .before .decode2 .ensures)) (ap ofOperand (sym (c .before .before .merged .given .1)) ∙ m .merge .ensures) .stays in
-    let e = ap done (c .encode .ensures ∙ kept) ∙ ap ofOperand (sym (c .before .before .merged .given .1)) ∙ m .merge .ensures ∙ ap₂ mergeCells (m .before .before .before .decode .ensures) (m .before .decode2 .ensures) ∙ sym (ap₂ mergeCells (cells-at (l .held) (l .i)) (cells-at came (l .i))) in (
+    let at-merged = c .before .before in
+    let m = at-merged .before .before in
+    let at-decode2 = m .before in
+    let at-decode = at-decode2 .before .before in
+    let at-loop = at-decode .before .before .before in
+    let start = at-loop .before .before .before in
+    let l = at-loop .loop in
+    let came = start .args .came .now in
+    let kept = merged-confined (decoded-confined _ (at-decode .decode .ensures)) (decoded-confined _ (at-decode2 .decode2 .ensures)) (ap ofOperand (sym (at-merged .merged .given .1)) ∙ m .merge .ensures) .stays in
+    let e = ap done (c .encode .ensures ∙ kept) ∙ ap ofOperand (sym (at-merged .merged .given .1)) ∙ m .merge .ensures ∙ ap₂ mergeCells (at-decode .decode .ensures) (at-decode2 .decode2 .ensures) ∙ sym (ap₂ mergeCells (cells-at (l .held) (l .i)) (cells-at came (l .i))) in (
       omega arith,
       rw length-set (l .inv .1),
       rw cells-set

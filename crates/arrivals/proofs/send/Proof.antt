@@ -22,7 +22,8 @@ returns-2 c =
 
 join-requires : tie.Need-join-requires
 join-requires c κs =
-    let start = c .before .before .before .before .before .before .before .before .before .before in
+    let c1 = c .before .before .before .before .before in
+    let start = c1 .before .before .before .before .before in
     let a = start .args in
     let k = a .w .state .at - a .first in
     let few : k < 1025 = omega arith in (
@@ -33,10 +34,12 @@ join-requires c κs =
 
 returns-3 : tie.Need-returns-3
 returns-3 c =
-    let start = c .before .before .before .before .before .before .before .before .before .before .before .before .before .before .before .before .before in
+    let at-join = c .before .before .before .before .before .before in
+    let c1 = at-join .before .before .before .before .before in
+    let start = c1 .before .before .before .before .before .before in
     let a = start .args in
     let k = a .w .state .at - a .first in
-    let j = c .before .before .before .before .before .before .join in
+    let j = at-join .join in
     let hs = a .heads .now in
     let es = a .entries .now in
     let fs = a .fields .now in

@@ -7,16 +7,18 @@ use Rattle.arrivals.proofs.take.Tie as tie
 
 returns : tie.Need-returns
 returns c =
-    let start = c .before .before .before .before .before .before .before .before .before .before .before in
+    let at-unused = c .before .before .before .before in
+    let at-decode = at-unused .before .before in
+    let start = at-decode .before .before .before .before .before in
     let a = start .args in
-    let free = c .before .before .before .before .unused .ensures in
+    let free = at-unused .unused .ensures in
     let stack = c .before .before .before .decode-stack .ensures in
     let blocks = c .before .before .decode-fields .ensures in (
-      λ ns. take-holds (a .at) (a .head .now) (a .entries .now) (a .fields .now) _ _ _ _ free stack blocks ns (c .before .before .before .before .before .before .decode .ensures),
+      λ ns. take-holds (a .at) (a .head .now) (a .entries .now) (a .fields .now) _ _ _ _ free stack blocks ns (at-decode .decode .ensures),
       (
         (
           take-formed (a .at) (a .head .now) (a .entries .now) (a .fields .now) _ _ _ _ free stack blocks (start .pre .1) (start .pre .2),
-          λ ns. take-numeric (a .at) (a .head .now) (a .entries .now) (a .fields .now) _ _ _ _ free stack blocks ns (c .before .before .before .before .before .before .decode .ensures),
+          λ ns. take-numeric (a .at) (a .head .now) (a .entries .now) (a .fields .now) _ _ _ _ free stack blocks ns (at-decode .decode .ensures),
         ),
         refl,
       ),
