@@ -27,17 +27,27 @@ returns c =
 
 returns-2 : tie.Need-returns-2
 returns-2 c =
-    let s = c .before .before .before .before .before .before .before .before in
+    let at-p2 = c .before .before .before .before .before in
+    let s = at-p2 .before .before .before in
     let w = whole (s .args .sizes .now) (s .args .t3) (s .args .t2) in
-    let e = ap (λ h. slot (s .args .sizes .now) h (c .before .before .before .before .before .p2 .given .0 .1 .0)) (sym (c .before .before .before .handle .ensures)) ∙ sym (c .before .before .slot-of .ensures) ∙ ap ofSlot (c .enum-told2 .given .1) in
-    sym (ap (λ q. numberAt q w) (c .before .before .before .before .before .p2 .given .1) ∙ number-out _ w (field-lacks _ _ _ (s .pre .1) _ _ e))
+    let e = ap (λ h. slot (s .args .sizes .now) h (at-p2 .p2 .given .0 .1 .0)) (sym (c .before .before .before .handle .ensures)) ∙ sym (c .before .before .slot-of .ensures) ∙ ap ofSlot (c .enum-told2 .given .1) in
+    sym (ap (λ q. numberAt q w) (at-p2 .p2 .given .1) ∙ number-out _ w (field-lacks _ _ _ (s .pre .1) _ _ e))
 
 -- the slot that was found
-found : (c : tie.After-known-told3) → slot (c .before .before .before .before .before .before .before .before .before .args .sizes .now) (handle (c .before .before .before .before .before .before .p2 .given .0 .0)) (c .before .before .before .before .before .before .p2 .given .0 .1 .0) ≡ done (c .before .field .given .0 .0)
-found c = ap (λ h. slot (c .before .before .before .before .before .before .before .before .before .args .sizes .now) h (c .before .before .before .before .before .before .p2 .given .0 .1 .0)) (sym (c .before .before .before .before .handle .ensures)) ∙ sym (c .before .before .before .slot-of .ensures) ∙ ap ofSlot (c .before .field .given .1)
+found : (c : tie.After-known-told3)
+    → let at-p2 = c .before .before .before .before .before .before in
+    slot (at-p2 .before .before .before .args .sizes .now) (handle (at-p2 .p2 .given .0 .0)) (at-p2 .p2 .given .0 .1 .0) ≡ done (c .before .field .given .0 .0)
+found c =
+    let at-handle = c .before .before .before .before in
+    let at-p2 = at-handle .before .before in
+    let start = at-p2 .before .before .before in
+    ap (λ h. slot (start .args .sizes .now) h (at-p2 .p2 .given .0 .1 .0)) (sym (at-handle .handle .ensures)) ∙ sym (c .before .before .before .slot-of .ensures) ∙ ap ofSlot (c .before .field .given .1)
 
 within : (c : tie.After-known-told3) → c .before .field .given .0 .0 < 128
-within c = let s = c .before .before .before .before .before .before .before .before .before in omega (arith, slot-in _ (s .args .t3) (s .args .t2) (s .pre .1) _ _ _ (found c), places s)
+within c =
+    let c1 = c .before .before .before .before in
+    let s = c1 .before .before .before .before .before in
+    omega (arith, slot-in _ (s .args .t3) (s .args .t2) (s .pre .1) _ _ _ (found c), places s)
 
 mul-single-of-2 : tie.Need-mul-single-of-2
 mul-single-of-2 c = omega (arith, within c)
@@ -59,9 +69,10 @@ returns-4 c =
 
 returns-5 : tie.Need-returns-5
 returns-5 c =
-    let s = c .before .before .before .before .before .before .before .before .before .before .before in
+    let at-p2 = c .before .before .before .before .before .before .before .before in
+    let s = at-p2 .before .before .before in
     let w = whole (s .args .sizes .now) (s .args .t3) (s .args .t2) in
-    c .single-of3 .ensures ∙ sym (ap (λ q. numberAt q w) (c .before .before .before .before .before .before .before .before .p2 .given .1) ∙ number-in _ w _ (field-there _ _ _ (s .pre .1) _ _ _ _ (found (c .before .before))))
+    c .single-of3 .ensures ∙ sym (ap (λ q. numberAt q w) (at-p2 .p2 .given .1) ∙ number-in _ w _ (field-there _ _ _ (s .pre .1) _ _ _ _ (found (c .before .before))))
 
 pub number-at-spec : {M : Type 1} → statement M
 number-at-spec =

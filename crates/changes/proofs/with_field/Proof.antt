@@ -18,20 +18,30 @@ places : (s : tie.Start) → length (s .args .t3) ≡ 128
 places s = search (needs, length-images)
 
 -- the slot that was found
-found : (c : tie.After-known-told2) → slot (c .before .before .before .before .before .before .before .before .before .args .sizes .now) (handle (c .before .before .before .before .before .before .p .given .0 .0)) (c .before .before .before .before .before .before .p .given .0 .1 .0) ≡ done (c .before .field .given .0 .0)
-found c = ap (λ h. slot (c .before .before .before .before .before .before .before .before .before .args .sizes .now) h (c .before .before .before .before .before .before .p .given .0 .1 .0)) (sym (c .before .before .before .before .handle .ensures)) ∙ sym (c .before .before .before .slot-of .ensures) ∙ ap ofSlot (c .before .field .given .1)
+found : (c : tie.After-known-told2)
+    → let at-p = c .before .before .before .before .before .before in
+    slot (at-p .before .before .before .args .sizes .now) (handle (at-p .p .given .0 .0)) (at-p .p .given .0 .1 .0) ≡ done (c .before .field .given .0 .0)
+found c =
+    let at-handle = c .before .before .before .before in
+    let at-p = at-handle .before .before in
+    let start = at-p .before .before .before in
+    ap (λ h. slot (start .args .sizes .now) h (at-p .p .given .0 .1 .0)) (sym (at-handle .handle .ensures)) ∙ sym (c .before .before .before .slot-of .ensures) ∙ ap ofSlot (c .before .field .given .1)
 
 within : (c : tie.After-known-told2) → c .before .field .given .0 .0 < 128
-within c = let s = c .before .before .before .before .before .before .before .before .before in omega (arith, slot-in _ (s .args .t3) (s .args .start) (s .pre .1) _ _ _ (found c), places s)
+within c =
+    let c1 = c .before .before .before .before in
+    let s = c1 .before .before .before .before .before in
+    omega (arith, slot-in _ (s .args .t3) (s .args .start) (s .pre .1) _ _ _ (found c), places s)
 
 enum-told : tie.Need-enum-told
 enum-told c = search needs
 
 returns : tie.Need-returns
 returns c =
-    let s = c .before .before .before .before .before .before .before .before in
-    let e = ap (λ h. slot (s .args .sizes .now) h (c .before .before .before .before .before .p .given .0 .1 .0)) (sym (c .before .before .before .handle .ensures)) ∙ sym (c .before .before .slot-of .ensures) ∙ ap ofSlot (c .enum-told3 .given .1) in
-    field-present (s .args .sizes .now) (s .args .t3) (s .args .start) (s .pre .1) _ _ (subst (λ q. Present q (whole (s .args .sizes .now) (s .args .t3) (s .args .start))) (c .before .before .before .before .before .p .given .1) (s .pre .2)) e
+    let at-p = c .before .before .before .before .before in
+    let s = at-p .before .before .before in
+    let e = ap (λ h. slot (s .args .sizes .now) h (at-p .p .given .0 .1 .0)) (sym (c .before .before .before .handle .ensures)) ∙ sym (c .before .before .slot-of .ensures) ∙ ap ofSlot (c .enum-told3 .given .1) in
+    field-present (s .args .sizes .now) (s .args .t3) (s .args .start) (s .pre .1) _ _ (subst (λ q. Present q (whole (s .args .sizes .now) (s .args .t3) (s .args .start))) (at-p .p .given .1) (s .pre .2)) e
 
 mul-fields : tie.Need-mul-fields
 mul-fields c = omega (arith, within c)
@@ -51,10 +61,11 @@ returns-3 c =
 
 returns-4 : tie.Need-returns-4
 returns-4 c =
-    let s = c .before .before .before .before .before .before .before .before .before in
+    let at-p = c .before .before .before .before .before .before in
+    let s = at-p .before .before .before in
     let j = c .before .field .given .0 .0 in
     let w = whole (s .args .sizes .now) (s .args .t3) (s .args .start) in
-    (field-set (s .args .sizes .now) (s .args .t3) (s .args .start) (s .pre .1) _ _ j (s .args .c) (found c) ∙ ap (λ q. replaceAt q (s .args .c) w .blocks) (sym (c .before .before .before .before .before .before .p .given .1)), length-set (s .args .t3) j (s .args .c))
+    (field-set (s .args .sizes .now) (s .args .t3) (s .args .start) (s .pre .1) _ _ j (s .args .c) (found c) ∙ ap (λ q. replaceAt q (s .args .c) w .blocks) (sym (at-p .p .given .1)), length-set (s .args .t3) j (s .args .c))
 
 pub with-field-spec : {M : Type 1} → statement M
 with-field-spec =
