@@ -19,12 +19,11 @@ use Rattle.bounds.specs.Tree as verdicts
 use Rattle.bounds.specs.Run.{run}
 use Rattle.bounds.specs.Promises.{NoGreater, SinglePass}
 use Rattle.bounds.proofs.PromiseLaws.{interruptible, bound-exact, run-within-bound}
-use Rattle.bounds.proofs.FigureLaws.{bound-bounded, run-bounded}
 use Rattle.bounds.proofs.PlaceLaws.{bound-place, run-place}
 use Rattle.bounds.proofs.ForwardLaws.{forward-once}
-use Rattle.merges.specs.Merge.{merged, span}
+use Rattle.merges.specs.Merge.{merged}
 use Rattle.merges.proofs.Theorems.{merged-interruptible, merged-exact}
-use Rattle.merges.proofs.FigureLaws.{merged-bounded, merged-place}
+use Rattle.merges.proofs.FigureLaws.{merged-place}
 use Rattle.routine.specs.Layout.{body, codeLines}
 use Rattle.routine.specs.Routine.{Routine, Reading, routineOf, readBound, readRun}
 use Rattle.routine.specs.Routine as readings
@@ -35,18 +34,19 @@ use Rattle.routine.proofs.PlaceLaws.{read-bound-place, read-run-place, confined
 use Rattle.routine.proofs.SpellingLaws.{accepted-ascii}
 use Rattle.routine.proofs.AnswerLaws.{SameButAnswers, same-but-answers}
 use Rattle.report.specs.Report.{boundText, runText}
-use Rattle.report.proofs.ReportLaws.{bound-fits, run-fits}
-use Rattle.answers.specs.Answers.{Answer, reported, refused, memoryLimit, ofReading, answerOf}
+use Rattle.report.proofs.ReportLaws.{bound-small, bound-fits, run-fits}
+use Rattle.answers.specs.Answers.{Answer, reported, refused, memoryLimit, ofReading, answerOf, reportLength}
 use Rattle.answers.proofs.AnswerLaws.{never, from-reading, place-from}
 use Rattle.conversions.proofs.FunctionLaws.{import-reported, import-place, export-reported, export-place}
 use Rattle.conformance.proofs.FunctionLaws.{replay-reported, replay-place}
-use Rattle.explanations.proofs.SizeLaws.{code-length, bound-small, priced, low, within, ticks}
+use Rattle.evaluations.proofs.SizeLaws.{code-length, ticks, bound-limited, merged-limited, run-limited}
 use Rattle.patches.specs.Patch.{inCode, patched}
 use Rattle.analyser.specs.Answers.{ofVerdict, boundRoutine, mergeRoutine, runRoutine, boundAnswer, mergeAnswer, runAnswer, previewAnswer}
 use Rattle.sensitivity.proofs.FunctionLaws.{nearest-reported, nearest-place}
 use Rattle.generating.proofs.FunctionLaws.{generate-reported, generate-place}
-use Rattle.analyser.specs.Functions.{reportLength}
-use Rattle.analyser.specs.Promises.{BoundReported, MergeReported, WithinReport, RunAccepted, FilledIn, ReportsKept, MergesKept, RunsKept, AnswersIrrelevant, PassingIsAscii, PassingIsSinglePass, ReportsFit, PlacesSmall, PreviewsKept}
+use Rattle.decide_entry.specs.Answers.{decideRoutine, decideAnswer}
+use Rattle.decide_entry.proofs.PromiseLaws.{decided-refused, decide-reported, decide-place}
+use Rattle.analyser.specs.Promises.{BoundReported, MergeReported, WithinReport, RunAccepted, FilledIn, ReportsKept, MergesKept, RunsKept, AnswersIrrelevant, PassingIsAscii, PassingIsSinglePass, ReportsFit, PlacesSmall, PreviewsKept, DecisionRefused}
 
 -- ---- what a report comes from
 
@@ -165,10 +165,6 @@ passing-is-single-pass text x (inr e) = let p = run-passes text x e in rw (p .2)
 
 -- ---- 128 bytes, and 32,768
 
-module _ (text : List ℕ) (x : Routine) (passes : Passes (lines text)) (is : x ≡ routineOf (lines text)) where
-  spanned : span (x .code) (x .start) ≤ 1000000
-  spanned = let h = rw (← is) at (confined (lines text) passes .past) in omega arith
-
 pub reports-fit : ReportsFit
 unfolding boundAnswer boundRoutine mergeAnswer mergeRoutine runAnswer runRoutine
 reports-fit = (
@@ -181,6 +177,7 @@ reports-fit = (
   λ text instruction address n bs e. of-bound (patched (lines text) address instruction) n bs (preview-bound text instruction address n bs e),
   λ text n bs e. let r = nearest-reported text n bs e in (r .1, r .2),
   λ seed n bs e. let r = generate-reported seed n bs e in (r .1, r .2),
+  λ text n bs e. let r = decide-reported text n bs e in (r .1, r .2),
 )
   where
     of-bound : (text : List ℕ) (n : ℕ) (bs : List ℕ) → boundAnswer text n ≡ reported bs → (length bs ≤ memoryLimit) × (memoryLimit ≤ n)
@@ -189,8 +186,7 @@ reports-fit = (
         let x = a .routine in
         let v = from-verdict (boundText (x .tick)) (bound (x .code) (x .budget) (x .start)) bs (a .gives) in
         let p = read-passes text x (a .reads) in
-        let b = bound-bounded 196605 510 (x .code) (priced text x (p .0) (p .1)) (x .budget) (x .start) (low text x (p .0) (p .1)) (v .report) (v .accepts) in
-        let s = bound-small (x .tick) (x .budget) (v .report) (ticks text x (p .0) (p .1)) (within text x (p .0) (p .1)) b in
+        let s = bound-small (x .tick) (v .report) (ticks text x (p .0) (p .1)) (bound-limited text x (p .0) (p .1) (v .report) (v .accepts)) in
         (rw (← v .prints) (bound-fits (x .tick) (v .report) s), a .lent)
 
     of-merge : (text : List ℕ) (n : ℕ) (bs : List ℕ) → mergeAnswer text n ≡ reported bs → (length bs ≤ memoryLimit) × (memoryLimit ≤ n)
@@ -199,8 +195,7 @@ reports-fit = (
         let x = a .routine in
         let v = from-verdict (boundText (x .tick)) (merged (x .code) (x .start)) bs (a .gives) in
         let p = read-passes text x (a .reads) in
-        let b = merged-bounded 196605 510 (x .code) (priced text x (p .0) (p .1)) (x .start) (low text x (p .0) (p .1)) (v .report) (v .accepts) in
-        let s = bound-small (x .tick) (span (x .code) (x .start)) (v .report) (ticks text x (p .0) (p .1)) (spanned text x (p .0) (p .1)) b in
+        let s = bound-small (x .tick) (v .report) (ticks text x (p .0) (p .1)) (merged-limited text x (p .0) (p .1) (v .report) (v .accepts)) in
         (rw (← v .prints) (bound-fits (x .tick) (v .report) s), a .lent)
 
     of-run : (text : List ℕ) (n : ℕ) (bs : List ℕ) → runAnswer text n ≡ reported bs → (length bs ≤ memoryLimit) × (memoryLimit ≤ n)
@@ -209,8 +204,7 @@ reports-fit = (
         let x = a .routine in
         let v = from-verdict runText (run (x .code) (x .budget) (x .start) (x .answers)) bs (a .gives) in
         let p = run-passes text x (a .reads) in
-        let b = run-bounded 196605 510 (x .code) (priced text x (p .0) (p .2)) (x .budget) (x .start) (low text x (p .0) (p .2)) (x .answers) (v .report) (v .accepts) in
-        let s = bound-small (x .tick) (x .budget) (v .report) (ticks text x (p .0) (p .2)) (within text x (p .0) (p .2)) b in
+        let s = bound-small (x .tick) (v .report) (ticks text x (p .0) (p .2)) (run-limited text x (p .0) (p .2) (v .report) (v .accepts)) in
         (rw (← v .prints) (run-fits (v .report) (s .cycles) (s .words) (s .depth) (s .steps)), a .lent)
 
 -- no report is empty
@@ -254,6 +248,7 @@ places-small = (
   of-preview,
   nearest-place,
   λ seed n r e. omega (arith, generate-place seed n r e),
+  decide-place,
 )
   where
     of-bound : (text : List ℕ) (n : ℕ) (r : Refusal) → boundAnswer text n ≡ refused r → place r ≤ 62000
@@ -292,3 +287,14 @@ places-small = (
         let (p, known, is, short) = run-passes text x e in
         let v = from-refused runText (run (x .code) (x .budget) (x .start) (x .answers)) r f in
         run-place 62000 (x .code) (rw is (confined (lines text) p)) (x .budget) (x .start) (rw is (start-small (lines text) p)) (x .answers) r v)
+
+-- ---- the decision beside the first bound
+
+pub decision-refused : DecisionRefused
+unfolding decideAnswer boundAnswer ofReading boundRoutine ofVerdict
+decision-refused text n r = go (ltb n memoryLimit) (readBound text)
+  where
+    go : (b : Bool) (m : Reading) → cond b (refused ReportMemory) (ofReading decideRoutine m) ≡ refused r → cond b (refused ReportMemory) (ofReading boundRoutine m) ≡ refused r
+    go true m e = e
+    go false (readings.refused y) e = e
+    go false (readings.routine x) e = ap (ofVerdict (boundText (x .tick))) (decided-refused x r e)

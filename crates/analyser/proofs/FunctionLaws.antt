@@ -7,8 +7,7 @@ use mathlib.Core.Logic.{_⊎_, inl, inr, _↔_}
 use native.Mathlib.Omega.{arith}
 use native.Mathlib.Nat.{mod-eq-of-lt}
 use lib.Dec.{ltb}
-use lib.ListN.{length, getD, drop, length-append}
-use lib.Seq.{take-append-seam}
+use lib.ListN.{length, getD}
 use borrow.Author.Tests.{lt-ltb, le-ltb, ltb-true}
 use Rattle.refusals.specs.declared.Refusal.{Refusal}
 use Rattle.refusals.specs.declared.Refusal.the-variants.{ReportMemory, TextLength, BadName}
@@ -32,11 +31,11 @@ use Rattle.report.specs.Report.{boundText}
 use Rattle.report.specs.Decode.{reportOf}
 use Rattle.listings.specs.Listing.{entries, listing}
 use Rattle.report.proofs.DecodeLaws.{report-of, report-of-run}
-use Rattle.answers.specs.Answers.{Answer, reported, memoryLimit, memory, answerOf, ofReading}
+use Rattle.answers.specs.Answers.{Answer, reported, memoryLimit, memory, answerOf, ofReading, reportLength, Delivers}
 use Rattle.answers.specs.Answers as answers
 use Rattle.answers.specs.declared.Answer as code
 use Rattle.answers.specs.declared.Answer.the-variants.{Reported, Refused}
-use Rattle.answers.proofs.AnswerLaws.{lent-short, reading-refused, reading-passed, lent-enough, never}
+use Rattle.answers.proofs.AnswerLaws.{lent-short, reading-refused, reading-passed, lent-enough, never, delivers}
 use Rattle.conversions.specs.Answers.{conversionLimit, importAnswer, exportAnswer}
 use Rattle.conversions.proofs.FunctionLaws.{import-reported, export-reported}
 use Rattle.conformance.specs.Answers.{replayAnswer}
@@ -51,7 +50,9 @@ use Rattle.sensitivity.specs.Answers.{nearestAnswer}
 use Rattle.generating.specs.Answers.{generatorLimit, generateAnswer}
 use Rattle.sensitivity.proofs.FunctionLaws.{nearest-reported, nearest-place}
 use Rattle.generating.proofs.FunctionLaws.{generate-reported, generate-place}
-use Rattle.analyser.specs.Functions.{reportLength, Delivers, toldLength, wordOf, Tells, AnswerTold, AnswersTold, ExplanationsTold}
+use Rattle.decide_entry.specs.Answers.{decideAnswer}
+use Rattle.decide_entry.proofs.PromiseLaws.{decide-reported, decide-place}
+use Rattle.analyser.specs.Functions.{toldLength, wordOf, Tells, AnswerTold, AnswersTold, ExplanationsTold}
 use Rattle.analyser.specs.Promises.{SafeReport, ExactReport, SafeMerge, ExactMerge, WithinReport, RunAccepted, ExplainsBound}
 use Rattle.analyser.specs.Refined.{MonotoneReport, KnownReport, MonotoneMerge, KnownMerge}
 use Rattle.analyser.proofs.AnswerLaws.{reports-kept, merges-kept, reports-fit, runs-kept, bound-reports-some, merge-reports-some, run-reports-some, places-small, preview-reports-some}
@@ -213,15 +214,6 @@ module _ (text : List ℕ) (address : ℕ) (instruction : List ℕ) (n : ℕ) wh
     preview-refused x e = preview-is ∙ ap (bounded n) e
 
 -- ---- the promises
-
--- what holds of the bytes of every report holds of those that are told
-delivers : (P : List ℕ → Type 0) (a : Answer) → ((bs : List ℕ) → a ≡ reported bs → P bs) →
-    (r : code.Answer) → r ≡ answerOf a → (former out : List ℕ) → out ≡ memory a former → Delivers (reportLength r) out P
-unfolding answerOf memory reportLength
-delivers P (reported bs) h r e former out m n t =
-    let l : length bs ≡ n = cc in
-    rw (m, ← l, take-append-seam) (omega (arith, length-append bs (drop (length bs) former)), h bs refl)
-delivers P (answers.refused x) h r e former out m n t = let z : _≡_ {A = ℕ} 0 1 = cc in absurd (omega arith)
 
 module _ (text : List ℕ) (n : ℕ) (former out : List ℕ) (r : code.Answer) where
   -- what the equations of an answer give besides
@@ -410,6 +402,13 @@ generate-limits seed n = record {
   refusal = λ r e. omega (arith, generate-place seed n r e);
 }
 
+decide-limits : (text : List ℕ) (n : ℕ) → WithinLimits memoryLimit (decideAnswer text n)
+decide-limits text n = record {
+  small = omega arith;
+  report = λ bs e. let r = decide-reported text n bs e in (r .0, r .1);
+  refusal = λ r e. omega (arith, decide-place text n r e);
+}
+
 explain-limits : (text : List ℕ) (n : ℕ) → WithinLimits explanationLimit (explainAnswer text n)
 explain-limits text n = record {
   small = omega arith;
@@ -455,6 +454,7 @@ answers-told = (
   λ text text′ instruction instruction′ address address′ n n′ h h′. told memoryLimit _ _ (preview-limits text instruction address n h) (preview-limits text′ instruction′ address′ n′ h′),
   λ text text′ n n′. told memoryLimit _ _ (nearest-limits text n) (nearest-limits text′ n′),
   λ seed seed′ n n′. told generatorLimit _ _ (generate-limits seed n) (generate-limits seed′ n′),
+  λ text text′ n n′. told memoryLimit _ _ (decide-limits text n) (decide-limits text′ n′),
 )
 
 module _ (text : List ℕ) (n : ℕ) where
@@ -475,6 +475,12 @@ module _ (text : List ℕ) (n : ℕ) where
 
   pub run-length : (r : code.Answer) → r ≡ answerOf (runAnswer text n) → (w : ℕ) → w ≡ wordOf r → reportLength r ≡ toldLength w
   run-length r e w f = rw (f, e) (sym (told-length memoryLimit (runAnswer text n) (run-limits text n)))
+
+  pub decide-tells : (w : ℕ) → w ≡ wordOf (answerOf (decideAnswer text n)) → Tells memoryLimit (decideAnswer text n) w
+  decide-tells = tells (decide-limits text n)
+
+  pub decide-length : (r : code.Answer) → r ≡ answerOf (decideAnswer text n) → (w : ℕ) → w ≡ wordOf r → reportLength r ≡ toldLength w
+  decide-length r e w f = rw (f, e) (sym (told-length memoryLimit (decideAnswer text n) (decide-limits text n)))
 
   pub export-tells : (w : ℕ) → w ≡ wordOf (answerOf (exportAnswer text n)) → Tells conversionLimit (exportAnswer text n) w
   export-tells = tells (export-limits text n)

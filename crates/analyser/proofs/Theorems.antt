@@ -31,6 +31,8 @@ use Rattle.sensitivity.specs.Promises as sensitivity
 use Rattle.sensitivity.proofs.Theorems as sensitivity-theorems
 use Rattle.generator.specs.Promises as generator
 use Rattle.generator.proofs.Theorems as generator-theorems
+use Rattle.decide_entry.specs.Promises as decisions
+use Rattle.decide_entry.proofs.PromiseLaws as decision-laws
 use Rattle.analyser.specs.Answers.{boundAnswer, mergeAnswer, runAnswer}
 use Rattle.analyser.specs.Promises as answers
 use Rattle.analyser.specs.Refined as refined
@@ -158,6 +160,14 @@ explains-bound = function-laws.explains-bound
 
 pub explanations-told : functions.ExplanationsTold
 explanations-told = function-laws.explanations-told
+
+-- ---- the decision: what FITS, OVER and UNDECIDED say of the file (`decide_entry/specs/Promises`), and the first bound beside it
+
+pub decisions-kept : decisions.DecisionsKept
+decisions-kept = decision-laws.decisions-kept
+
+pub decision-refused : answers.DecisionRefused
+decision-refused = answer-laws.decision-refused
 
 -- exporting and importing bring back the file's lines, and the words (`conversions/specs/Promises`)
 pub exports-import : conversions.ExportsImport

@@ -1,11 +1,10 @@
--- What an answer of the public functions says of the lent memory, and the number that C gets.
+-- The number that C gets of an answer of the public functions.
 use Prim.Native.Nat.{ℕ, _+_, _*_, _%_, _≤_, _<_}
 use mathlib.Core.Path.{_≡_}
 use mathlib.Core.Bool.{cond}
 use mathlib.Core.List.{List}
 use mathlib.Core.Option.{Option, some, none}
 use lib.Dec.{ltb}
-use lib.ListN.{length, take}
 use Rattle.refusals.specs.declared.Refusal.{Refusal}
 use Rattle.refusals.specs.Refusals.{number, place}
 use Rattle.answers.specs.Answers.{Answer, reported, refused, answerOf}
@@ -17,17 +16,7 @@ use Rattle.explanations.specs.Answers.{explainAnswer}
 use Rattle.analyser.specs.Answers.{boundAnswer, mergeAnswer, runAnswer, previewAnswer}
 use Rattle.sensitivity.specs.Answers.{nearestAnswer}
 use Rattle.generating.specs.Answers.{generateAnswer}
-
--- ---- what an answer says of the lent memory
-
--- the length of the report that is answered, if it is one
-unfoldable pub reportLength : code.Answer → Option ℕ
-reportLength (Reported n) = some n
-reportLength (Refused r) = none
-
--- where a report of n bytes is told, at least n are lent, and P holds of the first n that they hold
-abbrev pub Delivers : Option ℕ → List ℕ → (List ℕ → Type 0) → Type 0
-Delivers told lent P = (n : ℕ) → told ≡ some n → (n ≤ length lent) × P (take n lent)
+use Rattle.decide_entry.specs.Answers.{decideAnswer}
 
 -- ---- for C
 
@@ -62,6 +51,7 @@ AnswersTold =
     AnswerTold (previewAnswer text address instruction n) (previewAnswer text′ address′ instruction′ n′))
     × ((text text′ : List ℕ) (n n′ : ℕ) → AnswerTold (nearestAnswer text n) (nearestAnswer text′ n′))
     × ((seed seed′ n n′ : ℕ) → AnswerTold (generateAnswer seed n) (generateAnswer seed′ n′))
+    × ((text text′ : List ℕ) (n n′ : ℕ) → AnswerTold (decideAnswer text n) (decideAnswer text′ n′))
 
 -- and of the explanation
 abbrev pub ExplanationsTold : Type 0

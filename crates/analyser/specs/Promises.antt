@@ -27,7 +27,7 @@ use Rattle.routine.specs.Layout.{layout, body, codeLines}
 use Rattle.routine.specs.Routine.{Routine, readBound, readRun}
 use Rattle.routine.specs.Routine as readings
 use Rattle.report.specs.Report.{share, Nearest, boundText, runText}
-use Rattle.answers.specs.Answers.{Answer, reported, refused, memoryLimit, answerOf}
+use Rattle.answers.specs.Answers.{Answer, reported, refused, memoryLimit, answerOf, reportLength}
 use Rattle.inverses.specs.Sections.{replaced, primitivesLine}
 use Rattle.conversions.specs.Answers.{conversionLimit, importAnswer, exportAnswer}
 use Rattle.conversions.specs.Promises.{BeginsAtZero}
@@ -37,7 +37,7 @@ use Rattle.patches.specs.Patch.{patched}
 use Rattle.analyser.specs.Answers.{boundAnswer, mergeAnswer, runAnswer, previewAnswer}
 use Rattle.sensitivity.specs.Answers.{nearestAnswer}
 use Rattle.generating.specs.Answers.{generatorLimit, generateAnswer}
-use Rattle.analyser.specs.Functions.{reportLength}
+use Rattle.decide_entry.specs.Answers.{decideAnswer}
 
 -- the bytes are the bound's report, with the figures q, of the routine x that the text holds
 pub record BoundReported (text bytes : List ℕ) (x : Routine) (q : Report) : Type 0 where
@@ -154,6 +154,7 @@ ReportsFit =
     × ((text instruction : List ℕ) (address n : ℕ) → ReportFits memoryLimit n (previewAnswer text address instruction n))
     × ((text : List ℕ) (n : ℕ) → ReportFits memoryLimit n (nearestAnswer text n))
     × ((seed n : ℕ) → ReportFits generatorLimit n (generateAnswer seed n))
+    × ((text : List ℕ) (n : ℕ) → ReportFits memoryLimit n (decideAnswer text n))
 
 -- the place of a refusal is 62,000 at most
 abbrev pub PlaceSmall : Answer → Type 0
@@ -175,10 +176,15 @@ PlacesSmall =
     × ((text instruction : List ℕ) (address n : ℕ) → PlaceOrAddress address (previewAnswer text address instruction n))
     × ((text : List ℕ) (n : ℕ) → PlaceSmall (nearestAnswer text n))
     × ((seed n : ℕ) → PlaceSmall (generateAnswer seed n))
+    × ((text : List ℕ) (n : ℕ) → PlaceSmall (decideAnswer text n))
 
 -- "A file that is refused to begin with is refused the same way here." (document 02 §13): the search refuses what the first bound refuses
 abbrev pub RefusedAlike : Type 0
 RefusedAlike = (text : List ℕ) (n : ℕ) (r : Refusal) → (nearestAnswer text n ≡ refused r → boundAnswer text n ≡ refused r) × (boundAnswer text n ≡ refused r → nearestAnswer text n ≡ refused r)
+
+-- where a decision is refused, the first bound refuses the text, and by the same refusal
+abbrev pub DecisionRefused : Type 0
+DecisionRefused = (text : List ℕ) (n : ℕ) (r : Refusal) → decideAnswer text n ≡ refused r → boundAnswer text n ≡ refused r
 
 -- "An import followed by a bound gives what the written file gives": the file with the lines made of its own words has its bounds and its run
 abbrev pub ImportsBound : Type 0

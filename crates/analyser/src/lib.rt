@@ -8,15 +8,17 @@ use rows::Reader;
 ghost use mathlib.Core.Path.{_≡_};
 ghost use lib.ListN.{length};
 ghost use Rattle.reader.specs.Reader.{Limited};
-ghost use Rattle.answers.specs.Answers.{memoryLimit, memory, answerOf};
+ghost use Rattle.answers.specs.Answers.{memoryLimit, memory, answerOf, reportLength, Delivers};
 ghost use Rattle.answers.specs.declared.Answer.the-variants.{Refused};
 ghost use Rattle.conversions.specs.Answers.{conversionLimit, importAnswer, exportAnswer};
 ghost use Rattle.conformance.specs.Answers.{replayAnswer};
 ghost use Rattle.explanations.specs.Answers.{explanationLimit, explainAnswer};
+ghost use Rattle.decide_entry.specs.Answers.{decideAnswer};
+ghost use Rattle.decide_entry.specs.Promises.{KeepsTick, OverTick, UndecidedTick};
 ghost use Rattle.analyser.specs.Answers.{boundRoutine, mergeRoutine, runRoutine, boundAnswer, mergeAnswer, runAnswer, previewAnswer};
 ghost use Rattle.sensitivity.specs.Answers.{nearestAnswer};
 ghost use Rattle.generating.specs.Answers.{generatorLimit, generateAnswer};
-ghost use Rattle.analyser.specs.Functions.{reportLength, Delivers, wordOf, toldLength, Tells};
+ghost use Rattle.analyser.specs.Functions.{wordOf, toldLength, Tells};
 ghost use Rattle.evaluations.specs.Held.{routineIn, Shareable};
 ghost use Rattle.analyser.specs.Held.{Printable, foundAnswer};
 ghost use Rattle.analyser.specs.Promises.{SafeReport, ExactReport, SafeMerge, ExactMerge, WithinReport, RunAccepted};
@@ -317,4 +319,18 @@ pub extern "C" fn tickbound_explain(text: &[u8], out: &mut [u8]) -> u64
 {
     let explained = explanations::explain(text, out);
     word_of(explained)
+}
+
+// `decide_entry::decide` for C.
+#[no_mangle]
+pub extern "C" fn tickbound_decide(text: &[u8], out: &mut [u8]) -> u64
+    ensures { λ r. ⌜ r ≡ wordOf (answerOf (decideAnswer (now (text .entry)) (length (now (out .entry))))) ⌝ }
+    ensures { λ _. ⌜ now (out .exit) ≡ memory (decideAnswer (now (text .entry)) (length (now (out .entry)))) (now (out .entry)) ⌝ }
+    ensures tells { λ r. ⌜ Tells memoryLimit (decideAnswer (now (text .entry)) (length (now (out .entry)))) r ⌝ }
+    ensures keeps { λ r. ⌜ Delivers (toldLength r) (now (out .exit)) (KeepsTick (now (text .entry))) ⌝ }
+    ensures over { λ r. ⌜ Delivers (toldLength r) (now (out .exit)) (OverTick (now (text .entry))) ⌝ }
+    ensures undecided { λ r. ⌜ Delivers (toldLength r) (now (out .exit)) (UndecidedTick (now (text .entry))) ⌝ }
+{
+    let decided = decide_entry::decide(text, out);
+    word_of(decided)
 }

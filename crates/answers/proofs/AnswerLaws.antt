@@ -5,15 +5,17 @@ use mathlib.Core.List.{List, _++_}
 use Prim.Native.Nat.{ℕ, _≤_, _<_}
 use native.Mathlib.Omega.{arith}
 use lib.Dec.{ltb}
-use lib.ListN.{length, drop}
+use lib.ListN.{length, drop, length-append}
+use lib.Seq.{take-append-seam}
 use borrow.Author.Tests.{lt-ltb, le-ltb, ltb-false}
 use Rattle.refusals.specs.declared.Refusal.{Refusal}
 use Rattle.refusals.specs.declared.Refusal.the-variants.{ReportMemory}
 use Rattle.refusals.specs.Refusals.{place}
 use Rattle.routine.specs.Routine.{Routine, Reading}
 use Rattle.routine.specs.Routine as readings
+use Rattle.answers.specs.declared.Answer as code
 use Rattle.answers.specs.declared.Answer.the-variants.{Reported, Refused}
-use Rattle.answers.specs.Answers.{Answer, reported, refused, lending, ofReading, memory, answerOf}
+use Rattle.answers.specs.Answers.{Answer, reported, refused, lending, ofReading, memory, answerOf, reportLength, Delivers}
 
 -- an answer is of one case
 pub never : {A : Type 0} (r : Refusal) (bs : List ℕ) → refused r ≡ reported bs → A
@@ -91,3 +93,12 @@ gives-report a bs e n h former out m = (rw (e, h) refl, rw e m)
 pub gives-refusal : (a : Answer) (x : Refusal) → a ≡ refused x → (former : List ℕ) → (Refused x ≡ answerOf a) × (former ≡ memory a former)
 unfolding answerOf memory
 gives-refusal a x e former = (rw e refl, rw e refl)
+
+-- what holds of the bytes of every report holds of those that are told
+pub delivers : (P : List ℕ → Type 0) (a : Answer) → ((bs : List ℕ) → a ≡ reported bs → P bs) →
+    (r : code.Answer) → r ≡ answerOf a → (former out : List ℕ) → out ≡ memory a former → Delivers (reportLength r) out P
+unfolding answerOf memory reportLength
+delivers P (reported bs) h r e former out m n t =
+    let l : length bs ≡ n = cc in
+    rw (m, ← l, take-append-seam) (omega (arith, length-append bs (drop (length bs) former)), h bs refl)
+delivers P (refused x) h r e former out m n t = let z : _≡_ {A = ℕ} 0 1 = cc in absurd (omega arith)

@@ -1,10 +1,12 @@
 -- The answer of a public function, what the lent memory then holds, and the same in the code's type.
 -- (document 01, Refusal table; demands 1 and 2)
-use Prim.Native.Nat.{ℕ}
+use Prim.Native.Nat.{ℕ, _≤_}
+use mathlib.Core.Path.{_≡_}
 use mathlib.Core.Bool.{cond}
 use mathlib.Core.List.{List, _++_}
+use mathlib.Core.Option.{Option, some, none}
 use lib.Dec.{ltb}
-use lib.ListN.{length, drop}
+use lib.ListN.{length, take, drop}
 use Rattle.refusals.specs.declared.Refusal.{Refusal}
 use Rattle.refusals.specs.declared.Refusal.the-variants.{ReportMemory}
 use Rattle.refusals.specs.declared.Verdict.{Verdict}
@@ -46,3 +48,14 @@ memory (refused r) former = former
 unfoldable pub answerOf : Answer → code.Answer
 answerOf (reported bs) = Reported (length bs)
 answerOf (refused r) = Refused r
+
+-- ---- what an answer says of the lent memory
+
+-- the length of the report that is answered, if it is one
+unfoldable pub reportLength : code.Answer → Option ℕ
+reportLength (Reported n) = some n
+reportLength (Refused r) = none
+
+-- where a report of n bytes is told, at least n are lent, and P holds of the first n that they hold
+abbrev pub Delivers : Option ℕ → List ℕ → (List ℕ → Type 0) → Type 0
+Delivers told lent P = (n : ℕ) → told ≡ some n → (n ≤ length lent) × P (take n lent)

@@ -1,1 +1,2 @@
 pub mod EvaluationLaws
+pub mod SizeLaws

@@ -1,4 +1,3 @@
-pub mod SizeLaws
 pub mod EntryLaws
 pub mod Theorems
 pub mod FunctionLaws

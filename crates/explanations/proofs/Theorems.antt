@@ -19,6 +19,8 @@ use Rattle.routine.proofs.PassingLaws.{code-few}
 use Rattle.routine.proofs.BranchLaws.{passing-forward}
 use Rattle.routine.proofs.PlaceLaws.{read-bound-place, confined, start-small}
 use Rattle.report.specs.Report.{boundText}
+use Rattle.report.proofs.ReportLaws.{bound-small, bound-fits}
+use Rattle.evaluations.proofs.SizeLaws.{code-length, priced, low, ticks, bound-limited}
 use Rattle.walks.proofs.Theorems.{walks-worst}
 use Rattle.listings.specs.Listing.{entries, listing}
 use Rattle.listings.proofs.LengthLaws.{total, total-drop, total-lines, walk-fits}
@@ -26,7 +28,6 @@ use Rattle.answers.specs.Answers.{reported, refused}
 use Rattle.answers.proofs.AnswerLaws.{never, from-reading, place-from}
 use Rattle.explanations.specs.Answers.{explanationLimit, worstMoves, explanationText, explained, explainRoutine, explainAnswer}
 use Rattle.explanations.specs.Promises.{ExplanationsKept, ExplanationsFit}
-use Rattle.explanations.proofs.SizeLaws.{code-length, priced, low, report-fits}
 use Rattle.explanations.proofs.EntryLaws.{last-cost, ways-decisions, entry-of}
 
 -- ---- what an explanation comes from
@@ -112,7 +113,7 @@ explanations-fit text n bs e =
     let m = code-short text x (p .0) (p .1) in
     let w = steps-fit text x (p .0) (p .1) q in
     let b = body-short text (x .start .at - x .code .first) in
-    let r = report-fits text x (p .0) (p .1) q (v .accepts) in
+    let r = bound-fits (x .tick) q (bound-small (x .tick) q (ticks text x (p .0) (p .1)) (bound-limited text x (p .0) (p .1) q (v .accepts))) in
     let l = text-length ls x q in
     let z = ap length (v .prints) in
     (omega arith, omega (arith, p .2), a .lent)

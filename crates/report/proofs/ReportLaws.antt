@@ -12,6 +12,7 @@ use borrow.Author.Tests.{lt-ltb, le-ltb, ltb-true, ltb-false}
 use Rattle.text.specs.Decimal.{decimal}
 use Rattle.text.proofs.DecimalLaws.{decimal-length}
 use Rattle.bounds.specs.Tree.{Report, Decision}
+use Rattle.bounds.proofs.FigureLaws.{Bounded}
 use Rattle.report.specs.Report.{share, Nearest, letter, pathText, figures, boundText, runText}
 
 -- SHARE by what is left over: less than a half, more than a half, a half
@@ -100,6 +101,16 @@ pub record Small (t : ℕ) (q : Report) : Type 0 where
   pub steps : q .steps < 10 ^ 7
   pub path : length (q .path) ≤ 32
   pub tick : 1 ≤ t
+
+pub bound-small : (tick : ℕ) (q : Report) → 1 ≤ tick → Bounded 196605 510 1000000 q → Small tick q
+bound-small tick q t b = record {
+  cycles = omega (arith, b .cycles, b .steps);
+  words = omega (arith, b .words, b .steps);
+  depth = omega (arith, b .depth);
+  steps = omega (arith, b .steps);
+  path = b .path;
+  tick = t;
+}
 
 figures-fit : (q : Report) → q .cycles < 10 ^ 12 → q .words < 10 ^ 9 → q .depth < 10 ^ 2 → q .steps < 10 ^ 7 → length (figures q) ≤ 33
 unfolding figures

@@ -1,0 +1,4 @@
+pub mod DecisionLaws
+pub mod PromiseLaws
+pub mod FunctionLaws
+pub mod PlaceLaws

@@ -1,0 +1,4 @@
+pub mod Decision
+pub mod Answers
+pub mod Promises
+pub mod Held
