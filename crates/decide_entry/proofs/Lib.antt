@@ -1,4 +1,3 @@
 pub mod DecisionLaws
 pub mod PromiseLaws
 pub mod FunctionLaws
-pub mod PlaceLaws

@@ -2,7 +2,13 @@
 use mathlib.Core.Path.{_≡_, refl}
 use mathlib.Core.List.{[], _∷_}
 use Rattle.generator.specs.Draws.{next, after}
-use Rattle.generator.specs.File.{count, kindOf}
+use Rattle.text.specs.Text.{bytes}
+use Rattle.text.specs.Decimal.{decimal, digits}
+use Rattle.instructions.specs.Kinds.{kinds}
+use Rattle.instructions.specs.Columns.{kindAt}
+use Rattle.words.specs.Lines.{integer}
+use Rattle.generator.specs.Words.{below, numberIn, amount, word, rowFrom}
+use Rattle.generator.specs.File.{count, kindOf, target, argument, lineOf, codeLine, codeFrom, primitivePrices}
 
 -- the first three draws; the number of lines before the closing STOP; the kinds CONST3, ASSIGN, C_CALL4 of the first lines, and the closing STOP
 abbrev pub Examples : Type 0
@@ -14,3 +20,8 @@ Examples =
 pub examples : Examples
 unfolding next after count kindOf
 examples = (refl, refl, refl)
+
+-- seed 26341: its code, and the prices of its primitives. Assumes nothing.
+pub small : (codeFrom 26341 0 4 ≡ bytes "0 C_CALL1 NOISE\n1 BRANCHIF 3\n2 CONSTINT -558024710\n3 STOP -\n") × (primitivePrices 26341 ≡ bytes "READ WRITE CLOCK NOISE\n326 96 738 96\n1 2 2 2\n")
+unfolding next after count kindOf target argument lineOf codeLine codeFrom kindAt kinds numberIn below amount word rowFrom primitivePrices integer decimal digits
+small = (refl, refl)

@@ -1,3 +1,4 @@
+pub mod Examples
 pub mod ColumnLaws
 pub mod OpcodeLaws
 pub mod NameLaws

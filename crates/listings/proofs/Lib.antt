@@ -1,3 +1,4 @@
+pub mod Examples
 pub mod LineLaws
 pub mod WalkLaws
 pub mod LengthLaws

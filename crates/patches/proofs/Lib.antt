@@ -1,3 +1,4 @@
+pub mod Examples
 pub mod PatchLaws
 pub mod ReplacedLaws
 pub mod Theorems

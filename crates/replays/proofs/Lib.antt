@@ -1,3 +1,4 @@
+pub mod Examples
 pub mod ReplayLaws
 pub mod Theorems
 pub mod FollowLaws

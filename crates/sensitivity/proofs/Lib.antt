@@ -1,3 +1,4 @@
+pub mod Examples
 pub mod StartLaws
 pub mod FunctionLaws
 pub mod Theorems

@@ -6,7 +6,7 @@ use Rattle.text.specs.Decimal.{decimal}
 use Rattle.report.specs.Report.{space, feed}
 use Rattle.report.specs.Decode.{reportOf}
 use Rattle.decide_entry.specs.Decision.{decisionNames, decisionWords, decisionText}
-use Rattle.decide_entry.proofs.PlaceLaws.{Place, joined, begins-first, kept, room, next, finished-first}
+use Rattle.text.proofs.PlaceLaws.{Place, joined, begins-first, kept, room, next, finished-first}
 use borrow.Author.Needs.{needs}
 use Rattle.decide_entry.proofs.put_decision.Statement.{statement}
 use Rattle.decide_entry.proofs.put_decision.Tie as tie
