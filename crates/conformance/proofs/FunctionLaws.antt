@@ -50,9 +50,6 @@ differed-length n = simp length-append
 pub agrees-length : (x : Replayed) → x ≡ Agrees → length (outcomeText (ofReplayed x)) ≡ 7
 agrees-length x e = rw (text-agrees x e) refl
 
-pub differs-length : (x : Replayed) (n : ℕ) → x ≡ Differs n → length (outcomeText (ofReplayed x)) ≡ 8 + length (decimal n) + 1
-differs-length x n e = rw (text-differs x n e) (differed-length n)
-
 -- a line's number has four digits at most
 outcome-length : (o : Outcome) → ((n : ℕ) → o ≡ differed n → n < 10000) → (1 ≤ length (outcomeText o)) × (length (outcomeText o) ≤ 13)
 unfolding outcomeText

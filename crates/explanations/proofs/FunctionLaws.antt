@@ -1,6 +1,6 @@
 -- The explanation in code is that of the definition. Assumes nothing.
 use Prim.Native.Nat.{ℕ, _+_, _≤_, _<_, zero-le}
-use mathlib.Core.Path.{_≡_, sym, ap, subst, _∙_}
+use mathlib.Core.Path.{_≡_, sym, ap, _∙_}
 use mathlib.Core.List.{List, _++_}
 use native.Mathlib.Omega.{arith}
 use lib.ListN.{length, drop, length-append}
@@ -40,7 +40,7 @@ use Rattle.explanations.proofs.Theorems.{explanations-fit}
 -- ---- the text
 
 -- by its parts
-text-parts : (ls : List Line) (x : Routine) (f : Found) → textIn ls x f ≡ boundText (x .tick) (reportIn f) ++ entryNames ++ walkIn ls x (f .path)
+pub text-parts : (ls : List Line) (x : Routine) (f : Found) → textIn ls x f ≡ boundText (x .tick) (reportIn f) ++ entryNames ++ walkIn ls x (f .path)
 unfolding explanationText worstMoves reportOf codeOf
 text-parts ls x f =
     ap (λ n. boundText (x .tick) (reportIn f) ++ entryNames ++ listing ls (x .first) (entries (follow (step (routineIn x .code) unknown) n (decode (f .path)) (routineIn x .start))))
@@ -54,9 +54,6 @@ pub wrote-first : (d t o : List ℕ) (e : ℕ) → (e ≡ length t) × (o ≡ t 
 wrote-first d t o e (p, q) =
     let z : length t ≡ 0 + length t = omega arith in
     record { starts = zero-le; ends = p ∙ z; holds = q ∙ ap (λ n. t ++ drop n d) z }
-
-pub text-wrote : {d o : List ℕ} {e : ℕ} (ls : List Line) (x : Routine) (f : Found) → Wrote d 0 (boundText (x .tick) (reportIn f) ++ entryNames ++ walkIn ls x (f .path)) e o → Wrote d 0 (textIn ls x f) e o
-text-wrote {d} {o} {e} ls x f w = subst (λ r. Wrote d 0 r e o) (sym (text-parts ls x f)) w
 
 -- ---- what the explorer's answer gives
 

@@ -68,20 +68,14 @@ pub name-field : (p : Position) (k n : ℕ) → p ≡ Field k n → nameOf p ≡
 unfolding nameOf
 name-field p k n e = rw e refl
 
-pub accu-name-length : (p : Position) → p ≡ Accu → length (nameOf p) ≡ 4
-accu-name-length p e = rw (name-accu p e) refl
-
-pub entry-name-length : (p : Position) (n : ℕ) → p ≡ Entry n → length (nameOf p) ≡ 1 + length (decimal n)
-entry-name-length p n e = rw (name-entry p n e) (omega arith)
-
-pub field-name-length : (p : Position) (k n : ℕ) → p ≡ Field k n → length (nameOf p) ≡ 1 + length (decimal k) + 1 + length (decimal n)
+field-name-length : (p : Position) (k n : ℕ) → p ≡ Field k n → length (nameOf p) ≡ 1 + length (decimal k) + 1 + length (decimal n)
 field-name-length p k n e = rw (name-field p k n e) (simp length-append (omega arith))
 
-pub line-is : (x : Change) → lineOf x ≡ nameOf (x .place) ++ bytes " " ++ integer (x .value) ++ bytes "\n"
+line-is : (x : Change) → lineOf x ≡ nameOf (x .place) ++ bytes " " ++ integer (x .value) ++ bytes "\n"
 unfolding lineOf
 line-is x = refl
 
-pub line-length : (x : Change) → length (lineOf x) ≡ length (nameOf (x .place)) + 1 + length (integer (x .value)) + 1
+line-length : (x : Change) → length (lineOf x) ≡ length (nameOf (x .place)) + 1 + length (integer (x .value)) + 1
 line-length x = rw (line-is x) (simp length-append (omega arith))
 
 -- a place of a start within the limits has a short name

@@ -1,59 +1,77 @@
 -- `conformance::put_outcome` meets its contract: the parts of the line one after the other. Assumes nothing.
-use Prim.Native.Nat.{zero-le}
+use Prim.Native.Nat.{ℕ, _≤_, zero-le}
+use mathlib.Core.List.{List, [], _∷_}
 use native.Mathlib.Omega.{arith}
+use lib.ListN.{length}
 use Rattle.text.specs.Text.{bytes}
 use Rattle.text.specs.Decimal.{decimal}
 use Rattle.text.proofs.MemoryLaws.{wrote-none, wrote-more, wrote-start}
-use Rattle.conformance.proofs.FunctionLaws.{text-agrees, text-differs, agrees-length, differs-length}
+use Rattle.text.proofs.PlaceLaws.{Place, joined, begins-first, room, next, finished-first}
+use Rattle.conformance.proofs.FunctionLaws.{text-agrees, text-differs, agrees-length}
 use borrow.Author.Needs.{needs}
 use Rattle.conformance.proofs.put_outcome.Statement.{statement}
 use Rattle.conformance.proofs.put_outcome.Tie as tie
 
-enum-told : tie.Need-enum-told
-enum-told c = search needs
-
+-- where the two agree
 put-requires : tie.Need-put-requires
-put-requires c κs = omega (arith, c .before .before .before .before .before .pre, agrees-length _ (c .before .before .enum-told .given .1))
-
-put-requires-2 : tie.Need-put-requires-2
-put-requires-2 c κs = omega (arith, c .before .before .before .before .before .before .pre, differs-length _ _ (c .before .before .before .said .given .1))
-
-put-decimal-requires : tie.Need-put-decimal-requires
-put-decimal-requires c κs = omega (arith, c .before .before .before .before .before .before .before .before .before .before .pre, differs-length _ _ (c .before .before .before .before .before .before .before .said .given .1), c .before .before .before .put2 .ensures .0)
-
-put-requires-3 : tie.Need-put-requires-3
-put-requires-3 c κs = omega (arith, c .before .before .before .before .before .before .before .before .before .before .before .before .before .before .before .pre, differs-length _ _ (c .before .before .before .before .before .before .before .before .before .before .before .before .said .given .1), c .before .before .before .before .before .before .before .before .put2 .ensures .0, c .before .before .before .before .put-decimal .ensures .0)
+put-requires c κs = let t = c .before .before in omega (arith, t .before .before .before .pre, agrees-length _ (t .enum-told .given .1))
 
 returns : tie.Need-returns
 returns c =
-    let s = c .before .before .before .before .before .before .before .before in
-    let w0 = wrote-none (s .args .out .now) 0 zero-le in
-    let w1 = wrote-more w0 (bytes "AGREES\n") (c .before .before .put .ensures) in
-    rw (text-agrees (s .args .said) (c .before .before .before .before .before .enum-told .given .1)) (wrote-start w1)
+    let p = c .before .before in
+    let t = p .before .before .before in
+    let s = t .before .before .before in
+    rw (text-agrees (s .args .said) (t .enum-told .given .1)) (wrote-start (wrote-more (wrote-none (s .args .out .now) 0 zero-le) (bytes "AGREES\n") (p .put .ensures)))
+
+-- where they differ: the number of the line, and the start
+abbrev number : tie.After-said → ℕ
+number c = c .said .given .0 .0
+
+abbrev start : tie.After-said → tie.Start
+start c = c .before .before .before
+
+-- the parts of the line
+abbrev parts : tie.After-said → List (List ℕ)
+parts c = bytes "DIFFERS " ∷ decimal (number c) ∷ bytes "\n" ∷ []
+
+-- the first n parts stand in o, up to e
+abbrev At : ℕ → ℕ → List ℕ → Type 0
+At = Place (λ c. start c .args .out .now) (λ c. 0) parts
+
+fits : (c : tie.After-said) → length (joined [] (parts c)) ≤ length (start c .args .out .now)
+fits c = rw (text-differs (start c .args .said) (number c) (c .said .given .1)) at (start c .pre)
+
+abbrev w0 : (c : tie.After-said) → At 0 0 (start c .args .out .now)
+w0 c = begins-first c (fits c)
+
+abbrev w1 : (c : tie.After-put2) → At 1 (c .put2 .result) (c .put2 .last .0)
+w1 c = next (w0 (c .before .before .before .before)) (c .put2 .ensures)
+
+abbrev w2 : (c : tie.After-put-decimal) → At 2 (c .put-decimal .result) (c .put-decimal .last .0)
+w2 c = next (w1 (c .before .before .before .before)) (c .put-decimal .ensures)
+
+abbrev w3 : (c : tie.After-put3) → At 3 (c .put3 .result) (c .put3 .last .0)
+w3 c = next (w2 (c .before .before .before .before .before)) (c .put3 .ensures)
 
 returns-2 : tie.Need-returns-2
 returns-2 c =
-    let s = c .before .before .before .before .before .before .before .before .before .before .before .before .before .before .before .before .before .before in
-    let d = c .before .before .before .before .before .before .before .before .before .before .before .before .before .before .before .said .given in
-    let w0 = wrote-none (s .args .out .now) 0 zero-le in
-    let w1 = wrote-more w0 (bytes "DIFFERS ") (c .before .before .before .before .before .before .before .before .before .before .before .put2 .ensures) in
-    let w2 = wrote-more w1 (decimal (d .0 .0)) (c .before .before .before .before .before .before .before .put-decimal .ensures) in
-    let w3 = wrote-more w2 (bytes "\n") (c .before .before .put3 .ensures) in
-    rw (text-differs (s .args .said) (d .0 .0) (d .1)) (wrote-start w3)
+    let w = w3 (c .before .before) in
+    let t = w .start in
+    rw (text-differs (start t .args .said) (number t) (t .said .given .1)) (finished-first w)
 
 pub put-outcome-spec : {M : Type 1} → statement M
 put-outcome-spec =
     tie.close
     (tie.spec
-    enum-told
+    (λ c. search needs)
     (λ c. search needs)
     put-requires
     (λ c. search needs)
     (λ c. search needs)
-    put-requires-2
-    put-decimal-requires
+    (λ c κs. room (w0 (c .before .before .before)))
+    (λ c κs. room (w1 (c .before .before .before)))
     (λ c. search needs)
-    put-requires-3
+    (λ c κs. room (w2 (c .before .before .before .before)))
     (λ c. search needs)
     returns
     (λ c. search needs)

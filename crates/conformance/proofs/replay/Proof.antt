@@ -18,9 +18,6 @@ returns c =
     let start = c .before .before .before .before in
     gives-refusal _ _ (replay-short (start .args .text .now) (start .args .trace .now) (length (start .args .out .now)) (c .if1 .taken)) _
 
-enum-told : tie.Need-enum-told
-enum-told c = search needs
-
 routine-of-requires : tie.Need-routine-of-requires
 routine-of-requires c κs = accepted-reading _ Run (sym (c .before .before .check .ensures) ∙ c .enum-told .given .1) .0
 
@@ -30,15 +27,20 @@ replay-trace-requires c κs = (c .before .routine-of .ensures .1, c .before .bef
 returns-2 : tie.Need-returns-2
 unfolding readBy
 returns-2 c =
-    let start = c .before .before .before .before .before .before .before .before .before .before .before .before in
+    let at-replay-trace = c .before .before in
+    let at-routine-of = at-replay-trace .before .before in
+    let at-enum-told = at-routine-of .before in
+    let at-check = at-enum-told .before .before in
+    let at-if1 = at-check .before in
+    let start = at-if1 .before .before .before .before in
     let text = start .args .text .now in
     let out = start .args .out .now in
-    let held = c .before .before .before .before .routine-of in
-    let a = accepted-reading text Run (sym (c .before .before .before .before .before .before .before .check .ensures) ∙ c .before .before .before .before .before .enum-told .given .1) in
+    let held = at-routine-of .routine-of in
+    let a = accepted-reading text Run (sym (at-check .check .ensures) ∙ at-enum-told .enum-told .given .1) in
     let trace = start .args .trace .now in
-    let e = replay-passed text trace (length out) (c .before .before .before .before .before .before .before .before .if1 .left) _ (a .1) in
+    let e = replay-passed text trace (length out) (at-if1 .if1 .left) _ (a .1) in
     let q = sym (e ∙ held-answer (routineOf (lines text)) (held .result) (held .ensures .0) trace) in
-    (c .before .before .replay-trace .ensures .0 ∙ ap answerOf q, c .before .before .replay-trace .ensures .1 ∙ ap (λ a. memory a out) q)
+    (at-replay-trace .replay-trace .ensures .0 ∙ ap answerOf q, at-replay-trace .replay-trace .ensures .1 ∙ ap (λ a. memory a out) q)
 
 returns-3 : tie.Need-returns-3
 unfolding readBy
@@ -54,7 +56,7 @@ replay-spec =
     (tie.spec
     returns
     (λ c κs. search needs)
-    enum-told
+    (λ c. search needs)
     routine-of-requires
     replay-trace-requires
     (λ c. search needs)

@@ -7,9 +7,6 @@ use borrow.Author.Needs.{needs}
 use Rattle.conformance.proofs.replay_trace.Statement.{statement}
 use Rattle.conformance.proofs.replay_trace.Tie as tie
 
-enum-told : tie.Need-enum-told
-enum-told c = search needs
-
 followed-requires : tie.Need-followed-requires
 followed-requires c κs = (c .before .before .before .before .before .pre .0, lines-few _ (sym (c .before .before .check-trace .ensures) ∙ c .enum-told .given .1))
 
@@ -23,10 +20,13 @@ put-outcome-requires c κs =
 
 returns : tie.Need-returns
 returns c =
-    let start = c .before .before .before .before .before .before .before .before .before .before in
-    let e = sym (c .before .before .before .before .before .before .before .check-trace .ensures) ∙ c .before .before .before .before .before .enum-told .given .1 in
+    let at-followed = c .before .before .before .before in
+    let at-enum-told = at-followed .before in
+    let at-check-trace = at-enum-told .before .before in
+    let start = at-check-trace .before .before .before in
+    let e = sym (at-check-trace .check-trace .ensures) ∙ at-enum-told .enum-told .given .1 in
     let p = c .before .before .put-outcome .ensures in
-    gives-report _ _ (said _ e (start .args .routine) (c .before .before .before .before .followed .result) (c .before .before .before .before .followed .ensures)) _ (p .0) _ _ (p .1)
+    gives-report _ _ (said _ e (start .args .routine) (at-followed .followed .result) (at-followed .followed .ensures)) _ (p .0) _ _ (p .1)
 
 returns-2 : tie.Need-returns-2
 returns-2 c =
@@ -37,7 +37,7 @@ replay-trace-spec =
     tie.close
     (tie.spec
     (λ c κs. search needs)
-    enum-told
+    (λ c. search needs)
     followed-requires
     put-outcome-requires
     (λ c. search needs)

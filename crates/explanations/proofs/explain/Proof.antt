@@ -19,33 +19,38 @@ returns c =
     let start = c .before .before .before in
     gives-refusal _ _ (explain-short (start .args .text .now) (length (start .args .out .now)) (c .if1 .taken)) _
 
-enum-told : tie.Need-enum-told
-enum-told c = search needs
-
 routine-of-requires : tie.Need-routine-of-requires
 routine-of-requires c κs = accepted-reading _ Bound (sym (c .before .before .check .ensures) ∙ c .enum-told .given .1) .0
 
 explain-routine-requires : tie.Need-explain-routine-requires
 unfolding readBy
 explain-routine-requires c κs =
-    let start = c .before .before .before .before .before .before .before .before .before in
+    let at-check = c .before .before .before .before .before in
+    let at-if1 = at-check .before in
+    let start = at-if1 .before .before .before in
     let text = start .args .text .now in
     let held = c .before .before .routine-of in
-    let a = accepted-reading text Bound (sym (c .before .before .before .before .before .check .ensures) ∙ c .before .before .before .enum-told .given .1) in
+    let a = accepted-reading text Bound (sym (at-check .check .ensures) ∙ c .before .before .before .enum-told .given .1) in
     let e = held-routine (routineOf (lines text)) (held .result) (held .ensures .0) (readBound text) (a .1) in
-    (held .ensures .1, explain-printable text (length (start .args .out .now)) (c .before .before .before .before .before .before .if1 .left) _ (c .before .body-of .ensures) (held .result) e)
+    (held .ensures .1, explain-printable text (length (start .args .out .now)) (at-if1 .if1 .left) _ (c .before .body-of .ensures) (held .result) e)
 
 returns-2 : tie.Need-returns-2
 unfolding readBy
 returns-2 c =
-    let start = c .before .before .before .before .before .before .before .before .before .before .before .before in
+    let at-explain-routine = c .before .before in
+    let at-body-of = at-explain-routine .before .before in
+    let at-routine-of = at-body-of .before in
+    let at-enum-told = at-routine-of .before in
+    let at-check = at-enum-told .before .before in
+    let at-if1 = at-check .before in
+    let start = at-if1 .before .before .before in
     let text = start .args .text .now in
     let out = start .args .out .now in
-    let held = c .before .before .before .before .before .routine-of in
-    let a = accepted-reading text Bound (sym (c .before .before .before .before .before .before .before .before .check .ensures) ∙ c .before .before .before .before .before .before .enum-told .given .1) in
+    let held = at-routine-of .routine-of in
+    let a = accepted-reading text Bound (sym (at-check .check .ensures) ∙ at-enum-told .enum-told .given .1) in
     let e = held-routine (routineOf (lines text)) (held .result) (held .ensures .0) (readBound text) (a .1) in
-    let q = sym (explain-passed text (length out) (c .before .before .before .before .before .before .before .before .before .if1 .left) _ (c .before .before .before .before .body-of .ensures) _ e) in
-    (c .before .before .explain-routine .ensures .0 ∙ ap answerOf q, c .before .before .explain-routine .ensures .1 ∙ ap (λ a. memory a out) q)
+    let q = sym (explain-passed text (length out) (at-if1 .if1 .left) _ (at-body-of .body-of .ensures) _ e) in
+    (at-explain-routine .explain-routine .ensures .0 ∙ ap answerOf q, at-explain-routine .explain-routine .ensures .1 ∙ ap (λ a. memory a out) q)
 
 returns-3 : tie.Need-returns-3
 unfolding readBy
@@ -61,7 +66,7 @@ explain-spec =
     (tie.spec
     returns
     (λ c κs. search needs)
-    enum-told
+    (λ c. search needs)
     routine-of-requires
     (λ c κs. search needs)
     explain-routine-requires

@@ -7,9 +7,6 @@ use borrow.Author.Needs.{needs}
 use Rattle.explanations.proofs.explain_routine.Statement.{statement}
 use Rattle.explanations.proofs.explain_routine.Tie as tie
 
-enum-told : tie.Need-enum-told
-enum-told c = search needs
-
 put-explanation-requires : tie.Need-put-explanation-requires
 put-explanation-requires c κs =
     let s = c .before .before .before .before .before .before in
@@ -19,10 +16,12 @@ put-explanation-requires c κs =
 
 returns : tie.Need-returns
 returns c =
-    let s = c .before .before .before .before .before .before .before .before .before in
-    let x = c .before .before .before .before .before .before .explored in
+    let at-enum-told = c .before .before .before .before in
+    let at-explored = at-enum-told .before .before in
+    let s = at-explored .before .before .before in
+    let x = at-explored .explored in
     let p = c .before .before .put-explanation .ensures in
-    gives-report _ _ (routine-explained (lines (s .args .body .now)) (routineIn (s .args .routine)) (x .result) (x .ensures .0) (c .before .before .before .before .enum-told .given .1)) _ (p .0) _ _ (p .1)
+    gives-report _ _ (routine-explained (lines (s .args .body .now)) (routineIn (s .args .routine)) (x .result) (x .ensures .0) (at-enum-told .enum-told .given .1)) _ (p .0) _ _ (p .1)
 
 returns-2 : tie.Need-returns-2
 returns-2 c =
@@ -35,7 +34,7 @@ explain-routine-spec =
     tie.close
     (tie.spec
     (λ c κs. search needs)
-    enum-told
+    (λ c. search needs)
     put-explanation-requires
     (λ c. search needs)
     (λ c. search needs)

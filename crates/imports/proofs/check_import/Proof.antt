@@ -15,9 +15,6 @@ use Rattle.imports.proofs.check_import.Tie as tie
 counted : (c : tie.After-count-listed) → c .count-listed .result ≡ length (primitivesOf (c .before .before .before .before .before .before .before .args .primitives .now))
 counted c = c .count-listed .ensures ∙ ap (λ t. length (list t)) (c .before .first-line .ensures) ∙ ap length (sym (primitives-are (c .before .before .before .before .before .before .before .args .primitives .now)))
 
-enum-told : tie.Need-enum-told
-enum-told c = search needs
-
 code-fault-requires : tie.Need-code-fault-requires
 code-fault-requires c κs =
     let few = accepted-few (c .before .before .before .before .before .before .before .args .primitives .now) (sym (c .before .before .before .before .check-primitives .ensures) ∙ c .before .before .enum-told .given .1) in
@@ -30,10 +27,12 @@ returns c =
 
 returns-2 : tie.Need-returns-2
 returns-2 c =
-    let s = c .before .before .before .before .before .before .before .before .before in
+    let at-enum-told = c .before .before .before .before in
+    let at-check-primitives = at-enum-told .before .before in
+    let s = at-check-primitives .before .before .before in
     c .fault-verdict .ensures
     ∙ ap faultVerdict (c .before .code-fault .ensures ∙ ap (λ n. codeFault n (wordsOf (s .args .words .now))) (counted (c .before .before)))
-    ∙ sym (import-next (s .args .words .now) (s .args .primitives .now) (sym (c .before .before .before .before .before .before .check-primitives .ensures) ∙ c .before .before .before .before .enum-told .given .1))
+    ∙ sym (import-next (s .args .words .now) (s .args .primitives .now) (sym (at-check-primitives .check-primitives .ensures) ∙ at-enum-told .enum-told .given .1))
 
 pub check-import-spec : {M : Type 1} → statement M
 check-import-spec =
@@ -41,7 +40,7 @@ check-import-spec =
     (tie.spec
     (λ c κs. search needs)
     (λ c. search needs)
-    enum-told
+    (λ c. search needs)
     (λ c κs. search needs)
     (λ c κs. search needs)
     code-fault-requires

@@ -23,29 +23,45 @@ returns-3 c =
 returns-4 : tie.Need-returns-4
 returns-4 c =
     let t = c .before .before .before .before .before in
-    let e = sym (t .before .before .before .all-words .ensures) ∙ not-false _ (t .before .before .if1 .left) in
-    let f = sym (t .before .names-laid-out .ensures) ∙ not-false _ (t .if2 .left) in
-    let line = t .before .before .before .before .before .args .line .now in
+    let at-names-laid-out = t .before in
+    let at-if1 = at-names-laid-out .before in
+    let at-all-words = at-if1 .before in
+    let start = at-all-words .before .before in
+    let e = sym (at-all-words .all-words .ensures) ∙ not-false _ (at-if1 .if1 .left) in
+    let f = sym (at-names-laid-out .names-laid-out .ensures) ∙ not-false _ (t .if2 .left) in
+    let line = start .args .line .now in
     let g = sym (c .before .before .before .same .ensures) ∙ c .before .before .if3 .left in
     sym (line-misspelt line e f g (sym (c .before .all-words2 .ensures) ∙ not-true _ (c .if4 .taken)))
 
 returns-5 : tie.Need-returns-5
 returns-5 c =
-    let t = c .before .before .before .before .before .before .before in
-    let e = sym (t .before .before .before .all-words .ensures) ∙ not-false _ (t .before .before .if1 .left) in
-    let f = sym (t .before .names-laid-out .ensures) ∙ not-false _ (t .if2 .left) in
-    let line = t .before .before .before .before .before .args .line .now in
-    let g = sym (c .before .before .before .before .before .same .ensures) ∙ c .before .before .before .before .if3 .left in
+    let at-if3 = c .before .before .before .before in
+    let at-same = at-if3 .before in
+    let t = at-same .before .before in
+    let at-names-laid-out = t .before in
+    let at-if1 = at-names-laid-out .before in
+    let at-all-words = at-if1 .before in
+    let start = at-all-words .before .before in
+    let e = sym (at-all-words .all-words .ensures) ∙ not-false _ (at-if1 .if1 .left) in
+    let f = sym (at-names-laid-out .names-laid-out .ensures) ∙ not-false _ (t .if2 .left) in
+    let line = start .args .line .now in
+    let g = sym (at-same .same .ensures) ∙ at-if3 .if3 .left in
     let h = sym (c .before .before .before .all-words2 .ensures) ∙ not-false _ (c .before .before .if4 .left) in
     sym (line-repeated line e f g h (sym (c .before .distinct .ensures) ∙ not-true _ (c .if5 .taken)))
 
 returns-6 : tie.Need-returns-6
 returns-6 c =
-    let t = c .before .before .before .before .before .before .before in
-    let e = sym (t .before .before .before .all-words .ensures) ∙ not-false _ (t .before .before .if1 .left) in
-    let f = sym (t .before .names-laid-out .ensures) ∙ not-false _ (t .if2 .left) in
-    let line = t .before .before .before .before .before .args .line .now in
-    let g = sym (c .before .before .before .before .before .same .ensures) ∙ c .before .before .before .before .if3 .left in
+    let at-if3 = c .before .before .before .before in
+    let at-same = at-if3 .before in
+    let t = at-same .before .before in
+    let at-names-laid-out = t .before in
+    let at-if1 = at-names-laid-out .before in
+    let at-all-words = at-if1 .before in
+    let start = at-all-words .before .before in
+    let e = sym (at-all-words .all-words .ensures) ∙ not-false _ (at-if1 .if1 .left) in
+    let f = sym (at-names-laid-out .names-laid-out .ensures) ∙ not-false _ (t .if2 .left) in
+    let line = start .args .line .now in
+    let g = sym (at-same .same .ensures) ∙ at-if3 .if3 .left in
     let h = sym (c .before .before .before .all-words2 .ensures) ∙ not-false _ (c .before .before .if4 .left) in
     sym (line-fine line e f g h (sym (c .before .distinct .ensures) ∙ not-false _ (c .if5 .left)))
 

@@ -11,9 +11,6 @@ use borrow.Author.Needs.{needs}
 use Rattle.patches.proofs.copy.Statement.{statement}
 use Rattle.patches.proofs.copy.Tie as tie
 
-enum-told : tie.Need-enum-told
-enum-told c = search needs
-
 copy-at-requires : tie.Need-copy-at-requires
 unfolding readBy
 copy-at-requires c κs =
@@ -36,7 +33,7 @@ copy-spec =
     tie.close
     (tie.spec
     (λ c κs. search needs)
-    enum-told
+    (λ c. search needs)
     copy-at-requires
     (λ c. search needs)
     (λ c. search needs)

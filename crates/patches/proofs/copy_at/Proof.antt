@@ -30,9 +30,13 @@ put-copy-requires c κs =
 returns-3 : tie.Need-returns-3
 returns-3 c =
     let e = c .before .before in
-    let d = e .before .before .before .before in
-    let s = d .before .before .before .before .before .before in
-    let i = copy-inside (s .args .text .now) (s .pre .0) (s .pre .1) (s .args .address) (s .args .instruction .now) _ (d .before .before .body-of .ensures) _ _ (d .before .first-address .ensures) (d .count-code .ensures) (omega (arith, e .before .before .before .if1 .left)) (omega (arith, e .before .before .if2 .left)) in
+    let at-if2 = e .before .before in
+    let at-if1 = at-if2 .before in
+    let d = at-if1 .before in
+    let at-first-address = d .before in
+    let at-body-of = at-first-address .before in
+    let s = at-body-of .before .before .before .before in
+    let i = copy-inside (s .args .text .now) (s .pre .0) (s .pre .1) (s .args .address) (s .args .instruction .now) _ (at-body-of .body-of .ensures) _ _ (at-first-address .first-address .ensures) (d .count-code .ensures) (omega (arith, at-if1 .if1 .left)) (omega (arith, at-if2 .if2 .left)) in
     (e .put-copy .ensures .0 ∙ ap answerOf (sym (i .1)), e .put-copy .ensures .1 ∙ ap (λ a. memory a (s .args .out .now)) (sym (i .1)))
 
 pub copy-at-spec : {M : Type 1} → statement M

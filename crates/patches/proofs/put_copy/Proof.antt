@@ -28,24 +28,32 @@ returns c =
 
 slice-aggregate-put-parts : tie.Need-slice-aggregate-put-parts
 slice-aggregate-put-parts c =
-    let s = c .before .before .before .before .before .before .before .before .before .before in
+    let c1 = c .before .before .before .before .before in
+    let s = c1 .before .before .before .before .before in
     sym (length-take-le _ (s .args .text .now) (omega arith))
 
 put-parts-requires : tie.Need-put-parts-requires
 put-parts-requires c κs =
     let d = c .before .before .before in
-    let s = d .before .before .before .before .before .before .before in
-    let q = parts-are (s .args .text .now) (s .pre .0) (s .args .k) (s .pre .2, s .pre .3) _ _ _ _ (d .before .before .before .after-lines .ensures .0) (d .before .before .first-line .ensures) (d .before .word-at .ensures) (d .after-line .ensures .0) in
-    let t = length-take-le (length (s .args .text .now) - length (d .before .before .before .after-lines .result .now)) (s .args .text .now) (omega arith) in
+    let at-word-at = d .before in
+    let at-first-line = at-word-at .before in
+    let at-after-lines = at-first-line .before in
+    let s = at-after-lines .before .before .before .before in
+    let q = parts-are (s .args .text .now) (s .pre .0) (s .args .k) (s .pre .2, s .pre .3) _ _ _ _ (at-after-lines .after-lines .ensures .0) (at-first-line .first-line .ensures) (at-word-at .word-at .ensures) (d .after-line .ensures .0) in
+    let t = length-take-le (length (s .args .text .now) - length (at-after-lines .after-lines .result .now)) (s .args .text .now) (omega arith) in
     omega (arith, q .fits, s .pre .1, s .pre .4, c .before .before .if1 .left)
 
 returns-2 : tie.Need-returns-2
 returns-2 c =
     let e = c .before .before in
-    let d = e .before .before .before .before in
-    let s = d .before .before .before .before .before .before .before in
-    let q = parts-are (s .args .text .now) (s .pre .0) (s .args .k) (s .pre .2, s .pre .3) _ _ _ _ (d .before .before .before .after-lines .ensures .0) (d .before .before .first-line .ensures) (d .before .word-at .ensures) (d .after-line .ensures .0) in
-    gives-report _ _ (copy-short q (s .args .instruction .now) (omega (arith, q .fits, s .pre .1, e .before .before .before .if1 .left))) _ (e .put-parts .ensures .0) _ _ (e .put-parts .ensures .1)
+    let at-if1 = e .before .before .before in
+    let d = at-if1 .before in
+    let at-word-at = d .before in
+    let at-first-line = at-word-at .before in
+    let at-after-lines = at-first-line .before in
+    let s = at-after-lines .before .before .before .before in
+    let q = parts-are (s .args .text .now) (s .pre .0) (s .args .k) (s .pre .2, s .pre .3) _ _ _ _ (at-after-lines .after-lines .ensures .0) (at-first-line .first-line .ensures) (at-word-at .word-at .ensures) (d .after-line .ensures .0) in
+    gives-report _ _ (copy-short q (s .args .instruction .now) (omega (arith, q .fits, s .pre .1, at-if1 .if1 .left))) _ (e .put-parts .ensures .0) _ _ (e .put-parts .ensures .1)
 
 pub put-copy-spec : {M : Type 1} → statement M
 put-copy-spec =

@@ -74,14 +74,17 @@ returns-3 c =
 
 returns-4 : tie.Need-returns-4
 returns-4 c =
-    let b = c .before .before .before .before .before .before .before in
-    let x = b .before .step in
+    let at-next2 = c .before .before .before .before in
+    let b = at-next2 .before .before .before in
+    let at-step = b .before in
+    let at-answer-at = at-step .before in
+    let s = at-answer-at .before .before .before .before .before .before in
+    let x = at-step .step in
     let took = b .taken-after in
-    let s = b .before .before .before .before .before .before .before .before in
-    let p = c .before .before .before .before .next2 .given in
+    let p = at-next2 .next2 .given in
     record {
-      says = λ r st. address-same _ _ (step-held _ _ _ _ _ _ r st _ _ (x .result .next) (x .result .state) (x .result .blocks) (x .result .calls) _ (b .before .before .answer-at .ensures) (x .ensures .0) (x .ensures .1 .0) (p .0 .0) (took .result) (took .ensures .0 _) (p .1)) (c .if2 .taken);
-      goes-on = λ r st h. step-stands _ _ _ _ _ _ r st (s .args .at) (s .args .spent) (x .result .next) (x .result .state) (x .result .blocks) (x .result .calls) _ (b .before .before .answer-at .ensures) (x .ensures .0) (x .ensures .1 .0) (p .0 .0) (took .result) (took .ensures .0 _) (p .1);
+      says = λ r st. address-same _ _ (step-held _ _ _ _ _ _ r st _ _ (x .result .next) (x .result .state) (x .result .blocks) (x .result .calls) _ (at-answer-at .answer-at .ensures) (x .ensures .0) (x .ensures .1 .0) (p .0 .0) (took .result) (took .ensures .0 _) (p .1)) (c .if2 .taken);
+      goes-on = λ r st h. step-stands _ _ _ _ _ _ r st (s .args .at) (s .args .spent) (x .result .next) (x .result .state) (x .result .blocks) (x .result .calls) _ (at-answer-at .answer-at .ensures) (x .ensures .0) (x .ensures .1 .0) (p .0 .0) (took .result) (took .ensures .0 _) (p .1);
       formed = x .ensures .1 .1 .0 .0;
       fits = x .ensures .1 .1 .0 .1;
       few = took .ensures .1;
@@ -89,14 +92,17 @@ returns-4 c =
 
 returns-5 : tie.Need-returns-5
 returns-5 c =
-    let b = c .before .before .before .before .before .before .before in
-    let x = b .before .step in
+    let at-next2 = c .before .before .before .before in
+    let b = at-next2 .before .before .before in
+    let at-step = b .before in
+    let at-answer-at = at-step .before in
+    let s = at-answer-at .before .before .before .before .before .before in
+    let x = at-step .step in
     let took = b .taken-after in
-    let s = b .before .before .before .before .before .before .before .before in
-    let p = c .before .before .before .before .next2 .given in
+    let p = at-next2 .next2 .given in
     record {
-      says = λ r st. address-other _ (s .args .state .at) (s .args .at) (step-held _ _ _ _ _ _ r st (s .args .at) (s .args .spent) (x .result .next) (x .result .state) (x .result .blocks) (x .result .calls) _ (b .before .before .answer-at .ensures) (x .ensures .0) (x .ensures .1 .0) (p .0 .0) (took .result) (took .ensures .0 _) (p .1)) (c .if2 .left);
-      goes-on = λ r st h. step-stands _ _ _ _ _ _ r st (s .args .at) (s .args .spent) (x .result .next) (x .result .state) (x .result .blocks) (x .result .calls) _ (b .before .before .answer-at .ensures) (x .ensures .0) (x .ensures .1 .0) (p .0 .0) (took .result) (took .ensures .0 _) (p .1);
+      says = λ r st. address-other _ (s .args .state .at) (s .args .at) (step-held _ _ _ _ _ _ r st (s .args .at) (s .args .spent) (x .result .next) (x .result .state) (x .result .blocks) (x .result .calls) _ (at-answer-at .answer-at .ensures) (x .ensures .0) (x .ensures .1 .0) (p .0 .0) (took .result) (took .ensures .0 _) (p .1)) (c .if2 .left);
+      goes-on = λ r st h. step-stands _ _ _ _ _ _ r st (s .args .at) (s .args .spent) (x .result .next) (x .result .state) (x .result .blocks) (x .result .calls) _ (at-answer-at .answer-at .ensures) (x .ensures .0) (x .ensures .1 .0) (p .0 .0) (took .result) (took .ensures .0 _) (p .1);
       formed = x .ensures .1 .1 .0 .0;
       fits = x .ensures .1 .1 .0 .1;
       few = took .ensures .1;

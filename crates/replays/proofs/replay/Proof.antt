@@ -33,8 +33,9 @@ loop-holds c = let s = c .before .before .before .before .before .before .before
 
 follow-requires : tie.Need-follow-requires Inv-loop μ-loop
 follow-requires c κs =
-    let i = c .before .before .before .before .loop .inv in
-    let s = c .before .before .before .before .before .before .before .before .before .before .before .before in
+    let at-loop = c .before .before .before .before in
+    let s = at-loop .before .before .before .before .before .before .before .before in
+    let i = at-loop .loop .inv in
     let f = i .few in
     let g = i .near in
     (s .pre .0, s .pre .1, i .formed, i .fits, omega arith)
@@ -46,24 +47,42 @@ returns c =
     differs (b .before .before .before .loop .inv) (b .before .before .loop-test .taken) _ (b .before .first-line .ensures) _ _ (b .entry-of .ensures .0) (b .entry-of .ensures .1) _ (c .before .before .follow .ensures) (not-true _ (c .if1 .taken))
 
 after-stop-requires : tie.Need-after-stop-requires Inv-loop μ-loop
-after-stop-requires c κs = let i = c .before .before .before .before .before .before .before .before .before .loop .inv in let g = i .near in omega arith
+after-stop-requires c κs =
+    let c1 = c .before .before .before .before in
+    let at-loop = c1 .before .before .before .before .before in
+    let i = at-loop .loop .inv in let g = i .near in omega arith
 
 returns-2 : tie.Need-returns-2 Inv-loop μ-loop
 returns-2 c =
-    let b = c .before .before .before .before .before .before .before in
+    let at-follow = c .before .before .before .before .before in
+    let b = at-follow .before .before in
+    let at-first-line = b .before in
+    let at-loop-test = at-first-line .before in
+    let at-loop = at-loop-test .before in
     c .after-stop .ensures
-    ∙ stops (b .before .before .before .loop .inv) (b .before .before .loop-test .taken) _ (b .before .first-line .ensures) _ _ (b .entry-of .ensures .0) (b .entry-of .ensures .1) _ (c .before .before .before .before .before .follow .ensures) (not-false _ (c .before .before .before .if1 .left)) _ (c .before .before .next-lines2 .ensures .0) (c .before .if2 .taken)
+    ∙ stops (at-loop .loop .inv) (at-loop-test .loop-test .taken) _ (at-first-line .first-line .ensures) _ _ (b .entry-of .ensures .0) (b .entry-of .ensures .1) _ (at-follow .follow .ensures) (not-false _ (c .before .before .before .if1 .left)) _ (c .before .before .next-lines2 .ensures .0) (c .before .if2 .taken)
 
 add-line : tie.Need-add-line Inv-loop μ-loop
-add-line c = let i = c .before .before .before .before .before .before .before .before .before .before .before .loop .inv in let g = i .near in omega arith
+add-line c =
+    let c1 = c .before .before .before .before .before in
+    let at-loop = c1 .before .before .before .before .before .before in
+    let i = at-loop .loop .inv in let g = i .near in omega arith
 
 loop-less : tie.Need-loop-less Inv-loop μ-loop
-loop-less c = let h = c .before .before .before .next-lines2 .ensures .1 in let t = c .before .before .before .before .before .before .before .before .before .before .loop-test .taken in omega arith
+loop-less c =
+    let c1 = c .before .before .before .before .before in
+    let at-loop-test = c1 .before .before .before .before .before in
+    let h = c .before .before .before .next-lines2 .ensures .1 in let t = at-loop-test .loop-test .taken in omega arith
 
 loop-again : tie.Need-loop-again Inv-loop μ-loop
 loop-again c =
-    let b = c .before .before .before .before .before .before .before .before in
-    goes-on (b .before .before .before .loop .inv) (b .before .before .loop-test .taken) _ (b .before .first-line .ensures) _ _ (b .entry-of .ensures .0) (b .entry-of .ensures .1) _ (c .before .before .before .before .before .before .follow .ensures) (not-false _ (c .before .before .before .before .if1 .left)) _ (c .before .before .before .next-lines2 .ensures .0) (c .before .before .if2 .left)
+    let at-if1 = c .before .before .before .before in
+    let at-follow = at-if1 .before .before in
+    let b = at-follow .before .before in
+    let at-first-line = b .before in
+    let at-loop-test = at-first-line .before in
+    let at-loop = at-loop-test .before in
+    goes-on (at-loop .loop .inv) (at-loop-test .loop-test .taken) _ (at-first-line .first-line .ensures) _ _ (b .entry-of .ensures .0) (b .entry-of .ensures .1) _ (at-follow .follow .ensures) (not-false _ (at-if1 .if1 .left)) _ (c .before .before .before .next-lines2 .ensures .0) (c .before .before .if2 .left)
 
 returns-3 : tie.Need-returns-3 Inv-loop μ-loop
 unfolding ofReplayed

@@ -18,9 +18,6 @@ returns c =
     let start = c .before .before .before in
     gives-refusal _ _ (nearest-short (start .args .text .now) (length (start .args .out .now)) (c .if1 .taken)) _
 
-enum-told : tie.Need-enum-told
-enum-told c = search needs
-
 routine-of-requires : tie.Need-routine-of-requires
 routine-of-requires c κs = accepted-reading _ Bound (sym (c .before .before .check .ensures) ∙ c .enum-told .given .1) .0
 
@@ -30,14 +27,19 @@ nearest-routine-requires c κs = (c .before .routine-of .ensures .1, c .before .
 returns-2 : tie.Need-returns-2
 unfolding readBy
 returns-2 c =
-    let start = c .before .before .before .before .before .before .before .before .before .before .before in
+    let at-nearest-routine = c .before .before in
+    let at-routine-of = at-nearest-routine .before .before in
+    let at-enum-told = at-routine-of .before in
+    let at-check = at-enum-told .before .before in
+    let at-if1 = at-check .before in
+    let start = at-if1 .before .before .before in
     let text = start .args .text .now in
     let out = start .args .out .now in
-    let held = c .before .before .before .before .routine-of in
-    let a = accepted-reading text Bound (sym (c .before .before .before .before .before .before .before .check .ensures) ∙ c .before .before .before .before .before .enum-told .given .1) in
-    let e = nearest-passed text (length out) (c .before .before .before .before .before .before .before .before .if1 .left) _ (a .1) in
+    let held = at-routine-of .routine-of in
+    let a = accepted-reading text Bound (sym (at-check .check .ensures) ∙ at-enum-told .enum-told .given .1) in
+    let e = nearest-passed text (length out) (at-if1 .if1 .left) _ (a .1) in
     let q = sym (e ∙ held-answer (routineOf (lines text)) (held .result) (held .ensures .0)) in
-    (c .before .before .nearest-routine .ensures .0 ∙ ap answerOf q, c .before .before .nearest-routine .ensures .1 ∙ ap (λ a. memory a out) q)
+    (at-nearest-routine .nearest-routine .ensures .0 ∙ ap answerOf q, at-nearest-routine .nearest-routine .ensures .1 ∙ ap (λ a. memory a out) q)
 
 returns-3 : tie.Need-returns-3
 unfolding readBy
@@ -53,7 +55,7 @@ nearest-spec =
     (tie.spec
     returns
     (λ c κs. search needs)
-    enum-told
+    (λ c. search needs)
     routine-of-requires
     nearest-routine-requires
     (λ c. search needs)

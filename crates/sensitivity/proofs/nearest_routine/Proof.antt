@@ -17,9 +17,6 @@ sought-requires c κs = c .before .pre .0
 put-change-requires : tie.Need-put-change-requires
 put-change-requires c κs = let s = c .before .before .before .before .before .before in omega (arith, held-length (s .args .routine) (s .pre .0) _ (sym (c .before .before .before .before .sought .ensures) ∙ ap ofSought (c .before .before .found .given .1)), s .pre .1)
 
-enum-told : tie.Need-enum-told
-enum-told c = search needs
-
 put-requires : tie.Need-put-requires
 put-requires c κs = omega (arith, c .before .before .before .before .before .before .pre .1)
 
@@ -30,9 +27,11 @@ returns c =
 
 returns-2 : tie.Need-returns-2
 returns-2 c =
-    let s = c .before .before .before .before .before .before .before .before .before in
+    let at-enum-told = c .before .before .before .before .before in
+    let at-sought = at-enum-told .before .before in
+    let s = at-sought .before .before in
     let w = wrote-start (wrote-more (wrote-none (s .args .out .now) 0 zero-le) (bytes "NONE\n") (c .before .before .put .ensures)) in
-    gives-report _ _ (says-none _ (sym (c .before .before .before .before .before .before .before .sought .ensures) ∙ ap ofSought (c .before .before .before .before .before .enum-told .given .1))) _ (w .0) _ _ (w .1)
+    gives-report _ _ (says-none _ (sym (at-sought .sought .ensures) ∙ ap ofSought (at-enum-told .enum-told .given .1))) _ (w .0) _ _ (w .1)
 
 returns-3 : tie.Need-returns-3
 returns-3 c =
@@ -45,7 +44,7 @@ nearest-routine-spec =
     sought-requires
     (λ c. search needs)
     put-change-requires
-    enum-told
+    (λ c. search needs)
     (λ c. search needs)
     put-requires
     (λ c. search needs)

@@ -1,51 +1,64 @@
 -- `sensitivity::put_change` meets its contract: the parts of the line one after the other. Assumes nothing.
-use Prim.Native.Nat.{zero-le}
+use Prim.Native.Nat.{ℕ, _≤_}
+use mathlib.Core.Path.{_≡_, ap}
+use mathlib.Core.List.{List, [], _∷_}
 use native.Mathlib.Omega.{arith}
+use lib.ListN.{length}
 use mir.Syntax.{w32}
+use mir.Val.{ofZ, toZ}
 use mir.ValLaws.{toZ-ofZ}
 use Rattle.text.specs.Text.{bytes}
-use Rattle.text.proofs.MemoryLaws.{wrote-none, wrote-more, wrote-start}
+use Rattle.text.proofs.PlaceLaws.{Place, joined, begins-first, room, room-as, next, next-as, finished-first}
 use Rattle.words.specs.Lines.{integer}
-use Rattle.sensitivity.specs.Answers.{nameOf}
-use Rattle.sensitivity.proofs.FunctionLaws.{line-is, line-length}
+use Rattle.sensitivity.specs.Answers.{nameOf, lineOf}
 use borrow.Author.Needs.{needs}
 use Rattle.sensitivity.proofs.put_change.Statement.{statement}
 use Rattle.sensitivity.proofs.put_change.Tie as tie
-use Rattle.sensitivity.proofs.put_change.Reads as reads
-use Rattle.sensitivity.proofs.put_change.Lts as lts
 
-put-name-requires : tie.Need-put-name-requires
-put-name-requires c κs = omega (arith, c .before .before .pre, line-length (c .before .before .args .change))
+-- the value as it is passed on
+passed : (s : tie.Start) → integer (toZ w32 (ofZ w32 (s .args .change .value))) ≡ integer (s .args .change .value)
+passed s = ap integer (toZ-ofZ w32 (s .args .change .value) (search needs))
 
-put-requires : tie.Need-put-requires
-put-requires c κs = omega (arith, c .before .before .before .before .before .before .before .pre, line-length (c .before .before .before .before .before .before .before .args .change), c .before .before .before .before .put-name .ensures .0)
+-- the parts of the line
+abbrev parts : tie.Start → List (List ℕ)
+parts s = nameOf (s .args .change .place) ∷ bytes " " ∷ integer (s .args .change .value) ∷ bytes "\n" ∷ []
 
-put-integer-requires : tie.Need-put-integer-requires
-put-integer-requires c κs = let s = c .before .before .before .before .before .before .before .before .before .before .before .before in let v = toZ-ofZ w32 (s .args .change .value) (search needs) in rw v (omega (arith, s .pre, line-length (s .args .change), c .before .before .before .before .before .before .before .before .before .put-name .ensures .0, c .before .before .before .before .put .ensures .0))
+-- the first n parts stand in o, up to e
+abbrev At : ℕ → ℕ → List ℕ → Type 0
+At = Place (λ (s : tie.Start). s .args .out .now) (λ s. 0) parts
 
-put-requires-2 : tie.Need-put-requires-2
-put-requires-2 c κs = let s = c .before .before .before .before .before .before .before .before .before .before .before .before .before .before .before .before .before in let v = toZ-ofZ w32 (s .args .change .value) (search needs) in omega (arith, s .pre, line-length (s .args .change), c .before .before .before .before .before .before .before .before .before .before .before .before .before .before .put-name .ensures .0, c .before .before .before .before .before .before .before .before .before .put .ensures .0, rw v at (c .before .before .before .before .put-integer .ensures .0))
+fits : (s : tie.Start) → length (joined [] (parts s)) ≤ length (s .args .out .now)
+unfolding lineOf
+fits s = s .pre
+
+abbrev w0 : (s : tie.Start) → At 0 0 (s .args .out .now)
+w0 s = begins-first s (fits s)
+
+abbrev w1 : (c : tie.After-put-name) → At 1 (c .put-name .result) (c .put-name .last .0)
+w1 c = next (w0 (c .before .before .before)) (c .put-name .ensures)
+
+abbrev w2 : (c : tie.After-put) → At 2 (c .put .result) (c .put .last .0)
+w2 c = next (w1 (c .before .before .before .before .before)) (c .put .ensures)
+
+abbrev w3 : (c : tie.After-put-integer) → At 3 (c .put-integer .result) (c .put-integer .last .0)
+w3 c = let w = w2 (c .before .before .before .before .before) in next-as w (passed (w .start)) (c .put-integer .ensures)
+
+abbrev w4 : (c : tie.After-put2) → At 4 (c .put2 .result) (c .put2 .last .0)
+w4 c = next (w3 (c .before .before .before .before .before)) (c .put2 .ensures)
 
 returns : tie.Need-returns
-returns c =
-    let s = c .before .before .before .before .before .before .before .before .before .before .before .before .before .before .before .before .before .before .before .before in
-    let v = toZ-ofZ w32 (s .args .change .value) (search needs) in
-    let w0 = wrote-none (s .args .out .now) 0 zero-le in
-    let w1 = wrote-more w0 (nameOf (s .args .change .place)) (c .before .before .before .before .before .before .before .before .before .before .before .before .before .before .before .before .before .put-name .ensures) in
-    let w2 = wrote-more w1 (bytes " ") (c .before .before .before .before .before .before .before .before .before .before .before .before .put .ensures) in
-    let w3 = wrote-more w2 (integer (s .args .change .value)) (rw v at (c .before .before .before .before .before .before .before .put-integer .ensures)) in
-    let w4 = wrote-more w3 (bytes "\n") (c .before .before .put2 .ensures) in
-    rw (line-is (s .args .change)) (wrote-start w4)
+unfolding lineOf
+returns c = finished-first (w4 (c .before .before))
 
 pub put-change-spec : {M : Type 1} → statement M
 put-change-spec =
     tie.close
     (tie.spec
-    put-name-requires
+    (λ c κs. omega (arith, room (w0 (c .before .before))))
     (λ c. search needs)
-    put-requires
-    put-integer-requires
+    (λ c κs. room (w1 (c .before .before .before .before)))
+    (λ c κs. let w = w2 (c .before .before .before .before) in room-as w (passed (w .start)))
     (λ c. search needs)
-    put-requires-2
+    (λ c κs. room (w3 (c .before .before .before .before)))
     (λ c. search needs)
     returns)

@@ -24,12 +24,13 @@ returns-3 : tie.Need-returns-3
 unfolding lineTest
 returns-3 c = check-layout _ (c .before .before .before .before .before .if1 .left) (c .before .before .before .before .if2 .left) _ (sym (c .before .before .before .earliest .ensures) ∙ c .before .layout .given .1)
 
-enum-told : tie.Need-enum-told
-enum-told c = search needs
-
 returns-4 : tie.Need-returns-4
 unfolding lineTest
-returns-4 c = check-range _ (c .before .before .before .before .before .before .before .before .if1 .left) (c .before .before .before .before .before .before .before .if2 .left) _ (row-layout (c .before .before .before .before)) (sym (c .before .before .before .earliest2 .ensures) ∙ c .before .range .given .1)
+returns-4 c =
+    let c1 = c .before .before .before .before in
+    let at-if2 = c1 .before .before .before in
+    let at-if1 = at-if2 .before in
+    check-range _ (at-if1 .if1 .left) (at-if2 .if2 .left) _ (row-layout c1) (sym (c .before .before .before .earliest2 .ensures) ∙ c .before .range .given .1)
 
 returns-5 : tie.Need-returns-5
 unfolding lineTest
@@ -44,7 +45,7 @@ check-trace-spec =
     (λ c κs. search needs)
     (λ c. search needs)
     returns-3
-    enum-told
+    (λ c. search needs)
     (λ c κs. search needs)
     (λ c. search needs)
     returns-4

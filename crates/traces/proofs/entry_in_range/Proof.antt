@@ -18,8 +18,11 @@ is-within-requires-2 c κs = near-range 0 4000000000 (omega arith) (omega arith)
 returns : tie.Need-returns
 unfolding entryInRange
 returns c =
-    and-true (sym (c .before .before .before .is-within .ensures ∙ ap₂ (λ r w. within r (value w)) (c .before .before .before .before .addresses .ensures) (c .before .before .before .before .before .before .word-at .ensures)) ∙ c .before .before .if1 .taken)
-    (c .is-within2 .ensures ∙ ap₂ (λ r w. within r (value w)) (c .before .cycle-range .ensures) (c .before .before .before .before .before .word-at2 .ensures))
+    let at-addresses = c .before .before .before .before in
+    let at-word-at2 = at-addresses .before in
+    let at-word-at = at-word-at2 .before in
+    and-true (sym (c .before .before .before .is-within .ensures ∙ ap₂ (λ r w. within r (value w)) (at-addresses .addresses .ensures) (at-word-at .word-at .ensures)) ∙ c .before .before .if1 .taken)
+    (c .is-within2 .ensures ∙ ap₂ (λ r w. within r (value w)) (c .before .cycle-range .ensures) (at-word-at2 .word-at2 .ensures))
 
 returns-2 : tie.Need-returns-2
 unfolding entryInRange

@@ -20,16 +20,23 @@ returns c =
 returns-2 : tie.Need-returns-2
 unfolding entryLaidOut
 returns-2 c =
-    let line = c .before .before .before .before .before .before .before .before .args .line .now in
-    and-through _ _ _ (eq-eqb (length (words line)) 2 (sym (c .before .before .before .before .before .before .count-words .ensures) ∙ c .before .before .before .before .before .if1 .left))
-    (and-true (sym (c .before .before .is-numeral .ensures ∙ ap (λ w. isNumeral (numeral w)) (c .before .before .before .before .word-at .ensures)) ∙ c .before .if2 .taken)
+    let at-word-at = c .before .before .before .before in
+    let at-if1 = at-word-at .before in
+    let at-count-words = at-if1 .before in
+    let start = at-count-words .before .before in
+    let line = start .args .line .now in
+    and-through _ _ _ (eq-eqb (length (words line)) 2 (sym (at-count-words .count-words .ensures) ∙ at-if1 .if1 .left))
+    (and-true (sym (c .before .before .is-numeral .ensures ∙ ap (λ w. isNumeral (numeral w)) (at-word-at .word-at .ensures)) ∙ c .before .if2 .taken)
     (c .is-numeral2 .ensures ∙ ap (λ w. isNumeral (numeral w)) (c .before .before .before .word-at2 .ensures)))
 
 returns-3 : tie.Need-returns-3
 unfolding entryLaidOut
 returns-3 c =
-    let line = c .before .before .before .before .before .before .before .args .line .now in
-    and-through _ _ _ (eq-eqb (length (words line)) 2 (sym (c .before .before .before .before .before .count-words .ensures) ∙ c .before .before .before .before .if1 .left))
+    let at-if1 = c .before .before .before .before in
+    let at-count-words = at-if1 .before in
+    let start = at-count-words .before .before in
+    let line = start .args .line .now in
+    and-through _ _ _ (eq-eqb (length (words line)) 2 (sym (at-count-words .count-words .ensures) ∙ at-if1 .if1 .left))
     (and-false (isNumeral (numeral (cycles line))) (sym (c .before .is-numeral .ensures ∙ ap (λ w. isNumeral (numeral w)) (c .before .before .before .word-at .ensures)) ∙ c .if2 .left))
 
 pub entry-laid-out-spec : {M : Type 1} → statement M

@@ -9,9 +9,6 @@ use borrow.Author.Needs.{needs}
 use Rattle.traces.proofs.passes.Statement.{statement}
 use Rattle.traces.proofs.passes.Tie as tie
 
-enum-told : tie.Need-enum-told
-enum-told c = search needs
-
 returns : tie.Need-returns
 unfolding lineTest
 returns c =
@@ -29,7 +26,7 @@ pub passes-spec : {M : Type 1} → statement M
 passes-spec =
     tie.close
     (tie.spec
-    enum-told
+    (λ c. search needs)
     (λ c κs. search needs)
     (λ c. search needs)
     (λ c κs. search needs)

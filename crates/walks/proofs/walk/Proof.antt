@@ -6,15 +6,14 @@ use Rattle.walks.proofs.ArmLaws.{at-stuck, at-stop, at-way, at-no-decis
 use Rattle.walks.proofs.walk.Statement.{statement}
 use Rattle.walks.proofs.walk.Tie as tie
 
-enum-told : tie.Need-enum-told
-enum-told c = search needs
-
 returns : tie.Need-returns
 unfolding movesBy
 returns c =
-    let x = c .before .before .before .before .before .before .step in
-    let asked = c .before .before .before .before .before .before .before .unknown .ensures in
-    let s = c .before .before .before .before .before .before .before .before .before .before .before .before .before in
+    let at-step = c .before .before .before .before .before .before in
+    let at-unknown = at-step .before in
+    let s = at-unknown .before .before .before .before .before .before in
+    let x = at-step .step in
+    let asked = at-unknown .unknown .ensures in
     let a = s .args in
     let g = c .before .before .next3 .given in
     record {
@@ -28,9 +27,11 @@ returns c =
 returns-2 : tie.Need-returns-2
 unfolding movesBy
 returns-2 c =
-    let x = c .before .before .before .before .before .before .before .step in
-    let asked = c .before .before .before .before .before .before .before .before .unknown .ensures in
-    let s = c .before .before .before .before .before .before .before .before .before .before .before .before .before .before in
+    let at-step = c .before .before .before .before .before .before .before in
+    let at-unknown = at-step .before in
+    let s = at-unknown .before .before .before .before .before .before in
+    let x = at-step .step in
+    let asked = at-unknown .unknown .ensures in
     let a = s .args in
     let g = c .before .before .before .next3 .given in
     let l = small-ways (x .result .next) (x .ensures .1 .1 .0 .2) (g .0 .0) (g .0 .1 .0) (g .0 .1 .1 .0) (g .1) in
@@ -45,9 +46,11 @@ returns-2 c =
 returns-3 : tie.Need-returns-3
 unfolding movesBy
 returns-3 c =
-    let x = c .before .before .before .before .step in
-    let asked = c .before .before .before .before .before .unknown .ensures in
-    let s = c .before .before .before .before .before .before .before .before .before .before .before in
+    let at-step = c .before .before .before .before in
+    let at-unknown = at-step .before in
+    let s = at-unknown .before .before .before .before .before .before in
+    let x = at-step .step in
+    let asked = at-unknown .unknown .ensures in
     let a = s .args in
     record {
       moves = λ below. at-stuck _ (a .sizes .now) (a .path) (a .state) (a .blocks) (x .result .next) (x .result .state) (x .result .blocks) _ asked (x .ensures .0) below (c .enum-told .given .1);
@@ -60,9 +63,11 @@ returns-3 c =
 returns-4 : tie.Need-returns-4
 unfolding movesBy
 returns-4 c =
-    let x = c .before .before .before .before .before .step in
-    let asked = c .before .before .before .before .before .before .unknown .ensures in
-    let s = c .before .before .before .before .before .before .before .before .before .before .before .before in
+    let at-step = c .before .before .before .before .before in
+    let at-unknown = at-step .before in
+    let s = at-unknown .before .before .before .before .before .before in
+    let x = at-step .step in
+    let asked = at-unknown .unknown .ensures in
     let a = s .args in
     let g = c .before .next .given in
     let l = small-stop (x .result .next) (x .ensures .1 .1 .0 .2) (g .0 .0) (g .1) in
@@ -77,9 +82,11 @@ returns-4 c =
 returns-5 : tie.Need-returns-5
 unfolding movesBy
 returns-5 c =
-    let x = c .before .before .before .before .before .step in
-    let asked = c .before .before .before .before .before .before .unknown .ensures in
-    let s = c .before .before .before .before .before .before .before .before .before .before .before .before in
+    let at-step = c .before .before .before .before .before in
+    let at-unknown = at-step .before in
+    let s = at-unknown .before .before .before .before .before .before in
+    let x = at-step .step in
+    let asked = at-unknown .unknown .ensures in
     let a = s .args in
     let g = c .before .next2 .given in
     let l = small-way (x .result .next) (x .ensures .1 .1 .0 .2) (g .0 .0) (g .1) in
@@ -94,11 +101,14 @@ returns-5 c =
 returns-6 : tie.Need-returns-6
 unfolding movesBy
 returns-6 c =
-    let x = c .before .before .before .before .before .before .before .before .step in
-    let asked = c .before .before .before .before .before .before .before .before .before .unknown .ensures in
-    let s = c .before .before .before .before .before .before .before .before .before .before .before .before .before .before .before in
+    let at-next3 = c .before .before .before .before in
+    let at-step = at-next3 .before .before .before .before in
+    let at-unknown = at-step .before in
+    let s = at-unknown .before .before .before .before .before .before in
+    let x = at-step .step in
+    let asked = at-unknown .unknown .ensures in
     let a = s .args in
-    let g = c .before .before .before .before .next3 .given in
+    let g = at-next3 .next3 .given in
     let l = small-ways (x .result .next) (x .ensures .1 .1 .0 .2) (g .0 .0) (g .0 .1 .0) (g .0 .1 .1 .0) (g .1) in
     record {
       moves = λ below. at-t _ (a .sizes .now) (a .path) (a .state) (a .blocks) (x .result .next) (x .result .state) (x .result .blocks) _ asked (x .ensures .0) below (g .0 .0) (g .0 .1 .0) (g .0 .1 .1 .0) (g .1) (c .before .before .if1 .left) (c .before .if2 .left) (c .jump .result) (c .jump .ensures .0);
@@ -114,7 +124,7 @@ walk-spec =
     (tie.spec
     (λ c κs. search needs)
     (λ c κs. search needs)
-    enum-told
+    (λ c. search needs)
     (λ c. search needs)
     (λ c. search needs)
     (λ c. search needs)
