@@ -28,7 +28,8 @@ impl<'a> Accumulator<'a> {
             }
             let Some(item) = self.body.items.get(index) else { return false };
             match &item.step {
-                Step::Acc(_) | Step::Const(_) | Step::Kept(_) => {}
+                // what has a fault is told by itself
+                Step::Acc(_) | Step::Const(_) | Step::Kept(_) | Step::Other => {}
                 Step::Branch("BRANCH", label) => match self.places.get(label) {
                     Some(place) => next.push(*place),
                     None => return false,

@@ -29,7 +29,7 @@ use closure::Kept;
 use code::Code;
 use faults::{Fault, Found};
 use make::{made, Made, Wanted};
-use notes::Note;
+use notes::{Done, Note};
 use object::Unit;
 use routine::Routine;
 use source::{Compiled, Lines, Source};
@@ -203,7 +203,13 @@ fn said(notes: &[Note], lines: &Lines) -> Vec<String> {
     notes.sort();
     let mut said: Vec<(String, usize)> = Vec::new();
     for (at, done) in &notes {
-        let line = format!("{}: {done}", lines.place(*at));
+        let name = match done {
+            Done::Kept(place, _) => {
+                lines.kept(*at, *place).map_or(String::new(), |name| format!("`{}`, ", told(&name)))
+            }
+            _ => String::new(),
+        };
+        let line = format!("{}: {name}{done}", lines.place(*at));
         match said.iter_mut().find(|(other, _)| *other == line) {
             Some((_, count)) => *count += 1,
             None => said.push((line, 1)),

@@ -33,6 +33,11 @@ impl For {
         }
     }
 
+    /// How many steps there are at most when it is written out.
+    fn length(&self, body: &Body) -> usize {
+        self.turns().saturating_mul(self.turn.len() + 2).saturating_add(body.length())
+    }
+
     fn turns(&self) -> usize {
         let (low, high) = if self.down { (self.end, self.from) } else { (self.from, self.end) };
         usize::try_from(i64::from(high) - i64::from(low) + 1).unwrap_or(0)
@@ -44,24 +49,21 @@ pub fn unroll(body: &mut Body, wanted: bool, notes: &mut Vec<Note>) -> Vec<Found
     let mut faults = Vec::new();
     let mut known = BTreeSet::new();
     while let Some(back) = first_back(body, &known) {
-        let at = body.items[back].at;
-        match find(body, back) {
-            Some(found) if wanted && faults.is_empty() => {
-                let more = found.turns().saturating_mul(found.turn.len() + 2);
-                if more.saturating_add(body.length()) > LONGEST {
-                    faults.push((at, Fault::LongLoop(found.from, found.end)));
-                    known.insert(at);
-                    continue;
-                }
+        let found = find(body, back);
+        // where the loop begins, or else where it jumps back
+        let at = body.items[found.as_ref().map_or(back, |found| found.test.start)].at;
+        match found {
+            Some(found) if !wanted => faults.push((at, Fault::NotUnrolled(found.from, found.end))),
+            Some(found) if found.length(body) > LONGEST => faults.push((at, Fault::LongLoop(found.from, found.end))),
+            Some(found) if faults.is_empty() => {
                 notes.push((at, Done::Unrolled(found.from, found.end, found.turns())));
                 write_out(body, &found);
                 continue;
             }
-            Some(found) if !wanted => faults.push((at, Fault::NotUnrolled(found.from, found.end))),
             Some(_) => {}
             None => faults.push((at, Fault::Loop)),
         }
-        known.insert(at);
+        known.insert(body.items[back].at);
     }
     faults
 }
