@@ -1,0 +1,19 @@
+//! Writing: what is printed goes to standard output whole, or the command ends with 2 and says why. A closed pipe ends it quietly
+//! (`streams`).
+use crate::failure::Failure;
+use crate::streams;
+use std::io::{self, Write};
+
+/// Writes bytes to standard output.
+pub fn print(bytes: &[u8]) -> Result<(), Failure> {
+    if streams::is_closed(1) {
+        return Err(Failure("standard output is closed".into()));
+    }
+    let mut output = io::stdout().lock();
+    output.write_all(bytes).and_then(|()| output.flush()).map_err(|error| Failure(format!("standard output: {error}")))
+}
+
+/// A line on standard error, if it can be written.
+pub fn say(line: &str) {
+    let _ = io::stderr().lock().write_all(format!("{line}\n").as_bytes());
+}
