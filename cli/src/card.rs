@@ -5,12 +5,67 @@ use crate::numbers::number;
 
 /// The 61 kinds of instructions.
 pub const KINDS: [&str; 61] = [
-    "ACC0", "ACC1", "ACC2", "ACC3", "ACC4", "ACC5", "ACC6", "ACC7", "ACC", "PUSH", "PUSHACC0", "PUSHACC1", "PUSHACC2",
-    "PUSHACC3", "PUSHACC4", "PUSHACC5", "PUSHACC6", "PUSHACC7", "PUSHACC", "POP", "ASSIGN", "CONST0", "CONST1",
-    "CONST2", "CONST3", "CONSTINT", "PUSHCONST0", "PUSHCONST1", "PUSHCONST2", "PUSHCONST3", "PUSHCONSTINT",
-    "OFFSETINT", "NEGINT", "BOOLNOT", "ADDINT", "SUBINT", "EQ", "NEQ", "LTINT", "LEINT", "GTINT", "GEINT", "GETFIELD0",
-    "GETFIELD1", "GETFIELD2", "GETFIELD3", "GETFIELD", "SETFIELD0", "SETFIELD1", "SETFIELD2", "SETFIELD3", "SETFIELD",
-    "BRANCH", "BRANCHIF", "BRANCHIFNOT", "C_CALL1", "C_CALL2", "C_CALL3", "C_CALL4", "C_CALL5", "STOP",
+    "ACC0",
+    "ACC1",
+    "ACC2",
+    "ACC3",
+    "ACC4",
+    "ACC5",
+    "ACC6",
+    "ACC7",
+    "ACC",
+    "PUSH",
+    "PUSHACC0",
+    "PUSHACC1",
+    "PUSHACC2",
+    "PUSHACC3",
+    "PUSHACC4",
+    "PUSHACC5",
+    "PUSHACC6",
+    "PUSHACC7",
+    "PUSHACC",
+    "POP",
+    "ASSIGN",
+    "CONST0",
+    "CONST1",
+    "CONST2",
+    "CONST3",
+    "CONSTINT",
+    "PUSHCONST0",
+    "PUSHCONST1",
+    "PUSHCONST2",
+    "PUSHCONST3",
+    "PUSHCONSTINT",
+    "OFFSETINT",
+    "NEGINT",
+    "BOOLNOT",
+    "ADDINT",
+    "SUBINT",
+    "EQ",
+    "NEQ",
+    "LTINT",
+    "LEINT",
+    "GTINT",
+    "GEINT",
+    "GETFIELD0",
+    "GETFIELD1",
+    "GETFIELD2",
+    "GETFIELD3",
+    "GETFIELD",
+    "SETFIELD0",
+    "SETFIELD1",
+    "SETFIELD2",
+    "SETFIELD3",
+    "SETFIELD",
+    "BRANCH",
+    "BRANCHIF",
+    "BRANCHIFNOT",
+    "C_CALL1",
+    "C_CALL2",
+    "C_CALL3",
+    "C_CALL4",
+    "C_CALL5",
+    "STOP",
 ];
 
 /// The two kinds that may cost more where they jump.
@@ -176,7 +231,11 @@ impl Card {
     /// That the card prices every kind and every primitive of a code; those that it does not price are named, all of them.
     pub fn prices(&self, kinds: &[&str], primitives: &[&str]) -> Result<(), Failure> {
         let unpriced = |names: &[&str], priced: &[String]| -> Vec<String> {
-            names.iter().filter(|name| !priced.iter().any(|other| other == *name)).map(|name| name.to_string()).collect()
+            names
+                .iter()
+                .filter(|name| !priced.iter().any(|other| other == *name))
+                .map(|name| name.to_string())
+                .collect()
         };
         let [kinds, primitives] = [unpriced(kinds, &self.kinds), unpriced(primitives, &self.primitives)];
         let mut parts = Vec::new();

@@ -15,7 +15,8 @@ pub fn quoted(word: &str) -> String {
 
 /// What is wrong with the bytes of one line, if anything is.
 fn fault(line: &[u8]) -> Option<&'static str> {
-    let spaced = |line: &[u8]| line.starts_with(b" ") || line.ends_with(b" ") || line.windows(2).any(|two| two == b"  ");
+    let spaced =
+        |line: &[u8]| line.starts_with(b" ") || line.ends_with(b" ") || line.windows(2).any(|two| two == b"  ");
     if line.starts_with(b"\xef\xbb\xbf") {
         Some("the file begins with a byte order mark: save it as plain ASCII text")
     } else if line.ends_with(b"\r") {

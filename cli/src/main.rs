@@ -1,10 +1,17 @@
 //! tickbound: the bounds and the decision of a routine file, and what belongs to them. See `tickbound --help`.
 mod arguments;
+mod card;
+mod cells;
 mod extract;
 mod failure;
 mod input;
 mod library;
+mod lines;
+mod numbers;
 mod output;
+mod price;
+mod routine_text;
+mod sha256;
 mod sheet;
 mod streams;
 
@@ -16,6 +23,7 @@ fn dispatch(command: &str, arguments: &[String]) -> Result<u8, Failure> {
     match command {
         "sheet" => sheet::command(arguments),
         "extract" => extract::command(arguments),
+        "price" => price::command(arguments),
         _ => Err(Failure(format!("unknown command {command} (tickbound --help lists the commands)"))),
     }
 }
