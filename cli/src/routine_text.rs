@@ -7,9 +7,8 @@ use crate::lines::{self, at, quoted};
 /// The lines of a routine file before its code.
 const HEAD: usize = 14;
 
-/// A line of code: its words, and the line as it stands.
+/// The words of a line of code.
 pub struct CodeLine<'a> {
-    pub text: &'a str,
     pub at: &'a str,
     pub op: &'a str,
     pub arg: &'a str,
@@ -56,7 +55,7 @@ fn code_line<'a>(file: &str, line: usize, text: &'a str) -> Result<CodeLine<'a>,
     if !card::KINDS.contains(&op) {
         return Err(at(file, line, format!("{} is no kind of instruction", quoted(op))));
     }
-    Ok(CodeLine { text, at: address, op, arg })
+    Ok(CodeLine { at: address, op, arg })
 }
 
 impl<'a> RoutineText<'a> {
