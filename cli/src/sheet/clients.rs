@@ -1,5 +1,5 @@
 //! The line of the client count: for which numbers the figures hold, and which numbers they assume.
-use super::content::{Line, Part};
+use super::content::{words, Line, Part};
 use crate::cells::{Cell, Cells, OPEN};
 use crate::routine_text::RoutineText;
 
@@ -125,7 +125,7 @@ pub fn line(routine: &RoutineText, cells: Option<&Cells>) -> Line {
         true => Part::prose("no number: every cell is open or a handle."),
         false => {
             let mut part = Part::list(assumed);
-            part.items.extend("Another number needs a sheet of its own.".split(' ').map(str::to_string));
+            part.items.extend(words("Another number needs a sheet of its own."));
             part
         }
     };

@@ -1,5 +1,13 @@
 //! The parts of a sheet, before it has a form.
 
+/// A space at which a text is not broken into rows.
+pub const FIXED: char = '\u{a0}';
+
+/// The words of a text, each of which stays on one row.
+pub fn words(text: &str) -> Vec<String> {
+    text.split(' ').map(|word| word.replace(FIXED, " ")).collect()
+}
+
 /// A part of a line of the sheet: its name, if the line has several, and what flows in it; an item is broken only if it is too long.
 #[derive(Debug)]
 pub struct Part {
@@ -12,8 +20,7 @@ pub struct Part {
 impl Part {
     /// Sentences, which are broken at any space.
     pub fn prose(text: impl AsRef<str>) -> Part {
-        let items = text.as_ref().split(' ').map(str::to_string).collect();
-        Part { name: "", items, warns: false }
+        Part { name: "", items: words(text.as_ref()), warns: false }
     }
 
     /// A list of items with semicolons between them and a full stop at the end.

@@ -1,5 +1,5 @@
 //! A sheet as rows and pages, for both forms: rows of a width, pages of a height, listings in columns that break over pages.
-use super::content::{Line, Sheet};
+use super::content::{words, Line, Sheet};
 use std::ops::Range;
 
 /// A row of a line of the sheet.
@@ -23,50 +23,78 @@ pub enum Unit<'a> {
     Intro(Vec<String>),
 }
 
-/// How many characters a row has: of the decision and of an introduction, of a line, and of a named part of a line.
+/// How wide a row is: of the decision and of an introduction, of a line, and of a named part of a line; and how wide a character is.
 pub struct Widths {
-    pub full: usize,
-    pub line: usize,
-    pub part: usize,
+    pub full: f64,
+    pub line: f64,
+    pub part: f64,
+    pub character: fn(char) -> f64,
 }
 
-/// The pieces of a text that is longer than a row: its words, and pieces of a word that is too long itself.
-fn pieces(text: &str, width: usize) -> Vec<String> {
-    if text.chars().count() <= width {
-        return vec![text.to_string()];
+/// What takes the rows of one width.
+#[derive(Clone, Copy)]
+struct Measure {
+    width: f64,
+    character: fn(char) -> f64,
+}
+
+impl Measure {
+    fn of(&self, text: &str) -> f64 {
+        text.chars().map(self.character).sum()
     }
-    let cut = |word: &str| -> Vec<String> {
-        let letters: Vec<char> = word.chars().collect();
-        letters.chunks(width.max(1)).map(|piece| piece.iter().collect()).collect()
-    };
-    text.split(' ').flat_map(cut).collect()
-}
 
-/// Items as rows of at most so many characters; an item is broken only if it is longer than a row.
-pub fn rows(items: &[String], width: usize) -> Vec<String> {
-    let mut rows: Vec<String> = Vec::new();
-    for piece in items.iter().flat_map(|item| pieces(item, width)) {
-        match rows.last_mut() {
-            Some(row) if row.chars().count() + 1 + piece.chars().count() <= width => {
-                row.push(' ');
-                row.push_str(&piece);
-            }
-            _ => rows.push(piece),
+    /// The pieces of a text: itself where it fits in a row, or else its words, each cut where it is too long itself.
+    fn pieces(&self, text: &str) -> Vec<String> {
+        if self.of(text) <= self.width {
+            return vec![text.to_string()];
         }
+        text.split(' ').flat_map(|word| self.cut(word)).collect()
     }
-    rows
+
+    fn cut(&self, word: &str) -> Vec<String> {
+        let mut pieces = vec![String::new()];
+        for character in word.chars() {
+            let last = pieces.last_mut().expect("there is a piece");
+            match last.is_empty() || self.of(last) + (self.character)(character) <= self.width {
+                true => last.push(character),
+                false => pieces.push(character.to_string()),
+            }
+        }
+        pieces
+    }
+
+    /// Items as rows; an item is broken only if it is longer than a row.
+    fn rows(&self, items: &[String]) -> Vec<String> {
+        let mut rows: Vec<String> = Vec::new();
+        for piece in items.iter().flat_map(|item| self.pieces(item)) {
+            match rows.last_mut() {
+                Some(row) if self.of(row) + (self.character)(' ') + self.of(&piece) <= self.width => {
+                    row.push(' ');
+                    row.push_str(&piece);
+                }
+                _ => rows.push(piece),
+            }
+        }
+        rows
+    }
+
+    /// Sentences as rows.
+    fn prose(&self, text: &str) -> Vec<String> {
+        self.rows(&words(text))
+    }
 }
 
-/// Sentences as rows.
-fn prose(text: &str, width: usize) -> Vec<String> {
-    rows(&text.split(' ').map(str::to_string).collect::<Vec<_>>(), width)
+impl Widths {
+    fn measure(&self, width: f64) -> Measure {
+        Measure { width, character: self.character }
+    }
 }
 
 fn line_rows<'a>(line: &'a Line, widths: &Widths) -> Vec<Unit<'a>> {
     let mut units = Vec::new();
     for part in &line.parts {
         let width = if part.name.is_empty() { widths.line } else { widths.part };
-        for (index, text) in rows(&part.items, width).into_iter().enumerate() {
+        for (index, text) in widths.measure(width).rows(&part.items).into_iter().enumerate() {
             units.push(Unit::Row(Row {
                 title: line.title,
                 part: part.name,
@@ -82,14 +110,15 @@ fn line_rows<'a>(line: &'a Line, widths: &Widths) -> Vec<Unit<'a>> {
 
 /// What a sheet has before its listing, in its order.
 pub fn units<'a>(sheet: &'a Sheet, widths: &Widths) -> Vec<Unit<'a>> {
-    let mut units = vec![Unit::Decision(prose(&sheet.decision.sentences, widths.full))];
+    let full = widths.measure(widths.full);
+    let mut units = vec![Unit::Decision(full.prose(&sheet.decision.sentences))];
     if !sheet.printed.is_empty() {
         units.push(Unit::Printed(&sheet.printed));
     }
     units.extend(sheet.lines.iter().flat_map(|line| line_rows(line, widths)));
     units.push(Unit::Signature);
     if !sheet.intro.is_empty() {
-        units.push(Unit::Intro(prose(&sheet.intro, widths.full)));
+        units.push(Unit::Intro(full.prose(&sheet.intro)));
     }
     units
 }
@@ -146,16 +175,15 @@ impl Chunk {
 mod tests {
     use super::*;
 
-    fn words(text: &str) -> Vec<String> {
-        text.split(' ').map(str::to_string).collect()
-    }
-
     #[test]
     fn rows_are_never_too_wide() {
-        assert_eq!(rows(&words("one two three"), 7), ["one two", "three"]);
-        assert_eq!(rows(&["S2 = 1000;".into(), "B0 = 7.".into()], 12), ["S2 = 1000;", "B0 = 7."]);
-        assert_eq!(rows(&["a long item".into()], 6), ["a long", "item"]);
-        assert_eq!(rows(&["abcdefgh".into()], 3), ["abc", "def", "gh"]);
+        let rows = |items: &[String], width| Measure { width, character: |_| 1.0 }.rows(items);
+        assert_eq!(rows(&words("one two three"), 7.0), ["one two", "three"]);
+        assert_eq!(rows(&["S2 = 1000;".into(), "B0 = 7.".into()], 12.0), ["S2 = 1000;", "B0 = 7."]);
+        assert_eq!(rows(&["a long item".into()], 6.0), ["a long", "item"]);
+        assert_eq!(rows(&["abcdefgh".into()], 3.0), ["abc", "def", "gh"]);
+        let wide = |character| if character == 'M' { 2.0 } else { 1.0 };
+        assert_eq!(Measure { width: 5.0, character: wide }.rows(&words("ab cd MM M")), ["ab cd", "MM", "M"]);
     }
 
     #[test]

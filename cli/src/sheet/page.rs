@@ -8,7 +8,8 @@ const WIDTH: f64 = 527.0;
 const HEIGHT: f64 = 712.0;
 const HEADING: f64 = 36.0;
 const HEADING_ROW: f64 = 11.0;
-const WIDTHS: Widths = Widths { full: 84, line: 68, part: 62 };
+/// The widths of rows, with a tenth to spare for a font that is wider than Arial.
+const WIDTHS: Widths = Widths { full: 450.0, line: 395.0, part: 338.0, character: character_width };
 const GAP: f64 = 14.0;
 /// How wide a character of a listing is, and how high a line, in its size.
 const CHARACTER: f64 = 0.61;
@@ -22,6 +23,17 @@ const SEVERAL_PAGES: [f64; 3] = [8.0, 7.5, 7.0];
 const LEAST: usize = 8;
 const STYLE: &str = include_str!("style.css");
 
+/// How wide a character of Arial is at 9 points, or a little less wide than this.
+fn character_width(character: char) -> f64 {
+    let share = match character {
+        'M' | 'W' | 'm' | 'w' | '%' | '@' => 0.9,
+        'A'..='Z' => 0.7,
+        ' ' | '.' | ',' | ';' | ':' | '\'' | '|' | 'i' | 'j' | 'l' | 'f' | 't' | '(' | ')' | '/' | '-' | '!' => 0.32,
+        _ => 0.56,
+    };
+    9.0 * share
+}
+
 fn escaped(text: &str) -> String {
     text.replace('&', "&amp;").replace('<', "&lt;").replace('>', "&gt;").replace('"', "&quot;")
 }
@@ -34,7 +46,7 @@ fn height(sheet: &Sheet, unit: &Unit) -> f64 {
         }
         Unit::Printed(rows) => 8.0 + 10.0 * rows.len() as f64,
         Unit::Row(row) => 12.0 + if row.opens_line { 5.0 } else { 0.0 },
-        Unit::Signature => 42.0,
+        Unit::Signature => 56.0,
         Unit::Intro(rows) => 6.0 + 12.0 * rows.len() as f64,
     }
 }
@@ -164,7 +176,8 @@ fn listed(listing: &Listing, setting: Setting, chunk: &Chunk) -> String {
     let count = setting.columns.max(1);
     let wide = (WIDTH - GAP * (count - 1) as f64) / count as f64;
     let [size, wide] = [format!("{:.1}", setting.size), format!("{wide:.1}")];
-    format!("<div class=\"code\" style=\"font-size:{size}pt;--column:{wide}pt\">\n{columns}</div>\n")
+    let class = if listing.steps.iter().any(|step| step.is_worst) { "code marked" } else { "code" };
+    format!("<div class=\"{class}\" style=\"font-size:{size}pt;--column:{wide}pt\">\n{columns}</div>\n")
 }
 
 pub fn html(sheet: &Sheet) -> String {

@@ -8,7 +8,12 @@ const PART: usize = 12;
 const PAGE: usize = 60;
 const HEADING: usize = 4;
 const GAP: usize = 4;
-const WIDTHS: Widths = Widths { full: WIDTH - 6, line: WIDTH - TITLE, part: WIDTH - TITLE - PART };
+const WIDTHS: Widths = Widths {
+    full: (WIDTH - 6) as f64,
+    line: (WIDTH - TITLE) as f64,
+    part: (WIDTH - TITLE - PART) as f64,
+    character: |_| 1.0,
+};
 /// The fewest rows for which a listing begins on a page.
 const LEAST: usize = 6;
 const SIGNATURE: &str = "Card ____________________  Date ______________  Signed ____________________";

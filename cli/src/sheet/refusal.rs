@@ -1,4 +1,5 @@
 //! Refusals in words: what a number means, where its place is, and what to do.
+use super::content::FIXED;
 
 /// A refusal, as the analyser answers it.
 #[derive(Clone, Copy, Debug, PartialEq)]
@@ -38,8 +39,9 @@ fn words(number: u16) -> (&'static str, &'static str) {
 }
 
 impl Refusal {
-    pub fn printed(&self) -> String {
-        format!("REFUSED {} {}", self.number, self.place)
+    /// As the analyser prints it, on one row.
+    fn printed(&self) -> String {
+        format!("REFUSED{FIXED}{}{FIXED}{}", self.number, self.place)
     }
 
     /// Where the place is: a line of the file or an address of the code.
@@ -78,7 +80,13 @@ mod tests {
 
     #[test]
     fn places_are_lines_or_addresses() {
-        assert!(Refusal { number: 13, place: 21 }.told().starts_with("REFUSED 13 21, on line 21: a jump"));
-        assert!(Refusal { number: 8, place: 234 }.told().starts_with("REFUSED 8 234, at address 234: one path"));
+        assert!(Refusal { number: 13, place: 21 }
+            .told()
+            .replace(FIXED, " ")
+            .starts_with("REFUSED 13 21, on line 21: a jump"));
+        assert!(Refusal { number: 8, place: 234 }
+            .told()
+            .replace(FIXED, " ")
+            .starts_with("REFUSED 8 234, at address 234: one path"));
     }
 }
