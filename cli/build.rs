@@ -8,11 +8,17 @@ fn toolchain() -> Option<String> {
     line.lines().next().map(str::to_owned)
 }
 
-fn main() {
+fn find_library() {
     let folder = Path::new(env!("CARGO_MANIFEST_DIR")).join("../target/staticlib");
     println!("cargo:rustc-link-search=native={}", folder.display());
     println!("cargo:rerun-if-changed={}", folder.join("libanalyser.a").display());
+}
+
+fn main() {
     println!("cargo:rerun-if-changed=build.rs");
+    if std::env::var_os("CARGO_FEATURE_PROGRAMS").is_none() {
+        find_library();
+    }
     let identity = toolchain().unwrap_or("unknown (no rt on the path)".into());
     println!("cargo:rustc-env=TICKBOUND_TOOLCHAIN={identity}");
 }

@@ -1,49 +1,106 @@
-//! tickbound: the bounds and the decision of a routine file, and what belongs to them. See `tickbound --help`.
+//! tickbound: the decision on a routine file, its bounds, and what belongs to them. See `tickbound --help`.
 mod arguments;
+mod batch;
 mod card;
 mod cells;
+mod commands;
 mod extract;
 mod failure;
 mod input;
+mod install;
 mod library;
 mod lines;
 mod numbers;
 mod output;
+mod place;
 mod price;
 mod routine_text;
 mod sha256;
 mod sheet;
 mod streams;
+mod usage;
+mod why;
 
+use arguments::shown;
 use failure::Failure;
 use std::process::ExitCode;
 
-/// What the command ends with, after what it printed.
+/// Answers a command, and gives the exit status back.
 fn dispatch(command: &str, arguments: &[String]) -> Result<u8, Failure> {
+    if usage::is_asked(arguments) {
+        if let Some(help) = usage::of(command) {
+            return print(&help);
+        }
+    }
+    if let Some(question) = commands::QUESTIONS.iter().find(|question| question.name == command) {
+        return commands::ask(question, arguments);
+    }
     match command {
+        "import" => commands::import(arguments),
+        "replay" => commands::replay(arguments),
+        "preview" => commands::preview(arguments),
+        "generate" => commands::generate(arguments),
         "sheet" => sheet::command(arguments),
         "extract" => extract::command(arguments),
         "price" => price::command(arguments),
-        _ => Err(Failure(format!("unknown command {command} (tickbound --help lists the commands)"))),
+        "batch" => batch::command(arguments),
+        "install" => install::command(arguments),
+        "--help" | "-h" | "--version" => about(command, arguments),
+        _ => Err(wrong(&format!("unknown command {}", shown(command)))),
     }
 }
 
-fn answered(arguments: Vec<String>) -> Result<u8, Failure> {
-    match arguments.split_first() {
+/// What the command says of itself.
+fn about(option: &str, arguments: &[String]) -> Result<u8, Failure> {
+    match option {
+        _ if !arguments.is_empty() => Err(wrong(&format!("{option} stands alone"))),
+        "--version" => {
+            let toolchain = env!("TICKBOUND_TOOLCHAIN");
+            print(&format!("tickbound {}\ntoolchain: {toolchain}\n", env!("CARGO_PKG_VERSION")))
+        }
+        _ => print(&usage::all()),
+    }
+}
+
+fn print(text: &str) -> Result<u8, Failure> {
+    output::print(text.as_bytes())?;
+    Ok(0)
+}
+
+fn wrong(what: &str) -> Failure {
+    Failure(format!("{what} (tickbound --help lists the commands)"))
+}
+
+/// The arguments as text. A name that is none can be given on standard input.
+fn words() -> Result<Vec<String>, Failure> {
+    let word = |argument: std::ffi::OsString| {
+        argument.into_string().map_err(|argument| {
+            let shown = argument.as_encoded_bytes().escape_ascii();
+            Failure(format!(
+                "the argument {shown} is no text in UTF-8; give such a file on standard input, with - as its name"
+            ))
+        })
+    };
+    std::env::args_os().skip(1).map(word).collect()
+}
+
+fn answered() -> Result<u8, Failure> {
+    let words = words()?;
+    match words.split_first() {
         Some((command, arguments)) => dispatch(command, arguments),
-        None => Err(Failure("no command is given (tickbound --help lists the commands)".into())),
+        None => Err(wrong("no command is given")),
     }
 }
 
 fn main() -> ExitCode {
     streams::end_at_a_closed_pipe();
-    let arguments = std::env::args().skip(1).collect();
-    match library::on_a_stack(move || answered(arguments)) {
+    match library::on_a_stack(answered) {
         Some(Ok(status)) => ExitCode::from(status),
         Some(Err(Failure(message))) => {
             output::say(&format!("tickbound: {message}"));
             ExitCode::from(2)
         }
+        // what was wrong stands on standard error already
         None => ExitCode::from(2),
     }
 }
