@@ -1,6 +1,6 @@
 //! A sheet, made of what the analyser answered and of what the file holds.
 use super::answers::{apart, Answers, Bound, Figures, Verdict};
-use super::content::{counted, Heading, Line, Sheet};
+use super::content::{counted, last_name, Heading, Line, Sheet};
 use super::refusal::Refusal;
 use super::{clients, decision, listing, prices};
 use crate::card::Card;
@@ -18,12 +18,6 @@ pub struct Sources<'a> {
     pub bytes: &'a [u8],
     pub card: Option<&'a Card>,
     pub cells: Option<&'a Cells>,
-}
-
-/// The name of a file without the folders it is in.
-fn last_name(file: &str) -> String {
-    let name = file.rsplit('/').next().filter(|name| !name.is_empty()).unwrap_or(file);
-    crate::arguments::shown(name)
 }
 
 fn heading(sources: &Sources) -> Heading {

@@ -52,6 +52,13 @@ impl Line {
     }
 }
 
+/// The thousandths of the pulse that are used, and its cycles, both as printed.
+#[derive(Debug, PartialEq)]
+pub struct Scale {
+    pub share: String,
+    pub tick: String,
+}
+
 /// What stands first on the sheet.
 #[derive(Debug, PartialEq)]
 pub struct Decision {
@@ -60,8 +67,8 @@ pub struct Decision {
     /// whether the routine may be loaded
     pub fits: bool,
     pub sentences: String,
-    /// the thousandths of the pulse that are used, as printed; none where there is no figure
-    pub share: Option<String>,
+    /// none where there is no figure
+    pub scale: Option<Scale>,
     pub status: u8,
 }
 
@@ -107,4 +114,10 @@ pub struct Sheet {
 /// A number with the word for one thing or for more.
 pub fn counted(number: &str, one: &str, more: &str) -> String {
     format!("{number} {}", if number == "1" { one } else { more })
+}
+
+/// The name of a file without the folders it is in.
+pub fn last_name(file: &str) -> String {
+    let name = file.rsplit('/').next().filter(|name| !name.is_empty()).unwrap_or(file);
+    crate::arguments::shown(name)
 }

@@ -1,7 +1,7 @@
 //! What stands first on the sheet: the decision of `decide` in words, and the remedy that applies first.
 use super::answers::{apart, Bound, Figures, Verdict};
 use super::clients;
-use super::content::{counted, Decision, Line, Part};
+use super::content::{counted, Decision, Line, Part, Scale};
 use super::refusal::Refusal;
 use crate::failure::Failure;
 use crate::routine_text::RoutineText;
@@ -45,13 +45,14 @@ pub fn of_figures(figures: &Figures, remedy: Option<String>) -> Result<Decision,
     };
     let fits = figures.verdict == Verdict::Fits;
     let status = if fits { 0 } else { 4 };
-    Ok(Decision { word, fits, sentences: sentences.trim_end().into(), share: Some(figures.share.clone()), status })
+    let scale = Some(Scale { share: figures.share.clone(), tick: tick.clone() });
+    Ok(Decision { word, fits, sentences: sentences.trim_end().into(), scale, status })
 }
 
 /// The decision on a refused routine.
 pub fn refused() -> Decision {
     let sentences = "There is no figure: a refusal is not a bound of zero.".into();
-    Decision { word: "REFUSED", fits: false, sentences, share: None, status: 1 }
+    Decision { word: "REFUSED", fits: false, sentences, scale: None, status: 1 }
 }
 
 /// A text with its first letter as a capital, and a full stop.

@@ -41,7 +41,7 @@ fn escaped(text: &str) -> String {
 fn height(sheet: &Sheet, unit: &Unit) -> f64 {
     match unit {
         Unit::Decision(rows) => {
-            let bar = if sheet.decision.share.is_some() { 20.0 } else { 0.0 };
+            let bar = if sheet.decision.scale.is_some() { 20.0 } else { 0.0 };
             66.0 + 13.0 * rows.len() as f64 + bar
         }
         Unit::Printed(rows) => 8.0 + 10.0 * rows.len() as f64,
@@ -53,12 +53,14 @@ fn height(sheet: &Sheet, unit: &Unit) -> f64 {
 
 /// The used part of the pulse as a bar, whose border is printed where backgrounds are not.
 fn bar(decision: &Decision) -> String {
-    let Some(share) = decision.share.as_deref().and_then(|share| share.parse::<u64>().ok()) else {
+    let Some(scale) = &decision.scale else {
         return String::new();
     };
+    let share: u64 = scale.share.parse().unwrap_or(1000);
     let [whole, tenth] = if decision.fits { [share / 10, share % 10] } else { [100, 0] };
     let class = if decision.fits { "bar" } else { "bar over" };
-    format!("<div class=\"{class}\"><div style=\"width:{whole}.{tenth}%\"></div></div>\n")
+    let used = format!("<div class=\"{class}\"><div style=\"width:{whole}.{tenth}%\"></div></div>");
+    format!("<div class=\"scale\">{used}<span>TICK {}</span></div>\n", escaped(&scale.tick))
 }
 
 fn decision(decision: &Decision, rows: &[String]) -> String {
@@ -78,7 +80,7 @@ fn table_line(rows: &[&Row]) -> String {
     for (index, row) in rows.iter().enumerate() {
         let text = if row.warns { format!("<b>{}</b>", escaped(&row.text)) } else { escaped(&row.text) };
         let part = if row.opens_part || index == 0 { row.part } else { "" };
-        let name = if row.part.is_empty() { String::new() } else { format!("<i>{part}</i>") };
+        let name = if row.part.is_empty() { String::new() } else { format!("<span>{part}</span>") };
         cell += &format!("<div>{name}{text}</div>");
     }
     format!("<tr><th>{}</th><td>{cell}</td></tr>\n", rows[0].title)

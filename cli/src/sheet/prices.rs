@@ -1,5 +1,5 @@
 //! The lines on prices: of which card they are, which of them are 0, and what a taken jump costs more.
-use super::content::{Line, Part};
+use super::content::{last_name, Line, Part};
 use crate::card::{self, Card};
 use crate::failure::Failure;
 use crate::routine_text::RoutineText;
@@ -19,7 +19,7 @@ fn unpriced<'a>(routine: &RoutineText<'a>) -> Vec<&'a str> {
 
 pub fn line(routine: &RoutineText, card: Option<&Card>) -> Line {
     let named = match card {
-        Some(card) => format!("Lines 1 to 9 are those of the card {}.", card.file),
+        Some(card) => format!("Lines 1 to 9 are those of the card {}.", last_name(&card.file)),
         None => "The prices are the file's own; no card is named.".to_string(),
     };
     let mut parts = vec![Part::prose(named)];
