@@ -1,11 +1,9 @@
-//! The three files of a routine in the working folder: all are written or none, and none is written over.
+//! The files of a routine in the working folder: all are written or none, and none is written over.
 use super::routine::Routine;
 use crate::failure::Failure;
 use std::fs::{self, File};
 use std::io::Write;
 use std::path::{Path, PathBuf};
-
-const ENDINGS: [&str; 3] = ["words", "primitives", "txt"];
 
 /// Files that are removed at the end unless they are taken out, so that a failure leaves none behind.
 struct Written(Vec<PathBuf>);
@@ -32,19 +30,24 @@ fn unwritten(path: &Path, error: std::io::Error) -> Failure {
     Failure(format!("{} cannot be written: {error}", path.display()))
 }
 
-/// Writes the words, the primitives line and the routine file, and gives back their names.
-pub fn write(routine: &Routine, file: &str, name: &str) -> Result<String, Failure> {
+/// Writes the words, the primitives line, the routine file and, where it is wanted, a cells file, and gives back their names.
+pub fn write(routine: &Routine, file: &str, wants_cells: bool, name: &str) -> Result<String, Failure> {
+    let primitives = format!("{}\n", routine.primitives);
+    let mut parts =
+        vec![("words", &routine.words[..]), ("primitives", primitives.as_bytes()), ("txt", file.as_bytes())];
+    if wants_cells {
+        parts.push(("cells", routine.cells.as_bytes()));
+    }
     let path = |ending: &str| PathBuf::from(format!("{name}.{ending}"));
     let hidden = |ending: &str| PathBuf::from(format!(".tickbound-{}.{ending}", std::process::id()));
-    if let Some(there) = ENDINGS.iter().map(|ending| path(ending)).find(|path| path.symlink_metadata().is_ok()) {
+    if let Some(there) = parts.iter().map(|(ending, _)| path(ending)).find(|path| path.symlink_metadata().is_ok()) {
         return Err(Failure(format!("{} is there already, and is not written over: move it away", there.display())));
     }
-    let primitives = format!("{}\n", routine.primitives);
     let mut written = Written(Vec::new());
-    for (ending, bytes) in ENDINGS.iter().zip([&routine.words[..], primitives.as_bytes(), file.as_bytes()]) {
+    for (ending, bytes) in &parts {
         written.write(&hidden(ending), &path(ending), bytes)?;
     }
-    for (written, ending) in written.0.iter_mut().zip(ENDINGS) {
+    for (written, (ending, _)) in written.0.iter_mut().zip(&parts) {
         let name = path(ending);
         fs::rename(&*written, &name).map_err(|error| unwritten(&name, error))?;
         *written = name;

@@ -24,6 +24,7 @@ mod unroll;
 use crate::arguments::{self, shown, Given, Options};
 use crate::failure::{wrong_call, Failure};
 use crate::library::{self, Answer};
+use crate::price::Filling;
 use crate::{input, output};
 use closure::Kept;
 use code::Code;
@@ -35,7 +36,7 @@ use routine::Routine;
 use source::{Compiled, Lines, Source};
 use std::path::Path;
 
-const OPTIONS: Options = Options { flags: &["--lower", "--unroll"], valued: &["--names"] };
+const OPTIONS: Options = Options { flags: &["--lower", "--unroll"], valued: &["--names", "--card", "--cells"] };
 
 /// A name from the file as one word of text.
 pub fn told(name: &[u8]) -> String {
@@ -159,7 +160,7 @@ impl Extraction<'_> {
     }
 
     /// Writes the files of a function, and says what was done or every fault.
-    fn write(&self, stem: &str, word: &str) -> Result<String, Failure> {
+    fn write(&self, filling: &Filling, stem: &str, word: &str) -> Result<String, Failure> {
         let index = self.chosen(word)?;
         let lines = self.source.lines(index);
         let written = match self.routine(index, &lines, self.wanted)? {
@@ -169,7 +170,9 @@ impl Extraction<'_> {
         let is_plain = |byte: u8| byte.is_ascii_alphanumeric() || byte == b'_';
         let last = word.rsplit('.').next().unwrap_or(word);
         let name = if last.bytes().all(is_plain) { last.to_string() } else { (index + 1).to_string() };
-        let names = files::write(&written.routine, &written.file, &format!("{stem}-{name}"))?;
+        let name = format!("{stem}-{name}");
+        let file = filling.fill(&format!("{name}.txt"), &written.file)?;
+        let names = files::write(&written.routine, &file, filling.cells.is_none(), &name)?;
         said(&written.notes, &lines).iter().for_each(|line| output::say(line));
         Ok(names)
     }
@@ -251,9 +254,10 @@ fn extract(given: &Given, file: &str, word: Option<&String>) -> Result<String, F
     let wanted = Wanted { lowers: given.has("--lower") || given.has("--unroll"), unrolls: given.has("--unroll") };
     let extraction = Extraction { compiled: &compiled, source, kept: Kept::of(&code), wanted };
     let stem = Path::new(file).file_stem().map(|stem| stem.to_string_lossy().to_string()).unwrap_or_default();
+    let filling = Filling::read(given.value("--card"), given.value("--cells"))?;
     match word {
         None => extraction.listing(),
-        Some(word) => extraction.write(&stem, word),
+        Some(word) => extraction.write(&filling, &stem, word),
     }
     .map_err(of_file(file))
 }

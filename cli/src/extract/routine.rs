@@ -1,6 +1,8 @@
 //! A routine: the words of its code as `import` takes them, the line of its primitives, and the file up to the code.
 use super::lines::{Argument, Line};
 use super::told;
+use crate::card::JUMPS;
+use crate::cells::{self, OPEN};
 
 /// Limits of a routine file.
 pub const LONGEST: usize = 32_768;
@@ -8,14 +10,16 @@ pub const ENTRIES: usize = 32;
 pub const PRIMITIVES: usize = 32;
 pub const LINES: usize = 1024;
 
-/// Any number of steps that the bound may explore, and a tick of one cycle, so that a file whose TICK is not filled in is over it.
-const BUDGET_TICK: &str = "BUDGET TICK\n1000000 1\n";
+/// Any number of steps that the bound may explore, and a TICK that is to be filled in: until then the file is refused by 2.
+const BUDGET_TICK: &str = "BUDGET TICK\n1000000 _\n";
 
 pub struct Routine {
     pub words: Vec<u8>,
     pub primitives: String,
     /// the lines of the file before `AT OP ARG`
     pub head: String,
+    /// a cells file with every cell of the function
+    pub cells: String,
 }
 
 /// The primitives that lines call, in the order of their first use.
@@ -66,6 +70,7 @@ impl Routine {
             words: words(lines).iter().flat_map(|word| word.to_le_bytes()).collect(),
             primitives: line(&primitives),
             head: head(&kinds, &primitives, arguments),
+            cells: cells::template(arguments),
         }
     }
 }
@@ -79,20 +84,21 @@ fn line<T: AsRef<str>>(words: &[T]) -> String {
     }
 }
 
-/// The lines before the code: no price filled in, and any number as each argument.
+/// The lines before the code, with `_` in the place of every price and every argument, which are to be filled in.
 fn head(kinds: &[&str], primitives: &[String], arguments: usize) -> String {
-    let zeros = |count| line(&vec!["0"; count]);
+    let open = |count| line(&vec![OPEN; count]);
+    let extra: Vec<&str> = kinds.iter().map(|kind| if JUMPS.contains(kind) { OPEN } else { "0" }).collect();
     let cells = (0..arguments).map(|entry| format!("S{entry}"));
     let lines = [
         line(kinds),
-        zeros(kinds.len()),
-        zeros(kinds.len()),
-        zeros(kinds.len()),
+        open(kinds.len()),
+        open(kinds.len()),
+        line(&extra),
         line(primitives),
-        zeros(primitives.len()),
-        zeros(primitives.len()),
+        open(primitives.len()),
+        open(primitives.len()),
         line(&std::iter::once("ACCU".to_string()).chain(cells).collect::<Vec<String>>()),
-        format!("0{}", " ?".repeat(arguments)),
+        format!("0{}", format!(" {OPEN}").repeat(arguments)),
         "-".into(),
         "-".into(),
     ];
