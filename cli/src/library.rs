@@ -28,7 +28,27 @@ impl Answer {
 
 const STACK: usize = 8 << 20;
 
-/// Runs the command on a stack that every call of the library has room on. None where it ended in a panic.
+/// Runs the command on a stack that every call of the library has room on. Nothing where it ended in a panic, which was told.
 pub fn on_a_stack<T: Send + 'static>(command: impl FnOnce() -> T + Send + 'static) -> Option<T> {
-    std::thread::Builder::new().stack_size(STACK).spawn(command).ok()?.join().ok()
+    match std::thread::Builder::new().stack_size(STACK).spawn(command) {
+        Ok(thread) => thread.join().ok(),
+        Err(error) => panic!("no stack of 8 MB can be had: {error}"),
+    }
+}
+
+#[cfg(test)]
+mod tests {
+    use super::*;
+
+    #[test]
+    fn a_panic_is_told_from_an_end() {
+        assert_eq!(on_a_stack(|| 3), Some(3));
+        assert_eq!(on_a_stack(|| -> u8 { panic!("for a test") }), None);
+    }
+
+    #[test]
+    fn a_refusal_is_printed_by_its_number_and_place() {
+        assert_eq!(Answer::Refused { number: 13, place: 21 }.printed(), b"REFUSED 13 21\n");
+        assert_eq!(Answer::Report(b"AGREES\n".to_vec()).printed(), b"AGREES\n");
+    }
 }

@@ -57,7 +57,7 @@ pub fn shown(bytes: &[u8]) -> String {
 
 /// A word for a message, cut where it is long.
 pub fn told(bytes: &[u8]) -> String {
-    const LONGEST: usize = 40;
+    const LONGEST: usize = 30;
     match bytes.len() {
         0 => "nothing".into(),
         length if length > LONGEST => format!("{}..., {length} bytes", shown(&bytes[..LONGEST])),
@@ -67,9 +67,9 @@ pub fn told(bytes: &[u8]) -> String {
 
 /// A line, and under it the marks of a place. Of a long line the part around the place.
 pub fn quoted(bytes: &[u8], span: &Range<usize>) -> [String; 2] {
-    const WIDTH: usize = 100;
-    let from = if span.start > WIDTH / 2 { span.start - WIDTH / 3 } else { 0 };
-    let to = bytes.len().min(from + WIDTH).max(span.start);
+    let width = if bytes.iter().all(|byte| (b' '..=b'~').contains(byte)) { 100 } else { 30 };
+    let from = if span.start > width / 2 { span.start - width / 3 } else { 0 };
+    let to = bytes.len().min(from + width).max(span.start);
     let cut = |is_cut: bool| if is_cut { "..." } else { "" };
     let head = format!("{}{}", cut(from > 0), shown(&bytes[from..span.start]));
     let marked = shown(&bytes[span.start..span.end.min(to)]);
