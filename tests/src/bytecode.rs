@@ -39,7 +39,8 @@ pub fn code_length(object: &[u8]) -> Option<usize> {
 
 /// A marshalled integer and how many bytes it has.
 fn integer(bytes: &[u8]) -> Option<(i64, usize)> {
-    let number = |count: usize| bytes.get(1..1 + count).map(|bytes| bytes.iter().fold(0, |n, b| n << 8 | i64::from(*b)));
+    let number =
+        |count: usize| bytes.get(1..1 + count).map(|bytes| bytes.iter().fold(0, |n, b| n << 8 | i64::from(*b)));
     match *bytes.first()? {
         code @ 0x40..=0x7f => Some((i64::from(code & 0x3f), 1)),
         0x00 => Some((number(1)?, 2)),

@@ -23,7 +23,8 @@ pub struct Lowered {
 
 /// The primitives in C: each says its arguments and takes the next answer. A number n of OCaml is 2n + 1.
 fn primitives() -> String {
-    let mut text = "#include <stdio.h>\ntypedef long value;\nstatic value answers[64];\nstatic int given, taken;\n".to_string();
+    let mut text =
+        "#include <stdio.h>\ntypedef long value;\nstatic value answers[64];\nstatic int given, taken;\n".to_string();
     text += "static value next(void) { return taken < given ? answers[taken++] : 1; }\n";
     text += "value TEST_GIVE(value answer) { answers[given++] = answer; return 1; }\n";
     text += "value TEST_BEGIN(value unit) { (void)unit; given = taken = 0; printf(\"BEGIN\\n\"); return 1; }\n";
@@ -41,7 +42,8 @@ fn primitives() -> String {
 
 /// A program that makes the calls, and says each result and the fields behind it.
 fn program(units: &[Unit], calls: &[Call]) -> String {
-    let mut text = "external give : int -> unit = \"TEST_GIVE\"\nexternal begin_ : int -> unit = \"TEST_BEGIN\"\n".to_string();
+    let mut text =
+        "external give : int -> unit = \"TEST_GIVE\"\nexternal begin_ : int -> unit = \"TEST_BEGIN\"\n".to_string();
     text += "external result : 'a -> unit = \"TEST_RESULT\"\nexternal field : int -> unit = \"TEST_FIELD\"\n";
     for (n, (unit, function, start)) in calls.iter().enumerate() {
         let unit = &units[*unit];
