@@ -134,7 +134,7 @@ impl Body<'_> {
             }
             5 => {
                 let (text, most) = self.int();
-                (format!("(~- {text})"), most)
+                (format!("(~- ({text}))"), most)
             }
             6..=8 => {
                 let condition = self.condition();
