@@ -17,9 +17,8 @@ const LENGTHS: usize = 250;
 fn extract(root: &Path, folder: &Path, bytes: &[u8]) -> Result<(i32, String), String> {
     let object = folder.join("unit.cmo");
     fs::write(&object, bytes).unwrap();
-    let output = Command::new(root.join("target/extract/release/extract"))
-        .arg(root.join("target/bin/import"))
-        .args(["unit.cmo", "1"])
+    let output = Command::new(root.join("target/cli/release/tickbound"))
+        .args(["extract", "unit.cmo", "1"])
         .current_dir(folder)
         .output()
         .map_err(|error| error.to_string())?;

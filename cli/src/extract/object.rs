@@ -1,7 +1,7 @@
 //! An object file of `ocamlc -c`, version 4.13: magic number, the place of the unit's description, its code, with -g the debugger's
 //! events, and the description.
-use crate::marshal::Marshalled;
-use crate::Failure;
+use super::marshal::Marshalled;
+use crate::failure::Failure;
 use std::collections::BTreeMap;
 
 /// Longer files are not read.

@@ -1,7 +1,8 @@
 //! A function as a routine: the words of its code as `import` takes them, the line of its primitives, and the file up to the code.
-use crate::code::{Code, Function, Instruction};
-use crate::opcodes::{instead, Words, OPCODES};
-use crate::{told, Failure};
+use super::code::{Code, Function, Instruction};
+use super::opcodes::{instead, Words, OPCODES};
+use super::told;
+use crate::failure::Failure;
 
 /// Limits of a routine file.
 pub const LONGEST: usize = 32_768;

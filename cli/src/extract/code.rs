@@ -1,7 +1,7 @@
 //! The instructions of a unit, and the functions in them.
-use crate::object::Unit;
-use crate::opcodes::{instead, Words, OPCODES};
-use crate::Failure;
+use super::object::Unit;
+use super::opcodes::{instead, Words, OPCODES};
+use crate::failure::Failure;
 use std::collections::BTreeSet;
 use std::ops::Range;
 

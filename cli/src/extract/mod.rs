@@ -1,23 +1,23 @@
-//! extract IMPORT FILE [NUMBER]: lists the functions of an object file of OCaml 4.13, or writes one as a routine, the code by the
-//! program IMPORT. Exit status 0 for what is listed or written, 2 for anything else. It is not proved: what it writes goes through
-//! `import`, `bound` and the others, which are.
+//! `tickbound extract`: lists the functions of an object file of OCaml 4.13, or writes one as a routine, the code by the proved import.
+//! Exit status 0 for what is listed or written, 2 for anything else. It is not proved: what it writes goes through `import`, `bound` and
+//! the others, which are.
 mod code;
 mod marshal;
 mod object;
 mod opcodes;
 mod routine;
 
+use crate::arguments::{self, Options};
+use crate::failure::{wrong_call, Failure};
+use crate::library::{self, Answer};
+use crate::output;
 use code::{Code, Function};
 use object::Unit;
 use routine::Routine;
-use std::ffi::{OsStr, OsString};
+use std::ffi::OsStr;
 use std::fs::{self, File};
 use std::io::{Read, Write};
 use std::path::{Path, PathBuf};
-use std::process::{Command, ExitCode, Stdio};
-
-/// What is wrong, in words for the user.
-pub struct Failure(pub String);
 
 /// A name from the file as one word of text.
 pub fn told(name: &[u8]) -> String {
@@ -102,23 +102,18 @@ fn unwritten(path: &Path, error: std::io::Error) -> Failure {
     Failure(format!("{} cannot be written: {error}", path.display()))
 }
 
-/// The lines that the proved import makes of the words in a file.
-fn imported(import: &OsStr, words: &Path, primitives: &str) -> Result<String, Failure> {
-    let failed = |what: String| Failure(format!("the program import {what}"));
-    let output = Command::new(import)
-        .args([words.as_os_str(), OsStr::new(primitives)])
-        .stdin(Stdio::null())
-        .output()
-        .map_err(|error| failed(format!("cannot be run: {error}")))?;
-    match String::from_utf8(output.stdout) {
-        Ok(lines) if output.status.success() && lines.starts_with("AT OP ARG\n") => Ok(lines),
-        Ok(answer) if output.status.success() => Err(failed(format!("refuses the words: {}", answer.trim_end()))),
-        _ => Err(failed("printed no answer".into())),
+/// The lines that the proved import makes of the words.
+fn imported(routine: &Routine) -> Result<String, Failure> {
+    match library::import(&routine.words, routine.primitives.as_bytes()) {
+        Answer::Report(lines) => String::from_utf8(lines).map_err(|_| Failure("the import's lines are no text".into())),
+        Answer::Refused { number, place } => {
+            Err(Failure(format!("the import refuses the words: REFUSED {number} {place}")))
+        }
     }
 }
 
 /// Writes the files of a routine into the working folder, all or none, and gives back their names.
-fn write(routine: &Routine, import: &OsStr, name: &OsStr) -> Result<String, Failure> {
+fn write(routine: &Routine, name: &OsStr) -> Result<String, Failure> {
     let endings = ["words", "primitives", "txt"];
     let path = |ending: &str| {
         let mut path = name.to_os_string();
@@ -132,7 +127,7 @@ fn write(routine: &Routine, import: &OsStr, name: &OsStr) -> Result<String, Fail
     }
     let mut written = Written(Vec::new());
     written.write(&hidden("words"), &path("words"), &routine.words)?;
-    let file = routine.head.clone() + &imported(import, &hidden("words"), &routine.primitives)?;
+    let file = routine.head.clone() + &imported(routine)?;
     if file.len() > routine::LONGEST {
         return Err(Failure(format!("its routine file is longer than {} bytes", routine::LONGEST)));
     }
@@ -148,49 +143,31 @@ fn write(routine: &Routine, import: &OsStr, name: &OsStr) -> Result<String, Fail
 }
 
 /// What is printed.
-fn extract(import: &OsStr, path: &Path, number: Option<&OsString>) -> Result<String, Failure> {
+fn extract(path: &Path, number: Option<&String>) -> Result<String, Failure> {
     let unit: Unit = object::read(&read(path)?)?;
     let code = Code::read(&unit)?;
     let functions = code.functions()?;
     let Some(number) = number else {
         return Ok(listing(&code, &functions));
     };
-    let function = chosen(&functions, number)?;
-    let of_function =
-        |failure: Failure| Failure(format!("function {}: {}", told(number.as_encoded_bytes()), failure.0));
+    let function = chosen(&functions, OsStr::new(number))?;
+    let of_function = |failure: Failure| Failure(format!("function {}: {}", told(number.as_bytes()), failure.0));
     let routine = Routine::of(&code, function).map_err(of_function)?;
     let mut name = path.file_stem().unwrap_or_default().to_os_string();
     name.push("-");
     name.push(number);
-    write(&routine, import, &name)
+    write(&routine, &name)
 }
 
-/// A line on standard error, if it can be written.
-fn say(line: String) {
-    let _ = writeln!(std::io::stderr(), "{line}");
-}
-
-fn main() -> ExitCode {
-    let arguments: Vec<OsString> = std::env::args_os().skip(1).collect();
-    let (printed, file) = match arguments.as_slice() {
-        [import, file, number @ ..] if number.len() <= 1 => (extract(import, Path::new(file), number.first()), file),
-        _ => {
-            say("usage: extract IMPORT FILE [NUMBER]".into());
-            return ExitCode::from(2);
-        }
+pub fn command(arguments: &[String]) -> Result<u8, Failure> {
+    let given = arguments::read("extract", arguments, &Options { flags: &[], valued: &[] })?;
+    let (file, number) = match given.words.as_slice() {
+        [file] => (file, None),
+        [file, number] => (file, Some(number)),
+        _ => return Err(wrong_call("extract", "FILE.cmo and at most one NUMBER are wanted")),
     };
-    let written = printed.and_then(|text| {
-        let mut output = std::io::stdout().lock();
-        output
-            .write_all(text.as_bytes())
-            .and_then(|()| output.flush())
-            .map_err(|error| Failure(format!("standard output: {error}")))
-    });
-    match written {
-        Ok(()) => ExitCode::SUCCESS,
-        Err(failure) => {
-            say(format!("tickbound: {}: {}", Path::new(file).display(), failure.0));
-            ExitCode::from(2)
-        }
-    }
+    let of_file = |failure: Failure| Failure(format!("{file}: {}", failure.0));
+    let text = extract(Path::new(file), number).map_err(of_file)?;
+    output::print(text.as_bytes()).map_err(of_file)?;
+    Ok(0)
 }

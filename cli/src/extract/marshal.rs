@@ -1,6 +1,6 @@
 //! A value as OCaml's Marshal writes it, read into a table of its objects. Nothing here follows a nesting by calling itself, and the
 //! table is no longer than the bytes are.
-use crate::Failure;
+use crate::failure::Failure;
 use std::ops::Range;
 
 /// An integer, or the number of an object.

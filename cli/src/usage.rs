@@ -1,0 +1,236 @@
+//! What the command says of itself.
+use crate::place;
+
+/// A command: how it is called, what it does in a few words, and the whole of it.
+pub struct Usage {
+    pub name: &'static str,
+    pub call: &'static str,
+    pub summary: &'static str,
+    pub text: &'static str,
+}
+
+const WHY: &str = "--why adds to standard error why it is so, where it is refused";
+
+pub const COMMANDS: [Usage; 15] = [
+    Usage {
+        name: "decide",
+        call: "decide [--why] [FILE]",
+        summary: "whether a routine fits in its tick: FITS, OVER or UNDECIDED",
+        text: "\
+Prints whether a routine fits in its tick, as DECISION BOUND CYCLES TICK WORDS DEPTH STEPS and their values.
+FITS: no run of the routine, for any input that the file allows, spends more than TICK cycles, takes more than WORDS
+words or is deeper than DEPTH. OVER: the bound over all paths is above TICK. UNDECIDED: there are too many paths to
+walk, and the merging bound is above TICK. BOUND says which of the two bounds decided.
+Exit status: 0 FITS, 4 OVER or UNDECIDED, 1 refused, 2 anything else.",
+    },
+    Usage {
+        name: "bound",
+        call: "bound [--why] [FILE]",
+        summary: "the report over all paths",
+        text: "\
+Prints the report of a routine: CYCLES WORDS DEPTH STEPS SHARE PATH and their values, for every input that the routine
+can meet: each `?` in the file is any number, each range, as 0..1008, any of its numbers.
+Exit status: 0 a report, 1 refused, 2 anything else.",
+    },
+    Usage {
+        name: "merge",
+        call: "merge [--why] [FILE]",
+        summary: "the report of the merging bound, for a routine with too many paths to walk",
+        text: "\
+Prints the report of the merging bound, for a routine with too many paths to walk: states are merged where ways meet.
+CYCLES, WORDS and DEPTH are never below those of `bound`, STEPS is the number of addresses reached, and PATH is `-`.
+BUDGET plays no part.
+Exit status: 0 a report, 1 refused, 2 anything else.",
+    },
+    Usage {
+        name: "run",
+        call: "run [--why] [FILE]",
+        summary: "the figures of the one run that a file gives",
+        text: "\
+Makes the one run that the file gives (no `?` in it and no range of more than one number) and prints CYCLES WORDS DEPTH
+STEPS.
+Exit status: 0 a report, 1 refused, 2 anything else.",
+    },
+    Usage {
+        name: "explain",
+        call: "explain [--why] [FILE]",
+        summary: "the report, and the steps of the worst path",
+        text: "\
+Prints the report of `bound`, and then the steps of the worst path, one to a line, under AT OP ARG CYCLES WORDS DEPTH
+WAY: CYCLES and WORDS are the sums so far, DEPTH is the height before the step, and WAY is N or T at an unknown branch
+and - elsewhere.
+Exit status: 0 a report, 1 refused, 2 anything else.",
+    },
+    Usage {
+        name: "sheet",
+        call: "sheet [--html] [--nearest] FILE",
+        summary: "the field sheet of a routine, as text or as a page",
+        text: "\
+Prints the field sheet of a routine: the lines of FIELD-SHEET.md with its figures, which bound gave them (the first, or
+the merging one where the first refuses by 8 or 9), whether it fits in TICK and by how much, and its worst path; or its
+refusal in words. --html prints it as a page for a browser, to be printed on one sheet of paper; --nearest adds the
+nearest number that moves the bound, which can take minutes.
+Exit status: 0 fits in TICK, 4 does not, 1 refused, 2 anything else.",
+    },
+    Usage {
+        name: "nearest",
+        call: "nearest [--why] [FILE]",
+        summary: "the nearest change of one number that moves the bound, or NONE",
+        text: "\
+Prints the nearest single change of a start or block cell that holds one number, of at least 1 and at most 64, that
+alters CYCLES of `bound` or makes the routine refused by 7, 8 or 9: the cell's name and its new value; or NONE. The
+smallest change comes first, then the cell earlier in the file, then downwards. It may try 20,608 changes, each a bound
+of its own under the file's BUDGET: with 161 numbers that no path reads it took 0.3 s where a bound has 766 steps, 68 s
+where it has 196,606, and can take six minutes; of the files that `generate` makes of the seeds 1 to 10,000 none took
+more than 3 ms. --why adds to standard error what CYCLES becomes, or the refusal.
+Exit status: 0 a change or NONE, 1 refused, 2 anything else.",
+    },
+    Usage {
+        name: "preview",
+        call: "preview [--why] ROUTINE ADDRESS INSTRUCTION",
+        summary: "the report of a file as it would be with one instruction replaced",
+        text: "\
+Prints what `bound` would print of a copy of the routine file ROUTINE in which INSTRUCTION stands after ADDRESS and a
+space, as preview FILE 4 'OFFSETINT 2'; the file stays as it is. An ADDRESS outside the code is refused by 4 with itself
+as the place. With a refusal it says on standard error where the place is: in the routine file, in the copy, or that it
+is the address. ADDRESS is a number of 32 bits without leading zeros.
+Exit status: 0 a report, 1 refused, 2 anything else.",
+    },
+    Usage {
+        name: "replay",
+        call: "replay [--why] ROUTINE TRACE",
+        summary: "whether a card's trace agrees with the run of a file",
+        text: "\
+Holds a card's trace (the file TRACE, lines under `AT CYCLES`) against the run of the routine file ROUTINE (as for run)
+and prints AGREES, or DIFFERS and the number of the first line of the trace that differs. With a refusal it says on
+standard error which of the two files the place is in. --why adds the run's step beside the trace's.
+Exit status: 0 agrees, 3 differs, 1 refused, 2 anything else.",
+    },
+    Usage {
+        name: "import",
+        call: "import [--why] WORDS PRIMITIVES",
+        summary: "lines of code made of the compiler's words",
+        text: "\
+Prints the lines of the code that the file WORDS holds as the compiler's words (32 bits, the lowest byte first, OCaml
+4.13.1), from `AT OP ARG` on; PRIMITIVES is the line of primitives, as 'READ LOG', or '-' for none.
+Exit status: 0 lines, 1 refused, 2 anything else.",
+    },
+    Usage {
+        name: "export",
+        call: "export [--why] [FILE]",
+        summary: "the compiler's words of a file's code",
+        text: "\
+Prints the words of a routine's code, as bytes.
+Exit status: 0 words, 1 refused, 2 anything else.",
+    },
+    Usage {
+        name: "generate",
+        call: "generate [--why] SEED",
+        summary: "a routine file for tests from a seed",
+        text: "\
+Prints the routine file of a seed, a number of 32 bits without leading zeros and other than 0, as a test load: the same
+seed gives the same file at every site and in every later version (GENERATOR.md). No file is refused by 1 to 6 or 13.
+Exit status: 0 a file, 1 refused, 2 anything else.",
+    },
+    Usage {
+        name: "extract",
+        call: "extract FILE.cmo [NUMBER]",
+        summary: "a routine from an object file of the compiler",
+        text: "\
+Lists the functions of an object file of `ocamlc -c` (OCaml 4.13, one unit) under the names NUMBER NAME ADDRESS LENGTH
+ARGUMENTS PRIMITIVES KINDS. With a NUMBER it writes that function into the working folder, as FILE-NUMBER.words and
+FILE-NUMBER.primitives for `import`, and FILE-NUMBER.txt, a routine file with the imported code, in which TICK, the
+prices and the cells are to be filled in. It is not proved.
+Exit status: 0 done, 2 not done.",
+    },
+    Usage {
+        name: "batch",
+        call: "batch COMMAND FILE.. | batch COMMAND --seeds A-B",
+        summary: "bound, merge, run or decide of many files, or of many seeds",
+        text: "\
+Answers COMMAND (bound, merge, run or decide) for each file, or for the file of each seed from A to B, in one line:
+the name or the seed, REPORT or REFUSED, and the values, parted by tabs. A file that cannot be read has a message on
+standard error and no line. Control characters in a name are written as escapes. On a terminal standard error shows how
+far it has come.
+Exit status: 2 a file could not be read, else 1 any was refused, else 4 any is OVER or UNDECIDED, else 0.",
+    },
+    Usage {
+        name: "install",
+        call: "install PREFIX",
+        summary: "puts the command and what belongs to it into a folder",
+        text: "\
+Copies the command into PREFIX/bin, the header and the static library for C into PREFIX/include and PREFIX/lib (with
+PREFIX/lib/pkgconfig/tickbound.pc), the documents and examples into PREFIX/share/doc/tickbound, and the man page into
+PREFIX/share/man/man1. A copy needs neither rt nor the repository, and it may be moved.
+Exit status: 0 done, 2 not done.",
+    },
+];
+
+/// Whether a command is asked for its help: before `--`.
+pub fn is_asked(arguments: &[String]) -> bool {
+    arguments.iter().take_while(|argument| *argument != "--").any(|argument| argument == "--help" || argument == "-h")
+}
+
+/// The help of one command.
+pub fn of(name: &str) -> Option<String> {
+    let usage = COMMANDS.iter().find(|usage| usage.name == name)?;
+    let calls = usage.call.replace(" | ", "\n       tickbound ");
+    let mut text = format!("usage: tickbound {calls}\n\n{}\n", usage.text);
+    if usage.call.contains("[FILE]") {
+        text += "\nFILE is a routine file; without it, or with -, the routine is read from standard input.";
+        text += " After -- a name may begin with -.\n";
+    }
+    if usage.call.contains("[--why]") && !usage.text.contains("--why") {
+        text += &format!("{WHY}.\n");
+    }
+    Some(text)
+}
+
+/// The help of the whole.
+pub fn all() -> String {
+    let line = |usage: &Usage| format!("  {:<9} {}\n", usage.name, usage.summary);
+    let commands: String = COMMANDS.iter().map(line).collect();
+    let documents = place::documents();
+    format!(
+        "\
+usage: tickbound COMMAND [ARGUMENTS]
+       tickbound COMMAND --help
+       tickbound --version
+       tickbound --help
+
+{commands}
+Most commands read one routine file, FILE; without it, or with -, they read standard input. Options stand anywhere before
+--, after which every word is a name. What is refused prints `REFUSED`, a number and a place instead; no figure is to be
+read from that. {WHY}.
+
+exit status: 0 what was asked for, 1 a refusal, 3 a trace that differs, 4 a routine that does not fit in its tick (decide,
+sheet, batch), 2 anything else
+
+documents: {documents}
+"
+    )
+}
+
+#[cfg(test)]
+mod tests {
+    use super::*;
+
+    #[test]
+    fn every_command_has_its_help() {
+        for usage in &COMMANDS {
+            let text = of(usage.name).unwrap();
+            assert!(text.starts_with(&format!("usage: tickbound {}", usage.name)), "{text}");
+            assert!(text.contains("Exit status: "), "{text}");
+            assert!(text.lines().all(|line| line.len() <= 130), "{text}");
+            assert!(all().contains(&format!("  {:<9} ", usage.name)));
+        }
+        assert!(of("bond").is_none());
+    }
+
+    #[test]
+    fn help_is_asked_before_the_two_dashes() {
+        let words = |words: &[&str]| words.iter().map(|word| word.to_string()).collect::<Vec<_>>();
+        assert!(is_asked(&words(&["a", "--help"])));
+        assert!(!is_asked(&words(&["--", "--help"])));
+    }
+}
