@@ -49,7 +49,7 @@ static int loaded(const struct tickbound_figures *figures) {
     const char *bound = figures->bound == TICKBOUND_FIRST ? "first" : "merging";
     printf("fits: at most %" PRIu64 " of the %" PRIu64 " cycles of a tick, by the %s bound\n", figures->cycles,
            figures->tick, bound);
-    printf("set aside once, when the card starts: %" PRIu64 " words and %" PRIu64 " stack entries\n", figures->words,
+    printf("set aside once, when the card starts: words %" PRIu64 ", stack entries %" PRIu64 "\n", figures->words,
            figures->depth);
     return LOADED;
 }
