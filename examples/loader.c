@@ -1,5 +1,6 @@
-/* A loader: reads a routine file, asks `tickbound_decide` whether the routine fits in its tick, and goes by that alone. Of
- * a routine that fits it prints what to set aside for it, once, when the card starts; of any other why it is not loaded.
+/* A loader: reads a routine file, asks `tickbound_decide` whether the routine fits in its tick, and goes by that alone.
+ * Of a routine that fits it prints what to set aside for it, once, when the card starts; of any other why it is not
+ * loaded.
  *
  *   ./tickbound install PREFIX
  *   cc -I PREFIX/include -o loader examples/loader.c -L PREFIX/lib -ltickbound
@@ -73,8 +74,8 @@ static int told(const struct tickbound_figures *figures) {
                figures->tick);
         return NOT_WITHIN_TICK;
     case TICKBOUND_UNDECIDED:
-        printf("not loaded: undecided, too many paths to walk, and the merging bound, %" PRIu64 " cycles, is over the %" PRIu64
-               " of a tick\n",
+        printf("not loaded: undecided, too many paths to walk, and the merging bound, %" PRIu64
+               " cycles, is over the %" PRIu64 " of a tick\n",
                figures->cycles, figures->tick);
         return NOT_WITHIN_TICK;
     case TICKBOUND_REFUSED:

@@ -1,6 +1,6 @@
-/* The decision whether a routine fits in its tick, its two bounds, its run, the steps of its worst path, its code from and
- * to the compiler's words, a card's trace held against its run, the bound of a routine with one instruction replaced,
- * the nearest number that moves the bound and a routine file of a seed, for a loader in C.
+/* The decision whether a routine fits in its tick, its two bounds, its run, the steps of its worst path, its code from
+ * and to the compiler's words, a card's trace held against its run, the bound of a routine with one instruction
+ * replaced, the nearest number that moves the bound and a routine file of a seed, for a loader in C.
  *
  * `tickbound install PREFIX` puts this header into PREFIX/include and the library to link with into PREFIX/lib:
  * `cc -I PREFIX/include .. -L PREFIX/lib -ltickbound`, on x86-64 Linux. In the repository `rt staticlib analyser`
@@ -14,8 +14,8 @@
  *   tickbound_decide_figures(answer, report, &figures);
  *   if (figures.decision == TICKBOUND_FITS) ..
  *
- * Each function reads a routine file of `text_length` bytes at `text`, or what its own comment names, and writes into the
- * bytes lent to it, as `report_length` bytes at `report`.
+ * Each function reads a routine file of `text_length` bytes at `text`, or what its own comment names, and writes into
+ * the bytes lent to it, as `report_length` bytes at `report`.
  *
  * - The memory that is lent for writing must not overlap what is read, and nothing else may write either during
  *   the call.
@@ -31,18 +31,19 @@
  *   the stack that the macros TICKBOUND_.._STACK say.
  *
  * An answer is a length or a refusal, and never both. It is a type of its own, so that it is neither a number nor a
- * condition for the compiler: `int length = tickbound_bound(..)` and `if (tickbound_bound(..))` are errors. A routine that
- * costs nothing has a report (`0 0 0 1 0 -`), and its answer is that report's length; a refused routine has no figures
- * at all. Ask `tickbound_is_refused` before anything is read from the report's memory.
+ * condition for the compiler: `int length = tickbound_bound(..)` and `if (tickbound_bound(..))` are errors. A routine
+ * that costs nothing has a report (`0 0 0 1 0 -`), and its answer is that report's length; a refused routine has no
+ * figures at all. Ask `tickbound_is_refused` before anything is read from the report's memory.
  *
  * The functions below the declarations stand in this header whole and need no library. */
 #ifndef TICKBOUND_H
 #define TICKBOUND_H
 
-/* The functions return the 64 bits of an answer in one register, as System V's convention for x86-64 returns a struct of
- * 64 bits. Elsewhere a struct may be returned in another place, and an answer would be whatever stands there. */
+/* The functions return the 64 bits of an answer in one register, as System V's convention for x86-64 returns a struct
+ * of 64 bits. Elsewhere a struct may be returned in another place, and an answer would be whatever stands there. No
+ * macro tells of gcc's options -fpcc-struct-return and -mabi=ms, which change the convention: compile without them. */
 #if !defined __x86_64__ || defined __ILP32__ || defined _WIN32 || defined __CYGWIN__
-#error "tickbound.h: the library is for x86-64 with the calling convention of System V, as on Linux; not for x32 or Windows"
+#error "tickbound.h: the library is for x86-64 with System V's calling convention, as on Linux; not for x32 or Windows"
 #endif
 
 #include <stdbool.h>
@@ -84,9 +85,10 @@ typedef struct {
 #define TICKBOUND_USED
 #endif
 
-/* The stack to leave a call of each function, in bytes. On so much each was called on the inputs that took most of those
- * tried: 32 openings, 1,024 lines, 1,024 instructions of words, the examples and the files of seeds. The figure on the
- * right is what such a call wrote to, in KB of 1,024 bytes. This is measured (tests/stack.c), not proved. */
+/* The stack to leave a call of each function, in bytes; and beside it what was measured, in KB of 1,024 bytes: the most
+ * that a call wrote to, of those tried (32 openings, 1,024 lines of code, as many instructions of words, the examples,
+ * files of seeds). Each call was made on no more stack than the macro says. This is measured (tests/stack.c), not
+ * proved. */
 #define TICKBOUND_DECIDE_STACK (2048 * 1024)  /* 1,670 */
 #define TICKBOUND_MERGE_STACK (2048 * 1024)   /* 1,638 */
 #define TICKBOUND_PREVIEW_STACK (256 * 1024)  /* 187 */
@@ -142,17 +144,17 @@ enum {
     TICKBOUND_NO_MEETING = 14
 };
 
-/* The decision whether a routine fits in its tick: `DECISION BOUND CYCLES TICK WORDS DEPTH STEPS` and their values, which
- * `tickbound_decide_figures` reads. CYCLES, WORDS, DEPTH and STEPS are those of the bound that BOUND names:
+/* The decision whether a routine fits in its tick: `DECISION BOUND CYCLES TICK WORDS DEPTH STEPS` and their values,
+ * which `tickbound_decide_figures` reads. CYCLES, WORDS, DEPTH and STEPS are those of the bound that BOUND names:
  *
  *   FITS FIRST          the first bound reports, and its CYCLES are at most TICK
  *   OVER FIRST          the first bound reports, and its CYCLES are above TICK
  *   FITS MERGING        the first refuses by 8 or 9, the merging bound reports, and its CYCLES are at most TICK
  *   UNDECIDED MERGING   the same, and its CYCLES are above TICK
  *
- * Where FITS is answered, every run, for every number that the file allows and every answer of a primitive, spends at most
- * TICK cycles and WORDS words, is nowhere deeper than DEPTH and makes its STOP within STEPS; this is proved, whichever
- * bound gave the figures. OVER says that the bound is above TICK, and not that a run is. UNDECIDED says neither.
+ * Where FITS is answered, every run, for every number that the file allows and every answer of a primitive, spends at
+ * most TICK cycles and WORDS words, is nowhere deeper than DEPTH and makes its STOP within STEPS; this is proved,
+ * whichever bound gave the figures. OVER says that the bound is above TICK, and not that a run is. UNDECIDED says neither.
  *
  * Refused by 10; then as the first bound is: by 1 to 6, 13 and 7, and by 8 and 9 where the merging bound refuses too. */
 TICKBOUND_USED tickbound_answer tickbound_decide(const uint8_t *text, size_t text_length, uint8_t *report,
@@ -282,8 +284,8 @@ enum tickbound_which_bound {
 /* The decision on a routine. Load it where `decision` is TICKBOUND_FITS, and nowhere else. Set aside `words` words and
  * `depth` stack entries for it, once, when the card starts.
  *
- * Of a refusal every figure from `cycles` on is UINT64_MAX, `number` is the refusal's number and `place` its place; where
- * the bytes cannot be read, both are 0. Of a decision both are 0. */
+ * Of a refusal every figure from `cycles` on is UINT64_MAX, `number` is the refusal's number and `place` its place;
+ * where the bytes cannot be read, both are 0. Of a decision both are 0. */
 struct tickbound_figures {
     enum tickbound_decision decision;
     enum tickbound_which_bound bound;
