@@ -1,5 +1,5 @@
 //! The analyser's C functions and programs compared with the independent implementation: on the cases of document 01 and of the change
-//! requests, on texts, words, traces and previews, with the answers that these papers give them; on functions that OCaml compiled; on the
+//! requests, on texts, words, traces, previews and decisions, with the answers that these papers give them; on functions that OCaml compiled; on the
 //! files that the analyser makes from seeds; and on files, words, traces and previews of a generator of its own.
 mod causes;
 mod compare;
@@ -415,6 +415,7 @@ fn covers(tally: &Tally, count: u64) -> Result<(), String> {
 
 /// The stack that the header asks for is enough, at 32 openings of a bound, of a preview, of a search and of an explanation, for a
 /// merging bound of 1,024 lines, a decision by it, and for the file of a seed: a call that needs more ends this program.
+/// (`tests/stack.c` measures the calls of all functions.)
 fn small_stack(tally: &mut Tally) {
     let deepest = cases().into_iter().find(|text| text.name == "openings_32").unwrap().bytes;
     let longest = merges().into_iter().find(|text| text.name == "tests_in_1024_lines").unwrap().bytes;
@@ -456,7 +457,7 @@ fn small_stack(tally: &mut Tally) {
     let explanation = ("an explanation on a stack of 256 KB", 256, deepest, analyser::explain as Function, explained);
     let of_a_seed: Function = |_, memory| analyser::generate(1, memory);
     let made = seeded::generate_answer(1, seeded::MEMORY);
-    let seed = ("the file of a seed on a stack of 256 KB", 256, Vec::new(), of_a_seed, made);
+    let seed = ("the file of a seed on a stack of 64 KB", 64, Vec::new(), of_a_seed, made);
     for (name, kilobytes, text, function, wanted) in calls.into_iter().chain([explanation, seed]) {
         let copy = text.clone();
         let call = move || function(&copy, &mut vec![0; explain::MEMORY]);
