@@ -1,6 +1,6 @@
 //! The analyser's C functions and programs compared with the independent implementation: on the cases of document 01 and of the change
-//! requests, on texts, words, traces, previews and decisions, with the answers that these papers give them; on functions that OCaml compiled; on the
-//! files that the analyser makes from seeds; and on files, words, traces and previews of a generator of its own.
+//! requests, on texts, words, traces, previews and decisions, with the answers that these papers give them; on functions that OCaml
+//! compiled; on the files that the analyser makes from seeds; and on files, words, traces and previews of a generator of its own.
 mod causes;
 mod compare;
 mod decisions;
