@@ -15,8 +15,8 @@ libdir=${prefix}/lib
 Name: tickbound
 Description: verified bounds of OCaml bytecode routines
 Version: VERSION
-Cflags: -I\"${includedir}\"
-Libs: -L\"${libdir}\" -ltickbound
+Cflags: -I${includedir}
+Libs: -L${libdir} -ltickbound
 ";
 
 pub fn command(arguments: &[String]) -> Result<u8, Failure> {

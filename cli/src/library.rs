@@ -32,3 +32,20 @@ const STACK: usize = 8 << 20;
 pub fn on_a_stack<T: Send + 'static>(command: impl FnOnce() -> T + Send + 'static) -> Option<T> {
     std::thread::Builder::new().stack_size(STACK).spawn(command).ok()?.join().ok()
 }
+
+#[cfg(test)]
+mod tests {
+    use super::*;
+
+    #[test]
+    fn a_panic_is_told_from_an_end() {
+        assert_eq!(on_a_stack(|| 3), Some(3));
+        assert_eq!(on_a_stack(|| -> u8 { panic!("for a test") }), None);
+    }
+
+    #[test]
+    fn a_refusal_is_printed_by_its_number_and_place() {
+        assert_eq!(Answer::Refused { number: 13, place: 21 }.printed(), b"REFUSED 13 21\n");
+        assert_eq!(Answer::Report(b"AGREES\n".to_vec()).printed(), b"AGREES\n");
+    }
+}

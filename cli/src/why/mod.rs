@@ -1,5 +1,7 @@
 //! `--why`: the reason of a refusal, of a trace that differs and of a search, in words. It is not proved; that a text is refused, by which
 //! number and at which place, is the proved answer, and a reason is looked for at that place alone.
+#[cfg(test)]
+mod damaged;
 mod fault;
 mod kinds;
 mod layout;
