@@ -1,18 +1,19 @@
-/* A loader: reads a routine file, asks for its bound and decides whether the routine is loaded. It prints the figures
- * of a routine that is, and otherwise why it is not. Where the routine has too many paths to walk (refusals 8 and 9) it
- * goes by the merging bound.
+/* A loader: reads a routine file, asks `tickbound_decide` whether the routine fits in its tick, and goes by that alone.
+ * Of a routine that fits it prints what to set aside for it, once, when the card starts; of any other why it is not
+ * loaded.
  *
  *   ./tickbound install PREFIX
  *   cc -I PREFIX/include -o loader examples/loader.c -L PREFIX/lib -ltickbound
  *   ./loader FILE
  *
- * Exit status: 0 loaded, 1 refused, 4 over its tick (CYCLES is more than TICK), 2 anything else. */
+ * Exit status: 0 fits, and nothing else is 0; 4 over its tick by the first bound, or undecided; 1 refused; 2 anything
+ * else, also where the output cannot be written. */
 #include <inttypes.h>
 #include <stdio.h>
 
 #include "tickbound.h"
 
-enum { LOADED = 0, REFUSED = 1, FAILED = 2, OVER_ITS_TICK = 4 };
+enum { LOADED = 0, REFUSED = 1, FAILED = 2, NOT_WITHIN_TICK = 4 };
 
 /* What the place of a refusal is. */
 static const char *place_of(unsigned number) {
@@ -23,11 +24,64 @@ static const char *place_of(unsigned number) {
     case TICKBOUND_STUCK:
     case TICKBOUND_OPENINGS:
     case TICKBOUND_SPENT:
-    case TICKBOUND_NO_MEETING:
         return "address";
     default:
         return "line";
     }
+}
+
+/* Reads a file into `most` bytes; false, with a message, where it cannot be read. */
+static bool read_file(const char *name, uint8_t *bytes, size_t most, size_t *length) {
+    FILE *file = fopen(name, "rb");
+    if (file == NULL) {
+        perror(name);
+        return false;
+    }
+    *length = fread(bytes, 1, most, file);
+    bool is_read = ferror(file) == 0;
+    if (!is_read) {
+        perror(name);
+    }
+    fclose(file);
+    return is_read;
+}
+
+static int loaded(const struct tickbound_figures *figures) {
+    const char *bound = figures->bound == TICKBOUND_FIRST ? "first" : "merging";
+    printf("fits: at most %" PRIu64 " of the %" PRIu64 " cycles of a tick, by the %s bound\n", figures->cycles,
+           figures->tick, bound);
+    printf("set aside once, when the card starts: words %" PRIu64 ", stack entries %" PRIu64 "\n", figures->words,
+           figures->depth);
+    return LOADED;
+}
+
+static int refused(const struct tickbound_figures *figures) {
+    if (figures->number == 0) {
+        fprintf(stderr, "loader: the decision cannot be read; use the header and the library of one version\n");
+        return FAILED;
+    }
+    printf("not loaded: refusal %u at %s %" PRIu32 "\n", figures->number, place_of(figures->number), figures->place);
+    return REFUSED;
+}
+
+/* Prints what is decided, and gives the exit status. */
+static int told(const struct tickbound_figures *figures) {
+    switch (figures->decision) {
+    case TICKBOUND_FITS:
+        return loaded(figures);
+    case TICKBOUND_OVER:
+        printf("not loaded: the bound, %" PRIu64 " cycles, is over the %" PRIu64 " of a tick\n", figures->cycles,
+               figures->tick);
+        return NOT_WITHIN_TICK;
+    case TICKBOUND_UNDECIDED:
+        printf("not loaded: undecided, too many paths to walk, and the merging bound, %" PRIu64
+               " cycles, is over the %" PRIu64 " of a tick\n",
+               figures->cycles, figures->tick);
+        return NOT_WITHIN_TICK;
+    case TICKBOUND_REFUSED:
+        break;
+    }
+    return refused(figures);
 }
 
 /* One byte more than a routine file may have: a longer file fills it, and is refused by 1. */
@@ -38,41 +92,18 @@ int main(int argc, char **argv) {
         fprintf(stderr, "usage: loader FILE\n");
         return FAILED;
     }
-    FILE *file = fopen(argv[1], "rb");
-    if (file == NULL) {
-        perror(argv[1]);
+    size_t length;
+    if (!read_file(argv[1], text, sizeof text, &length)) {
         return FAILED;
     }
-    size_t length = fread(text, 1, sizeof text, file);
-    if (ferror(file)) {
-        perror(argv[1]);
-        fclose(file);
+    uint8_t report[TICKBOUND_REPORT_MEMORY];
+    struct tickbound_figures figures;
+    tickbound_answer answer = tickbound_decide(text, length, report, sizeof report);
+    tickbound_decide_figures(answer, report, &figures);
+    int status = told(&figures);
+    if (ferror(stdout) != 0 || fclose(stdout) != 0) {
+        perror("loader: the output cannot be written");
         return FAILED;
     }
-    fclose(file);
-
-    uint8_t bytes[TICKBOUND_REPORT_MEMORY];
-    uint64_t answer = tickbound_bound(text, length, bytes, sizeof bytes);
-    if (tickbound_number(answer) == TICKBOUND_OPENINGS || tickbound_number(answer) == TICKBOUND_SPENT) {
-        answer = tickbound_merge(text, length, bytes, sizeof bytes);
-    }
-    if (tickbound_is_refused(answer)) {
-        unsigned number = tickbound_number(answer);
-        printf("not loaded: refusal %u at %s %" PRIu32 "\n", number, place_of(number), tickbound_place(answer));
-        return REFUSED;
-    }
-    struct tickbound_report report;
-    uint64_t tick = tickbound_tick(text, length);
-    if (!tickbound_read_report(bytes, tickbound_report_length(answer), &report) || tick == 0) {
-        fprintf(stderr, "loader: not a report\n");
-        return FAILED;
-    }
-    if (report.cycles > tick) {
-        printf("not loaded: %" PRIu64 " cycles are more than the %" PRIu64 " of a tick\n", report.cycles, tick);
-        return OVER_ITS_TICK;
-    }
-    printf("cycles %" PRIu64 " of %" PRIu64 ", %" PRIu64 " thousandths of a tick\n", report.cycles, tick, report.share);
-    printf("words %" PRIu64 "\ndepth %" PRIu64 "\nsteps %" PRIu64 "\n", report.words, report.depth, report.steps);
-    printf("path %s\n", report.path[0] != 0 ? report.path : "-");
-    return LOADED;
+    return status;
 }

@@ -19,18 +19,18 @@ int main(int argc, char **argv) {
     }
     size_t length = fread(text, 1, sizeof text, file);
     fclose(file);
-    uint64_t answer = tickbound_nearest(text, length, report, sizeof report - 1);
-    if (tickbound_number(answer) != TICKBOUND_LENT_TOO_LITTLE || tickbound_place(answer) != 0) {
+    tickbound_answer answer = tickbound_nearest(text, length, report, sizeof report - 1);
+    if (tickbound_refusal_number(answer) != TICKBOUND_LENT_TOO_LITTLE || tickbound_refusal_place(answer) != 0) {
         fprintf(stderr, "nearest: too little memory is not refused\n");
         return 2;
     }
     answer = tickbound_nearest(text, length, report, sizeof report);
     if (tickbound_is_refused(answer)) {
-        printf("refusal %u at %" PRIu32 "\n", tickbound_number(answer), tickbound_place(answer));
+        printf("refusal %u at %" PRIu32 "\n", tickbound_refusal_number(answer), tickbound_refusal_place(answer));
         return 1;
     }
     struct tickbound_nearest_report said;
-    if (!tickbound_read_nearest_report(report, tickbound_report_length(answer), &said)) {
+    if (!tickbound_read_nearest_report(report, tickbound_length(answer), &said)) {
         fprintf(stderr, "nearest: the report could not be read\n");
         return 2;
     }

@@ -21,13 +21,13 @@ int main(int argc, char **argv) {
     size_t length = fread(text, 1, sizeof text, file);
     fclose(file);
     uint32_t address = (uint32_t)strtoul(argv[2], NULL, 10);
-    uint64_t answer = tickbound_preview(text, length, address, (const uint8_t *)argv[3], strlen(argv[3]), memory,
-                                        sizeof memory);
+    tickbound_answer answer = tickbound_preview(text, length, address, (const uint8_t *)argv[3], strlen(argv[3]), memory,
+                                                sizeof memory);
     if (tickbound_is_refused(answer)) {
-        printf("refusal %u at %" PRIu32 "\n", tickbound_number(answer), tickbound_place(answer));
+        printf("refusal %u at %" PRIu32 "\n", tickbound_refusal_number(answer), tickbound_refusal_place(answer));
         return 1;
     }
-    if (!tickbound_read_report(memory, tickbound_report_length(answer), &report)) {
+    if (!tickbound_read_report(memory, tickbound_length(answer), &report)) {
         return 2;
     }
     printf("%" PRIu64 " cycles\n", report.cycles);

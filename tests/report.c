@@ -1,4 +1,4 @@
-/* What include/tickbound.h reads: reports, damaged reports, the TICK of a file, and answers taken apart.
+/* What include/tickbound.h reads: reports, damaged reports, and answers taken apart. tests/decisions.c has the decision.
  *
  *   cc -I include -o target/report tests/report.c
  *   target/report
@@ -145,17 +145,75 @@ static void cut_off(const char *report) {
     check(is_right, "a report cut off");
 }
 
-static void tick_is(const char *text, uint64_t wanted) {
-    check(tickbound_tick((const uint8_t *)text, strlen(text)) == wanted, text);
+/* A report longer than any is not read, whatever stands there: the SIZE_MAX of a refusal is such a length. */
+static void too_long(void) {
+    uint8_t bytes[TICKBOUND_REPORT_MEMORY + 1];
+    memset(bytes, '1', sizeof bytes);
+    check(is_refused(bytes, sizeof bytes) && is_refused_run(bytes, sizeof bytes) && is_refused_replay(bytes, sizeof bytes),
+          "129 bytes");
+    check(is_refused(NULL, SIZE_MAX) && is_refused_run(NULL, SIZE_MAX) && is_refused_replay(NULL, SIZE_MAX), "no memory");
+    struct tickbound_nearest_report got = former_nearest;
+    check(!tickbound_read_nearest_report(NULL, SIZE_MAX, &got) && got.value == former_nearest.value, "no memory of a search");
 }
 
-static void answer_is(uint64_t answer, bool refused, size_t length, unsigned number, uint32_t place) {
-    check(tickbound_is_refused(answer) == refused && tickbound_report_length(answer) == length && tickbound_number(answer) == number &&
-              tickbound_place(answer) == place,
-          "an answer taken apart");
+static tickbound_answer answer_of(uint64_t word) {
+    tickbound_answer answer;
+    answer.word = word;
+    return answer;
 }
 
-int main(void) {
+/* The word is a report's length. */
+static void is_length(uint64_t word, size_t length) {
+    tickbound_answer answer = answer_of(word);
+    check(!tickbound_is_refused(answer) && tickbound_length(answer) == length && tickbound_refusal_number(answer) == 0 &&
+              tickbound_refusal_place(answer) == 0,
+          "a length taken apart");
+}
+
+/* The word is a refusal; of one that no function answers the number and the place are 0. */
+static void is_refusal(uint64_t word, unsigned number, uint32_t place) {
+    tickbound_answer answer = answer_of(word);
+    check(tickbound_is_refused(answer) && tickbound_length(answer) == SIZE_MAX && tickbound_refusal_number(answer) == number &&
+              tickbound_refusal_place(answer) == place,
+          "a refusal taken apart");
+}
+
+/* An answer has the bits that the functions return, and memory of zeros is a refusal. */
+static void zeros(void) {
+    tickbound_answer answer;
+    check(sizeof answer == sizeof(uint64_t), "the size of an answer");
+    memset(&answer, 0, sizeof answer);
+    check(tickbound_is_refused(answer) && tickbound_length(answer) == SIZE_MAX, "an answer of zeros");
+    struct tickbound_figures figures;
+    memset(&figures, 0, sizeof figures);
+    check(figures.decision == TICKBOUND_REFUSED && figures.bound == TICKBOUND_NO_BOUND, "figures of zeros");
+}
+
+/* The string of the version is that of its numbers. */
+static void version(void) {
+    char numbers[32];
+    snprintf(numbers, sizeof numbers, "%d.%d.%d", TICKBOUND_VERSION_MAJOR, TICKBOUND_VERSION_MINOR, TICKBOUND_VERSION_PATCH);
+    check(strcmp(numbers, TICKBOUND_VERSION) == 0, "the version");
+}
+
+static void answers(void) {
+    is_length(1, 1);
+    is_length(50, 50);
+    is_length(TICKBOUND_REPORT_MEMORY, 128);
+    is_length(TICKBOUND_CODE_MEMORY, 32768);
+    is_length(TICKBOUND_EXPLAIN_MEMORY, 65536);
+    is_refusal(0x800000020000000e, TICKBOUND_LAYOUT, 14);
+    is_refusal(0x8000000a00000000, TICKBOUND_LENT_TOO_LITTLE, 0);
+    is_refusal(0x800000070000f230, TICKBOUND_STUCK, 62000);
+    is_refusal(0x80000004ffffffff, TICKBOUND_BAD_NAME, 4294967295u);
+    /* no function gives these: without bit 63 there is no refusal to take a number or a place from, and no such length */
+    is_refusal(0, 0, 0);
+    is_refusal(65537, 0, 0);
+    is_refusal(0x0000000700000005, 0, 0);
+    is_refusal(0x7fffffffffffffff, 0, 0);
+}
+
+static void searches(void) {
     reads_nearest("NONE\n", "", 0);
     reads_nearest("ACCU 0\n", "ACCU", 0);
     reads_nearest("ACCU -1073741824\n", "ACCU", -1073741824);
@@ -170,7 +228,9 @@ int main(void) {
     for (size_t i = 0; i < sizeof not_nearest / sizeof *not_nearest; i++) {
         refuses_nearest(not_nearest[i]);
     }
+}
 
+static void bounds(void) {
     reads(NAMES "65 4 1 6 65 N\n", 65, 4, 1, 6, 65, "N");
     reads(NAMES "0 0 0 1 0 -\n", 0, 0, 0, 1, 0, "");
     reads(NAMES "8233 17 4 99 206 NNNN\n", 8233, 17, 4, 99, 206, "NNNN");
@@ -180,58 +240,67 @@ int main(void) {
     reads(NAMES MOST " 1 2 3 4 -\n", UINT64_MAX, 1, 2, 3, 4, "");
     reads(NAMES "1 18446744073709551609 2 3 4 -\n", 1, 18446744073709551609u, 2, 3, 4, "");
     reads(NAMES "1 2 3 4 " MOST " T\n", 1, 2, 3, 4, UINT64_MAX, "T");
+}
 
+/* What is no report of a bound. */
+static const char *const not_reports[] = {
+    "REFUSED 8 1\n",
+    NAMES,
+    "65 4 1 6 65 N\n",
+    RUN_NAMES "65 4 1 6\n",
+    NAMES "65 4 1 6\n",
+    NAMES "65 4 1 6 65\n",
+    NAMES "65 4 1 6 65 \n",
+    NAMES "65 4 1 6 65 N",
+    NAMES "65 4 1 6 65 N\n\n",
+    NAMES "65 4 1 6 65 N\nx",
+    NAMES "65 4 1 6 65 N \n",
+    NAMES "65 4 1 6 65 N\r\n",
+    NAMES "65 4 1 6 65  N\n",
+    NAMES "65  4 1 6 65 N\n",
+    NAMES " 65 4 1 6 65 N\n",
+    NAMES "65\t4 1 6 65 N\n",
+    NAMES "65 4 1 6 65 7 N\n",
+    NAMES "065 4 1 6 65 N\n",
+    NAMES "65 00 1 6 65 N\n",
+    NAMES "65 4 01 6 65 N\n",
+    NAMES "65 4 1 06 65 N\n",
+    NAMES "65 4 1 6 00065 N\n",
+    NAMES "-65 4 1 6 65 N\n",
+    NAMES "-0 4 1 6 65 N\n",
+    NAMES "+65 4 1 6 65 N\n",
+    NAMES "6x5 4 1 6 65 N\n",
+    NAMES "0x41 4 1 6 65 N\n",
+    NAMES "65 ? 1 6 65 N\n",
+    NAMES "65  1 6 65 N\n",
+    NAMES "18446744073709551616 4 1 6 65 N\n",
+    NAMES "65 18446744073709551620 1 6 65 N\n",
+    NAMES "65 4 99999999999999999999 6 65 N\n",
+    NAMES "65 4 1 184467440737095516150 65 N\n",
+    NAMES "65 4 1 6 100000000000000000000000000000 N\n",
+    NAMES "65 4 1 6 65 n\n",
+    NAMES "65 4 1 6 65 X\n",
+    NAMES "65 4 1 6 65 NTX\n",
+    NAMES "65 4 1 6 65 N-\n",
+    NAMES "65 4 1 6 65 -N\n",
+    NAMES "65 4 1 6 65 --\n",
+    NAMES "65 4 1 6 65 N N\n",
+    NAMES "65 4 1 6 65 " N32 "T\n",
+    "CYCLES WORDS DEPTH STEPS PATH SHARE\n65 4 1 6 65 N\n",
+    "cycles WORDS DEPTH STEPS SHARE PATH\n65 4 1 6 65 N\n",
+    "CYCLES WORDS DEPTH STEPS SHARE PATH \n65 4 1 6 65 N\n",
+    "CYCLES WORDS DEPTH STEPS SHARE PATH\r\n65 4 1 6 65 N\n",
+    "CYCLES WORDS DEPTH STEPS SHARE PATH 65 4 1 6 65 N\n",
+    "\n" NAMES "65 4 1 6 65 N\n",
+};
+
+static void damaged_bounds(void) {
     check(is_refused(NULL, 0), "no bytes");
     check(is_refused((const uint8_t *)NAMES "65 4 1 6 65 N\n\0", sizeof NAMES "65 4 1 6 65 N\n"), "a 0 after a report");
     check(is_refused((const uint8_t *)NAMES "65 4 1 6 65 N\0\n", sizeof NAMES "65 4 1 6 65 N\n"), "a 0 in a report");
-    refuses("REFUSED 8 1\n");
-    refuses(NAMES);
-    refuses("65 4 1 6 65 N\n");
-    refuses(RUN_NAMES "65 4 1 6\n");
-    refuses(NAMES "65 4 1 6\n");
-    refuses(NAMES "65 4 1 6 65\n");
-    refuses(NAMES "65 4 1 6 65 \n");
-    refuses(NAMES "65 4 1 6 65 N");
-    refuses(NAMES "65 4 1 6 65 N\n\n");
-    refuses(NAMES "65 4 1 6 65 N\nx");
-    refuses(NAMES "65 4 1 6 65 N \n");
-    refuses(NAMES "65 4 1 6 65 N\r\n");
-    refuses(NAMES "65 4 1 6 65  N\n");
-    refuses(NAMES "65  4 1 6 65 N\n");
-    refuses(NAMES " 65 4 1 6 65 N\n");
-    refuses(NAMES "65\t4 1 6 65 N\n");
-    refuses(NAMES "65 4 1 6 65 7 N\n");
-    refuses(NAMES "065 4 1 6 65 N\n");
-    refuses(NAMES "65 00 1 6 65 N\n");
-    refuses(NAMES "65 4 01 6 65 N\n");
-    refuses(NAMES "65 4 1 06 65 N\n");
-    refuses(NAMES "65 4 1 6 00065 N\n");
-    refuses(NAMES "-65 4 1 6 65 N\n");
-    refuses(NAMES "-0 4 1 6 65 N\n");
-    refuses(NAMES "+65 4 1 6 65 N\n");
-    refuses(NAMES "6x5 4 1 6 65 N\n");
-    refuses(NAMES "0x41 4 1 6 65 N\n");
-    refuses(NAMES "65 ? 1 6 65 N\n");
-    refuses(NAMES "65  1 6 65 N\n");
-    refuses(NAMES "18446744073709551616 4 1 6 65 N\n");
-    refuses(NAMES "65 18446744073709551620 1 6 65 N\n");
-    refuses(NAMES "65 4 99999999999999999999 6 65 N\n");
-    refuses(NAMES "65 4 1 184467440737095516150 65 N\n");
-    refuses(NAMES "65 4 1 6 100000000000000000000000000000 N\n");
-    refuses(NAMES "65 4 1 6 65 n\n");
-    refuses(NAMES "65 4 1 6 65 X\n");
-    refuses(NAMES "65 4 1 6 65 NTX\n");
-    refuses(NAMES "65 4 1 6 65 N-\n");
-    refuses(NAMES "65 4 1 6 65 -N\n");
-    refuses(NAMES "65 4 1 6 65 --\n");
-    refuses(NAMES "65 4 1 6 65 N N\n");
-    refuses(NAMES "65 4 1 6 65 " N32 "T\n");
-    refuses("CYCLES WORDS DEPTH STEPS PATH SHARE\n65 4 1 6 65 N\n");
-    refuses("cycles WORDS DEPTH STEPS SHARE PATH\n65 4 1 6 65 N\n");
-    refuses("CYCLES WORDS DEPTH STEPS SHARE PATH \n65 4 1 6 65 N\n");
-    refuses("CYCLES WORDS DEPTH STEPS SHARE PATH\r\n65 4 1 6 65 N\n");
-    refuses("CYCLES WORDS DEPTH STEPS SHARE PATH 65 4 1 6 65 N\n");
-    refuses("\n" NAMES "65 4 1 6 65 N\n");
+    for (size_t i = 0; i < sizeof not_reports / sizeof *not_reports; i++) {
+        refuses(not_reports[i]);
+    }
     cut_off(NAMES "65 4 1 6 65 N\n");
     cut_off(NAMES "8233 17 4 99 206 NNNN\n");
     cut_off(NAMES "0 0 0 1 0 -\n");
@@ -240,25 +309,60 @@ int main(void) {
     changed_bytes(NAMES "0 0 0 1 0 -\n", 36 + 6 + 5 * 10 + 3);
     /* here a digit between two can be a space in no place, since a figure more is no report */
     changed_bytes(NAMES "123 4 1 6 65 NT\n", 36 + 6 + 9 + 10 + 10 + 10 + 10 + 10 + 9 + 10 + 2 + 2);
+}
 
+/* What is no report of a run. */
+static const char *const not_runs[] = {
+    "REFUSED 11 11\n",
+    RUN_NAMES,
+    NAMES "65 4 1 6 65 N\n",
+    RUN_NAMES "65 4 1 6 65 N\n",
+    RUN_NAMES "56 4 1\n",
+    RUN_NAMES "56 4 1 3 \n",
+    RUN_NAMES "56 4 1 3",
+    RUN_NAMES "56 4 1 3\n\n",
+    RUN_NAMES "56 4 1 03\n",
+    RUN_NAMES "56 4 1 -\n",
+    RUN_NAMES "56 4 1 18446744073709551616\n",
+};
+
+static void runs(void) {
     reads_run(RUN_NAMES "56 4 1 3\n", 56, 4, 1, 3);
     reads_run(RUN_NAMES "0 0 0 1\n", 0, 0, 0, 1);
     reads_run(RUN_NAMES "8233 17 4 33\n", 8233, 17, 4, 33);
     reads_run(RUN_NAMES "0 1 2 " MOST "\n", 0, 1, 2, UINT64_MAX);
     check(is_refused_run(NULL, 0), "no bytes");
     check(is_refused_run((const uint8_t *)RUN_NAMES "56 4 1 3\n", sizeof RUN_NAMES "56 4 1 3\n"), "a 0 after a run's report");
-    refuses_run("REFUSED 11 11\n");
-    refuses_run(RUN_NAMES);
-    refuses_run(NAMES "65 4 1 6 65 N\n");
-    refuses_run(RUN_NAMES "65 4 1 6 65 N\n");
-    refuses_run(RUN_NAMES "56 4 1\n");
-    refuses_run(RUN_NAMES "56 4 1 3 \n");
-    refuses_run(RUN_NAMES "56 4 1 3");
-    refuses_run(RUN_NAMES "56 4 1 3\n\n");
-    refuses_run(RUN_NAMES "56 4 1 03\n");
-    refuses_run(RUN_NAMES "56 4 1 -\n");
-    refuses_run(RUN_NAMES "56 4 1 18446744073709551616\n");
+    for (size_t i = 0; i < sizeof not_runs / sizeof *not_runs; i++) {
+        refuses_run(not_runs[i]);
+    }
+}
 
+/* What is no report of a replay. */
+static const char *const not_replays[] = {
+    "REFUSED 2 1\n",
+    RUN_NAMES "56 4 1 3\n",
+    "AGREES",
+    "AGREES 2\n",
+    "AGREES \n",
+    "AGREES\n\n",
+    "AGREES\nDIFFERS 2\n",
+    "agrees\n",
+    "DIFFERS\n",
+    "DIFFERS \n",
+    "DIFFERS 0\n",
+    "DIFFERS 1\n",
+    "DIFFERS 02\n",
+    "DIFFERS -2\n",
+    "DIFFERS  2\n",
+    "DIFFERS 2",
+    "DIFFERS 2 \n",
+    "DIFFERS 2 3\n",
+    "DIFFERS 2\n\n",
+    "DIFFERS 18446744073709551616\n",
+};
+
+static void replays(void) {
     reads_replay("AGREES\n", true, 0);
     reads_replay("DIFFERS 2\n", false, 2);
     reads_replay("DIFFERS 10\n", false, 10);
@@ -266,48 +370,21 @@ int main(void) {
     reads_replay("DIFFERS " MOST "\n", false, UINT64_MAX);
     check(is_refused_replay(NULL, 0), "no bytes");
     check(is_refused_replay((const uint8_t *)"AGREES\n", sizeof "AGREES\n"), "a 0 after a replay's report");
-    refuses_replay("REFUSED 2 1\n");
-    refuses_replay(RUN_NAMES "56 4 1 3\n");
-    refuses_replay("AGREES");
-    refuses_replay("AGREES 2\n");
-    refuses_replay("AGREES \n");
-    refuses_replay("AGREES\n\n");
-    refuses_replay("AGREES\nDIFFERS 2\n");
-    refuses_replay("agrees\n");
-    refuses_replay("DIFFERS\n");
-    refuses_replay("DIFFERS \n");
-    refuses_replay("DIFFERS 0\n");
-    refuses_replay("DIFFERS 1\n");
-    refuses_replay("DIFFERS 02\n");
-    refuses_replay("DIFFERS -2\n");
-    refuses_replay("DIFFERS  2\n");
-    refuses_replay("DIFFERS 2");
-    refuses_replay("DIFFERS 2 \n");
-    refuses_replay("DIFFERS 2 3\n");
-    refuses_replay("DIFFERS 2\n\n");
-    refuses_replay("DIFFERS 18446744073709551616\n");
+    for (size_t i = 0; i < sizeof not_replays / sizeof *not_replays; i++) {
+        refuses_replay(not_replays[i]);
+    }
+}
 
-    tick_is("BUDGET TICK\n1000 1000\nSTOP\n", 1000);
-    tick_is("BUDGET TICK\n1 4000000000\n", 4000000000u);
-    tick_is("BUDGET TICK\n1000000 1\n", 1);
-    tick_is("", 0);
-    tick_is("BUDGET TICK\n", 0);
-    tick_is("BUDGET TICK\n1000 1000", 0);
-    tick_is("BUDGET TICK\n1000 1000 1000\n", 0);
-    tick_is("BUDGET TICK\n1000\n", 0);
-    tick_is("BUDGET TICK\n1000 0100\n", 0);
-    tick_is("BUDGET TICK\n1000 -1\n", 0);
-    tick_is("TICK BUDGET\n1000 1000\n", 0);
-    check(tickbound_tick(NULL, 0) == 0, "the TICK of no text");
-
-    answer_is(1, false, 1, 0, 0);
-    answer_is(50, false, 50, 0, 0);
-    answer_is(TICKBOUND_REPORT_MEMORY, false, 128, 0, 0);
-    answer_is(0x800000020000000e, true, 0, TICKBOUND_LAYOUT, 14);
-    answer_is(0x8000000a00000000, true, 0, 10, 0);
-    answer_is(0x800000070000f230, true, 0, 7, 62000);
-    /* no function gives this one: without bit 63 there is no refusal to take a number or a place from */
-    answer_is(0x0000000700000005, false, (size_t)0x700000005, 0, 0);
+int main(void) {
+    searches();
+    bounds();
+    damaged_bounds();
+    runs();
+    replays();
+    too_long();
+    answers();
+    zeros();
+    version();
 
     printf("%u passed, %u failed\n", passed, failed);
     return failed == 0 ? 0 : 1;

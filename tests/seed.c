@@ -14,22 +14,22 @@ int main(int argc, char **argv) {
         return 2;
     }
     uint32_t seed = (uint32_t)strtoul(argv[1], NULL, 10);
-    uint64_t answer = tickbound_generate(seed, file, sizeof file - 1);
-    if (tickbound_number(answer) != TICKBOUND_LENT_TOO_LITTLE || tickbound_place(answer) != 0) {
+    tickbound_answer answer = tickbound_generate(seed, file, sizeof file - 1);
+    if (tickbound_refusal_number(answer) != TICKBOUND_LENT_TOO_LITTLE || tickbound_refusal_place(answer) != 0) {
         return 2;
     }
     answer = tickbound_generate(seed, file, sizeof file);
     if (tickbound_is_refused(answer)) {
-        printf("the seed: refusal %u at %" PRIu32 "\n", tickbound_number(answer), tickbound_place(answer));
+        printf("the seed: refusal %u at %" PRIu32 "\n", tickbound_refusal_number(answer), tickbound_refusal_place(answer));
         return 1;
     }
-    size_t length = tickbound_report_length(answer);
+    size_t length = tickbound_length(answer);
     answer = tickbound_bound(file, length, memory, sizeof memory);
     if (tickbound_is_refused(answer)) {
-        printf("its bound: refusal %u at %" PRIu32 "\n", tickbound_number(answer), tickbound_place(answer));
+        printf("its bound: refusal %u at %" PRIu32 "\n", tickbound_refusal_number(answer), tickbound_refusal_place(answer));
         return 1;
     }
-    if (!tickbound_read_report(memory, tickbound_report_length(answer), &report)) {
+    if (!tickbound_read_report(memory, tickbound_length(answer), &report)) {
         return 2;
     }
     printf("%zu bytes, %" PRIu64 " cycles\n", length, report.cycles);

@@ -22,8 +22,8 @@ static bool read_file(const char *name, uint8_t *bytes, size_t most, size_t *len
 }
 
 /* Whether the run of a routine file is refused before it begins. */
-static bool is_unread(uint64_t answer) {
-    unsigned number = tickbound_number(answer);
+static bool is_unread(tickbound_answer answer) {
+    unsigned number = tickbound_refusal_number(answer);
     return (number >= TICKBOUND_TEXT_TOO_LONG && number <= TICKBOUND_NO_TARGET) || number == TICKBOUND_BACKWARD ||
            number == TICKBOUND_UNKNOWN_CELL;
 }
@@ -35,20 +35,20 @@ int main(int argc, char **argv) {
         fprintf(stderr, "usage: trace ROUTINE TRACE\n");
         return 2;
     }
-    uint64_t answer = tickbound_replay(text, text_length, trace, trace_length, report, sizeof report - 1);
-    if (tickbound_number(answer) != TICKBOUND_LENT_TOO_LITTLE || tickbound_place(answer) != 0) {
+    tickbound_answer answer = tickbound_replay(text, text_length, trace, trace_length, report, sizeof report - 1);
+    if (tickbound_refusal_number(answer) != TICKBOUND_LENT_TOO_LITTLE || tickbound_refusal_place(answer) != 0) {
         fprintf(stderr, "trace: too little memory is not refused\n");
         return 2;
     }
     answer = tickbound_replay(text, text_length, trace, trace_length, report, sizeof report);
     if (tickbound_is_refused(answer)) {
         bool in_text = is_unread(tickbound_run(text, text_length, report, sizeof report));
-        printf("refusal %u at %" PRIu32 " of the %s\n", tickbound_number(answer), tickbound_place(answer),
+        printf("refusal %u at %" PRIu32 " of the %s\n", tickbound_refusal_number(answer), tickbound_refusal_place(answer),
                in_text ? "routine file" : "trace");
         return 1;
     }
     struct tickbound_replay_report said;
-    if (!tickbound_read_replay_report(report, tickbound_report_length(answer), &said)) {
+    if (!tickbound_read_replay_report(report, tickbound_length(answer), &said)) {
         fprintf(stderr, "trace: the report could not be read\n");
         return 2;
     }

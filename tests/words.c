@@ -12,13 +12,13 @@
 
 static uint8_t text[TICKBOUND_TEXT_LIMIT + 1], words[TICKBOUND_CODE_MEMORY], lines[TICKBOUND_CODE_MEMORY];
 
-static int refused(const char *call, uint64_t answer) {
-    printf("%s: refusal %u at %" PRIu32 "\n", call, tickbound_number(answer), tickbound_place(answer));
+static int refused(const char *call, tickbound_answer answer) {
+    printf("%s: refusal %u at %" PRIu32 "\n", call, tickbound_refusal_number(answer), tickbound_refusal_place(answer));
     return 1;
 }
 
-static bool lent_too_little(uint64_t answer) {
-    return tickbound_number(answer) == TICKBOUND_LENT_TOO_LITTLE && tickbound_place(answer) == 0;
+static bool lent_too_little(tickbound_answer answer) {
+    return tickbound_refusal_number(answer) == TICKBOUND_LENT_TOO_LITTLE && tickbound_refusal_place(answer) == 0;
 }
 
 int main(int argc, char **argv) {
@@ -30,11 +30,11 @@ int main(int argc, char **argv) {
     size_t length = fread(text, 1, sizeof text, file);
     fclose(file);
     const uint8_t *primitives = (const uint8_t *)argv[2];
-    uint64_t answer = tickbound_export(text, length, words, sizeof words);
+    tickbound_answer answer = tickbound_export(text, length, words, sizeof words);
     if (tickbound_is_refused(answer)) {
         return refused("export", answer);
     }
-    size_t count = tickbound_report_length(answer);
+    size_t count = tickbound_length(answer);
     answer = tickbound_import(words, count, primitives, strlen(argv[2]), lines, sizeof lines);
     if (tickbound_is_refused(answer)) {
         return refused("import", answer);
@@ -44,5 +44,5 @@ int main(int argc, char **argv) {
         fprintf(stderr, "words: too little memory is not refused\n");
         return 2;
     }
-    return fwrite(lines, 1, tickbound_report_length(answer), stdout) == tickbound_report_length(answer) ? 0 : 2;
+    return fwrite(lines, 1, tickbound_length(answer), stdout) == tickbound_length(answer) ? 0 : 2;
 }

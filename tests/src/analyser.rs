@@ -3,6 +3,7 @@
 extern "C" {
     fn tickbound_bound(text: *const u8, text_length: usize, report: *mut u8, report_length: usize) -> u64;
     fn tickbound_merge(text: *const u8, text_length: usize, report: *mut u8, report_length: usize) -> u64;
+    fn tickbound_decide(text: *const u8, text_length: usize, report: *mut u8, report_length: usize) -> u64;
     fn tickbound_nearest(text: *const u8, text_length: usize, report: *mut u8, report_length: usize) -> u64;
     fn tickbound_run(text: *const u8, text_length: usize, report: *mut u8, report_length: usize) -> u64;
     fn tickbound_import(
@@ -54,6 +55,11 @@ pub fn bound(text: &[u8], report: &mut [u8]) -> u64 {
 pub fn merge(text: &[u8], report: &mut [u8]) -> u64 {
     // SAFETY: as above.
     unsafe { tickbound_merge(start(text), text.len(), start_mut(report), report.len()) }
+}
+
+pub fn decide(text: &[u8], report: &mut [u8]) -> u64 {
+    // SAFETY: as above.
+    unsafe { tickbound_decide(start(text), text.len(), start_mut(report), report.len()) }
 }
 
 pub fn nearest(text: &[u8], report: &mut [u8]) -> u64 {

@@ -4,6 +4,7 @@ use crate::change::Base::{File, Named};
 use crate::change::Change::{FirstBytes, Nothing, Without};
 use crate::change::Told::{Refusal, Report};
 use crate::change::{append, line, lines, made, refused, word, Base, Entry, Text};
+use crate::decide_cases;
 use crate::merge_cases;
 use crate::nearest_cases;
 use crate::report::MEMORY;
@@ -342,6 +343,7 @@ pub fn program_files() -> Vec<(&'static str, Vec<u8>)> {
     let cases = cases();
     let named = |name| cases.iter().find(|text| text.name == name).unwrap();
     let (bound, run) = (named("published"), named("published_run"));
+    let decision = decide_cases::decisions().into_iter().find(|case| case.name == "siren_budget_1").unwrap();
     let nearest = nearest_cases::nearests().into_iter().find(|case| case.name == "the_earlier_cell").unwrap();
     let (mut stdin, mut stdout) = (Vec::new(), Vec::new());
     for text in &cases {
@@ -355,6 +357,8 @@ pub fn program_files() -> Vec<(&'static str, Vec<u8>)> {
         ("crates/run/stdout", run.printed()[1].clone().into_bytes()),
         ("crates/merge/stdin", bound.bytes.clone()),
         ("crates/merge/stdout", merge_cases::printed(bound).unwrap().into_bytes()),
+        ("crates/decide/stdin", decision.text.clone()),
+        ("crates/decide/stdout", decision.printed.into()),
         ("crates/nearest/stdin", nearest.text.clone().into_bytes()),
         ("crates/nearest/stdout", nearest.printed.into()),
         ("crates/cases/stdin", stdin),

@@ -7,6 +7,8 @@ pub mod cases;
 pub mod change;
 pub mod compiled;
 pub mod damage;
+pub mod decide;
+pub mod decide_cases;
 pub mod draft;
 pub mod explain;
 pub mod functions;

@@ -1,8 +1,9 @@
 //! The analyser's C functions and programs compared with the independent implementation: on the cases of document 01 and of the change
-//! requests, on texts, words, traces and previews, with the answers that these papers give them; on functions that OCaml compiled; on the
-//! files that the analyser makes from seeds; and on files, words, traces and previews of a generator of its own.
+//! requests, on texts, words, traces, previews and decisions, with the answers that these papers give them; on functions that OCaml
+//! compiled; on the files that the analyser makes from seeds; and on files, words, traces and previews of a generator of its own.
 mod causes;
 mod compare;
+mod decisions;
 mod explanations;
 mod extras;
 mod handles;
@@ -21,7 +22,8 @@ mod traces;
 mod wraps;
 
 use causes::Causes;
-use compare::{by_programs, file, number, Answers, Outcome};
+use compare::{by_programs, compare, file, number, Answers, Outcome};
+use decisions::Decisions;
 use explanations::{explained, Explanations};
 use extras::Extras;
 use handles::Compared;
@@ -30,6 +32,8 @@ use independent::analyser::{self, Function};
 use independent::cases::{cases, program_files, starred};
 use independent::compiled::functions;
 use independent::damage::damaged;
+use independent::decide::decide_answer;
+use independent::decide_cases;
 use independent::explain;
 use independent::generate::draft;
 use independent::merge_cases::{self, merges, MERGES};
@@ -52,7 +56,8 @@ use merges::Merges;
 use narrowed::Narrowed;
 use nearests::{compare_nearest, nearest_by_program, Nearests};
 use pinned::{
-    pinned, pinned_export, pinned_import, pinned_merge, pinned_nearest, pinned_preview, pinned_range, pinned_replay,
+    pinned, pinned_decision, pinned_export, pinned_import, pinned_merge, pinned_nearest, pinned_preview, pinned_range,
+    pinned_replay,
 };
 use previews::{compare_preview, preview_by_program, Previews};
 use ranges::Ranges;
@@ -92,6 +97,7 @@ struct Tally {
     previews: Previews,
     nearests: Nearests,
     explanations: Explanations,
+    decisions: Decisions,
     seeds: Seeds,
 }
 
@@ -141,6 +147,7 @@ impl Tally {
         self.ranges.note(text, &answers, widened.as_ref());
         self.narrowed.compare(random, text, &answers)?;
         explained(random, text, &answers.bound, programs, &mut self.explanations)?;
+        self.decisions.compare(random, text, &answers, programs)?;
         let exported = exported(random, text, &answers.bound)?;
         if exported.is_ok() {
             self.causes.note_export(read(text, false).unwrap().first);
@@ -186,6 +193,15 @@ impl Tally {
     }
 }
 
+/// The routine files of `examples/`, each with its path.
+fn examples() -> Vec<(String, Vec<u8>)> {
+    let paths = std::fs::read_dir("examples").unwrap().map(|file| file.unwrap().path());
+    let files = paths.filter(|path| path.extension().is_some_and(|e| e == "txt"));
+    let mut texts: Vec<_> = files.map(|path| (path.display().to_string(), std::fs::read(path).unwrap())).collect();
+    texts.sort();
+    texts
+}
+
 /// The cases of the document and the texts, and that none was lost.
 fn compare_pinned(tally: &mut Tally, programs: &Path, random: &mut Random) {
     let texts = texts();
@@ -212,13 +228,9 @@ fn compare_merges(tally: &mut Tally, programs: &Path, random: &mut Random) {
         let found = if pinned { Ok(()) } else { Err("no answer of the merging bound is pinned".to_string()) };
         tally.count(&format!("the case {}", text.name), &text.bytes, found);
     }
-    let examples = std::fs::read_dir("examples").unwrap().map(|file| file.unwrap().path());
-    let mut examples: Vec<_> = examples.filter(|path| path.extension().is_some_and(|e| e == "txt")).collect();
-    examples.sort();
-    for path in &examples {
-        let text = std::fs::read(path).unwrap();
-        let found = file(random, &text).and_then(|compared| by_programs(programs, &text, &compared.answers));
-        tally.count(&path.display().to_string(), &text, found);
+    for (path, text) in &examples() {
+        let found = file(random, text).and_then(|compared| by_programs(programs, text, &compared.answers));
+        tally.count(path, text, found);
     }
     let panel = std::fs::read("examples/ninety-tests.txt").unwrap_or_default();
     let numbers = [bound_answer(&panel, MEMORY), merge_answer(&panel, MEMORY)].map(|answer| number(&answer));
@@ -267,10 +279,7 @@ fn compare_words(tally: &mut Tally, programs: &Path, random: &mut Random) {
 
 /// The explanations of the examples and of the cases, and two that are pinned.
 fn compare_explanations(tally: &mut Tally, programs: &Path, random: &mut Random) {
-    let examples = std::fs::read_dir("examples").unwrap().map(|file| file.unwrap().path());
-    let examples = examples.filter(|path| path.extension().is_some_and(|e| e == "txt"));
-    let mut texts: Vec<_> = examples.map(|path| (path.display().to_string(), std::fs::read(path).unwrap())).collect();
-    texts.sort();
+    let mut texts = examples();
     texts.extend(cases().into_iter().chain(starred()).map(|text| (text.name.to_string(), text.bytes)));
     texts.extend(explain::pinned().into_iter().map(|(text, _)| ("a pinned text".to_string(), text)));
     for (name, text) in &texts {
@@ -307,6 +316,30 @@ fn compare_previews(tally: &mut Tally, programs: &Path, random: &mut Random) {
     for case in &cases {
         let found = pinned_preview(programs, random, case);
         tally.count(&format!("the preview {}", case.name), &[], found);
+    }
+}
+
+/// The decisions with pinned lines; those on the examples, the cases and the texts of both bounds, beside both bounds; and damaged ones,
+/// which must be noticed.
+fn compare_decisions(tally: &mut Tally, programs: &Path, random: &mut Random) {
+    let pinned = decide_cases::decisions();
+    let (found, wanted) = (pinned.len(), decide_cases::CASES);
+    let count = if found == wanted { Ok(()) } else { Err(format!("{found}, not {wanted}")) };
+    tally.count("the count of the decisions", &[], count);
+    for case in &pinned {
+        let found = pinned_decision(programs, random, case);
+        tally.count(&format!("the decision {}", case.name), &case.text, found);
+    }
+    let mut texts = examples();
+    texts.extend(cases().into_iter().chain(starred()).map(|text| (text.name.to_string(), text.bytes)));
+    texts.extend(merges().into_iter().map(|text| (text.name.to_string(), text.bytes)));
+    for (name, text) in texts {
+        let found = compare(random, &text)
+            .and_then(|answers| Decisions::default().compare(random, &text, &answers, Some(programs)));
+        tally.count(&format!("the decision on {name}"), &text, found);
+    }
+    for (name, found) in decisions::damaged() {
+        tally.count(name, &[], found);
     }
 }
 
@@ -356,8 +389,9 @@ const MANY: u64 = 5_000;
 /// count, handles in operations on two cells, numbers that wrap and numbers just outside their range, SHARE at a half and next to it,
 /// jumps forward and backward, ways that meet and ways that do not, ranges in cells, operations and conditions, figures that fall where
 /// more is known, files that know all, each cause by which words are refused, traces that agree, differ and are refused by each cause,
-/// previews with a report or a refusal of each kind, and changes of a number that move the bound in each way, and none that do.
-fn covers(tally: &Tally) -> Result<(), String> {
+/// previews with a report or a refusal of each kind, changes of a number that move the bound in each way, and none that do, and decisions
+/// of each row and with each refusal, 25 of each in 20,000 files.
+fn covers(tally: &Tally, count: u64) -> Result<(), String> {
     let missing: Vec<u32> = (0..=14).filter(|n| ![10, 12].contains(n) && !tally.answers.contains_key(n)).collect();
     let of_words = tally.causes.counts().into_iter().chain(tally.traces.counts());
     let of_others = of_words.chain(tally.previews.counts()).chain(tally.nearests.counts());
@@ -366,6 +400,7 @@ fn covers(tally: &Tally) -> Result<(), String> {
     let too_few = counts.filter(|(_, count)| *count < MANY / 200);
     let rare: Vec<_> = too_few
         .chain(tally.traces.rare().into_iter().chain(tally.previews.rare()).filter(|(_, count)| *count < MANY / 1000))
+        .chain(tally.decisions.counts().into_iter().filter(|(_, times)| *times < (count / 800).min(25)))
         .collect();
     let kinds = [tally.kinds.len(), tally.causes.kinds()];
     if kinds == [KINDS.len(); 2] && missing.is_empty() && rare.is_empty() && tally.interruptions >= MANY / 2 {
@@ -379,14 +414,15 @@ fn covers(tally: &Tally) -> Result<(), String> {
 }
 
 /// The stack that the header asks for is enough, at 32 openings of a bound, of a preview, of a search and of an explanation, for a
-/// merging bound of 1,024 lines and for the file of a seed: a call that needs more ends this program.
+/// merging bound of 1,024 lines, a decision by it, and for the file of a seed: a call that needs more ends this program.
+/// (`tests/stack.c` measures the calls of all functions.)
 fn small_stack(tally: &mut Tally) {
     let deepest = cases().into_iter().find(|text| text.name == "openings_32").unwrap().bytes;
     let longest = merges().into_iter().find(|text| text.name == "tests_in_1024_lines").unwrap().bytes;
     // a number that no path reads, so that every trial goes as deep
     let searched = String::from_utf8(deepest.clone()).unwrap().replacen("ACCU\n?", "ACCU S0\n? 5", 1).into_bytes();
     let as_it_is: Function = |text, memory| analyser::preview(text, 0, &instruction_at(text, 0).unwrap(), memory);
-    let calls: [(&str, usize, Vec<u8>, Function, Answer); 4] = [
+    let calls: [(&str, usize, Vec<u8>, Function, Answer); 5] = [
         ("32 openings on a stack of 256 KB", 256, deepest.clone(), analyser::bound, bound_answer(&deepest, MEMORY)),
         (
             "32 openings in a preview on a stack of 256 KB",
@@ -409,12 +445,19 @@ fn small_stack(tally: &mut Tally) {
             analyser::merge,
             merge_answer(&longest, MEMORY),
         ),
+        (
+            "a decision by the merge of 1,024 lines on a stack of 2 MB",
+            2048,
+            longest.clone(),
+            analyser::decide,
+            decide_answer(&longest, MEMORY),
+        ),
     ];
     let explained = explain::explain_answer(&deepest, explain::MEMORY);
     let explanation = ("an explanation on a stack of 256 KB", 256, deepest, analyser::explain as Function, explained);
     let of_a_seed: Function = |_, memory| analyser::generate(1, memory);
     let made = seeded::generate_answer(1, seeded::MEMORY);
-    let seed = ("the file of a seed on a stack of 256 KB", 256, Vec::new(), of_a_seed, made);
+    let seed = ("the file of a seed on a stack of 64 KB", 64, Vec::new(), of_a_seed, made);
     for (name, kilobytes, text, function, wanted) in calls.into_iter().chain([explanation, seed]) {
         let copy = text.clone();
         let call = move || function(&copy, &mut vec![0; explain::MEMORY]);
@@ -443,6 +486,7 @@ fn main() {
     compare_words(&mut tally, programs, &mut Random::new(seed));
     compare_replays(&mut tally, programs, &mut Random::new(seed));
     compare_previews(&mut tally, programs, &mut Random::new(seed));
+    compare_decisions(&mut tally, programs, &mut Random::new(seed));
     compare_nearests(&mut tally, programs, &mut Random::new(seed));
     compare_explanations(&mut tally, programs, &mut Random::new(seed));
     compare_seeds(&mut tally, programs, &mut Random::new(seed));
@@ -467,7 +511,7 @@ fn main() {
     }
 
     if count >= MANY {
-        let found = covers(&tally);
+        let found = covers(&tally, count);
         tally.count("what the files cover", &[], found);
     }
 
@@ -481,7 +525,7 @@ fn main() {
         println!("files with {what}: {count}");
     }
     println!("kinds in the words of accepted imports: {}", tally.causes.kinds());
-    for (what, count) in tally.explanations.counts() {
+    for (what, count) in tally.explanations.counts().into_iter().chain(tally.decisions.counts()) {
         println!("{what}: {count}");
     }
     let traces = tally.traces.counts().into_iter().chain(tally.traces.rare());

@@ -1,12 +1,15 @@
 //! Texts whose answers are read from document 01 and the change requests: the C functions, the independent implementation and the
 //! programs must give these.
 use crate::compare::{by_programs, compare, file, shown};
+use crate::decisions::{compare_decision, decision_by_program};
 use crate::imports::{export_by_program, exported, import_by_program, imported};
 use crate::nearests::{compare_nearest, nearest_by_program};
 use crate::previews::{compare_preview, preview_by_program};
 use crate::replays::{compare_replay, replay_by_program};
 use independent::analyser::{self, Function};
 use independent::change::{Bounds, Text, Three};
+use independent::decide::decide_answer;
+use independent::decide_cases::Case as DecisionCase;
 use independent::merge_cases;
 use independent::nearest::nearest_answer;
 use independent::nearest_cases::Case as NearestCase;
@@ -85,6 +88,14 @@ pub fn pinned_nearest(programs: &Path, random: &mut Random, case: &NearestCase) 
     both("nearest", &|memory| analyser::nearest(text, memory), case.lent, &own, case.printed.as_bytes())?;
     let answer = compare_nearest(random, text)?.ok_or("too long a search")?;
     nearest_by_program(programs, text, &answer)
+}
+
+/// A text with its decision.
+pub fn pinned_decision(programs: &Path, random: &mut Random, case: &DecisionCase) -> Result<(), String> {
+    let own = decide_answer(&case.text, case.lent);
+    both("decide", &|memory| analyser::decide(&case.text, memory), case.lent, &own, case.printed.as_bytes())?;
+    let answer = compare_decision(random, &case.text)?;
+    decision_by_program(programs, &case.text, &answer)
 }
 
 /// Whether a function and the independent implementation say what is wanted.
