@@ -59,7 +59,7 @@ impl Check<'_> {
         match (self.base(number), self.base(before)) {
             ("APPLY" | "APPTERM", "ENVACC" | "OFFSETCLOSURE" | "GETGLOBALFIELD") => vec![before],
             ("APPLY" | "APPTERM", "GETFIELD") if self.base(before.wrapping_sub(1)) == "GETGLOBAL" => vec![before - 1],
-            ("RAISE" | "RERAISE" | "RAISE_NOTRACE", "GETGLOBAL") => vec![before],
+            ("RAISE" | "RERAISE" | "RAISE_NOTRACE", "GETGLOBAL" | "GETGLOBALFIELD") => vec![before],
             _ => Vec::new(),
         }
     }
