@@ -235,7 +235,7 @@ fn strange_lowered() -> Vec<(&'static str, Vec<u8>, &'static str)> {
         ("what no closure keeps", of_body(&[22, 40, 1]), "(ENVACC 2) is computed when the unit begins"),
         ("a place of a closure below all", of_body(&[25, -2_147_483_648, 40, 1]), "is computed when the unit begins"),
         ("a for of 2^30 turns", of_body(&count(1_073_741_823)), "makes more than 1024 lines"),
-        ("a for of 200 turns", of_body(&count(199)), "makes more than 1024 lines"),
+        ("a for of 400 turns", of_body(&count(399)), "instructions, and a routine file has at most 1024"),
         ("a jump backwards", of_body(&[0, 85, -2, 40, 1]), "jumps backwards"),
         (
             "a stack without an end when the unit begins",

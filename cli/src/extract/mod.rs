@@ -18,6 +18,8 @@ mod object;
 mod opcodes;
 mod routine;
 mod source;
+#[cfg(test)]
+mod tests;
 mod thread;
 mod unroll;
 
