@@ -176,7 +176,7 @@ impl Extraction<'_> {
         let name = if last.bytes().all(is_plain) { last.to_string() } else { (index + 1).to_string() };
         let name = format!("{stem}-{name}");
         let file = filling.fill(&format!("{name}.txt"), &written.file)?;
-        let routine = written.routine.as_in(&written.lines, &file);
+        let routine = written.routine.numbered_as_in(&written.lines, &file);
         let names = files::write(&routine, &file, filling.cells.is_none(), &name)?;
         said(&written.notes, &lines).iter().for_each(|line| output::say(line));
         Ok(names)

@@ -81,7 +81,7 @@ impl Routine {
 
 impl Routine {
     /// With the primitives of a routine file that it was filled in by, in their order there, so that the words are those of that file.
-    pub fn as_in(self, lines: &[Line], file: &str) -> Routine {
+    pub fn numbered_as_in(self, lines: &[Line], file: &str) -> Routine {
         let Some(primitives) = file.lines().nth(PRIMITIVES_LINE - 1) else { return self };
         let names: Vec<&[u8]> = primitives.split(' ').map(str::as_bytes).collect();
         match called(lines).iter().all(|name| names.contains(&name.as_slice())) {
