@@ -92,7 +92,17 @@ fn answered() -> Result<u8, Failure> {
     }
 }
 
+/// A panic is a fault of the command itself: one line, and exit status 2.
+fn tell_panics() {
+    std::panic::set_hook(Box::new(|panic| {
+        let what = panic.payload_as_str().unwrap_or("it cannot go on");
+        let place = panic.location().map_or(String::new(), |place| format!("{}:{}", place.file(), place.line()));
+        output::say(&format!("tickbound: {what} (a fault of the command itself, at {place})"));
+    }));
+}
+
 fn main() -> ExitCode {
+    tell_panics();
     streams::end_at_a_closed_pipe();
     match library::on_a_stack(answered) {
         Some(Ok(status)) => ExitCode::from(status),
@@ -100,7 +110,6 @@ fn main() -> ExitCode {
             output::say(&format!("tickbound: {message}"));
             ExitCode::from(2)
         }
-        // what was wrong stands on standard error already
         None => ExitCode::from(2),
     }
 }

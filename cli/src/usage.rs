@@ -159,7 +159,7 @@ Exit status: 0 done, 2 not done.",
     },
     Usage {
         name: "batch",
-        call: "batch COMMAND FILE.. | batch COMMAND --seeds A-B",
+        call: "batch [--why] COMMAND FILE.. | batch [--why] COMMAND --seeds A-B",
         summary: "bound, merge, run or decide of many files, or of many seeds",
         text: "\
 Answers COMMAND (bound, merge, run or decide) for each file, or for the file of each seed from A to B, in one line:

@@ -98,7 +98,10 @@ impl Check<'_> {
         if !instruction.targets.iter().all(inside) {
             return Some(Fault::Outside(instruction.name()));
         }
-        let back = instruction.targets.iter().any(|target| *target <= instruction.at);
+        // a loop that begins with CHECK_SIGNALS is told there
+        let is_told =
+            |target: &usize| self.code.number(*target).is_some_and(|number| self.base(number) == "CHECK_SIGNALS");
+        let back = instruction.targets.iter().any(|target| *target <= instruction.at && !is_told(target));
         (back && !self.lowers).then(|| Fault::Backwards(instruction.name()))
     }
 

@@ -102,6 +102,9 @@ impl Callee {
 impl fmt::Display for Fault {
     fn fmt(&self, to: &mut fmt::Formatter) -> fmt::Result {
         match self {
+            Fault::NotLowered("CHECK_SIGNALS") => {
+                write!(to, "a loop (CHECK_SIGNALS) has no kind: give --lower and --unroll, which write a `for` out")
+            }
             Fault::NotLowered(name) => write!(to, "{} ({name}) has no kind: give --lower", lowered(name)),
             Fault::Arithmetic(sign, name) => write!(to, "`{sign}` ({name}) has no kind: use an external"),
             Fault::Division(sign, name) => {
@@ -206,10 +209,9 @@ impl Fault {
 fn lowered(name: &str) -> &'static str {
     match name {
         "SWITCH" => "a match",
-        "CHECK_SIGNALS" => "a loop",
         "ULTINT" | "UGEINT" => "a comparison without sign",
         name if name.contains("ENVACC") => "a value from outside the function",
-        _ => "a comparison with a constant, joined with its branch,",
+        _ => "a comparison with a constant",
     }
 }
 
