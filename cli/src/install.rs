@@ -27,6 +27,9 @@ pub fn command(arguments: &[String]) -> Result<u8, Failure> {
     if prefix.is_empty() {
         return Err(wrong_call("install", "PREFIX is empty; name the folder to install into"));
     }
+    if cfg!(feature = "programs") {
+        return Err(Failure("this build is for the first use and has no library; call ./tickbound install".into()));
+    }
     let Some(root) = place::repository() else {
         return Err(Failure("this copy is installed already; install from the repository".into()));
     };

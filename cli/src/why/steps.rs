@@ -68,7 +68,7 @@ fn stuck(routine: &Routine, line: &str) -> Vec<String> {
             let popped = digits.parse::<usize>().unwrap_or(1) - 1;
             vec![format!("the stack has fewer than {popped} entries, which are the arguments after the first")]
         }
-        _ => vec!["this step cannot be made".into()],
+        _ => Vec::new(),
     }
 }
 
@@ -108,4 +108,25 @@ fn ways(routine: &Routine, address: u32) -> String {
         }
     }
     from.join(", ")
+}
+
+#[cfg(test)]
+mod tests {
+    use super::super::kinds::of_opcode;
+    use super::*;
+
+    #[test]
+    fn every_kind_that_can_be_stuck_has_its_causes() {
+        let text = include_bytes!("../../../examples/door-counter.txt");
+        let routine = Routine::of(text);
+        let never = |kind: &str| kind.starts_with("CONST") || kind == "BRANCH" || kind == "STOP" || kind == "C_CALL1";
+        for kind in (0..200).filter_map(of_opcode) {
+            let causes = stuck(&routine, &format!("4 {kind} 3"));
+            assert!(never(kind) || !causes.is_empty(), "{kind}");
+        }
+        assert_eq!(stuck(&routine, "4 C_CALL3 DOOR").len(), 1);
+        assert_eq!(stuck(&routine, "4 PUSHACC2 -")[1], "there is no entry 2 on the stack after the push");
+        assert_eq!(stuck(&routine, "4 GETFIELD0 -").len(), 1);
+        assert_eq!(stuck(&routine, "4 SETFIELD 3")[2], "its block has no field 3, as block 0 has none");
+    }
 }
