@@ -1,14 +1,21 @@
 //! tickbound: the decision on a routine file, its bounds, and what belongs to them. See `tickbound --help`.
 mod arguments;
 mod batch;
+mod card;
+mod cells;
 mod commands;
 mod extract;
 mod failure;
 mod input;
 mod install;
 mod library;
+mod lines;
+mod numbers;
 mod output;
 mod place;
+mod price;
+mod routine_text;
+mod sha256;
 mod sheet;
 mod streams;
 mod usage;
@@ -35,6 +42,7 @@ fn dispatch(command: &str, arguments: &[String]) -> Result<u8, Failure> {
         "generate" => commands::generate(arguments),
         "sheet" => sheet::command(arguments),
         "extract" => extract::command(arguments),
+        "price" => price::command(arguments),
         "batch" => batch::command(arguments),
         "install" => install::command(arguments),
         "--help" | "-h" | "--version" => about(command, arguments),
