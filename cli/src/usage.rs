@@ -63,7 +63,7 @@ Exit status: 0 a report, 1 refused, 2 anything else.",
     },
     Usage {
         name: "sheet",
-        call: "sheet [--html] [--nearest] [--card CARD] [--cells CELLS] FILE",
+        call: "sheet [--why] [--html] [--nearest] [--card CARD] [--cells CELLS] FILE",
         summary: "the field sheet of a routine, as text or as a page",
         text: "\
 Prints the field sheet of a routine, to be signed: the decision of `decide` first (FITS, OVER, NOT DECIDED or REFUSED),

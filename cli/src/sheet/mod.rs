@@ -1,4 +1,4 @@
-//! `tickbound sheet [--html] [--nearest] [--card CARD] [--cells CELLS] FILE`: the field sheet of a routine. Its decision and its figures
+//! `tickbound sheet [--why] [--html] [--nearest] [--card CARD] [--cells CELLS] FILE`: the field sheet of a routine. Its decision and its figures
 //! are the bytes that the proved analyser answered.
 mod answers;
 mod clients;
@@ -15,14 +15,14 @@ mod refusal;
 use crate::arguments::{self, Options};
 use crate::failure::{wrong_call, Failure};
 use crate::input::{self, ROUTINE_LIMIT};
-use crate::output;
 use crate::price::{shown, Filling};
+use crate::{output, why};
 use answers::Answers;
 use compose::Sources;
 
 /// The longest file that has a sheet.
 const LONGEST: usize = 1 << 24;
-const OPTIONS: Options = Options { flags: &["--html", "--nearest"], valued: &["--card", "--cells"] };
+const OPTIONS: Options = Options { flags: &["--html", "--nearest", "--why"], valued: &["--card", "--cells"] };
 
 pub fn command(arguments: &[String]) -> Result<u8, Failure> {
     let given = arguments::read("sheet", arguments, &OPTIONS)?;
@@ -43,7 +43,10 @@ pub fn command(arguments: &[String]) -> Result<u8, Failure> {
     let sources =
         Sources { file: shown(file), bytes: &bytes, card: filling.card.as_ref(), cells: filling.cells.as_ref() };
     let sheet = compose::sheet(&sources, &answers)?;
-    let text = if given.has("--html") { page::html(&sheet) } else { plain::text(&sheet) };
-    output::print(text.as_bytes())?;
+    let printed = if given.has("--html") { page::html(&sheet) } else { plain::text(&sheet) };
+    output::print(printed.as_bytes())?;
+    if given.has("--why") {
+        output::say_lines(&why::of_question("decide", text, &answers.decide));
+    }
     Ok(sheet.decision.status)
 }
