@@ -218,7 +218,11 @@ fn strange() -> Vec<(&'static str, Vec<u8>, &'static str)> {
             of_code(&[84, 8, 99, 84, 3, 84, 99, 40, 1, 43, 0, -9]),
             "word 5: BRANCH jumps out of the function",
         ),
-        ("a branch to itself", of_code(&[84, 3, 84, -1, 43, 0, -4]), "word 2: BRANCH jumps backwards"),
+        (
+            "a branch to itself",
+            of_code(&[84, 3, 84, -1, 43, 0, -4]),
+            "word 2: a loop whose ends are no constants jumps backwards",
+        ),
         ("a call of no primitive", of_code(&[84, 6, 99, 93, 0, 40, 1, 43, 0, -7]), "no relocation names the primitive"),
         ("2^32 arguments", of_code(&[84, 6, 42, -1, 99, 40, 1, 43, 0, -7]), "4294967296 arguments"),
         (

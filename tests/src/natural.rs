@@ -130,7 +130,7 @@ impl Body<'_> {
             }
             4 => {
                 let (left, right) = (self.int(), self.int());
-                sum(left, self.random.pick(&["+", "-"]), right)
+                sum(left, *self.random.pick(&["+", "-"]), right)
             }
             5 => {
                 let (text, most) = self.int();
@@ -225,7 +225,7 @@ impl Body<'_> {
     }
 
     fn comparison(&mut self) -> &'static str {
-        self.random.pick(&["=", "<>", "<", "<=", ">", ">="])
+        *self.random.pick(&["=", "<>", "<", "<=", ">", ">="])
     }
 
     fn condition(&mut self) -> String {
