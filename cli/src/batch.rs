@@ -4,11 +4,11 @@ use crate::commands::{status, Question, QUESTIONS};
 use crate::failure::{wrong_call, Failure};
 use crate::input::{self, ROUTINE_LIMIT};
 use crate::library::{self, Answer};
-use crate::output;
+use crate::{output, why};
 use std::io::IsTerminal;
 use std::time::{Duration, Instant};
 
-const OPTIONS: Options = Options { flags: &[], valued: &["--seeds"] };
+const OPTIONS: Options = Options { flags: &["--why"], valued: &["--seeds"] };
 /// The commands that a batch takes, the first of `QUESTIONS`.
 const COUNT: usize = 4;
 
@@ -21,7 +21,7 @@ pub fn command(arguments: &[String]) -> Result<u8, Failure> {
         let what = format!("{} is no command for a batch, which are bound, merge, run and decide", shown(name));
         return Err(wrong_call("batch", &what));
     };
-    let mut batch = Batch { question, statuses: [false; 5], progress: Progress::new() };
+    let mut batch = Batch { question, asks_why: given.has("--why"), statuses: [false; 5], progress: Progress::new() };
     match seeds(&given)? {
         Some(_) if !files.is_empty() => return Err(wrong_call("batch", "files or --seeds are wanted, and not both")),
         Some((first, last)) => batch.answer_seeds(first, last)?,
@@ -49,6 +49,7 @@ fn seeds(given: &Given) -> Result<Option<(u32, u32)>, Failure> {
 
 struct Batch<'a> {
     question: &'a Question,
+    asks_why: bool,
     /// Which exit statuses the lines have.
     statuses: [bool; 5],
     progress: Progress,
@@ -59,11 +60,10 @@ impl Batch<'_> {
         let count = u64::from(last) - u64::from(first) + 1;
         for seed in first..=last {
             self.progress.tell(u64::from(seed - first), count);
-            let answer = match library::generate(seed) {
-                Answer::Report(text) => (self.question.ask)(&text),
-                refused => refused,
-            };
-            self.put(&seed.to_string(), &answer)?;
+            match library::generate(seed) {
+                Answer::Report(text) => self.answer(&seed.to_string(), &text)?,
+                refused => self.put(&seed.to_string(), &refused)?,
+            }
         }
         Ok(())
     }
@@ -74,13 +74,24 @@ impl Batch<'_> {
         for (index, file) in files.iter().enumerate() {
             self.progress.tell(index as u64, files.len() as u64);
             match input::read(file, ROUTINE_LIMIT) {
-                Ok(text) => self.put(&shown(file), &(self.question.ask)(&text))?,
+                Ok(text) => self.answer(&shown(file), &text)?,
                 Err(Failure(message)) => {
                     self.progress.end();
                     output::say(&format!("tickbound: {message}"));
                     self.statuses[2] = true;
                 }
             }
+        }
+        Ok(())
+    }
+
+    fn answer(&mut self, name: &str, text: &[u8]) -> Result<(), Failure> {
+        let answer = (self.question.ask)(text);
+        self.put(name, &answer)?;
+        if self.asks_why {
+            self.progress.end();
+            let reason = why::of_question(self.question.name, text, &answer);
+            reason.lines().for_each(|line| output::say(&of_name(name, line)));
         }
         Ok(())
     }
@@ -93,6 +104,14 @@ impl Batch<'_> {
 
     fn worst(&self) -> u8 {
         [2, 1, 4].into_iter().find(|status| self.statuses[usize::from(*status)]).unwrap_or(0)
+    }
+}
+
+/// A line of a reason; its first line names the file.
+fn of_name(name: &str, line: &str) -> String {
+    match line.strip_prefix("tickbound: ") {
+        Some(title) => format!("tickbound: {name}: {title}"),
+        None => line.to_owned(),
     }
 }
 
@@ -169,7 +188,8 @@ mod tests {
     #[test]
     fn what_could_not_be_read_decides_then_a_refusal_then_what_does_not_fit() {
         for (seen, worst) in [(vec![], 0), (vec![0, 4], 4), (vec![4, 1, 0], 1), (vec![1, 2, 4], 2)] {
-            let mut batch = Batch { question: &QUESTIONS[0], statuses: [false; 5], progress: Progress::new() };
+            let mut batch =
+                Batch { question: &QUESTIONS[0], asks_why: false, statuses: [false; 5], progress: Progress::new() };
             seen.into_iter().for_each(|status: usize| batch.statuses[status] = true);
             assert_eq!(batch.worst(), worst);
         }

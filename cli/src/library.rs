@@ -28,9 +28,12 @@ impl Answer {
 
 const STACK: usize = 8 << 20;
 
-/// Runs the command on a stack that every call of the library has room on. None where it ended in a panic.
+/// Runs the command on a stack that every call of the library has room on. Nothing where it ended in a panic, which was told.
 pub fn on_a_stack<T: Send + 'static>(command: impl FnOnce() -> T + Send + 'static) -> Option<T> {
-    std::thread::Builder::new().stack_size(STACK).spawn(command).ok()?.join().ok()
+    match std::thread::Builder::new().stack_size(STACK).spawn(command) {
+        Ok(thread) => thread.join().ok(),
+        Err(error) => panic!("no stack of 8 MB can be had: {error}"),
+    }
 }
 
 #[cfg(test)]

@@ -1,20 +1,27 @@
 //! tickbound: the decision on a routine file, its bounds, and what belongs to them. See `tickbound --help`.
 mod arguments;
 mod batch;
+mod card;
+mod cells;
 mod commands;
 mod extract;
 mod failure;
 mod input;
 mod install;
 mod library;
+mod lines;
+mod numbers;
 mod output;
 mod place;
+mod price;
+mod routine_text;
+mod sha256;
 mod sheet;
 mod streams;
 mod usage;
 mod why;
 
-use arguments::shown;
+use arguments::{shown, word_of};
 use failure::Failure;
 use std::process::ExitCode;
 
@@ -35,6 +42,7 @@ fn dispatch(command: &str, arguments: &[String]) -> Result<u8, Failure> {
         "generate" => commands::generate(arguments),
         "sheet" => sheet::command(arguments),
         "extract" => extract::command(arguments),
+        "price" => price::command(arguments),
         "batch" => batch::command(arguments),
         "install" => install::command(arguments),
         "--help" | "-h" | "--version" => about(command, arguments),
@@ -63,28 +71,25 @@ fn wrong(what: &str) -> Failure {
     Failure(format!("{what} (tickbound --help lists the commands)"))
 }
 
-/// The arguments as text. A name that is none can be given on standard input.
-fn words() -> Result<Vec<String>, Failure> {
-    let word = |argument: std::ffi::OsString| {
-        argument.into_string().map_err(|argument| {
-            let shown = argument.as_encoded_bytes().escape_ascii();
-            Failure(format!(
-                "the argument {shown} is no text in UTF-8; give such a file on standard input, with - as its name"
-            ))
-        })
-    };
-    std::env::args_os().skip(1).map(word).collect()
-}
-
 fn answered() -> Result<u8, Failure> {
-    let words = words()?;
+    let words: Vec<String> = std::env::args_os().skip(1).map(|argument| word_of(&argument)).collect();
     match words.split_first() {
         Some((command, arguments)) => dispatch(command, arguments),
         None => Err(wrong("no command is given")),
     }
 }
 
+/// A panic is a fault of the command itself: one line, and exit status 2.
+fn tell_panics() {
+    std::panic::set_hook(Box::new(|panic| {
+        let what = panic.payload_as_str().unwrap_or("it cannot go on");
+        let place = panic.location().map_or(String::new(), |place| format!("{}:{}", place.file(), place.line()));
+        output::say(&format!("tickbound: {what} (a fault of the command itself, at {place})"));
+    }));
+}
+
 fn main() -> ExitCode {
+    tell_panics();
     streams::end_at_a_closed_pipe();
     match library::on_a_stack(answered) {
         Some(Ok(status)) => ExitCode::from(status),
@@ -92,7 +97,6 @@ fn main() -> ExitCode {
             output::say(&format!("tickbound: {message}"));
             ExitCode::from(2)
         }
-        // what was wrong stands on standard error already
         None => ExitCode::from(2),
     }
 }

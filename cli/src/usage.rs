@@ -11,7 +11,7 @@ pub struct Usage {
 
 const WHY: &str = "--why adds to standard error why it is so, where it is refused";
 
-pub const COMMANDS: [Usage; 15] = [
+pub const COMMANDS: [Usage; 16] = [
     Usage {
         name: "decide",
         call: "decide [--why] [FILE]",
@@ -63,14 +63,15 @@ Exit status: 0 a report, 1 refused, 2 anything else.",
     },
     Usage {
         name: "sheet",
-        call: "sheet [--html] [--nearest] FILE",
+        call: "sheet [--why] [--html] [--nearest] [--card CARD] [--cells CELLS] FILE",
         summary: "the field sheet of a routine, as text or as a page",
         text: "\
-Prints the field sheet of a routine: the lines of FIELD-SHEET.md with its figures, which bound gave them (the first, or
-the merging one where the first refuses by 8 or 9), whether it fits in TICK and by how much, and its worst path; or its
-refusal in words. --html prints it as a page for a browser, to be printed on one sheet of paper; --nearest adds the
-nearest number that moves the bound, which can take minutes.
-Exit status: 0 fits in TICK, 4 does not, 1 refused, 2 anything else.",
+Prints the field sheet of a routine, to be signed: the decision of `decide` first (FITS, OVER, NOT DECIDED or REFUSED),
+then the lines of FIELD-SHEET.md with its figures, for which inputs they hold and which numbers they assume, and the worst
+path or the code. The file's name, its SHA-256, the version and the page number stand on every page. --html prints it as a
+page for a browser and for paper, A4 or Letter. --card names the card on it, whose nine lines the file must have; --cells
+prints the labels of a cells file. --nearest adds the nearest number that moves the bound, which can take minutes.
+Exit status: 0 FITS, 4 OVER or NOT DECIDED, 1 refused, 2 anything else.",
     },
     Usage {
         name: "nearest",
@@ -133,6 +134,17 @@ seed gives the same file at every site and in every later version (GENERATOR.md)
 Exit status: 0 a file, 1 refused, 2 anything else.",
     },
     Usage {
+        name: "price",
+        call: "price [--cells CELLS] CARD FILE",
+        summary: "a routine file with the prices of a card, and with its cells filled in",
+        text: "\
+Prints FILE, a routine file or what `extract` wrote, with the nine lines of the card file CARD in the place of its first
+nine: BUDGET, TICK, and the kinds and primitives with their prices. Every kind and primitive that the code uses must have
+a price there. --cells fills in the cells that the cells file CELLS has, on lines `CELL VALUE LABEL`, as
+S1 0..1008 client count; a cell that is still `_` is an error. ROUTINE-FILE.md describes both files. FILE stays as it is.
+Exit status: 0 the file is printed, 2 anything else.",
+    },
+    Usage {
         name: "extract",
         call: "extract FILE.cmo [NUMBER]",
         summary: "a routine from an object file of the compiler",
@@ -140,12 +152,14 @@ Exit status: 0 a file, 1 refused, 2 anything else.",
 Lists the functions of an object file of `ocamlc -c` (OCaml 4.13, one unit) under the names NUMBER NAME ADDRESS LENGTH
 ARGUMENTS PRIMITIVES KINDS. With a NUMBER it writes that function into the working folder, as FILE-NUMBER.words and
 FILE-NUMBER.primitives for `import`, and FILE-NUMBER.txt, a routine file with the imported code, in which TICK, the
-prices and the cells are to be filled in. It is not proved.
+prices and the cells are to be filled in: they are `_` until then, and the file is refused by 2. FILE-NUMBER.cells is a
+cells file with every cell of the function. --card CARD and --cells CELLS fill the routine file in, as `price` does. It is
+not proved.
 Exit status: 0 done, 2 not done.",
     },
     Usage {
         name: "batch",
-        call: "batch COMMAND FILE.. | batch COMMAND --seeds A-B",
+        call: "batch [--why] COMMAND FILE.. | batch [--why] COMMAND --seeds A-B",
         summary: "bound, merge, run or decide of many files, or of many seeds",
         text: "\
 Answers COMMAND (bound, merge, run or decide) for each file, or for the file of each seed from A to B, in one line:

@@ -172,7 +172,7 @@ fn fixed(text: &str) -> Vec<&str> {
 fn extracted(root: &Path, object: &Path, number: usize) -> Result<String, String> {
     let folder = Folder::new("extracted");
     let name = format!("{}-{number}", object.file_stem().unwrap().to_string_lossy());
-    let names = ["words", "primitives", "txt"].map(|ending| format!("{name}.{ending}"));
+    let names = ["words", "primitives", "txt", "cells"].map(|ending| format!("{name}.{ending}"));
     let path = object.to_str().unwrap();
     let found = tickbound(root, &folder.0, &["extract", path, &number.to_string()]);
     want("extract", found, 0, &names.join("\n"))?;

@@ -1,6 +1,6 @@
 //! The instructions of a unit, and the functions in them.
-use super::object::Unit;
-use super::opcodes::{instead, Words, OPCODES};
+use super::object::{Relocation, Unit};
+use super::opcodes::{Words, OPCODES};
 use crate::failure::Failure;
 use std::collections::BTreeSet;
 use std::ops::Range;
@@ -26,19 +26,14 @@ impl Instruction {
         OPCODES[self.opcode].1
     }
 
-    /// Whether it is one of the 61 kinds, or RETURN.
-    pub fn is_kind(&self) -> bool {
-        instead(self.name()).is_none()
-    }
-
     /// Whether the instruction after it may follow it.
-    fn goes_on(&self) -> bool {
+    pub fn goes_on(&self) -> bool {
         let ends = ["BRANCH", "SWITCH", "RETURN", "STOP", "RAISE", "RERAISE", "RAISE_NOTRACE"];
         !(ends.contains(&self.name()) || self.name().starts_with("APPTERM"))
     }
 
     /// Whether it is a CLOSURE or a CLOSUREREC, whose targets are functions.
-    fn makes_functions(&self) -> bool {
+    pub fn makes_functions(&self) -> bool {
         matches!(self.words(), Words::Closure | Words::Closures)
     }
 }
@@ -51,12 +46,16 @@ pub struct Function {
     pub arguments: usize,
     /// its instructions after GRAB, up to the last one that can be reached, as numbers of instructions of the unit
     pub body: Range<usize>,
+    /// those of them that can be reached
+    pub reached: BTreeSet<usize>,
+    /// its words in the code of the unit
+    pub words: Range<usize>,
     /// the primitives that it calls, in the order of their first use
     pub primitives: Vec<Vec<u8>>,
 }
 
 pub struct Code<'a> {
-    unit: &'a Unit,
+    pub unit: &'a Unit,
     pub instructions: Vec<Instruction>,
 }
 
@@ -118,9 +117,10 @@ impl<'a> Code<'a> {
         if instruction.words() != Words::Primitive && instruction.name() != "C_CALLN" {
             return Ok(None);
         }
-        let named = self.unit.primitives.get(&(instruction.end - 1));
-        let missing = || Failure(format!("damaged: no relocation names the primitive called at {}", instruction.at));
-        named.map(Some).ok_or_else(missing)
+        match self.unit.relocations.get(&(instruction.end - 1)) {
+            Some(Relocation::Primitive(name)) => Ok(Some(name)),
+            _ => Err(Failure(format!("damaged: no relocation names the primitive called at {}", instruction.at))),
+        }
     }
 
     /// The functions in the order of their addresses.
@@ -144,11 +144,29 @@ impl<'a> Code<'a> {
             grab if grab.name() == "GRAB" => (entry + 1, (grab.word as u32 as usize).saturating_add(1)),
             _ => (entry, 1),
         };
+        let reached = self.reached(address, first..within.end)?;
+        let body = first..reached.last().map_or(first, |last| last + 1);
+        let mut primitives: Vec<Vec<u8>> = Vec::new();
+        let mut called = BTreeSet::new();
+        for instruction in &self.instructions[body.clone()] {
+            if let Some(name) = self.primitive(instruction)? {
+                if called.insert(name) {
+                    primitives.push(name.clone());
+                }
+            }
+        }
+        let words = address..self.instructions[body.end - 1].end;
+        let name = self.unit.events.definition(words.clone()).map(<[u8]>::to_vec);
+        Ok(Function { name, address, arguments, body, reached, words, primitives })
+    }
+
+    /// The instructions of a function that can be reached from its first one.
+    fn reached(&self, address: usize, within: Range<usize>) -> Result<BTreeSet<usize>, Failure> {
         let outside = |what: &str| Failure(format!("damaged: {what} of the function at {address} is outside it"));
         let mut reached = BTreeSet::new();
-        let mut next = vec![first];
+        let mut next = vec![within.start];
         while let Some(number) = next.pop() {
-            if !(first..within.end).contains(&number) {
+            if !within.contains(&number) {
                 return Err(outside("an instruction"));
             }
             if !reached.insert(number) {
@@ -164,18 +182,6 @@ impl<'a> Code<'a> {
                 }
             }
         }
-        let body = first..reached.last().map_or(first, |last| last + 1);
-        let mut primitives: Vec<Vec<u8>> = Vec::new();
-        let mut called = BTreeSet::new();
-        for instruction in &self.instructions[body.clone()] {
-            if let Some(name) = self.primitive(instruction)? {
-                if called.insert(name) {
-                    primitives.push(name.clone());
-                }
-            }
-        }
-        let end = self.instructions[body.end - 1].end;
-        let name = self.unit.names.range(address..end).next().map(|(_, name)| name.clone());
-        Ok(Function { name, address, arguments, body, primitives })
+        Ok(reached)
     }
 }

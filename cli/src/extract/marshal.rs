@@ -21,8 +21,8 @@ enum Object {
     Other,
 }
 
-pub struct Marshalled<'a> {
-    bytes: &'a [u8],
+pub struct Marshalled {
+    bytes: Vec<u8>,
     objects: Vec<Object>,
     fields: Vec<Value>,
     pub root: Value,
@@ -65,9 +65,9 @@ fn damaged(what: &str) -> Failure {
     Failure(format!("damaged: of a description in it, {what}"))
 }
 
-impl<'a> Marshalled<'a> {
+impl Marshalled {
     /// The value that the bytes begin with.
-    pub fn read(bytes: &'a [u8]) -> Result<Marshalled<'a>, Failure> {
+    pub fn read(bytes: &[u8]) -> Result<Marshalled, Failure> {
         let mut input = Input { bytes, at: 0 };
         if input.number(4)? != MAGIC {
             return Err(damaged("the first four bytes are others"));
@@ -75,7 +75,8 @@ impl<'a> Marshalled<'a> {
         let length = input.number(4)?;
         input.take(12)?;
         let end = input.take(length)?.end;
-        let mut value = Marshalled { bytes, objects: Vec::new(), fields: Vec::new(), root: Value::Int(0), length: end };
+        let (objects, fields) = (Vec::new(), Vec::new());
+        let mut value = Marshalled { bytes: bytes[..end].to_vec(), objects, fields, root: Value::Int(0), length: end };
         value.read_from(Input { bytes: &bytes[..end], at: HEADER })?;
         Ok(value)
     }
@@ -195,7 +196,7 @@ impl<'a> Marshalled<'a> {
         }
     }
 
-    pub fn string(&self, value: Value) -> Result<&'a [u8], Failure> {
+    pub fn string(&self, value: Value) -> Result<&[u8], Failure> {
         if let Value::Object(number) = value {
             if let Object::String(place) = &self.objects[number] {
                 return Ok(&self.bytes[place.clone()]);

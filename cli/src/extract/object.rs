@@ -1,6 +1,7 @@
 //! An object file of `ocamlc -c`, version 4.13: magic number, the place of the unit's description, its code, with -g the debugger's
 //! events, and the description.
-use super::marshal::Marshalled;
+use super::events::Events;
+use super::marshal::{Marshalled, Value};
 use crate::failure::Failure;
 use std::collections::BTreeMap;
 
@@ -13,12 +14,31 @@ const MAGIC_NAME: usize = 9;
 /// The magic number and the place of the description.
 const HEAD: usize = 16;
 
+/// What a word of the code stands for, which the linker puts there.
+pub enum Relocation {
+    /// a constant that is no small number
+    Literal(Literal),
+    /// the values of a unit, by its name
+    Global(Vec<u8>),
+    /// the values of this unit, which are set
+    Own,
+    Primitive(Vec<u8>),
+}
+
+#[derive(Clone, Copy, PartialEq, Eq)]
+pub enum Literal {
+    Number(i64),
+    Float,
+    Text,
+    Other,
+}
+
 pub struct Unit {
     pub words: Vec<i32>,
-    /// the primitives called, by the index of the word that names them
-    pub primitives: BTreeMap<usize, Vec<u8>>,
-    /// names of functions, each at an index in the code of that function; none where the unit was compiled without -g
-    pub names: BTreeMap<usize, Vec<u8>>,
+    /// by the index of the word
+    pub relocations: BTreeMap<usize, Relocation>,
+    /// of the debugger; none where the unit was compiled without -g
+    pub events: Events,
 }
 
 /// `length` bytes from `from`.
@@ -59,37 +79,50 @@ pub fn read(file: &[u8]) -> Result<Unit, Failure> {
         return Err(Failure("damaged: its code is not made of whole words".into()));
     }
     let words: Vec<i32> = code.chunks_exact(4).map(|word| i32::from_le_bytes(word.try_into().unwrap())).collect();
-    let mut primitives = BTreeMap::new();
-    for item in unit.list(fields[3])? {
+    let events = match unit.size(fields[8])? {
+        0 => Events::none(),
+        place => Events::read(part(file, place, unit.size(fields[9])?, "its list of events")?)?,
+    };
+    Ok(Unit { relocations: relocations(&unit, fields[3], size)?, words, events })
+}
+
+fn relocations(unit: &Marshalled, list: Value, size: usize) -> Result<BTreeMap<usize, Relocation>, Failure> {
+    let mut relocations = BTreeMap::new();
+    for item in unit.list(list)? {
         let pair = unit.record(item, 2)?;
         let at = unit.size(pair[1])?;
         if at % 4 != 0 || at >= size {
             return Err(Failure("damaged: a relocation is not of a word of its code".into()));
         }
-        // 0 a constant, 1 and 2 a value of a module, 3 a primitive
-        match unit.block(pair[0])? {
-            (0..=2, [_]) => {}
-            (3, [name]) => {
-                primitives.insert(at / 4, unit.string(*name)?.to_vec());
-            }
+        let relocation = match unit.block(pair[0])? {
+            (0, [constant]) => Relocation::Literal(literal(unit, *constant)),
+            (1, [ident]) => Relocation::Global(ident_name(unit, *ident)),
+            (2, [_]) => Relocation::Own,
+            (3, [name]) => Relocation::Primitive(unit.string(*name)?.to_vec()),
             _ => return Err(Failure("damaged: a relocation is of no kind".into())),
-        }
+        };
+        relocations.insert(at / 4, relocation);
     }
-    let names = match unit.size(fields[8])? {
-        0 => BTreeMap::new(),
-        place => events(part(file, place, unit.size(fields[9])?, "its list of events")?)?,
-    };
-    Ok(Unit { words, primitives, names })
+    Ok(relocations)
 }
 
-/// The name of the enclosing definition at each event.
-fn events(bytes: &[u8]) -> Result<BTreeMap<usize, Vec<u8>>, Failure> {
-    let events = Marshalled::read(bytes)?;
-    let mut names = BTreeMap::new();
-    for event in events.list(events.root)? {
-        // place, unit, place in the source, kind, definition, and six more
-        let fields = events.record(event, 11)?;
-        names.insert(events.size(fields[0])? / 4, events.string(fields[4])?.to_vec());
+/// A constant of the source: a base constant has tag 0, and a number, a string and a float in it the tags 0, 2 and 3.
+fn literal(unit: &Marshalled, constant: Value) -> Literal {
+    let base = match unit.block(constant) {
+        Ok((0, [base])) => unit.block(*base),
+        Ok((3, _)) => return Literal::Text,
+        _ => return Literal::Other,
+    };
+    match base {
+        Ok((0, [Value::Int(number)])) => Literal::Number(*number),
+        Ok((2, _)) => Literal::Text,
+        Ok((3, _)) => Literal::Float,
+        _ => Literal::Other,
     }
-    Ok(names)
+}
+
+/// The name of an identifier, which is the first field of each form; empty where it has none.
+pub fn ident_name(unit: &Marshalled, ident: Value) -> Vec<u8> {
+    let name = unit.block(ident).ok().and_then(|(_, fields)| fields.first());
+    name.and_then(|name| unit.string(*name).ok()).map(<[u8]>::to_vec).unwrap_or_default()
 }

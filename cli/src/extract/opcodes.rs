@@ -1,5 +1,4 @@
-//! The instructions of OCaml 4.13 in the order of their numbers (caml/instruct.h), and what to write in the place of those that are
-//! none of the 61 kinds.
+//! The instructions of OCaml 4.13 in the order of their numbers (caml/instruct.h).
 
 /// The argument words of an instruction.
 #[derive(Clone, Copy, PartialEq, Eq, Debug)]
@@ -25,6 +24,9 @@ pub enum Words {
 }
 
 use Words::*;
+
+/// The numbers of the card.
+pub const NUMBERS: std::ops::RangeInclusive<i32> = -1_073_741_824..=1_073_741_823;
 
 #[rustfmt::skip]
 pub const OPCODES: [(&str, Words); 149] = [
@@ -83,57 +85,24 @@ pub const OPCODES: [(&str, Words); 149] = [
     ("GETSTRINGCHAR", Plain(0)),
 ];
 
-/// For an instruction that is none of the 61 kinds, RETURN aside, which becomes STOP: what it is in a source, and what to write
-/// instead.
-pub fn instead(name: &str) -> Option<(&'static str, &'static str)> {
-    let name = name.strip_prefix("PUSH").filter(|rest| !rest.is_empty() && name != "PUSHTRAP").unwrap_or(name);
-    let of = |prefixes: &[&str]| prefixes.iter().any(|prefix| name.starts_with(prefix));
-    Some(if of(&["ENVACC"]) {
-        ("a value defined outside the function", "give it as an argument or as a field of a record")
-    } else if of(&["OFFSETCLOSURE"]) {
-        ("a recursive function", "write its turns one after another")
-    } else if of(&["_RETADDR", "APPLY", "APPTERM"]) {
-        ("a call of an OCaml function", "write its body in the place of the call, or declare an external")
-    } else if of(&["RESTART", "GRAB", "CLOSURE"]) {
-        ("a function within the function", "write its body in the place of its calls")
-    } else if of(&["GETGLOBAL", "SETGLOBAL"]) {
-        ("a value of a module or a constant that is no int", "give it as an argument or as a field of a record")
-    } else if of(&["MAKEBLOCK", "MAKEFLOATBLOCK", "ATOM"]) {
-        (
-            "an allocation (a tuple, a record, a ref that is kept)",
-            "set the fields of a record that is an argument; a ref stays in a local variable if it is compiled without -g",
-        )
-    } else if of(&["GETFLOATFIELD", "SETFLOATFIELD"]) {
-        ("a field of type float", "give it type int")
-    } else if of(&["VECT", "GETVECT", "SETVECT", "GETBYTES", "SETBYTES", "GETSTRING"]) {
-        ("an array or a string", "use the fields of a record")
-    } else if of(&["SWITCH", "ISINT"]) {
-        ("a match", "use if, with comparisons of arguments or fields")
-    } else if of(&["TRAP", "PUSHTRAP", "POPTRAP", "RAISE", "RERAISE"]) {
-        ("an exception", "tell by a result of type int")
-    } else if of(&["CHECK_SIGNALS"]) {
-        ("a loop", "write its turns one after another")
-    } else if of(&["C_CALLN"]) {
-        ("an external with more than five arguments", "give it at most five")
-    } else if of(&["MULINT", "DIVINT", "MODINT", "ANDINT", "ORINT", "XORINT", "LSLINT", "LSRINT", "ASRINT"]) {
-        ("arithmetic that the card does not have", "use sums and differences, or declare an external")
-    } else if of(&["OFFSETREF"]) {
-        (
-            "incr or decr of a ref that is kept",
-            "add to a field; a ref stays in a local variable if it is compiled without -g",
-        )
-    } else if of(&["GETMETHOD", "GETPUBMET", "GETDYNMET"]) {
-        ("a call of a method", "write its body in the place of the call, or declare an external")
-    } else if of(&["BEQ", "BNEQ", "BLTINT", "BLEINT", "BGTINT", "BGEINT", "BULTINT", "BUGEINT"]) {
-        (
-            "a comparison with a constant, fused with its branch",
-            "give the limit as an argument or as a field of a record",
-        )
-    } else if of(&["ULTINT", "UGEINT"]) {
-        ("a comparison without sign", "compare arguments or fields of type int")
-    } else if of(&["EVENT", "BREAK"]) {
-        ("no instruction of a function", "compile the source again")
-    } else {
-        return None;
-    })
+/// The number of an instruction.
+pub fn opcode(name: &str) -> usize {
+    OPCODES.iter().position(|opcode| opcode.0 == name).expect("a name of the table")
+}
+
+/// An instruction without the PUSH before it, and whether it has one.
+pub fn without_push(name: &'static str) -> (bool, &'static str) {
+    match name.strip_prefix("PUSH") {
+        Some(rest) if !["", "_RETADDR", "TRAP"].contains(&rest) => (true, rest),
+        _ => (false, name),
+    }
+}
+
+/// A name whose end is a number of one digit, or M3, without it, and that number. CONST3 is CONST and 3.
+pub fn without_number(name: &'static str) -> (&'static str, Option<i32>) {
+    if let Some(base) = name.strip_suffix("M3") {
+        return (base, Some(-3));
+    }
+    let base = name.trim_end_matches(|digit: char| digit.is_ascii_digit());
+    (base, name[base.len()..].parse().ok())
 }

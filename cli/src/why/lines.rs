@@ -57,7 +57,7 @@ pub fn shown(bytes: &[u8]) -> String {
 
 /// A word for a message, cut where it is long.
 pub fn told(bytes: &[u8]) -> String {
-    const LONGEST: usize = 40;
+    const LONGEST: usize = 30;
     match bytes.len() {
         0 => "nothing".into(),
         length if length > LONGEST => format!("{}..., {length} bytes", shown(&bytes[..LONGEST])),
@@ -65,11 +65,21 @@ pub fn told(bytes: &[u8]) -> String {
     }
 }
 
+/// How many of the bytes, in their order, can be shown within a width.
+fn within<'a>(bytes: impl Iterator<Item = &'a u8>, width: usize) -> usize {
+    let ends = bytes.scan(0, |end, byte| {
+        *end += shown(&[*byte]).len();
+        Some(*end)
+    });
+    ends.take_while(|end| *end <= width).count()
+}
+
 /// A line, and under it the marks of a place. Of a long line the part around the place.
 pub fn quoted(bytes: &[u8], span: &Range<usize>) -> [String; 2] {
     const WIDTH: usize = 100;
-    let from = if span.start > WIDTH / 2 { span.start - WIDTH / 3 } else { 0 };
-    let to = bytes.len().min(from + WIDTH).max(span.start);
+    let is_far = within(bytes[..span.start].iter(), WIDTH / 2) < span.start;
+    let from = if is_far { span.start - within(bytes[..span.start].iter().rev(), WIDTH / 3) } else { 0 };
+    let to = from + within(bytes[from..].iter(), WIDTH);
     let cut = |is_cut: bool| if is_cut { "..." } else { "" };
     let head = format!("{}{}", cut(from > 0), shown(&bytes[from..span.start]));
     let marked = shown(&bytes[span.start..span.end.min(to)]);
@@ -100,6 +110,11 @@ mod tests {
         let [line, marks] = quoted(&long, &(200..203));
         assert!(line.starts_with("...x") && line.ends_with("x...") && line.len() < 120);
         assert_eq!(marks.trim_start(), "^^^");
-        assert!(quoted(&long, &(0..300))[1].len() <= 100);
+        for bytes in [[b'x'; 300], [b'\r'; 300], [0xff; 300]] {
+            for span in [0..300, 0..0, 120..180, 299..300, 300..300] {
+                let [line, marks] = quoted(&bytes, &span);
+                assert!(line.len() <= 106 && marks.len() <= 106, "{line}");
+            }
+        }
     }
 }
