@@ -1,5 +1,8 @@
 //! The arguments of a command: options stand anywhere before `--`, and `-` is standard input where a file is wanted.
 use crate::failure::{wrong_call, Failure};
+use std::ffi::{OsStr, OsString};
+use std::os::unix::ffi::{OsStrExt, OsStringExt};
+use std::path::PathBuf;
 
 /// The options that a command takes.
 pub struct Options {
@@ -103,11 +106,58 @@ pub fn number_of_32_bits(word: &str) -> Option<u32> {
     word.parse().ok().filter(|_| is_spelt)
 }
 
+/// A byte of an argument that is no text, as the character that stands for it in a word.
+fn byte_of(character: char) -> Option<u8> {
+    let byte = u32::from(character).checked_sub(BYTES)?;
+    u8::try_from(byte).ok().filter(|byte| *byte >= 0x80)
+}
+
+/// The characters from here on stand for bytes: private ones, which no text has.
+const BYTES: u32 = 0xf700;
+
+/// An argument as a word. Any bytes can be a name; those that are no text in UTF-8 have a character each, and so have the bytes of such
+/// a character.
+pub fn word_of(argument: &OsStr) -> String {
+    let mut word = String::new();
+    for chunk in argument.as_bytes().utf8_chunks() {
+        for character in chunk.valid().chars() {
+            match byte_of(character) {
+                None => word.push(character),
+                Some(_) => push_bytes(&mut word, character.encode_utf8(&mut [0; 4]).as_bytes()),
+            }
+        }
+        push_bytes(&mut word, chunk.invalid());
+    }
+    word
+}
+
+fn push_bytes(word: &mut String, bytes: &[u8]) {
+    word.extend(bytes.iter().filter_map(|byte| char::from_u32(BYTES + u32::from(*byte))));
+}
+
+/// The bytes of the argument that a word was made of.
+pub fn bytes_of(word: &str) -> Vec<u8> {
+    let mut bytes = Vec::new();
+    for character in word.chars() {
+        match byte_of(character) {
+            Some(byte) => bytes.push(byte),
+            None => bytes.extend(character.encode_utf8(&mut [0; 4]).bytes()),
+        }
+    }
+    bytes
+}
+
+/// The file that a word names.
+pub fn path_of(word: &str) -> PathBuf {
+    PathBuf::from(OsString::from_vec(bytes_of(word)))
+}
+
 /// A word for a message: with control characters, which could spoil a terminal, as escapes.
 pub fn shown(word: &str) -> String {
-    let plain = |character: char| match character.is_control() {
-        true => character.escape_default().to_string(),
-        false => character.to_string(),
+    let plain = |character: char| match byte_of(character) {
+        Some(byte) => byte.escape_ascii().to_string(),
+        None if character.is_control() => character.escape_default().to_string(),
+        None => character.to_string(),
     };
     match word {
         "" => "''".into(),
@@ -169,6 +219,16 @@ mod tests {
         for word in ["", "-1", "-0", "00", "01", "4294967296", " 1", "1x", "0x1", "+1", "1\n"] {
             assert_eq!(number_of_32_bits(word), None, "{word:?}");
         }
+    }
+
+    #[test]
+    fn a_word_has_every_byte_of_its_argument() {
+        for bytes in [&b"a.txt"[..], b"\xff\xfe", b"caf\xc3\xa9", b"\xef\x9e\x80", b"a\xc3", b"\xf0\x9f\x98\x80\x80"] {
+            let word = word_of(OsStr::from_bytes(bytes));
+            assert_eq!(bytes_of(&word), bytes);
+        }
+        assert_eq!(shown(&word_of(OsStr::from_bytes(b"\xff.txt"))), "\\xff.txt");
+        assert_eq!(shown("caf\u{e9}\t"), "caf\u{e9}\\t");
     }
 
     #[test]

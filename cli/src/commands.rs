@@ -1,5 +1,5 @@
 //! The commands that one call of the analyser answers.
-use crate::arguments::{self, number_of_32_bits, shown, Given, Options};
+use crate::arguments::{self, bytes_of, number_of_32_bits, shown, Given, Options};
 use crate::failure::{wrong_call, Failure};
 use crate::input::{self, ROUTINE_LIMIT, TRACE_LIMIT};
 use crate::library::{self, Answer};
@@ -63,14 +63,15 @@ pub fn import(arguments: &[String]) -> Result<u8, Failure> {
     let [file, primitives] = given.words.as_slice() else {
         return Err(wrong_call("import", "WORDS and PRIMITIVES are wanted, the primitives as one word or - for none"));
     };
+    let primitives = bytes_of(primitives);
     if primitives.is_empty() || primitives.len() > PRIMITIVES_LIMIT {
         let what = format!("PRIMITIVES has {} bytes, and 1 to {PRIMITIVES_LIMIT} are wanted", primitives.len());
         return Err(wrong_call("import", &what));
     }
     // the 1,025th instruction, at which words are refused at the latest, is within these bytes
     let words = input::read(file, ROUTINE_LIMIT)?;
-    let answer = library::import(&words, primitives.as_bytes());
-    finish(&answer, &given, || why::of_import(&words, primitives, &answer))
+    let answer = library::import(&words, &primitives);
+    finish(&answer, &given, || why::of_import(&words, &primitives, &answer))
 }
 
 /// `replay ROUTINE TRACE`
@@ -100,13 +101,14 @@ pub fn preview(arguments: &[String]) -> Result<u8, Failure> {
         let what = format!("ADDRESS is {}, and a number of 32 bits without leading zeros is wanted", shown(word));
         return Err(wrong_call("preview", &what));
     };
+    let instruction = bytes_of(instruction);
     let text = input::read(routine, ROUTINE_LIMIT)?;
-    let answer = library::preview(&text, address, instruction.as_bytes());
+    let answer = library::preview(&text, address, &instruction);
     if let Answer::Refused { number, .. } = answer {
         let place = why::place_of_preview(&text, address, number);
         output::say(&format!("tickbound: the place is {}", place.told()));
     }
-    finish(&answer, &given, || why::of_preview(&text, address, instruction, &answer))
+    finish(&answer, &given, || why::of_preview(&text, address, &instruction, &answer))
 }
 
 /// `generate SEED`

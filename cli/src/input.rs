@@ -1,5 +1,5 @@
 //! Reading what a command is given: a file, or standard input for `-`.
-use crate::arguments::shown;
+use crate::arguments::{path_of, shown};
 use crate::failure::Failure;
 use crate::streams;
 use std::fs::File;
@@ -15,7 +15,7 @@ pub fn read(name: &str, limit: usize) -> Result<Vec<u8>, Failure> {
     if name == "-" {
         return read_standard_input(limit);
     }
-    let read = File::open(name).and_then(|file| take(file, limit));
+    let read = File::open(path_of(name)).and_then(|file| take(file, limit));
     read.map_err(|error| Failure(unread(name, &error)))
 }
 

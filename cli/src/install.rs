@@ -1,5 +1,5 @@
 //! `tickbound install PREFIX`: the command, the library for C, the documents and the man page under a prefix.
-use crate::arguments::{self, shown, Options};
+use crate::arguments::{self, path_of, shown, Options};
 use crate::failure::{wrong_call, Failure};
 use crate::{output, place};
 use std::fs;
@@ -27,10 +27,13 @@ pub fn command(arguments: &[String]) -> Result<u8, Failure> {
     if prefix.is_empty() {
         return Err(wrong_call("install", "PREFIX is empty; name the folder to install into"));
     }
+    if cfg!(feature = "programs") {
+        return Err(Failure("this build is for the first use and has no library; call ./tickbound install".into()));
+    }
     let Some(root) = place::repository() else {
         return Err(Failure("this copy is installed already; install from the repository".into()));
     };
-    let install = Install { root, prefix: PathBuf::from(prefix) };
+    let install = Install { root, prefix: path_of(prefix) };
     install.all().map_err(|what| Failure(format!("cannot install into {}: {what}", shown(prefix))))?;
     install.tell_of_version_1();
     Ok(0)

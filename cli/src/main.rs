@@ -21,7 +21,7 @@ mod streams;
 mod usage;
 mod why;
 
-use arguments::shown;
+use arguments::{shown, word_of};
 use failure::Failure;
 use std::process::ExitCode;
 
@@ -71,21 +71,8 @@ fn wrong(what: &str) -> Failure {
     Failure(format!("{what} (tickbound --help lists the commands)"))
 }
 
-/// The arguments as text. A name that is none can be given on standard input.
-fn words() -> Result<Vec<String>, Failure> {
-    let word = |argument: std::ffi::OsString| {
-        argument.into_string().map_err(|argument| {
-            let shown = argument.as_encoded_bytes().escape_ascii();
-            Failure(format!(
-                "the argument {shown} is no text in UTF-8; give such a file on standard input, with - as its name"
-            ))
-        })
-    };
-    std::env::args_os().skip(1).map(word).collect()
-}
-
 fn answered() -> Result<u8, Failure> {
-    let words = words()?;
+    let words: Vec<String> = std::env::args_os().skip(1).map(|argument| word_of(&argument)).collect();
     match words.split_first() {
         Some((command, arguments)) => dispatch(command, arguments),
         None => Err(wrong("no command is given")),

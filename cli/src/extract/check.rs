@@ -89,7 +89,7 @@ impl Check<'_> {
     fn without_call(&self, instruction: &Instruction) -> Option<Fault> {
         let behind = instruction.targets.first().and_then(|target| self.code.number(*target));
         let call = behind.and_then(|number| number.checked_sub(1));
-        (!call.is_some_and(|call| self.base(call) == "APPLY")).then_some(Fault::Call(Callee::Unknown, "PUSH_RETADDR"))
+        call.is_none_or(|call| self.base(call) != "APPLY").then_some(Fault::Call(Callee::Unknown, "PUSH_RETADDR"))
     }
 
     fn branch(&self, instruction: &Instruction) -> Option<Fault> {

@@ -118,7 +118,7 @@ fn constant(items: &[Item], push: usize) -> Option<(i32, usize)> {
     for index in (0..push).rev() {
         match items[index].step {
             Step::Numbered("OFFSETINT", number) => more = more.checked_add(number)?,
-            Step::Const(number) => return Some((number.checked_add(more)?, index.checked_sub(1).unwrap_or(0))),
+            Step::Const(number) => return Some((number.checked_add(more)?, index.saturating_sub(1))),
             _ => return None,
         }
     }

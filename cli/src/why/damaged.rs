@@ -72,19 +72,19 @@ fn every_trace_has_a_reason() {
 #[test]
 fn every_import_has_a_reason() {
     let words = include_bytes!("../../../tests/compiled/alarm.words");
-    let primitives = include_str!("../../../tests/compiled/alarm.primitives").trim_end();
+    let primitives = include_bytes!("../../../tests/compiled/alarm.primitives").trim_ascii_end();
     for damaged in damaged(words) {
-        let answer = library::import(&damaged, primitives.as_bytes());
+        let answer = library::import(&damaged, primitives);
         let reason = of_import(&damaged, primitives, &answer);
         match answer {
             Answer::Report(_) => assert_eq!(reason, ""),
             Answer::Refused { .. } => assert!(reason.contains("\n  wanted: "), "{reason}"),
         }
     }
-    for primitives in ["A  B", "A A", " A", "a", "", "A B\nC", "ABCDEFGHI"] {
-        let answer = library::import(words, primitives.as_bytes());
+    for primitives in [&b"A  B"[..], b"A A", b" A", b"a", b"", b"A B\nC", b"ABCDEFGHI", b"\xff"] {
+        let answer = library::import(words, primitives);
         let reason = of_import(words, primitives, &answer);
-        assert!(reason.contains("PRIMITIVES") && reason.contains("\n  found: "), "{primitives}: {reason}");
+        assert!(reason.contains("PRIMITIVES") && reason.contains("\n  found: "), "{reason}");
     }
 }
 
@@ -92,7 +92,7 @@ fn every_import_has_a_reason() {
 fn the_copy_of_a_preview_is_that_of_the_analyser() {
     let text = include_bytes!("../../../examples/door-counter.txt");
     for (address, instruction) in [(4, "C_CALL1 DOOR"), (7, "STOP -\n8 STOP -"), (0, "ADDINT -"), (3, "")] {
-        let copy = copy(&Routine::of(text), address, instruction);
+        let copy = copy(&Routine::of(text), address, instruction.as_bytes());
         assert_eq!(library::bound(&copy), library::preview(text, address, instruction.as_bytes()));
     }
 }

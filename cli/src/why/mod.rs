@@ -104,7 +104,7 @@ pub fn of_both_bounds(text: &[u8]) -> String {
 }
 
 /// The reason of a refused import.
-pub fn of_import(bytes: &[u8], primitives: &str, answer: &Answer) -> String {
+pub fn of_import(bytes: &[u8], primitives: &[u8], answer: &Answer) -> String {
     match answer {
         Answer::Refused { number: 12, place } => title(12, *place) + &words::reason(bytes, primitives, *place as usize),
         Answer::Refused { number, place } => title(*number, *place) + &words::primitives(primitives),
@@ -168,7 +168,7 @@ pub fn place_of_preview(text: &[u8], address: u32, number: u16) -> PreviewPlace 
 }
 
 /// The reason of a refused preview.
-pub fn of_preview(text: &[u8], address: u32, instruction: &str, answer: &Answer) -> String {
+pub fn of_preview(text: &[u8], address: u32, instruction: &[u8], answer: &Answer) -> String {
     let Answer::Refused { number, place } = *answer else {
         return String::new();
     };
@@ -188,13 +188,13 @@ pub fn of_preview(text: &[u8], address: u32, instruction: &str, answer: &Answer)
 }
 
 /// The file with an instruction in the place of that of an address.
-fn copy(routine: &Routine, address: u32, instruction: &str) -> Vec<u8> {
+fn copy(routine: &Routine, address: u32, instruction: &[u8]) -> Vec<u8> {
     let line = routine.line_of_address(i64::from(address));
-    let patched = format!("{address} {instruction}");
+    let patched = [format!("{address} ").as_bytes(), instruction].concat();
     let mut text = Vec::new();
     for number in 1..=routine.count() {
         let bytes = routine.line(number).map_or(&b""[..], |line| line.bytes);
-        text.extend(if Some(number) == line { patched.as_bytes() } else { bytes });
+        text.extend(if Some(number) == line { &patched } else { bytes });
         text.push(b'\n');
     }
     text

@@ -7,9 +7,8 @@ pub fn reason(text: &[u8], report: &[u8]) -> String {
     let before = told(&library::bound(text));
     let report = String::from_utf8_lossy(report);
     let Some((name, value)) = report.trim_end().split_once(' ') else {
-        return format!(
-            "tickbound: NONE: no change of 1 to 64 to one number alters {before} or makes the routine refused by 7, 8 or 9\n"
-        );
+        let none = "no change of 1 to 64 to one number";
+        return format!("tickbound: NONE: {none} alters {before} or makes the routine refused by 7, 8 or 9\n");
     };
     match changed(text, name, value) {
         Some((copy, was)) => {

@@ -2,6 +2,9 @@
 use super::lines::{shown, told};
 use super::routine::{number, Routine};
 
+const OPENINGS: &str = "this branch would be the thirty-third unknown one on one path; narrow the inputs, \
+    or ask merge, which has no such limit";
+
 /// The line of code at an address, and the cause.
 pub fn reason(routine: &Routine, refusal: u16, address: u32) -> String {
     let Some(line_number) = routine.line_of_address(i64::from(address)) else {
@@ -10,7 +13,7 @@ pub fn reason(routine: &Routine, refusal: u16, address: u32) -> String {
     let line = routine.line(line_number).map_or(String::new(), |line| shown(line.bytes));
     let causes = match refusal {
         7 => stuck(routine, &line),
-        8 => vec!["this branch would be the thirty-third unknown one on one path; narrow the inputs, or ask merge, which has no such limit".into()],
+        8 => vec![OPENINGS.into()],
         9 => vec![spent(routine)],
         _ => meeting(routine, address),
     };
@@ -28,7 +31,8 @@ fn either(causes: &str) -> &'static str {
 fn after_the_end(routine: &Routine, address: u32) -> String {
     let last = routine.code_lines().end - 1;
     let line = routine.line(last).map_or(String::new(), |line| shown(line.bytes));
-    format!("  line {last}: {line}\n  cause: the code ends here, and the routine runs on to address {address}; end each way with STOP\n")
+    let cause = format!("the code ends here, and the routine runs on to address {address}; end each way with STOP");
+    format!("  line {last}: {line}\n  cause: {cause}\n")
 }
 
 fn spent(routine: &Routine) -> String {
@@ -60,8 +64,11 @@ fn stuck(routine: &Routine, line: &str) -> Vec<String> {
         }
         "GETFIELD" => field(routine, index),
         "SETFIELD" => [vec![empty], field(routine, index)].concat(),
-        "C_CALL" => vec![format!("the stack has fewer entries than the arguments after the first, {digits} less 1")],
-        _ => vec!["this step cannot be made".into()],
+        "C_CALL" => {
+            let popped = digits.parse::<usize>().unwrap_or(1) - 1;
+            vec![format!("the stack has fewer than {popped} entries, which are the arguments after the first")]
+        }
+        _ => Vec::new(),
     }
 }
 
@@ -101,4 +108,25 @@ fn ways(routine: &Routine, address: u32) -> String {
         }
     }
     from.join(", ")
+}
+
+#[cfg(test)]
+mod tests {
+    use super::super::kinds::of_opcode;
+    use super::*;
+
+    #[test]
+    fn every_kind_that_can_be_stuck_has_its_causes() {
+        let text = include_bytes!("../../../examples/door-counter.txt");
+        let routine = Routine::of(text);
+        let never = |kind: &str| kind.starts_with("CONST") || kind == "BRANCH" || kind == "STOP" || kind == "C_CALL1";
+        for kind in (0..200).filter_map(of_opcode) {
+            let causes = stuck(&routine, &format!("4 {kind} 3"));
+            assert!(never(kind) || !causes.is_empty(), "{kind}");
+        }
+        assert_eq!(stuck(&routine, "4 C_CALL3 DOOR").len(), 1);
+        assert_eq!(stuck(&routine, "4 PUSHACC2 -")[1], "there is no entry 2 on the stack after the push");
+        assert_eq!(stuck(&routine, "4 GETFIELD0 -").len(), 1);
+        assert_eq!(stuck(&routine, "4 SETFIELD 3")[2], "its block has no field 3, as block 0 has none");
+    }
 }

@@ -5,8 +5,8 @@ use super::lines::{lines, Line};
 use super::{layout, names};
 
 /// Refusals 2 and 4, at place 1.
-pub fn primitives(primitives: &str) -> String {
-    let line = lines(primitives.as_bytes()).first().copied().unwrap_or(Line { bytes: b"", is_ended: false });
+pub fn primitives(primitives: &[u8]) -> String {
+    let line = lines(primitives).first().copied().unwrap_or(Line { bytes: b"", is_ended: false });
     let words = line.words();
     let spelling = || words.iter().enumerate().find_map(|(index, word)| names::primitive(word, &words[..index]));
     let too_many = || words.get(32).map(|word| Fault::at(word, "at most 32 primitives"));
@@ -52,7 +52,7 @@ fn role(bytes: &[u8], index: usize) -> (Role, usize) {
 }
 
 /// Refusal 12 at the index of a word.
-pub fn reason(bytes: &[u8], primitives: &str, index: usize) -> String {
+pub fn reason(bytes: &[u8], primitives: &[u8], index: usize) -> String {
     let title = format!("  word {index}, bytes {} to {}", 4 * index, 4 * index + 3);
     let (wanted, found) = match word(bytes, index) {
         None => ("a word of 32 bits".into(), unfinished(bytes, index)),
@@ -68,10 +68,13 @@ fn unfinished(bytes: &[u8], index: usize) -> String {
     }
 }
 
-fn wanted(bytes: &[u8], primitives: &str, index: usize) -> String {
+fn wanted(bytes: &[u8], primitives: &[u8], index: usize) -> String {
     match role(bytes, index) {
         (Role::ArgumentOf(kind), _) if argument(kind.as_bytes()) == Some(Argument::Primitive) => {
-            let count = if primitives.trim_end() == "-" { 0 } else { primitives.split(' ').count() };
+            let count = match primitives.trim_ascii_end() {
+                b"-" => 0,
+                names => names.split(|byte| *byte == b' ').count(),
+            };
             format!("the place of a primitive for {kind}, below {count}, which PRIMITIVES has")
         }
         (Role::ArgumentOf(kind), _) => format!("an offset for {kind} that leads to the opcode of an instruction"),
