@@ -216,7 +216,8 @@ fn lowered(name: &str) -> &'static str {
 }
 
 fn allocation(name: &str, debug: bool) -> String {
-    let what = format!("an allocation ({name}) has no kind: set the fields of a record that is an argument");
+    let kept = if name == "OFFSETREF" { "`incr` or `decr` of what is kept" } else { "an allocation" };
+    let what = format!("{kept} ({name}) has no kind: set the fields of a record that is an argument");
     match debug {
         true => format!(
             "{what}; of a `ref` only -g makes one: compile the unit without -g for the code, and give this file by --names"
