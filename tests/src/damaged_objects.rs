@@ -22,6 +22,9 @@ const WAYS: [&[&str]; 3] = [
 ];
 /// A file that is whole, beside one of names that is not.
 const WHOLE: &[u8] = include_bytes!("../outside/faults.cmo");
+/// The file of its names, and a function of it with several faults, which are told with their lines.
+const NAMES: &[u8] = include_bytes!("../outside/g/faults.cmo");
+const WITH_FAULTS: &[&str] = &["extract", "--lower", "--names", "unit.cmo", "whole.cmo", "25"];
 /// No file takes longer.
 const SECONDS: u64 = 10;
 
@@ -74,26 +77,50 @@ fn cut(root: &Path, folder: &Path, bytes: &[u8]) -> Result<(), String> {
     Ok(())
 }
 
+/// Bytes with one change.
+fn with_change(bytes: &[u8], random: &mut Random) -> Vec<u8> {
+    let mut other = bytes.to_vec();
+    let place = random.below(bytes.len());
+    match random.below(4) {
+        0 => other[place] = random.next() as u8,
+        1 => other[place] ^= 1 << random.below(8),
+        2 => {
+            let end = (place + 4).min(bytes.len());
+            other[place..end].fill(*random.pick(&[0, 0x7f, 0xff]));
+        }
+        _ => other.swap(place, random.below(bytes.len())),
+    }
+    other
+}
+
 fn changed(root: &Path, folder: &Path, bytes: &[u8], random: &mut Random) -> Result<(), String> {
     let mut statuses = [0, 0];
     for _ in 0..CHANGES {
-        let mut other = bytes.to_vec();
-        let place = random.below(bytes.len());
-        match random.below(4) {
-            0 => other[place] = random.next() as u8,
-            1 => other[place] ^= 1 << random.below(8),
-            2 => {
-                let end = (place + 4).min(bytes.len());
-                other[place..end].fill(*random.pick(&[0, 0x7f, 0xff]));
-            }
-            _ => other.swap(place, random.below(bytes.len())),
-        }
+        let other = with_change(bytes, random);
         let (status, _) =
             extract(root, folder, &other).map_err(|what| format!("{what} of {}", other.escape_ascii()))?;
         statuses[usize::from(status == 2)] += 1;
     }
     match statuses {
         [0, _] | [_, 0] => Err(format!("of all changes, {} extracted and {} refused", statuses[0], statuses[1])),
+        _ => Ok(()),
+    }
+}
+
+/// A file of names that is cut off or changed: what is said of the faults may be others' names and lines, and nothing else.
+fn names(root: &Path, folder: &Path, random: &mut Random) -> Result<(), String> {
+    let (_, whole) = extract_by(root, folder, NAMES, WITH_FAULTS)?;
+    if !whole.contains("faults.ml:14: `*` (MULINT)") {
+        return Err(format!("of the whole file: {whole}"));
+    }
+    let mut told = 0;
+    for n in 0..CHANGES {
+        let (_, said) = extract_by(root, folder, &with_change(NAMES, random), WITH_FAULTS)?;
+        told += usize::from(said.contains("(MULINT)"));
+        extract_by(root, folder, &NAMES[..n * NAMES.len() / CHANGES], WITH_FAULTS)?;
+    }
+    match told {
+        0 | CHANGES => Err(format!("of all changes, {told} are told with faults")),
         _ => Ok(()),
     }
 }
@@ -191,7 +218,11 @@ fn strange() -> Vec<(&'static str, Vec<u8>, &'static str)> {
             of_code(&[84, 8, 99, 84, 3, 84, 99, 40, 1, 43, 0, -9]),
             "word 5: BRANCH jumps out of the function",
         ),
-        ("a branch to itself", of_code(&[84, 3, 84, -1, 43, 0, -4]), "word 2: BRANCH jumps backwards"),
+        (
+            "a branch to itself",
+            of_code(&[84, 3, 84, -1, 43, 0, -4]),
+            "word 2: a loop whose ends are no constants jumps backwards",
+        ),
         ("a call of no primitive", of_code(&[84, 6, 99, 93, 0, 40, 1, 43, 0, -7]), "no relocation names the primitive"),
         ("2^32 arguments", of_code(&[84, 6, 42, -1, 99, 40, 1, 43, 0, -7]), "4294967296 arguments"),
         (
@@ -259,6 +290,7 @@ pub fn damaged(root: &Path, files: &[&str]) -> Vec<Found> {
         found.push((format!("{file}, cut off"), cut(root, &folder.0, &bytes)));
         found.push((format!("{file}, changed"), changed(root, &folder.0, &bytes, &mut random)));
     }
+    found.push(("the file of names, cut off and changed".into(), names(root, &folder.0, &mut random)));
     let plain = strange().into_iter().map(|(name, bytes, part)| (name, extract(root, &folder.0, &bytes), part));
     let lowered = strange_lowered().into_iter();
     let lowered = lowered.map(|(name, bytes, part)| (name, extract_by(root, &folder.0, &bytes, WAYS[1]), part));

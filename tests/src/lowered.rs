@@ -3,6 +3,7 @@
 //! calls with the same answers: what each call says, the primitives with their arguments in their order, the result and the fields, must
 //! be the same. The steps of the lowered ones, as `ocamlrund -t` prints them, are held against the routine file (`hold`).
 use crate::lowered_machine::{compile, link, put_in, said, steps, Call, Lowered};
+use crate::machine_traces::Step;
 use crate::{filled, hold, tickbound, trace_text, want, Files, Folder, Prices, Start, Tally, RUNS};
 use independent::machine::{Cell, Instruction};
 use independent::natural::{unit, Function, Type, Unit};
@@ -11,6 +12,7 @@ use independent::routine;
 use independent::run::Run;
 use std::collections::BTreeSet;
 use std::fs;
+use std::ops::Range;
 use std::path::{Path, PathBuf};
 
 /// The stored functions: where they are, the seed that they are made from, and how many there are.
@@ -133,6 +135,24 @@ fn lower(
     Ok(lowered)
 }
 
+/// What the two programs say of each call, and the steps of the lowered functions.
+struct Outcome {
+    wanted: Vec<String>,
+    found: Vec<String>,
+    steps: Vec<Vec<Step>>,
+}
+
+/// Both programs on all calls.
+fn outcome(folder: &Path, units: &[Unit], calls: &[Call], lowered: &[Lowered]) -> Result<Outcome, String> {
+    let places = put_in(folder, units, lowered)?;
+    let [wanted, found] = [said(folder, "program")?, said(folder, "lowered")?];
+    let steps = steps(folder, &places)?;
+    match [wanted.len(), found.len(), steps.len()] == [calls.len(); 3] {
+        true => Ok(Outcome { wanted, found, steps }),
+        false => Err(format!("{} and {} calls were made, not {}", wanted.len(), found.len(), calls.len())),
+    }
+}
+
 /// Functions from a seed: compiled, lowered, run on both programs, and handed on to be stored.
 pub fn made(root: &Path, tally: &mut Tally, seed: u64, count: usize) -> Result<Files, String> {
     let mut random = Random::new(seed);
@@ -149,12 +169,7 @@ pub fn made(root: &Path, tally: &mut Tally, seed: u64, count: usize) -> Result<F
     let functions = lower(root, &folder.0, &units, tally)?;
     let (lowered, made): (Vec<Lowered>, Vec<(Extracted, usize)>) =
         functions.into_iter().map(|(lowered, made, number)| (lowered, (made, number))).unzip();
-    let places = put_in(&folder.0, &units, &lowered)?;
-    let [wanted, found] = [said(&folder.0, "program")?, said(&folder.0, "lowered")?];
-    let steps = steps(&folder.0, &places)?;
-    if [wanted.len(), found.len(), steps.len()] != [calls.len(); 3] {
-        return Err(format!("{} and {} calls were made, not {}", wanted.len(), found.len(), calls.len()));
-    }
+    let outcome = outcome(&folder.0, &units, &calls, &lowered)?;
     let mut files = Files::new();
     for unit in &units {
         let object = fs::read(folder.0.join(&unit.name).with_extension("cmo")).unwrap();
@@ -163,24 +178,34 @@ pub fn made(root: &Path, tally: &mut Tally, seed: u64, count: usize) -> Result<F
     }
     let each = units.iter().flat_map(|unit| unit.functions.iter().map(move |function| (unit, function)));
     for (n, ((unit, function), (made, number))) in each.zip(&made).enumerate() {
-        let prices = Prices::new(&mut random);
-        let mut runs = Vec::new();
-        for call in n * RUNS..(n + 1) * RUNS {
-            let text = filled(&made.text, &prices, &records(function), &calls[call].2);
-            let trace = steps[call].iter().map(|step| (step.at, prices.cycles(step))).collect();
-            runs.push((text, trace, [&wanted[call], &found[call]]));
-        }
-        let found = held(root, tally, &made.text, &runs);
+        let runs = runs(&Prices::new(&mut random), function, made, (&calls, &outcome), n * RUNS..(n + 1) * RUNS);
         let name = format!("{}-{number}", unit.name);
         files.insert(format!("{name}.txt"), runs[0].0.clone().into_bytes());
         files.insert(format!("{name}.trace"), trace_text(&runs[0].1).into_bytes());
         files.insert(format!("{name}.says"), runs[0].2[0].clone().into_bytes());
-        tally.made.extend((n * RUNS..(n + 1) * RUNS).flat_map(|call| steps[call].iter().map(|step| step.kind.clone())));
+        let steps = outcome.steps[n * RUNS..(n + 1) * RUNS].iter().flatten();
+        tally.made.extend(steps.map(|step| step.kind.clone()));
         tally.written.extend(made.text.lines().nth(2).unwrap().split(' ').map(str::to_string));
-        let source = || format!("in {}\n{}", function.name, unit.text);
-        tally.count(&name, found.map_err(|what| format!("{what}\n{}", source())));
+        let found = held(root, tally, &made.text, &runs);
+        tally.count(&name, found.map_err(|what| format!("{what}\nin {}\n{}", function.name, unit.text)));
     }
     Ok(files)
+}
+
+/// The runs of a function that some of the calls are.
+fn runs<'a>(
+    prices: &Prices,
+    function: &Function,
+    made: &Extracted,
+    (calls, outcome): (&[Call], &'a Outcome),
+    which: Range<usize>,
+) -> Vec<Made<'a>> {
+    let run = |call: usize| {
+        let text = filled(&made.text, prices, &records(function), &calls[call].2);
+        let trace = outcome.steps[call].iter().map(|step| (step.at, prices.cycles(step))).collect();
+        (text, trace, [&outcome.wanted[call], &outcome.found[call]])
+    };
+    which.map(run).collect()
 }
 
 /// A run: the routine file of its start, the trace of the lowered function, and what the compiled and the lowered function say.

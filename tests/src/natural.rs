@@ -316,6 +316,30 @@ fn sum(left: Number, sign: &str, right: Number) -> Number {
     (format!("({} {sign} {})", left.0, right.0), left.1 + right.1)
 }
 
+impl Body<'_> {
+    /// An argument of a function, which is then a variable of its body.
+    fn argument(&mut self, argument: &Type) -> String {
+        match argument {
+            Type::Record => " (r : t)".into(),
+            Type::Int => {
+                let name = self.name('a');
+                self.ints.push((name.clone(), 1000));
+                format!(" ({name} : int)")
+            }
+            Type::Bool => {
+                let name = self.name('t');
+                self.bools.push(name.clone());
+                format!(" ({name} : bool)")
+            }
+            Type::Choice => {
+                let name = self.name('c');
+                self.choices.push(name.clone());
+                format!(" ({name} : s)")
+            }
+        }
+    }
+}
+
 fn function(random: &mut Random, unit: &mut Unit, constants: &[Number]) -> String {
     let kinds = [Type::Int, Type::Int, Type::Int, Type::Bool, Type::Choice];
     let mut arguments: Vec<Type> = (0..random.within(1, 5)).map(|_| *random.pick(&kinds)).collect();
@@ -323,9 +347,6 @@ fn function(random: &mut Random, unit: &mut Unit, constants: &[Number]) -> Strin
         let place = random.below(arguments.len());
         arguments[place] = Type::Record;
     }
-    let name = format!("f{}", unit.functions.len() + 1);
-    let mut text = format!("let {name}");
-    let fields = if arguments.contains(&Type::Record) { unit.fields } else { 0 };
     let left = random.within(6, 60);
     let mut body = Body {
         random,
@@ -336,36 +357,18 @@ fn function(random: &mut Random, unit: &mut Unit, constants: &[Number]) -> Strin
         constants: constants.to_vec(),
         constructors: unit.constructors,
         with_refs: !unit.debug,
-        fields,
+        fields: if arguments.contains(&Type::Record) { unit.fields } else { 0 },
         named: 0,
         left,
         depth: 0,
         turns: 1,
     };
-    for argument in &arguments {
-        text += &match argument {
-            Type::Record => " (r : t)".into(),
-            Type::Int => {
-                let name = body.name('a');
-                body.ints.push((name.clone(), 1000));
-                format!(" ({name} : int)")
-            }
-            Type::Bool => {
-                let name = body.name('t');
-                body.bools.push(name.clone());
-                format!(" ({name} : bool)")
-            }
-            Type::Choice => {
-                let name = body.name('c');
-                body.choices.push(name.clone());
-                format!(" ({name} : s)")
-            }
-        };
-    }
+    let name = format!("f{}", unit.functions.len() + 1);
+    let taken: String = arguments.iter().map(|argument| body.argument(argument)).collect();
     let statement = body.statement();
     let (result, _) = body.with_let();
-    unit.functions.push(Function { name, arguments });
-    format!("{text} =\n  {statement};\n  {result}\n")
+    unit.functions.push(Function { name: name.clone(), arguments });
+    format!("let {name}{taken} =\n  {statement};\n  {result}\n")
 }
 
 /// A unit of one to three functions, of at most `most`.
