@@ -250,6 +250,8 @@ fn strange_lowered() -> Vec<(&'static str, Vec<u8>, &'static str)> {
         let head = [99, 108, end, 9, 12, 125, 85, 13];
         [&head[..], &[92, 99, 1, 9, 127, 1, 20, 2, 1, 122, 85, -11], &[99, 19, 2, 40, 1]].concat()
     };
+    let pops =
+        [99, 108, 3, 9, 12, 125, 85, 15, 92, 99, 19, -2_147_483_648, 1, 9, 127, 1, 20, 2, 1, 122, 85, -13, 99, 40, 3];
     vec![
         (
             "what is compared is read",
@@ -267,6 +269,7 @@ fn strange_lowered() -> Vec<(&'static str, Vec<u8>, &'static str)> {
         ("a place of a closure below all", of_body(&[25, -2_147_483_648, 40, 1]), "is computed when the unit begins"),
         ("a for of 2^30 turns", of_body(&count(1_073_741_823)), "makes more than 1024 lines"),
         ("a for of 400 turns", of_body(&count(399)), "instructions, and a routine file has at most 1024"),
+        ("a for that pops -2^31 entries", of_body(&pops), "POP -2147483648: its argument is at most 64"),
         ("a jump backwards", of_body(&[0, 85, -2, 40, 1]), "jumps backwards"),
         (
             "a stack without an end when the unit begins",

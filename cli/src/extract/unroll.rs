@@ -136,7 +136,7 @@ fn constant(items: &[Item], push: usize) -> Option<(i32, usize)> {
 fn growth(step: &Step) -> i32 {
     match step {
         Step::Push => 1,
-        Step::Numbered("POP", count) => -count,
+        Step::Numbered("POP", count) => count.saturating_neg(),
         Step::Numbered("SETFIELD", _) => -1,
         Step::Plain("NEGINT" | "BOOLNOT") => 0,
         Step::Plain(_) => -1,
@@ -162,8 +162,9 @@ fn keeps_counter(turn: &[Item]) -> bool {
             height = Some(known);
         }
         let Some(before) = height else { continue };
-        let after = before + growth(step);
-        let sets = matches!(step, Step::Numbered("ASSIGN", entry) if (before..=before + 1).contains(entry));
+        let after = before.saturating_add(growth(step));
+        let sets =
+            matches!(step, Step::Numbered("ASSIGN", entry) if (before..=before.saturating_add(1)).contains(entry));
         let unlike = |label: &Label| *heights.entry(*label).or_insert(after) != after;
         if sets || after < 0 || step.targets().iter().any(unlike) {
             return false;
