@@ -57,13 +57,13 @@ fn extract_by(root: &Path, folder: &Path, bytes: &[u8], way: &[&str]) -> Result<
     }
 }
 
-/// The same in every way; what is handed back is of the first.
+/// The same in every way; what is handed back is of the second, which lowers.
 fn extract(root: &Path, folder: &Path, bytes: &[u8]) -> Result<(i32, String), String> {
     let mut found = Vec::new();
     for way in WAYS {
         found.push(extract_by(root, folder, bytes, way)?);
     }
-    Ok(found.swap_remove(0))
+    Ok(found.swap_remove(1))
 }
 
 fn cut(root: &Path, folder: &Path, bytes: &[u8]) -> Result<(), String> {
@@ -294,7 +294,8 @@ pub fn damaged(root: &Path, files: &[&str]) -> Vec<Found> {
         found.push((format!("{file}, changed"), changed(root, &folder.0, &bytes, &mut random)));
     }
     found.push(("the file of names, cut off and changed".into(), names(root, &folder.0, &mut random)));
-    let plain = strange().into_iter().map(|(name, bytes, part)| (name, extract(root, &folder.0, &bytes), part));
+    let of_plain = |bytes: &[u8]| extract(root, &folder.0, bytes).and(extract_by(root, &folder.0, bytes, WAYS[0]));
+    let plain = strange().into_iter().map(|(name, bytes, part)| (name, of_plain(&bytes), part));
     let lowered = strange_lowered().into_iter();
     let lowered = lowered.map(|(name, bytes, part)| (name, extract_by(root, &folder.0, &bytes, WAYS[1]), part));
     for (name, said, part) in plain.chain(lowered) {

@@ -30,7 +30,13 @@ const STORE: &str = "tests/extracted";
 const SEED: u64 = 34;
 const COUNT: usize = 20;
 /// Object files that are damaged, without and with names.
-const OBJECTS: [&str; 3] = ["examples/ocaml/panel.cmo", "examples/ocaml/smear.cmo", "tests/outside/outside.cmo"];
+const OBJECTS: [&str; 5] = [
+    "examples/ocaml/panel.cmo",
+    "examples/ocaml/smear.cmo",
+    "examples/ocaml/inputs.cmo",
+    "examples/ocaml/holdover.cmo",
+    "tests/outside/outside.cmo",
+];
 /// How often a function is run.
 pub const RUNS: usize = 3;
 
