@@ -19,8 +19,8 @@ pub struct Filling {
 impl Filling {
     /// The card and the cells of two files, each of which is read if it is named.
     pub fn read(card: Option<&str>, cells: Option<&str>) -> Result<Filling, Failure> {
-        let card = card.map(|file| Card::read(shown(file), &input::read(file, ROUTINE_LIMIT)?)).transpose()?;
-        let cells = cells.map(|file| Cells::read(shown(file), &input::read(file, ROUTINE_LIMIT)?)).transpose()?;
+        let card = card.map(|file| Card::read(&shown(file), &input::read(file, ROUTINE_LIMIT)?)).transpose()?;
+        let cells = cells.map(|file| Cells::read(&shown(file), &input::read(file, ROUTINE_LIMIT)?)).transpose()?;
         Ok(Filling { card, cells })
     }
 
@@ -45,12 +45,12 @@ impl Filling {
     }
 }
 
-/// A file's name in messages.
-pub fn shown(file: &str) -> &str {
+/// A file's name in messages and on a sheet.
+pub fn shown(file: &str) -> String {
     if file == "-" {
-        "standard input"
+        "standard input".into()
     } else {
-        file
+        arguments::shown(file)
     }
 }
 
@@ -126,7 +126,7 @@ pub fn command(arguments: &[String]) -> Result<u8, Failure> {
         return Err(Failure(format!("{}: it has more than 32,768 bytes, and is no routine file", shown(file))));
     }
     let text = String::from_utf8_lossy(&bytes);
-    output::print(filling.fill(shown(file), &text)?.as_bytes())?;
+    output::print(filling.fill(&shown(file), &text)?.as_bytes())?;
     Ok(0)
 }
 

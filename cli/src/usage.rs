@@ -146,15 +146,22 @@ Exit status: 0 the file is printed, 2 anything else.",
     },
     Usage {
         name: "extract",
-        call: "extract FILE.cmo [NUMBER]",
+        call: "extract [--unroll] [--names WITH_G.cmo] FILE.cmo | extract [--lower] [--unroll] [--names WITH_G.cmo] \
+               [--card CARD] [--cells CELLS] FILE.cmo FUNCTION",
         summary: "a routine from an object file of the compiler",
         text: "\
 Lists the functions of an object file of `ocamlc -c` (OCaml 4.13, one unit) under the names NUMBER NAME ADDRESS LENGTH
-ARGUMENTS PRIMITIVES KINDS. With a NUMBER it writes that function into the working folder, as FILE-NUMBER.words and
-FILE-NUMBER.primitives for `import`, and FILE-NUMBER.txt, a routine file with the imported code, in which TICK, the
-prices and the cells are to be filled in: they are `_` until then, and the file is refused by 2. FILE-NUMBER.cells is a
-cells file with every cell of the function. --card CARD and --cells CELLS fill the routine file in, as `price` does. It is
-not proved.
+ARGUMENTS PRIMITIVES KINDS. KINDS is `yes` where a function is extracted as it stands, `lowered` where --lower does it,
+or else how many faults it has. FUNCTION is a NUMBER or a NAME of that list. It is written into the working folder, as
+FILE-FUNCTION.words and FILE-FUNCTION.primitives for `import`, and FILE-FUNCTION.txt, a routine file with the imported
+code, in which TICK, the prices and the cells are to be filled in: they are `_` until then, and the file is refused by 2.
+FILE-FUNCTION.cells is a cells file with every cell of the function. --card CARD and --cells CELLS fill the routine file
+in, as `price` does. What no card has is told on standard error, every fault at once, with what to do; then nothing is
+written.
+--lower writes the function in the 61 kinds: comparisons that are joined with a branch, a match over constants, constants
+of the module, and branches onto branches (EXTRACTION.md). What it did is told on standard error. --unroll does that too,
+and writes a `for` between constants out. --names takes names and lines from the same unit compiled with -g.
+It is not proved: the bound holds of the routine file; that the file is the function is tested.
 Exit status: 0 done, 2 not done.",
     },
     Usage {

@@ -1,4 +1,4 @@
-(* Functions with instructions outside the 61 kinds, and what extract says of them (.ci/users). Compiled by `ocamlc -g -c`. *)
+(* Functions with instructions outside the 61 kinds, and what extract says of them (.ci/users-extract). Compiled by `ocamlc -g -c`. *)
 external pump : int -> int -> int -> int -> int -> int -> int = "PUMP" "PUMP_N"
 
 let fused x = if x > 3 then 1 else 0

@@ -1,10 +1,11 @@
 //! Object files that are cut off, changed, or such as no compiler writes: `extract` must end by itself, with status 2, a message on
-//! standard error and no file written; or, where a change leaves a right file, with status 0 and all three files.
+//! standard error and no file written; or, where a change leaves a right file, with status 0 and all four files.
 use crate::Folder;
 use independent::random::Random;
 use std::fs;
 use std::path::Path;
 use std::process::Command;
+use std::time::Instant;
 
 type Found = (String, Result<(), String>);
 
@@ -13,28 +14,56 @@ const CHANGES: usize = 250;
 /// Lengths tried of each file.
 const LENGTHS: usize = 250;
 
-/// The status, and what is said on standard error, of the extraction of function 1 from the bytes.
-fn extract(root: &Path, folder: &Path, bytes: &[u8]) -> Result<(i32, String), String> {
-    let object = folder.join("unit.cmo");
-    fs::write(&object, bytes).unwrap();
-    let output = Command::new(root.join("target/cli/release/tickbound"))
-        .args(["extract", "unit.cmo", "1"])
-        .current_dir(folder)
-        .output()
-        .map_err(|error| error.to_string())?;
-    fs::remove_file(&object).unwrap();
+/// How the bytes are given to `extract`: as the object file, as it stands and lowered, and as the file of the names.
+const WAYS: [&[&str]; 3] = [
+    &["extract", "unit.cmo", "1"],
+    &["extract", "--lower", "--unroll", "unit.cmo", "1"],
+    &["extract", "--unroll", "--names", "unit.cmo", "whole.cmo", "1"],
+];
+/// A file that is whole, beside one of names that is not.
+const WHOLE: &[u8] = include_bytes!("../outside/faults.cmo");
+/// The file of its names, and a function of it with several faults, which are told with their lines.
+const NAMES: &[u8] = include_bytes!("../outside/g/faults.cmo");
+const WITH_FAULTS: &[&str] = &["extract", "--lower", "--names", "unit.cmo", "whole.cmo", "25"];
+/// No file takes longer.
+const SECONDS: u64 = 10;
+
+/// The status, and what is said on standard error, of the extraction of function 1 from the bytes in one of the ways.
+fn extract_by(root: &Path, folder: &Path, bytes: &[u8], way: &[&str]) -> Result<(i32, String), String> {
+    fs::write(folder.join("unit.cmo"), bytes).unwrap();
+    fs::write(folder.join("whole.cmo"), WHOLE).unwrap();
+    let begun = Instant::now();
+    let command = root.join("target/cli/release/tickbound");
+    let output = Command::new(command).args(way).current_dir(folder).output().map_err(|error| error.to_string())?;
+    let took = begun.elapsed();
+    for name in ["unit.cmo", "whole.cmo"] {
+        fs::remove_file(folder.join(name)).unwrap();
+    }
     let left: Vec<_> = fs::read_dir(folder).unwrap().map(|entry| entry.unwrap().path()).collect();
     for path in &left {
         fs::remove_file(path).unwrap();
     }
     let said = String::from_utf8_lossy(&output.stderr).to_string();
-    match output.status.code() {
-        Some(0) if left.len() == 3 && said.is_empty() => Ok((0, said)),
-        Some(2) if left.is_empty() && said.starts_with("tickbound: unit.cmo: ") && output.stdout.is_empty() => {
-            Ok((2, said))
-        }
-        status => Err(format!("status {status:?}, {} files, and said {said:?}", left.len())),
+    let last = said.lines().last().unwrap_or("");
+    let is_told = last.starts_with("tickbound: unit.cmo: ") || last.starts_with("tickbound: whole.cmo: ");
+    let wrong = || Err(format!("{way:?}: status {:?}, {} files, said {said:?}", output.status.code(), left.len()));
+    if took.as_secs() >= SECONDS || said.contains("a fault of the command itself") {
+        return wrong();
     }
+    match output.status.code() {
+        Some(0) if left.len() == 4 && !last.starts_with("tickbound: ") => Ok((0, said)),
+        Some(2) if left.is_empty() && is_told && output.stdout.is_empty() => Ok((2, said)),
+        _ => wrong(),
+    }
+}
+
+/// The same in every way; what is handed back is of the first.
+fn extract(root: &Path, folder: &Path, bytes: &[u8]) -> Result<(i32, String), String> {
+    let mut found = Vec::new();
+    for way in WAYS {
+        found.push(extract_by(root, folder, bytes, way)?);
+    }
+    Ok(found.swap_remove(0))
 }
 
 fn cut(root: &Path, folder: &Path, bytes: &[u8]) -> Result<(), String> {
@@ -48,26 +77,50 @@ fn cut(root: &Path, folder: &Path, bytes: &[u8]) -> Result<(), String> {
     Ok(())
 }
 
+/// Bytes with one change.
+fn with_change(bytes: &[u8], random: &mut Random) -> Vec<u8> {
+    let mut other = bytes.to_vec();
+    let place = random.below(bytes.len());
+    match random.below(4) {
+        0 => other[place] = random.next() as u8,
+        1 => other[place] ^= 1 << random.below(8),
+        2 => {
+            let end = (place + 4).min(bytes.len());
+            other[place..end].fill(*random.pick(&[0, 0x7f, 0xff]));
+        }
+        _ => other.swap(place, random.below(bytes.len())),
+    }
+    other
+}
+
 fn changed(root: &Path, folder: &Path, bytes: &[u8], random: &mut Random) -> Result<(), String> {
     let mut statuses = [0, 0];
     for _ in 0..CHANGES {
-        let mut other = bytes.to_vec();
-        let place = random.below(bytes.len());
-        match random.below(4) {
-            0 => other[place] = random.next() as u8,
-            1 => other[place] ^= 1 << random.below(8),
-            2 => {
-                let end = (place + 4).min(bytes.len());
-                other[place..end].fill(*random.pick(&[0, 0x7f, 0xff]));
-            }
-            _ => other.swap(place, random.below(bytes.len())),
-        }
+        let other = with_change(bytes, random);
         let (status, _) =
             extract(root, folder, &other).map_err(|what| format!("{what} of {}", other.escape_ascii()))?;
         statuses[usize::from(status == 2)] += 1;
     }
     match statuses {
         [0, _] | [_, 0] => Err(format!("of all changes, {} extracted and {} refused", statuses[0], statuses[1])),
+        _ => Ok(()),
+    }
+}
+
+/// A file of names that is cut off or changed: what is said of the faults may be others' names and lines, and nothing else.
+fn names(root: &Path, folder: &Path, random: &mut Random) -> Result<(), String> {
+    let (_, whole) = extract_by(root, folder, NAMES, WITH_FAULTS)?;
+    if !whole.contains("faults.ml:14: `*` (MULINT)") {
+        return Err(format!("of the whole file: {whole}"));
+    }
+    let mut told = 0;
+    for n in 0..CHANGES {
+        let (_, said) = extract_by(root, folder, &with_change(NAMES, random), WITH_FAULTS)?;
+        told += usize::from(said.contains("(MULINT)"));
+        extract_by(root, folder, &NAMES[..n * NAMES.len() / CHANGES], WITH_FAULTS)?;
+    }
+    match told {
+        0 | CHANGES => Err(format!("of all changes, {told} are told with faults")),
         _ => Ok(()),
     }
 }
@@ -108,7 +161,7 @@ fn strange() -> Vec<(&'static str, Vec<u8>, &'static str)> {
         (
             "a function that returns what it does not set",
             valid.clone(),
-            "RETURN at 2 reads the accumulator before it is set",
+            "word 2: the accumulator is read before it is set",
         ),
         ("no function", of_code(&[99, 143]), "it defines no function"),
         ("a description far behind its end", with_magic(b"Caml1999O030\xff\xff\xff\xff"), "reaches past its end"),
@@ -163,13 +216,63 @@ fn strange() -> Vec<(&'static str, Vec<u8>, &'static str)> {
         (
             "a branch out of the code that is never reached",
             of_code(&[84, 8, 99, 84, 3, 84, 99, 40, 1, 43, 0, -9]),
-            "BRANCH at 5 jumps out of the function",
+            "word 5: BRANCH jumps out of the function",
         ),
-        ("a branch to itself", of_code(&[84, 3, 84, -1, 43, 0, -4]), "BRANCH at 2 jumps back"),
+        (
+            "a branch to itself",
+            of_code(&[84, 3, 84, -1, 43, 0, -4]),
+            "word 2: a loop whose ends are no constants jumps backwards",
+        ),
         ("a call of no primitive", of_code(&[84, 6, 99, 93, 0, 40, 1, 43, 0, -7]), "no relocation names the primitive"),
         ("2^32 arguments", of_code(&[84, 6, 42, -1, 99, 40, 1, 43, 0, -7]), "4294967296 arguments"),
-        ("entry 64", of_code(&[84, 5, 8, 64, 40, 1, 43, 0, -6]), "ACC 64 at 2: its argument is 0 to 63 on the card"),
-        ("2^30", of_code(&[84, 5, 103, 1 << 30, 40, 1, 43, 0, -6]), "CONSTINT 1073741824 at 2: its argument"),
+        (
+            "entry 64",
+            of_code(&[84, 5, 8, 64, 40, 1, 43, 0, -6]),
+            "word 2: ACC 64: its argument is at most 63 on the card",
+        ),
+        (
+            "2^30",
+            of_code(&[84, 5, 103, 1 << 30, 40, 1, 43, 0, -6]),
+            "word 2: the constant 1073741824 is beyond 31 bits",
+        ),
+    ]
+}
+
+/// An object file of a function with these words, which keeps nothing.
+fn of_body(body: &[i32]) -> Vec<u8> {
+    let length = body.len() as i32;
+    of_code(&[&[84, length + 1], body, &[43, 0, -(length + 2)]].concat())
+}
+
+/// Files that no compiler writes, and a part of what is said of each when it is lowered.
+fn strange_lowered() -> Vec<(&'static str, Vec<u8>, &'static str)> {
+    let count = |end: i32| {
+        let head = [99, 108, end, 9, 12, 125, 85, 13];
+        [&head[..], &[92, 99, 1, 9, 127, 1, 20, 2, 1, 122, 85, -11], &[99, 19, 2, 40, 1]].concat()
+    };
+    vec![
+        (
+            "what is compared is read",
+            of_body(&[0, 131, 3, 3, 40, 1, 40, 1]),
+            "the accumulator is read before it is set",
+        ),
+        (
+            "a negative number without sign",
+            of_body(&[0, 139, -1, 4, 99, 40, 1, 99, 40, 1]),
+            "a comparison without sign (BULTINT) with -1",
+        ),
+        ("two unknown numbers without sign", of_body(&[0, 10, 137, 40, 1]), "(ULTINT) with no constant"),
+        ("a match without cases", of_body(&[0, 87, 0]), "a match over constructors with arguments (SWITCH)"),
+        ("what no closure keeps", of_body(&[22, 40, 1]), "(ENVACC 2) is computed when the unit begins"),
+        ("a place of a closure below all", of_body(&[25, -2_147_483_648, 40, 1]), "is computed when the unit begins"),
+        ("a for of 2^30 turns", of_body(&count(1_073_741_823)), "makes more than 1024 lines"),
+        ("a for of 400 turns", of_body(&count(399)), "instructions, and a routine file has at most 1024"),
+        ("a jump backwards", of_body(&[0, 85, -2, 40, 1]), "jumps backwards"),
+        (
+            "a stack without an end when the unit begins",
+            of_code(&[84, 4, 22, 40, 1, 9, 85, -2, 43, 1, -8]),
+            "(ENVACC 2) is computed when the unit begins",
+        ),
     ]
 }
 
@@ -187,8 +290,11 @@ pub fn damaged(root: &Path, files: &[&str]) -> Vec<Found> {
         found.push((format!("{file}, cut off"), cut(root, &folder.0, &bytes)));
         found.push((format!("{file}, changed"), changed(root, &folder.0, &bytes, &mut random)));
     }
-    for (name, bytes, part) in strange() {
-        let said = extract(root, &folder.0, &bytes);
+    found.push(("the file of names, cut off and changed".into(), names(root, &folder.0, &mut random)));
+    let plain = strange().into_iter().map(|(name, bytes, part)| (name, extract(root, &folder.0, &bytes), part));
+    let lowered = strange_lowered().into_iter();
+    let lowered = lowered.map(|(name, bytes, part)| (name, extract_by(root, &folder.0, &bytes, WAYS[1]), part));
+    for (name, said, part) in plain.chain(lowered) {
         found.push((
             name.to_string(),
             match said {

@@ -7,8 +7,12 @@
 //! again from their seed; and object files that are damaged.
 //! extracts ROOT SEED COUNT: functions from another seed.
 //! extracts ROOT store: stores the functions.
+//! extracts ROOT lowered [SEED COUNT | store]: the same of lowered functions alone (`lowered.rs`); `extracts ROOT` has them too.
 //! The last line is `N passed, M failed`; the exit status is 0 only if nothing failed.
+mod bytecode;
 mod damaged_objects;
+mod lowered;
+mod lowered_machine;
 mod machine_traces;
 
 use damaged_objects::damaged;
@@ -28,7 +32,7 @@ const COUNT: usize = 20;
 /// Object files that are damaged, without and with names.
 const OBJECTS: [&str; 3] = ["examples/ocaml/panel.cmo", "examples/ocaml/smear.cmo", "tests/outside/outside.cmo"];
 /// How often a function is run.
-const RUNS: usize = 3;
+pub const RUNS: usize = 3;
 
 /// A folder for the time of a test.
 pub struct Folder(pub PathBuf);
@@ -54,14 +58,14 @@ pub struct Start {
     pub answers: Vec<i64>,
 }
 
-struct Prices {
+pub struct Prices {
     /// cycles, words and extra cycles of a jump
     kinds: BTreeMap<String, [u64; 3]>,
     primitives: BTreeMap<String, [u64; 2]>,
 }
 
 impl Prices {
-    fn new(random: &mut Random) -> Prices {
+    pub fn new(random: &mut Random) -> Prices {
         let mut kinds = BTreeMap::new();
         for (kind, _) in KINDS {
             let extra = if ["BRANCHIF", "BRANCHIFNOT"].contains(&kind) { random.below(20) } else { 0 };
@@ -72,7 +76,7 @@ impl Prices {
         Prices { kinds, primitives: names.map(|(name, _)| (name.to_string(), price(random))).collect() }
     }
 
-    fn cycles(&self, step: &Step) -> u64 {
+    pub fn cycles(&self, step: &Step) -> u64 {
         let [cycles, _, extra] = self.kinds[&step.kind];
         cycles
             + if step.jumped { extra } else { 0 }
@@ -81,14 +85,16 @@ impl Prices {
 }
 
 #[derive(Default)]
-struct Tally {
+pub struct Tally {
     passed: u64,
     failed: u64,
     functions: u64,
     runs: u64,
     steps: u64,
-    made: BTreeSet<String>,
-    written: BTreeSet<String>,
+    pub made: BTreeSet<String>,
+    pub written: BTreeSet<String>,
+    /// how often each word stands under KINDS
+    pub kinds: BTreeMap<String, u64>,
     /// accepted by the bound, refused by it for its size, accepted by the merging bound
     bounds: [u64; 3],
     /// where the largest run costs exactly what the bound says
@@ -96,7 +102,7 @@ struct Tally {
 }
 
 impl Tally {
-    fn count(&mut self, name: &str, found: Result<(), String>) {
+    pub fn count(&mut self, name: &str, found: Result<(), String>) {
         match found {
             Ok(()) => self.passed += 1,
             Err(what) => {
@@ -113,6 +119,9 @@ impl Tally {
             "extracts: bound: {accepted} accepted, {} reached by a run, {large} too large; merge: {merged} accepted",
             self.reached
         );
+        if !self.kinds.is_empty() {
+            println!("extracts: lowered: KINDS {:?}", self.kinds);
+        }
         if !self.written.is_empty() {
             let missing: Vec<&str> =
                 KINDS.iter().map(|kind| kind.0).filter(|kind| !self.made.contains(*kind)).collect();
@@ -122,14 +131,17 @@ impl Tally {
     }
 }
 
-/// What `tickbound` prints, without the last line feed, and its status. What it says on standard error is shown.
-fn tickbound(root: &Path, folder: &Path, arguments: &[&str]) -> (i32, String) {
-    let output = Command::new(root.join("tickbound")).args(arguments).current_dir(folder).output().unwrap();
-    print!("{}", String::from_utf8_lossy(&output.stderr));
+/// What `tickbound` prints, without the last line feed, and its status. What it says on standard error is shown where it fails.
+pub fn tickbound(root: &Path, folder: &Path, arguments: &[&str]) -> (i32, String) {
+    let command = root.join("target/cli/release/tickbound");
+    let output = Command::new(command).args(arguments).current_dir(folder).output().unwrap();
+    if !output.status.success() {
+        print!("{}", String::from_utf8_lossy(&output.stderr));
+    }
     (output.status.code().unwrap_or(-1), String::from_utf8_lossy(&output.stdout).trim_end().to_string())
 }
 
-fn want(what: &str, found: (i32, String), status: i32, text: &str) -> Result<(), String> {
+pub fn want(what: &str, found: (i32, String), status: i32, text: &str) -> Result<(), String> {
     match found == (status, text.to_string()) {
         true => Ok(()),
         false => Err(format!("{what}: status {}, printed {:?}, not status {status} and {text:?}", found.0, found.1)),
@@ -142,9 +154,18 @@ fn figures(text: &str) -> Option<Vec<u64>> {
     line.split(' ').take(4).map(|word| word.parse().ok()).collect()
 }
 
-fn trace_text(trace: &[(usize, u64)]) -> String {
+pub fn trace_text(trace: &[(usize, u64)]) -> String {
     let lines = trace.iter().map(|(at, cycles)| format!("{at} {cycles}\n"));
     format!("AT CYCLES\n{}", lines.collect::<String>())
+}
+
+/// The steps of a trace.
+pub fn trace_of(text: &str) -> Option<Vec<(usize, u64)>> {
+    let step = |line: &str| {
+        let (at, cycles) = line.split_once(' ')?;
+        Some((at.parse().ok()?, cycles.parse().ok()?))
+    };
+    text.lines().skip(1).map(step).collect()
 }
 
 /// The routine file with the numbers of its stack and its fields unknown.
@@ -184,7 +205,7 @@ fn extracted(root: &Path, object: &Path, number: usize) -> Result<String, String
 }
 
 /// Holds traces of the machine, and the routine files of their starts, against the extracted routine.
-fn hold(root: &Path, tally: &mut Tally, text: &str, runs: &[(String, Vec<(usize, u64)>)]) -> Result<(), String> {
+pub fn hold(root: &Path, tally: &mut Tally, text: &str, runs: &[(String, Vec<(usize, u64)>)]) -> Result<(), String> {
     let folder = Folder::new("held");
     let write = |name: &str, text: &str| fs::write(folder.0.join(name), text).unwrap();
     let mut most = [0, 0];
@@ -231,7 +252,7 @@ fn hold(root: &Path, tally: &mut Tally, text: &str, runs: &[(String, Vec<(usize,
 }
 
 /// The extracted routine file filled in for a start.
-fn filled(text: &str, prices: &Prices, arguments: &[Type], start: &Start) -> String {
+pub fn filled(text: &str, prices: &Prices, records: &[bool], start: &Start) -> String {
     let mut lines: Vec<String> = text.lines().map(str::to_string).collect();
     let words = |line: &str| -> Vec<String> { line.split(' ').filter(|w| *w != "-").map(str::to_string).collect() };
     let joined = |list: Vec<String>| if list.is_empty() { "-".into() } else { list.join(" ") };
@@ -243,12 +264,12 @@ fn filled(text: &str, prices: &Prices, arguments: &[Type], start: &Start) -> Str
     for n in 0..2 {
         lines[7 + n] = joined(primitives.iter().map(|name| prices.primitives[name][n].to_string()).collect());
     }
-    let cell = |(argument, number): (&Type, &i64)| match argument {
-        Type::Record => " #0".into(),
-        _ => format!(" {number}"),
+    let cell = |(is_record, number): (&bool, &i64)| match is_record {
+        true => " #0".into(),
+        false => format!(" {number}"),
     };
-    lines[10] = format!("0{}", arguments.iter().zip(&start.arguments).map(cell).collect::<String>());
-    if arguments.contains(&Type::Record) {
+    lines[10] = format!("0{}", records.iter().zip(&start.arguments).map(cell).collect::<String>());
+    if records.contains(&true) {
         lines[11] = joined((0..start.fields.len()).map(|n| format!("B0.{n}")).collect());
         lines[12] = joined(start.fields.iter().map(|field| field.to_string()).collect());
     }
@@ -278,7 +299,7 @@ fn start(random: &mut Random, unit: &Unit, arguments: &[Type]) -> Start {
 
 /// Functions from a seed. They are held against the extracted routines, and handed on: the name of the unit with its source, its object
 /// file, and each function's number with the routine file and the trace of its first start.
-type Files = BTreeMap<String, Vec<u8>>;
+pub type Files = BTreeMap<String, Vec<u8>>;
 
 fn made(root: &Path, tally: &mut Tally, seed: u64, count: usize) -> Result<Files, String> {
     let mut random = Random::new(seed);
@@ -325,9 +346,10 @@ fn made(root: &Path, tally: &mut Tally, seed: u64, count: usize) -> Result<Files
                 if row[5].replace(',', " ") != text.lines().nth(6).unwrap() {
                     return Err(format!("the primitives of {row:?} are not those of\n{text}"));
                 }
+                let records: Vec<bool> = function.arguments.iter().map(|of| *of == Type::Record).collect();
                 let of_run = |((_, _, start), trace): &(&(usize, usize, Start), &machine_traces::Trace)| {
                     let priced = trace.steps.iter().map(|step| (step.at, prices.cycles(step))).collect();
-                    (filled(&text, &prices, &function.arguments, start), priced)
+                    (filled(&text, &prices, &records, start), priced)
                 };
                 let held: Vec<(String, Vec<(usize, u64)>)> = runs.iter().map(of_run).collect();
                 hold(root, tally, &text, &held)?;
@@ -354,12 +376,7 @@ fn stored(root: &Path, tally: &mut Tally, store: &Path) {
             let object = store.join(unit).with_extension("cmo");
             let text = extracted(root, &object, number.parse().map_err(|_| "no number in the name")?)?;
             let read = |path: &Path| fs::read_to_string(path).map_err(|error| format!("{}: {error}", path.display()));
-            let step = |line: &str| {
-                let (at, cycles) = line.split_once(' ')?;
-                Some((at.parse().ok()?, cycles.parse().ok()?))
-            };
-            let trace: Option<Vec<(usize, u64)>> = read(path)?.lines().skip(1).map(step).collect();
-            let run = (read(&path.with_extension("txt"))?, trace.ok_or("no trace")?);
+            let run = (read(&path.with_extension("txt"))?, trace_of(&read(path)?).ok_or("no trace")?);
             hold(root, tally, &text, &[run])
         })();
         tally.count(&name, found);
@@ -395,31 +412,61 @@ fn ocaml_is_installed() -> bool {
     })
 }
 
+/// Lowered functions alone, by what stands behind `lowered`.
+fn lowered_alone(root: &Path, tally: &mut Tally, arguments: &[&str]) {
+    let place = root.join(lowered::STORE);
+    let found = match arguments {
+        [] => {
+            lowered::stored(root, tally, &place);
+            return;
+        }
+        ["store"] => {
+            let files = lowered::made(root, tally, lowered::SEED, lowered::COUNT);
+            files.map(|files| store(&files, &place))
+        }
+        [seed, count] => {
+            let (seed, count) = (seed.parse().expect("a seed"), count.parse().expect("a count"));
+            lowered::made(root, tally, seed, count).map(|_| ())
+        }
+        _ => panic!("extracts: no such arguments: {arguments:?}"),
+    };
+    tally.count("compiled, lowered and run", found);
+}
+
+/// The stored functions and the damaged files, and where OCaml is installed the functions made again.
+fn all(root: &Path, tally: &mut Tally) {
+    let [place, lowered_place] = [STORE, lowered::STORE].map(|store| root.join(store));
+    stored(root, tally, &place);
+    lowered::stored(root, tally, &lowered_place);
+    for (name, found) in damaged(root, &OBJECTS) {
+        tally.count(&name, found);
+    }
+    if !ocaml_is_installed() {
+        println!("extracts: OCaml 4.13 is not installed: the stored functions are not compiled and run again");
+        return;
+    }
+    match made(root, tally, SEED, COUNT) {
+        Ok(files) => same(tally, &files, &place),
+        Err(what) => tally.count("compiled and run", Err(what)),
+    }
+    match lowered::made(root, tally, lowered::SEED, lowered::COUNT) {
+        Ok(files) => same(tally, &files, &lowered_place),
+        Err(what) => tally.count("compiled, lowered and run", Err(what)),
+    }
+}
+
 fn main() {
     let arguments: Vec<String> = std::env::args().skip(1).collect();
     let arguments: Vec<&str> = arguments.iter().map(String::as_str).collect();
     let root = fs::canonicalize(arguments[0]).unwrap();
-    let place = root.join(STORE);
     let mut tally = Tally::default();
     match arguments[1..] {
-        [] => {
-            stored(&root, &mut tally, &place);
-            for (name, found) in damaged(&root, &OBJECTS) {
-                tally.count(&name, found);
-            }
-            if ocaml_is_installed() {
-                match made(&root, &mut tally, SEED, COUNT) {
-                    Ok(files) => same(&mut tally, &files, &place),
-                    Err(what) => tally.count("compiled and run", Err(what)),
-                }
-            } else {
-                println!("extracts: OCaml 4.13 is not installed: the stored functions are not compiled and run again");
-            }
-        }
+        [] => all(&root, &mut tally),
         ["store"] => match made(&root, &mut tally, SEED, COUNT) {
-            Ok(files) => store(&files, &place),
+            Ok(files) => store(&files, &root.join(STORE)),
             Err(what) => tally.count("compiled and run", Err(what)),
         },
+        ["lowered", ref rest @ ..] => lowered_alone(&root, &mut tally, rest),
         [seed, count] => {
             let (seed, count) = (seed.parse().expect("a seed"), count.parse().expect("a count"));
             let found = made(&root, &mut tally, seed, count).map(|_| ());

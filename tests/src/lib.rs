@@ -16,6 +16,7 @@ pub mod generate;
 pub mod machine;
 pub mod merge;
 pub mod merge_cases;
+pub mod natural;
 pub mod nearest;
 pub mod nearest_cases;
 pub mod nearest_draft;

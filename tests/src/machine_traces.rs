@@ -25,7 +25,7 @@ pub struct Trace {
 
 const RETURN: i32 = 40;
 
-fn run(folder: &Path, command: &str, arguments: &[&str]) -> Result<Output, String> {
+pub fn run(folder: &Path, command: &str, arguments: &[&str]) -> Result<Output, String> {
     let output = Command::new(command)
         .args(arguments)
         .current_dir(folder)
@@ -120,7 +120,7 @@ fn numbered(code: &[i32], from: usize) -> BTreeMap<usize, (usize, usize)> {
 }
 
 /// A line of the trace: the address, the name and the arguments.
-fn line(text: &str) -> Option<(usize, &str, &str)> {
+pub fn line(text: &str) -> Option<(usize, &str, &str)> {
     let (address, rest) = text.trim_start().split_once("  ")?;
     let (name, arguments) = rest.split_once(' ').unwrap_or((rest, ""));
     Some((address.parse().ok()?, name, arguments))

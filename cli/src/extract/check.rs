@@ -59,7 +59,7 @@ impl Check<'_> {
         match (self.base(number), self.base(before)) {
             ("APPLY" | "APPTERM", "ENVACC" | "OFFSETCLOSURE" | "GETGLOBALFIELD") => vec![before],
             ("APPLY" | "APPTERM", "GETFIELD") if self.base(before.wrapping_sub(1)) == "GETGLOBAL" => vec![before - 1],
-            ("RAISE" | "RERAISE" | "RAISE_NOTRACE", "GETGLOBAL") => vec![before],
+            ("RAISE" | "RERAISE" | "RAISE_NOTRACE", "GETGLOBAL" | "GETGLOBALFIELD") => vec![before],
             _ => Vec::new(),
         }
     }
@@ -69,10 +69,12 @@ impl Check<'_> {
         let name = instruction.name();
         let (base, digit) = without_number(without_push(name).1);
         match base {
-            "ENVACC" if !self.lowers => Some(Fault::NotLowered(name)),
             "ENVACC" => {
                 let place = digit.unwrap_or(instruction.word);
-                (self.kept)(place).is_none().then(|| Fault::Computed(place, (self.named)(instruction.at, place)))
+                match (self.kept)(place) {
+                    None => Some(Fault::Computed(place, (self.named)(instruction.at, place))),
+                    Some(_) => (!self.lowers).then_some(Fault::NotLowered(name)),
+                }
             }
             "APPLY" | "APPTERM" => Some(Fault::Call(self.callee(number), name)),
             "PUSH_RETADDR" => self.without_call(instruction),
@@ -89,7 +91,8 @@ impl Check<'_> {
     fn without_call(&self, instruction: &Instruction) -> Option<Fault> {
         let behind = instruction.targets.first().and_then(|target| self.code.number(*target));
         let call = behind.and_then(|number| number.checked_sub(1));
-        call.is_none_or(|call| self.base(call) != "APPLY").then_some(Fault::Call(Callee::Unknown, "PUSH_RETADDR"))
+        let is_alone = call.is_none_or(|call| self.base(call) != "APPLY");
+        is_alone.then_some(Fault::Call(Callee::Unknown, "PUSH_RETADDR"))
     }
 
     fn branch(&self, instruction: &Instruction) -> Option<Fault> {
@@ -98,7 +101,10 @@ impl Check<'_> {
         if !instruction.targets.iter().all(inside) {
             return Some(Fault::Outside(instruction.name()));
         }
-        let back = instruction.targets.iter().any(|target| *target <= instruction.at);
+        // a loop that begins with CHECK_SIGNALS is told there
+        let is_told =
+            |target: &usize| self.code.number(*target).is_some_and(|number| self.base(number) == "CHECK_SIGNALS");
+        let back = instruction.targets.iter().any(|target| *target <= instruction.at && !is_told(target));
         (back && !self.lowers).then(|| Fault::Backwards(instruction.name()))
     }
 

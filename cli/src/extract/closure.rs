@@ -184,6 +184,8 @@ impl State {
             "ADDINT" => left.checked_add(self.entry(0)?),
             "SUBINT" => left.checked_sub(self.entry(0)?),
             "MULINT" => left.checked_mul(self.entry(0)?),
+            "DIVINT" => left.checked_div(self.entry(0)?),
+            "MODINT" => left.checked_rem(self.entry(0)?),
             _ => None,
         }
     }

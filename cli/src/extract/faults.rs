@@ -102,6 +102,9 @@ impl Callee {
 impl fmt::Display for Fault {
     fn fmt(&self, to: &mut fmt::Formatter) -> fmt::Result {
         match self {
+            Fault::NotLowered("CHECK_SIGNALS") => {
+                write!(to, "a loop (CHECK_SIGNALS) has no kind: give --lower and --unroll, which write a `for` out")
+            }
             Fault::NotLowered(name) => write!(to, "{} ({name}) has no kind: give --lower", lowered(name)),
             Fault::Arithmetic(sign, name) => write!(to, "`{sign}` ({name}) has no kind: use an external"),
             Fault::Division(sign, name) => {
@@ -206,15 +209,15 @@ impl Fault {
 fn lowered(name: &str) -> &'static str {
     match name {
         "SWITCH" => "a match",
-        "CHECK_SIGNALS" => "a loop",
         "ULTINT" | "UGEINT" => "a comparison without sign",
         name if name.contains("ENVACC") => "a value from outside the function",
-        _ => "a comparison with a constant, joined with its branch,",
+        _ => "a comparison with a constant",
     }
 }
 
 fn allocation(name: &str, debug: bool) -> String {
-    let what = format!("an allocation ({name}) has no kind: set the fields of a record that is an argument");
+    let kept = if name == "OFFSETREF" { "`incr` or `decr` of what is kept" } else { "an allocation" };
+    let what = format!("{kept} ({name}) has no kind: set the fields of a record that is an argument");
     match debug {
         true => format!(
             "{what}; of a `ref` only -g makes one: compile the unit without -g for the code, and give this file by --names"

@@ -27,7 +27,37 @@ pub struct Made {
 /// Functions of more instructions are not lowered: no routine has so many lines.
 const LONGEST: usize = 1 << 14;
 
+/// The lines of a function. Of one that is not extracted as it stands, the faults are told that lowering would leave, too.
 pub fn made(compiled: &Compiled, index: usize, kept: &Kept, lines: &Lines, wanted: Wanted) -> Result<Made, Vec<Found>> {
+    let found = attempted(compiled, index, kept, lines, wanted);
+    let lowered = Wanted { lowers: true, unrolls: true };
+    match found {
+        Err(faults) if !wanted.lowers => match attempted(compiled, index, kept, lines, lowered) {
+            Ok(_) => Err(faults),
+            Err(left) => Err(with_left(faults, left)),
+        },
+        found => found,
+    }
+}
+
+/// Faults, and those that lowering would leave. That a loop could be written out is not said of one that cannot.
+fn with_left(mut faults: Vec<Found>, left: Vec<Found>) -> Vec<Found> {
+    if left.iter().any(|(_, fault)| matches!(fault, Fault::Loop | Fault::LongLoop(..))) {
+        faults.retain(|(_, fault)| !matches!(fault, Fault::NotLowered("CHECK_SIGNALS") | Fault::Backwards(_)));
+    }
+    let more: Vec<Found> = left.into_iter().filter(|fault| !faults.contains(fault)).collect();
+    faults.extend(more);
+    faults.sort_by_key(|(at, _)| *at);
+    faults
+}
+
+fn attempted(
+    compiled: &Compiled,
+    index: usize,
+    kept: &Kept,
+    lines: &Lines,
+    wanted: Wanted,
+) -> Result<Made, Vec<Found>> {
     let function = &compiled.functions[index];
     let kept = |place: i32| kept.number(function.address, place);
     let named = |at: usize, place: i32| lines.kept(at, place);
@@ -46,8 +76,7 @@ pub fn made(compiled: &Compiled, index: usize, kept: &Kept, lines: &Lines, wante
     if wanted.lowers {
         let mut lowering = Lowering { kept: &kept, notes: Vec::new(), faults: Vec::new() };
         lowering.lower(&mut body);
-        faults.append(&mut lowering.faults);
-        notes.append(&mut lowering.notes);
+        (faults, notes) = ([faults, lowering.faults].concat(), lowering.notes);
         faults.extend(unroll(&mut body, wanted.unrolls, &mut notes));
     }
     if faults.is_empty() && !begins_set {

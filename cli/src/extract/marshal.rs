@@ -104,20 +104,6 @@ impl Marshalled {
     /// An integer or an object whole, or a block without its fields.
     fn item(&mut self, input: &mut Input, begun: &mut Vec<Range<usize>>, owed: &mut usize) -> Result<Value, Failure> {
         let code = input.number(1)?;
-        let mut block = |input: &mut Input, tag, size: u64| {
-            if size == 0 {
-                return Ok(Object::Block { tag, fields: 0..0 });
-            }
-            let size = usize::try_from(size).unwrap_or(usize::MAX);
-            *owed = owed.saturating_add(size);
-            if *owed > input.left() {
-                return Err(damaged("a block has more fields than there are bytes"));
-            }
-            let fields = self.fields.len()..self.fields.len() + size;
-            self.fields.resize(fields.end, Value::Int(0));
-            begun.push(fields.clone());
-            Ok(Object::Block { tag, fields })
-        };
         let object = match code {
             0x00 => return Ok(Value::Int(i64::from(input.number(1)? as i8))),
             0x01 => return Ok(Value::Int(i64::from(input.number(2)? as i16))),
@@ -128,35 +114,12 @@ impl Marshalled {
             0x06 => return self.shared(input.number(4)?),
             0x14 => return self.shared(input.number(8)?),
             0x40..=0x7f => return Ok(Value::Int((code & 0x3f) as i64)),
-            0x08 => {
-                let header = input.number(4)?;
-                block(input, header as u8, header >> 10)?
+            0x08 | 0x13 => {
+                let header = input.number(if code == 0x08 { 4 } else { 8 })?;
+                self.block_of(input, begun, owed, (header as u8, header >> 10))?
             }
-            0x13 => {
-                let header = input.number(8)?;
-                block(input, header as u8, header >> 10)?
-            }
-            0x80..=0xff => block(input, (code & 0xf) as u8, code >> 4 & 7)?,
-            0x20..=0x3f => Object::String(input.take(code & 0x1f)?),
-            0x09 | 0x0a | 0x15 => {
-                let length = input.number(match code {
-                    0x09 => 1,
-                    0x0a => 4,
-                    _ => 8,
-                })?;
-                Object::String(input.take(length)?)
-            }
-            0x0b | 0x0c => other(input, 8)?,
-            0x0d | 0x0e | 0x0f | 0x07 | 0x16 | 0x17 => {
-                let count = input.number(match code {
-                    0x0d | 0x0e => 1,
-                    0x0f | 0x07 => 4,
-                    _ => 8,
-                })?;
-                other(input, count.saturating_mul(8))?
-            }
-            0x12 | 0x18 | 0x19 => custom(input, code == 0x18)?,
-            _ => return Err(damaged(&format!("a value has the code {code}, which is none"))),
+            0x80..=0xff => self.block_of(input, begun, owed, ((code & 0xf) as u8, code >> 4 & 7))?,
+            _ => bytes_of(input, code)?,
         };
         // a block without fields has no number of its own, and is never shared
         if let Object::Block { fields, .. } = &object {
@@ -166,6 +129,28 @@ impl Marshalled {
         }
         self.objects.push(object);
         Ok(Value::Object(self.objects.len() - 1))
+    }
+
+    /// A block of a tag and a size, whose fields are still to be read.
+    fn block_of(
+        &mut self,
+        input: &Input,
+        begun: &mut Vec<Range<usize>>,
+        owed: &mut usize,
+        (tag, size): (u8, u64),
+    ) -> Result<Object, Failure> {
+        if size == 0 {
+            return Ok(Object::Block { tag, fields: 0..0 });
+        }
+        let size = usize::try_from(size).unwrap_or(usize::MAX);
+        *owed = owed.saturating_add(size);
+        if *owed > input.left() {
+            return Err(damaged("a block has more fields than there are bytes"));
+        }
+        let fields = self.fields.len()..self.fields.len() + size;
+        self.fields.resize(fields.end, Value::Int(0));
+        begun.push(fields.clone());
+        Ok(Object::Block { tag, fields })
     }
 
     /// The object that lies so many objects back.
@@ -226,6 +211,32 @@ impl Marshalled {
         }
         Ok(items)
     }
+}
+
+/// An object that is made of bytes: a string, floats, or a number of a fixed width.
+fn bytes_of(input: &mut Input, code: u64) -> Result<Object, Failure> {
+    Ok(match code {
+        0x20..=0x3f => Object::String(input.take(code & 0x1f)?),
+        0x09 | 0x0a | 0x15 => {
+            let length = input.number(match code {
+                0x09 => 1,
+                0x0a => 4,
+                _ => 8,
+            })?;
+            Object::String(input.take(length)?)
+        }
+        0x0b | 0x0c => other(input, 8)?,
+        0x0d | 0x0e | 0x0f | 0x07 | 0x16 | 0x17 => {
+            let count = input.number(match code {
+                0x0d | 0x0e => 1,
+                0x0f | 0x07 => 4,
+                _ => 8,
+            })?;
+            other(input, count.saturating_mul(8))?
+        }
+        0x12 | 0x18 | 0x19 => custom(input, code == 0x18)?,
+        _ => return Err(damaged(&format!("a value has the code {code}, which is none"))),
+    })
 }
 
 /// An object of that many bytes, which are passed over.

@@ -18,6 +18,8 @@ mod object;
 mod opcodes;
 mod routine;
 mod source;
+#[cfg(test)]
+mod tests;
 mod thread;
 mod unroll;
 
@@ -29,6 +31,7 @@ use crate::{input, output};
 use closure::Kept;
 use code::Code;
 use faults::{Fault, Found};
+use lines::Line;
 use make::{made, Made, Wanted};
 use notes::{Done, Note};
 use object::Unit;
@@ -76,6 +79,7 @@ struct Extraction<'a> {
 /// A routine with its file, and what was done to it.
 struct Written {
     routine: Routine,
+    lines: Vec<Line>,
     file: String,
     notes: Vec<Note>,
 }
@@ -92,7 +96,7 @@ impl Extraction<'_> {
         let file = routine.head.clone() + &imported(&routine)?;
         Ok(match file.len() > routine::LONGEST {
             true => Err(vec![(function.address, Fault::LongFile(routine::LONGEST))]),
-            false => Ok(Written { routine, file, notes }),
+            false => Ok(Written { routine, lines, file, notes }),
         })
     }
 
@@ -172,7 +176,8 @@ impl Extraction<'_> {
         let name = if last.bytes().all(is_plain) { last.to_string() } else { (index + 1).to_string() };
         let name = format!("{stem}-{name}");
         let file = filling.fill(&format!("{name}.txt"), &written.file)?;
-        let names = files::write(&written.routine, &file, filling.cells.is_none(), &name)?;
+        let routine = written.routine.numbered_as_in(&written.lines, &file);
+        let names = files::write(&routine, &file, filling.cells.is_none(), &name)?;
         said(&written.notes, &lines).iter().for_each(|line| output::say(line));
         Ok(names)
     }

@@ -9,6 +9,8 @@ pub const LONGEST: usize = 32_768;
 pub const ENTRIES: usize = 32;
 pub const PRIMITIVES: usize = 32;
 pub const LINES: usize = 1024;
+/// The line of a routine file that has the primitives.
+const PRIMITIVES_LINE: usize = 7;
 
 /// Any number of steps that the bound may explore, and a TICK that is to be filled in: until then the file is refused by 2.
 const BUDGET_TICK: &str = "BUDGET TICK\n1000000 _\n";
@@ -35,9 +37,8 @@ pub fn called(lines: &[Line]) -> Vec<&Vec<u8>> {
     called
 }
 
-/// The words of lines: a primitive is its place among those that are called, and a target an offset from its own word.
-fn words(lines: &[Line]) -> Vec<i32> {
-    let called = called(lines);
+/// The words of lines: a primitive is its place among those that are given, and a target an offset from its own word.
+fn words(lines: &[Line], primitives: &[&[u8]]) -> Vec<u8> {
     let mut places = Vec::new();
     let mut next = 0;
     for line in lines {
@@ -51,10 +52,12 @@ fn words(lines: &[Line]) -> Vec<i32> {
             Argument::None => {}
             Argument::Number(number) => words.push(*number),
             Argument::Target(target) => words.push(places[*target] - (place + 1)),
-            Argument::Primitive(name) => words.push(called.iter().position(|other| *other == name).unwrap_or(0) as i32),
+            Argument::Primitive(name) => {
+                words.push(primitives.iter().position(|other| other == name).unwrap_or(0) as i32);
+            }
         }
     }
-    words
+    words.iter().flat_map(|word: &i32| word.to_le_bytes()).collect()
 }
 
 impl Routine {
@@ -65,12 +68,25 @@ impl Routine {
                 kinds.push(line.name());
             }
         }
-        let primitives: Vec<String> = called(lines).into_iter().map(|name| told(name)).collect();
+        let names: Vec<&[u8]> = called(lines).into_iter().map(|name| name.as_slice()).collect();
+        let primitives: Vec<String> = names.iter().map(|name| told(name)).collect();
         Routine {
-            words: words(lines).iter().flat_map(|word| word.to_le_bytes()).collect(),
+            words: words(lines, &names),
             primitives: line(&primitives),
             head: head(&kinds, &primitives, arguments),
             cells: cells::template(arguments),
+        }
+    }
+}
+
+impl Routine {
+    /// With the primitives of a routine file that it was filled in by, in their order there, so that the words are those of that file.
+    pub fn numbered_as_in(self, lines: &[Line], file: &str) -> Routine {
+        let Some(primitives) = file.lines().nth(PRIMITIVES_LINE - 1) else { return self };
+        let names: Vec<&[u8]> = primitives.split(' ').map(str::as_bytes).collect();
+        match called(lines).iter().all(|name| names.contains(&name.as_slice())) {
+            true => Routine { words: words(lines, &names), primitives: primitives.into(), ..self },
+            false => self,
         }
     }
 }

@@ -50,11 +50,11 @@ pub fn unroll(body: &mut Body, wanted: bool, notes: &mut Vec<Note>) -> Vec<Found
     let mut known = BTreeSet::new();
     while let Some(back) = first_back(body, &known) {
         let found = find(body, back);
-        // where the loop begins, or else where it jumps back
-        let at = body.items[found.as_ref().map_or(back, |found| found.test.start)].at;
+        // where the loop begins
+        let at = body.items[found.as_ref().map_or(head(body, back), |found| found.test.start)].at;
         match found {
-            Some(found) if !wanted => faults.push((at, Fault::NotUnrolled(found.from, found.end))),
             Some(found) if found.length(body) > LONGEST => faults.push((at, Fault::LongLoop(found.from, found.end))),
+            Some(found) if !wanted => faults.push((at, Fault::NotUnrolled(found.from, found.end))),
             Some(found) if faults.is_empty() => {
                 notes.push((at, Done::Unrolled(found.from, found.end, found.turns())));
                 write_out(body, &found);
@@ -80,6 +80,13 @@ fn first_back(body: &Body, known: &BTreeSet<usize>) -> Option<usize> {
         }
     }
     None
+}
+
+/// The first item before a branch that it leads back to.
+fn head(body: &Body, back: usize) -> usize {
+    let targets = body.items[back].step.targets();
+    let is_head = |item: &Item| matches!(item.step, Step::Label(label) if targets.contains(&label));
+    body.items[..back].iter().position(is_head).unwrap_or(back)
 }
 
 /// The loop that ends with the branch of that index, if it is one that the compiler makes of a `for` between constants.

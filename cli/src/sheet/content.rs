@@ -119,5 +119,5 @@ pub fn counted(number: &str, one: &str, more: &str) -> String {
 /// The name of a file without the folders it is in.
 pub fn last_name(file: &str) -> String {
     let name = file.rsplit('/').next().filter(|name| !name.is_empty()).unwrap_or(file);
-    crate::arguments::shown(name)
+    name.to_string()
 }

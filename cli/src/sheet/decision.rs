@@ -38,7 +38,8 @@ pub fn of_figures(figures: &Figures, remedy: Option<String>) -> Result<Decision,
         Verdict::Undecided => (
             "NOT DECIDED",
             format!(
-                "The first bound is refused, and the merging bound, which can lie above it, has CYCLES {cycles}, which is {above} above TICK {tick}. {}",
+                "The first bound is refused, and the merging bound, which can lie above it, has CYCLES {cycles}, which is {above} \
+                 above TICK {tick}. {}",
                 remedy.unwrap_or_default()
             ),
         ),

@@ -63,19 +63,28 @@ impl Measure {
         pieces
     }
 
-    /// Items as rows; an item is broken only if it is longer than a row.
+    /// Items as rows; an item is broken only if it is longer than a row, and then it begins a row.
     fn rows(&self, items: &[String]) -> Vec<String> {
         let mut rows: Vec<String> = Vec::new();
-        for piece in items.iter().flat_map(|item| self.pieces(item)) {
-            match rows.last_mut() {
-                Some(row) if self.of(row) + (self.character)(' ') + self.of(&piece) <= self.width => {
-                    row.push(' ');
-                    row.push_str(&piece);
-                }
-                _ => rows.push(piece),
+        for item in items {
+            let pieces = self.pieces(item);
+            let is_long = pieces.len() > 1;
+            for (index, piece) in pieces.into_iter().enumerate() {
+                self.append(&mut rows, &piece, is_long && index == 0);
             }
         }
         rows
+    }
+
+    /// Appends a piece to the last row, or begins another one.
+    fn append(&self, rows: &mut Vec<String>, piece: &str, begins: bool) {
+        match rows.last_mut() {
+            Some(row) if !begins && self.of(row) + (self.character)(' ') + self.of(piece) <= self.width => {
+                row.push(' ');
+                row.push_str(piece);
+            }
+            _ => rows.push(piece.to_string()),
+        }
     }
 
     /// Sentences as rows.
@@ -181,6 +190,7 @@ mod tests {
         assert_eq!(rows(&words("one two three"), 7.0), ["one two", "three"]);
         assert_eq!(rows(&["S2 = 1000;".into(), "B0 = 7.".into()], 12.0), ["S2 = 1000;", "B0 = 7."]);
         assert_eq!(rows(&["a long item".into()], 6.0), ["a long", "item"]);
+        assert_eq!(rows(&["x;".into(), "a long item".into(), "y".into()], 6.0), ["x;", "a long", "item y"]);
         assert_eq!(rows(&["abcdefgh".into()], 3.0), ["abc", "def", "gh"]);
         let wide = |character| if character == 'M' { 2.0 } else { 1.0 };
         assert_eq!(Measure { width: 5.0, character: wide }.rows(&words("ab cd MM M")), ["ab cd", "MM", "M"]);

@@ -40,8 +40,8 @@ pub fn command(arguments: &[String]) -> Result<u8, Failure> {
     }
     let text = &bytes[..bytes.len().min(ROUTINE_LIMIT + 1)];
     let answers = Answers::ask(text, given.has("--nearest"));
-    let sources =
-        Sources { file: shown(file), bytes: &bytes, card: filling.card.as_ref(), cells: filling.cells.as_ref() };
+    let file = shown(file);
+    let sources = Sources { file: &file, bytes: &bytes, card: filling.card.as_ref(), cells: filling.cells.as_ref() };
     let sheet = compose::sheet(&sources, &answers)?;
     let printed = if given.has("--html") { page::html(&sheet) } else { plain::text(&sheet) };
     output::print(printed.as_bytes())?;
