@@ -2,7 +2,7 @@
 use std::path::{Path, PathBuf};
 
 /// The documents for users, as they are named in the repository and where they are installed.
-pub const DOCUMENTS: [&str; 3] = ["FIELD-SHEET.md", "ROUTINE-FILE.md", "GENERATOR.md"];
+pub const DOCUMENTS: [&str; 4] = ["FIELD-SHEET.md", "ROUTINE-FILE.md", "GENERATOR.md", "EXTRACTION.md"];
 
 fn command() -> Option<PathBuf> {
     std::env::current_exe().ok()?.canonicalize().ok()

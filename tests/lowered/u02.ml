@@ -1,5 +1,5 @@
 type t = { mutable f0 : int }
-type s = C0 | C1 | C2 | C3 | C4
+type s = C0 | C1
 external read : int -> int = "READ"
 external peek : int -> int = "PEEK"
 external sound : int -> int -> int = "SOUND"
@@ -9,19 +9,15 @@ external valve : int -> int -> int -> int -> int = "VALVE"
 external pump : int -> int -> int -> int -> int -> int = "PUMP"
 external flag : int -> bool = "PEEK"
 let three = 3
-let limit = 878
-let below = -3
-let day = 24 * 38
+let limit = 424
+let below = -12
+let day = 24 * 4
 let last = limit - 1
 
-let f1 (t1 : bool) (a2 : int) (t3 : bool) =
-  (for i4 = (1) to three + (-2) do (for i5 = (2) downto (-1) do ignore (sound ((0)) (i5)) done) done);
-  (let b6 = ((flag (-1)) && (flag (5))) in (ignore (pump (a2) (a2) (a2) (a2) (a2)); (if (a2 > (2)) then (let v7 = (~- ((valve (a2) (a2) (a2) (a2)))) in v7) else a2)))
+let f1 (c1 : s) =
+  ignore (log (0) (0) (0));
+  (let v4 = ((for i2 = (-1) to (0) do (if (i2 <= i2) then ((if (not (three = (2))) then ((if (i2 <= (1)) then ((if (three < (-950)) then (ignore (peek ((-2)))))))) else (ignore (peek (i2)))))); ignore (lamp_2 (i2) (i2)) done); (let b3 = ((pump (0) (0) (0) (0) (0)) < (3)) in 0)) in v4)
 
-let f2 (r : t) (c1 : s) (t2 : bool) (a3 : int) (a4 : int) =
-  r.f0 <- ((if (t2 || t2) then (if t2 then (ignore (lamp_2 (a4) (a4)); (ignore (sound (a4) ((-1))); (1))) else (pump ((1)) ((2)) (a4) (a4) ((-441)))) else (~- ((match c1 with | C0 | C1 -> (match a3 with | 1 -> a4 | 2 -> a4 | 3 -> (2) | _ -> a4) | C2 -> (4) | C3 -> (2) | _ -> a4)))) - a4);
-  (let v5 = a4 in (543))
-
-let f3 (a1 : int) (a2 : int) (r : t) =
-  r.f0 <- (~- ((log (a2) (a2) ((-496)))));
-  (let v3 = (if ((a2 <> (0)) || (a2 >= (1))) then (lamp_2 (a2) (a2)) else a2) in v3)
+let f2 (r : t) (a1 : int) =
+  (for i2 = (0) downto (0) do ignore (peek (i2)); (for i3 = (4) downto (3) do ignore (valve (i3) (i3) (i3) (i3)) done) done);
+  (let v5 = (let b4 = ((three <= (1)) || (((flag a1) || (not (not (not (not (not ((r.f0 >= a1) || (a1 >= (2) && a1 <= 9)))))))) && (flag (5)))) in ((~- ((match r.f0 with | 0 -> (~- ((if ((-374) <> a1) then a1 else (-1)))) | 1 -> ((match a1 with | -3 -> a1 | -2 -> a1 | -1 -> a1 | 0 | 1 -> a1 | 2 -> a1 | _ -> (5)) + 162) | 2 -> a1 | 3 -> a1 | 4 -> a1 | 5 -> (-1) | _ -> a1))) - a1)) in v5)

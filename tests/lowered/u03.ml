@@ -1,5 +1,5 @@
-type t = { mutable f0 : int }
-type s = C0 | C1 | C2 | C3 | C4
+type t = { mutable f0 : int; mutable f1 : int; mutable f2 : int; mutable f3 : int; mutable f4 : int }
+type s = C0 | C1 | C2
 external read : int -> int = "READ"
 external peek : int -> int = "PEEK"
 external sound : int -> int -> int = "SOUND"
@@ -9,15 +9,11 @@ external valve : int -> int -> int -> int -> int = "VALVE"
 external pump : int -> int -> int -> int -> int -> int = "PUMP"
 external flag : int -> bool = "PEEK"
 let three = 3
-let limit = 362
+let limit = 206
 let below = -3
-let day = 24 * 2
+let day = 24 * 26
 let last = limit - 1
 
-let f1 (c1 : s) (a2 : int) (a3 : int) (t4 : bool) (a5 : int) =
-  ignore (peek (a5));
-  (let m8 = ref (ignore (read (a5)); ((let m7 = ref (let m6 = ref a5 in (if (day >= (3)) then (~- (a5)) else (if (a2 <> (-136)) then a5 else a5))) in (sound (a5) (a5))) + (read (a5)))) in (if ((a3 <> (2)) || t4) then (match !m8 with | 0 -> (match a3 with | 0 -> ((match c1 with | C0 -> (match a3 with | 2 -> (0) | 3 -> a5 | 4 -> a5 | 5 -> a5 | 6 | 7 -> (66) | _ -> a5) | C1 -> (-548) | C2 -> a5 | C3 | C4 -> a5) - (-2)) | 1 | 2 -> a5 | _ -> a5) | 1 -> a5 | 2 -> (-2) | _ -> a5) else a5))
-
-let f2 (r : t) =
-  r.f0 <- (match (valve (0) (0) ((0)) (0)) with | 1 -> (log (0) ((3)) (0)) | 2 -> (~- ((let v1 = (match (read (0)) with | 3 -> (if ((-2) < (sound (0) (0))) then (5) else 0) | 4 | 5 -> 0 | 6 -> 0 | _ -> (0)) in v1))) | 3 -> 0 | _ -> (0));
-  (let b2 = ((sound (0) (0)) > (4)) in (598))
+let rec f1 (r : t) =
+  r.f0 <- 0;
+  (let v1 = (valve ((0)) (0) (0) (0)) in (if (three <> (3)) then (let b2 = (three > (2)) in r.f1) else (~- ((match r.f3 with | -2 -> (if (((2) < v1) && (r.f1 >= (1) && r.f1 <= 8)) then ((v1 + 237) - 168) else (match v1 with | 0 | 1 -> (if (v1 <> v1) then (0) else v1) | 2 -> (match v1 with | 0 -> v1 | 1 -> (3) | 2 -> v1 | 3 -> (5) | 4 -> v1 | 5 -> v1 | _ -> v1) | 3 -> (lamp_2 (v1) (v1)) | 4 -> v1 | _ -> v1)) | -1 -> v1 | 0 | 1 -> v1 | _ -> v1)))))

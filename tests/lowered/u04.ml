@@ -1,4 +1,4 @@
-type t = { mutable f0 : int; mutable f1 : int; mutable f2 : int; mutable f3 : int; mutable f4 : int }
+type t = { mutable f0 : int; mutable f1 : int }
 type s = C0 | C1 | C2
 external read : int -> int = "READ"
 external peek : int -> int = "PEEK"
@@ -9,15 +9,15 @@ external valve : int -> int -> int -> int -> int = "VALVE"
 external pump : int -> int -> int -> int -> int -> int = "PUMP"
 external flag : int -> bool = "PEEK"
 let three = 3
-let limit = 265
-let below = -11
-let day = 24 * 25
+let limit = 532
+let below = -17
+let day = 24 * 52
 let last = limit - 1
 
-let f1 (a1 : int) (t2 : bool) (r : t) (c3 : s) =
-  ignore (valve ((4)) ((5)) ((601)) ((-1)));
-  (let b4 = (r.f2 < (1)) in (let b5 = (not (not (t2 && (below > (159))))) in a1))
+let f1 (a1 : int) (c2 : s) =
+  ignore (read (a1));
+  (let v7 = (let m6 = ref (let m3 = ref a1 in (if (day >= (3)) then (~- ((if ((!m3 >= last) || (a1 <= (-2))) then (ignore (read (a1)); a1) else (let v4 = a1 in (4))))) else (match c2 with | C0 -> (if (!m3 < (-1)) then (a1 - a1) else (a1 - (975))) | C1 -> (let m5 = ref (valve (a1) (a1) (a1) ((0))) in (if (a1 <= (-2)) then (66) else a1)) | C2 -> (m3 := (71); limit)))) in (ignore (valve ((3)) (a1) (a1) ((-2))); (~- ((if (not ((not (a1 <> (4))) || (flag a1))) then ((if ((0) <= three) then (ignore (peek ((2))))); a1) else a1))))) in v7)
 
-let f2 (r : t) (a1 : int) (a2 : int) =
-  r.f4 <- (let b3 = ((a1 <> (5)) && ((((not (a1 <> (-1))) || (flag a2)) || ((not (a1 = (1))) || ((a2 >= (4) && a2 <= 11) && (not ((a2 >= (5) && a2 <= 12) || (a2 >= (-186))))))) || ((5) <= a1))) in (-1));
-  (let v4 = (((if (((flag (318)) && ((not (flag a2)) && (((((a2 = (3)) || ((1) = a2)) && (not (not ((398) >= a2)))) && ((a1 <> a1) && ((not ((a2 = (-897)) || (below <> (5)))) || (a2 = a1)))) && (a2 < (2))))) && (a1 <= r.f2)) then a2 else a2) + 77) + a2) in v4)
+let f2 (a1 : int) (c2 : s) (a3 : int) (t4 : bool) (a5 : int) =
+  (if t4 then ((for i6 = (0) downto (-1) do ignore (sound (i6) ((2))); ignore (pump ((2)) (i6) ((0)) (i6) (i6)) done)));
+  (let m7 = ref (~- (((match c2 with | C0 -> (if ((a1 > a1) || ((((flag (4)) || (a3 <> a1)) || (a1 >= (5) && a1 <= 12)) && t4)) then (ignore (sound ((855)) ((0))); (pump (a5) (a5) ((-538)) (a5) ((875)))) else (if ((a1 <= a3) || (((not (((not (a5 >= (-1) && a5 <= 8)) && ((a1 <> (5)) && ((((not t4) || t4) || (a1 <= (-1))) || (a1 = (1))))) || ((a5 >= (4) && a5 <= 11) && (not ((a5 >= (5) && a5 <= 12) || (a5 >= (-186))))))) && ((5) <= a1)) || t4)) then a5 else (0))) | C1 -> a5 | C2 -> (3)) + 61))) in a5)

@@ -1,5 +1,5 @@
 type t = { mutable f0 : int; mutable f1 : int }
-type s = C0 | C1 | C2 | C3 | C4 | C5
+type s = C0 | C1 | C2 | C3 | C4
 external read : int -> int = "READ"
 external peek : int -> int = "PEEK"
 external sound : int -> int -> int = "SOUND"
@@ -9,11 +9,11 @@ external valve : int -> int -> int -> int -> int = "VALVE"
 external pump : int -> int -> int -> int -> int -> int = "PUMP"
 external flag : int -> bool = "PEEK"
 let three = 3
-let limit = 616
-let below = -19
-let day = 24 * 16
+let limit = 338
+let below = -8
+let day = 24 * 38
 let last = limit - 1
 
-let f1 (r : t) =
-  (match (valve (0) (0) ((-819)) ((3))) with | 4 -> ((for i1 = (3) to three + (-1) do (match r.f1 with | -3 -> (r.f0 <- (r.f1 <- i1; (if (day = (-370)) then (-2) else (2)))) | -2 -> (ignore (read (i1))) | -1 -> (ignore (read (i1))) | 0 -> ((if (i1 <= (-2)) then (ignore (peek (i1))) else (ignore (sound (i1) (i1))))) | _ -> (ignore (pump (i1) ((784)) (i1) (i1) ((3))))) done)) | 5 | 6 | 7 -> ((if ((-1) <> r.f0) then (r.f0 <- (let b2 = ((read ((3))) >= (1) && (read ((3))) <= 8) in (let v3 = (match last with | 0 -> 0 | 1 -> (5) | 2 -> 0 | 3 -> 0 | 4 -> 0 | _ -> 0) in v3))))) | _ -> (ignore (lamp_2 (0) ((2)))));
-  (let b4 = ((3) <> (valve (0) ((0)) (0) (0))) in 0)
+let f1 (a1 : int) (r : t) (c2 : s) =
+  (for i3 = (2) to three + (2) do ignore (lamp_2 ((846)) (i3)) done);
+  (let v7 = (let v4 = a1 in (ignore (lamp_2 ((863)) ((-1))); (if (a1 >= (-1) && a1 <= 8) then v4 else (match c2 with | C0 -> (let m5 = ref (1) in (v4 - 115)) | C1 -> (match r.f0 with | -2 -> (match c2 with | C0 -> v4 | C1 -> (3) | C2 -> (-975) | C3 | C4 -> (5)) | -1 -> (if (v4 >= (1)) then (-819) else (3)) | _ -> (ignore (valve ((1)) ((696)) (v4) (v4)); (443))) | C2 -> last | C3 | C4 -> (let v6 = (if (day = (-370)) then (-2) else (2)) in (ignore (sound ((2)) (v6)); (2))))))) in (let m12 = ref (let v11 = (let v8 = limit in (let m10 = ref (let v9 = (ignore (sound (v8) (v8)); v8) in (ignore (read ((3))); v9)) in v8)) in (83)) in (-529)))

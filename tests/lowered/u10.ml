@@ -1,5 +1,5 @@
 type t = { mutable f0 : int; mutable f1 : int; mutable f2 : int; mutable f3 : int }
-type s = C0 | C1
+type s = C0 | C1 | C2 | C3 | C4
 external read : int -> int = "READ"
 external peek : int -> int = "PEEK"
 external sound : int -> int -> int = "SOUND"
@@ -9,11 +9,11 @@ external valve : int -> int -> int -> int -> int = "VALVE"
 external pump : int -> int -> int -> int -> int -> int = "PUMP"
 external flag : int -> bool = "PEEK"
 let three = 3
-let limit = 645
-let below = -18
-let day = 24 * 45
+let limit = 503
+let below = -19
+let day = 24 * 23
 let last = limit - 1
 
-let f1 (a1 : int) (a2 : int) (r : t) =
-  ignore (log (a2) (a2) ((-2)));
-  (let m3 = ref (read (a2)) in (let v6 = ((if (not (not ((((not (a1 > (-1))) && (a1 >= (5) && a1 <= 12)) || (flag a2)) && (a2 > (986))))) then (r.f3 <- a1)); (let m4 = ref (-960) in (r.f2 <- (if (r.f3 < (5)) then (0) else a2); (r.f0 <- a2; (let v5 = (4) in v5))))) in (match r.f0 with | 0 -> (match v6 with | 0 | 1 -> (~- ((if (r.f3 >= (-2) && r.f3 <= 9) then (98) else (if (!m3 <= a2) then v6 else v6)))) | 2 -> (r.f2 <- (let v7 = v6 in (-1)); v6) | 3 -> v6 | 4 -> v6 | _ -> v6) | 1 | 2 -> v6 | 3 -> v6 | 4 -> v6 | _ -> (-2))))
+let f1 (r : t) (a1 : int) =
+  r.f0 <- (~- ((let b2 = (not (flag (4))) in (let m3 = ref ((if (r.f0 = a1) then (ignore (peek (a1))) else (ignore (peek (a1)))); a1) in r.f1))));
+  (let b4 = (a1 >= (3) && a1 <= 10) in (if (a1 >= (2) && a1 <= 9) then a1 else (if b4 then (let m6 = ref (if ((not ((-1) > a1)) && (b4 && ((not ((5) < r.f1)) || (below <> a1)))) then (let v5 = limit in v5) else (match a1 with | 0 | 1 -> (if ((1) = a1) then a1 else a1) | _ -> (match three with | -4 -> (5) | -3 | -2 -> a1 | _ -> a1))) in (let b7 = (r.f1 <> a1) in ((if (a1 > limit) then a1 else a1) - 270))) else (match a1 with | 0 -> a1 | 1 | 2 -> (4) | _ -> a1))))

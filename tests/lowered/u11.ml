@@ -1,5 +1,5 @@
-type t = { mutable f0 : int; mutable f1 : int; mutable f2 : int }
-type s = C0 | C1 | C2 | C3 | C4 | C5
+type t = { mutable f0 : int; mutable f1 : int; mutable f2 : int; mutable f3 : int; mutable f4 : int; mutable f5 : int }
+type s = C0 | C1 | C2
 external read : int -> int = "READ"
 external peek : int -> int = "PEEK"
 external sound : int -> int -> int = "SOUND"
@@ -9,11 +9,11 @@ external valve : int -> int -> int -> int -> int = "VALVE"
 external pump : int -> int -> int -> int -> int -> int = "PUMP"
 external flag : int -> bool = "PEEK"
 let three = 3
-let limit = 390
-let below = -11
-let day = 24 * 30
+let limit = 837
+let below = -9
+let day = 24 * 57
 let last = limit - 1
 
-let f1 (t1 : bool) (t2 : bool) =
-  (if ((pump (0) (0) ((163)) ((-1)) (0)) >= (5) && (pump (0) (0) ((163)) ((-1)) (0)) <= 12) then (ignore (pump (0) ((2)) ((1)) (0) (0))) else ((for i3 = (0) downto (1) do ignore (read ((-39))) done)));
-  (let b4 = (((2) >= (log ((5)) ((-2)) (0))) || (((log ((-1)) ((-957)) ((-2))) >= (5) && (log ((-1)) ((-957)) ((-2))) <= 12) || (not ((not (((flag 0) && ((5) <> (log (0) (0) (0)))) && (((day <> (4)) && (not (((sound ((4)) ((1))) >= (pump ((887)) ((4)) ((-652)) (0) (0))) && ((flag 0) || (flag 0))))) || (not (t2 && (((not (flag (3))) && ((0) < (peek (0)))) && (flag 0))))))) && (flag (0)))))) in (match (valve (0) (0) (0) ((4))) with | 0 -> (lamp_2 ((619)) (0)) | 1 -> (((let v5 = (ignore (peek (0)); (~- (0))) in (let v6 = (match v5 with | 0 -> v5 | 1 | 2 -> v5 | 3 -> (-1) | _ -> v5) in v6)) + 178) - 0) | 2 | 3 -> (820) | _ -> 0))
+let f1 (t1 : bool) (c2 : s) =
+  ignore (read (0));
+  (let v3 = (if (((flag (1)) || t1) && (((not ((not (day >= (3) && day <= 10)) && ((((pump (0) (0) ((-2)) ((-2)) (0)) <> (sound (0) ((2)))) || ((-1) >= (read (0)))) && ((valve (0) (0) (0) (0)) >= (580) && (valve (0) (0) (0) (0)) <= 587)))) || (((log (0) ((5)) (0)) <= (255)) && (t1 && (((flag (2)) || (flag 0)) || (not ((valve ((3)) (0) ((1)) ((-2))) = (301))))))) || (flag (360)))) then (if ((peek (0)) = (-1)) then 0 else (4)) else 0) in (0))

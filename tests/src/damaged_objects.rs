@@ -57,13 +57,13 @@ fn extract_by(root: &Path, folder: &Path, bytes: &[u8], way: &[&str]) -> Result<
     }
 }
 
-/// The same in every way; what is handed back is of the first.
+/// The same in every way; what is handed back is of the second, which lowers.
 fn extract(root: &Path, folder: &Path, bytes: &[u8]) -> Result<(i32, String), String> {
     let mut found = Vec::new();
     for way in WAYS {
         found.push(extract_by(root, folder, bytes, way)?);
     }
-    Ok(found.swap_remove(0))
+    Ok(found.swap_remove(1))
 }
 
 fn cut(root: &Path, folder: &Path, bytes: &[u8]) -> Result<(), String> {
@@ -250,6 +250,8 @@ fn strange_lowered() -> Vec<(&'static str, Vec<u8>, &'static str)> {
         let head = [99, 108, end, 9, 12, 125, 85, 13];
         [&head[..], &[92, 99, 1, 9, 127, 1, 20, 2, 1, 122, 85, -11], &[99, 19, 2, 40, 1]].concat()
     };
+    let pops =
+        [99, 108, 3, 9, 12, 125, 85, 15, 92, 99, 19, -2_147_483_648, 1, 9, 127, 1, 20, 2, 1, 122, 85, -13, 99, 40, 3];
     vec![
         (
             "what is compared is read",
@@ -267,6 +269,7 @@ fn strange_lowered() -> Vec<(&'static str, Vec<u8>, &'static str)> {
         ("a place of a closure below all", of_body(&[25, -2_147_483_648, 40, 1]), "is computed when the unit begins"),
         ("a for of 2^30 turns", of_body(&count(1_073_741_823)), "makes more than 1024 lines"),
         ("a for of 400 turns", of_body(&count(399)), "instructions, and a routine file has at most 1024"),
+        ("a for that pops -2^31 entries", of_body(&pops), "POP -2147483648: its argument is at most 64"),
         ("a jump backwards", of_body(&[0, 85, -2, 40, 1]), "jumps backwards"),
         (
             "a stack without an end when the unit begins",
@@ -291,7 +294,8 @@ pub fn damaged(root: &Path, files: &[&str]) -> Vec<Found> {
         found.push((format!("{file}, changed"), changed(root, &folder.0, &bytes, &mut random)));
     }
     found.push(("the file of names, cut off and changed".into(), names(root, &folder.0, &mut random)));
-    let plain = strange().into_iter().map(|(name, bytes, part)| (name, extract(root, &folder.0, &bytes), part));
+    let of_plain = |bytes: &[u8]| extract(root, &folder.0, bytes).and(extract_by(root, &folder.0, bytes, WAYS[0]));
+    let plain = strange().into_iter().map(|(name, bytes, part)| (name, of_plain(&bytes), part));
     let lowered = strange_lowered().into_iter();
     let lowered = lowered.map(|(name, bytes, part)| (name, extract_by(root, &folder.0, &bytes, WAYS[1]), part));
     for (name, said, part) in plain.chain(lowered) {

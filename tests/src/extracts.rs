@@ -16,10 +16,10 @@ mod lowered_machine;
 mod machine_traces;
 
 use damaged_objects::damaged;
-use independent::functions::{unit, Type, Unit};
+use independent::functions::{unit, Function, Type, Unit};
 use independent::random::Random;
 use independent::routine::KINDS;
-use machine_traces::{machine, Step};
+use machine_traces::{machine, Step, Trace};
 use std::collections::{BTreeMap, BTreeSet};
 use std::fs;
 use std::path::{Path, PathBuf};
@@ -30,7 +30,13 @@ const STORE: &str = "tests/extracted";
 const SEED: u64 = 34;
 const COUNT: usize = 20;
 /// Object files that are damaged, without and with names.
-const OBJECTS: [&str; 3] = ["examples/ocaml/panel.cmo", "examples/ocaml/smear.cmo", "tests/outside/outside.cmo"];
+const OBJECTS: [&str; 5] = [
+    "examples/ocaml/panel.cmo",
+    "examples/ocaml/smear.cmo",
+    "examples/ocaml/inputs.cmo",
+    "examples/ocaml/holdover.cmo",
+    "tests/outside/outside.cmo",
+];
 /// How often a function is run.
 pub const RUNS: usize = 3;
 
@@ -207,32 +213,17 @@ fn extracted(root: &Path, object: &Path, number: usize) -> Result<String, String
 /// Holds traces of the machine, and the routine files of their starts, against the extracted routine.
 pub fn hold(root: &Path, tally: &mut Tally, text: &str, runs: &[(String, Vec<(usize, u64)>)]) -> Result<(), String> {
     let folder = Folder::new("held");
-    let write = |name: &str, text: &str| fs::write(folder.0.join(name), text).unwrap();
     let mut most = [0, 0];
     for (known, trace) in runs {
         if fixed(known) != fixed(text) {
             return Err(format!("the extracted routine is another:\n{text}not that of\n{known}"));
         }
-        write("known", known);
-        write("trace", &trace_text(trace));
-        want("replay", tickbound(root, &folder.0, &["replay", "known", "trace"]), 0, "AGREES")?;
-        let mut slow = trace.clone();
-        let line = trace.len() / 2;
-        slow[line].1 += 1;
-        write("trace", &trace_text(&slow));
-        let differs = format!("DIFFERS {}", line + 2);
-        want("replay with a cycle more", tickbound(root, &folder.0, &["replay", "known", "trace"]), 3, &differs)?;
-        let (_, printed) = tickbound(root, &folder.0, &["run", "known"]);
-        let cycles = trace.iter().map(|step| step.1).sum();
-        let run = figures(&printed).ok_or_else(|| format!("run: {printed} of\n{known}"))?;
-        if [run[0], run[3]] != [cycles, trace.len() as u64] {
-            return Err(format!("run: {printed}, and the machine spent {cycles} in {} steps", trace.len()));
-        }
+        let run = hold_run(root, &folder.0, known, trace)?;
         most = [most[0].max(run[0]), most[1].max(run[1])];
         tally.runs += 1;
         tally.steps += trace.len() as u64;
     }
-    write("unknown", &unknown(&runs[0].0));
+    fs::write(folder.0.join("unknown"), unknown(&runs[0].0)).unwrap();
     for (n, verb) in ["bound", "merge"].iter().enumerate() {
         let (status, printed) = tickbound(root, &folder.0, &[verb, "unknown"]);
         // a path of more than 32 openings, or more steps than BUDGET
@@ -249,6 +240,27 @@ pub fn hold(root: &Path, tally: &mut Tally, text: &str, runs: &[(String, Vec<(us
     }
     tally.functions += 1;
     Ok(())
+}
+
+/// Holds one trace of the machine against the routine file of its start, and hands back the figures of the run.
+fn hold_run(root: &Path, folder: &Path, known: &str, trace: &[(usize, u64)]) -> Result<Vec<u64>, String> {
+    let write = |name: &str, text: &str| fs::write(folder.join(name), text).unwrap();
+    write("known", known);
+    write("trace", &trace_text(trace));
+    want("replay", tickbound(root, folder, &["replay", "known", "trace"]), 0, "AGREES")?;
+    let mut slow = trace.to_vec();
+    let line = trace.len() / 2;
+    slow[line].1 += 1;
+    write("trace", &trace_text(&slow));
+    let differs = format!("DIFFERS {}", line + 2);
+    want("replay with a cycle more", tickbound(root, folder, &["replay", "known", "trace"]), 3, &differs)?;
+    let (_, printed) = tickbound(root, folder, &["run", "known"]);
+    let cycles = trace.iter().map(|step| step.1).sum();
+    let run = figures(&printed).ok_or_else(|| format!("run: {printed} of\n{known}"))?;
+    match [run[0], run[3]] == [cycles, trace.len() as u64] {
+        true => Ok(run),
+        false => Err(format!("run: {printed}, and the machine spent {cycles} in {} steps", trace.len())),
+    }
 }
 
 /// The extracted routine file filled in for a start.
@@ -319,49 +331,65 @@ fn made(root: &Path, tally: &mut Tally, seed: u64, count: usize) -> Result<Files
     let folder = Folder::new("machine");
     let traces = machine(&folder.0, &units, &calls)?;
     let mut files = Files::new();
-    let mut calls = calls.iter().zip(&traces);
+    let mut calls = calls.iter().map(|(_, _, start)| start).zip(&traces);
     for unit in &units {
         let object = folder.0.join(&unit.name).with_extension("cmo");
-        let (_, listing) = tickbound(root, &folder.0, &["extract", object.to_str().unwrap()]);
-        let rows: Vec<Vec<&str>> = listing.lines().skip(1).map(|line| line.split(' ').collect()).collect();
         files.insert(format!("{}.ml", unit.name), unit.text.clone().into_bytes());
         files.insert(format!("{}.cmo", unit.name), fs::read(&object).unwrap());
         for function in &unit.functions {
-            let runs: Vec<_> = calls.by_ref().take(RUNS).collect();
-            let name = format!("{}.{}", unit.name, function.name);
+            let runs: Vec<(&Start, &Trace)> = calls.by_ref().take(RUNS).collect();
             let prices = Prices::new(&mut random);
-            let entry = runs[0].1.entry.to_string();
-            let found = (|| {
-                let row = rows.iter().find(|row| row.get(2) == Some(&&*entry));
-                let row = row.ok_or_else(|| format!("no function at {entry} in\n{listing}"))?;
-                let called = if unit.debug { format!("U{}", &name[1..]) } else { "-".into() };
-                if row[1] != called || row[4] != function.arguments.len().to_string() || row[6] != "yes" {
-                    return Err(format!("{row:?} in\n{listing}"));
-                }
-                if rows.len() != unit.functions.len() {
-                    return Err(format!("{} functions are listed, not {}", rows.len(), unit.functions.len()));
-                }
-                let number: usize = row[0].parse().map_err(|_| format!("{row:?}"))?;
-                let text = extracted(root, &object, number)?;
-                if row[5].replace(',', " ") != text.lines().nth(6).unwrap() {
-                    return Err(format!("the primitives of {row:?} are not those of\n{text}"));
-                }
-                let records: Vec<bool> = function.arguments.iter().map(|of| *of == Type::Record).collect();
-                let of_run = |((_, _, start), trace): &(&(usize, usize, Start), &machine_traces::Trace)| {
-                    let priced = trace.steps.iter().map(|step| (step.at, prices.cycles(step))).collect();
-                    (filled(&text, &prices, &records, start), priced)
-                };
-                let held: Vec<(String, Vec<(usize, u64)>)> = runs.iter().map(of_run).collect();
-                hold(root, tally, &text, &held)?;
-                tally.written.extend(text.lines().nth(2).unwrap().split(' ').map(str::to_string));
-                tally.made.extend(runs.iter().flat_map(|(_, trace)| trace.steps.iter().map(|step| step.kind.clone())));
-                files.insert(format!("{}-{number}.txt", unit.name), held[0].0.clone().into_bytes());
-                files.insert(format!("{}-{number}.trace", unit.name), trace_text(&held[0].1).into_bytes());
-                Ok(())
-            })();
-            tally.count(&name, found.map_err(|what| format!("{what}\nin\n{}", unit.text)));
+            let found = as_it_ran(root, tally, &object, (unit, function), &prices, &runs);
+            let found = found.map(|made| files.extend(made)).map_err(|what| format!("{what}\nin\n{}", unit.text));
+            tally.count(&format!("{}.{}", unit.name, function.name), found);
         }
     }
+    Ok(files)
+}
+
+/// The number of the function that begins at an address, and its primitives, in the list of its unit.
+fn listed(listing: &str, unit: &Unit, function: &Function, entry: usize) -> Result<(usize, String), String> {
+    let rows: Vec<Vec<&str>> = listing.lines().skip(1).map(|line| line.split(' ').collect()).collect();
+    let entry = entry.to_string();
+    let row = rows.iter().find(|row| row.get(2) == Some(&&*entry));
+    let row = row.ok_or_else(|| format!("no function at {entry} in\n{listing}"))?;
+    let called = if unit.debug { format!("U{}.{}", &unit.name[1..], function.name) } else { "-".into() };
+    if row[1] != called || row[4] != function.arguments.len().to_string() || row[6] != "yes" {
+        return Err(format!("{row:?} in\n{listing}"));
+    }
+    if rows.len() != unit.functions.len() {
+        return Err(format!("{} functions are listed, not {}", rows.len(), unit.functions.len()));
+    }
+    Ok((row[0].parse().map_err(|_| format!("{row:?}"))?, row[5].replace(',', " ")))
+}
+
+/// A function held against its runs on the machine, with the files to store.
+fn as_it_ran(
+    root: &Path,
+    tally: &mut Tally,
+    object: &Path,
+    (unit, function): (&Unit, &Function),
+    prices: &Prices,
+    runs: &[(&Start, &Trace)],
+) -> Result<Files, String> {
+    let (_, listing) = tickbound(root, object.parent().unwrap(), &["extract", object.to_str().unwrap()]);
+    let (number, primitives) = listed(&listing, unit, function, runs[0].1.entry)?;
+    let text = extracted(root, object, number)?;
+    if primitives != text.lines().nth(6).unwrap() {
+        return Err(format!("the primitives {primitives} are not those of\n{text}"));
+    }
+    let records: Vec<bool> = function.arguments.iter().map(|of| *of == Type::Record).collect();
+    let of_run = |(start, trace): &(&Start, &Trace)| {
+        let priced = trace.steps.iter().map(|step| (step.at, prices.cycles(step))).collect();
+        (filled(&text, prices, &records, start), priced)
+    };
+    let held: Vec<(String, Vec<(usize, u64)>)> = runs.iter().map(of_run).collect();
+    hold(root, tally, &text, &held)?;
+    tally.written.extend(text.lines().nth(2).unwrap().split(' ').map(str::to_string));
+    tally.made.extend(runs.iter().flat_map(|(_, trace)| trace.steps.iter().map(|step| step.kind.clone())));
+    let mut files = Files::new();
+    files.insert(format!("{}-{number}.txt", unit.name), held[0].0.clone().into_bytes());
+    files.insert(format!("{}-{number}.trace", unit.name), trace_text(&held[0].1).into_bytes());
     Ok(files)
 }
 

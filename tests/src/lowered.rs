@@ -105,7 +105,8 @@ fn units(random: &mut Random, count: usize) -> Vec<Unit> {
     units
 }
 
-/// The functions of the units, lowered: by the rows of the list, which go by the addresses, the last function of the source first.
+/// The functions of the units, lowered: by the rows of the list, which go by the addresses, the last function of the source first unless
+/// they are defined together.
 fn lower(
     root: &Path,
     folder: &Path,
@@ -116,11 +117,14 @@ fn lower(
     for (index, unit) in units.iter().enumerate() {
         let object = folder.join(&unit.name).with_extension("cmo");
         let (_, listing) = tickbound(root, folder, &["extract", "--unroll", object.to_str().unwrap()]);
-        let rows: Vec<Vec<&str>> = listing.lines().skip(1).map(|line| line.split(' ').collect()).collect();
+        let mut rows: Vec<Vec<&str>> = listing.lines().skip(1).map(|line| line.split(' ').collect()).collect();
+        if !unit.together {
+            rows.reverse();
+        }
         if rows.len() != unit.functions.len() {
             return Err(format!("{} functions are listed, not {}", rows.len(), unit.functions.len()));
         }
-        for (row, function) in rows.iter().rev().zip(&unit.functions) {
+        for (row, function) in rows.iter().zip(&unit.functions) {
             let arguments = function.arguments.len();
             let [number, address] = [row[0], row[2]].map(|word| word.parse().unwrap_or(0));
             tally.kinds.entry(row[6].to_string()).and_modify(|count| *count += 1).or_insert(1);

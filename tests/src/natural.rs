@@ -30,6 +30,8 @@ pub struct Unit {
     pub text: String,
     /// whether it is compiled with -g; then it has no `ref`, which would be kept as a block
     pub debug: bool,
+    /// whether its functions are defined together, and share a closure
+    pub together: bool,
     /// of the record
     pub fields: usize,
     pub constructors: usize,
@@ -368,13 +370,19 @@ fn function(random: &mut Random, unit: &mut Unit, constants: &[Number]) -> Strin
     let statement = body.statement();
     let (result, _) = body.with_let();
     unit.functions.push(Function { name: name.clone(), arguments });
-    format!("let {name}{taken} =\n  {statement};\n  {result}\n")
+    let head = match (unit.together, unit.functions.len()) {
+        (false, _) => "let",
+        (true, 1) => "let rec",
+        (true, _) => "and",
+    };
+    format!("{head} {name}{taken} =\n  {statement};\n  {result}\n")
 }
 
 /// A unit of one to three functions, of at most `most`.
 pub fn unit(random: &mut Random, name: String, most: usize) -> Unit {
     let (debug, fields, constructors) = (random.one_in(4), random.within(1, 6), random.within(2, 6));
-    let mut unit = Unit { name, text: String::new(), debug, fields, constructors, functions: Vec::new() };
+    let together = random.one_in(4);
+    let mut unit = Unit { name, text: String::new(), debug, together, fields, constructors, functions: Vec::new() };
     let fields: Vec<String> = (0..unit.fields).map(|n| format!("mutable f{n} : int")).collect();
     let choices: Vec<String> = (0..unit.constructors).map(|n| format!("C{n}")).collect();
     let mut text = format!("type t = {{ {} }}\ntype s = {}\n", fields.join("; "), choices.join(" | "));

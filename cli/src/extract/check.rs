@@ -138,7 +138,7 @@ impl Check<'_> {
             Some(Relocation::Global(unit)) if unit == b"Stdlib" => {
                 field.and_then(|field| usize::try_from(field).ok()).map_or(Callee::Unknown, Callee::Standard)
             }
-            Some(Relocation::Global(unit)) => Callee::Named([unit.as_slice(), b".*"].concat()),
+            Some(Relocation::Global(unit)) => Callee::Of(unit.clone()),
             _ => Callee::Unknown,
         }
     }
@@ -166,10 +166,11 @@ impl Check<'_> {
         Some(match text.as_str() {
             "caml_int_compare" => Fault::Compare,
             _ if compared.iter().any(|part| text == format!("caml_{part}")) => Fault::Untyped(text),
-            _ if of(&["array", "make_vect", "floatarray", "obj"]) => Fault::Array(text),
-            _ if text.starts_with("caml_") && text.contains("float") => Fault::Float(text),
-            _ if of(&["string", "bytes", "create_bytes", "blit_"]) => Fault::Text(text),
+            _ if of(&["array", "make_vect", "floatarray"]) => Fault::Array(text),
             _ if of(&["int32", "int64", "nativeint"]) => Fault::Boxed(text),
+            _ if of(&[""]) && text.contains("float") => Fault::Float(text),
+            _ if of(&[""]) && ["string", "bytes"].iter().any(|part| text.contains(part)) => Fault::Text(text),
+            _ if of(&[""]) => Fault::Library(text),
             _ => Fault::Name(name.clone()),
         })
     }

@@ -36,6 +36,8 @@ pub enum Fault {
     Tags(&'static str),
     Method(&'static str),
     ManyArguments,
+    /// a primitive of OCaml's own library
+    Library(String),
     /// a primitive whose name is none of the card's
     Name(Vec<u8>),
     /// an argument that is past its limit
@@ -61,6 +63,8 @@ pub enum Callee {
     /// a function of the standard library, by its field
     Standard(usize),
     Named(Vec<u8>),
+    /// a function of another unit
+    Of(Vec<u8>),
     Unknown,
 }
 
@@ -82,6 +86,7 @@ impl fmt::Display for Callee {
                 None => write!(to, "a function of Stdlib"),
             },
             Callee::Named(name) => write!(to, "`{}`", told(name)),
+            Callee::Of(unit) => write!(to, "a function of {}", told(unit)),
             Callee::Unknown => write!(to, "another function"),
         }
     }
@@ -158,6 +163,7 @@ impl Fault {
             Fault::ManyArguments => {
                 write!(to, "an external with more than five arguments (C_CALLN) has no kind: give it at most five")
             }
+            Fault::Library(name) => write!(to, "what OCaml's library does ({name}) has no kind: use an external of the card"),
             Fault::Name(name) => write!(
                 to,
                 "{} is no name of a primitive: name the external by 1 to 8 capital letters, digits and _, a capital letter first",

@@ -249,6 +249,28 @@ fn a_counted_loop_is_written_out() {
     assert_eq!(lowered(unknown, true).1, [Fault::Loop]);
 }
 
+#[test]
+fn a_loop_that_sets_its_counter_is_not_written_out() {
+    let with = |steps: Vec<Step>| {
+        let mut all = counted(3);
+        all.splice(10..12, steps);
+        lowered(all, true).1
+    };
+    let assign = |entry| vec![Step::Acc(1), Step::Numbered("ASSIGN", entry)];
+    assert_eq!(with(assign(0)), [Fault::Loop]);
+    assert_eq!(with(assign(1)), [Fault::Loop]);
+    assert_eq!(with(assign(2)), []);
+    // the same with an entry more on the stack
+    let deeper = |entry| {
+        let pop = Step::Numbered("POP", 1);
+        vec![Step::Acc(1), Step::Push, Step::Const(5), Step::Numbered("ASSIGN", entry), pop]
+    };
+    assert_eq!(with(deeper(0)), []);
+    assert_eq!(with(deeper(1)), [Fault::Loop]);
+    assert_eq!(with(deeper(2)), [Fault::Loop]);
+    assert_eq!(with(vec![Step::Acc(1), Step::Push]), [Fault::Loop]);
+}
+
 /// The steps of a run, a conditional branch that jumps apart from one that does not; what an ACC reads is the next input.
 fn run(items: &[Item], inputs: &[bool]) -> (Vec<String>, bool) {
     let (mut at, mut accumulator, mut read) = (0, false, 0);

@@ -132,6 +132,48 @@ fn constant(items: &[Item], push: usize) -> Option<(i32, usize)> {
     None
 }
 
+/// How many entries a step leaves more on the stack.
+fn growth(step: &Step) -> i32 {
+    match step {
+        Step::Push => 1,
+        Step::Numbered("POP", count) => count.saturating_neg(),
+        Step::Numbered("SETFIELD", _) => -1,
+        Step::Plain("NEGINT" | "BOOLNOT") => 0,
+        Step::Plain(_) => -1,
+        Step::Call(name, _) => i32::from(b'1') - i32::from(name.as_bytes()[name.len() - 1]),
+        _ => 0,
+    }
+}
+
+/// Whether a turn leaves the stack as high as it was and sets neither the end nor the counter, which are on top before it.
+fn keeps_counter(turn: &[Item]) -> bool {
+    if turn.iter().any(|item| item.step == Step::Other) {
+        // what has a fault is told by itself
+        return true;
+    }
+    let mut heights: BTreeMap<Label, i32> = BTreeMap::new();
+    let mut height = Some(0);
+    for Item { step, .. } in turn {
+        if let Step::Label(label) = step {
+            let known = *heights.entry(*label).or_insert(height.unwrap_or(0));
+            if height.is_some_and(|height| height != known) {
+                return false;
+            }
+            height = Some(known);
+        }
+        let Some(before) = height else { continue };
+        let after = before.saturating_add(growth(step));
+        let sets =
+            matches!(step, Step::Numbered("ASSIGN", entry) if (before..=before.saturating_add(1)).contains(entry));
+        let unlike = |label: &Label| *heights.entry(*label).or_insert(after) != after;
+        if sets || after < 0 || step.targets().iter().any(unlike) {
+            return false;
+        }
+        height = step.goes_on().then_some(after);
+    }
+    height == Some(0)
+}
+
 /// Whether the loop is left and entered at its ends alone, and the accumulator is set before it is read in a turn and behind the loop.
 fn is_closed(body: &Body, found: &For, again: Label, exit: Label) -> bool {
     let places = body.places();
@@ -144,6 +186,7 @@ fn is_closed(body: &Body, found: &For, again: Label, exit: Label) -> bool {
     let accumulator = Accumulator::of(body);
     body.items.iter().enumerate().all(stays)
         && jumps(again) == 1
+        && keeps_counter(&body.items[found.turn.clone()])
         && accumulator.is_set_at(found.turn.start)
         && accumulator.is_set_from(exit)
 }
