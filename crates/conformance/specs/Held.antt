@@ -1,7 +1,7 @@
 -- What the internal functions are handed.
 use Prim.Native.Nat.{ℕ}
 use mathlib.Core.List.{List}
-use Rattle.states.specs.Columns.{codeOf}
+use Rattle.states.specs.Program.{codeOf}
 use Rattle.states.specs.View.{whole}
 use Rattle.reader.specs.declared.Routine.{Routine}
 use Rattle.reader.specs.Reader.{codes, operands, cycles, words, extras, sizes, answers}

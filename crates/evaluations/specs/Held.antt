@@ -1,6 +1,6 @@
 -- The routine that the code's arrays hold, and how large CYCLES can be.
 use Prim.Native.Nat.{_≤_}
-use Rattle.states.specs.Columns.{codeOf}
+use Rattle.states.specs.Program.{codeOf}
 use Rattle.states.specs.View.{whole}
 use Rattle.routine.specs.Routine as readings
 use Rattle.reader.specs.declared.Routine.{Routine}

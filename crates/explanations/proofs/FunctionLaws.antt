@@ -12,7 +12,7 @@ use Rattle.text.specs.Text.{Line, lines}
 use Rattle.text.proofs.MemoryLaws.{Wrote}
 use Rattle.cells.specs.Cells.{unknown}
 use Rattle.machine.specs.Machine.{step}
-use Rattle.states.specs.Columns.{codeOf}
+use Rattle.states.specs.Program.{codeOf}
 use Rattle.bounds.specs.Tree.{bound}
 use Rattle.bounds.specs.Tree as bounds
 use Rattle.findings.specs.declared.Found.{Found}

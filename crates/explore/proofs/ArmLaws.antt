@@ -21,7 +21,7 @@ use Rattle.instructions.specs.Columns.{operationOf}
 use Rattle.states.specs.declared.State.{State}
 use Rattle.states.specs.declared.code.Line.{Line}
 use Rattle.states.specs.View.{view, WellFormed, Fits, whole}
-use Rattle.states.specs.Columns.{codeOf, lineOf}
+use Rattle.states.specs.Program.{codeOf, lineOf}
 use Rattle.states.proofs.StateLaws.{placed}
 use Rattle.findings.specs.declared.Found.{Found}
 use Rattle.findings.specs.declared.Tally.{Tally}

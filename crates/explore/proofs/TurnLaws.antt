@@ -16,7 +16,7 @@ use Rattle.outcomes.proofs.TurnLaws as turn
 use Rattle.states.specs.declared.State.{State}
 use Rattle.states.specs.declared.code.Line.{Line}
 use Rattle.states.specs.View.{view, WellFormed, Fits, whole}
-use Rattle.states.specs.Columns.{codeOf, lineOf}
+use Rattle.states.specs.Program.{codeOf, lineOf}
 use Rattle.states.proofs.StateLaws.{height-is, pushed, push-is, push-formed, stored, store-is, advance-whole}
 use Rattle.findings.specs.declared.Tally.{Tally}
 use Rattle.findings.specs.Found.{moreOf}

@@ -10,7 +10,7 @@ use states::Slot;
 use states::State;
 use states::code::Fetched;
 ghost use Rattle.states.specs.View.{whole};
-ghost use Rattle.states.specs.Columns.{codeOf, Sized};
+ghost use Rattle.states.specs.Program.{codeOf, Sized};
 ghost use Rattle.explore.specs.Contract.{Explorable, Explores, SafeUnder, ExactFor, Bounded};
 
 // Every way from `start`: a loop of steps, and a call for each way of an unknown branch. The cells of the stack and of the blocks are written

@@ -12,7 +12,7 @@ ghost use mathlib.Core.Path.{_≡_};
 ghost use mathlib.Core.List.{_++_};
 ghost use Prim.Native.Nat.{_≤_};
 ghost use lib.ListN.{length, drop};
-ghost use Rattle.states.specs.Columns.{codeOf, Sized};
+ghost use Rattle.states.specs.Program.{codeOf, Sized};
 ghost use Rattle.states.specs.View.{whole};
 ghost use Rattle.bounds.specs.Tree.{bound};
 ghost use Rattle.bounds.specs.Run.{begin, after, boundedAfresh};

@@ -8,7 +8,7 @@ ghost use Rattle.text.specs.Text.{lines};
 ghost use Rattle.text.specs.Memory.{over};
 ghost use Rattle.cells.specs.Cells.{unknown};
 ghost use Rattle.machine.specs.Machine.{step};
-ghost use Rattle.states.specs.Columns.{codeOf, Sized};
+ghost use Rattle.states.specs.Program.{codeOf, Sized};
 ghost use Rattle.states.specs.View.{WellFormed, Fits, whole};
 ghost use Rattle.report.specs.Decode.{decode};
 ghost use Rattle.walks.specs.Walk.{follow};

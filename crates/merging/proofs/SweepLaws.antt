@@ -14,7 +14,7 @@ use Rattle.cells.specs.declared.Cell.{Cell}
 use Rattle.cells.specs.Cells.{unknown}
 use Rattle.machine.specs.Machine.{State, Code, step, reblock}
 use Rattle.states.specs.declared.State as code
-use Rattle.states.specs.Columns.{instructionsOf, codeOf}
+use Rattle.states.specs.Program.{instructionsOf, codeOf}
 use Rattle.states.specs.View.{WellFormed, whole}
 use Rattle.bounds.specs.Tree.{Report, Verdict}
 use Rattle.findings.specs.declared.Found.{Found}

@@ -16,7 +16,7 @@ ghost use Rattle.cells.specs.Codes.{Kept};
 ghost use Rattle.cells.specs.Cells.{unknown};
 ghost use Rattle.machine.specs.Machine.{step};
 ghost use Rattle.machine.specs.Order.{Cellwise};
-ghost use Rattle.states.specs.Columns.{codeOf, Sized};
+ghost use Rattle.states.specs.Program.{codeOf, Sized};
 ghost use Rattle.states.specs.View.{WellFormed, whole};
 ghost use Rattle.bounds.specs.Tree.{Report};
 ghost use Rattle.steps.specs.Step.{SmallPrice};

@@ -24,7 +24,7 @@ use Rattle.instructions.specs.declared.Operation.the-variants.{Nothing, Access,
 use Rattle.instructions.specs.Kinds.{Kind, kindNames, operand, calls, addresses}
 use Rattle.instructions.specs.Columns.{kindAt, operationCode, unaryCode, binaryCode, comparisonCode, operations, operationOf}
 use Rattle.machine.specs.Machine.{Price, Instruction, instruction, priceOf}
-use Rattle.states.specs.Columns.{line, lineOf, instructionsOf}
+use Rattle.states.specs.Program.{line, lineOf, instructionsOf}
 use Rattle.routine.specs.Rows.{op, arg, value, cycleCounts, wordCounts, extraCounts}
 use Rattle.routine.specs.Routine.{inside, naturalAt, PriceList, prices, argumentValue, instructionOf}
 use Rattle.routine.proofs.RangeLaws.{natural-inside}

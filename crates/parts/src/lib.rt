@@ -15,7 +15,7 @@ ghost use Rattle.numbers.specs.Numbers.{IsNumber, numbers};
 ghost use Rattle.cells.specs.Cells.{number};
 ghost use Rattle.instructions.specs.Kinds.{operand};
 ghost use Rattle.instructions.specs.Columns.{kindAt};
-ghost use Rattle.states.specs.Columns.{line, lineOf, instructionsOf};
+ghost use Rattle.states.specs.Program.{line, lineOf, instructionsOf};
 ghost use Rattle.states.specs.View.{view, WellFormed, blocksOf};
 ghost use Rattle.routine.specs.Layout.{list};
 ghost use Rattle.routine.specs.Rows.{value, total};

@@ -14,7 +14,7 @@ use Rattle.cells.specs.Codes.{Kept}
 use Rattle.machine.specs.Machine.{State}
 use Rattle.machine.specs.Order.{Cellwise}
 use Rattle.routine.proofs.StartLaws.{start-kept}
-use Rattle.states.specs.Columns.{instructionsOf, codeOf, Sized}
+use Rattle.states.specs.Program.{instructionsOf, codeOf, Sized}
 use Rattle.states.specs.View.{view, Fits, whole}
 use Rattle.states.specs.declared.State as code
 use Rattle.states.specs.View as view-of

@@ -7,7 +7,7 @@ use lib.ListN.{length, getD, take}
 use Rattle.text.specs.Text.{Line}
 use Rattle.cells.specs.Codes.{Kept}
 use Rattle.machine.specs.Order.{Cellwise}
-use Rattle.states.specs.Columns.{instructionsOf, codeOf, Sized}
+use Rattle.states.specs.Program.{instructionsOf, codeOf, Sized}
 use Rattle.states.specs.View.{WellFormed, Fits, whole}
 use Rattle.routine.specs.Layout.{body, codeLines}
 use Rattle.routine.specs.Routine as readings

@@ -10,7 +10,7 @@ ghost use mathlib.Core.List.{List};
 ghost use Prim.Native.Nat.{ℕ, suc, _<_, _≤_};
 ghost use lib.IntN.{ℤ};
 ghost use lib.ListN.{drop};
-ghost use Rattle.states.specs.Columns.{codeOf, Sized};
+ghost use Rattle.states.specs.Program.{codeOf, Sized};
 ghost use Rattle.states.specs.View.{WellFormed, Fits, whole};
 ghost use Rattle.bounds.specs.Run.{begin, answer, remaining, after, judgeRun, run};
 ghost use Rattle.runs.specs.Progress.{ofProgress};

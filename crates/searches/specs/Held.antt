@@ -9,7 +9,7 @@ use lib.ListN.{length}
 use Rattle.cells.specs.declared.Cell.{Cell}
 use Rattle.machine.specs.Machine.{State, Code}
 use Rattle.states.specs.declared.State as states
-use Rattle.states.specs.Columns.{Sized}
+use Rattle.states.specs.Program.{Sized}
 use Rattle.bounds.specs.Tree.{Verdict, bound}
 use Rattle.findings.specs.declared.Found.{Found}
 use Rattle.findings.specs.Found.{Shows}

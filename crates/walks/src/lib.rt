@@ -4,7 +4,7 @@ use states::State;
 use steps::Next;
 ghost use Prim.Native.Nat.{_+_, _≤_};
 ghost use lib.ListN.{length};
-ghost use Rattle.states.specs.Columns.{codeOf, Sized};
+ghost use Rattle.states.specs.Program.{codeOf, Sized};
 ghost use Rattle.states.specs.View.{WellFormed, Fits};
 ghost use Rattle.walks.specs.Held.{StepsOn};
 

@@ -47,8 +47,8 @@ use Rattle.outcomes.proofs.ArmLaws as arms
 use Rattle.states.specs.declared.State.{State}
 use Rattle.states.specs.declared.code.Line.{Line}
 use Rattle.states.specs.View.{view, whole, ofSlot}
-use Rattle.states.specs.Columns.{codeOf, lineOf, ofFetched, Known}
-use Rattle.states.proofs.ColumnLaws.{fetch-within}
+use Rattle.states.specs.Program.{codeOf, lineOf, ofFetched, Known}
+use Rattle.states.proofs.ProgramLaws.{fetch-within}
 use Rattle.states.proofs.Stack.{length-images}
 use Rattle.states.proofs.StateLaws.{store-formed}
 use Rattle.findings.specs.declared.Found.{Found}

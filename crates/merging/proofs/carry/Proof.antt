@@ -5,7 +5,7 @@ use native.Mathlib.Omega.{arith}
 use lib.ListN.{length}
 use Rattle.refusals.specs.declared.Refusal.the-variants.{Stuck}
 use Rattle.machine.specs.Machine.{stops, step}
-use Rattle.states.specs.Columns.{codeOf}
+use Rattle.states.specs.Program.{codeOf}
 use Rattle.states.specs.View.{whole}
 use Rattle.steps.specs.Step.{ofPrice, Small}
 use Rattle.merges.specs.Merge.{arrive, reach, finish}

@@ -4,7 +4,7 @@ use Prim.Native.Nat.{_+_, _-_, _<_, _≤_}
 use mathlib.Core.Path.{refl}
 use native.Mathlib.Omega.{arith}
 use lib.ListN.{length}
-use Rattle.states.specs.Columns.{codeOf}
+use Rattle.states.specs.Program.{codeOf}
 use Rattle.states.specs.View.{whole}
 use Rattle.merges.specs.Merge.{merged}
 use Rattle.merging.proofs.SweepLaws.{Going, code-count, code-first, begins, goes-on, ends, finishes, figures-all}

@@ -7,7 +7,7 @@ use borrow.Rule.Slice.PartMut.{same-len-mid}
 use Rattle.refusals.specs.declared.Refusal.the-variants.{NoMeeting}
 use Rattle.cells.specs.Cells.{unknown}
 use Rattle.machine.specs.Machine.{step}
-use Rattle.states.specs.Columns.{codeOf}
+use Rattle.states.specs.Program.{codeOf}
 use Rattle.merging.specs.declared.Mark.{Mark}
 use Rattle.merging.specs.Pass.{Held, most, stopped, moved}
 use Rattle.arrivals.proofs.PartLaws.{row-length}

@@ -10,7 +10,7 @@ use Rattle.machine.specs.Machine.{Instruction}
 use mir.Syntax.{w32}
 use mir.ValLaws.{toZ-ofZ}
 use lib.IntN.{ℤ}
-use Rattle.states.specs.Columns.{line, lineOf, instructionsOf}
+use Rattle.states.specs.Program.{line, lineOf, instructionsOf}
 use Rattle.routine.specs.Layout.{list}
 use Rattle.routine.specs.Routine.{PriceList, instructionOf}
 use Rattle.parts.specs.Parts.{pricesOn}

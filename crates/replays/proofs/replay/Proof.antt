@@ -5,7 +5,7 @@ use lib.ListN.{length}
 use native.Mathlib.Omega.{arith}
 use borrow.Author.Needs.{needs}
 use borrow.Author.Tests.{not-true, not-false}
-use Rattle.states.specs.Columns.{codeOf}
+use Rattle.states.specs.Program.{codeOf}
 use Rattle.states.specs.View.{whole}
 use Rattle.traces.specs.Traces.{entries}
 use Rattle.replays.specs.Replay.{replay}
