@@ -16,7 +16,7 @@ ghost use Rattle.cells.specs.Codes.{Kept};
 ghost use Rattle.cells.specs.Cells.{unknown};
 ghost use Rattle.machine.specs.Machine.{step};
 ghost use Rattle.machine.specs.Order.{Cellwise};
-ghost use Rattle.states.specs.Program.{codeOf, Sized};
+ghost use Rattle.states.specs.Program.{programOf, sizesOf, Formed};
 ghost use Rattle.states.specs.View.{WellFormed, whole};
 ghost use Rattle.bounds.specs.Tree.{Report};
 ghost use Rattle.steps.specs.Step.{SmallPrice};
@@ -38,8 +38,8 @@ fn onward(
     w: Way,
 ) -> bool
     requires { ⌜ Rows (now heads) (now entries) (now fields) × (n ≤ 1025) × (first ≤ 65536) × (j < n) × (Formed w × Numeric (now sizes) w) × Small (now sizes) ⌝ }
-    ensures { λ r. ⌜ ((b : ℕ) → j < b → b < n → waiting (now (sizes .entry)) r w (j + 1) b (slotAt (now (sizes .entry)) first (now (heads .exit)) (now (entries .exit)) (now (fields .exit)) b) ≡ joinAt (first + b) (arrivalOf (now (sizes .entry)) w) (slotAt (now (sizes .entry)) first (now (heads .entry)) (now (entries .entry)) (now (fields .entry)) b)) ⌝ }
-    ensures { λ r. ⌜ Comes (now (sizes .entry)) r w (first + (j + 1)) ⌝ }
+    ensures { λ r. ⌜ ((b : ℕ) → j < b → b < n → waiting (sizesOf (now (code .entry))) r w (j + 1) b (slotAt (sizesOf (now (code .entry))) first (now (heads .exit)) (now (entries .exit)) (now (fields .exit)) b) ≡ joinAt (first + b) (arrivalOf (sizesOf (now (code .entry))) w) (slotAt (sizesOf (now (code .entry))) first (now (heads .entry)) (now (entries .entry)) (now (fields .entry)) b)) ⌝ }
+    ensures { λ r. ⌜ Comes (sizesOf (now (code .entry))) r w (first + (j + 1)) ⌝ }
 {
     let s = w.state;
     let at = s.at;
@@ -99,8 +99,8 @@ fn reach(
     w: Way,
 ) -> Came
     requires { ⌜ Row (now head) (now entries) (now fields) × Comes (now sizes) here w at × Small (now sizes) ⌝ }
-    ensures { λ r. ⌜ cameAs (now (sizes .entry)) (r .mark) (r .way) ≡ with (now (sizes .entry)) here w (slotIn (now (sizes .entry)) at (now (head .entry)) (now (entries .entry)) (now (fields .entry))) ⌝ }
-    ensures { λ r. ⌜ Held (now (sizes .entry)) (r .mark) (r .way) at ⌝ }
+    ensures { λ r. ⌜ cameAs (sizesOf (now (code .entry))) (r .mark) (r .way) ≡ with (sizesOf (now (code .entry))) here w (slotIn (sizesOf (now (code .entry))) at (now (head .entry)) (now (entries .entry)) (now (fields .entry))) ⌝ }
+    ensures { λ r. ⌜ Held (sizesOf (now (code .entry))) (r .mark) (r .way) at ⌝ }
 {
     if !here {
         return found(at, head, entries, fields, w);
@@ -187,28 +187,17 @@ fn carry(
     f: Found,
     w: Way,
 ) -> Pass
-    requires { ⌜ Sized (now codes) (now operands) (now cycles) (now words) (now extras) ⌝ }
+    requires { ⌜ Formed (now code) ⌝ }
     requires { ⌜ Rows (now heads) (now entries) (now fields) × (n ≤ 1025) × (first + length (now codes) ≤ 65536) × (j < n) × Small (now sizes) ⌝ }
     requires { ⌜ (Formed w × Numeric (now sizes) w) × (w .state .at ≡ first + j) × (w .cycles ≤ most j) × (w .words ≤ most j) × Figures j f ⌝ }
     requires { ⌜ ((b : ℕ) → j < b → b < n → Spent (most j) (slotAt (now sizes) first (now heads) (now entries) (now fields) b)) ⌝ }
-    ensures { λ r. ⌜ Ready (now (sizes .entry)) first n (j + 1) (now (heads .exit)) (now (entries .exit)) (now (fields .exit)) r ⌝ }
-    ensures { λ r. ⌜ ((tab : Table) (q : Report) → f ≡ acceptedAs q → ((b : ℕ) → j < b → b < n → slot (tab (first + b)) ≡ slotAt (now (sizes .entry)) first (now (heads .entry)) (now (entries .entry)) (now (fields .entry)) b) → Moved (now (sizes .entry)) first n (j + 1) (λ rest. carry rest (first + j) tab q (whole (now (sizes .entry)) (w .blocks) (w .state)) (spentOf w) (step (codeOf first (now (codes .entry)) (now (operands .entry)) (now (cycles .entry)) (now (words .entry)) (now (extras .entry))) unknown (whole (now (sizes .entry)) (w .blocks) (w .state)))) (now (heads .exit)) (now (entries .exit)) (now (fields .exit)) r) ⌝ }
+    ensures { λ r. ⌜ Ready (sizesOf (now (code .entry))) first n (j + 1) (now (heads .exit)) (now (entries .exit)) (now (fields .exit)) r ⌝ }
+    ensures { λ r. ⌜ ((tab : Table) (q : Report) → f ≡ acceptedAs q → ((b : ℕ) → j < b → b < n → slot (tab (first + b)) ≡ slotAt (sizesOf (now (code .entry))) first (now (heads .entry)) (now (entries .entry)) (now (fields .entry)) b) → Moved (sizesOf (now (code .entry))) first n (j + 1) (λ rest. carry rest (first + j) tab q (whole (sizesOf (now (code .entry))) (w .blocks) (w .state)) (spentOf w) (step (programOf (now (code .entry))) unknown (whole (sizesOf (now (code .entry))) (w .blocks) (w .state)))) (now (heads .exit)) (now (entries .exit)) (now (fields .exit)) r) ⌝ }
 {
     let s = w.state;
     let b = w.blocks;
     let answer = cells::unknown();
-    let stepped = steps::step(
-        codes,
-        operands,
-        cycles,
-        words,
-        extras,
-        sizes,
-        first,
-        answer,
-        s,
-        b,
-    );
+    let stepped = steps::step(code, answer, s, b);
     let next = stepped.next;
     let state = stepped.state;
     let blocks = stepped.blocks;
@@ -263,11 +252,11 @@ fn visit(
     j: usize,
     p: Pass,
 ) -> Pass
-    requires { ⌜ Sized (now codes) (now operands) (now cycles) (now words) (now extras) ⌝ }
+    requires { ⌜ Formed (now code) ⌝ }
     requires { ⌜ (n ≤ 1025) × (first + length (now codes) ≤ 65536) × (j < n) × Small (now sizes) ⌝ }
     requires { ⌜ Ready (now sizes) first n j (now heads) (now entries) (now fields) p ⌝ }
-    ensures { λ r. ⌜ Ready (now (sizes .entry)) first n (j + 1) (now (heads .exit)) (now (entries .exit)) (now (fields .exit)) r ⌝ }
-    ensures { λ r. ⌜ ((tab : Table) (q : Report) → p .found ≡ acceptedAs q → Agrees (now (sizes .entry)) first n j tab (now (heads .entry)) (now (entries .entry)) (now (fields .entry)) (p .here) (p .way) → Moved (now (sizes .entry)) first n (j + 1) (λ rest. visit (step (codeOf first (now (codes .entry)) (now (operands .entry)) (now (cycles .entry)) (now (words .entry)) (now (extras .entry))) unknown) rest (first + j) tab q (slot (tab (first + j)))) (now (heads .exit)) (now (entries .exit)) (now (fields .exit)) r) ⌝ }
+    ensures { λ r. ⌜ Ready (sizesOf (now (code .entry))) first n (j + 1) (now (heads .exit)) (now (entries .exit)) (now (fields .exit)) r ⌝ }
+    ensures { λ r. ⌜ ((tab : Table) (q : Report) → p .found ≡ acceptedAs q → Agrees (sizesOf (now (code .entry))) first n j tab (now (heads .entry)) (now (entries .entry)) (now (fields .entry)) (p .here) (p .way) → Moved (sizesOf (now (code .entry))) first n (j + 1) (λ rest. visit (step (programOf (now (code .entry))) unknown) rest (first + j) tab q (slot (tab (first + j)))) (now (heads .exit)) (now (entries .exit)) (now (fields .exit)) r) ⌝ }
 {
     let at = first + j;
     let head = 5 * j;
@@ -321,20 +310,10 @@ fn visit(
 
 // The merging bound from `start` with `blocks`. Ways over jumps wait in the rows of three arrays, one row for each address up to that after
 // the last; the way from the address before is at hand.
-pub fn merge(
-    codes: &[u8],
-    operands: &[i32],
-    cycles: &[u32],
-    words: &[u32],
-    extras: &[u32],
-    sizes: &[u8],
-    first: usize,
-    start: State,
-    blocks: [Cell; 128],
-) -> Found
-    requires { ⌜ Sized (now codes) (now operands) (now cycles) (now words) (now extras) ⌝ }
+pub fn merge(code: &[u32; 5131], start: State, blocks: [Cell; 128]) -> Found
+    requires { ⌜ Formed (now code) ⌝ }
     requires { ⌜ (first + length (now codes) ≤ 65536) × Small (now sizes) × WellFormed start × (length blocks ≡ 128) × Cellwise Kept (whole (now sizes) blocks start) (whole (now sizes) blocks start) × (first ≤ start .at) × (start .at ≤ first + length (now codes)) ⌝ }
-    ensures { λ r. ⌜ Shows r (merged (codeOf first (now (codes .entry)) (now (operands .entry)) (now (cycles .entry)) (now (words .entry)) (now (extras .entry))) (whole (now (sizes .entry)) blocks start)) ⌝ }
+    ensures { λ r. ⌜ Shows r (merged (programOf (now (code .entry))) (whole (sizesOf (now (code .entry))) blocks start)) ⌝ }
     ensures { λ r. ⌜ Figures 1025 r ⌝ }
 {
     let mut heads = [0; 5125];
