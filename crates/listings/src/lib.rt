@@ -8,7 +8,7 @@ ghost use Rattle.text.specs.Text.{lines};
 ghost use Rattle.text.specs.Memory.{over};
 ghost use Rattle.cells.specs.Cells.{unknown};
 ghost use Rattle.machine.specs.Machine.{step};
-ghost use Rattle.states.specs.Program.{programOf, sizesOf, Formed};
+ghost use Rattle.states.specs.Program.{firstOf, linesIn, programOf, sizesOf, Formed};
 ghost use Rattle.states.specs.View.{WellFormed, whole};
 ghost use Rattle.report.specs.Decode.{decode};
 ghost use Rattle.walks.specs.Walk.{follow};
@@ -61,9 +61,9 @@ pub fn put_walk(
     path: u64,
 ) -> usize
     requires { ⌜ Formed (now code) × WellFormed start ⌝ }
-    requires { ⌜ at + length (listing (lines (now body)) first (entries (follow (step (codeOf first (now codes) (now operands) (now cycles) (now words) (now extras)) unknown) (length (now codes)) (decode path) (whole (now sizes) fields start)))) ≤ length (now out) ⌝ }
-    ensures { λ r. ⌜ r ≡ at + length (listing (lines (now (body .entry))) first (entries (follow (step (programOf (now (code .entry))) unknown) (length (now (codes .entry))) (decode path) (whole (sizesOf (now (code .entry))) fields start)))) ⌝ }
-    ensures { λ _. ⌜ now (out .exit) ≡ over (now (out .entry)) at (listing (lines (now (body .entry))) first (entries (follow (step (programOf (now (code .entry))) unknown) (length (now (codes .entry))) (decode path) (whole (sizesOf (now (code .entry))) fields start)))) ⌝ }
+    requires { ⌜ at + length (listing (lines (now body)) (firstOf (now code)) (entries (follow (step (programOf (now code)) unknown) (linesIn (now code)) (decode path) (whole (sizesOf (now code)) fields start)))) ≤ length (now out) ⌝ }
+    ensures { λ r. ⌜ r ≡ at + length (listing (lines (now (body .entry))) (firstOf (now (code .entry))) (entries (follow (step (programOf (now (code .entry))) unknown) (linesIn (now (code .entry))) (decode path) (whole (sizesOf (now (code .entry))) fields start)))) ⌝ }
+    ensures { λ _. ⌜ now (out .exit) ≡ over (now (out .entry)) at (listing (lines (now (body .entry))) (firstOf (now (code .entry))) (entries (follow (step (programOf (now (code .entry))) unknown) (linesIn (now (code .entry))) (decode path) (whole (sizesOf (now (code .entry))) fields start)))) ⌝ }
 {
     let mut e = at;
     let mut state = start;
@@ -71,7 +71,8 @@ pub fn put_walk(
     let mut rest = path;
     let mut spent: u64 = 0;
     let mut sum: u64 = 0;
-    let mut left = codes.len();
+    let first = code[0] as usize;
+    let mut left = code[1] as usize;
     while 0 < left {
         let walked = walks::walk(code, rest, state, blocks);
         if !walked.made {

@@ -54,12 +54,12 @@ fn is_moved_by(
     p: Position,
     n: i32,
 ) -> bool
-    requires { ⌜ Searchable (now codes) (now operands) (now cycles) (now words) (now extras) (now sizes) first fields start budget × Present p (whole (now sizes) fields start) ⌝ }
+    requires { ⌜ Searchable (now code) start budget × Present p (whole (sizesOf (now code)) fields start) ⌝ }
     ensures { λ r. ⌜ r ≡ moved figure (bound (programOf (now (code .entry))) budget (replaceAt p (number n) (whole (sizesOf (now (code .entry))) fields start))) ⌝ }
 {
     let c = cells::number(n);
-    let state = changes::with_entry(sizes, start, fields, p, c);
-    let blocks = changes::with_field(sizes, start, fields, p, c);
+    let state = changes::with_entry(code, start, fields, p, c);
+    let blocks = changes::with_field(code, start, fields, p, c);
     let found = explore::explore(code, state, blocks, 32, budget);
     is_moved(figure, found)
 }
@@ -74,7 +74,7 @@ fn try_value(
     p: Position,
     v: i64,
 ) -> Hit
-    requires { ⌜ Searchable (now codes) (now operands) (now cycles) (now words) (now extras) (now sizes) first fields start budget × Present p (whole (now sizes) fields start) ⌝ }
+    requires { ⌜ Searchable (now code) start budget × Present p (whole (sizesOf (now code)) fields start) ⌝ }
     ensures { λ r. ⌜ ofHit r ≡ firstMoved (programOf (now (code .entry))) budget figure (whole (sizesOf (now (code .entry))) fields start) (changeTo p v) ⌝ }
 {
     if !numbers::within(numbers::number_range(), v) {
@@ -97,10 +97,10 @@ fn try_place(
     amount: usize,
     p: Position,
 ) -> Hit
-    requires { ⌜ Searchable (now codes) (now operands) (now cycles) (now words) (now extras) (now sizes) first fields start budget × (amount ≤ 64) ⌝ }
+    requires { ⌜ Searchable (now code) start budget × (amount ≤ 64) ⌝ }
     ensures { λ r. ⌜ ofHit r ≡ firstMoved (programOf (now (code .entry))) budget figure (whole (sizesOf (now (code .entry))) fields start) (changesAt (whole (sizesOf (now (code .entry))) fields start) amount p) ⌝ }
 {
-    let held = changes::number_at(sizes, start, fields, p);
+    let held = changes::number_at(code, start, fields, p);
     let Single::Number(n) = held else {
         return Hit::Nowhere;
     };
@@ -122,7 +122,7 @@ fn try_amount(
     figure: u64,
     amount: usize,
 ) -> Hit
-    requires { ⌜ Searchable (now codes) (now operands) (now cycles) (now words) (now extras) (now sizes) first fields start budget × (amount ≤ 64) ⌝ }
+    requires { ⌜ Searchable (now code) start budget × (amount ≤ 64) ⌝ }
     ensures { λ r. ⌜ ofHit r ≡ firstMoved (programOf (now (code .entry))) budget figure (whole (sizesOf (now (code .entry))) fields start) (changesBy (whole (sizesOf (now (code .entry))) fields start) amount) ⌝ }
 {
     let mut k = 0;
@@ -145,7 +145,7 @@ fn try_amounts(
     budget: usize,
     figure: u64,
 ) -> Hit
-    requires { ⌜ Searchable (now codes) (now operands) (now cycles) (now words) (now extras) (now sizes) first fields start budget ⌝ }
+    requires { ⌜ Searchable (now code) start budget ⌝ }
     ensures { λ r. ⌜ ofHit r ≡ nearest (λ t. moved figure (bound (programOf (now (code .entry))) budget t)) (whole (sizesOf (now (code .entry))) fields start) ⌝ }
 {
     let mut amount = 1;
@@ -161,7 +161,7 @@ fn try_amounts(
 
 // The nearest change of a start that moves its bound, or the bound's refusal.
 pub fn search(code: &[u32; 5131], start: State, fields: [Cell; 128], budget: usize) -> Sought
-    requires { ⌜ Searchable (now codes) (now operands) (now cycles) (now words) (now extras) (now sizes) first fields start budget ⌝ }
+    requires { ⌜ Searchable (now code) start budget ⌝ }
     ensures { λ r. ⌜ ofSought r ≡ search (programOf (now (code .entry))) budget (whole (sizesOf (now (code .entry))) fields start) ⌝ }
 {
     let found = explore::explore(code, start, fields, 32, budget);
