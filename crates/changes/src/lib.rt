@@ -7,7 +7,7 @@ ghost use mathlib.Core.Path.{_≡_};
 ghost use Prim.Native.Nat.{_≤_};
 ghost use lib.IntN.{pos, _+ℤ_, _-ℤ_};
 ghost use lib.ListN.{length};
-ghost use Rattle.states.specs.Program.{sizesOf, Formed};
+ghost use Rattle.states.specs.Program.{sizesOf, IsProgram};
 ghost use Rattle.states.specs.View.{view, WellFormed, blocksOf, whole};
 ghost use Rattle.changes.specs.Single.{single};
 ghost use Rattle.changes.specs.Places.{replaceAt};
@@ -66,7 +66,7 @@ pub fn position_of(k: usize) -> Position
 
 // The number of the cell at p, where the start has one there and it holds one number.
 pub fn number_at(code: &[u32; 5131], start: State, fields: [Cell; 128], p: Position) -> Single
-    requires { ⌜ Formed (now code) × WellFormed start ⌝ }
+    requires { ⌜ IsProgram (now code) × WellFormed start ⌝ }
     ensures { λ r. ⌜ ofSingle r ≡ numberAt p (whole (sizesOf (now (code .entry))) fields start) ⌝ }
 {
     match p {
@@ -97,7 +97,7 @@ pub fn with_entry(
     p: Position,
     c: Cell,
 ) -> State
-    requires { ⌜ Formed (now code) × WellFormed start × Present p (whole (sizesOf (now code)) fields start) ⌝ }
+    requires { ⌜ IsProgram (now code) × WellFormed start × Present p (whole (sizesOf (now code)) fields start) ⌝ }
     ensures { λ r. ⌜ view r ≡ replaceAt p c (view start) ⌝ }
     ensures { λ r. ⌜ WellFormed r ⌝ }
 {
@@ -127,7 +127,7 @@ pub fn with_field(
     p: Position,
     c: Cell,
 ) -> [Cell; 128]
-    requires { ⌜ Formed (now code) × WellFormed start × Present p (whole (sizesOf (now code)) fields start) ⌝ }
+    requires { ⌜ IsProgram (now code) × WellFormed start × Present p (whole (sizesOf (now code)) fields start) ⌝ }
     ensures { λ r. ⌜ blocksOf (sizesOf (now (code .entry))) r ≡ replaceAt p c (whole (sizesOf (now (code .entry))) fields start) .blocks ⌝ }
     ensures { λ r. ⌜ length r ≡ length fields ⌝ }
 {

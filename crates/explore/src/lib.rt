@@ -10,7 +10,7 @@ use states::Slot;
 use states::State;
 use states::code::Fetched;
 ghost use Rattle.states.specs.View.{whole};
-ghost use Rattle.states.specs.Program.{programOf, sizesOf, Formed};
+ghost use Rattle.states.specs.Program.{programOf, sizesOf, IsProgram};
 ghost use Rattle.explore.specs.Contract.{Explorable, Explores, SafeUnder, ExactFor, Bounded};
 
 // Every way from `start`: a loop of steps, and a call for each way of an unknown branch. The cells of the stack and of the blocks are written
@@ -22,7 +22,7 @@ pub fn explore(
     openings: usize,
     budget: usize,
 ) -> Found
-    requires { ⌜ Formed (now code) ⌝ }
+    requires { ⌜ IsProgram (now code) ⌝ }
     requires { ⌜ Explorable start openings budget ⌝ }
     ensures { λ r. ⌜ Explores (programOf (now (code .entry))) (sizesOf (now (code .entry))) blocks start openings budget r ⌝ }
     ensures safe { λ r. ⌜ SafeUnder (programOf (now (code .entry))) openings budget (whole (sizesOf (now (code .entry))) blocks start) r ⌝ }

@@ -8,7 +8,7 @@ ghost use Rattle.text.specs.Text.{lines};
 ghost use Rattle.text.specs.Memory.{over};
 ghost use Rattle.cells.specs.Cells.{unknown};
 ghost use Rattle.machine.specs.Machine.{step};
-ghost use Rattle.states.specs.Program.{firstOf, linesIn, programOf, sizesOf, Formed};
+ghost use Rattle.states.specs.Program.{firstOf, linesIn, programOf, sizesOf, IsProgram};
 ghost use Rattle.states.specs.View.{WellFormed, whole};
 ghost use Rattle.report.specs.Decode.{decode};
 ghost use Rattle.walks.specs.Walk.{follow};
@@ -60,7 +60,7 @@ pub fn put_walk(
     fields: [Cell; 128],
     path: u64,
 ) -> usize
-    requires { ⌜ Formed (now code) × WellFormed start ⌝ }
+    requires { ⌜ IsProgram (now code) × WellFormed start ⌝ }
     requires { ⌜ at + length (listing (lines (now body)) (firstOf (now code)) (entries (follow (step (programOf (now code)) unknown) (linesIn (now code)) (decode path) (whole (sizesOf (now code)) fields start)))) ≤ length (now out) ⌝ }
     ensures { λ r. ⌜ r ≡ at + length (listing (lines (now (body .entry))) (firstOf (now (code .entry))) (entries (follow (step (programOf (now (code .entry))) unknown) (linesIn (now (code .entry))) (decode path) (whole (sizesOf (now (code .entry))) fields start)))) ⌝ }
     ensures { λ _. ⌜ now (out .exit) ≡ over (now (out .entry)) at (listing (lines (now (body .entry))) (firstOf (now (code .entry))) (entries (follow (step (programOf (now (code .entry))) unknown) (linesIn (now (code .entry))) (decode path) (whole (sizesOf (now (code .entry))) fields start)))) ⌝ }

@@ -7,7 +7,7 @@ ghost use mathlib.Core.Bool.{cond};
 ghost use Prim.Native.Nat.{suc, _+_, _≤_, _<_};
 ghost use lib.ListN.{length};
 ghost use Rattle.text.specs.Text.{isEmpty, lines};
-ghost use Rattle.states.specs.Program.{programOf, sizesOf, Formed};
+ghost use Rattle.states.specs.Program.{programOf, sizesOf, IsProgram};
 ghost use Rattle.states.specs.View.{WellFormed, whole};
 ghost use Rattle.traces.specs.Traces.{entries};
 ghost use Rattle.replays.specs.Replay.{agreed, differed, replay};
@@ -33,7 +33,7 @@ fn follow(
     at: usize,
     spent: u64,
 ) -> Held
-    requires { ⌜ Formed (now code) × WellFormed state × (taken < 1000000) ⌝ }
+    requires { ⌜ IsProgram (now code) × WellFormed state × (taken < 1000000) ⌝ }
     ensures { λ r. ⌜ Holds (programOf (now (code .entry))) (sizesOf (now (code .entry))) (now (answers .entry)) taken state blocks at spent r ⌝ }
 {
     let answer = runs::answer_at(answers, taken);
@@ -94,7 +94,7 @@ pub fn replay(
     answers: &[i32],
     trace: &[u8],
 ) -> Replayed
-    requires { ⌜ Formed (now code) × WellFormed start × (length (lines (now trace)) ≤ 4097) ⌝ }
+    requires { ⌜ IsProgram (now code) × WellFormed start × (length (lines (now trace)) ≤ 4097) ⌝ }
     ensures { λ r. ⌜ ofReplayed r ≡ replay (programOf (now (code .entry))) (whole (sizesOf (now (code .entry))) fields start) (now (answers .entry)) (entries (now (trace .entry))) ⌝ }
 {
     let mut state = start;

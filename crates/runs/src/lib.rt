@@ -10,7 +10,7 @@ ghost use mathlib.Core.List.{List};
 ghost use Prim.Native.Nat.{ℕ, suc, _<_, _≤_};
 ghost use lib.IntN.{ℤ};
 ghost use lib.ListN.{drop};
-ghost use Rattle.states.specs.Program.{programOf, sizesOf, Formed};
+ghost use Rattle.states.specs.Program.{programOf, sizesOf, IsProgram};
 ghost use Rattle.states.specs.View.{WellFormed, whole};
 ghost use Rattle.bounds.specs.Run.{begin, answer, remaining, after, judgeRun, run};
 ghost use Rattle.runs.specs.Progress.{ofProgress};
@@ -63,7 +63,7 @@ pub fn after(
     answers: &[i32],
     n: usize,
 ) -> Progress
-    requires { ⌜ Formed (now code) ⌝ }
+    requires { ⌜ IsProgram (now code) ⌝ }
     requires { ⌜ Runnable start n ⌝ }
     ensures { λ r. ⌜ ofProgress (sizesOf (now (code .entry))) (now (answers .entry)) r ≡ after (programOf (now (code .entry))) n (begin (whole (sizesOf (now (code .entry))) fields start) (now (answers .entry))) ⌝ }
     ensures safe { λ r. ⌜ SafeFrom (programOf (now (code .entry))) (whole (sizesOf (now (code .entry))) fields start) (now (answers .entry)) n (ofProgress (sizesOf (now (code .entry))) (now (answers .entry)) r) ⌝ }
@@ -160,7 +160,7 @@ pub fn run(
     answers: &[i32],
     budget: usize,
 ) -> Ran
-    requires { ⌜ Formed (now code) ⌝ }
+    requires { ⌜ IsProgram (now code) ⌝ }
     requires { ⌜ Runnable start budget ⌝ }
     ensures { λ r. ⌜ verdictOf r ≡ run (programOf (now (code .entry))) budget (whole (sizesOf (now (code .entry))) fields start) (now (answers .entry)) ⌝ }
     ensures within { λ r. ⌜ WithinBound (programOf (now (code .entry))) budget (whole (sizesOf (now (code .entry))) fields start) (verdictOf r) ⌝ }

@@ -9,7 +9,7 @@ use lib.ListN.{length}
 use Rattle.cells.specs.declared.Cell.{Cell}
 use Rattle.machine.specs.Machine.{State, Code}
 use Rattle.states.specs.declared.State as states
-use Rattle.states.specs.Program.{Formed}
+use Rattle.states.specs.Program.{IsProgram}
 use Rattle.bounds.specs.Tree.{Verdict, bound}
 use Rattle.findings.specs.declared.Found.{Found}
 use Rattle.findings.specs.Found.{Shows}
@@ -35,7 +35,7 @@ ofSought (Refused r) = refused-by r
 
 -- what is asked: a program that is well formed, and a start that can be explored
 pub record Searchable (ws : List ℕ) (start : states.State) (budget : ℕ) : Type 0 where
-  pub formed : Formed ws
+  pub formed : IsProgram ws
   pub explorable : Explorable start 32 budget
 
 -- r says whether the verdict that an answer shows moves a bound of n cycles

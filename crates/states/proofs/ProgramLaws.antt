@@ -12,7 +12,7 @@ use Rattle.cells.specs.Try.{stuck, done}
 use Rattle.cells.specs.declared.Cell.{Cell}
 use Rattle.machine.specs.Lists.{nth}
 use Rattle.machine.specs.Machine.{Instruction, fetch}
-use Rattle.states.specs.Program.{firstOf, linesIn, blocksIn, sizesOf, lineOf, lineAt, linesFrom, programOf, Formed}
+use Rattle.states.specs.Program.{firstOf, linesIn, blocksIn, sizesOf, lineOf, lineAt, linesFrom, programOf, IsProgram}
 use Rattle.states.specs.View.{Fits}
 
 module _ (ws : List ℕ) where
@@ -57,7 +57,7 @@ module _ (ws : List ℕ) where
 
   -- ---- blocks
 
-  module _ (f : Formed ws) where
+  module _ (f : IsProgram ws) where
     pub sizes-count : length (sizesOf ws) ≡ blocksIn ws
     unfolding sizesOf
     sizes-count = simp (length-take, length-drop) (omega (arith, f .blocks, f .words))

@@ -7,7 +7,7 @@ use states::State;
 use states::code::Fetched;
 ghost use mathlib.Core.Path.{_≡_};
 ghost use Rattle.machine.specs.Machine.{step, takesAnswer};
-ghost use Rattle.states.specs.Program.{programOf, sizesOf, Formed};
+ghost use Rattle.states.specs.Program.{programOf, sizesOf, IsProgram};
 ghost use Rattle.states.specs.View.{WellFormed, whole};
 ghost use Rattle.steps.specs.Step.{ofNext, Small, Differs};
 
@@ -43,7 +43,7 @@ pub struct Stepped {
 
 // One step from `state` with `blocks`, where a C_CALL gets `answer`.
 pub fn step(code: &[u32; 5131], answer: Cell, mut state: State, mut blocks: [Cell; 128]) -> Stepped
-    requires { ⌜ Formed (now code) × WellFormed state ⌝ }
+    requires { ⌜ IsProgram (now code) × WellFormed state ⌝ }
     ensures { λ r. ⌜ ofNext (r .next) (whole (sizesOf (now (code .entry))) (r .blocks) (r .state)) ≡ step (programOf (now (code .entry))) answer (whole (sizesOf (now (code .entry))) blocks state) ⌝ }
     ensures { λ r. ⌜ r .calls ≡ takesAnswer (programOf (now (code .entry))) (whole (sizesOf (now (code .entry))) blocks state) ⌝ }
     ensures { λ r. ⌜ WellFormed (r .state) × Small (r .next) ⌝ }

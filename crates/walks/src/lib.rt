@@ -2,7 +2,7 @@
 use cells::Cell;
 use states::State;
 use steps::Next;
-ghost use Rattle.states.specs.Program.{programOf, sizesOf, Formed};
+ghost use Rattle.states.specs.Program.{programOf, sizesOf, IsProgram};
 ghost use Rattle.states.specs.View.{WellFormed};
 ghost use Rattle.walks.specs.Held.{StepsOn};
 
@@ -21,7 +21,7 @@ pub struct Walked {
 
 // The step from `state` with `blocks`, by the first decision of `path` if it is an unknown branch.
 pub fn walk(code: &[u32; 5131], path: u64, state: State, blocks: [Cell; 128]) -> Walked
-    requires { ⌜ Formed (now code) × WellFormed state ⌝ }
+    requires { ⌜ IsProgram (now code) × WellFormed state ⌝ }
     ensures { λ r. ⌜ StepsOn (programOf (now (code .entry))) (sizesOf (now (code .entry))) path state blocks r ⌝ }
 {
     let answer = cells::unknown();

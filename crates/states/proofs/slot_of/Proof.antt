@@ -13,7 +13,6 @@ use Rattle.cells.specs.declared.Handled.{Handled}
 use Rattle.cells.specs.Cells.{block}
 use Rattle.states.specs.Program.{sizesOf}
 use Rattle.states.specs.View.{slot}
-use Rattle.states.proofs.ProgramLaws.{sizes-count, size-at}
 use Rattle.states.proofs.slot_of.Statement.{statement}
 use Rattle.states.proofs.slot_of.Tie as tie
 
@@ -39,59 +38,45 @@ module _ (ns : List ℕ) (a : Cell) (n : ℕ) where
     unfolding slot _>>=_
     field h g = rw (e, lt-ltb k (length ns) h, lt-ltb n (getD ns k 0) g)
 
--- the sizes as the code reads them
-module _ (s : tie.Start) where
-  abbrev ns : List ℕ
-  ns = sizesOf (s .args .code .now)
-
-  counted : length ns ≡ getD (s .args .code .now) 2 0
-  counted = sizes-count (s .args .code .now) (s .pre)
-
-  sized : (k : ℕ) → k < getD (s .args .code .now) 2 0 → getD ns k 0 ≡ getD (s .args .code .now) (k + 3) 0
-  sized = size-at (s .args .code .now) (s .pre)
-
 returns : tie.Need-returns
 returns c = no-handle _ _ _ (found _ (c .before .before .block .ensures) (c .enum-told .given .1))
 
--- the block that is handled, and where it is looked up
-module _ (c : tie.After-if12) where
+-- the block that is handled
+module _ (c : tie.After-known-told) where
   abbrev s : tie.Start
-  s = c .before .before .before .before .before
+  s = c .before .before .before .before
+
+  abbrev ns : List ℕ
+  ns = sizesOf (s .args .code .now)
 
   abbrev k : ℕ
-  k = c .before .before .handled .given .0 .0
+  k = c .before .handled .given .0 .0
 
   is : block (s .args .a) ≡ done k
-  is = found _ (c .before .before .before .before .block .ensures) (c .before .before .handled .given .1)
+  is = found _ (c .before .before .before .block .ensures) (c .before .handled .given .1)
 
 returns-2 : tie.Need-returns-2
-returns-2 c = let d = c .before in no-block (ns (s d)) _ _ (k d) (is d) (omega (arith, counted (s d), c .if1 .taken))
+returns-2 c = let d = c .before .before in no-block (ns d) _ _ (k d) (is d) (omega (arith, c .before .count-blocks .ensures, c .if1 .taken))
 
--- a block within the program
-within : (c : tie.Else1) → k (c .before) < getD (s (c .before) .args .code .now) 2 0
-within c = omega (arith, c .if1 .left)
+-- it is there
+within : (c : tie.Else1) → k (c .before .before) < length (ns (c .before .before))
+within c = omega (arith, c .before .count-blocks .ensures, c .if1 .left)
 
--- its size is small
-small : (c : tie.Else1) → getD (s (c .before) .args .code .now) (k (c .before) + 3) 0 ≤ 16
-small c = let d = c .before in omega (arith, sized (s d) (k d) (within c), s d .pre .sizes (k d))
-
-cast-if2 : tie.Need-cast-if2
-cast-if2 c = record { fits = omega (arith, small (c .before)) }
+size-of-requires : tie.Need-size-of-requires
+size-of-requires c κs = (s (c .before .before) .pre, within c)
 
 returns-3 : tie.Need-returns-3
-returns-3 c =
-    let e = c .before .before in
-    let d = e .before in
-    no-field (ns (s d)) _ _ (k d) (is d) (omega (arith, counted (s d), within e)) (omega (arith, sized (s d) (k d) (within e), c .if2 .taken))
+returns-3 c = let e = c .before .before in let d = e .before .before in no-field (ns d) _ _ (k d) (is d) (within e) (omega (arith, c .before .size-of .ensures, c .if2 .taken))
 
-add-t12 : tie.Need-add-t12
-add-t12 c = record { fits = omega (arith, small (c .before .before), within (c .before .before), s (c .before .before .before) .pre .blocks, c .if2 .left) }
+-- the field is there, so the sum is small
+below : (c : tie.Else2) → s (c .before .before .before .before) .args .n < getD (ns (c .before .before .before .before)) (k (c .before .before .before .before)) 0
+below c = omega (arith, c .before .size-of .ensures, c .if2 .left)
+
+add-t9 : tie.Need-add-t9
+add-t9 c = let d = c .before .before .before .before in omega (arith, below c, s d .pre .sizes (k d))
 
 returns-4 : tie.Need-returns-4
-returns-4 c =
-    let e = c .before .before in
-    let d = e .before in
-    field (ns (s d)) _ _ (k d) (is d) (omega (arith, counted (s d), within e)) (omega (arith, sized (s d) (k d) (within e), c .if2 .left))
+returns-4 c = let e = c .before .before in let d = e .before .before in field (ns d) _ _ (k d) (is d) (within e) (below c)
 
 pub slot-of-spec : {M : Type 1} → statement M
 slot-of-spec =
@@ -102,14 +87,10 @@ slot-of-spec =
     (λ c. search needs)
     returns
     (λ c. search needs)
-    (λ c. search needs)
-    (λ c. search needs)
+    (λ c κs. search needs)
     returns-2
-    (λ c. search needs)
-    (λ c. search needs)
-    (λ c. search needs)
-    cast-if2
+    size-of-requires
     returns-3
     (λ c. search needs)
-    add-t12
+    add-t9
     returns-4)
