@@ -34,7 +34,7 @@ Rows hs es fs = (length hs ≡ 5125) × (length es ≡ 65600) × (length fs ≡ 
 
 -- a row for each address of a program, and one for the address after its last
 abbrev pub rowsOf : List ℕ → ℕ
-rowsOf ws = suc (linesIn ws)
+rowsOf ws = linesIn ws + 1
 
 -- the unused places of a stack: any number stands for some
 unfoldable pub unusedOf : ℕ → ℕ

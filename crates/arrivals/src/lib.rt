@@ -236,13 +236,7 @@ pub fn join(head: &mut [u64], entries: &mut [u64], fields: &mut [u64], code: &[u
 }
 
 // A way goes to its address, if that is one of those that have a row: the program's, and the one after its last.
-pub fn send(
-    heads: &mut [u64],
-    entries: &mut [u64],
-    fields: &mut [u64],
-    code: &[u32; 5131],
-    w: Way,
-)
+pub fn send(heads: &mut [u64], entries: &mut [u64], fields: &mut [u64], code: &[u32; 5131], w: Way)
     requires { ⌜ Rows (now heads) (now entries) (now fields) × (Formed w × Numeric (sizesOf (now code)) w) × IsProgram (now code) ⌝ }
     ensures { λ _. ⌜ ((b : ℕ) → b < rowsOf (now (code .entry)) → slotAt (sizesOf (now (code .entry))) (firstOf (now (code .entry))) (now (heads .exit)) (now (entries .exit)) (now (fields .exit)) b ≡ joinAt (firstOf (now (code .entry)) + b) (arrivalOf (sizesOf (now (code .entry))) w) (slotAt (sizesOf (now (code .entry))) (firstOf (now (code .entry))) (now (heads .entry)) (now (entries .entry)) (now (fields .entry)) b)) ⌝ }
 {

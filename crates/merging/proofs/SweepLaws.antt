@@ -14,7 +14,7 @@ use Rattle.cells.specs.declared.Cell.{Cell}
 use Rattle.cells.specs.Cells.{unknown}
 use Rattle.machine.specs.Machine.{State, Code, step, reblock}
 use Rattle.states.specs.declared.State as code
-use Rattle.states.specs.Program.{instructionsOf, codeOf}
+use Rattle.states.specs.Program.{firstOf, linesIn, linesFrom, programOf}
 use Rattle.states.specs.View.{WellFormed, whole}
 use Rattle.bounds.specs.Tree.{Report, Verdict}
 use Rattle.findings.specs.declared.Found.{Found}
@@ -53,18 +53,18 @@ nothing-at ns first n b es fs =
 
 -- ---- the code of columns
 
-pub lines-count : (bs : List ℕ) (is : List ℤ) (cs ws xs : List ℕ) → length (instructionsOf bs is cs ws xs) ≡ length bs
-unfolding instructionsOf
-lines-count [] is cs ws xs = refl
-lines-count (b ∷ bs) is cs ws xs = ap suc (lines-count bs (drop 1 is) (drop 1 cs) (drop 1 ws) (drop 1 xs))
+lines-count : (ws : List ℕ) (n k : ℕ) → length (linesFrom ws n k) ≡ n
+unfolding linesFrom
+lines-count ws zero k = refl
+lines-count ws (suc n) k = ap suc (lines-count ws n (k + 5))
 
-pub code-count : (first : ℕ) (bs : List ℕ) (is : List ℤ) (cs ws xs : List ℕ) → length (codeOf first bs is cs ws xs .instructions) ≡ length bs
-unfolding codeOf
-code-count first bs is cs ws xs = lines-count bs is cs ws xs
+pub code-count : (ws : List ℕ) → length (programOf ws .instructions) ≡ linesIn ws
+unfolding programOf
+code-count ws = lines-count ws (linesIn ws) 11
 
-pub code-first : (first : ℕ) (bs : List ℕ) (is : List ℤ) (cs ws xs : List ℕ) → codeOf first bs is cs ws xs .first ≡ first
-unfolding codeOf
-code-first first bs is cs ws xs = refl
+pub code-first : (ws : List ℕ) → programOf ws .first ≡ firstOf ws
+unfolding programOf
+code-first ws = refl
 
 -- ---- where it begins
 
