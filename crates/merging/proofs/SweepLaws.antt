@@ -14,7 +14,8 @@ use Rattle.cells.specs.declared.Cell.{Cell}
 use Rattle.cells.specs.Cells.{unknown}
 use Rattle.machine.specs.Machine.{State, Code, step, reblock}
 use Rattle.states.specs.declared.State as code
-use Rattle.states.specs.Program.{firstOf, linesIn, linesFrom, programOf}
+use Rattle.states.specs.Program.{firstOf, linesIn, programOf}
+use Rattle.states.proofs.ProgramLaws.{lines-count}
 use Rattle.states.specs.View.{WellFormed, whole}
 use Rattle.bounds.specs.Tree.{Report, Verdict}
 use Rattle.findings.specs.declared.Found.{Found}
@@ -52,11 +53,6 @@ nothing-at ns first n b es fs =
     (getD-take 5 (drop (5 * b) (replicate n 0)) 0 0 (omega arith) ∙ getD-drop (5 * b) (replicate n 0) 0 0 ∙ zeros n (5 * b + 0))
 
 -- ---- the code of columns
-
-lines-count : (ws : List ℕ) (n k : ℕ) → length (linesFrom ws n k) ≡ n
-unfolding linesFrom
-lines-count ws zero k = refl
-lines-count ws (suc n) k = ap suc (lines-count ws n (k + 5))
 
 pub code-count : (ws : List ℕ) → length (programOf ws .instructions) ≡ linesIn ws
 unfolding programOf

@@ -1,7 +1,7 @@
 -- A program of words: which line stands at an address, and the sizes of its blocks. Assumes nothing.
-use mathlib.Core.Path.{_≡_, refl, sym, ap, _∙_}
+use mathlib.Core.Path.{_≡_, refl, sym, ap, ap₂, _∙_}
 use mathlib.Core.Bool.{Bool, true, false}
-use mathlib.Core.List.{List, []}
+use mathlib.Core.List.{List, [], _∷_, _++_}
 use Prim.Native.Nat.{ℕ, zero, suc, _+_, _-_, _*_, _≤_, _<_}
 use native.Mathlib.Omega.{arith}
 use lib.Dec.{ltb}
@@ -14,6 +14,30 @@ use Rattle.machine.specs.Lists.{nth}
 use Rattle.machine.specs.Machine.{Instruction, fetch}
 use Rattle.states.specs.Program.{firstOf, linesIn, blocksIn, sizesOf, lineOf, lineAt, linesFrom, programOf, IsProgram}
 use Rattle.states.specs.View.{Fits}
+
+-- ---- lines
+
+pub lines-count : (ws : List ℕ) (n k : ℕ) → length (linesFrom ws n k) ≡ n
+unfolding linesFrom
+lines-count ws zero k = refl
+lines-count ws (suc n) k = ap suc (lines-count ws n (k + 5))
+
+-- one line more
+pub lines-snoc : (ws : List ℕ) (n k : ℕ) → linesFrom ws (suc n) k ≡ linesFrom ws n k ++ (lineOf (lineAt ws (k + n * 5)) ∷ [])
+unfolding linesFrom
+lines-snoc ws zero k = let e : k + 0 * 5 ≡ k = omega arith in ap (λ i. lineOf (lineAt ws i) ∷ []) (sym e)
+lines-snoc ws (suc n) k =
+    let e : k + 5 + n * 5 ≡ k + suc n * 5 = omega arith in
+    ap (λ ls. lineOf (lineAt ws k) ∷ ls) (lines-snoc ws n (k + 5) ∙ ap (λ i. linesFrom ws n (k + 5) ++ (lineOf (lineAt ws i) ∷ [])) e)
+
+-- words that agree have the same lines
+pub lines-agree : (ws vs : List ℕ) (n k : ℕ) → ((i : ℕ) → k ≤ i → i < k + n * 5 → getD ws i 0 ≡ getD vs i 0) → linesFrom ws n k ≡ linesFrom vs n k
+unfolding linesFrom
+lines-agree ws vs zero k h = refl
+lines-agree ws vs (suc n) k h =
+    ap₂ (λ (l : Instruction) (ls : List Instruction). l ∷ ls)
+    (rw (h k (omega arith) (omega arith), h (k + 1) (omega arith) (omega arith), h (k + 2) (omega arith) (omega arith), h (k + 3) (omega arith) (omega arith), h (k + 4) (omega arith) (omega arith)) refl)
+    (lines-agree ws vs n (k + 5) (λ i a b. h i (omega arith) (omega arith)))
 
 module _ (ws : List ℕ) where
   lines-in : (j n k : ℕ) → j < n → nth j (linesFrom ws n k) ≡ done (lineOf (lineAt ws (k + j * 5)))

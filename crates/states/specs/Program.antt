@@ -4,6 +4,7 @@ use mathlib.Core.Path.{_≡_}
 use mathlib.Core.List.{List, [], _∷_}
 use Prim.Native.Nat.{ℕ, zero, suc, _+_, _*_, _%_, _≤_, _<_}
 use lib.Dec.{leb}
+use lib.IntN.{ℤ}
 use lib.ListN.{length, getD, drop, take}
 use Rattle.numbers.specs.Numbers.{signed}
 use Rattle.cells.specs.Try.{Try, stuck, done}
@@ -37,18 +38,13 @@ lineOf l = record {
   extra = l .extra;
 }
 
--- the line whose words begin at place k: its operation's code, 32 more where it pushes first, and 64 more where it calls a primitive; its
--- operand in two's complement; its cycles; its words; what more it costs where it jumps
+-- a line by its words: the first is its operation's code, 32 more where the line pushes first, and 64 more where it calls a primitive
+abbrev pub line : ℕ → ℤ → ℕ → ℕ → ℕ → Line
+line b i c w x = record { code = b % 32; pushes = leb 32 (b % 64); calls = leb 64 b; operand = i; cycles = c; words = w; extra = x }
+
+-- the line whose words begin at place k; its operand is in two's complement
 abbrev pub lineAt : List ℕ → ℕ → Line
-lineAt ws k = record {
-  code = getD ws k 0 % 32;
-  pushes = leb 32 (getD ws k 0 % 64);
-  calls = leb 64 (getD ws k 0);
-  operand = signed 32 (getD ws (k + 1) 0);
-  cycles = getD ws (k + 2) 0;
-  words = getD ws (k + 3) 0;
-  extra = getD ws (k + 4) 0;
-}
+lineAt ws k = line (getD ws k 0) (signed 32 (getD ws (k + 1) 0)) (getD ws (k + 2) 0) (getD ws (k + 3) 0) (getD ws (k + 4) 0)
 
 -- n lines from place k on
 unfoldable pub linesFrom : List ℕ → ℕ → ℕ → List Instruction
