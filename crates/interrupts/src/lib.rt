@@ -12,7 +12,7 @@ ghost use mathlib.Core.Path.{_≡_};
 ghost use mathlib.Core.List.{_++_};
 ghost use Prim.Native.Nat.{_≤_};
 ghost use lib.ListN.{length, drop};
-ghost use Rattle.states.specs.Program.{programOf, sizesOf, Formed};
+ghost use Rattle.states.specs.Program.{programOf, sizesOf, IsProgram};
 ghost use Rattle.states.specs.View.{whole};
 ghost use Rattle.bounds.specs.Tree.{bound};
 ghost use Rattle.bounds.specs.Run.{begin, after, boundedAfresh};
@@ -32,8 +32,8 @@ fn afresh(
     blocks: [Cell; 128],
     budget: usize,
 ) -> Found
-    requires { ⌜ Formed (now code) ⌝ }
-    requires { ⌜ Explorable (now codes) (now sizes) first blocks state 32 budget ⌝ }
+    requires { ⌜ IsProgram (now code) ⌝ }
+    requires { ⌜ Explorable state 32 budget ⌝ }
     ensures { λ r. ⌜ Shows r (boundedAfresh (bound (programOf (now (code .entry))) budget) stopped (whole (sizesOf (now (code .entry))) blocks state)) ⌝ }
 {
     if stopped {
@@ -107,8 +107,8 @@ fn interrupt(
     n: usize,
     budget: usize,
 ) -> [u64; 13]
-    requires { ⌜ Formed (now code) ⌝ }
-    requires { ⌜ Runnable (now codes) (now sizes) first start fields n × (budget ≤ 1000000) ⌝ }
+    requires { ⌜ IsProgram (now code) ⌝ }
+    requires { ⌜ Runnable start n × (budget ≤ 1000000) ⌝ }
     ensures { λ r. ⌜ r ≡ numbersOf (programOf (now (code .entry))) budget (after (programOf (now (code .entry))) n (begin (whole (sizesOf (now (code .entry))) fields start) (now (answers .entry)))) ⌝ }
 {
     let r = runs::after(code, start, fields, answers, n);
@@ -134,35 +134,14 @@ fn interrupted(x: Routine, n: u64) -> [u64; 13]
     requires { ⌜ Limited x ⌝ }
     ensures { λ r. ⌜ r ≡ interrupted (routineIn x) n ⌝ }
 {
-    let columns = x.columns;
-    let codes = columns.codes;
-    let operands = columns.operands;
-    let cycles = columns.cycles;
-    let words = columns.words;
-    let extras = columns.extras;
-    let sizes = x.sizes;
+    let code = x.code;
     let fields = x.fields;
     let start = x.start;
     let answers = x.answers;
     let values = answers.values;
     let given = answers.count;
-    let count = x.count;
-    let blocks = x.blocks;
     let steps = steps_of(n);
-    interrupt(
-        &codes[..count],
-        &operands[..count],
-        &cycles[..count],
-        &words[..count],
-        &extras[..count],
-        &sizes[..blocks],
-        x.first,
-        start,
-        fields,
-        &values[..given],
-        steps,
-        x.budget,
-    )
+    interrupt(&code, start, fields, &values[..given], steps, x.budget)
 }
 
 // Puts the numbers at the start of out.

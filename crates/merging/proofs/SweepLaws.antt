@@ -2,10 +2,9 @@
 use Prim.Native.Nat.{ℕ, zero, suc, _+_, _*_, _-_, _<_, _≤_}
 use mathlib.Core.Path.{_≡_, refl, sym, ap, ap₂, subst, _∙_}
 use mathlib.Core.Bool.{Bool, true, false, cond}
-use mathlib.Core.List.{List, [], _∷_}
+use mathlib.Core.List.{List}
 use native.Mathlib.Omega.{arith}
 use lib.Dec.{eqb}
-use lib.IntN.{ℤ}
 use lib.ListN.{length, getD, drop, replicate, length-replicate}
 use lib.Seq.{getD-take, getD-drop}
 use Rattle.refusals.specs.declared.Refusal.{Refusal}
@@ -14,8 +13,6 @@ use Rattle.cells.specs.declared.Cell.{Cell}
 use Rattle.cells.specs.Cells.{unknown}
 use Rattle.machine.specs.Machine.{State, Code, step, reblock}
 use Rattle.states.specs.declared.State as code
-use Rattle.states.specs.Program.{firstOf, linesIn, programOf}
-use Rattle.states.proofs.ProgramLaws.{lines-count}
 use Rattle.states.specs.View.{WellFormed, whole}
 use Rattle.bounds.specs.Tree.{Report, Verdict}
 use Rattle.findings.specs.declared.Found.{Found}
@@ -53,14 +50,6 @@ nothing-at ns first n b es fs =
     (getD-take 5 (drop (5 * b) (replicate n 0)) 0 0 (omega arith) ∙ getD-drop (5 * b) (replicate n 0) 0 0 ∙ zeros n (5 * b + 0))
 
 -- ---- the code of columns
-
-pub code-count : (ws : List ℕ) → length (programOf ws .instructions) ≡ linesIn ws
-unfolding programOf
-code-count ws = lines-count ws (linesIn ws) 11
-
-pub code-first : (ws : List ℕ) → programOf ws .first ≡ firstOf ws
-unfolding programOf
-code-first ws = refl
 
 -- ---- where it begins
 

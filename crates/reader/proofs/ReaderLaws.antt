@@ -1,11 +1,11 @@
 -- The parts that the reader puts together are those of the routine. Assumes nothing.
-use Prim.Native.Nat.{ℕ, zero, suc, _+_, _*_, _%_, _≤_, _<_}
+use Prim.Native.Nat.{ℕ, zero, suc, _+_, _*_, _%_, _≤_, _<_, min}
 use mathlib.Core.Path.{_≡_, refl, sym, ap, ap₂, subst, _∙_}
 use mathlib.Core.List.{List, [], _∷_, map}
 use native.Mathlib.Omega.{arith}
 use native.Mathlib.Numerals.{add-one}
 use lib.IntN.{ℤ}
-use lib.ListN.{length, getD, take, drop}
+use lib.ListN.{length, getD, take, drop, length-take}
 use Rattle.text.specs.Text.{Line}
 use Rattle.numbers.specs.declared.Range.{Range}
 use Rattle.numbers.specs.Numbers.{numbers}
@@ -170,6 +170,10 @@ module _ (ls : List Line) (p : Passes ls) (ns-line fs-line cs-line : List ℕ) (
 pub start-at : (first : ℕ) (cs : List Cell) (s : code.State) → view s ≡ startOf first cs [] → s .at ≡ first
 unfolding startOf
 start-at first cs s e = ap (λ v. v .at) e
+
+-- all that is taken of an array is there
+pub taken : {A : Type 0} (n : ℕ) (xs : List A) → n ≤ length xs → length (take n xs) ≡ n
+taken n xs h = let e : length (take n xs) ≡ min n (length xs) = length-take n xs in omega arith
 
 -- the numbers of a start that is read
 pub kept-start : {s : State} (ls : List Line) → s ≡ routineOf ls .start → Cellwise Kept s s

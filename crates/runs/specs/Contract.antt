@@ -1,11 +1,10 @@
 -- What is asked of the run, and what is promised of it.
-use Prim.Native.Nat.{ℕ, _+_, _≤_}
+use Prim.Native.Nat.{ℕ, _≤_}
 use mathlib.Core.Path.{_≡_}
 use mathlib.Core.List.{List, []}
 use lib.IntN.{ℤ}
 use Rattle.refusals.specs.declared.Verdict as code
 use Rattle.refusals.specs.declared.Verdict.the-variants.{Accepted, Refused}
-use Rattle.cells.specs.declared.Cell.{Cell}
 use Rattle.cells.specs.Order.{Allowed}
 use Rattle.machine.specs.Machine.{State, Code}
 use Rattle.machine.specs.Order.{Cellwise}

@@ -1,12 +1,9 @@
 -- What the code's values stand for, and what is asked of them.
-use Prim.Native.Nat.{ℕ, _≤_}
+use Prim.Native.Nat.{ℕ}
 use mathlib.Core.Path.{_≡_}
 use mathlib.Core.Bool.{Bool}
 use mathlib.Core.List.{List}
 use mathlib.Core.Option.{Option, some, none}
-use lib.IntN.{ℤ}
-use lib.ListN.{length}
-use Rattle.cells.specs.declared.Cell.{Cell}
 use Rattle.machine.specs.Machine.{State, Code}
 use Rattle.states.specs.declared.State as states
 use Rattle.states.specs.Program.{IsProgram}

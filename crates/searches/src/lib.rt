@@ -12,7 +12,7 @@ ghost use mathlib.Core.Path.{_≡_};
 ghost use Prim.Native.Nat.{_≤_};
 ghost use Rattle.cells.specs.Cells.{number};
 ghost use Rattle.states.specs.View.{whole};
-ghost use Rattle.states.specs.Program.{codeOf};
+ghost use Rattle.states.specs.Program.{programOf, sizesOf};
 ghost use Rattle.bounds.specs.Tree.{bound};
 ghost use Rattle.changes.specs.Places.{replaceAt};
 ghost use Rattle.changes.specs.Changes.{changeTo, changesAt, changesBy, nearest};

@@ -17,10 +17,18 @@ use Rattle.states.specs.View.{Fits}
 
 -- ---- lines
 
-pub lines-count : (ws : List ℕ) (n k : ℕ) → length (linesFrom ws n k) ≡ n
+lines-count : (ws : List ℕ) (n k : ℕ) → length (linesFrom ws n k) ≡ n
 unfolding linesFrom
 lines-count ws zero k = refl
 lines-count ws (suc n) k = ap suc (lines-count ws n (k + 5))
+
+pub code-count : (ws : List ℕ) → length (programOf ws .instructions) ≡ linesIn ws
+unfolding programOf
+code-count ws = lines-count ws (linesIn ws) 11
+
+pub code-first : (ws : List ℕ) → programOf ws .first ≡ firstOf ws
+unfolding programOf
+code-first ws = refl
 
 -- one line more
 pub lines-snoc : (ws : List ℕ) (n k : ℕ) → linesFrom ws (suc n) k ≡ linesFrom ws n k ++ (lineOf (lineAt ws (k + n * 5)) ∷ [])

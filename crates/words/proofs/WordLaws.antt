@@ -1,20 +1,12 @@
 -- Laws of words: the first word of bytes and what follows, and a word that was written is read back. Assumes nothing.
 use mathlib.Core.Path.{_≡_, refl, sym, ap, _∙_}
-use mathlib.Core.Bool.{true, false, cond}
 use mathlib.Core.List.{List, [], _∷_, map}
-use Prim.Native.Nat.{ℕ, suc, _+_, _-_, _*_, _/_, _%_, _<_, _≤_}
+use Prim.Native.Nat.{ℕ, _+_, _-_, _*_, _/_, _%_, _<_, _≤_}
 use native.Mathlib.Omega.{arith}
-use lib.IntN.{pos, negsuc, _-ℤ_}
 use lib.ListN.{length, getD, take, drop, length-drop}
 use lib.Seq.{take-all}
-use lib.Signed.{ltZ}
-use mir.Syntax.{w32, w64}
-use mir.Val.{SFits, toZ}
-use mir.ValLaws.{toZ-pos}
 use native.Mathlib.Nat.{mod-eq-of-lt, div-div-eq-div-mul, div-add-mod'}
-use borrow.Author.Tests.{lt-ltb, ltb-true, ltb-false}
-use Rattle.numbers.specs.Numbers.{modulus, half, signed}
-use Rattle.numbers.proofs.NumberLaws.{signed-number, signed-low, signed-high}
+use Rattle.numbers.specs.Numbers.{modulus}
 use Rattle.text.proofs.TextLaws.{Every, none, more}
 use Rattle.words.specs.Words.{wordBits, whole, littleEndian, wordsOf, bytesOf, allBytes}
 

@@ -5,8 +5,9 @@ use mathlib.Core.Path.{refl}
 use native.Mathlib.Omega.{arith}
 use Rattle.states.specs.Program.{firstOf, linesIn, programOf, sizesOf}
 use Rattle.states.specs.View.{whole}
+use Rattle.states.proofs.ProgramLaws.{code-count, code-first}
 use Rattle.merges.specs.Merge.{merged}
-use Rattle.merging.proofs.SweepLaws.{Going, code-count, code-first, begins, goes-on, ends, finishes, figures-all}
+use Rattle.merging.proofs.SweepLaws.{Going, begins, goes-on, ends, finishes, figures-all}
 use borrow.Author.Needs.{needs}
 use Rattle.merging.proofs.merge.Statement.{statement}
 use Rattle.merging.proofs.merge.Tie as tie

@@ -1,6 +1,5 @@
 -- `searches::is_moved_by` meets its contract. Assumes nothing.
 use mathlib.Core.Path.{ap, _∙_}
-use native.Mathlib.Omega.{arith}
 use mir.Syntax.{w32}
 use mir.ValLaws.{toZ-ofZ}
 use Rattle.cells.specs.Cells.{number}

@@ -6,7 +6,7 @@ use Rattle.states.specs.Program.{programOf, sizesOf}
 use Rattle.states.specs.View.{whole}
 use Rattle.states.proofs.ProgramLaws.{sizes-count}
 use Rattle.bounds.specs.Tree.{bound}
-use Rattle.changes.specs.Changes.{changesAt, changesBy, applied, first}
+use Rattle.changes.specs.Changes.{changesAt, changesBy, applied}
 use Rattle.changes.specs.Held.{positionOf}
 use Rattle.searches.specs.Search.{moved}
 use Rattle.searches.specs.Held.{ofHit, firstMoved}

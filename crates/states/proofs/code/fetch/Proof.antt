@@ -1,11 +1,9 @@
 -- `states::code::fetch` meets its contract. Assumes nothing.
-use mathlib.Core.Path.{_≡_, ap, _∙_}
-use Prim.Native.Nat.{_+_, _-_, _*_}
+use Prim.Native.Nat.{_-_}
 use lib.ListN.{getD}
 use mir.Syntax.{w32}
 use mir.ValLaws.{toZ-ofZ}
 use borrow.Author.Needs.{needs}
-use Rattle.numbers.proofs.ResidueLaws.{signed-fits}
 use Rattle.states.proofs.ProgramLaws.{fetch-below, fetch-past, fetch-in}
 use Rattle.states.proofs.code.fetch.Statement.{statement}
 use Rattle.states.proofs.code.fetch.Tie as tie
