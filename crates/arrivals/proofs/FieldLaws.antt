@@ -12,7 +12,8 @@ use Rattle.states.specs.View.{blocksOf}
 use Rattle.cells.specs.Merge.{mergeCells}
 use Rattle.merges.specs.Merge.{mergeLists}
 use Rattle.cells.specs.Codes.{cellsOf}
-use Rattle.arrivals.specs.Rows.{Small}
+use Rattle.states.specs.Program.{sizesOf, IsProgram}
+use Rattle.states.proofs.ProgramLaws.{sizes-count}
 use Rattle.arrivals.proofs.ZipLaws.{Partly, one-made, none-merged}
 use Rattle.cells.proofs.CodeLaws.{cells-length, cells-append, cells-take, cells-drop}
 
@@ -64,6 +65,14 @@ blocks-put (n ∷ ns) fs p (suc k) few h r e =
 
 cells-put : (a m : ℕ) (xs p : List ℕ) → cellsOf (putMid a m xs p) ≡ putMid a m (cellsOf xs) (cellsOf p)
 cells-put a m xs p = simp (cells-append, cells-take, cells-drop)
+
+-- at most eight blocks, of at most sixteen fields
+pub record Small (ns : List ℕ) : Type 0 where
+  pub blocks : length ns ≤ 8
+  pub few : (k : ℕ) → getD ns k 0 ≤ 16
+
+pub small-of : (ws : List ℕ) → IsProgram ws → Small (sizesOf ws)
+small-of ws p = record { blocks = omega (arith, sizes-count ws p, p .blocks); few = p .sizes }
 
 -- the block at k, as the merge of its places is told of it
 module _ (ns xs ys : List ℕ) (k z : ℕ) (small : Small ns) (h : length xs ≡ 128) (l : length ys ≡ 128) (r : k < length ns) (e : z ≡ getD ns k 0) where

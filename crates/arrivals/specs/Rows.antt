@@ -1,5 +1,5 @@
 -- What the numbers of the table stand for: what has come to an address.
-use Prim.Native.Nat.{ℕ, zero, suc, _+_, _*_, _≤_}
+use Prim.Native.Nat.{ℕ, zero, suc, _+_, _*_}
 use mathlib.Core.Path.{_≡_}
 use mathlib.Core.Bool.{Bool, true, false, cond}
 use mathlib.Core.List.{List}
@@ -10,14 +10,10 @@ use Rattle.cells.specs.declared.Cell.{Cell}
 use Rattle.cells.specs.Codes.{cellOf, cellsOf, Kept}
 use Rattle.machine.specs.Machine.{State, Price}
 use Rattle.machine.specs.Order.{Cellwise}
+use Rattle.states.specs.Program.{linesIn}
 use Rattle.states.specs.View.{WellFormed, blocksOf, whole}
 use Rattle.merges.specs.Merge.{Arrival, arrival, Slot, empty, unlike, held, join}
 use Rattle.arrivals.specs.declared.Way.{Way}
-
--- at most eight blocks, of at most sixteen fields
-pub record Small (ns : List ℕ) : Type 0 where
-  pub blocks : length ns ≤ 8
-  pub few : (k : ℕ) → getD ns k 0 ≤ 16
 
 -- the arrays of a way have their lengths
 pub record Formed (w : Way) : Type 0 where
@@ -35,6 +31,10 @@ Row h es fs = (length h ≡ 5) × (length es ≡ 64) × (length fs ≡ 128)
 -- the lengths of the 1,025 rows of the table
 abbrev pub Rows : List ℕ → List ℕ → List ℕ → Type 0
 Rows hs es fs = (length hs ≡ 5125) × (length es ≡ 65600) × (length fs ≡ 131200)
+
+-- a row for each address of a program, and one for the address after its last
+abbrev pub rowsOf : List ℕ → ℕ
+rowsOf ws = linesIn ws + 1
 
 -- the unused places of a stack: any number stands for some
 unfoldable pub unusedOf : ℕ → ℕ

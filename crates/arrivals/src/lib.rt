@@ -8,9 +8,10 @@ ghost use Prim.Native.Nat.{ℕ, _+_, _<_, _≤_};
 ghost use lib.ListN.{length, getD, take};
 ghost use Rattle.cells.specs.Merge.{mergeCells};
 ghost use Rattle.cells.specs.Codes.{cellsOf, confine};
+ghost use Rattle.states.specs.Program.{firstOf, sizesOf, IsProgram};
 ghost use Rattle.states.specs.View.{blocksOf};
 ghost use Rattle.merges.specs.Merge.{mergeLists, mergeStates, settle, larger, join};
-ghost use Rattle.arrivals.specs.Rows.{Small, Formed, Numeric, Row, Rows, unusedOf, ofCells, ofBlocks, ofStates, arrivalOf, stateIn, priceIn, arrivalIn, slotIn, slotAt, joinAt};
+ghost use Rattle.arrivals.specs.Rows.{Formed, Numeric, Row, Rows, unusedOf, ofCells, ofBlocks, ofStates, arrivalOf, stateIn, priceIn, arrivalIn, slotIn, slotAt, joinAt, rowsOf};
 
 // A way to an address: the state that comes to it, with its blocks, and the largest sums of the ways to it.
 pub struct Way {
@@ -99,14 +100,15 @@ fn merge_cells(held: &mut [u64], came: &[u64]) -> bool
 }
 
 // The fields of all blocks, block by block.
-fn merge_blocks(held: &mut [u64], came: &[u64], sizes: &[u8]) -> bool
-    requires { ⌜ (length (now held) ≡ 128) × (length (now came) ≡ 128) × Small (now sizes) ⌝ }
-    ensures { λ r. ⌜ ofBlocks (now (sizes .entry)) r (now (held .exit)) ≡ mergeLists (mergeLists mergeCells) (blocksOf (now (sizes .entry)) (cellsOf (now (held .entry)))) (blocksOf (now (sizes .entry)) (cellsOf (now (came .entry)))) ⌝ }
+fn merge_blocks(held: &mut [u64], came: &[u64], code: &[u32; 5131]) -> bool
+    requires { ⌜ (length (now held) ≡ 128) × (length (now came) ≡ 128) × IsProgram (now code) ⌝ }
+    ensures { λ r. ⌜ ofBlocks (sizesOf (now (code .entry))) r (now (held .exit)) ≡ mergeLists (mergeLists mergeCells) (blocksOf (sizesOf (now (code .entry))) (cellsOf (now (held .entry)))) (blocksOf (sizesOf (now (code .entry))) (cellsOf (now (came .entry)))) ⌝ }
 {
+    let count = states::count_blocks(code);
     let mut k = 0;
-    while k < sizes.len() {
+    while k < count {
         let low = k * 16;
-        let high = low + sizes[k] as usize;
+        let high = low + states::size_of(code, k);
         if !merge_cells(&mut held[low..high], &came[low..high]) {
             return false;
         }
@@ -168,10 +170,10 @@ fn merge_states(
     h: &[u64],
     es: &[u64],
     fs: &[u64],
-    sizes: &[u8],
+    code: &[u32; 5131],
 ) -> bool
-    requires { ⌜ Row (now head) (now entries) (now fields) × Row (now h) (now es) (now fs) × Small (now sizes) ⌝ }
-    ensures { λ r. ⌜ ((a b : ℕ) → ofStates (now (sizes .entry)) a r (now (head .exit)) (now (entries .exit)) (now (fields .exit)) ≡ mergeStates (stateIn (now (sizes .entry)) a (now (head .entry)) (now (entries .entry)) (now (fields .entry))) (stateIn (now (sizes .entry)) b (now (h .entry)) (now (es .entry)) (now (fs .entry)))) ⌝ }
+    requires { ⌜ Row (now head) (now entries) (now fields) × Row (now h) (now es) (now fs) × IsProgram (now code) ⌝ }
+    ensures { λ r. ⌜ ((a b : ℕ) → ofStates (sizesOf (now (code .entry))) a r (now (head .exit)) (now (entries .exit)) (now (fields .exit)) ≡ mergeStates (stateIn (sizesOf (now (code .entry))) a (now (head .entry)) (now (entries .entry)) (now (fields .entry))) (stateIn (sizesOf (now (code .entry))) b (now (h .entry)) (now (es .entry)) (now (fs .entry)))) ⌝ }
     ensures { λ _. ⌜ take 4 (now (head .exit)) ≡ take 4 (now (head .entry)) ⌝ }
 {
     let free = unused(head[1]);
@@ -188,7 +190,7 @@ fn merge_states(
     if !merge_cells(&mut entries[free..], &es[free..]) {
         return false;
     }
-    merge_blocks(fields, fs, sizes)
+    merge_blocks(fields, fs, code)
 }
 
 // A row meets the row `h`, `es`, `fs`: the states are merged, and the larger sums stay.
@@ -199,12 +201,12 @@ fn meet(
     h: &[u64],
     es: &[u64],
     fs: &[u64],
-    sizes: &[u8],
+    code: &[u32; 5131],
 )
-    requires { ⌜ Row (now head) (now entries) (now fields) × Row (now h) (now es) (now fs) × Small (now sizes) × (getD (now head) 0 0 ≡ 1) ⌝ }
-    ensures { λ _. ⌜ ((a b : ℕ) → slotIn (now (sizes .entry)) a (now (head .exit)) (now (entries .exit)) (now (fields .exit)) ≡ settle (larger (priceIn (now (head .entry))) (priceIn (now (h .entry)))) (mergeStates (stateIn (now (sizes .entry)) a (now (head .entry)) (now (entries .entry)) (now (fields .entry))) (stateIn (now (sizes .entry)) b (now (h .entry)) (now (es .entry)) (now (fs .entry))))) ⌝ }
+    requires { ⌜ Row (now head) (now entries) (now fields) × Row (now h) (now es) (now fs) × IsProgram (now code) × (getD (now head) 0 0 ≡ 1) ⌝ }
+    ensures { λ _. ⌜ ((a b : ℕ) → slotIn (sizesOf (now (code .entry))) a (now (head .exit)) (now (entries .exit)) (now (fields .exit)) ≡ settle (larger (priceIn (now (head .entry))) (priceIn (now (h .entry)))) (mergeStates (stateIn (sizesOf (now (code .entry))) a (now (head .entry)) (now (entries .entry)) (now (fields .entry))) (stateIn (sizesOf (now (code .entry))) b (now (h .entry)) (now (es .entry)) (now (fs .entry))))) ⌝ }
 {
-    if !merge_states(head, entries, fields, h, es, fs, sizes) {
+    if !merge_states(head, entries, fields, h, es, fs, code) {
         head[0] = 2;
         return;
     }
@@ -215,9 +217,9 @@ fn meet(
 }
 
 // A way comes to a row.
-pub fn join(head: &mut [u64], entries: &mut [u64], fields: &mut [u64], sizes: &[u8], w: Way)
-    requires { ⌜ Row (now head) (now entries) (now fields) × (Formed w × Numeric (now sizes) w) × Small (now sizes) ⌝ }
-    ensures { λ _. ⌜ slotIn (now (sizes .entry)) (w .state .at) (now (head .exit)) (now (entries .exit)) (now (fields .exit)) ≡ join (slotIn (now (sizes .entry)) (w .state .at) (now (head .entry)) (now (entries .entry)) (now (fields .entry))) (arrivalOf (now (sizes .entry)) w) ⌝ }
+pub fn join(head: &mut [u64], entries: &mut [u64], fields: &mut [u64], code: &[u32; 5131], w: Way)
+    requires { ⌜ Row (now head) (now entries) (now fields) × (Formed w × Numeric (sizesOf (now code)) w) × IsProgram (now code) ⌝ }
+    ensures { λ _. ⌜ slotIn (sizesOf (now (code .entry))) (w .state .at) (now (head .exit)) (now (entries .exit)) (now (fields .exit)) ≡ join (slotIn (sizesOf (now (code .entry))) (w .state .at) (now (head .entry)) (now (entries .entry)) (now (fields .entry))) (arrivalOf (sizesOf (now (code .entry))) w) ⌝ }
 {
     let mark = head[0];
     if mark == 0 {
@@ -229,30 +231,23 @@ pub fn join(head: &mut [u64], entries: &mut [u64], fields: &mut [u64], sizes: &[
         let mut es = [0; 64];
         let mut fs = [0; 128];
         put(&mut h, &mut es, &mut fs, w);
-        meet(head, entries, fields, &h, &es, &fs, sizes);
+        meet(head, entries, fields, &h, &es, &fs, code);
     }
 }
 
-// A way goes to its address, if that is one of the `n` from `first` on that have a row.
-pub fn send(
-    heads: &mut [u64],
-    entries: &mut [u64],
-    fields: &mut [u64],
-    sizes: &[u8],
-    first: usize,
-    n: usize,
-    w: Way,
-)
-    requires { ⌜ Rows (now heads) (now entries) (now fields) × (n ≤ 1025) × (first ≤ 65536) × (Formed w × Numeric (now sizes) w) × Small (now sizes) ⌝ }
-    ensures { λ _. ⌜ ((b : ℕ) → b < n → slotAt (now (sizes .entry)) first (now (heads .exit)) (now (entries .exit)) (now (fields .exit)) b ≡ joinAt (first + b) (arrivalOf (now (sizes .entry)) w) (slotAt (now (sizes .entry)) first (now (heads .entry)) (now (entries .entry)) (now (fields .entry)) b)) ⌝ }
+// A way goes to its address, if that is one of those that have a row: the program's, and the one after its last.
+pub fn send(heads: &mut [u64], entries: &mut [u64], fields: &mut [u64], code: &[u32; 5131], w: Way)
+    requires { ⌜ Rows (now heads) (now entries) (now fields) × (Formed w × Numeric (sizesOf (now code)) w) × IsProgram (now code) ⌝ }
+    ensures { λ _. ⌜ ((b : ℕ) → b < rowsOf (now (code .entry)) → slotAt (sizesOf (now (code .entry))) (firstOf (now (code .entry))) (now (heads .exit)) (now (entries .exit)) (now (fields .exit)) b ≡ joinAt (firstOf (now (code .entry)) + b) (arrivalOf (sizesOf (now (code .entry))) w) (slotAt (sizesOf (now (code .entry))) (firstOf (now (code .entry))) (now (heads .entry)) (now (entries .entry)) (now (fields .entry)) b)) ⌝ }
 {
     let s = w.state;
     let at = s.at;
+    let first = code[0] as usize;
     if at < first {
         return;
     }
     let k = at - first;
-    if n <= k {
+    if code[1] as usize + 1 <= k {
         return;
     }
     let head = 5 * k;
@@ -265,7 +260,7 @@ pub fn send(
         &mut heads[head..head_end],
         &mut entries[entry..entry_end],
         &mut fields[field..field_end],
-        sizes,
+        code,
         w,
     );
 }

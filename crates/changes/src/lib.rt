@@ -7,7 +7,8 @@ ghost use mathlib.Core.Path.{_≡_};
 ghost use Prim.Native.Nat.{_≤_};
 ghost use lib.IntN.{pos, _+ℤ_, _-ℤ_};
 ghost use lib.ListN.{length};
-ghost use Rattle.states.specs.View.{view, WellFormed, Fits, blocksOf, whole};
+ghost use Rattle.states.specs.Program.{sizesOf, IsProgram};
+ghost use Rattle.states.specs.View.{view, WellFormed, blocksOf, whole};
 ghost use Rattle.changes.specs.Single.{single};
 ghost use Rattle.changes.specs.Places.{replaceAt};
 ghost use Rattle.changes.specs.Changes.{numberAt};
@@ -64,9 +65,9 @@ pub fn position_of(k: usize) -> Position
 }
 
 // The number of the cell at p, where the start has one there and it holds one number.
-pub fn number_at(sizes: &[u8], start: State, fields: [Cell; 128], p: Position) -> Single
-    requires { ⌜ WellFormed start × Fits (now sizes) fields ⌝ }
-    ensures { λ r. ⌜ ofSingle r ≡ numberAt p (whole (now (sizes .entry)) fields start) ⌝ }
+pub fn number_at(code: &[u32; 5131], start: State, fields: [Cell; 128], p: Position) -> Single
+    requires { ⌜ IsProgram (now code) × WellFormed start ⌝ }
+    ensures { λ r. ⌜ ofSingle r ≡ numberAt p (whole (sizesOf (now (code .entry))) fields start) ⌝ }
 {
     match p {
         Position::Accu => single_of(start.accu),
@@ -79,7 +80,7 @@ pub fn number_at(sizes: &[u8], start: State, fields: [Cell; 128], p: Position) -
             single_of(start.stack[entry])
         }
         Position::Field(k, n) => {
-            let field = states::slot_of(sizes, cells::handle(k), n);
+            let field = states::slot_of(code, cells::handle(k), n);
             let Slot::At(j) = field else {
                 return Single::Other;
             };
@@ -89,8 +90,14 @@ pub fn number_at(sizes: &[u8], start: State, fields: [Cell; 128], p: Position) -
 }
 
 // The start with c in the accumulator or as an entry, where p is one of these.
-pub fn with_entry(sizes: &[u8], start: State, fields: [Cell; 128], p: Position, c: Cell) -> State
-    requires { ⌜ WellFormed start × Fits (now sizes) fields × Present p (whole (now sizes) fields start) ⌝ }
+pub fn with_entry(
+    code: &[u32; 5131],
+    start: State,
+    fields: [Cell; 128],
+    p: Position,
+    c: Cell,
+) -> State
+    requires { ⌜ IsProgram (now code) × WellFormed start × Present p (whole (sizesOf (now code)) fields start) ⌝ }
     ensures { λ r. ⌜ view r ≡ replaceAt p c (view start) ⌝ }
     ensures { λ r. ⌜ WellFormed r ⌝ }
 {
@@ -114,21 +121,21 @@ pub fn with_entry(sizes: &[u8], start: State, fields: [Cell; 128], p: Position, 
 
 // The fields with c as one of them, where p is a field.
 pub fn with_field(
-    sizes: &[u8],
+    code: &[u32; 5131],
     start: State,
     mut fields: [Cell; 128],
     p: Position,
     c: Cell,
 ) -> [Cell; 128]
-    requires { ⌜ WellFormed start × Fits (now sizes) fields × Present p (whole (now sizes) fields start) ⌝ }
-    ensures { λ r. ⌜ blocksOf (now (sizes .entry)) r ≡ replaceAt p c (whole (now (sizes .entry)) fields start) .blocks ⌝ }
+    requires { ⌜ IsProgram (now code) × WellFormed start × Present p (whole (sizesOf (now code)) fields start) ⌝ }
+    ensures { λ r. ⌜ blocksOf (sizesOf (now (code .entry))) r ≡ replaceAt p c (whole (sizesOf (now (code .entry))) fields start) .blocks ⌝ }
     ensures { λ r. ⌜ length r ≡ length fields ⌝ }
 {
     match p {
         Position::Accu => fields,
         Position::Entry(_) => fields,
         Position::Field(k, n) => {
-            let field = states::slot_of(sizes, cells::handle(k), n);
+            let field = states::slot_of(code, cells::handle(k), n);
             let Slot::At(j) = field else {
                 return fields;
             };

@@ -18,7 +18,7 @@ use Rattle.routine.specs.Routine.{readRun}
 use Rattle.routine.specs.Routine as readings
 use Rattle.routine.proofs.PlaceLaws.{read-run-place}
 use Rattle.reader.specs.declared.Routine.{Routine}
-use Rattle.reader.specs.Reader.{codes, Holds, Limited}
+use Rattle.reader.specs.Reader.{Holds}
 use Rattle.traces.specs.Traces.{traceVerdict, entries}
 use Rattle.traces.proofs.TraceLaws.{entries-few, trace-place}
 use Rattle.replays.specs.declared.Replayed.{Replayed}
@@ -30,9 +30,6 @@ use Rattle.answers.specs.Answers.{reported, refused, memoryLimit, ofVerdict}
 use Rattle.answers.proofs.AnswerLaws.{never, lent-short, from-reading, place-from, reading-refused, reading-passed}
 use Rattle.conformance.specs.Answers.{outcomeText, replayRoutine, replayAnswer}
 use Rattle.conformance.specs.Held.{outcomeIn}
-
-pub addresses-fit : (x : Routine) → Limited x → x .first + length (codes x) ≤ 65536
-addresses-fit x l = let n = l .sized .few in let f = l .first in omega arith
 
 -- ---- what is printed
 

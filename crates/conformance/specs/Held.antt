@@ -1,14 +1,14 @@
 -- What the internal functions are handed.
 use Prim.Native.Nat.{ℕ}
 use mathlib.Core.List.{List}
-use Rattle.states.specs.Columns.{codeOf}
+use Rattle.states.specs.Program.{programOf, sizesOf}
 use Rattle.states.specs.View.{whole}
 use Rattle.reader.specs.declared.Routine.{Routine}
-use Rattle.reader.specs.Reader.{codes, operands, cycles, words, extras, sizes, answers}
+use Rattle.reader.specs.Reader.{answers}
 use Rattle.traces.specs.Traces.{entries}
 use Rattle.replays.specs.Replay.{Outcome, replay}
 
 -- what the replay of a trace says of the routine that the code's arrays hold
 abbrev pub outcomeIn : Routine → List ℕ → Outcome
 outcomeIn x trace =
-    replay (codeOf (x .first) (codes x) (operands x) (cycles x) (words x) (extras x)) (whole (sizes x) (x .fields) (x .start)) (answers x) (entries trace)
+    replay (programOf (x .code)) (whole (sizesOf (x .code)) (x .fields) (x .start)) (answers x) (entries trace)

@@ -22,33 +22,13 @@ fn followed(routine: Routine, trace: &[u8]) -> Replayed
     requires { ⌜ Limited routine × (length (lines (now trace)) ≤ 4097) ⌝ }
     ensures { λ r. ⌜ ofReplayed r ≡ outcomeIn routine (now (trace .entry)) ⌝ }
 {
-    let columns = routine.columns;
-    let codes = columns.codes;
-    let operands = columns.operands;
-    let cycles = columns.cycles;
-    let words = columns.words;
-    let extras = columns.extras;
-    let sizes = routine.sizes;
+    let code = routine.code;
     let fields = routine.fields;
     let start = routine.start;
     let answers = routine.answers;
     let values = answers.values;
     let given = answers.count;
-    let count = routine.count;
-    let blocks = routine.blocks;
-    replays::replay(
-        &codes[..count],
-        &operands[..count],
-        &cycles[..count],
-        &words[..count],
-        &extras[..count],
-        &sizes[..blocks],
-        routine.first,
-        start,
-        fields,
-        &values[..given],
-        trace,
-    )
+    replays::replay(&code, start, fields, &values[..given], trace)
 }
 
 // Puts what a replay says at the start of out, and answers its length.

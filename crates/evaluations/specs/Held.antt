@@ -1,10 +1,10 @@
 -- The routine that the code's arrays hold, and how large CYCLES can be.
 use Prim.Native.Nat.{_≤_}
-use Rattle.states.specs.Columns.{codeOf}
+use Rattle.states.specs.Program.{programOf, sizesOf}
 use Rattle.states.specs.View.{whole}
 use Rattle.routine.specs.Routine as readings
 use Rattle.reader.specs.declared.Routine.{Routine}
-use Rattle.reader.specs.Reader.{codes, operands, cycles, words, extras, sizes, answers}
+use Rattle.reader.specs.Reader.{answers}
 use Rattle.findings.specs.declared.Found.{Found}
 
 -- the routine that the code's arrays hold
@@ -12,8 +12,8 @@ abbrev pub routineIn : Routine → readings.Routine
 routineIn x = record {
   budget = x .budget;
   tick = x .tick;
-  code = codeOf (x .first) (codes x) (operands x) (cycles x) (words x) (extras x);
-  start = whole (sizes x) (x .fields) (x .start);
+  code = programOf (x .code);
+  start = whole (sizesOf (x .code)) (x .fields) (x .start);
   answers = answers x;
 }
 

@@ -18,30 +18,10 @@ pub fn explored(routine: Routine) -> Found
     ensures { λ r. ⌜ Shows r (bound (routineIn routine .code) (routineIn routine .budget) (routineIn routine .start)) ⌝ }
     ensures { λ r. ⌜ Shareable r ⌝ }
 {
-    let columns = routine.columns;
-    let codes = columns.codes;
-    let operands = columns.operands;
-    let cycles = columns.cycles;
-    let words = columns.words;
-    let extras = columns.extras;
-    let sizes = routine.sizes;
+    let code = routine.code;
     let fields = routine.fields;
     let start = routine.start;
-    let count = routine.count;
-    let blocks = routine.blocks;
-    explore::explore(
-        &codes[..count],
-        &operands[..count],
-        &cycles[..count],
-        &words[..count],
-        &extras[..count],
-        &sizes[..blocks],
-        routine.first,
-        start,
-        fields,
-        32,
-        routine.budget,
-    )
+    explore::explore(&code, start, fields, 32, routine.budget)
 }
 
 // The routine's merging bound.
@@ -50,28 +30,10 @@ pub fn swept(routine: Routine) -> Found
     ensures { λ r. ⌜ Shows r (merged (routineIn routine .code) (routineIn routine .start)) ⌝ }
     ensures { λ r. ⌜ Shareable r ⌝ }
 {
-    let columns = routine.columns;
-    let codes = columns.codes;
-    let operands = columns.operands;
-    let cycles = columns.cycles;
-    let words = columns.words;
-    let extras = columns.extras;
-    let sizes = routine.sizes;
+    let code = routine.code;
     let fields = routine.fields;
     let start = routine.start;
-    let count = routine.count;
-    let blocks = routine.blocks;
-    merging::merge(
-        &codes[..count],
-        &operands[..count],
-        &cycles[..count],
-        &words[..count],
-        &extras[..count],
-        &sizes[..blocks],
-        routine.first,
-        start,
-        fields,
-    )
+    merging::merge(&code, start, fields)
 }
 
 // The routine's run.
@@ -79,31 +41,11 @@ pub fn ran(routine: Routine) -> Ran
     requires { ⌜ Limited routine ⌝ }
     ensures { λ r. ⌜ verdictOf r ≡ run (routineIn routine .code) (routineIn routine .budget) (routineIn routine .start) (routineIn routine .answers) ⌝ }
 {
-    let columns = routine.columns;
-    let codes = columns.codes;
-    let operands = columns.operands;
-    let cycles = columns.cycles;
-    let words = columns.words;
-    let extras = columns.extras;
-    let sizes = routine.sizes;
+    let code = routine.code;
     let fields = routine.fields;
     let start = routine.start;
     let answers = routine.answers;
     let values = answers.values;
     let given = answers.count;
-    let count = routine.count;
-    let blocks = routine.blocks;
-    runs::run(
-        &codes[..count],
-        &operands[..count],
-        &cycles[..count],
-        &words[..count],
-        &extras[..count],
-        &sizes[..blocks],
-        routine.first,
-        start,
-        fields,
-        &values[..given],
-        routine.budget,
-    )
+    runs::run(&code, start, fields, &values[..given], routine.budget)
 }

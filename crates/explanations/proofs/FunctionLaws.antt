@@ -12,19 +12,18 @@ use Rattle.text.specs.Text.{Line, lines}
 use Rattle.text.proofs.MemoryLaws.{Wrote}
 use Rattle.cells.specs.Cells.{unknown}
 use Rattle.machine.specs.Machine.{step}
-use Rattle.states.specs.Columns.{codeOf}
+use Rattle.states.specs.Program.{firstOf, programOf}
 use Rattle.bounds.specs.Tree.{bound}
 use Rattle.bounds.specs.Tree as bounds
 use Rattle.findings.specs.declared.Found.{Found}
 use Rattle.findings.specs.Found.{Shows, acceptedAs}
-use Rattle.merging.proofs.SweepLaws.{code-count}
+use Rattle.states.proofs.ProgramLaws.{code-count}
 use Rattle.routine.specs.Layout.{body}
 use Rattle.routine.specs.Routine.{readBound}
 use Rattle.routine.specs.Routine as readings
 use Rattle.routine.proofs.RowLaws.{read-passes}
 use Rattle.routine.proofs.RangeLaws.{tick-positive, tick-small}
 use Rattle.reader.specs.declared.Routine.{Routine}
-use Rattle.reader.specs.Reader.{codes, operands, cycles, words, extras}
 use Rattle.evaluations.specs.Held.{routineIn}
 use Rattle.report.specs.Report.{boundText}
 use Rattle.report.specs.Decode.{decode, reportOf}
@@ -41,10 +40,10 @@ use Rattle.explanations.proofs.Theorems.{explanations-fit}
 
 -- by its parts
 pub text-parts : (ls : List Line) (x : Routine) (f : Found) → textIn ls x f ≡ boundText (x .tick) (reportIn f) ++ entryNames ++ walkIn ls x (f .path)
-unfolding explanationText worstMoves reportOf codeOf
+unfolding explanationText worstMoves reportOf programOf
 text-parts ls x f =
-    ap (λ n. boundText (x .tick) (reportIn f) ++ entryNames ++ listing ls (x .first) (entries (follow (step (routineIn x .code) unknown) n (decode (f .path)) (routineIn x .start))))
-    (code-count (x .first) (codes x) (operands x) (cycles x) (words x) (extras x))
+    ap (λ n. boundText (x .tick) (reportIn f) ++ entryNames ++ listing ls (firstOf (x .code)) (entries (follow (step (routineIn x .code) unknown) n (decode (f .path)) (routineIn x .start))))
+    (code-count (x .code))
 
 pub text-length : (ls : List Line) (x : Routine) (f : Found) → length (textIn ls x f) ≡ length (boundText (x .tick) (reportIn f)) + 33 + length (walkIn ls x (f .path))
 text-length ls x f = ap length (text-parts ls x f) ∙ simp length-append (omega arith)

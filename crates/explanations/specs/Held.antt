@@ -6,10 +6,10 @@ use lib.ListN.{length}
 use Rattle.text.specs.Text.{Line}
 use Rattle.cells.specs.Cells.{unknown}
 use Rattle.machine.specs.Machine.{step}
+use Rattle.states.specs.Program.{firstOf, linesIn}
 use Rattle.bounds.specs.Tree.{Report}
 use Rattle.findings.specs.declared.Found.{Found}
 use Rattle.reader.specs.declared.Routine.{Routine}
-use Rattle.reader.specs.Reader.{codes}
 use Rattle.evaluations.specs.Held.{routineIn}
 use Rattle.report.specs.Decode.{decode, reportOf}
 use Rattle.walks.specs.Walk.{follow}
@@ -19,7 +19,7 @@ use Rattle.explanations.specs.Answers.{explanationText, explainRoutine}
 
 -- the lines of the walk along a path through the routine that the code's arrays hold
 abbrev pub walkIn : List Line → Routine → ℕ → List ℕ
-walkIn ls x path = listing ls (x .first) (entries (follow (step (routineIn x .code) unknown) (length (codes x)) (decode path) (routineIn x .start)))
+walkIn ls x path = listing ls (firstOf (x .code)) (entries (follow (step (routineIn x .code) unknown) (linesIn (x .code)) (decode path) (routineIn x .start)))
 
 -- the report that the explorer's figures stand for
 abbrev pub reportIn : Found → Report

@@ -24,32 +24,10 @@ fn put_steps(routine: Routine, path: u64, body: &[u8], out: &mut [u8], at: usize
     ensures { λ r. ⌜ r ≡ at + length (walkIn (lines (now (body .entry))) routine path) ⌝ }
     ensures { λ _. ⌜ now (out .exit) ≡ over (now (out .entry)) at (walkIn (lines (now (body .entry))) routine path) ⌝ }
 {
-    let columns = routine.columns;
-    let codes = columns.codes;
-    let operands = columns.operands;
-    let cycles = columns.cycles;
-    let words = columns.words;
-    let extras = columns.extras;
-    let sizes = routine.sizes;
+    let code = routine.code;
     let fields = routine.fields;
     let start = routine.start;
-    let count = routine.count;
-    let blocks = routine.blocks;
-    listings::put_walk(
-        out,
-        at,
-        body,
-        &codes[..count],
-        &operands[..count],
-        &cycles[..count],
-        &words[..count],
-        &extras[..count],
-        &sizes[..blocks],
-        routine.first,
-        start,
-        fields,
-        path,
-    )
+    listings::put_walk(out, at, body, &code, start, fields, path)
 }
 
 // Puts the report, the line of names and the lines of the steps at the start of out, and answers their length.

@@ -5,7 +5,7 @@ use mathlib.Core.Bool.{true, false}
 use mathlib.Core.List.{List}
 use Prim.Native.Nat.{ℕ, _+_, _-_, _*_, _≤_, _<_}
 use native.Mathlib.Omega.{arith}
-use lib.IntN.{ℤ, pos}
+use lib.IntN.{pos}
 use lib.ListN.{length}
 use Rattle.cells.specs.Try.{Try, stuck, done, _>>=_}
 use Rattle.cells.specs.declared.Cell.{Cell}
@@ -16,7 +16,7 @@ use Rattle.outcomes.proofs.TurnLaws as turn
 use Rattle.states.specs.declared.State.{State}
 use Rattle.states.specs.declared.code.Line.{Line}
 use Rattle.states.specs.View.{view, WellFormed, Fits, whole}
-use Rattle.states.specs.Columns.{codeOf, lineOf}
+use Rattle.states.specs.Program.{programOf, sizesOf, lineOf}
 use Rattle.states.proofs.StateLaws.{height-is, pushed, push-is, push-formed, stored, store-is, advance-whole}
 use Rattle.findings.specs.declared.Tally.{Tally}
 use Rattle.findings.specs.Found.{moreOf}
@@ -56,36 +56,36 @@ pub stored-is : (n : ℕ) (u w : State) → WellFormed u → u .free + n < 64 �
 unfolding load
 stored-is n u w formed h z e g = ap done (g ∙ ap (λ c. load c (view (record { at = u .at; accu = u .accu; free = u .free; stack = stored n u .stack }))) e) ∙ store-is u formed n h
 
-module _ (first : ℕ) (bs : List ℕ) (is : List ℤ) (cs ws xs ns : List ℕ) (o budget : ℕ) (fs₀ : List Cell) (s₀ : State) where
+module _ (ps : List ℕ) (o budget : ℕ) (fs₀ : List Cell) (s₀ : State) where
   abbrev pub act : machine.State → Try Next
-  act = step (codeOf first bs is cs ws xs) unknown
+  act = step (programOf ps) unknown
 
   -- what holds whenever the loop's test is reached
   pub record Turn (fs : List Cell) (s : State) (left : ℕ) (t : Tally) : Type 0 where
-    pub inv : loop.Inv act o budget (whole ns fs₀ s₀) (whole ns fs s) left t
+    pub inv : loop.Inv act o budget (whole (sizesOf ps) fs₀ s₀) (whole (sizesOf ps) fs s) left t
     pub formed : WellFormed s
-    pub fits : Fits ns fs
+    pub fits : Fits (sizesOf ps) fs
     pub size : length fs ≡ length fs₀
     pub cycles : t .cycles ≤ 8589934592 * (budget - left)
     pub words : t .words ≤ 4294967296 * (budget - left)
 
-  pub starts : WellFormed s₀ → Fits ns fs₀ → Turn fs₀ s₀ budget loop.zeroTally
+  pub starts : WellFormed s₀ → Fits (sizesOf ps) fs₀ → Turn fs₀ s₀ budget loop.zeroTally
   starts formed fits =
-      record { inv = loop.begins act o budget (whole ns fs₀ s₀); formed = formed; fits = fits; size = refl; cycles = omega arith; words = omega arith }
+      record { inv = loop.begins act o budget (whole (sizesOf ps) fs₀ s₀); formed = formed; fits = fits; size = refl; cycles = omega arith; words = omega arith }
 
-  whole-height : (fs : List Cell) (s : State) → WellFormed s → height (whole ns fs s) ≡ 64 - s .free
+  whole-height : (fs : List Cell) (s : State) → WellFormed s → height (whole (sizesOf ps) fs s) ≡ 64 - s .free
   unfolding height whole reblock
   whole-height fs s formed = height-is s formed
 
   -- a full stack, where the instruction pushes first
-  pub overflows : (fs : List Cell) (s : State) (l : Line) → done (lineOf l) ≡ fetch (codeOf first bs is cs ws xs) (s .at) → l .pushes ≡ true → WellFormed s → s .free ≡ 0 →
-      act (whole ns fs s) ≡ stuck
+  pub overflows : (fs : List Cell) (s : State) (l : Line) → done (lineOf l) ≡ fetch (programOf ps) (s .at) → l .pushes ≡ true → WellFormed s → s .free ≡ 0 →
+      act (whole (sizesOf ps) fs s) ≡ stuck
   unfolding step execute _>>=_ whole reblock
   overflows fs s l found pushes formed none =
-      let h : prepare true (whole ns fs s) ≡ stuck = turn.full ns fs s (omega (arith, height-is s formed)) in
+      let h : prepare true (whole (sizesOf ps) fs s) ≡ stuck = turn.full (sizesOf ps) fs s (omega (arith, height-is s formed)) in
       rw (sym found, pushes, h) refl
 
-  pub outside : (fs : List Cell) (s : State) → stuck ≡ fetch (codeOf first bs is cs ws xs) (s .at) → act (whole ns fs s) ≡ stuck
+  pub outside : (fs : List Cell) (s : State) → stuck ≡ fetch (programOf ps) (s .at) → act (whole (sizesOf ps) fs s) ≡ stuck
   unfolding step _>>=_ whole reblock
   outside fs s e = rw (sym e) refl
 
@@ -93,7 +93,7 @@ module _ (first : ℕ) (bs : List ℕ) (is : List ℤ) (cs ws xs ns : List ℕ) 
 
   module _ (fs : List Cell) (s : State) (left : ℕ) (t : Tally) (i : Turn fs s left t) (h : 0 < left) (p : Price) (small : (p .cycles < 8589934592) × (p .words < 4294967296)) (t′ : Tally)
       (grown : t′ ≡ moreOf t p (64 - s .free)) where
-    pub more-is : t′ ≡ moreOf t p (height (whole ns fs s))
+    pub more-is : t′ ≡ moreOf t p (height (whole (sizesOf ps) fs s))
     more-is = grown ∙ ap (moreOf t p) (sym (whole-height fs s (i .formed)))
 
     -- the tally stays within what the code's numbers hold
@@ -105,9 +105,9 @@ module _ (first : ℕ) (bs : List ℕ) (is : List ℤ) (cs ws xs ns : List ℕ) 
         let w = i .inv .within in
         (omega (arith, i .cycles), omega (arith, i .words))
 
-    pub again : (fs′ : List Cell) (v : State) → act (whole ns fs s) ≡ done (goes p (whole ns fs′ v)) → WellFormed v → Fits ns fs′ → length fs′ ≡ length fs → Turn fs′ v (left - 1) t′
+    pub again : (fs′ : List Cell) (v : State) → act (whole (sizesOf ps) fs s) ≡ done (goes p (whole (sizesOf ps) fs′ v)) → WellFormed v → Fits (sizesOf ps) fs′ → length fs′ ≡ length fs → Turn fs′ v (left - 1) t′
     again fs′ v e formed fits size = record {
-      inv = subst (loop.Inv act o budget (whole ns fs₀ s₀) (whole ns fs′ v) (left - 1)) (sym more-is) (loop.again act o budget (whole ns fs₀ s₀) (whole ns fs s) left t (i .inv) h p (whole ns fs′ v) e);
+      inv = subst (loop.Inv act o budget (whole (sizesOf ps) fs₀ s₀) (whole (sizesOf ps) fs′ v) (left - 1)) (sym more-is) (loop.again act o budget (whole (sizesOf ps) fs₀ s₀) (whole (sizesOf ps) fs s) left t (i .inv) h p (whole (sizesOf ps) fs′ v) e);
       formed = formed;
       fits = fits;
       size = size ∙ i .size;

@@ -3,27 +3,24 @@ use mathlib.Core.Path.{_≡_}
 use mathlib.Core.List.{List}
 use Prim.Native.Nat.{ℕ, _+_, _*_, _^_, _≤_, _<_}
 use lib.IntN.{ℤ}
-use lib.ListN.{length}
 use Rattle.cells.specs.declared.Cell.{Cell}
 use Rattle.cells.specs.Cells.{unknown}
 use Rattle.cells.specs.Order.{Allowed}
 use Rattle.machine.specs.Machine.{State, Code, step}
 use Rattle.machine.specs.Order.{Cellwise}
 use Rattle.states.specs.declared.State as states
-use Rattle.states.specs.View.{WellFormed, Fits, whole}
+use Rattle.states.specs.View.{WellFormed, whole}
 use Rattle.bounds.specs.Tree.{Report, explore, tree, steps}
 use Rattle.bounds.specs.Run.{begin, after}
 use Rattle.bounds.specs.Promises.{Safe, Exact}
 use Rattle.findings.specs.declared.Found.{Found}
 use Rattle.findings.specs.Found.{acceptedAs, Shows, walked}
 
--- what is asked: addresses, counts and blocks within their limits
-pub record Explorable (bs ns : List ℕ) (first : ℕ) (fs : List Cell) (start : states.State) (openings budget : ℕ) : Type 0 where
-  pub addresses : first + length bs ≤ 65536
+-- what is asked: the state and the counts within their limits
+pub record Explorable (start : states.State) (openings budget : ℕ) : Type 0 where
   pub formed : WellFormed start
   pub budget-fits : budget ≤ 1000000
   pub openings-fit : openings ≤ 32
-  pub fits : Fits ns fs
 
 -- what is promised: the answer shows the verdict of the tree, and the steps walked
 pub record Explores (c : Code) (ns : List ℕ) (fs : List Cell) (start : states.State) (openings budget : ℕ) (r : Found) : Type 0 where

@@ -10,29 +10,23 @@ use states::Slot;
 use states::State;
 use states::code::Fetched;
 ghost use Rattle.states.specs.View.{whole};
-ghost use Rattle.states.specs.Columns.{codeOf, Sized};
+ghost use Rattle.states.specs.Program.{programOf, sizesOf, IsProgram};
 ghost use Rattle.explore.specs.Contract.{Explorable, Explores, SafeUnder, ExactFor, Bounded};
 
 // Every way from `start`: a loop of steps, and a call for each way of an unknown branch. The cells of the stack and of the blocks are written
 // in place, where a method would copy the array.
 pub fn explore(
-    codes: &[u8],
-    operands: &[i32],
-    cycles: &[u32],
-    words: &[u32],
-    extras: &[u32],
-    sizes: &[u8],
-    first: usize,
+    code: &[u32; 5131],
     start: State,
     mut blocks: [Cell; 128],
     openings: usize,
     budget: usize,
 ) -> Found
-    requires { ⌜ Sized (now codes) (now operands) (now cycles) (now words) (now extras) ⌝ }
-    requires { ⌜ Explorable (now codes) (now sizes) first blocks start openings budget ⌝ }
-    ensures { λ r. ⌜ Explores (codeOf first (now (codes .entry)) (now (operands .entry)) (now (cycles .entry)) (now (words .entry)) (now (extras .entry))) (now (sizes .entry)) blocks start openings budget r ⌝ }
-    ensures safe { λ r. ⌜ SafeUnder (codeOf first (now (codes .entry)) (now (operands .entry)) (now (cycles .entry)) (now (words .entry)) (now (extras .entry))) openings budget (whole (now (sizes .entry)) blocks start) r ⌝ }
-    ensures exact { λ r. ⌜ ExactFor (codeOf first (now (codes .entry)) (now (operands .entry)) (now (cycles .entry)) (now (words .entry)) (now (extras .entry))) openings (whole (now (sizes .entry)) blocks start) r ⌝ }
+    requires { ⌜ IsProgram (now code) ⌝ }
+    requires { ⌜ Explorable start openings budget ⌝ }
+    ensures { λ r. ⌜ Explores (programOf (now (code .entry))) (sizesOf (now (code .entry))) blocks start openings budget r ⌝ }
+    ensures safe { λ r. ⌜ SafeUnder (programOf (now (code .entry))) openings budget (whole (sizesOf (now (code .entry))) blocks start) r ⌝ }
+    ensures exact { λ r. ⌜ ExactFor (programOf (now (code .entry))) openings (whole (sizesOf (now (code .entry))) blocks start) r ⌝ }
     ensures { λ r. ⌜ Bounded openings budget r ⌝ }
 {
     let mut state = start;
@@ -46,7 +40,7 @@ pub fn explore(
         let used = budget - left + 1;
         left = left - 1;
         let at = state.at;
-        let fetched = states::code::fetch(codes, operands, cycles, words, extras, first, at);
+        let fetched = states::code::fetch(code, at);
         let Fetched::Is(line) = fetched else {
             return findings::refused(Refusal::Stuck(at), used);
         };
@@ -98,7 +92,7 @@ pub fn explore(
                 state = state.load(zero);
             }
             Outcome::Sets(c) => {
-                let field = states::slot_of(sizes, state.accu, index);
+                let field = states::slot_of(code, state.accu, index);
                 let Slot::At(j) = field else {
                     return findings::refused(Refusal::Stuck(at), used);
                 };
@@ -107,7 +101,7 @@ pub fn explore(
                 state = state.pop(1).load(zero);
             }
             Outcome::Gets => {
-                let field = states::slot_of(sizes, state.accu, index);
+                let field = states::slot_of(code, state.accu, index);
                 let Slot::At(j) = field else {
                     return findings::refused(Refusal::Stuck(at), used);
                 };
@@ -124,38 +118,14 @@ pub fn explore(
                 if openings == 0 {
                     return findings::refused(Refusal::Openings(at), used);
                 }
-                let untaken = explore(
-                    codes,
-                    operands,
-                    cycles,
-                    words,
-                    extras,
-                    sizes,
-                    first,
-                    state,
-                    blocks,
-                    openings - 1,
-                    left,
-                );
+                let untaken = explore(code, state, blocks, openings - 1, left);
                 let first_verdict = untaken.verdict;
                 if let Verdict::Refused(refusal) = first_verdict {
                     return findings::refused(refusal, used + untaken.used);
                 }
                 let rest = left - untaken.used;
                 state = state.jump(index);
-                let taken = explore(
-                    codes,
-                    operands,
-                    cycles,
-                    words,
-                    extras,
-                    sizes,
-                    first,
-                    state,
-                    blocks,
-                    openings - 1,
-                    rest,
-                );
+                let taken = explore(code, state, blocks, openings - 1, rest);
                 let second_verdict = taken.verdict;
                 if let Verdict::Refused(refusal) = second_verdict {
                     return findings::refused(refusal, used + untaken.used + taken.used);

@@ -102,7 +102,7 @@ fn put_line(
     if words::has_argument(k) {
         let w = text::word_at(line, 2);
         let z = argument_word(primitives, indices, first, index, k, w);
-        words::put_word(out, e, words::word_of(z));
+        words::put_word(out, e, numbers::word_of(z));
         return index + 2;
     }
     index + 1

@@ -18,23 +18,20 @@ use Rattle.machine.specs.Machine.{State, Code, reblock}
 use Rattle.bounds.specs.Tree.{Verdict, accepted, refused, bound}
 use Rattle.bounds.specs.Run.{Run, begin, after, boundedAfresh}
 use Rattle.states.specs.declared.State as states
-use Rattle.states.specs.View.{WellFormed, Fits, whole}
+use Rattle.states.specs.View.{whole}
 use Rattle.cells.specs.declared.Cell.{Cell}
 use Rattle.findings.specs.declared.Found.{Found}
 use Rattle.findings.specs.Found.{encode, Shows, acceptedAs, finishedOf}
 use Rattle.runs.specs.declared.Progress.{Progress}
 use Rattle.runs.specs.Progress.{ofProgress}
-use Rattle.runs.specs.Contract.{Runnable}
-use Rattle.explore.specs.Contract.{Explorable, Explores}
+use Rattle.explore.specs.Contract.{Explores}
 use Rattle.routine.specs.Routine.{readRun}
 use Rattle.routine.specs.Routine as readings
 use Rattle.reader.specs.declared.Routine.{Routine}
-use Rattle.reader.specs.Reader.{codes, sizes, Limited}
 use Rattle.answers.specs.Answers.{Answer, reported, memory}
 use Rattle.answers.specs.Answers as answers
 use Rattle.answers.proofs.AnswerLaws.{lent-short, reading-refused, reading-passed}
 use Rattle.evaluations.specs.Held.{routineIn}
-use Rattle.evaluations.proofs.EvaluationLaws.{runnable}
 use Rattle.analyser.proofs.FunctionLaws.{passes-not, same-refused}
 use Rattle.interrupts.specs.Interrupts.{numbersOfRun, numbersOfVerdict, numbersOf, stepsOf, interrupted, interruptAnswer, numberOf, Numbered}
 
@@ -93,16 +90,6 @@ module _ (d t : List ℕ) (i : ℕ) where
   put-all h o e =
       let z : 0 + length t ≡ length t = omega arith in
       e ∙ ap (λ (j : ℕ). over d 0 (take j t)) h ∙ ap (over d 0) (take-length t) ∙ ap (λ (j : ℕ). t ++ drop j d) z
-
--- ---- what is asked
-
-pub reached-explorable : (bs ns : List ℕ) (first : ℕ) (start : states.State) (fields : List Cell) (n budget : ℕ) → Runnable bs ns first start fields n → budget ≤ 1000000 →
-    (t : states.State) (fs : List Cell) → WellFormed t × Fits ns fs → Explorable bs ns first fs t 32 budget
-reached-explorable bs ns first start fields n budget a h t fs l =
-    record { addresses = a .addresses; formed = l .0; budget-fits = h; openings-fit = omega arith; fits = l .1 }
-
-pub interruptible : (x : Routine) → Limited x → (n : ℕ) → n ≤ 1000000 → Runnable (codes x) (sizes x) (x .first) (x .start) (x .fields) n
-interruptible x l n h = let a = runnable x l in record { addresses = a .addresses; formed = a .formed; fits = a .fits; steps = h }
 
 -- ---- a routine
 

@@ -12,7 +12,7 @@ ghost use mathlib.Core.Path.{_≡_};
 ghost use mathlib.Core.List.{_++_};
 ghost use Prim.Native.Nat.{_≤_};
 ghost use lib.ListN.{length, drop};
-ghost use Rattle.states.specs.Columns.{codeOf, Sized};
+ghost use Rattle.states.specs.Program.{programOf, sizesOf, IsProgram};
 ghost use Rattle.states.specs.View.{whole};
 ghost use Rattle.bounds.specs.Tree.{bound};
 ghost use Rattle.bounds.specs.Run.{begin, after, boundedAfresh};
@@ -26,21 +26,15 @@ ghost use Rattle.interrupts.specs.Interrupts.{Numbered, numbersOf, steps
 
 // The state that a run has reached, bounded afresh.
 fn afresh(
-    codes: &[u8],
-    operands: &[i32],
-    cycles: &[u32],
-    words: &[u32],
-    extras: &[u32],
-    sizes: &[u8],
-    first: usize,
+    code: &[u32; 5131],
     stopped: bool,
     state: State,
     blocks: [Cell; 128],
     budget: usize,
 ) -> Found
-    requires { ⌜ Sized (now codes) (now operands) (now cycles) (now words) (now extras) ⌝ }
-    requires { ⌜ Explorable (now codes) (now sizes) first blocks state 32 budget ⌝ }
-    ensures { λ r. ⌜ Shows r (boundedAfresh (bound (codeOf first (now (codes .entry)) (now (operands .entry)) (now (cycles .entry)) (now (words .entry)) (now (extras .entry))) budget) stopped (whole (now (sizes .entry)) blocks state)) ⌝ }
+    requires { ⌜ IsProgram (now code) ⌝ }
+    requires { ⌜ Explorable state 32 budget ⌝ }
+    ensures { λ r. ⌜ Shows r (boundedAfresh (bound (programOf (now (code .entry))) budget) stopped (whole (sizesOf (now (code .entry))) blocks state)) ⌝ }
 {
     if stopped {
         let nothing = Tally {
@@ -50,19 +44,7 @@ fn afresh(
         };
         return findings::finished(nothing, 0);
     }
-    explore::explore(
-        codes,
-        operands,
-        cycles,
-        words,
-        extras,
-        sizes,
-        first,
-        state,
-        blocks,
-        32,
-        budget,
-    )
+    explore::explore(code, state, blocks, 32, budget)
 }
 
 // The numbers of a run so far and of what it was found to come to.
@@ -118,51 +100,21 @@ fn numbers_of(r: Progress, found: Found) -> [u64; 13]
 
 // The run of `n` steps, and its state bounded afresh.
 fn interrupt(
-    codes: &[u8],
-    operands: &[i32],
-    cycles: &[u32],
-    words: &[u32],
-    extras: &[u32],
-    sizes: &[u8],
-    first: usize,
+    code: &[u32; 5131],
     start: State,
     fields: [Cell; 128],
     answers: &[i32],
     n: usize,
     budget: usize,
 ) -> [u64; 13]
-    requires { ⌜ Sized (now codes) (now operands) (now cycles) (now words) (now extras) ⌝ }
-    requires { ⌜ Runnable (now codes) (now sizes) first start fields n × (budget ≤ 1000000) ⌝ }
-    ensures { λ r. ⌜ r ≡ numbersOf (codeOf first (now (codes .entry)) (now (operands .entry)) (now (cycles .entry)) (now (words .entry)) (now (extras .entry))) budget (after (codeOf first (now (codes .entry)) (now (operands .entry)) (now (cycles .entry)) (now (words .entry)) (now (extras .entry))) n (begin (whole (now (sizes .entry)) fields start) (now (answers .entry)))) ⌝ }
+    requires { ⌜ IsProgram (now code) ⌝ }
+    requires { ⌜ Runnable start n × (budget ≤ 1000000) ⌝ }
+    ensures { λ r. ⌜ r ≡ numbersOf (programOf (now (code .entry))) budget (after (programOf (now (code .entry))) n (begin (whole (sizesOf (now (code .entry))) fields start) (now (answers .entry)))) ⌝ }
 {
-    let r = runs::after(
-        codes,
-        operands,
-        cycles,
-        words,
-        extras,
-        sizes,
-        first,
-        start,
-        fields,
-        answers,
-        n,
-    );
+    let r = runs::after(code, start, fields, answers, n);
     let reached = r.state;
     let written = r.blocks;
-    let found = afresh(
-        codes,
-        operands,
-        cycles,
-        words,
-        extras,
-        sizes,
-        first,
-        r.stopped,
-        reached,
-        written,
-        budget,
-    );
+    let found = afresh(code, r.stopped, reached, written, budget);
     numbers_of(r, found)
 }
 
@@ -182,35 +134,14 @@ fn interrupted(x: Routine, n: u64) -> [u64; 13]
     requires { ⌜ Limited x ⌝ }
     ensures { λ r. ⌜ r ≡ interrupted (routineIn x) n ⌝ }
 {
-    let columns = x.columns;
-    let codes = columns.codes;
-    let operands = columns.operands;
-    let cycles = columns.cycles;
-    let words = columns.words;
-    let extras = columns.extras;
-    let sizes = x.sizes;
+    let code = x.code;
     let fields = x.fields;
     let start = x.start;
     let answers = x.answers;
     let values = answers.values;
     let given = answers.count;
-    let count = x.count;
-    let blocks = x.blocks;
     let steps = steps_of(n);
-    interrupt(
-        &codes[..count],
-        &operands[..count],
-        &cycles[..count],
-        &words[..count],
-        &extras[..count],
-        &sizes[..blocks],
-        x.first,
-        start,
-        fields,
-        &values[..given],
-        steps,
-        x.budget,
-    )
+    interrupt(&code, start, fields, &values[..given], steps, x.budget)
 }
 
 // Puts the numbers at the start of out.

@@ -19,7 +19,7 @@ use Rattle.words.specs.Words.{wordBits, Word, whole, cut, littleEndian, wordsOf
 use Rattle.words.specs.Decoding.{Item, itemOf, hasArgument, Entry, item, unreadable, opcode, argument, coded, entries, items, callListed, faultFrom}
 use Rattle.words.specs.Held.{sizeOf}
 use Rattle.words.specs.Export.{itemWords, wordsIn}
-use Rattle.words.proofs.WordLaws.{signed-fits}
+use Rattle.numbers.proofs.ResidueLaws.{signed-fits}
 use Rattle.words.proofs.HeadLaws.{size-one, size-two}
 use Rattle.words.proofs.ExportLaws.{Placed, with-word, plain}
 use Rattle.words.proofs.ExportLaws as placed

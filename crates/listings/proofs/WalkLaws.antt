@@ -12,7 +12,7 @@ use Rattle.cells.specs.declared.Cell.{Cell}
 use Rattle.cells.specs.Cells.{unknown}
 use Rattle.machine.specs.Machine.{State, Code, height, reblock, step}
 use Rattle.states.specs.declared.State as states
-use Rattle.states.specs.View.{WellFormed, Fits, whole}
+use Rattle.states.specs.View.{WellFormed, whole}
 use Rattle.states.proofs.StateLaws.{height-is}
 use Rattle.bounds.specs.Traces.{move}
 use Rattle.report.specs.Decode.{decode}
@@ -41,21 +41,19 @@ pub record Writing (c : Code) (ns : List ℕ) (ls : List Line) (first : ℕ) (fo
   pub wrote : Wrote former start made e out
   pub long : length out ≡ length former
   pub formed : WellFormed state
-  pub fits : Fits ns blocks
   pub cycles : spent + 8589934592 * left ≤ 8796093022208
   pub words : sum + 4294967296 * left ≤ 4398046511104
   pub whole-is : made ++ remaining c ns ls first state blocks rest spent sum left ≡ total
 
 pub writing-starts : (c : Code) (ns : List ℕ) (ls : List Line) (first : ℕ) (former : List ℕ) (start : ℕ) (state : states.State) (blocks : List Cell) (path n : ℕ)
-    → start ≤ length former → WellFormed state → Fits ns blocks → n ≤ 1024
+    → start ≤ length former → WellFormed state → n ≤ 1024
     → Writing c ns ls first former start (listing ls first (entries (follow (step c unknown) n (decode path) (whole ns blocks state)))) former start state blocks path 0 0 n
 unfolding entries
-writing-starts c ns ls first former start state blocks path n h formed fits few = record {
+writing-starts c ns ls first former start state blocks path n h formed few = record {
   made = [];
   wrote = wrote-none former start h;
   long = refl;
   formed = formed;
-  fits = fits;
   cycles = omega arith;
   words = omega arith;
   whole-is = refl;
@@ -133,7 +131,6 @@ module _ {c : Code} {ns : List ℕ} {ls : List Line} {first : ℕ} {former : Lis
           wrote = wrote-more (i .wrote) written put;
           long = l ∙ i .long;
           formed = h .formed;
-          fits = h .fits;
           cycles = omega (arith, h .cycles, i .cycles);
           words = omega (arith, h .words, i .words);
           whole-is =

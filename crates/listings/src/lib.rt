@@ -8,8 +8,8 @@ ghost use Rattle.text.specs.Text.{lines};
 ghost use Rattle.text.specs.Memory.{over};
 ghost use Rattle.cells.specs.Cells.{unknown};
 ghost use Rattle.machine.specs.Machine.{step};
-ghost use Rattle.states.specs.Columns.{codeOf, Sized};
-ghost use Rattle.states.specs.View.{WellFormed, Fits, whole};
+ghost use Rattle.states.specs.Program.{firstOf, linesIn, programOf, sizesOf, IsProgram};
+ghost use Rattle.states.specs.View.{WellFormed, whole};
 ghost use Rattle.report.specs.Decode.{decode};
 ghost use Rattle.walks.specs.Walk.{follow};
 ghost use Rattle.listings.specs.Listing.{entries, codeText, entryText, listing};
@@ -55,21 +55,15 @@ pub fn put_walk(
     out: &mut [u8],
     at: usize,
     body: &[u8],
-    codes: &[u8],
-    operands: &[i32],
-    cycles: &[u32],
-    words: &[u32],
-    extras: &[u32],
-    sizes: &[u8],
-    first: usize,
+    code: &[u32; 5131],
     start: State,
     fields: [Cell; 128],
     path: u64,
 ) -> usize
-    requires { ⌜ Sized (now codes) (now operands) (now cycles) (now words) (now extras) × (first + length (now codes) ≤ 65536) × WellFormed start × Fits (now sizes) fields ⌝ }
-    requires { ⌜ at + length (listing (lines (now body)) first (entries (follow (step (codeOf first (now codes) (now operands) (now cycles) (now words) (now extras)) unknown) (length (now codes)) (decode path) (whole (now sizes) fields start)))) ≤ length (now out) ⌝ }
-    ensures { λ r. ⌜ r ≡ at + length (listing (lines (now (body .entry))) first (entries (follow (step (codeOf first (now (codes .entry)) (now (operands .entry)) (now (cycles .entry)) (now (words .entry)) (now (extras .entry))) unknown) (length (now (codes .entry))) (decode path) (whole (now (sizes .entry)) fields start)))) ⌝ }
-    ensures { λ _. ⌜ now (out .exit) ≡ over (now (out .entry)) at (listing (lines (now (body .entry))) first (entries (follow (step (codeOf first (now (codes .entry)) (now (operands .entry)) (now (cycles .entry)) (now (words .entry)) (now (extras .entry))) unknown) (length (now (codes .entry))) (decode path) (whole (now (sizes .entry)) fields start)))) ⌝ }
+    requires { ⌜ IsProgram (now code) × WellFormed start ⌝ }
+    requires { ⌜ at + length (listing (lines (now body)) (firstOf (now code)) (entries (follow (step (programOf (now code)) unknown) (linesIn (now code)) (decode path) (whole (sizesOf (now code)) fields start)))) ≤ length (now out) ⌝ }
+    ensures { λ r. ⌜ r ≡ at + length (listing (lines (now (body .entry))) (firstOf (now (code .entry))) (entries (follow (step (programOf (now (code .entry))) unknown) (linesIn (now (code .entry))) (decode path) (whole (sizesOf (now (code .entry))) fields start)))) ⌝ }
+    ensures { λ _. ⌜ now (out .exit) ≡ over (now (out .entry)) at (listing (lines (now (body .entry))) (firstOf (now (code .entry))) (entries (follow (step (programOf (now (code .entry))) unknown) (linesIn (now (code .entry))) (decode path) (whole (sizesOf (now (code .entry))) fields start)))) ⌝ }
 {
     let mut e = at;
     let mut state = start;
@@ -77,20 +71,10 @@ pub fn put_walk(
     let mut rest = path;
     let mut spent: u64 = 0;
     let mut sum: u64 = 0;
-    let mut left = codes.len();
+    let first = code[0] as usize;
+    let mut left = code[1] as usize;
     while 0 < left {
-        let walked = walks::walk(
-            codes,
-            operands,
-            cycles,
-            words,
-            extras,
-            sizes,
-            first,
-            rest,
-            state,
-            blocks,
-        );
+        let walked = walks::walk(code, rest, state, blocks);
         if !walked.made {
             return e;
         }

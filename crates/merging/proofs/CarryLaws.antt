@@ -20,7 +20,7 @@ use Rattle.machine.specs.Order.{Cellwise}
 use Rattle.machine.proofs.NextCovering.{Leads, leads-self}
 use Rattle.machine.proofs.StepLaws.{step-law}
 use Rattle.states.specs.declared.State as code
-use Rattle.states.specs.View.{view, WellFormed, Fits, whole}
+use Rattle.states.specs.View.{view, WellFormed, whole}
 use Rattle.states.proofs.StateLaws.{height-is, jump-whole}
 use Rattle.bounds.specs.Tree.{Report, Verdict, refused}
 use Rattle.steps.specs.declared.Price as steps
@@ -33,12 +33,9 @@ use Rattle.findings.specs.declared.Found.{Found}
 use Rattle.findings.specs.Found.{acceptedAs, encode, refusedAs}
 use Rattle.merges.specs.Merge.{Arrival, arrival, Table, slot, arrive, send, reach, finish, carry}
 use Rattle.arrivals.specs.declared.Way.{Way}
-use Rattle.arrivals.specs.Rows.{Small, Formed, Numeric, Rows, arrivalOf, slotAt, joinAt, waiting}
+use Rattle.arrivals.specs.Rows.{Formed, Numeric, Rows, arrivalOf, slotAt, joinAt, waiting}
 use Rattle.merging.specs.Pass.{Comes, Spent, most, Figures, Ready, Agrees, spentOf}
 use Rattle.merging.proofs.PassLaws.{alone, arrived, spent-more, spent-at}
-
-pub fits-of : (ns : List ℕ) (bl : List Cell) → Small ns → length bl ≡ 128 → Fits ns bl
-fits-of ns bl s e = record { few = s .few; room = omega (arith, s .blocks) }
 
 -- ---- the figures
 

@@ -2,10 +2,9 @@
 use Prim.Native.Nat.{ℕ, zero, suc, _+_, _*_, _-_, _<_, _≤_}
 use mathlib.Core.Path.{_≡_, refl, sym, ap, ap₂, subst, _∙_}
 use mathlib.Core.Bool.{Bool, true, false, cond}
-use mathlib.Core.List.{List, [], _∷_}
+use mathlib.Core.List.{List}
 use native.Mathlib.Omega.{arith}
 use lib.Dec.{eqb}
-use lib.IntN.{ℤ}
 use lib.ListN.{length, getD, drop, replicate, length-replicate}
 use lib.Seq.{getD-take, getD-drop}
 use Rattle.refusals.specs.declared.Refusal.{Refusal}
@@ -14,7 +13,6 @@ use Rattle.cells.specs.declared.Cell.{Cell}
 use Rattle.cells.specs.Cells.{unknown}
 use Rattle.machine.specs.Machine.{State, Code, step, reblock}
 use Rattle.states.specs.declared.State as code
-use Rattle.states.specs.Columns.{instructionsOf, codeOf}
 use Rattle.states.specs.View.{WellFormed, whole}
 use Rattle.bounds.specs.Tree.{Report, Verdict}
 use Rattle.findings.specs.declared.Found.{Found}
@@ -52,19 +50,6 @@ nothing-at ns first n b es fs =
     (getD-take 5 (drop (5 * b) (replicate n 0)) 0 0 (omega arith) ∙ getD-drop (5 * b) (replicate n 0) 0 0 ∙ zeros n (5 * b + 0))
 
 -- ---- the code of columns
-
-pub lines-count : (bs : List ℕ) (is : List ℤ) (cs ws xs : List ℕ) → length (instructionsOf bs is cs ws xs) ≡ length bs
-unfolding instructionsOf
-lines-count [] is cs ws xs = refl
-lines-count (b ∷ bs) is cs ws xs = ap suc (lines-count bs (drop 1 is) (drop 1 cs) (drop 1 ws) (drop 1 xs))
-
-pub code-count : (first : ℕ) (bs : List ℕ) (is : List ℤ) (cs ws xs : List ℕ) → length (codeOf first bs is cs ws xs .instructions) ≡ length bs
-unfolding codeOf
-code-count first bs is cs ws xs = lines-count bs is cs ws xs
-
-pub code-first : (first : ℕ) (bs : List ℕ) (is : List ℤ) (cs ws xs : List ℕ) → codeOf first bs is cs ws xs .first ≡ first
-unfolding codeOf
-code-first first bs is cs ws xs = refl
 
 -- ---- where it begins
 

@@ -16,14 +16,14 @@ ghost use Rattle.cells.specs.Codes.{Kept};
 ghost use Rattle.cells.specs.Cells.{unknown};
 ghost use Rattle.machine.specs.Machine.{step};
 ghost use Rattle.machine.specs.Order.{Cellwise};
-ghost use Rattle.states.specs.Columns.{codeOf, Sized};
+ghost use Rattle.states.specs.Program.{firstOf, linesIn, programOf, sizesOf, IsProgram};
 ghost use Rattle.states.specs.View.{WellFormed, whole};
 ghost use Rattle.bounds.specs.Tree.{Report};
 ghost use Rattle.steps.specs.Step.{SmallPrice};
 ghost use Rattle.findings.specs.Found.{acceptedAs, Shows};
 ghost use Rattle.refusals.specs.declared.Verdict.the-variants.{Accepted};
 ghost use Rattle.merges.specs.Merge.{Table, slot, carry, visit, merged};
-ghost use Rattle.arrivals.specs.Rows.{Small, Formed, Numeric, Row, Rows, arrivalOf, slotIn, slotAt, joinAt, with, waiting};
+ghost use Rattle.arrivals.specs.Rows.{Formed, Numeric, Row, Rows, arrivalOf, slotIn, slotAt, joinAt, with, waiting, rowsOf};
 ghost use Rattle.merging.specs.Pass.{cameAs, Held, Comes, Spent, most, Figures, Ready, Agrees, Moved, spentOf};
 
 // A way goes on from the address of row `j`: whether to the next. To any other it is sent.
@@ -31,22 +31,20 @@ fn onward(
     heads: &mut [u64],
     entries: &mut [u64],
     fields: &mut [u64],
-    sizes: &[u8],
-    first: usize,
-    n: usize,
+    code: &[u32; 5131],
     j: usize,
     w: Way,
 ) -> bool
-    requires { ⌜ Rows (now heads) (now entries) (now fields) × (n ≤ 1025) × (first ≤ 65536) × (j < n) × (Formed w × Numeric (now sizes) w) × Small (now sizes) ⌝ }
-    ensures { λ r. ⌜ ((b : ℕ) → j < b → b < n → waiting (now (sizes .entry)) r w (j + 1) b (slotAt (now (sizes .entry)) first (now (heads .exit)) (now (entries .exit)) (now (fields .exit)) b) ≡ joinAt (first + b) (arrivalOf (now (sizes .entry)) w) (slotAt (now (sizes .entry)) first (now (heads .entry)) (now (entries .entry)) (now (fields .entry)) b)) ⌝ }
-    ensures { λ r. ⌜ Comes (now (sizes .entry)) r w (first + (j + 1)) ⌝ }
+    requires { ⌜ Rows (now heads) (now entries) (now fields) × (j < rowsOf (now code)) × (Formed w × Numeric (sizesOf (now code)) w) × IsProgram (now code) ⌝ }
+    ensures { λ r. ⌜ ((b : ℕ) → j < b → b < rowsOf (now (code .entry)) → waiting (sizesOf (now (code .entry))) r w (j + 1) b (slotAt (sizesOf (now (code .entry))) (firstOf (now (code .entry))) (now (heads .exit)) (now (entries .exit)) (now (fields .exit)) b) ≡ joinAt (firstOf (now (code .entry)) + b) (arrivalOf (sizesOf (now (code .entry))) w) (slotAt (sizesOf (now (code .entry))) (firstOf (now (code .entry))) (now (heads .entry)) (now (entries .entry)) (now (fields .entry)) b)) ⌝ }
+    ensures { λ r. ⌜ Comes (sizesOf (now (code .entry))) r w (firstOf (now (code .entry)) + (j + 1)) ⌝ }
 {
     let s = w.state;
     let at = s.at;
-    if at == first + j + 1 {
+    if at == code[0] as usize + j + 1 {
         return true;
     }
-    arrivals::send(heads, entries, fields, sizes, first, n, w);
+    arrivals::send(heads, entries, fields, code, w);
     false
 }
 
@@ -93,14 +91,14 @@ fn reach(
     head: &mut [u64],
     entries: &mut [u64],
     fields: &mut [u64],
-    sizes: &[u8],
+    code: &[u32; 5131],
     at: usize,
     here: bool,
     w: Way,
 ) -> Came
-    requires { ⌜ Row (now head) (now entries) (now fields) × Comes (now sizes) here w at × Small (now sizes) ⌝ }
-    ensures { λ r. ⌜ cameAs (now (sizes .entry)) (r .mark) (r .way) ≡ with (now (sizes .entry)) here w (slotIn (now (sizes .entry)) at (now (head .entry)) (now (entries .entry)) (now (fields .entry))) ⌝ }
-    ensures { λ r. ⌜ Held (now (sizes .entry)) (r .mark) (r .way) at ⌝ }
+    requires { ⌜ Row (now head) (now entries) (now fields) × Comes (sizesOf (now code)) here w at × IsProgram (now code) ⌝ }
+    ensures { λ r. ⌜ cameAs (sizesOf (now (code .entry))) (r .mark) (r .way) ≡ with (sizesOf (now (code .entry))) here w (slotIn (sizesOf (now (code .entry))) at (now (head .entry)) (now (entries .entry)) (now (fields .entry))) ⌝ }
+    ensures { λ r. ⌜ Held (sizesOf (now (code .entry))) (r .mark) (r .way) at ⌝ }
 {
     if !here {
         return found(at, head, entries, fields, w);
@@ -112,7 +110,7 @@ fn reach(
             way: w,
         };
     }
-    arrivals::join(head, entries, fields, sizes, w);
+    arrivals::join(head, entries, fields, code, w);
     found(at, head, entries, fields, w)
 }
 
@@ -172,50 +170,32 @@ pub struct Pass {
 
 // The way `w`, which is all that has come to the address of row `j`, is carried out there.
 fn carry(
-    codes: &[u8],
-    operands: &[i32],
-    cycles: &[u32],
-    words: &[u32],
-    extras: &[u32],
+    code: &[u32; 5131],
     heads: &mut [u64],
     entries: &mut [u64],
     fields: &mut [u64],
-    sizes: &[u8],
-    first: usize,
-    n: usize,
     j: usize,
     f: Found,
     w: Way,
 ) -> Pass
-    requires { ⌜ Sized (now codes) (now operands) (now cycles) (now words) (now extras) ⌝ }
-    requires { ⌜ Rows (now heads) (now entries) (now fields) × (n ≤ 1025) × (first + length (now codes) ≤ 65536) × (j < n) × Small (now sizes) ⌝ }
-    requires { ⌜ (Formed w × Numeric (now sizes) w) × (w .state .at ≡ first + j) × (w .cycles ≤ most j) × (w .words ≤ most j) × Figures j f ⌝ }
-    requires { ⌜ ((b : ℕ) → j < b → b < n → Spent (most j) (slotAt (now sizes) first (now heads) (now entries) (now fields) b)) ⌝ }
-    ensures { λ r. ⌜ Ready (now (sizes .entry)) first n (j + 1) (now (heads .exit)) (now (entries .exit)) (now (fields .exit)) r ⌝ }
-    ensures { λ r. ⌜ ((tab : Table) (q : Report) → f ≡ acceptedAs q → ((b : ℕ) → j < b → b < n → slot (tab (first + b)) ≡ slotAt (now (sizes .entry)) first (now (heads .entry)) (now (entries .entry)) (now (fields .entry)) b) → Moved (now (sizes .entry)) first n (j + 1) (λ rest. carry rest (first + j) tab q (whole (now (sizes .entry)) (w .blocks) (w .state)) (spentOf w) (step (codeOf first (now (codes .entry)) (now (operands .entry)) (now (cycles .entry)) (now (words .entry)) (now (extras .entry))) unknown (whole (now (sizes .entry)) (w .blocks) (w .state)))) (now (heads .exit)) (now (entries .exit)) (now (fields .exit)) r) ⌝ }
+    requires { ⌜ IsProgram (now code) ⌝ }
+    requires { ⌜ Rows (now heads) (now entries) (now fields) × (j < rowsOf (now code)) ⌝ }
+    requires { ⌜ (Formed w × Numeric (sizesOf (now code)) w) × (w .state .at ≡ firstOf (now code) + j) × (w .cycles ≤ most j) × (w .words ≤ most j) × Figures j f ⌝ }
+    requires { ⌜ ((b : ℕ) → j < b → b < rowsOf (now code) → Spent (most j) (slotAt (sizesOf (now code)) (firstOf (now code)) (now heads) (now entries) (now fields) b)) ⌝ }
+    ensures { λ r. ⌜ Ready (sizesOf (now (code .entry))) (firstOf (now (code .entry))) (rowsOf (now (code .entry))) (j + 1) (now (heads .exit)) (now (entries .exit)) (now (fields .exit)) r ⌝ }
+    ensures { λ r. ⌜ ((tab : Table) (q : Report) → f ≡ acceptedAs q → ((b : ℕ) → j < b → b < rowsOf (now (code .entry)) → slot (tab (firstOf (now (code .entry)) + b)) ≡ slotAt (sizesOf (now (code .entry))) (firstOf (now (code .entry))) (now (heads .entry)) (now (entries .entry)) (now (fields .entry)) b) → Moved (sizesOf (now (code .entry))) (firstOf (now (code .entry))) (rowsOf (now (code .entry))) (j + 1) (λ rest. carry rest (firstOf (now (code .entry)) + j) tab q (whole (sizesOf (now (code .entry))) (w .blocks) (w .state)) (spentOf w) (step (programOf (now (code .entry))) unknown (whole (sizesOf (now (code .entry))) (w .blocks) (w .state)))) (now (heads .exit)) (now (entries .exit)) (now (fields .exit)) r) ⌝ }
 {
     let s = w.state;
     let b = w.blocks;
     let answer = cells::unknown();
-    let stepped = steps::step(
-        codes,
-        operands,
-        cycles,
-        words,
-        extras,
-        sizes,
-        first,
-        answer,
-        s,
-        b,
-    );
+    let stepped = steps::step(code, answer, s, b);
     let next = stepped.next;
     let state = stepped.state;
     let blocks = stepped.blocks;
     let g = reached(f, 64 - s.free);
     match next {
         Next::Stuck => Pass {
-            found: findings::refused(Refusal::Stuck(first + j), 0),
+            found: findings::refused(Refusal::Stuck(s.at), 0),
             here: false,
             way: w,
         },
@@ -226,7 +206,7 @@ fn carry(
         },
         Next::Goes(p) => {
             let v = paid(w, state, blocks, p);
-            let here = onward(heads, entries, fields, sizes, first, n, j, v);
+            let here = onward(heads, entries, fields, code, j, v);
             Pass {
                 found: g,
                 here: here,
@@ -235,9 +215,9 @@ fn carry(
         }
         Next::Opens(p, place, q) => {
             let taken = paid(w, state.jump(place), blocks, q);
-            arrivals::send(heads, entries, fields, sizes, first, n, taken);
+            arrivals::send(heads, entries, fields, code, taken);
             let v = paid(w, state, blocks, p);
-            let here = onward(heads, entries, fields, sizes, first, n, j, v);
+            let here = onward(heads, entries, fields, code, j, v);
             Pass {
                 found: g,
                 here: here,
@@ -249,27 +229,19 @@ fn carry(
 
 // The address of row `j`.
 fn visit(
-    codes: &[u8],
-    operands: &[i32],
-    cycles: &[u32],
-    words: &[u32],
-    extras: &[u32],
+    code: &[u32; 5131],
     heads: &mut [u64],
     entries: &mut [u64],
     fields: &mut [u64],
-    sizes: &[u8],
-    first: usize,
-    n: usize,
     j: usize,
     p: Pass,
 ) -> Pass
-    requires { ⌜ Sized (now codes) (now operands) (now cycles) (now words) (now extras) ⌝ }
-    requires { ⌜ (n ≤ 1025) × (first + length (now codes) ≤ 65536) × (j < n) × Small (now sizes) ⌝ }
-    requires { ⌜ Ready (now sizes) first n j (now heads) (now entries) (now fields) p ⌝ }
-    ensures { λ r. ⌜ Ready (now (sizes .entry)) first n (j + 1) (now (heads .exit)) (now (entries .exit)) (now (fields .exit)) r ⌝ }
-    ensures { λ r. ⌜ ((tab : Table) (q : Report) → p .found ≡ acceptedAs q → Agrees (now (sizes .entry)) first n j tab (now (heads .entry)) (now (entries .entry)) (now (fields .entry)) (p .here) (p .way) → Moved (now (sizes .entry)) first n (j + 1) (λ rest. visit (step (codeOf first (now (codes .entry)) (now (operands .entry)) (now (cycles .entry)) (now (words .entry)) (now (extras .entry))) unknown) rest (first + j) tab q (slot (tab (first + j)))) (now (heads .exit)) (now (entries .exit)) (now (fields .exit)) r) ⌝ }
+    requires { ⌜ IsProgram (now code) × (j < rowsOf (now code)) ⌝ }
+    requires { ⌜ Ready (sizesOf (now code)) (firstOf (now code)) (rowsOf (now code)) j (now heads) (now entries) (now fields) p ⌝ }
+    ensures { λ r. ⌜ Ready (sizesOf (now (code .entry))) (firstOf (now (code .entry))) (rowsOf (now (code .entry))) (j + 1) (now (heads .exit)) (now (entries .exit)) (now (fields .exit)) r ⌝ }
+    ensures { λ r. ⌜ ((tab : Table) (q : Report) → p .found ≡ acceptedAs q → Agrees (sizesOf (now (code .entry))) (firstOf (now (code .entry))) (rowsOf (now (code .entry))) j tab (now (heads .entry)) (now (entries .entry)) (now (fields .entry)) (p .here) (p .way) → Moved (sizesOf (now (code .entry))) (firstOf (now (code .entry))) (rowsOf (now (code .entry))) (j + 1) (λ rest. visit (step (programOf (now (code .entry))) unknown) rest (firstOf (now (code .entry)) + j) tab q (slot (tab (firstOf (now (code .entry)) + j)))) (now (heads .exit)) (now (entries .exit)) (now (fields .exit)) r) ⌝ }
 {
-    let at = first + j;
+    let at = code[0] as usize + j;
     let head = 5 * j;
     let entry = 64 * j;
     let field = 128 * j;
@@ -281,7 +253,7 @@ fn visit(
         &mut heads[head..head_end],
         &mut entries[entry..entry_end],
         &mut fields[field..field_end],
-        sizes,
+        code,
         at,
         p.here,
         w,
@@ -300,48 +272,23 @@ fn visit(
             here: false,
             way: v,
         },
-        Mark::Is => carry(
-            codes,
-            operands,
-            cycles,
-            words,
-            extras,
-            heads,
-            entries,
-            fields,
-            sizes,
-            first,
-            n,
-            j,
-            f,
-            v,
-        ),
+        Mark::Is => carry(code, heads, entries, fields, j, f, v),
     }
 }
 
 // The merging bound from `start` with `blocks`. Ways over jumps wait in the rows of three arrays, one row for each address up to that after
 // the last; the way from the address before is at hand.
-pub fn merge(
-    codes: &[u8],
-    operands: &[i32],
-    cycles: &[u32],
-    words: &[u32],
-    extras: &[u32],
-    sizes: &[u8],
-    first: usize,
-    start: State,
-    blocks: [Cell; 128],
-) -> Found
-    requires { ⌜ Sized (now codes) (now operands) (now cycles) (now words) (now extras) ⌝ }
-    requires { ⌜ (first + length (now codes) ≤ 65536) × Small (now sizes) × WellFormed start × (length blocks ≡ 128) × Cellwise Kept (whole (now sizes) blocks start) (whole (now sizes) blocks start) × (first ≤ start .at) × (start .at ≤ first + length (now codes)) ⌝ }
-    ensures { λ r. ⌜ Shows r (merged (codeOf first (now (codes .entry)) (now (operands .entry)) (now (cycles .entry)) (now (words .entry)) (now (extras .entry))) (whole (now (sizes .entry)) blocks start)) ⌝ }
+pub fn merge(code: &[u32; 5131], start: State, blocks: [Cell; 128]) -> Found
+    requires { ⌜ IsProgram (now code) × WellFormed start × (length blocks ≡ 128) × Cellwise Kept (whole (sizesOf (now code)) blocks start) (whole (sizesOf (now code)) blocks start) ⌝ }
+    requires { ⌜ (firstOf (now code) ≤ start .at) × (start .at ≤ firstOf (now code) + linesIn (now code)) ⌝ }
+    ensures { λ r. ⌜ Shows r (merged (programOf (now (code .entry))) (whole (sizesOf (now (code .entry))) blocks start)) ⌝ }
     ensures { λ r. ⌜ Figures 1025 r ⌝ }
 {
     let mut heads = [0; 5125];
     let mut entries = [0; 65600];
     let mut fields = [0; 131200];
-    let n = codes.len() + 1;
-    let mut j = start.at - first;
+    let n = code[1] as usize + 1;
+    let mut j = start.at - code[0] as usize;
     let way = Way {
         state: start,
         blocks: blocks,
@@ -362,21 +309,7 @@ pub fn merge(
         way: way,
     };
     while j < n {
-        p = visit(
-            codes,
-            operands,
-            cycles,
-            words,
-            extras,
-            &mut heads,
-            &mut entries,
-            &mut fields,
-            sizes,
-            first,
-            n,
-            j,
-            p,
-        );
+        p = visit(code, &mut heads, &mut entries, &mut fields, j, p);
         let f = p.found;
         let verdict = f.verdict;
         let Verdict::Accepted = verdict else {

@@ -2,3 +2,4 @@ pub mod Examples
 pub mod NumberLaws
 pub mod SignedLaws
 pub mod IntegerLaws
+pub mod ResidueLaws

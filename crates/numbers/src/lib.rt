@@ -1,7 +1,7 @@
 // Signed numbers of 31 bits that wrap. The meaning is in specs/.
 ghost use mathlib.Core.Path.{_≡_};
 ghost use lib.IntN.{negℤ, _+ℤ_, _-ℤ_};
-ghost use Rattle.numbers.specs.Numbers.{wrap, holds, bit, within, numbers};
+ghost use Rattle.numbers.specs.Numbers.{wrap, holds, bit, within, numbers, residue, signed};
 
 // "EQ, NEQ, LTINT, LEINT, GTINT, GEINT"
 pub enum Comparison {
@@ -96,4 +96,31 @@ pub fn within(range: Range, z: i64) -> bool
     ensures { λ r. ⌜ r ≡ within range z ⌝ }
 {
     range.low <= z && z <= range.high
+}
+
+// How many words of 32 bits there are, and from which on they stand for numbers below 0.
+const WORDS: i64 = 1 << 32;
+
+const HALF: i64 = WORDS / 2;
+
+// The number that a word of 32 bits stands for.
+pub fn signed(word: u32) -> i32
+    ensures { λ r. ⌜ r ≡ signed 32 word ⌝ }
+{
+    let z = word as i64;
+    if z < HALF {
+        return z as i32;
+    }
+    (z - WORDS) as i32
+}
+
+// A number of 32 bits as a word.
+pub fn word_of(z: i32) -> u32
+    ensures { λ r. ⌜ r ≡ residue 32 z ⌝ }
+{
+    let w = z as i64;
+    if w < 0 {
+        return (w + WORDS) as u32;
+    }
+    w as u32
 }

@@ -21,7 +21,7 @@ use Rattle.instructions.specs.Columns.{operationOf}
 use Rattle.instructions.proofs.ColumnLaws.{getD-any}
 use Rattle.states.specs.declared.State.{State}
 use Rattle.states.specs.declared.code.Line.{Line}
-use Rattle.states.specs.Columns.{lineOf}
+use Rattle.states.specs.Program.{lineOf}
 use Rattle.states.specs.View.{view, WellFormed, slot, Fits, whole}
 use Rattle.states.proofs.BlockLaws.{slot-below}
 use Rattle.states.proofs.StateLaws.{height-is, popped, pop-is}

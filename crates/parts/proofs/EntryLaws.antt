@@ -1,20 +1,20 @@
--- Laws of a code line as an entry for each column. Assumes nothing.
-use Prim.Native.Nat.{ℕ, zero, suc, _+_, _%_, _<_, _≤_}
-use mathlib.Core.Path.{_≡_, refl, sym, ap, ap₂, _∙_}
+-- Laws of a code line as the five words that a program has for it. Assumes nothing.
+use Prim.Native.Nat.{ℕ, _+_, _*_, _%_, _<_, _≤_}
+use mathlib.Core.Path.{_≡_, refl, sym, ap, ap₂, subst, _∙_}
 use mathlib.Core.Bool.{Bool, true, false, cond}
 use mathlib.Core.List.{List, [], _∷_, _++_, map}
 use native.Mathlib.Omega.{arith}
 use native.Mathlib.Numerals.{add-one}
-use lib.Dec.{leb}
+use lib.Dec.{leb, ltb}
 use lib.IntN.{ℤ}
-use lib.ListN.{length, getD, take, set, length-map}
-use lib.Seq.{take-suc, take-suc-set, length-take-le}
-use borrow.Author.Tests.{le-leb, lt-leb}
+use lib.ListN.{length, getD, take, set, length-map, length-set}
+use lib.Seq.{take-suc, getD-set-same, getD-set-other}
+use borrow.Author.Tests.{le-leb, lt-leb, ltb-true, ltb-false}
 use Rattle.text.specs.Text.{place, indexOf, find, Line, noLine}
 use Rattle.text.specs.declared.Place.{Place}
 use Rattle.numbers.specs.declared.Comparison.the-variants.{Equal, Unequal, Less, AtMost, Greater, AtLeast}
 use Rattle.numbers.specs.declared.Range.{Range}
-use Rattle.numbers.specs.Numbers.{numbers}
+use Rattle.numbers.specs.Numbers.{numbers, signed}
 use Rattle.cells.specs.declared.Unary.the-variants.{Offset, Negate, Complement}
 use Rattle.cells.specs.declared.Binary.the-variants.{Add, Subtract, Compare}
 use Rattle.instructions.specs.declared.Argument.{Argument}
@@ -24,7 +24,9 @@ use Rattle.instructions.specs.declared.Operation.the-variants.{Nothing, Access,
 use Rattle.instructions.specs.Kinds.{Kind, kindNames, operand, calls, addresses}
 use Rattle.instructions.specs.Columns.{kindAt, operationCode, unaryCode, binaryCode, comparisonCode, operations, operationOf}
 use Rattle.machine.specs.Machine.{Price, Instruction, instruction, priceOf}
-use Rattle.states.specs.Columns.{line, lineOf, instructionsOf}
+use Rattle.states.specs.declared.code.Line.{Line as Held}
+use Rattle.states.specs.Program.{line, lineAt, lineOf, linesFrom}
+use Rattle.states.proofs.ProgramLaws.{lines-snoc, lines-agree}
 use Rattle.routine.specs.Rows.{op, arg, value, cycleCounts, wordCounts, extraCounts}
 use Rattle.routine.specs.Routine.{inside, naturalAt, PriceList, prices, argumentValue, instructionOf}
 use Rattle.routine.proofs.RangeLaws.{natural-inside}
@@ -188,58 +190,74 @@ module _ (ks : PriceList) (xs : List (List ℕ)) (ps : PriceList) (text : List �
   pub code-small : Read → b % 32 ≤ 22
   code-small r = let e = r .coded .code in omega (arith, operation-small (k .operation))
 
--- columns of equal lengths with one more line
+-- ---- a program with one more line
 
-lines-snoc : (bs : List ℕ) (is : List ℤ) (cs ws xs : List ℕ) (b : ℕ) (i : ℤ) (c w x : ℕ) → length is ≡ length bs → length cs ≡ length bs → length ws ≡ length bs → length xs ≡ length bs
-    → instructionsOf (bs ++ (b ∷ [])) (is ++ (i ∷ [])) (cs ++ (c ∷ [])) (ws ++ (w ∷ [])) (xs ++ (x ∷ [])) ≡ instructionsOf bs is cs ws xs ++ (lineOf (line b i c w x) ∷ [])
-unfolding instructionsOf
-lines-snoc [] [] [] [] [] b i c w x p q r o = refl
-lines-snoc [] [] [] [] (v ∷ xs) b i c w x p q r o = absurd (omega arith)
-lines-snoc [] [] [] (y ∷ ws) xs b i c w x p q r o = absurd (omega arith)
-lines-snoc [] [] (u ∷ cs) ws xs b i c w x p q r o = absurd (omega arith)
-lines-snoc [] (z ∷ is) cs ws xs b i c w x p q r o = absurd (omega arith)
-lines-snoc (a ∷ bs) [] cs ws xs b i c w x p q r o = absurd (omega arith)
-lines-snoc (a ∷ bs) (z ∷ is) [] ws xs b i c w x p q r o = absurd (omega arith)
-lines-snoc (a ∷ bs) (z ∷ is) (u ∷ cs) [] xs b i c w x p q r o = absurd (omega arith)
-lines-snoc (a ∷ bs) (z ∷ is) (u ∷ cs) (y ∷ ws) [] b i c w x p q r o = absurd (omega arith)
-lines-snoc (a ∷ bs) (z ∷ is) (u ∷ cs) (y ∷ ws) (v ∷ xs) b i c w x p q r o =
-    ap (λ (l : List Instruction). lineOf (line a z u y v) ∷ l) (lines-snoc bs is cs ws xs b i c w x (omega arith) (omega arith) (omega arith) (omega arith))
+-- the five words of a line from place k on
+abbrev pub putLine : List ℕ → ℕ → ℕ → ℕ → ℕ → ℕ → ℕ → List ℕ
+putLine ws k b o c w x = set (set (set (set (set ws k b) (k + 1) o) (k + 2) c) (k + 3) w) (k + 4) x
 
--- five columns of 1,024 places
-pub record Room (bs : List ℕ) (is : List ℤ) (cs ws xs : List ℕ) : Type 0 where
-  pub codes : length bs ≡ 1024
-  pub operands : length is ≡ 1024
-  pub cycles : length cs ≡ 1024
-  pub words : length ws ≡ 1024
-  pub extras : length xs ≡ 1024
+module _ (ws : List ℕ) (k b o c w x : ℕ) where
+  -- what stands before them and after them stays
+  pub put-kept : (i : ℕ) → (k ≤ i → k + 5 ≤ i) → getD (putLine ws k b o c w x) i 0 ≡ getD ws i 0
+  put-kept i h =
+      getD-set-other (set (set (set (set ws k b) (k + 1) o) (k + 2) c) (k + 3) w) (k + 4) i x 0 (λ e. apart (k + 4) e (omega arith) (omega arith))
+      ∙ getD-set-other (set (set (set ws k b) (k + 1) o) (k + 2) c) (k + 3) i w 0 (λ e. apart (k + 3) e (omega arith) (omega arith))
+      ∙ getD-set-other (set (set ws k b) (k + 1) o) (k + 2) i c 0 (λ e. apart (k + 2) e (omega arith) (omega arith))
+      ∙ getD-set-other (set ws k b) (k + 1) i o 0 (λ e. apart (k + 1) e (omega arith) (omega arith))
+      ∙ getD-set-other ws k i b 0 (λ e. apart k e (omega arith) (omega arith))
+    where
+      apart : (j : ℕ) → i ≡ j → k ≤ j → j < k + 5 → ⊥
+      apart j e l m = let g : k + 5 ≤ i = h (omega arith) in omega arith
 
-module _ (bs : List ℕ) (is : List ℤ) (cs ws xs : List ℕ) (n : ℕ) where
-  abbrev pub firstLines : List Instruction
-  firstLines = instructionsOf (take n bs) (take n is) (take n cs) (take n ws) (take n xs)
+  -- and they are read back
+  pub put-line : k + 5 ≤ length ws → lineAt (putLine ws k b o c w x) k ≡ line b (signed 32 o) c w x
+  put-line h = rw (word-0, word-1, word-2, word-3, word-4) refl
+    where
+      word-0 : getD (putLine ws k b o c w x) k 0 ≡ b
+      word-0 = getD-set-other (set (set (set (set ws k b) (k + 1) o) (k + 2) c) (k + 3) w) (k + 4) k x 0 (λ e. omega arith)
+          ∙ getD-set-other (set (set (set ws k b) (k + 1) o) (k + 2) c) (k + 3) k w 0 (λ e. omega arith)
+          ∙ getD-set-other (set (set ws k b) (k + 1) o) (k + 2) k c 0 (λ e. omega arith)
+          ∙ getD-set-other (set ws k b) (k + 1) k o 0 (λ e. omega arith)
+          ∙ getD-set-same ws k b 0 (omega arith)
 
-pub columns-more : (f : Line → Instruction) (ls : List Line) (bs : List ℕ) (is : List ℤ) (cs ws xs : List ℕ) (n : ℕ) (b : ℕ) (i : ℤ) (c w x : ℕ)
-    → Room bs is cs ws xs → n < 1024 → n < length ls → lineOf (line b i c w x) ≡ getD (map f ls) n (f noLine)
-    → firstLines bs is cs ws xs n ≡ take n (map f ls)
-    → firstLines (set bs n b) (set is n i) (set cs n c) (set ws n w) (set xs n x) (n + 1) ≡ take (n + 1) (map f ls)
-columns-more f ls bs is cs ws xs n b i c w x r h k e q =
-    let rb = r .codes in let ri = r .operands in let rc = r .cycles in let rw′ = r .words in let rx = r .extras in
-    let m : n < length (map f ls) = rw length-map (k) in
-    rw add-one
-    (rw (take-suc-set bs n b (omega arith), take-suc-set is n i (omega arith), take-suc-set cs n c (omega arith), take-suc-set ws n w (omega arith), take-suc-set xs n x (omega arith))
-    (lines-snoc (take n bs) (take n is) (take n cs) (take n ws) (take n xs) b i c w x
-    (length-take-le n is (omega arith) ∙ sym (length-take-le n bs (omega arith)))
-    (length-take-le n cs (omega arith) ∙ sym (length-take-le n bs (omega arith)))
-    (length-take-le n ws (omega arith) ∙ sym (length-take-le n bs (omega arith)))
-    (length-take-le n xs (omega arith) ∙ sym (length-take-le n bs (omega arith)))
-    ∙ ap₂ (λ (l : List Instruction) (x : Instruction). l ++ (x ∷ [])) q e
-    ∙ sym (take-suc (map f ls) n (f noLine) m)))
+      word-1 : getD (putLine ws k b o c w x) (k + 1) 0 ≡ o
+      word-1 = getD-set-other (set (set (set (set ws k b) (k + 1) o) (k + 2) c) (k + 3) w) (k + 4) (k + 1) x 0 (λ e. omega arith)
+          ∙ getD-set-other (set (set (set ws k b) (k + 1) o) (k + 2) c) (k + 3) (k + 1) w 0 (λ e. omega arith)
+          ∙ getD-set-other (set (set ws k b) (k + 1) o) (k + 2) (k + 1) c 0 (λ e. omega arith)
+          ∙ getD-set-same (set ws k b) (k + 1) o 0 (simp length-set (omega arith))
 
--- codes of operations, with one more
-pub known-more : (bs : List ℕ) (n b : ℕ) → n < length bs → b % 32 ≤ 22 → ((j : ℕ) → getD (take n bs) j 0 % 32 ≤ 22) → (j : ℕ) → getD (take (n + 1) (set bs n b)) j 0 % 32 ≤ 22
-known-more bs n b h k all j = rw add-one (rw (take-suc-set bs n b h) (snoc (take n bs) j all))
-  where
-    snoc : (l : List ℕ) (j : ℕ) → ((j : ℕ) → getD l j 0 % 32 ≤ 22) → getD (l ++ (b ∷ [])) j 0 % 32 ≤ 22
-    snoc [] zero a = k
-    snoc [] (suc j) a = a j
-    snoc (x ∷ l) zero a = a 0
-    snoc (x ∷ l) (suc j) a = snoc l j (λ m. a (suc m))
+      word-2 : getD (putLine ws k b o c w x) (k + 2) 0 ≡ c
+      word-2 = getD-set-other (set (set (set (set ws k b) (k + 1) o) (k + 2) c) (k + 3) w) (k + 4) (k + 2) x 0 (λ e. omega arith)
+          ∙ getD-set-other (set (set (set ws k b) (k + 1) o) (k + 2) c) (k + 3) (k + 2) w 0 (λ e. omega arith)
+          ∙ getD-set-same (set (set ws k b) (k + 1) o) (k + 2) c 0 (simp length-set (omega arith))
+
+      word-3 : getD (putLine ws k b o c w x) (k + 3) 0 ≡ w
+      word-3 = getD-set-other (set (set (set (set ws k b) (k + 1) o) (k + 2) c) (k + 3) w) (k + 4) (k + 3) x 0 (λ e. omega arith)
+          ∙ getD-set-same (set (set (set ws k b) (k + 1) o) (k + 2) c) (k + 3) w 0 (simp length-set (omega arith))
+
+      word-4 : getD (putLine ws k b o c w x) (k + 4) 0 ≡ x
+      word-4 = getD-set-same (set (set (set (set ws k b) (k + 1) o) (k + 2) c) (k + 3) w) (k + 4) x 0 (simp length-set (omega arith))
+
+-- a program whose first n lines are those of a list, with the next one
+module _ (f : Line → Instruction) (ls : List Line) (ws : List ℕ) (n b o c w x : ℕ) (long : length ws ≡ 5131) (few : n < 1024) where
+  pub program-more : n < length ls → lineOf (line b (signed 32 o) c w x) ≡ getD (map f ls) n (f noLine) → linesFrom ws n 11 ≡ take n (map f ls)
+      → linesFrom (putLine ws (11 + n * 5) b o c w x) (n + 1) 11 ≡ take (n + 1) (map f ls)
+  program-more k e q =
+      let m : n < length (map f ls) = rw length-map k in
+      subst (λ i. linesFrom (putLine ws (11 + n * 5) b o c w x) i 11 ≡ take i (map f ls)) (sym (add-one n))
+      (lines-snoc (putLine ws (11 + n * 5) b o c w x) n 11
+      ∙ ap₂ (λ (l : List Instruction) (y : Instruction). l ++ (y ∷ []))
+      (lines-agree (putLine ws (11 + n * 5) b o c w x) ws n 11 (λ i g h. put-kept ws (11 + n * 5) b o c w x i (λ j. absurd (omega arith))) ∙ q)
+      (ap lineOf (put-line ws (11 + n * 5) b o c w x (omega arith)) ∙ e)
+      ∙ sym (take-suc (map f ls) n (f noLine) m))
+
+  -- its first words have the codes of operations
+  pub known-more : b % 32 ≤ 22 → ((j : ℕ) → j < n → getD ws (11 + j * 5) 0 % 32 ≤ 22) → (j : ℕ) → j < n + 1 → getD (putLine ws (11 + n * 5) b o c w x) (11 + j * 5) 0 % 32 ≤ 22
+  known-more k all j h = go (ltb j n) refl
+    where
+      go : (t : Bool) → ltb j n ≡ t → getD (putLine ws (11 + n * 5) b o c w x) (11 + j * 5) 0 % 32 ≤ 22
+      go true e = let l = ltb-true j n e in rw (put-kept ws (11 + n * 5) b o c w x (11 + j * 5) (λ g. absurd (omega arith))) (all j l)
+      go false e =
+          let l = ltb-false j n e in
+          let i : j ≡ n = omega arith in
+          rw (i, ap (λ (y : Held). y .code) (put-line ws (11 + n * 5) b o c w x (omega arith))) k

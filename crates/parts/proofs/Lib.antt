@@ -1,5 +1,6 @@
 pub mod FillLaws
 pub mod WordLaws
 pub mod EntryLaws
+pub mod HeadLaws
 pub mod BlockLaws
 pub mod PartLaws

@@ -7,7 +7,7 @@ use states::State;
 ghost use mathlib.Core.Path.{_≡_};
 ghost use mathlib.Core.Bool.{cond};
 ghost use mathlib.Core.List.{List, [], map};
-ghost use Prim.Native.Nat.{ℕ, _+_, _%_, _≤_, _<_};
+ghost use Prim.Native.Nat.{ℕ, _+_, _*_, _%_, _≤_, _<_};
 ghost use lib.IntN.{pos};
 ghost use lib.ListN.{length, getD, take, drop};
 ghost use Rattle.text.specs.Text.{lines};
@@ -15,7 +15,7 @@ ghost use Rattle.numbers.specs.Numbers.{IsNumber, numbers};
 ghost use Rattle.cells.specs.Cells.{number};
 ghost use Rattle.instructions.specs.Kinds.{operand};
 ghost use Rattle.instructions.specs.Columns.{kindAt};
-ghost use Rattle.states.specs.Columns.{line, lineOf, instructionsOf};
+ghost use Rattle.states.specs.Program.{firstOf, linesIn, blocksIn, sizesOf, line, lineOf, linesFrom};
 ghost use Rattle.states.specs.View.{view, WellFormed, blocksOf};
 ghost use Rattle.routine.specs.Layout.{list};
 ghost use Rattle.routine.specs.Rows.{value, total};
@@ -155,7 +155,7 @@ fn price_of(range: Range, kinds: &[u8], i: usize, called: bool, primitives: &[u8
     }
 }
 
-// A code line: an entry for each column.
+// A code line, by the five words that a program has for it.
 pub struct Entry {
     pub code: u8,
     pub operand: i32,
@@ -212,17 +212,8 @@ pub fn entry_of(
     }
 }
 
-// Code lines in columns.
-pub struct Columns {
-    pub codes: [u8; 1024],
-    pub operands: [i32; 1024],
-    pub cycles: [u32; 1024],
-    pub words: [u32; 1024],
-    pub extras: [u32; 1024],
-}
-
-// The first `count` lines of `body` in columns, by the seven lines of prices.
-pub fn columns_of(
+// The first `count` lines of `body` as the lines of a program, by the seven lines of prices. Its head is not filled in.
+pub fn lines_of(
     kinds: &[u8],
     kind_cycles: &[u8],
     kind_words: &[u8],
@@ -232,16 +223,12 @@ pub fn columns_of(
     primitive_words: &[u8],
     body: &[u8],
     count: usize,
-) -> Columns
+) -> [u32; 5131]
     requires { ⌜ (count ≤ 1024) × (count ≤ length (lines (now body))) ⌝ }
-    ensures instructions { λ r. ⌜ instructionsOf (take count (r .codes)) (take count (r .operands)) (take count (r .cycles)) (take count (r .words)) (take count (r .extras)) ≡ map (λ l. instructionOf (pricesOn (now (kinds .entry)) (now («kind_cycles» .entry)) (now («kind_words» .entry))) (list (now («kind_extras» .entry))) (pricesOn (now (primitives .entry)) (now («primitive_cycles» .entry)) (now («primitive_words» .entry))) (l .text)) (take count (lines (now (body .entry)))) ⌝ }
-    ensures known { λ r. ⌜ ((j : ℕ) → getD (take count (r .codes)) j 0 % 32 ≤ 22) ⌝ }
+    ensures instructions { λ r. ⌜ linesFrom r count 11 ≡ map (λ l. instructionOf (pricesOn (now (kinds .entry)) (now («kind_cycles» .entry)) (now («kind_words» .entry))) (list (now («kind_extras» .entry))) (pricesOn (now (primitives .entry)) (now («primitive_cycles» .entry)) (now («primitive_words» .entry))) (l .text)) (take count (lines (now (body .entry)))) ⌝ }
+    ensures known { λ r. ⌜ ((j : ℕ) → j < count → getD r (11 + j * 5) 0 % 32 ≤ 22) ⌝ }
 {
-    let mut codes = [0u8; 1024];
-    let mut operands = [0i32; 1024];
-    let mut cycles = [0u32; 1024];
-    let mut words = [0u32; 1024];
-    let mut extras = [0u32; 1024];
+    let mut code = [0u32; 5131];
     let mut rest = body;
     let mut place = 0;
     while place < count {
@@ -256,23 +243,41 @@ pub fn columns_of(
             primitive_words,
             line,
         );
-        codes[place] = entry.code;
-        let operand = entry.operand;
-        operands[place] = operand;
-        cycles[place] = entry.cycles;
-        words[place] = entry.words;
-        extras[place] = entry.extra;
+        let k = 11 + place * 5;
+        let word = numbers::word_of(entry.operand);
+        code[k] = entry.code as u32;
+        code[k + 1] = word;
+        code[k + 2] = entry.cycles;
+        code[k + 3] = entry.words;
+        code[k + 4] = entry.extra;
         let next = text::next_lines(rest);
         rest = next;
         place += 1;
     }
-    Columns {
-        codes: codes,
-        operands: operands,
-        cycles: cycles,
-        words: words,
-        extras: extras,
+    code
+}
+
+// A program with its head: the first address, the number of lines, the number of blocks and their sizes.
+pub fn with_head(
+    mut code: [u32; 5131],
+    first: usize,
+    count: usize,
+    sizes: [u8; 8],
+    blocks: usize,
+) -> [u32; 5131]
+    requires { ⌜ (first ≤ 60000) × (count ≤ 1024) × (blocks ≤ 8) ⌝ }
+    ensures head { λ r. ⌜ (firstOf r ≡ first) × (linesIn r ≡ count) × (sizesOf r ≡ take blocks sizes) × (blocksIn r ≡ blocks) ⌝ }
+    ensures kept { λ r. ⌜ ((i : ℕ) → 11 ≤ i → getD r i 0 ≡ getD code i 0) ⌝ }
+{
+    code[0] = first as u32;
+    code[1] = count as u32;
+    code[2] = blocks as u32;
+    let mut k = 0;
+    while k < 8 {
+        code[k + 3] = sizes[k] as u32;
+        k += 1;
     }
+    code
 }
 
 // ---- fields

@@ -1,5 +1,5 @@
 -- The parts that the reader puts together are those of the routine. Assumes nothing.
-use Prim.Native.Nat.{ℕ, zero, suc, _+_, _%_, _≤_, min}
+use Prim.Native.Nat.{ℕ, zero, suc, _+_, _*_, _%_, _≤_, _<_, min}
 use mathlib.Core.Path.{_≡_, refl, sym, ap, ap₂, subst, _∙_}
 use mathlib.Core.List.{List, [], _∷_, map}
 use native.Mathlib.Omega.{arith}
@@ -14,8 +14,9 @@ use Rattle.cells.specs.Codes.{Kept}
 use Rattle.machine.specs.Machine.{State}
 use Rattle.machine.specs.Order.{Cellwise}
 use Rattle.routine.proofs.StartLaws.{start-kept}
-use Rattle.states.specs.Columns.{instructionsOf, codeOf, Sized}
-use Rattle.states.specs.View.{view, Fits, whole}
+use Rattle.states.specs.Program.{firstOf, linesIn, blocksIn, sizesOf, linesFrom, programOf, IsProgram}
+use Rattle.states.proofs.ProgramLaws.{lines-agree}
+use Rattle.states.specs.View.{view, whole}
 use Rattle.states.specs.declared.State as code
 use Rattle.states.specs.View as view-of
 use Rattle.routine.specs.declared.Section.the-variants.{Limits as limits, Kinds as kinds, Primitives as primitives, Cells as cells, Fields as fields}
@@ -30,7 +31,6 @@ use Rattle.routine.proofs.PassingLaws.{code-among, first-small, answers-few, ce
 use Rattle.routine.proofs.PassingLaws as passing
 use Rattle.names.specs.declared.Blocks.{Blocks}
 use Rattle.names.specs.Names.{BlocksOf}
-use Rattle.parts.specs.declared.Columns.{Columns}
 use Rattle.parts.specs.Parts.{pricesOn}
 use Rattle.routine.proofs.CodeLineLaws.{answer-drop}
 use Rattle.parts.proofs.PartLaws.{instructions-in, answers-in, start-whole}
@@ -61,9 +61,9 @@ module _ (ls ms : List Line) (count : ℕ) (x : BodyLines ls ms count) where
     unfolding priceList listed
     primitives-at = rw (d, e, f) refl
 
-    pub code-held : (r : Columns)
-        → instructionsOf (take count (r .codes)) (take count (r .operands)) (take count (r .cycles)) (take count (r .words)) (take count (r .extras)) ≡ map (λ l. instructionOf (pricesOn ks kc kw) (list kx) (pricesOn ps pc pw) (l .text)) (take count ms)
-        → ((j : ℕ) → getD (take count (r .codes)) j 0 % 32 ≤ 22) → HoldsCode ls count r
+    pub code-held : (r : List ℕ)
+        → linesFrom r count 11 ≡ map (λ l. instructionOf (pricesOn ks kc kw) (list kx) (pricesOn ps pc pw) (l .text)) (take count ms)
+        → ((j : ℕ) → j < count → getD r (11 + j * 5) 0 % 32 ≤ 22) → HoldsCode ls count r
     code-held r h k = record {
       instructions =
           h ∙ ap₂ (λ q s. map (λ (l : Line). instructionOf q (list kx) s (l .text)) (take count ms)) kinds-at primitives-at
@@ -96,10 +96,13 @@ module _ (ls : List Line) (p : Passes ls) (ms : List Line) (after : ms ≡ body 
     pub answers-held : (vs : List ℤ) → vs ≡ map (λ l. inside numbers (value (l .text))) rest → vs ≡ routineOf ls .answers
     answers-held vs e = e ∙ ap (map (λ (l : Line). inside numbers (value (l .text)))) answer-lines ∙ sym (answers-in ls)
 
-  pub code-is : (first : ℕ) → first ≡ firstAddress ms → (bs : List ℕ) (is : List ℤ) (cs ws xs : List ℕ) → instructionsOf bs is cs ws xs ≡ readings.codeIn ls .instructions
-      → codeOf first bs is cs ws xs ≡ routineOf ls .code
-  unfolding codeOf readings.codeIn routineOf
-  code-is first f bs is cs ws xs e = ap₂ (λ n ins. record { first = n; instructions = ins }) (f ∙ ap firstAddress after) e
+  -- the program ws has its head, and the lines vs after it
+  pub code-is : (ws vs : List ℕ) → firstOf ws ≡ firstAddress ms → linesIn ws ≡ count → ((i : ℕ) → 11 ≤ i → getD ws i 0 ≡ getD vs i 0) → linesFrom vs count 11 ≡ readings.codeIn ls .instructions
+      → programOf ws ≡ routineOf ls .code
+  unfolding programOf readings.codeIn routineOf
+  code-is ws vs f l k e =
+      ap₂ (λ n ins. record { first = n; instructions = ins }) (f ∙ ap firstAddress after)
+      (ap (λ n. linesFrom ws n 11) l ∙ lines-agree ws vs count 11 (λ i h _. k i h) ∙ e)
 
   pub first-is : (first : ℕ) → first ≡ firstAddress ms → first ≡ readings.codeIn ls .first
   unfolding readings.codeIn
@@ -152,37 +155,25 @@ module _ (ls : List Line) (p : Passes ls) (ns-line fs-line cs-line : List ℕ) (
       start-whole first s (take (bs .count) (bs .sizes)) (cellsOf (list cs-line)) fs (cellsOf (list fs-line)) v h
       ∙ (λ i. startOf (f i) (cellsOf (list (cells-at i))) (readings.blocksInLine (sizes-are i) (cellsOf (list (fields-at i)))))
 
-  pub blocks-fit : (fs : List Cell) → length fs ≡ 128 → Fits (take (bs .count) (bs .sizes)) fs
-  blocks-fit fs e = record {
-    few = small-blocks;
-    room =
-        let n : length (take (bs .count) (bs .sizes)) ≡ min (bs .count) (length (bs .sizes)) = length-take (bs .count) (bs .sizes) in
-        let h = held .few in
-        omega arith;
+  -- the whole is a program
+  pub is-program : (ws vs : List ℕ) (first count : ℕ) → length ws ≡ 5131 → first ≤ 60000 → count ≤ 1024 → firstOf ws ≡ first → linesIn ws ≡ count → sizesOf ws ≡ take (bs .count) (bs .sizes) → blocksIn ws ≡ bs .count
+      → ((i : ℕ) → 11 ≤ i → getD ws i 0 ≡ getD vs i 0) → ((j : ℕ) → j < count → getD vs (11 + j * 5) 0 % 32 ≤ 22) → IsProgram ws
+  is-program ws vs first count long low few f l s b kept known = record {
+    words = long;
+    addresses = omega arith;
+    lines = omega arith;
+    blocks = omega (arith, held .few);
+    sizes = rw s small-blocks;
+    codes = λ j h. rw (kept (11 + j * 5) (omega arith)) (known j (omega arith));
   }
 
 pub start-at : (first : ℕ) (cs : List Cell) (s : code.State) → view s ≡ startOf first cs [] → s .at ≡ first
 unfolding startOf
 start-at first cs s e = ap (λ v. v .at) e
 
--- ---- the columns
-
 -- all that is taken of an array is there
 pub taken : {A : Type 0} (n : ℕ) (xs : List A) → n ≤ length xs → length (take n xs) ≡ n
 taken n xs h = let e : length (take n xs) ≡ min n (length xs) = length-take n xs in omega arith
-
-pub columns-sized : (count : ℕ) (r : Columns) → count ≤ 1024 → length (r .codes) ≡ 1024 → length (r .operands) ≡ 1024 → length (r .cycles) ≡ 1024 → length (r .words) ≡ 1024 → length (r .extras) ≡ 1024
-    → ((j : ℕ) → getD (take count (r .codes)) j 0 % 32 ≤ 22)
-    → Sized (take count (r .codes)) (take count (r .operands)) (take count (r .cycles)) (take count (r .words)) (take count (r .extras))
-columns-sized count r h a b c d e k =
-    let n = taken count (r .codes) (omega arith) in record {
-      few = omega arith;
-      operands = taken count (r .operands) (omega arith) ∙ sym n;
-      cycles = taken count (r .cycles) (omega arith) ∙ sym n;
-      words = taken count (r .words) (omega arith) ∙ sym n;
-      extras = taken count (r .extras) (omega arith) ∙ sym n;
-      codes = k;
-    }
 
 -- the numbers of a start that is read
 pub kept-start : {s : State} (ls : List Line) → s ≡ routineOf ls .start → Cellwise Kept s s

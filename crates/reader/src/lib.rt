@@ -1,7 +1,6 @@
 // The reader: the routine of a text that passes the rows of the refusal table. The meaning is in specs/.
 use cells::Cell;
 use parts::Answers;
-use parts::Columns;
 use routine::Column;
 use routine::Role;
 use routine::Section;
@@ -12,22 +11,18 @@ ghost use Rattle.routine.specs.Rows.{Passes};
 ghost use Rattle.routine.specs.Routine.{routineOf};
 ghost use Rattle.reader.specs.Reader.{Holds, Limited, BodyLines, HoldsCode};
 
-// A routine by value: its limits, its code in columns, the state it starts in, the blocks in a flat array, its answers.
+// A routine by value: its limits, its program, the state it starts in, the blocks in a flat array, its answers.
 pub struct Routine {
     pub budget: usize,
     pub tick: u64,
-    pub first: usize,
-    pub count: usize,
-    pub columns: Columns,
+    pub code: [u32; 5131],
     pub start: State,
     pub fields: [Cell; 128],
-    pub sizes: [u8; 8],
-    pub blocks: usize,
     pub answers: Answers,
 }
 
 // The code lines of a text, whose lines after the layout are those of body.
-fn columns_in(text: &[u8], body: &[u8], count: usize) -> Columns
+fn lines_in(text: &[u8], body: &[u8], count: usize) -> [u32; 5131]
     requires { ⌜ BodyLines (lines (now text)) (lines (now body)) count ⌝ }
     ensures { λ r. ⌜ HoldsCode (lines (now (text .entry))) count r ⌝ }
 {
@@ -38,7 +33,7 @@ fn columns_in(text: &[u8], body: &[u8], count: usize) -> Columns
     let primitives = layout::text_of(text, Role::Names(Section::Primitives));
     let primitive_cycles = layout::text_of(text, Role::Values(Section::Primitives, Column::Cycles));
     let primitive_words = layout::text_of(text, Role::Values(Section::Primitives, Column::Words));
-    parts::columns_of(
+    parts::lines_of(
         kinds,
         kind_cycles,
         kind_words,
@@ -71,7 +66,8 @@ pub fn routine_of(text: &[u8]) -> Routine
     let body = layout::body_of(text);
     let first = values::first_address(body);
     let count = layout::count_code(body);
-    let columns = columns_in(text, body, count);
+    let lines = lines_in(text, body, count);
+    let code = parts::with_head(lines, first, count, sizes, blocks);
     let start = parts::start_of(
         layout::text_of(text, Role::Values(Section::Cells, Column::Cell)),
         first,
@@ -80,13 +76,9 @@ pub fn routine_of(text: &[u8]) -> Routine
     Routine {
         budget: budget,
         tick: tick,
-        first: first,
-        count: count,
-        columns: columns,
+        code: code,
         start: start,
         fields: fields,
-        sizes: sizes,
-        blocks: blocks,
         answers: answers,
     }
 }

@@ -12,7 +12,7 @@ use Rattle.text.proofs.LineLaws.{lines-none, lines-first}
 use Rattle.cells.specs.declared.Cell.{Cell}
 use Rattle.machine.specs.Machine.{Code}
 use Rattle.states.specs.declared.State as states
-use Rattle.states.specs.View.{WellFormed, Fits, whole}
+use Rattle.states.specs.View.{WellFormed, whole}
 use Rattle.bounds.specs.Run.{Run, begin, once}
 use Rattle.traces.specs.Traces.{Entry, entryOf, entries}
 use Rattle.replays.specs.declared.Held.{Held}
@@ -28,21 +28,19 @@ pub record Following (c : Code) (ns : List ℕ) (answers : List ℤ) (total : Ou
   pub run : Run
   pub stands : Stands ns answers taken state blocks false run
   pub formed : WellFormed state
-  pub fits : Fits ns blocks
   pub few : taken ≤ n
   pub near : n + length (lines rest) ≤ 4099
   pub whole-is : replayFrom c n run (left rest) ≡ total
 
-pub begins : (c : Code) (ns : List ℕ) (answers : List ℤ) (s : states.State) (fs : List Cell) (trace rest : List ℕ) → WellFormed s → Fits ns fs → length (lines trace) ≤ 4097
+pub begins : (c : Code) (ns : List ℕ) (answers : List ℤ) (s : states.State) (fs : List Cell) (trace rest : List ℕ) → WellFormed s → length (lines trace) ≤ 4097
     → lines rest ≡ drop 1 (lines trace) → Following c ns answers (replay c (whole ns fs s) answers (entries trace)) 0 s fs rest 2
 unfolding replay begin entries
-begins c ns answers s fs trace rest formed fits few e =
+begins c ns answers s fs trace rest formed few e =
     let l : length (lines rest) ≡ length (lines trace) - 1 = ap length e ∙ length-drop 1 (lines trace) in
     record {
       run = begin (whole ns fs s) answers;
       stands = record { stands-at = refl; to-come = refl; is-stopped = refl };
       formed = formed;
-      fits = fits;
       few = omega arith;
       near = omega arith;
       whole-is = ap (λ ls. replayFrom c 2 (begin (whole ns fs s) answers) (map (λ l. entryOf (l .text)) ls)) e;
@@ -97,7 +95,6 @@ module _ {c : Code} {ns : List ℕ} {answers : List ℤ} {total : Outcome} {take
             run = once c (i .run);
             stands = subst (λ b. Stands ns answers (h .taken) (h .state) (h .blocks) b (once c (i .run))) e (holds .goes-on (i .run) (i .stands) yes);
             formed = holds .formed;
-            fits = holds .fits;
             few = omega (arith, holds .few, i .few);
             near = omega (arith, i .near);
             whole-is = rw (add-one n) goes;

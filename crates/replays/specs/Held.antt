@@ -8,7 +8,7 @@ use lib.ListN.{drop}
 use Rattle.machine.specs.Machine.{Code}
 use Rattle.cells.specs.declared.Cell.{Cell}
 use Rattle.states.specs.declared.State as states
-use Rattle.states.specs.View.{WellFormed, Fits, whole}
+use Rattle.states.specs.View.{WellFormed, whole}
 use Rattle.bounds.specs.Run.{Run, once}
 use Rattle.replays.specs.declared.Held.{Held}
 use Rattle.replays.specs.declared.Replayed.{Replayed}
@@ -26,7 +26,6 @@ pub record Holds (c : Code) (ns : List ℕ) (answers : List ℤ) (taken : ℕ) (
   pub says : (r : Run) → Stands ns answers taken state blocks false r → h .agrees ≡ agrees c r (record { at = at; cycles = spent })
   pub goes-on : (r : Run) → Stands ns answers taken state blocks false r → h .agrees ≡ true → Stands ns answers (h .taken) (h .state) (h .blocks) (h .stopped) (once c r)
   pub formed : WellFormed (h .state)
-  pub fits : Fits ns (h .blocks)
   pub few : h .taken ≤ suc taken
 
 -- what a replay says

@@ -7,8 +7,8 @@ ghost use mathlib.Core.Bool.{cond};
 ghost use Prim.Native.Nat.{suc, _+_, _≤_, _<_};
 ghost use lib.ListN.{length};
 ghost use Rattle.text.specs.Text.{isEmpty, lines};
-ghost use Rattle.states.specs.Columns.{codeOf, Sized};
-ghost use Rattle.states.specs.View.{WellFormed, Fits, whole};
+ghost use Rattle.states.specs.Program.{programOf, sizesOf, IsProgram};
+ghost use Rattle.states.specs.View.{WellFormed, whole};
 ghost use Rattle.traces.specs.Traces.{entries};
 ghost use Rattle.replays.specs.Replay.{agreed, differed, replay};
 ghost use Rattle.replays.specs.Held.{Holds, ofReplayed};
@@ -25,13 +25,7 @@ pub struct Held {
 
 // Holds a line with the address `at` and the cycles `spent` against the step from `state` with `blocks`.
 fn follow(
-    codes: &[u8],
-    operands: &[i32],
-    cycles: &[u32],
-    words: &[u32],
-    extras: &[u32],
-    sizes: &[u8],
-    first: usize,
+    code: &[u32; 5131],
     answers: &[i32],
     taken: usize,
     state: State,
@@ -39,22 +33,11 @@ fn follow(
     at: usize,
     spent: u64,
 ) -> Held
-    requires { ⌜ Sized (now codes) (now operands) (now cycles) (now words) (now extras) × (first + length (now codes) ≤ 65536) × WellFormed state × Fits (now sizes) blocks × (taken < 1000000) ⌝ }
-    ensures { λ r. ⌜ Holds (codeOf first (now (codes .entry)) (now (operands .entry)) (now (cycles .entry)) (now (words .entry)) (now (extras .entry))) (now (sizes .entry)) (now (answers .entry)) taken state blocks at spent r ⌝ }
+    requires { ⌜ IsProgram (now code) × WellFormed state × (taken < 1000000) ⌝ }
+    ensures { λ r. ⌜ Holds (programOf (now (code .entry))) (sizesOf (now (code .entry))) (now (answers .entry)) taken state blocks at spent r ⌝ }
 {
     let answer = runs::answer_at(answers, taken);
-    let stepped = steps::step(
-        codes,
-        operands,
-        cycles,
-        words,
-        extras,
-        sizes,
-        first,
-        answer,
-        state,
-        blocks,
-    );
+    let stepped = steps::step(code, answer, state, blocks);
     let next = stepped.next;
     let asked = runs::taken_after(stepped.calls, taken);
     if let Next::Stops(p) = next {
@@ -105,20 +88,14 @@ fn after_stop(n: usize, rest: &[u8]) -> Replayed
 
 // The replay of an accepted trace from `start` with `fields`.
 pub fn replay(
-    codes: &[u8],
-    operands: &[i32],
-    cycles: &[u32],
-    words: &[u32],
-    extras: &[u32],
-    sizes: &[u8],
-    first: usize,
+    code: &[u32; 5131],
     start: State,
     fields: [Cell; 128],
     answers: &[i32],
     trace: &[u8],
 ) -> Replayed
-    requires { ⌜ Sized (now codes) (now operands) (now cycles) (now words) (now extras) × (first + length (now codes) ≤ 65536) × WellFormed start × Fits (now sizes) fields × (length (lines (now trace)) ≤ 4097) ⌝ }
-    ensures { λ r. ⌜ ofReplayed r ≡ replay (codeOf first (now (codes .entry)) (now (operands .entry)) (now (cycles .entry)) (now (words .entry)) (now (extras .entry))) (whole (now (sizes .entry)) fields start) (now (answers .entry)) (entries (now (trace .entry))) ⌝ }
+    requires { ⌜ IsProgram (now code) × WellFormed start × (length (lines (now trace)) ≤ 4097) ⌝ }
+    ensures { λ r. ⌜ ofReplayed r ≡ replay (programOf (now (code .entry))) (whole (sizesOf (now (code .entry))) fields start) (now (answers .entry)) (entries (now (trace .entry))) ⌝ }
 {
     let mut state = start;
     let mut blocks = fields;
@@ -128,13 +105,7 @@ pub fn replay(
     while 0 < rest.len() {
         let entry = traces::entry_of(text::first_line(rest));
         let held = follow(
-            codes,
-            operands,
-            cycles,
-            words,
-            extras,
-            sizes,
-            first,
+            code,
             answers,
             taken,
             state,

@@ -15,7 +15,7 @@ use Rattle.cells.specs.declared.Cell.{Cell}
 use Rattle.cells.specs.Cells.{number}
 use Rattle.machine.specs.Machine.{State, height, Code, reblock, step, takesAnswer}
 use Rattle.states.specs.declared.State as states
-use Rattle.states.specs.View.{WellFormed, Fits, whole}
+use Rattle.states.specs.View.{WellFormed, whole}
 use Rattle.states.proofs.StateLaws.{height-is}
 use Rattle.bounds.specs.Tree.{openingLimit, bound}
 use Rattle.bounds.specs.Run.{Run, begin, answer, remaining, moved, leads, once, after, judgeRun, run}
@@ -68,7 +68,6 @@ takes-none (x ∷ xs) = refl
 pub record Going (c : Code) (ns : List ℕ) (answers : List ℤ) (b : Run) (n : ℕ) (r : Progress) : Type 0 where
   pub within : r .steps ≤ n
   pub formed : WellFormed (r .state)
-  pub fits : Fits ns (r .blocks)
   pub taken : r .taken ≤ r .steps
   pub cycles : r .cycles ≤ 8589934592 * r .steps
   pub words : r .words ≤ 4294967296 * r .steps
@@ -79,12 +78,11 @@ pub record Going (c : Code) (ns : List ℕ) (answers : List ℤ) (b : Run) (n : 
 abbrev pub beginning : states.State → List Cell → ℕ → Progress
 beginning s fs d = record { state = s; blocks = fs; taken = 0; cycles = 0; words = 0; depth = d; steps = 0; stopped = false }
 
-pub begins : (c : Code) (ns : List ℕ) (answers : List ℤ) (n : ℕ) (s : states.State) (fs : List Cell) → WellFormed s → Fits ns fs → Going c ns answers (begin (whole ns fs s) answers) n (beginning s fs (64 - s .free))
+pub begins : (c : Code) (ns : List ℕ) (answers : List ℤ) (n : ℕ) (s : states.State) (fs : List Cell) → WellFormed s → Going c ns answers (begin (whole ns fs s) answers) n (beginning s fs (64 - s .free))
 unfolding ofProgress begin after height whole reblock
-begins c ns answers n s fs formed fits = record {
+begins c ns answers n s fs formed = record {
   within = omega arith;
   formed = formed;
-  fits = fits;
   taken = omega arith;
   cycles = omega arith;
   words = omega arith;
@@ -135,13 +133,12 @@ module _ (c : Code) (ns : List ℕ) (answers : List ℤ) (b : Run) (n : ℕ) (r 
           ∙ sym (after-still c (suc (r .steps)) n b h (ap (once c) (sym f) ∙ f))
 
       -- a step was made
-      pub goes-on : x ≡ leads-to.Goes p → r .steps < n → WellFormed t → Fits ns fs → (d : ℕ) → d ≡ max (r .depth) (64 - t .free) →
+      pub goes-on : x ≡ leads-to.Goes p → r .steps < n → WellFormed t → (d : ℕ) → d ≡ max (r .depth) (64 - t .free) →
           Going c ns answers b n (record { state = t; blocks = fs; taken = k; cycles = r .cycles + p .cycles; words = r .words + p .words; depth = d; steps = r .steps + 1; stopped = false })
       unfolding ofProgress moved ofNext height whole reblock
-      goes-on e h formed fits d deep = record {
+      goes-on e h formed d deep = record {
         within = omega arith;
         formed = formed;
-        fits = fits;
         taken = omega (arith, took .few, i .taken);
         cycles = omega (arith, i .cycles, cheap .cycles);
         words = omega (arith, i .words, cheap .words);

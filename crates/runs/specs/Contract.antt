@@ -1,27 +1,23 @@
 -- What is asked of the run, and what is promised of it.
-use Prim.Native.Nat.{ℕ, _+_, _≤_}
+use Prim.Native.Nat.{ℕ, _≤_}
 use mathlib.Core.Path.{_≡_}
 use mathlib.Core.List.{List, []}
 use lib.IntN.{ℤ}
-use lib.ListN.{length}
 use Rattle.refusals.specs.declared.Verdict as code
 use Rattle.refusals.specs.declared.Verdict.the-variants.{Accepted, Refused}
-use Rattle.cells.specs.declared.Cell.{Cell}
 use Rattle.cells.specs.Order.{Allowed}
 use Rattle.machine.specs.Machine.{State, Code}
 use Rattle.machine.specs.Order.{Cellwise}
 use Rattle.states.specs.declared.State as states
-use Rattle.states.specs.View.{WellFormed, Fits}
+use Rattle.states.specs.View.{WellFormed}
 use Rattle.bounds.specs.Tree.{Report, Verdict, accepted, refused, bound}
 use Rattle.bounds.specs.Run.{Run, begin}
 use Rattle.bounds.specs.Promises.{NoGreater, Safe}
 use Rattle.runs.specs.declared.Ran.{Ran}
 
--- what is asked: addresses, steps, the state and the blocks within their limits
-pub record Runnable (bs ns : List ℕ) (first : ℕ) (start : states.State) (fields : List Cell) (n : ℕ) : Type 0 where
-  pub addresses : first + length bs ≤ 65536
+-- what is asked: the state and the number of steps within their limits
+pub record Runnable (start : states.State) (n : ℕ) : Type 0 where
   pub formed : WellFormed start
-  pub fits : Fits ns fields
   pub steps : n ≤ 1000000
 
 -- the verdict of a case, with the figures of r where it is accepted

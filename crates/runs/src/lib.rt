@@ -10,8 +10,8 @@ ghost use mathlib.Core.List.{List};
 ghost use Prim.Native.Nat.{ℕ, suc, _<_, _≤_};
 ghost use lib.IntN.{ℤ};
 ghost use lib.ListN.{drop};
-ghost use Rattle.states.specs.Columns.{codeOf, Sized};
-ghost use Rattle.states.specs.View.{WellFormed, Fits, whole};
+ghost use Rattle.states.specs.Program.{programOf, sizesOf, IsProgram};
+ghost use Rattle.states.specs.View.{WellFormed, whole};
 ghost use Rattle.bounds.specs.Run.{begin, answer, remaining, after, judgeRun, run};
 ghost use Rattle.runs.specs.Progress.{ofProgress};
 ghost use Rattle.runs.specs.Contract.{Runnable, verdictOf, SafeFrom, WithinBound};
@@ -57,23 +57,17 @@ pub fn taken_after(calls: bool, taken: usize) -> usize
 
 // The run after `n` steps from `start` with `fields`.
 pub fn after(
-    codes: &[u8],
-    operands: &[i32],
-    cycles: &[u32],
-    words: &[u32],
-    extras: &[u32],
-    sizes: &[u8],
-    first: usize,
+    code: &[u32; 5131],
     start: State,
     fields: [Cell; 128],
     answers: &[i32],
     n: usize,
 ) -> Progress
-    requires { ⌜ Sized (now codes) (now operands) (now cycles) (now words) (now extras) ⌝ }
-    requires { ⌜ Runnable (now codes) (now sizes) first start fields n ⌝ }
-    ensures { λ r. ⌜ ofProgress (now (sizes .entry)) (now (answers .entry)) r ≡ after (codeOf first (now (codes .entry)) (now (operands .entry)) (now (cycles .entry)) (now (words .entry)) (now (extras .entry))) n (begin (whole (now (sizes .entry)) fields start) (now (answers .entry))) ⌝ }
-    ensures safe { λ r. ⌜ SafeFrom (codeOf first (now (codes .entry)) (now (operands .entry)) (now (cycles .entry)) (now (words .entry)) (now (extras .entry))) (whole (now (sizes .entry)) fields start) (now (answers .entry)) n (ofProgress (now (sizes .entry)) (now (answers .entry)) r) ⌝ }
-    ensures { λ r. ⌜ WellFormed (r .state) × Fits (now (sizes .entry)) (r .blocks) ⌝ }
+    requires { ⌜ IsProgram (now code) ⌝ }
+    requires { ⌜ Runnable start n ⌝ }
+    ensures { λ r. ⌜ ofProgress (sizesOf (now (code .entry))) (now (answers .entry)) r ≡ after (programOf (now (code .entry))) n (begin (whole (sizesOf (now (code .entry))) fields start) (now (answers .entry))) ⌝ }
+    ensures safe { λ r. ⌜ SafeFrom (programOf (now (code .entry))) (whole (sizesOf (now (code .entry))) fields start) (now (answers .entry)) n (ofProgress (sizesOf (now (code .entry))) (now (answers .entry)) r) ⌝ }
+    ensures { λ r. ⌜ WellFormed (r .state) ⌝ }
 {
     let mut state = start;
     let mut blocks = fields;
@@ -84,18 +78,7 @@ pub fn after(
     let mut made = 0;
     while made < n {
         let answer = answer_at(answers, taken);
-        let stepped = steps::step(
-            codes,
-            operands,
-            cycles,
-            words,
-            extras,
-            sizes,
-            first,
-            answer,
-            state,
-            blocks,
-        );
+        let stepped = steps::step(code, answer, state, blocks);
         let next = stepped.next;
         if let Next::Stops(p) = next {
             return Progress {
@@ -171,35 +154,17 @@ fn judge(r: Progress, budget: usize) -> Ran
 
 // The run's verdict after `budget` steps.
 pub fn run(
-    codes: &[u8],
-    operands: &[i32],
-    cycles: &[u32],
-    words: &[u32],
-    extras: &[u32],
-    sizes: &[u8],
-    first: usize,
+    code: &[u32; 5131],
     start: State,
     fields: [Cell; 128],
     answers: &[i32],
     budget: usize,
 ) -> Ran
-    requires { ⌜ Sized (now codes) (now operands) (now cycles) (now words) (now extras) ⌝ }
-    requires { ⌜ Runnable (now codes) (now sizes) first start fields budget ⌝ }
-    ensures { λ r. ⌜ verdictOf r ≡ run (codeOf first (now (codes .entry)) (now (operands .entry)) (now (cycles .entry)) (now (words .entry)) (now (extras .entry))) budget (whole (now (sizes .entry)) fields start) (now (answers .entry)) ⌝ }
-    ensures within { λ r. ⌜ WithinBound (codeOf first (now (codes .entry)) (now (operands .entry)) (now (cycles .entry)) (now (words .entry)) (now (extras .entry))) budget (whole (now (sizes .entry)) fields start) (verdictOf r) ⌝ }
+    requires { ⌜ IsProgram (now code) ⌝ }
+    requires { ⌜ Runnable start budget ⌝ }
+    ensures { λ r. ⌜ verdictOf r ≡ run (programOf (now (code .entry))) budget (whole (sizesOf (now (code .entry))) fields start) (now (answers .entry)) ⌝ }
+    ensures within { λ r. ⌜ WithinBound (programOf (now (code .entry))) budget (whole (sizesOf (now (code .entry))) fields start) (verdictOf r) ⌝ }
 {
-    let r = after(
-        codes,
-        operands,
-        cycles,
-        words,
-        extras,
-        sizes,
-        first,
-        start,
-        fields,
-        answers,
-        budget,
-    );
+    let r = after(code, start, fields, answers, budget);
     judge(r, budget)
 }

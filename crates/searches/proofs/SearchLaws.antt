@@ -20,7 +20,7 @@ use Rattle.cells.specs.Cells.{number, unknown}
 use Rattle.cells.specs.declared.Cell.{Cell}
 use Rattle.machine.specs.Machine.{State, Code, height, step, reblock}
 use Rattle.states.specs.declared.State as code
-use Rattle.states.specs.View.{WellFormed, Fits, blocksOf, whole}
+use Rattle.states.specs.View.{WellFormed, blocksOf, whole}
 use Rattle.states.proofs.StateLaws.{height-is}
 use Rattle.bounds.specs.Tree.{Verdict, accepted, refused, bound, explore}
 use Rattle.findings.specs.declared.Found.{Found}
@@ -144,16 +144,16 @@ blocks-small [] fs h k = omega arith
 blocks-small (n ∷ ns) fs h zero = let l = h 0 in let e = length-take n fs in omega arith
 blocks-small (n ∷ ns) fs h (suc k) = blocks-small ns (drop 16 fs) (λ i. h (suc i)) k
 
-pub whole-limited : (ns : List ℕ) (fs : List Cell) (s : code.State) → WellFormed s → Fits ns fs → length ns ≤ 8 → Limited (whole ns fs s)
+pub whole-limited : (ns : List ℕ) (fs : List Cell) (s : code.State) → WellFormed s → ((k : ℕ) → getD ns k 0 ≤ 16) → length ns ≤ 8 → Limited (whole ns fs s)
 unfolding whole reblock height
 whole-limited ns fs s f g l = record {
   entries = let h = height-is s f in omega arith;
   blocks = let h = blocks-count ns fs in omega arith;
-  fields = blocks-small ns fs (g .few);
+  fields = blocks-small ns fs g;
 }
 
 -- the first turn over places, and the first over amounts
-pub places-left : (ns : List ℕ) (fs : List Cell) (s : code.State) → WellFormed s → Fits ns fs → length ns ≤ 8 → (t : Change → Bool) (n : ℕ) →
+pub places-left : (ns : List ℕ) (fs : List Cell) (s : code.State) → WellFormed s → ((k : ℕ) → getD ns k 0 ≤ 16) → length ns ≤ 8 → (t : Change → Bool) (n : ℕ) →
     Left t (λ k. changesAt (whole ns fs s) n (positionOf k)) 193 (first t (changesBy (whole ns fs s) n)) 0
 places-left ns fs s f g l t n = ap (first t) (all-changes (whole ns fs s) (whole-limited ns fs s f g l) n)
 

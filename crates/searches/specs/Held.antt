@@ -1,15 +1,12 @@
 -- What the code's values stand for, and what is asked of them.
-use Prim.Native.Nat.{ℕ, _≤_}
+use Prim.Native.Nat.{ℕ}
 use mathlib.Core.Path.{_≡_}
 use mathlib.Core.Bool.{Bool}
 use mathlib.Core.List.{List}
 use mathlib.Core.Option.{Option, some, none}
-use lib.IntN.{ℤ}
-use lib.ListN.{length}
-use Rattle.cells.specs.declared.Cell.{Cell}
 use Rattle.machine.specs.Machine.{State, Code}
 use Rattle.states.specs.declared.State as states
-use Rattle.states.specs.Columns.{Sized}
+use Rattle.states.specs.Program.{IsProgram}
 use Rattle.bounds.specs.Tree.{Verdict, bound}
 use Rattle.findings.specs.declared.Found.{Found}
 use Rattle.findings.specs.Found.{Shows}
@@ -33,11 +30,10 @@ ofSought (Moves c) = found (some c)
 ofSought Still = found none
 ofSought (Refused r) = refused-by r
 
--- what is asked: a start that can be explored, with eight blocks at most
-pub record Searchable (bs : List ℕ) (is : List ℤ) (cs ws xs ns : List ℕ) (first : ℕ) (fs : List Cell) (start : states.State) (budget : ℕ) : Type 0 where
-  pub sized : Sized bs is cs ws xs
-  pub explorable : Explorable bs ns first fs start 32 budget
-  pub present : length ns ≤ 8
+-- what is asked: a program that is well formed, and a start that can be explored
+pub record Searchable (ws : List ℕ) (start : states.State) (budget : ℕ) : Type 0 where
+  pub formed : IsProgram ws
+  pub explorable : Explorable start 32 budget
 
 -- r says whether the verdict that an answer shows moves a bound of n cycles
 abbrev pub MovedAs : ℕ → Found → Bool → Type 0

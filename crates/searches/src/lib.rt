@@ -12,7 +12,7 @@ ghost use mathlib.Core.Path.{_≡_};
 ghost use Prim.Native.Nat.{_≤_};
 ghost use Rattle.cells.specs.Cells.{number};
 ghost use Rattle.states.specs.View.{whole};
-ghost use Rattle.states.specs.Columns.{codeOf};
+ghost use Rattle.states.specs.Program.{programOf, sizesOf};
 ghost use Rattle.bounds.specs.Tree.{bound};
 ghost use Rattle.changes.specs.Places.{replaceAt};
 ghost use Rattle.changes.specs.Changes.{changeTo, changesAt, changesBy, nearest};
@@ -46,13 +46,7 @@ fn is_moved(figure: u64, found: Found) -> bool
 
 // Whether the bound is moved where the cell at p holds n.
 fn is_moved_by(
-    codes: &[u8],
-    operands: &[i32],
-    cycles: &[u32],
-    words: &[u32],
-    extras: &[u32],
-    sizes: &[u8],
-    first: usize,
+    code: &[u32; 5131],
     start: State,
     fields: [Cell; 128],
     budget: usize,
@@ -60,37 +54,19 @@ fn is_moved_by(
     p: Position,
     n: i32,
 ) -> bool
-    requires { ⌜ Searchable (now codes) (now operands) (now cycles) (now words) (now extras) (now sizes) first fields start budget × Present p (whole (now sizes) fields start) ⌝ }
-    ensures { λ r. ⌜ r ≡ moved figure (bound (codeOf first (now (codes .entry)) (now (operands .entry)) (now (cycles .entry)) (now (words .entry)) (now (extras .entry))) budget (replaceAt p (number n) (whole (now (sizes .entry)) fields start))) ⌝ }
+    requires { ⌜ Searchable (now code) start budget × Present p (whole (sizesOf (now code)) fields start) ⌝ }
+    ensures { λ r. ⌜ r ≡ moved figure (bound (programOf (now (code .entry))) budget (replaceAt p (number n) (whole (sizesOf (now (code .entry))) fields start))) ⌝ }
 {
     let c = cells::number(n);
-    let state = changes::with_entry(sizes, start, fields, p, c);
-    let blocks = changes::with_field(sizes, start, fields, p, c);
-    let found = explore::explore(
-        codes,
-        operands,
-        cycles,
-        words,
-        extras,
-        sizes,
-        first,
-        state,
-        blocks,
-        32,
-        budget,
-    );
+    let state = changes::with_entry(code, start, fields, p, c);
+    let blocks = changes::with_field(code, start, fields, p, c);
+    let found = explore::explore(code, state, blocks, 32, budget);
     is_moved(figure, found)
 }
 
 // The cell at p changed to v, where that moves the bound. A v outside the range of numbers is passed over.
 fn try_value(
-    codes: &[u8],
-    operands: &[i32],
-    cycles: &[u32],
-    words: &[u32],
-    extras: &[u32],
-    sizes: &[u8],
-    first: usize,
+    code: &[u32; 5131],
     start: State,
     fields: [Cell; 128],
     budget: usize,
@@ -98,28 +74,14 @@ fn try_value(
     p: Position,
     v: i64,
 ) -> Hit
-    requires { ⌜ Searchable (now codes) (now operands) (now cycles) (now words) (now extras) (now sizes) first fields start budget × Present p (whole (now sizes) fields start) ⌝ }
-    ensures { λ r. ⌜ ofHit r ≡ firstMoved (codeOf first (now (codes .entry)) (now (operands .entry)) (now (cycles .entry)) (now (words .entry)) (now (extras .entry))) budget figure (whole (now (sizes .entry)) fields start) (changeTo p v) ⌝ }
+    requires { ⌜ Searchable (now code) start budget × Present p (whole (sizesOf (now code)) fields start) ⌝ }
+    ensures { λ r. ⌜ ofHit r ≡ firstMoved (programOf (now (code .entry))) budget figure (whole (sizesOf (now (code .entry))) fields start) (changeTo p v) ⌝ }
 {
     if !numbers::within(numbers::number_range(), v) {
         return Hit::Nowhere;
     }
     let n = v as i32;
-    if is_moved_by(
-        codes,
-        operands,
-        cycles,
-        words,
-        extras,
-        sizes,
-        first,
-        start,
-        fields,
-        budget,
-        figure,
-        p,
-        n,
-    ) {
+    if is_moved_by(code, start, fields, budget, figure, p, n) {
         return Hit::At(Change { place: p, value: n });
     }
     Hit::Nowhere
@@ -127,13 +89,7 @@ fn try_value(
 
 // The changes of the cell at p by `amount`, downwards and then upwards.
 fn try_place(
-    codes: &[u8],
-    operands: &[i32],
-    cycles: &[u32],
-    words: &[u32],
-    extras: &[u32],
-    sizes: &[u8],
-    first: usize,
+    code: &[u32; 5131],
     start: State,
     fields: [Cell; 128],
     budget: usize,
@@ -141,86 +97,38 @@ fn try_place(
     amount: usize,
     p: Position,
 ) -> Hit
-    requires { ⌜ Searchable (now codes) (now operands) (now cycles) (now words) (now extras) (now sizes) first fields start budget × (amount ≤ 64) ⌝ }
-    ensures { λ r. ⌜ ofHit r ≡ firstMoved (codeOf first (now (codes .entry)) (now (operands .entry)) (now (cycles .entry)) (now (words .entry)) (now (extras .entry))) budget figure (whole (now (sizes .entry)) fields start) (changesAt (whole (now (sizes .entry)) fields start) amount p) ⌝ }
+    requires { ⌜ Searchable (now code) start budget × (amount ≤ 64) ⌝ }
+    ensures { λ r. ⌜ ofHit r ≡ firstMoved (programOf (now (code .entry))) budget figure (whole (sizesOf (now (code .entry))) fields start) (changesAt (whole (sizesOf (now (code .entry))) fields start) amount p) ⌝ }
 {
-    let held = changes::number_at(sizes, start, fields, p);
+    let held = changes::number_at(code, start, fields, p);
     let Single::Number(n) = held else {
         return Hit::Nowhere;
     };
     let below = changes::lowered(n, amount);
-    let down = try_value(
-        codes,
-        operands,
-        cycles,
-        words,
-        extras,
-        sizes,
-        first,
-        start,
-        fields,
-        budget,
-        figure,
-        p,
-        below,
-    );
+    let down = try_value(code, start, fields, budget, figure, p, below);
     if let Hit::At(change) = down {
         return Hit::At(change);
     }
     let above = changes::raised(n, amount);
-    try_value(
-        codes,
-        operands,
-        cycles,
-        words,
-        extras,
-        sizes,
-        first,
-        start,
-        fields,
-        budget,
-        figure,
-        p,
-        above,
-    )
+    try_value(code, start, fields, budget, figure, p, above)
 }
 
 // The changes by `amount` of all cells, in the file's order.
 fn try_amount(
-    codes: &[u8],
-    operands: &[i32],
-    cycles: &[u32],
-    words: &[u32],
-    extras: &[u32],
-    sizes: &[u8],
-    first: usize,
+    code: &[u32; 5131],
     start: State,
     fields: [Cell; 128],
     budget: usize,
     figure: u64,
     amount: usize,
 ) -> Hit
-    requires { ⌜ Searchable (now codes) (now operands) (now cycles) (now words) (now extras) (now sizes) first fields start budget × (amount ≤ 64) ⌝ }
-    ensures { λ r. ⌜ ofHit r ≡ firstMoved (codeOf first (now (codes .entry)) (now (operands .entry)) (now (cycles .entry)) (now (words .entry)) (now (extras .entry))) budget figure (whole (now (sizes .entry)) fields start) (changesBy (whole (now (sizes .entry)) fields start) amount) ⌝ }
+    requires { ⌜ Searchable (now code) start budget × (amount ≤ 64) ⌝ }
+    ensures { λ r. ⌜ ofHit r ≡ firstMoved (programOf (now (code .entry))) budget figure (whole (sizesOf (now (code .entry))) fields start) (changesBy (whole (sizesOf (now (code .entry))) fields start) amount) ⌝ }
 {
     let mut k = 0;
     while k < 193 {
         let p = changes::position_of(k);
-        let hit = try_place(
-            codes,
-            operands,
-            cycles,
-            words,
-            extras,
-            sizes,
-            first,
-            start,
-            fields,
-            budget,
-            figure,
-            amount,
-            p,
-        );
+        let hit = try_place(code, start, fields, budget, figure, amount, p);
         if let Hit::At(change) = hit {
             return Hit::At(change);
         }
@@ -231,37 +139,18 @@ fn try_amount(
 
 // The changes by 1, by 2 and on to 64.
 fn try_amounts(
-    codes: &[u8],
-    operands: &[i32],
-    cycles: &[u32],
-    words: &[u32],
-    extras: &[u32],
-    sizes: &[u8],
-    first: usize,
+    code: &[u32; 5131],
     start: State,
     fields: [Cell; 128],
     budget: usize,
     figure: u64,
 ) -> Hit
-    requires { ⌜ Searchable (now codes) (now operands) (now cycles) (now words) (now extras) (now sizes) first fields start budget ⌝ }
-    ensures { λ r. ⌜ ofHit r ≡ nearest (λ t. moved figure (bound (codeOf first (now (codes .entry)) (now (operands .entry)) (now (cycles .entry)) (now (words .entry)) (now (extras .entry))) budget t)) (whole (now (sizes .entry)) fields start) ⌝ }
+    requires { ⌜ Searchable (now code) start budget ⌝ }
+    ensures { λ r. ⌜ ofHit r ≡ nearest (λ t. moved figure (bound (programOf (now (code .entry))) budget t)) (whole (sizesOf (now (code .entry))) fields start) ⌝ }
 {
     let mut amount = 1;
     while amount <= 64 {
-        let hit = try_amount(
-            codes,
-            operands,
-            cycles,
-            words,
-            extras,
-            sizes,
-            first,
-            start,
-            fields,
-            budget,
-            figure,
-            amount,
-        );
+        let hit = try_amount(code, start, fields, budget, figure, amount);
         if let Hit::At(change) = hit {
             return Hit::At(change);
         }
@@ -271,52 +160,17 @@ fn try_amounts(
 }
 
 // The nearest change of a start that moves its bound, or the bound's refusal.
-pub fn search(
-    codes: &[u8],
-    operands: &[i32],
-    cycles: &[u32],
-    words: &[u32],
-    extras: &[u32],
-    sizes: &[u8],
-    first: usize,
-    start: State,
-    fields: [Cell; 128],
-    budget: usize,
-) -> Sought
-    requires { ⌜ Searchable (now codes) (now operands) (now cycles) (now words) (now extras) (now sizes) first fields start budget ⌝ }
-    ensures { λ r. ⌜ ofSought r ≡ search (codeOf first (now (codes .entry)) (now (operands .entry)) (now (cycles .entry)) (now (words .entry)) (now (extras .entry))) budget (whole (now (sizes .entry)) fields start) ⌝ }
+pub fn search(code: &[u32; 5131], start: State, fields: [Cell; 128], budget: usize) -> Sought
+    requires { ⌜ Searchable (now code) start budget ⌝ }
+    ensures { λ r. ⌜ ofSought r ≡ search (programOf (now (code .entry))) budget (whole (sizesOf (now (code .entry))) fields start) ⌝ }
 {
-    let found = explore::explore(
-        codes,
-        operands,
-        cycles,
-        words,
-        extras,
-        sizes,
-        first,
-        start,
-        fields,
-        32,
-        budget,
-    );
+    let found = explore::explore(code, start, fields, 32, budget);
     let figure = found.cycles;
     let verdict = found.verdict;
     if let Verdict::Refused(refusal) = verdict {
         return Sought::Refused(refusal);
     }
-    let hit = try_amounts(
-        codes,
-        operands,
-        cycles,
-        words,
-        extras,
-        sizes,
-        first,
-        start,
-        fields,
-        budget,
-        figure,
-    );
+    let hit = try_amounts(code, start, fields, budget, figure);
     match hit {
         Hit::At(change) => Sought::Moves(change),
         Hit::Nowhere => Sought::Still,

@@ -5,7 +5,7 @@ use mathlib.Core.List.{List, _++_}
 use mathlib.Core.Option.{some, none}
 use native.Mathlib.Omega.{arith}
 use lib.IntN.{ℤ}
-use lib.ListN.{length, length-append, length-take}
+use lib.ListN.{length, length-append}
 use Rattle.refusals.specs.declared.Refusal.{Refusal}
 use Rattle.refusals.specs.declared.Refusal.the-variants.{ReportMemory}
 use Rattle.refusals.specs.Refusals.{place}
@@ -23,7 +23,7 @@ use Rattle.routine.specs.Routine as readings
 use Rattle.routine.proofs.RowLaws.{read-passes}
 use Rattle.routine.proofs.PlaceLaws.{read-bound-place, confined, start-small}
 use Rattle.reader.specs.declared.Routine.{Routine}
-use Rattle.reader.specs.Reader.{codes, operands, cycles, words, extras, sizes, Holds, Limited}
+use Rattle.reader.specs.Reader.{Holds, Limited}
 use Rattle.answers.specs.Answers.{reported, refused, memoryLimit}
 use Rattle.answers.proofs.AnswerLaws.{never, lent-short, from-reading, place-from, reading-refused, reading-passed}
 use Rattle.changes.specs.declared.Position.{Position}
@@ -35,24 +35,13 @@ use Rattle.changes.proofs.PlaceLaws as places
 use Rattle.changes.proofs.PlaceLaws.{entry-below, field-below}
 use Rattle.cells.specs.Try.{done}
 use Rattle.searches.specs.Search.{Searched, found, refused-by, search}
-use Rattle.searches.specs.Held.{Searchable}
 use Rattle.searches.proofs.Theorems.{found-moves, refused-alike}
+use Rattle.states.specs.Program.{sizesOf}
+use Rattle.states.proofs.ProgramLaws.{sizes-count}
 use Rattle.searches.proofs.SearchLaws.{whole-limited}
 use Rattle.sensitivity.specs.Answers.{nameOf, lineOf, changeText, ofSearched, nearestRoutine, nearestAnswer}
 use Rattle.sensitivity.specs.Held.{searchIn}
 use Rattle.sensitivity.proofs.StartLaws.{start-limited}
-
-few-blocks : (x : Routine) → Limited x → length (sizes x) ≤ 8
-few-blocks x l = let e = length-take (x .blocks) (x .sizes) in let h = l .present in omega arith
-
--- what the search asks
-pub searchable : (x : Routine) → Limited x →
-    Searchable (codes x) (operands x) (cycles x) (words x) (extras x) (sizes x) (x .first) (x .fields) (x .start) (x .budget)
-searchable x l = record {
-  sized = l .sized;
-  explorable = record { addresses = let n = l .sized .few in let f = l .first in omega arith; formed = l .formed; budget-fits = l .budget; openings-fit = omega arith; fits = l .fits };
-  present = few-blocks x l;
-}
 
 -- ---- what is printed
 
@@ -138,7 +127,7 @@ from-refused (refused-by x) r e = let h : x ≡ r = cc in ap refused-by h
 -- ---- a routine
 
 pub held-length : (x : Routine) → Limited x → (y : Change) → searchIn x ≡ found (some y) → length (lineOf y) ≤ 19
-held-length x l y e = found-length _ _ _ (whole-limited (sizes x) (x .fields) (x .start) (l .formed) (l .fits) (few-blocks x l)) y e .1
+held-length x l y e = found-length _ _ _ (whole-limited (sizesOf (x .code)) (x .fields) (x .start) (l .formed) (l .program .sizes) (omega (arith, sizes-count (x .code) (l .program), l .program .blocks))) y e .1
 
 pub held-answer : (x : readings.Routine) (h : Routine) → Holds x h → nearestRoutine x ≡ ofSearched (searchIn h)
 unfolding nearestRoutine

@@ -23,29 +23,10 @@ fn sought(routine: Routine) -> Sought
     requires { ⌜ Limited routine ⌝ }
     ensures { λ r. ⌜ ofSought r ≡ searchIn routine ⌝ }
 {
-    let columns = routine.columns;
-    let codes = columns.codes;
-    let operands = columns.operands;
-    let cycles = columns.cycles;
-    let words = columns.words;
-    let extras = columns.extras;
-    let sizes = routine.sizes;
+    let code = routine.code;
     let fields = routine.fields;
     let start = routine.start;
-    let count = routine.count;
-    let blocks = routine.blocks;
-    searches::search(
-        &codes[..count],
-        &operands[..count],
-        &cycles[..count],
-        &words[..count],
-        &extras[..count],
-        &sizes[..blocks],
-        routine.first,
-        start,
-        fields,
-        routine.budget,
-    )
+    searches::search(&code, start, fields, routine.budget)
 }
 
 // Puts the name of a cell at the start of out, and answers its length.

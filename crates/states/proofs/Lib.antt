@@ -1,4 +1,4 @@
 pub mod Stack
 pub mod BlockLaws
-pub mod ColumnLaws
+pub mod ProgramLaws
 pub mod StateLaws

@@ -1,10 +1,12 @@
-// The machine's state by value, the place of a field, and the code in columns. The meaning is in specs/.
+// The machine's state by value, the place of a field, and the program. The meaning is in specs/.
 use cells::Cell;
 use cells::Handled;
 ghost use mathlib.Core.Path.{_≡_};
 ghost use Prim.Native.Nat.{_+_, _<_, _≤_};
+ghost use lib.ListN.{length, getD};
 ghost use Rattle.cells.specs.Try.{done};
 ghost use Rattle.machine.specs.Machine.{push, pop, store, load, advance, jump};
+ghost use Rattle.states.specs.Program.{sizesOf, IsProgram};
 ghost use Rattle.states.specs.View.{view, WellFormed, slot, ofSlot};
 
 pub mod code;
@@ -108,19 +110,36 @@ pub enum Slot {
     Lacks,
 }
 
-// The place of field `n` of the block that `a` handles; `sizes` holds how many fields each block has.
-pub fn slot_of(sizes: &[u8], a: Cell, n: usize) -> Slot
-    ensures { λ r. ⌜ ofSlot r ≡ slot (now (sizes .entry)) a n ⌝ }
+// How many blocks there are.
+pub fn count_blocks(code: &[u32; 5131]) -> usize
+    requires { ⌜ IsProgram (now code) ⌝ }
+    ensures { λ r. ⌜ r ≡ length (sizesOf (now (code .entry))) ⌝ }
+{
+    code[2] as usize
+}
+
+// How many fields block `k` has.
+pub fn size_of(code: &[u32; 5131], k: usize) -> usize
+    requires { ⌜ IsProgram (now code) × (k < length (sizesOf (now code))) ⌝ }
+    ensures { λ r. ⌜ r ≡ getD (sizesOf (now (code .entry))) k 0 ⌝ }
+{
+    code[k + 3] as usize
+}
+
+// The place of field `n` of the block that `a` handles.
+pub fn slot_of(code: &[u32; 5131], a: Cell, n: usize) -> Slot
+    requires { ⌜ IsProgram (now code) ⌝ }
+    ensures { λ r. ⌜ ofSlot r ≡ slot (sizesOf (now (code .entry))) a n ⌝ }
 {
     let handled = cells::block(a);
     let Handled::Block(h) = handled else {
         return Slot::Lacks;
     };
     let k = h as usize;
-    if sizes.len() <= k {
+    if count_blocks(code) <= k {
         return Slot::Lacks;
     }
-    if (sizes[k] as usize) <= n {
+    if size_of(code, k) <= n {
         return Slot::Lacks;
     }
     Slot::At(k * 16 + n)

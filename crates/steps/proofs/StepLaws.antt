@@ -16,7 +16,7 @@ use Rattle.outcomes.proofs.TurnLaws as turn
 use Rattle.outcomes.proofs.ArmLaws.{Arm, opens-both}
 use Rattle.states.specs.declared.State.{State}
 use Rattle.states.specs.declared.code.Line.{Line}
-use Rattle.states.specs.Columns.{lineOf}
+use Rattle.states.specs.Program.{lineOf}
 use Rattle.states.specs.View.{view, WellFormed, blocksOf, whole}
 use Rattle.states.proofs.StateLaws.{placed, height-is}
 

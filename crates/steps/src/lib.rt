@@ -6,11 +6,9 @@ use states::Slot;
 use states::State;
 use states::code::Fetched;
 ghost use mathlib.Core.Path.{_≡_};
-ghost use Prim.Native.Nat.{_+_, _≤_};
-ghost use lib.ListN.{length};
 ghost use Rattle.machine.specs.Machine.{step, takesAnswer};
-ghost use Rattle.states.specs.Columns.{codeOf, Sized};
-ghost use Rattle.states.specs.View.{WellFormed, Fits, whole};
+ghost use Rattle.states.specs.Program.{programOf, sizesOf, IsProgram};
+ghost use Rattle.states.specs.View.{WellFormed, whole};
 ghost use Rattle.steps.specs.Step.{ofNext, Small, Differs};
 
 // What a way costs.
@@ -44,25 +42,14 @@ pub struct Stepped {
 }
 
 // One step from `state` with `blocks`, where a C_CALL gets `answer`.
-pub fn step(
-    codes: &[u8],
-    operands: &[i32],
-    cycles: &[u32],
-    words: &[u32],
-    extras: &[u32],
-    sizes: &[u8],
-    first: usize,
-    answer: Cell,
-    mut state: State,
-    mut blocks: [Cell; 128],
-) -> Stepped
-    requires { ⌜ Sized (now codes) (now operands) (now cycles) (now words) (now extras) × (first + length (now codes) ≤ 65536) × WellFormed state × Fits (now sizes) blocks ⌝ }
-    ensures { λ r. ⌜ ofNext (r .next) (whole (now (sizes .entry)) (r .blocks) (r .state)) ≡ step (codeOf first (now (codes .entry)) (now (operands .entry)) (now (cycles .entry)) (now (words .entry)) (now (extras .entry))) answer (whole (now (sizes .entry)) blocks state) ⌝ }
-    ensures { λ r. ⌜ r .calls ≡ takesAnswer (codeOf first (now (codes .entry)) (now (operands .entry)) (now (cycles .entry)) (now (words .entry)) (now (extras .entry))) (whole (now (sizes .entry)) blocks state) ⌝ }
-    ensures { λ r. ⌜ WellFormed (r .state) × Fits (now (sizes .entry)) (r .blocks) × Small (r .next) ⌝ }
+pub fn step(code: &[u32; 5131], answer: Cell, mut state: State, mut blocks: [Cell; 128]) -> Stepped
+    requires { ⌜ IsProgram (now code) × WellFormed state ⌝ }
+    ensures { λ r. ⌜ ofNext (r .next) (whole (sizesOf (now (code .entry))) (r .blocks) (r .state)) ≡ step (programOf (now (code .entry))) answer (whole (sizesOf (now (code .entry))) blocks state) ⌝ }
+    ensures { λ r. ⌜ r .calls ≡ takesAnswer (programOf (now (code .entry))) (whole (sizesOf (now (code .entry))) blocks state) ⌝ }
+    ensures { λ r. ⌜ WellFormed (r .state) × Small (r .next) ⌝ }
     ensures { λ r. ⌜ Differs (r .change) blocks (r .blocks) ⌝ }
 {
-    let fetched = states::code::fetch(codes, operands, cycles, words, extras, first, state.at);
+    let fetched = states::code::fetch(code, state.at);
     let Fetched::Is(line) = fetched else {
         return Stepped {
             next: Next::Stuck,
@@ -126,7 +113,7 @@ pub fn step(
             state = state.store(index).advance();
         }
         Outcome::Sets(c) => {
-            let field = states::slot_of(sizes, state.accu, index);
+            let field = states::slot_of(code, state.accu, index);
             match field {
                 Slot::At(j) => {
                     blocks[j] = c;
@@ -140,7 +127,7 @@ pub fn step(
             }
         }
         Outcome::Gets => {
-            let field = states::slot_of(sizes, state.accu, index);
+            let field = states::slot_of(code, state.accu, index);
             match field {
                 Slot::At(j) => {
                     let fields = blocks; // copied in this arm alone, and not at every step

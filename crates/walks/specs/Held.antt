@@ -7,7 +7,7 @@ use Rattle.cells.specs.declared.Cell.{Cell}
 use Rattle.cells.specs.Cells.{unknown}
 use Rattle.machine.specs.Machine.{State, Price, Code, step}
 use Rattle.states.specs.declared.State as states
-use Rattle.states.specs.View.{WellFormed, Fits, whole}
+use Rattle.states.specs.View.{WellFormed, whole}
 use Rattle.bounds.specs.Tree.{Decision}
 use Rattle.bounds.specs.Traces.{Move, move}
 use Rattle.report.specs.Decode.{decode}
@@ -26,6 +26,5 @@ movesBy ns w s below = cond (w .made) (move s (priceOf w) (decode (w .way)) ∷ 
 pub record StepsOn (c : Code) (ns : List ℕ) (path : ℕ) (state : states.State) (blocks : List Cell) (w : Walked) : Type 0 where
   pub moves : (below : List Decision → State → List Move) → onward below (decode path) (whole ns blocks state) (step c unknown (whole ns blocks state)) ≡ movesBy ns w (whole ns blocks state) below
   pub formed : WellFormed (w .state)
-  pub fits : Fits ns (w .blocks)
   pub cycles : w .cycles < 8589934592
   pub words : w .words < 4294967296

@@ -2,10 +2,8 @@
 use cells::Cell;
 use states::State;
 use steps::Next;
-ghost use Prim.Native.Nat.{_+_, _≤_};
-ghost use lib.ListN.{length};
-ghost use Rattle.states.specs.Columns.{codeOf, Sized};
-ghost use Rattle.states.specs.View.{WellFormed, Fits};
+ghost use Rattle.states.specs.Program.{programOf, sizesOf, IsProgram};
+ghost use Rattle.states.specs.View.{WellFormed};
 ghost use Rattle.walks.specs.Held.{StepsOn};
 
 // A step of the walk: whether it is made and whether it is STOP, what it costs, the decision as a path of its own, the path that is left,
@@ -22,34 +20,12 @@ pub struct Walked {
 }
 
 // The step from `state` with `blocks`, by the first decision of `path` if it is an unknown branch.
-pub fn walk(
-    codes: &[u8],
-    operands: &[i32],
-    cycles: &[u32],
-    words: &[u32],
-    extras: &[u32],
-    sizes: &[u8],
-    first: usize,
-    path: u64,
-    state: State,
-    blocks: [Cell; 128],
-) -> Walked
-    requires { ⌜ Sized (now codes) (now operands) (now cycles) (now words) (now extras) × (first + length (now codes) ≤ 65536) × WellFormed state × Fits (now sizes) blocks ⌝ }
-    ensures { λ r. ⌜ StepsOn (codeOf first (now (codes .entry)) (now (operands .entry)) (now (cycles .entry)) (now (words .entry)) (now (extras .entry))) (now (sizes .entry)) path state blocks r ⌝ }
+pub fn walk(code: &[u32; 5131], path: u64, state: State, blocks: [Cell; 128]) -> Walked
+    requires { ⌜ IsProgram (now code) × WellFormed state ⌝ }
+    ensures { λ r. ⌜ StepsOn (programOf (now (code .entry))) (sizesOf (now (code .entry))) path state blocks r ⌝ }
 {
     let answer = cells::unknown();
-    let stepped = steps::step(
-        codes,
-        operands,
-        cycles,
-        words,
-        extras,
-        sizes,
-        first,
-        answer,
-        state,
-        blocks,
-    );
+    let stepped = steps::step(code, answer, state, blocks);
     let next = stepped.next;
     let reached = stepped.state;
     let left = stepped.blocks;

@@ -18,7 +18,7 @@ use Rattle.instructions.specs.Opcodes.{kindCoded}
 use Rattle.instructions.proofs.OpcodeLaws.{opcode-of-kind}
 use Rattle.words.specs.Words.{Word, whole, cut}
 use Rattle.words.specs.Decoding.{Item, itemOf, hasArgument, Entry, item, unreadable, Due, opcode, argument, coded, entries, decoded, items, callListed, faultFrom, wordFault, lands, offsetFault, orOffsets, codeFault}
-use Rattle.words.proofs.WordLaws.{signed-fits}
+use Rattle.numbers.proofs.ResidueLaws.{signed-fits}
 use Rattle.words.proofs.FaultLaws.{sound-item}
 use Rattle.words.proofs.OffsetLaws.{readable-of}
 

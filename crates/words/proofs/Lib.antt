@@ -6,5 +6,4 @@ pub mod NumberingLaws
 pub mod OffsetLaws
 pub mod IndexLaws
 pub mod ExportLaws
-pub mod ResidueLaws
 pub mod Examples

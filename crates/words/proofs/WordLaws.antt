@@ -1,20 +1,12 @@
 -- Laws of words: the first word of bytes and what follows, and a word that was written is read back. Assumes nothing.
 use mathlib.Core.Path.{_≡_, refl, sym, ap, _∙_}
-use mathlib.Core.Bool.{true, false, cond}
 use mathlib.Core.List.{List, [], _∷_, map}
-use Prim.Native.Nat.{ℕ, suc, _+_, _-_, _*_, _/_, _%_, _<_, _≤_}
+use Prim.Native.Nat.{ℕ, _+_, _-_, _*_, _/_, _%_, _<_, _≤_}
 use native.Mathlib.Omega.{arith}
-use lib.IntN.{pos, negsuc, _-ℤ_}
 use lib.ListN.{length, getD, take, drop, length-drop}
 use lib.Seq.{take-all}
-use lib.Signed.{ltZ}
-use mir.Syntax.{w32, w64}
-use mir.Val.{SFits, toZ}
-use mir.ValLaws.{toZ-pos}
 use native.Mathlib.Nat.{mod-eq-of-lt, div-div-eq-div-mul, div-add-mod'}
-use borrow.Author.Tests.{lt-ltb, ltb-true, ltb-false}
-use Rattle.numbers.specs.Numbers.{modulus, half, signed}
-use Rattle.numbers.proofs.NumberLaws.{signed-number, signed-low, signed-high}
+use Rattle.numbers.specs.Numbers.{modulus}
 use Rattle.text.proofs.TextLaws.{Every, none, more}
 use Rattle.words.specs.Words.{wordBits, whole, littleEndian, wordsOf, bytesOf, allBytes}
 
@@ -68,23 +60,3 @@ pub bytes-length : (ns : List ℕ) → length (allBytes ns) ≡ 4 * length ns
 unfolding bytesOf allBytes
 bytes-length [] = refl
 bytes-length (n ∷ ns) = let e = bytes-length ns in omega arith
-
--- ---- signed words
-
--- they fit 32 bits
-pub signed-fits : (n : ℕ) → SFits w32 (signed wordBits n)
-signed-fits n = record { sfits = signed-number wordBits (omega arith) n }
-
--- a word as the code holds it, in 64 bits: below half it is the number, and from there on 2 ^ 32 more
-module _ (n : ℕ) (h : n < modulus wordBits) where
-  held : toZ w64 n ≡ pos n
-  held = toZ-pos w64 n (omega arith)
-
-  pub signed-kept : ltZ (toZ w64 n) (pos (half wordBits)) ≡ true → signed wordBits n ≡ toZ w64 n
-  signed-kept t = signed-low wordBits n (ltb-true n (half wordBits) (ap (λ z. ltZ z (pos (half wordBits))) (sym held) ∙ t)) ∙ sym held
-
-  pub signed-lowered : ltZ (toZ w64 n) (pos (half wordBits)) ≡ false → signed wordBits n ≡ toZ w64 n -ℤ pos (modulus wordBits)
-  signed-lowered t =
-      signed-high wordBits n (ltb-false n (half wordBits) (ap (λ z. ltZ z (pos (half wordBits))) (sym held) ∙ t))
-      ∙ ap (λ b. cond b (negsuc (modulus wordBits - suc n)) (pos (n - modulus wordBits))) (sym (lt-ltb n (modulus wordBits) h))
-      ∙ ap (λ z. z -ℤ pos (modulus wordBits)) (sym held)

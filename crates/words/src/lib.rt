@@ -6,16 +6,10 @@ ghost use Prim.Native.Nat.{suc, _+_, _*_, _≤_, _<_};
 ghost use lib.IntN.{pos, _+ℤ_};
 ghost use lib.ListN.{length, getD, drop};
 ghost use Rattle.text.specs.Memory.{over};
-ghost use Rattle.numbers.specs.Numbers.{residue, signed};
 ghost use Rattle.instructions.specs.Columns.{kindAt};
 ghost use Rattle.words.specs.Words.{wordBits, littleEndian, wordsOf, bytesOf};
 ghost use Rattle.words.specs.Decoding.{decoded, items, hasArgument, isPlace, callListed, wordFault, isFound, offsetFault, codeFault};
 ghost use Rattle.words.specs.Held.{sizeOf, withArgument, headOf, Readable, numberIn, Numbered, landsIn};
-
-// "32-bit .. words": how many there are, and from which on they stand for numbers below 0.
-const MODULUS: i64 = 1 << 32;
-
-const HALF: i64 = MODULUS / 2;
 
 // What stands at the head of words: a kind by its place in the table with its argument word, or no instruction.
 pub enum Head {
@@ -35,17 +29,6 @@ pub fn first_word(bytes: &[u8]) -> u32
     ensures { λ r. ⌜ r ≡ littleEndian (getD (now (bytes .entry)) 0 0) (getD (now (bytes .entry)) 1 0) (getD (now (bytes .entry)) 2 0) (getD (now (bytes .entry)) 3 0) ⌝ }
 {
     wide(bytes[0]) + wide(bytes[1]) * 256 + wide(bytes[2]) * 65536 + wide(bytes[3]) * 16777216
-}
-
-// "Argument words are signed."
-pub fn signed(word: u32) -> i32
-    ensures { λ r. ⌜ r ≡ signed wordBits word ⌝ }
-{
-    let z = word as i64;
-    if z < HALF {
-        return z as i32;
-    }
-    (z - MODULUS) as i32
 }
 
 // Whether a kind has an argument word.
@@ -76,7 +59,7 @@ fn with_argument(k: usize, words: &[u8]) -> Head
     if words.len() < 4 {
         return Head::Unreadable;
     }
-    Head::Instruction(k, signed(first_word(words)))
+    Head::Instruction(k, numbers::signed(first_word(words)))
 }
 
 // The instruction at the head of words.
@@ -283,15 +266,4 @@ pub fn put_word(out: &mut [u8], at: usize, word: u32) -> usize
         (word / 16777216 % 256) as u8,
     ];
     text::put(out, at, &bytes)
-}
-
-// A number of 32 bits as a word.
-pub fn word_of(z: i32) -> u32
-    ensures { λ r. ⌜ r ≡ residue wordBits z ⌝ }
-{
-    let w = z as i64;
-    if w < 0 {
-        return (w + MODULUS) as u32;
-    }
-    w as u32
 }

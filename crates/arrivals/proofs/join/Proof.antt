@@ -2,6 +2,7 @@
 use mathlib.Core.Path.{_≡_, sym, ap, _∙_}
 use lib.ListN.{getD}
 use Rattle.merges.specs.Merge.{Slot, join}
+use Rattle.states.specs.Program.{sizesOf}
 use Rattle.arrivals.specs.Rows.{arrivalOf}
 use Rattle.arrivals.proofs.RowLaws.{slot-empty, slot-held, slot-unlike, first-joined, next-joined, other-joined}
 use borrow.Author.Needs.{needs}
@@ -12,10 +13,10 @@ returns : tie.Need-returns
 returns c =
     let at-put = c .before .before .before .before .before .before in
     let c1 = at-put .before .before .before .before .before in
-    let start = c1 .before .before .before .before .before in
+    let start = c1 .before .before .before .before in
     let a = start .args in
     let p = at-put .put in
-    let ns = a .sizes .now in
+    let ns = sizesOf (a .code .now) in
     let at = a .w .state .at in
     let m : getD (a .head .now) 0 0 ≡ 0 = search needs in
     slot-held ns at (p .last .0) _ _ (p .ensures .0)
@@ -28,10 +29,10 @@ returns-2 c =
     let c1 = at-meet .before .before .before .before .before in
     let at-put2 = c1 .before .before .before .before .before in
     let at-if2 = at-put2 .before .before .before .before in
-    let start = at-if2 .before .before .before .before .before .before .before in
+    let start = at-if2 .before .before .before .before .before .before in
     let a = start .args in
     let p = at-put2 .put2 in
-    let ns = a .sizes .now in
+    let ns = sizesOf (a .code .now) in
     let at = a .w .state .at in
     let m : getD (a .head .now) 0 0 ≡ 1 = at-if2 .if2 .taken in
     at-meet .meet .ensures at at
@@ -40,10 +41,10 @@ returns-2 c =
 
 returns-3 : tie.Need-returns-3
 returns-3 c =
-    let a = c .before .before .before .before .before .before .before .args in
+    let a = c .before .before .before .before .before .before .args in
     let n : getD (a .head .now) 0 0 ≡ 0 → ⊥ = search needs in
     let m : getD (a .head .now) 0 0 ≡ 1 → ⊥ = search needs in
-    other-joined _ _ (slot-unlike (a .sizes .now) (a .w .state .at) (a .head .now) (a .entries .now) (a .fields .now) n m)
+    other-joined _ _ (slot-unlike (sizesOf (a .code .now)) (a .w .state .at) (a .head .now) (a .entries .now) (a .fields .now) n m)
 
 pub join-spec : {M : Type 1} → statement M
 join-spec =

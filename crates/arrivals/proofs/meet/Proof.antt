@@ -4,6 +4,7 @@ use mathlib.Core.Bool.{Bool}
 use native.Mathlib.Omega.{arith}
 use lib.ListN.{length, length-set}
 use borrow.Author.Tests.{not-true, not-false}
+use Rattle.states.specs.Program.{sizesOf}
 use Rattle.arrivals.specs.Rows.{ofStates}
 use Rattle.arrivals.proofs.RowLaws.{row-unlike, row-met}
 use borrow.Author.Needs.{needs}
@@ -14,12 +15,12 @@ returns : tie.Need-returns
 returns c =
     let at-merge-states = c .before .before .before .before .before .before .before in
     let c1 = at-merge-states .before .before .before .before .before in
-    let start = c1 .before .before .before .before .before .before in
+    let start = c1 .before .before .before .before .before in
     let m = at-merge-states .merge-states in
     let n : length (m .last .0) ≡ 5 = omega arith in
     λ x y.
     row-unlike _ x (m .last .0) _ _ _ _ n
-    (ap (λ (b : Bool). ofStates (start .args .sizes .now) x b (m .last .0) (m .last .1 .0) (m .last .1 .1 .0)) (sym (not-true (m .result) (c .if1 .taken))) ∙ m .ensures .0 x y)
+    (ap (λ (b : Bool). ofStates (sizesOf (start .args .code .now)) x b (m .last .0) (m .last .1 .0) (m .last .1 .1 .0)) (sym (not-true (m .result) (c .if1 .taken))) ∙ m .ensures .0 x y)
 
 slice-write-head-3 : tie.Need-slice-write-head-3
 slice-write-head-3 c = simp length-set (omega arith)
@@ -29,13 +30,13 @@ returns-2 c =
     let at-if1 = c .before .before .before .before .before .before in
     let at-merge-states = at-if1 .before .before .before .before .before .before .before in
     let c1 = at-merge-states .before .before .before .before .before in
-    let start = c1 .before .before .before .before .before .before in
+    let start = c1 .before .before .before .before .before in
     let a = start .args in
     let m = at-merge-states .merge-states in
     let n : length (m .last .0) ≡ 5 = omega arith in
     λ x y.
     row-met _ x (a .head .now) (m .last .0) _ _ (a .h .now) _ _ _ (start .pre .0 .0) n (m .ensures .1) (start .pre .3) (c .before .before .before .larger .ensures) (c .larger2 .ensures)
-    (ap (λ (b : Bool). ofStates (start .args .sizes .now) x b (m .last .0) (m .last .1 .0) (m .last .1 .1 .0)) (sym (not-false (m .result) (at-if1 .if1 .left))) ∙ m .ensures .0 x y)
+    (ap (λ (b : Bool). ofStates (sizesOf (start .args .code .now)) x b (m .last .0) (m .last .1 .0) (m .last .1 .1 .0)) (sym (not-false (m .result) (at-if1 .if1 .left))) ∙ m .ensures .0 x y)
 
 pub meet-spec : {M : Type 1} → statement M
 meet-spec =

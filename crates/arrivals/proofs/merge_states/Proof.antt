@@ -21,7 +21,7 @@ use Rattle.arrivals.proofs.merge_states.Tie as tie
 abbrev begin : tie.After-unused → tie.Start
 begin c =
     let b = c .before .before .before .before in
-    b .before .before .before .before .before
+    b .before .before .before .before
 
 abbrev free : tie.After-merge → tie.After-unused
 free c = c .before .before .before .before .before .before .before .before

@@ -47,8 +47,8 @@ use Rattle.outcomes.proofs.ArmLaws as arms
 use Rattle.states.specs.declared.State.{State}
 use Rattle.states.specs.declared.code.Line.{Line}
 use Rattle.states.specs.View.{view, whole, ofSlot}
-use Rattle.states.specs.Columns.{codeOf, lineOf, ofFetched, Known}
-use Rattle.states.proofs.ColumnLaws.{fetch-within}
+use Rattle.states.specs.Program.{programOf, sizesOf, lineOf, ofFetched, Known}
+use Rattle.states.proofs.ProgramLaws.{fetch-within, fits-all}
 use Rattle.states.proofs.Stack.{length-images}
 use Rattle.states.proofs.StateLaws.{store-formed}
 use Rattle.findings.specs.declared.Found.{Found}
@@ -57,21 +57,21 @@ use Rattle.explore.proofs.TurnLaws.{Prepared, pushes, keeps, same-free,
 use Rattle.explore.proofs.ArmLaws.{Arm, Kept, again, again-jumped, tally-small, spent-out, stuck-out, over-out, first-out, second-out, both-out, halts-out, sums}
 
 -- the number of openings
-abbrev μ-explore : Measures 6 explore-kinds.ps ℕ
-μ-explore κs a = a .1 .1 .1 .1 .1 .1 .1 .1 .1 .0
+abbrev μ-explore : Measures 1 explore-kinds.ps ℕ
+μ-explore κs a = a .1 .1 .1 .0
 
-abbrev explore-at : ℕ → In 6 explore-kinds.ps
-explore-at t = and 6 explore-kinds.ps (is 6 explore-kinds.ps μ-explore t) explore.Pre
+abbrev explore-at : ℕ → In 1 explore-kinds.ps
+explore-at t = and 1 explore-kinds.ps (is 1 explore-kinds.ps μ-explore t) explore.Pre
 
-abbrev explore-below : ℕ → In 6 explore-kinds.ps
-explore-below t = and 6 explore-kinds.ps (falls 6 explore-kinds.ps _<_ μ-explore t) explore.Pre
+abbrev explore-below : ℕ → In 1 explore-kinds.ps
+explore-below t = and 1 explore-kinds.ps (falls 1 explore-kinds.ps _<_ μ-explore t) explore.Pre
 
 abbrev Inv-loop : explore-lts.InvT-loop
-Inv-loop codes operands cycles words extras sizes first openings budget blocks₀ state₀ left₀ tally₀ blocks state left tally =
-    Turn first codes operands cycles words extras sizes openings budget blocks₀ state₀ blocks state left tally
+Inv-loop code openings budget blocks₀ state₀ left₀ tally₀ blocks state left tally =
+    Turn code openings budget blocks₀ state₀ blocks state left tally
 
 abbrev μ-loop : explore-lts.MeasureT-loop
-μ-loop codes operands cycles words extras sizes first openings budget blocks₀ state₀ left₀ tally₀ blocks state left tally = left
+μ-loop code openings budget blocks₀ state₀ left₀ tally₀ blocks state left tally = left
 
 abbrev claims : ℕ → explore-lts.Claims
 claims t = (
@@ -133,7 +133,7 @@ abbrev Joined : ℕ → Type 0
 Joined t = explore-lts.Joined1 (claims t) (explore-at t) explore.Post Inv-loop μ-loop
 
 abbrev entry : {t : ℕ} → Body t → Entry t
-entry b = b .before .before .before .before .before .before .before
+entry b = b .before .before
 
 abbrev body : {t : ℕ} → Lined t → Body t
 body k = k .before .before .before .before
@@ -148,11 +148,11 @@ abbrev lined : {t : ℕ} → Acted t → Lined t
 lined a = a .before .before .before .before .before .before .before .before .before .before .before .before
 
 -- the array of fields is lent with its 128 places
-places : (t : ℕ) (e : Entry t) → length (e .args .t9) ≡ 128
+places : (t : ℕ) (e : Entry t) → length (e .args .t3) ≡ 128
 places t e = search (needs, length-images)
 
 module _ (t : ℕ) (k : Lined t) where
-  found : done (lineOf (line k)) ≡ fetch (codeOf (entry (body k) .args .first) (entry (body k) .args .codes .now) (entry (body k) .args .operands .now) (entry (body k) .args .cycles .now) (entry (body k) .args .words .now) (entry (body k) .args .extras .now)) (body k .before .loop .state .at)
+  found : done (lineOf (line k)) ≡ fetch (programOf (entry (body k) .args .code .now)) (body k .before .loop .state .at)
   found = ap ofFetched (sym (k .before .fetched .given .1)) ∙ k .before .before .before .fetch .ensures .0
 
   known : line k .code ≤ 22
@@ -165,7 +165,7 @@ module _ (t : ℕ) (k : Lined t) where
   low : body k .before .loop .state .at < 65536
   low =
       let e : Entry t = entry (body k) in
-      omega (arith, fetch-within (e .args .first) (e .args .codes .now) (e .args .operands .now) (e .args .cycles .now) (e .args .words .now) (e .args .extras .now) (body k .before .loop .state .at) (lineOf (line k)) (sym found), e .pre .1 .1 .addresses)
+      omega (arith, fetch-within (e .args .code .now) (body k .before .loop .state .at) (lineOf (line k)) (sym found), e .pre .1 .0 .addresses)
 
 module _ (t : ℕ) (j : Joined t) where
   -- the states before and after the push
@@ -175,12 +175,12 @@ module _ (t : ℕ) (j : Joined t) where
   abbrev u : State
   u = j .if1 .state
 
-  prepared : Prepared (entry (body (j .before .before .before)) .args .sizes .now) (body (j .before .before .before) .before .loop .blocks) (line (j .before .before .before)) s u
+  prepared : Prepared (sizesOf (entry (body (j .before .before .before)) .args .code .now)) (body (j .before .before .before) .before .loop .blocks) (line (j .before .before .before)) s u
   prepared =
       let v = j .before .advance in
       ⊎-elim
-      (λ x. pushes (entry (body (j .before .before .before)) .args .sizes .now) (body (j .before .before .before) .before .loop .blocks) (line (j .before .before .before)) s u (v .result) (v .ensures .0) (v .ensures .1) (x .0 .taken) (omega (arith, x .1 .left)) (x .3))
-      (λ x. keeps (entry (body (j .before .before .before)) .args .sizes .now) (body (j .before .before .before) .before .loop .blocks) (line (j .before .before .before)) s u (v .result) (v .ensures .0) (v .ensures .1) (x .0 .left) (x .1))
+      (λ x. pushes (sizesOf (entry (body (j .before .before .before)) .args .code .now)) (body (j .before .before .before) .before .loop .blocks) (line (j .before .before .before)) s u (v .result) (v .ensures .0) (v .ensures .1) (x .0 .taken) (omega (arith, x .1 .left)) (x .3))
+      (λ x. keeps (sizesOf (entry (body (j .before .before .before)) .args .code .now)) (body (j .before .before .before) .before .loop .blocks) (line (j .before .before .before)) s u (v .result) (v .ensures .0) (v .ensures .1) (x .0 .left) (x .1))
       (j .if1 .came)
 
 module _ (t : ℕ) (a : Acted t) where
@@ -196,8 +196,8 @@ module _ (t : ℕ) (a : Acted t) where
   fitting : SFits w32 (line (lined a) .operand)
   fitting = search needs
 
-  arm : Arm (entry b .args .first) (entry b .args .codes .now) (entry b .args .operands .now) (entry b .args .cycles .now) (entry b .args .words .now) (entry b .args .extras .now) (entry b .args .sizes .now)
-      (entry b .args .openings) (entry b .args .budget) (entry b .args .t9) (entry b .args .start)
+  arm : Arm (entry b .args .code .now)
+      (entry b .args .openings) (entry b .args .budget) (entry b .args .t3) (entry b .args .start)
       (b .before .loop .blocks) (s t (joined a)) (b .before .loop .left) (b .before .loop .tally) (line (lined a)) (a .before .before .before .before .before .before .before .before .before .before .before .more .result) (u t (joined a)) n element (a .outcome-of .result)
   arm = record {
     turn = b .before .loop .inv;
@@ -205,7 +205,7 @@ module _ (t : ℕ) (a : Acted t) where
     small = small t (lined a);
     grown = a .before .before .before .before .before .before .before .before .before .before .before .more .ensures;
     arm =
-        arms.arm (codeOf (entry b .args .first) (entry b .args .codes .now) (entry b .args .operands .now) (entry b .args .cycles .now) (entry b .args .words .now) (entry b .args .extras .now)) unknown (entry b .args .sizes .now) (b .before .loop .blocks) (s t (joined a)) (u t (joined a)) (line (lined a))
+        arms.arm (programOf (entry b .args .code .now)) unknown (sizesOf (entry b .args .code .now)) (b .before .loop .blocks) (s t (joined a)) (u t (joined a)) (line (lined a))
         (sym (found t (lined a))) (prepared t (joined a) .ready) (prepared t (joined a) .formed) (b .before .loop .inv .fits) n (a .before .before .before .before .before .before .entry-place .result) element (range (pos 0) 0) (a .outcome-of .result)
         (a .before .before .before .before .before .before .before .index-of .ensures .0 ∙ ap index (toZ-ofZ w32 _ fitting)) (a .before .before .before .before .before .before .entry-place .ensures) refl
         (a .outcome-of .ensures
@@ -226,23 +226,23 @@ operated-is t c = let a : Acted t = c .before .before .before .before .before .b
 
 module _ (t : ℕ) (b : Body t) where
   abbrev keeps-at : Found → Type 0
-  keeps-at = Kept (entry b .args .first) (entry b .args .codes .now) (entry b .args .operands .now) (entry b .args .cycles .now) (entry b .args .words .now) (entry b .args .extras .now) (entry b .args .sizes .now) (entry b .args .openings) (entry b .args .budget) (entry b .args .t9) (entry b .args .start)
+  keeps-at = Kept (entry b .args .code .now) (entry b .args .openings) (entry b .args .budget) (entry b .args .t3) (entry b .args .start)
 
-  stuck-kept : act (entry b .args .first) (entry b .args .codes .now) (entry b .args .operands .now) (entry b .args .cycles .now) (entry b .args .words .now) (entry b .args .extras .now) (entry b .args .sizes .now) (entry b .args .openings) (entry b .args .budget) (entry b .args .t9) (entry b .args .start)
-      (whole (entry b .args .sizes .now) (b .before .loop .blocks) (b .before .loop .state)) ≡ stuck →
+  stuck-kept : act (entry b .args .code .now) (entry b .args .openings) (entry b .args .budget) (entry b .args .t3) (entry b .args .start)
+      (whole (sizesOf (entry b .args .code .now)) (b .before .loop .blocks) (b .before .loop .state)) ≡ stuck →
       (r : Found) → r ≡ refusedAs (refusals.Stuck (b .before .loop .state .at)) (entry b .args .budget - b .before .loop .left + 1) → keeps-at r
   stuck-kept e r f = stuck-out (b .before .loop .inv) (b .loop-test .taken) e r f
 
-  outside-kept : stuck ≡ fetch (codeOf (entry b .args .first) (entry b .args .codes .now) (entry b .args .operands .now) (entry b .args .cycles .now) (entry b .args .words .now) (entry b .args .extras .now)) (b .before .loop .state .at) →
+  outside-kept : stuck ≡ fetch (programOf (entry b .args .code .now)) (b .before .loop .state .at) →
       (r : Found) → r ≡ refusedAs (refusals.Stuck (b .before .loop .state .at)) (entry b .args .budget - b .before .loop .left + 1) → keeps-at r
   outside-kept e =
-      stuck-kept (outside (entry b .args .first) (entry b .args .codes .now) (entry b .args .operands .now) (entry b .args .cycles .now) (entry b .args .words .now) (entry b .args .extras .now) (entry b .args .sizes .now) (entry b .args .openings) (entry b .args .budget) (entry b .args .t9) (entry b .args .start)
+      stuck-kept (outside (entry b .args .code .now) (entry b .args .openings) (entry b .args .budget) (entry b .args .t3) (entry b .args .start)
       (b .before .loop .blocks) (b .before .loop .state) e)
 
 -- ---- the needs, in the order of the code
 
 loop-holds : (t : ℕ) → explore-lts.Need-loop-holds (claims t) (explore-at t) explore.Post Inv-loop μ-loop
-loop-holds t c = let e : Entry t = c .before .before .before .before .before in starts _ _ _ _ _ _ _ _ _ _ _ (e .pre .1 .1 .formed) (e .pre .1 .1 .fits)
+loop-holds t c = let e : Entry t = c in starts _ _ _ _ _ (e .pre .1 .1 .formed) (fits-all (e .args .code .now) (e .pre .1 .0) (e .args .t3) (places t e))
 
 sub-used : (t : ℕ) → explore-lts.Need-sub-used (claims t) (explore-at t) explore.Post Inv-loop μ-loop
 sub-used t c = search needs
@@ -254,7 +254,7 @@ sub-left : (t : ℕ) → explore-lts.Need-sub-left (claims t) (explore-at t) exp
 sub-left t c = search needs
 
 fetch-requires : (t : ℕ) → explore-lts.Need-fetch-requires (claims t) (explore-at t) explore.Post Inv-loop μ-loop
-fetch-requires t c κs = c .before .before .before .before .before .before .before .pre .1 .0
+fetch-requires t c κs = entry c .pre .1 .0
 
 enum-known-fetched : (t : ℕ) → explore-lts.Need-enum-known-fetched (claims t) (explore-at t) explore.Post Inv-loop μ-loop
 enum-known-fetched t c = search needs
@@ -292,7 +292,7 @@ returns-2 t c =
     let b : Body t = body l in
     let s = b .before .loop .state in
     let v = c .before .before .before .advance in
-    let k = stuck-kept t b (overflows _ _ _ _ _ _ _ (entry b .args .openings) (entry b .args .budget) (entry b .args .t9) (entry b .args .start) (b .before .loop .blocks) s (line l) (found t l) (c .before .before .if1 .taken) (b .before .loop .inv .formed) (sym (same-free (entry b .args .sizes .now) (b .before .loop .blocks) (line l) s s (v .result) (v .ensures .0) (v .ensures .1) (b .before .loop .inv .formed)) ∙ c .before .if2 .taken)) _ (c .refused2 .ensures) in
+    let k = stuck-kept t b (overflows _ (entry b .args .openings) (entry b .args .budget) (entry b .args .t3) (entry b .args .start) (b .before .loop .blocks) s (line l) (found t l) (c .before .before .if1 .taken) (b .before .loop .inv .formed) (sym (same-free (sizesOf (entry b .args .code .now)) (b .before .loop .blocks) (line l) s s (v .result) (v .ensures .0) (v .ensures .1) (b .before .loop .inv .formed)) ∙ c .before .if2 .taken)) _ (c .refused2 .ensures) in
     (k .explored, (k .safe, (k .exact, k .bounded)))
 
 sub-top : (t : ℕ) → explore-lts.Need-sub-top (claims t) (explore-at t) explore.Post Inv-loop μ-loop
@@ -423,7 +423,7 @@ enum-known-outcome-2 : (t : ℕ) → explore-lts.Need-enum-known-outcome-2 (clai
 enum-known-outcome-2 t c = search needs
 
 slot-of-requires : (t : ℕ) → explore-lts.Need-slot-of-requires (claims t) (explore-at t) explore.Post Inv-loop μ-loop
-slot-of-requires t c κs = search needs
+slot-of-requires t c κs = entry (b t (c .before .before .before .before)) .pre .1 .0
 
 enum-known-field : (t : ℕ) → explore-lts.Need-enum-known-field (claims t) (explore-at t) explore.Post Inv-loop μ-loop
 enum-known-field t c = search needs
@@ -469,7 +469,7 @@ enum-told-6 : (t : ℕ) → explore-lts.Need-enum-told-6 (claims t) (explore-at 
 enum-told-6 t c = search needs
 
 slot-of-requires-2 : (t : ℕ) → explore-lts.Need-slot-of-requires-2 (claims t) (explore-at t) explore.Post Inv-loop μ-loop
-slot-of-requires-2 t c κs = search needs
+slot-of-requires-2 t c κs = entry (b t (c .before .before .before)) .pre .1 .0
 
 enum-known-field-2 : (t : ℕ) → explore-lts.Need-enum-known-field-2 (claims t) (explore-at t) explore.Post Inv-loop μ-loop
 enum-known-field-2 t c = search needs
@@ -555,7 +555,7 @@ explore-requires : (t : ℕ) → explore-lts.Need-explore-requires (claims t) (e
 explore-requires t c κs =
     let a : Acted t = c .before .before .before in
     let b : Body t = body (lined a) in
-    (omega (arith, c .if3 .left, entry b .pre .0), (entry b .pre .1 .0, record { addresses = entry b .pre .1 .1 .addresses; formed = prepared t (joined a) .formed; budget-fits = omega (arith, entry b .pre .1 .1 .budget-fits, b .before .loop .inv .inv .within); openings-fit = omega (arith, entry b .pre .1 .1 .openings-fit); fits = b .before .loop .inv .fits }))
+    (omega (arith, c .if3 .left, entry b .pre .0), (entry b .pre .1 .0, record { formed = prepared t (joined a) .formed; budget-fits = omega (arith, entry b .pre .1 .1 .budget-fits, b .before .loop .inv .inv .within); openings-fit = omega (arith, entry b .pre .1 .1 .openings-fit) }))
 
 enum-known-first-verdict : (t : ℕ) → explore-lts.Need-enum-known-first-verdict (claims t) (explore-at t) explore.Post Inv-loop μ-loop
 enum-known-first-verdict t c = search needs
@@ -591,7 +591,7 @@ explore-requires-2 : (t : ℕ) → explore-lts.Need-explore-requires-2 (claims t
 explore-requires-2 t c κs =
     let a : Acted t = c .before .before .before .before .before .before .before .before in
     let b : Body t = body (lined a) in
-    (omega (arith, c .before .before .before .before .before .if3 .left, entry b .pre .0), (entry b .pre .1 .0, record { addresses = entry b .pre .1 .1 .addresses; formed = c .jump3 .ensures .1; budget-fits = omega (arith, entry b .pre .1 .1 .budget-fits, b .before .loop .inv .inv .within); openings-fit = omega (arith, entry b .pre .1 .1 .openings-fit); fits = b .before .loop .inv .fits }))
+    (omega (arith, c .before .before .before .before .before .if3 .left, entry b .pre .0), (entry b .pre .1 .0, record { formed = c .jump3 .ensures .1; budget-fits = omega (arith, entry b .pre .1 .1 .budget-fits, b .before .loop .inv .inv .within); openings-fit = omega (arith, entry b .pre .1 .1 .openings-fit) }))
 
 enum-known-second-verdict : (t : ℕ) → explore-lts.Need-enum-known-second-verdict (claims t) (explore-at t) explore.Post Inv-loop μ-loop
 enum-known-second-verdict t c = search needs

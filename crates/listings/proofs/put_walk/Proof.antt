@@ -3,12 +3,11 @@
 use Prim.Native.Nat.{_+_, _<_, _≤_}
 use mathlib.Core.Path.{_∙_}
 use native.Mathlib.Omega.{arith}
-use lib.ListN.{length}
 use borrow.Author.Needs.{needs}
 use Rattle.text.specs.Text.{lines}
 use Rattle.cells.specs.Cells.{unknown}
 use Rattle.machine.specs.Machine.{step}
-use Rattle.states.specs.Columns.{codeOf}
+use Rattle.states.specs.Program.{firstOf, linesIn, programOf, sizesOf}
 use Rattle.states.specs.View.{whole}
 use Rattle.report.specs.Decode.{decode}
 use Rattle.walks.specs.Walk.{follow}
@@ -18,17 +17,17 @@ use Rattle.listings.proofs.put_walk.Statement.{statement}
 use Rattle.listings.proofs.put_walk.Tie as tie
 
 abbrev Inv-loop : tie.InvT-loop
-Inv-loop out₀ at body codes operands cycles words extras sizes first path e₀ state₀ blocks₀ rest₀ spent₀ sum₀ left₀ out e state blocks rest spent sum left =
-    Writing (codeOf first codes operands cycles words extras) sizes (lines body) first out₀ at
-    (listing (lines body) first (entries (follow (step (codeOf first codes operands cycles words extras) unknown) (length codes) (decode path) (whole sizes blocks₀ state₀))))
+Inv-loop out₀ at body code path e₀ state₀ blocks₀ rest₀ spent₀ sum₀ first left₀ out e state blocks rest spent sum left =
+    Writing (programOf code) (sizesOf code) (lines body) (firstOf code) out₀ at
+    (listing (lines body) (firstOf code) (entries (follow (step (programOf code) unknown) (linesIn code) (decode path) (whole (sizesOf code) blocks₀ state₀))))
     out e state blocks rest spent sum left
 
 abbrev μ-loop : tie.MeasureT-loop
-μ-loop out₀ at body codes operands cycles words extras sizes first path e₀ state₀ blocks₀ rest₀ spent₀ sum₀ left₀ out e state blocks rest spent sum left = left
+μ-loop out₀ at body code path e₀ state₀ blocks₀ rest₀ spent₀ sum₀ first left₀ out e state blocks rest spent sum left = left
 
 -- the places of a turn: from the loop's test back to the start, from the step that was walked to the test, from the code line to the step
 abbrev start : tie.At-loop Inv-loop μ-loop → tie.Start Inv-loop μ-loop
-start c = c .before .before .before .before .before .before .before .before
+start c = c .before .before .before .before .before
 
 abbrev test : tie.After-walk Inv-loop μ-loop → tie.At-loop Inv-loop μ-loop
 test c = c .before .before
@@ -37,13 +36,13 @@ abbrev walked : tie.After-code-line Inv-loop μ-loop → tie.After-walk Inv-loop
 walked c = c .before .before .before .before .before
 
 loop-holds : tie.Need-loop-holds Inv-loop μ-loop
-loop-holds c = let s = c .before .before .before .before .before .before .before in writing-starts _ _ _ _ _ (s .args .at) (s .args .start) (s .args .fields) (s .args .path) _ (omega (arith, s .pre .1)) (s .pre .0 .2) (s .pre .0 .3) (s .pre .0 .0 .few)
+loop-holds c = let s = c .before .before .before .before in writing-starts _ _ _ _ _ (s .args .at) (s .args .start) (s .args .fields) (s .args .path) _ (omega (arith, s .pre .1)) (s .pre .0 .1) (s .pre .0 .0 .lines)
 
 walk-requires : tie.Need-walk-requires Inv-loop μ-loop
 walk-requires c κs =
     let s = start (c .before) in
     let i = c .before .loop .inv in
-    (s .pre .0 .0, s .pre .0 .1, i .formed, i .fits)
+    (s .pre .0 .0, i .formed)
 
 returns : tie.Need-returns Inv-loop μ-loop
 returns c = let b = c .before .before in writing-stuck (test b .loop .inv) (b .before .loop-test .taken) (b .walk .result) (b .walk .ensures) (c .if1 .taken)
@@ -88,6 +87,10 @@ put-walk-spec =
     (tie.spec
     Inv-loop
     μ-loop
+    (λ c. search needs)
+    (λ c. search needs)
+    (λ c. search needs)
+    (λ c. search needs)
     loop-holds
     walk-requires
     (λ c. test (c .before .before) .loop .inv .long)

@@ -3,64 +3,63 @@
 use Prim.Native.Nat.{_+_, _-_, _<_, _≤_}
 use mathlib.Core.Path.{refl}
 use native.Mathlib.Omega.{arith}
-use lib.ListN.{length}
-use Rattle.states.specs.Columns.{codeOf}
+use Rattle.states.specs.Program.{firstOf, linesIn, programOf, sizesOf}
 use Rattle.states.specs.View.{whole}
+use Rattle.states.proofs.ProgramLaws.{code-count, code-first}
 use Rattle.merges.specs.Merge.{merged}
-use Rattle.merging.proofs.SweepLaws.{Going, code-count, code-first, begins, goes-on, ends, finishes, figures-all}
+use Rattle.merging.proofs.SweepLaws.{Going, begins, goes-on, ends, finishes, figures-all}
 use borrow.Author.Needs.{needs}
 use Rattle.merging.proofs.merge.Statement.{statement}
 use Rattle.merging.proofs.merge.Tie as tie
 
 abbrev Inv-loop : tie.InvT-loop
-Inv-loop codes operands cycles words extras sizes first heads₀ entries₀ fields₀ n j₀ p₀ heads entries fields j p =
-    Going (codeOf first codes operands cycles words extras) sizes first n (merged (codeOf first codes operands cycles words extras) (whole sizes (p₀ .way .blocks) (p₀ .way .state))) heads entries fields j p
+Inv-loop code heads₀ entries₀ fields₀ n j₀ p₀ heads entries fields j p =
+    Going (programOf code) (sizesOf code) (firstOf code) n (merged (programOf code) (whole (sizesOf code) (p₀ .way .blocks) (p₀ .way .state))) heads entries fields j p
 
 abbrev μ-loop : tie.MeasureT-loop
-μ-loop codes operands cycles words extras sizes first heads₀ entries₀ fields₀ n j₀ p₀ heads entries fields j p =
+μ-loop code heads₀ entries₀ fields₀ n j₀ p₀ heads entries fields j p =
     n - j
 
 loop-holds : tie.Need-loop-holds Inv-loop μ-loop
 loop-holds c =
-    let start = c .before .before .before .before .before .before in
+    let start = c .before .before .before in
     let a = start .args in
-    let limits = start .pre .1 in
-    begins (codeOf (a .first) (a .codes .now) (a .operands .now) (a .cycles .now) (a .words .now) (a .extras .now)) (a .sizes .now) (a .first) (length (a .codes .now)) 5125 65600 131200 (a .start) (a .blocks) (code-first (a .first) (a .codes .now) (a .operands .now) (a .cycles .now) (a .words .now) (a .extras .now)) (code-count (a .first) (a .codes .now) (a .operands .now) (a .cycles .now) (a .words .now) (a .extras .now)) (limits .5) (limits .6) refl refl refl (limits .2) (limits .3) (limits .4)
+    let limits = start .pre .0 in
+    begins (programOf (a .code .now)) (sizesOf (a .code .now)) (firstOf (a .code .now)) (linesIn (a .code .now)) 5125 65600 131200 (a .start) (a .blocks) (code-first (a .code .now)) (code-count (a .code .now)) (start .pre .1 .0) (start .pre .1 .1) refl refl refl (limits .1) (limits .2) (limits .3)
 
 visit-requires : tie.Need-visit-requires Inv-loop μ-loop
 visit-requires c κs =
-    let start = c .before .before .before .before .before .before .before .before .before .before .before in
+    let start = c .before .before .before .before .before .before .before .before in
     let a = start .args in
-    let limits = start .pre .1 in
-    let few : length (a .codes .now) ≤ 1024 = start .pre .0 .few in
-    (start .pre .0, ((omega arith, limits .0, c .before .before .before .loop-test .taken, limits .1), c .before .before .before .before .loop .inv .ready))
+    let limits = start .pre .0 in
+    ((limits .0, omega (arith, c .before .before .before .loop-test .taken)), c .before .before .before .before .loop .inv .ready)
 
 enum-told : tie.Need-enum-told Inv-loop μ-loop
 enum-told c = search needs
 
 returns : tie.Need-returns Inv-loop μ-loop
 returns c =
-    let start = c .before .before .before .before .before .before .before .before .before .before .before .before .before .before .before .before .before .before in
+    let start = c .before .before .before .before .before .before .before .before .before .before .before .before .before .before .before in
     let a = start .args in
     let l = c .before .before .before .before .before .before .before .before .before .before .before .loop in
     let v = c .before .before .before .before .before .before .visit in
     let i = l .inv in
-    let t : l .j < length (a .codes .now) + 1 = c .before .before .before .before .before .before .before .before .before .before .loop-test .taken in
-    let few : length (a .codes .now) ≤ 1024 = start .pre .0 .few in (
+    let t : l .j < linesIn (a .code .now) + 1 = c .before .before .before .before .before .before .before .before .before .before .loop-test .taken in
+    let few : linesIn (a .code .now) ≤ 1024 = start .pre .0 .0 .lines in (
       ends i t _ _ _ (v .result) _ (c .enum-told2 .given .1) (v .ensures .1 (i .tab) (i .report) (i .found) (i .agrees)),
       figures-all (l .j + 1) _ (omega arith) (v .ensures .0 .figures),
     )
 
 add-j : tie.Need-add-j Inv-loop μ-loop
 add-j c =
-    let start = c .before .before .before .before .before .before .before .before .before .before .before .before .before .before .before .before .before .before in
-    let t : c .before .before .before .before .before .before .before .before .before .before .before .loop .j < length (start .args .codes .now) + 1 = c .before .before .before .before .before .before .before .before .before .before .loop-test .taken in
-    let few : length (start .args .codes .now) ≤ 1024 = start .pre .0 .few in
+    let start = c .before .before .before .before .before .before .before .before .before .before .before .before .before .before .before in
+    let t : c .before .before .before .before .before .before .before .before .before .before .before .loop .j < linesIn (start .args .code .now) + 1 = c .before .before .before .before .before .before .before .before .before .before .loop-test .taken in
+    let few : linesIn (start .args .code .now) ≤ 1024 = start .pre .0 .0 .lines in
     search needs
 
 loop-again : tie.Need-loop-again Inv-loop μ-loop
 loop-again c =
-    let start = c .before .before .before .before .before .before .before .before .before .before .before .before .before .before .before .before .before .before in
+    let start = c .before .before .before .before .before .before .before .before .before .before .before .before .before .before .before in
     let l = c .before .before .before .before .before .before .before .before .before .before .before .loop in
     let v = c .before .before .before .before .before .before .visit in
     let i = l .inv in
@@ -68,12 +67,12 @@ loop-again c =
 
 returns-2 : tie.Need-returns-2 Inv-loop μ-loop
 returns-2 c =
-    let start = c .before .before .before .before .before .before .before .before .before in
+    let start = c .before .before .before .before .before .before in
     let a = start .args in
     let l = c .before .before .loop in
     let i = l .inv in
-    let few : length (a .codes .now) ≤ 1024 = start .pre .0 .few in
-    let within : l .j ≤ length (a .codes .now) + 1 = i .within in
+    let few : linesIn (a .code .now) ≤ 1024 = start .pre .0 .0 .lines in
+    let within : l .j ≤ linesIn (a .code .now) + 1 = i .within in
     (finishes i (omega arith), figures-all (l .j) _ (omega arith) (i .ready .figures))
 
 pub merge-spec : {M : Type 1} → statement M
@@ -82,6 +81,10 @@ merge-spec =
     (tie.spec
     Inv-loop
     μ-loop
+    (λ c. search needs)
+    (λ c. search needs)
+    (λ c. search needs)
+    (λ c. search needs)
     (λ c. search needs)
     (λ c. search needs)
     loop-holds

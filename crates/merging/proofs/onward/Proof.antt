@@ -2,6 +2,7 @@
 use Prim.Native.Nat.{_+_}
 use mathlib.Core.Path.{_≡_, _∙_}
 use native.Mathlib.Omega.{arith}
+use Rattle.states.specs.Program.{firstOf, sizesOf}
 use Rattle.merging.proofs.PassLaws.{falls, alone}
 use borrow.Author.Needs.{needs}
 use Rattle.merging.proofs.onward.Statement.{statement}
@@ -11,18 +12,20 @@ returns : tie.Need-returns
 returns c =
     let start = c .before .before .before .before .before .before in
     let a = start .args in
-    let e : a .w .state .at ≡ a .first + a .j + 1 = c .if1 .taken in
-    (λ b h k. falls (a .sizes .now) (a .w) (a .first) (a .j) b _ e, (omega arith, start .pre .4))
+    let e : a .w .state .at ≡ firstOf (a .code .now) + a .j + 1 = c .if1 .taken in
+    (λ b h k. falls (sizesOf (a .code .now)) (a .w) (firstOf (a .code .now)) (a .j) b _ e, (omega arith, start .pre .2))
 
 returns-2 : tie.Need-returns-2
 returns-2 c =
     let a = c .before .before .before .before .before .before .before .before .before .before .before .before .before .before .before .before .args in
-    (λ b h k. alone (a .sizes .now) (a .w) (a .j + 1) b _ ∙ c .before .before .before .before .before .before .send .ensures b k, tt)
+    (λ b h k. alone (sizesOf (a .code .now)) (a .w) (a .j + 1) b _ ∙ c .before .before .before .before .before .before .send .ensures b k, tt)
 
 pub onward-spec : {M : Type 1} → statement M
 onward-spec =
     tie.close
     (tie.spec
+    (λ c. search needs)
+    (λ c. search needs)
     (λ c. search needs)
     (λ c. search needs)
     returns

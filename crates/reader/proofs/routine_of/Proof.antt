@@ -1,12 +1,39 @@
 -- `reader::routine_of` meets its contract. Assumes nothing.
-use Rattle.reader.proofs.ReaderLaws.{kept-start, counted, start-at, first-low, budget-limited, answers-small, answers-held, code-is, first-is, budget-held, tick-held, fields-ready, cells-ready, start-held, blocks-fit, columns-sized}
+use mathlib.Core.Path.{_≡_, refl, sym, ap, _∙_}
+use Prim.Native.Nat.{_≤_}
 use native.Mathlib.Omega.{arith}
-use mathlib.Core.Path.{_≡_, refl}
 use lib.ListN.{length}
+use Rattle.text.specs.Text.{Line, lines}
+use mathlib.Core.List.{List}
+use Rattle.routine.specs.Rows.{Passes}
+use Rattle.states.specs.View.{whole}
 use Rattle.states.proofs.Stack.{length-images}
+use Rattle.reader.specs.Reader.{BodyLines}
+use Rattle.reader.proofs.ReaderLaws.{kept-start, counted, start-at, first-low, budget-limited, answers-small, answers-held, code-is, first-is, budget-held, tick-held, fields-ready, cells-ready, start-held, is-program}
 use borrow.Author.Needs.{needs}
 use Rattle.reader.proofs.routine_of.Statement.{statement}
 use Rattle.reader.proofs.routine_of.Tie as tie
+
+-- ---- places: the blocks' names, and the lines of code counted
+
+abbrev begun : tie.After-blocks-named → tie.Start
+begun c = c .before .before .before .before .before .before .before .before
+
+abbrev named : tie.After-count-code → tie.After-blocks-named
+named c = c .before .before .before .before .before .before
+
+module _ (c : tie.After-count-code) where
+  abbrev ls : List Line
+  ls = lines (begun (named c) .args .text .now)
+
+  passing : Passes ls
+  passing = begun (named c) .pre
+
+  body : BodyLines ls (lines (c .before .before .body-of .result .now)) (c .count-code .result)
+  body = counted ls passing _ (c .before .before .body-of .ensures) _ (c .count-code .ensures)
+
+  low : c .before .first-address .result ≤ 60000
+  low = first-low _ _ (c .before .first-address .ensures)
 
 natural-at-requires : tie.Need-natural-at-requires
 natural-at-requires c κs = record { least = 1; greatest = 1000000; is = c .budgets .ensures; small = (omega arith, omega arith) }
@@ -15,51 +42,69 @@ natural-at-requires-2 : tie.Need-natural-at-requires-2
 natural-at-requires-2 c κs = record { least = 1; greatest = 4000000000; is = c .ticks .ensures; small = (omega arith, omega arith) }
 
 fields-of-requires : tie.Need-fields-of-requires
-fields-of-requires c κs = fields-ready _ (c .before .before .before .before .before .before .before .before .before .before .pre) _ _ _ (c .before .before .before .text-of2 .ensures) (c .text-of3 .ensures) refl _ (c .before .before .blocks-named .ensures)
+fields-of-requires c κs = let b = c .before .before in fields-ready _ (begun b .pre) _ _ _ (b .before .text-of2 .ensures) (c .text-of3 .ensures) refl _ (b .blocks-named .ensures)
 
-columns-in-requires : tie.Need-columns-in-requires
-columns-in-requires c κs = counted _ (c .before .before .before .before .before .before .before .before .before .before .before .before .before .before .pre) _ (c .before .before .body-of .ensures) _ (c .count-code .ensures)
+lines-in-requires : tie.Need-lines-in-requires
+lines-in-requires c κs = body c
+
+with-head-requires : tie.Need-with-head-requires
+with-head-requires c κs = (low (c .before), body (c .before) .few, named (c .before) .blocks-named .ensures .few)
 
 start-of-requires : tie.Need-start-of-requires
-start-of-requires c κs = cells-ready _ (c .before .before .before .before .before .before .before .before .before .before .before .before .before .before .before .before .pre) _ _ _ (c .before .before .before .before .before .before .before .before .before .text-of2 .ensures) (c .before .before .before .before .before .before .text-of3 .ensures) (c .text-of4 .ensures) _ (c .before .before .before .before .before .before .before .before .blocks-named .ensures)
+start-of-requires c κs =
+    let n = c .before .before .before in
+    let b = named n in
+    cells-ready _ (begun b .pre) _ _ _ (b .before .text-of2 .ensures) (n .before .before .before .before .text-of3 .ensures) (c .text-of4 .ensures) _ (b .blocks-named .ensures)
 
 add-after-lines : tie.Need-add-after-lines
-add-after-lines c = let k = counted _ (c .before .before .before .before .before .before .before .before .before .before .before .before .before .before .before .before .before .pre) _ (c .before .before .before .before .before .body-of .ensures) _ (c .before .before .before .count-code .ensures) in let h = k .few in omega arith
+add-after-lines c = let n = c .before .before .before .before in omega (arith, body n .few)
 
 answers-of-requires : tie.Need-answers-of-requires
-answers-of-requires c κs = answers-small _ (c .before .before .before .before .before .before .before .before .before .before .before .before .before .before .before .before .before .before .pre) _ (c .before .before .before .before .before .before .body-of .ensures) _ (c .before .before .before .before .count-code .ensures) _ (c .after-lines .ensures .0)
+answers-of-requires c κs =
+    let n = c .before .before .before .before .before in
+    answers-small _ (passing n) _ (n .before .before .body-of .ensures) _ (n .count-code .ensures) _ (c .after-lines .ensures .0)
+
+-- the arrays that come back have their lengths
+long : (c : tie.After-with-head) → length (c .with-head .result) ≡ 5131
+long c = search (c .with-head .ok, needs, length-images)
+
+sixty-four : (c : tie.After-answers-of) → length (c .answers-of .result .values) ≡ 64
+sixty-four c = search (c .answers-of .ok, needs, length-images)
 
 returns : tie.Need-returns
 returns c =
-    let a : length (c .before .before .before .before .columns-in .result .codes) ≡ 1024 = search (c .before .before .before .before .columns-in .ok, needs, length-images) in
-    let b : length (c .before .before .before .before .columns-in .result .operands) ≡ 1024 = search (c .before .before .before .before .columns-in .ok, needs, length-images) in
-    let d : length (c .before .before .before .before .columns-in .result .cycles) ≡ 1024 = search (c .before .before .before .before .columns-in .ok, needs, length-images) in
-    let e : length (c .before .before .before .before .columns-in .result .words) ≡ 1024 = search (c .before .before .before .before .columns-in .ok, needs, length-images) in
-    let x : length (c .before .before .before .before .columns-in .result .extras) ≡ 1024 = search (c .before .before .before .before .columns-in .ok, needs, length-images) in
-    let f : length (c .before .before .before .before .before .before .before .before .fields-of .result) ≡ 128 = search (c .before .before .before .before .before .before .before .before .fields-of .ok, needs, length-images) in
-    let g : length (c .answers-of .result .values) ≡ 64 = search (c .answers-of .ok, needs, length-images) in
-    let k = counted _ (c .before .before .before .before .before .before .before .before .before .before .before .before .before .before .before .before .before .before .before .pre) _ (c .before .before .before .before .before .before .before .body-of .ensures) _ (c .before .before .before .before .before .count-code .ensures) in
-    let first = first-is _ (c .before .before .before .before .before .before .before .before .before .before .before .before .before .before .before .before .before .before .before .pre) _ (c .before .before .before .before .before .before .before .body-of .ensures) _ (c .before .before .before .before .before .count-code .ensures) _ (c .before .before .before .before .before .before .first-address .ensures) in (
+    let state = c .before .before in
+    let head = state .before .before in
+    let n = head .before .before in
+    let at-body = n .before .before in
+    let at-fields = at-body .before in
+    let b = named n in
+    let at-tick = b .before .before in
+    let at-budget = at-tick .before .before in
+    let limits = at-budget .before .before .text-of .ensures in
+    let h = head .with-head .ensures .0 in
+    let kept = head .with-head .ensures .1 in
+    let held = head .before .lines-in .ensures in
+    let p = passing n in
+    let first = first-is _ p _ (at-body .body-of .ensures) _ (n .count-code .ensures) _ (n .before .first-address .ensures) in
+    let starts = start-held _ p _ _ _ (b .before .text-of2 .ensures) (at-fields .before .text-of3 .ensures) (state .before .text-of4 .ensures) _ (b .blocks-named .ensures) _ first _ (state .start-of .ensures .0) _ (at-fields .fields-of .ensures) in
+    let start = ap (λ ns. whole ns (at-fields .fields-of .result) (state .start-of .result)) (h .2) ∙ starts in (
       record {
-        budget = budget-held _ _ (c .before .before .before .before .before .before .before .before .before .before .before .before .before .before .before .before .before .text-of .ensures) _ _ (c .before .before .before .before .before .before .before .before .before .before .before .before .before .before .before .before .budgets .ensures) (c .before .before .before .before .before .before .before .before .before .before .before .before .before .before .before .natural-at .ensures);
-        tick = tick-held _ _ (c .before .before .before .before .before .before .before .before .before .before .before .before .before .before .before .before .before .text-of .ensures) _ _ (c .before .before .before .before .before .before .before .before .before .before .before .before .before .before .ticks .ensures) (c .before .before .before .before .before .before .before .before .before .before .before .before .before .natural-at2 .ensures);
-        code = code-is _ (c .before .before .before .before .before .before .before .before .before .before .before .before .before .before .before .before .before .before .before .pre) _ (c .before .before .before .before .before .before .before .body-of .ensures) _ (c .before .before .before .before .before .count-code .ensures) _ (c .before .before .before .before .before .before .first-address .ensures) _ _ _ _ _ (c .before .before .before .before .columns-in .ensures .instructions);
-        start = start-held _ (c .before .before .before .before .before .before .before .before .before .before .before .before .before .before .before .before .before .before .before .pre) _ _ _ (c .before .before .before .before .before .before .before .before .before .before .before .before .text-of2 .ensures) (c .before .before .before .before .before .before .before .before .before .text-of3 .ensures) (c .before .before .before .text-of4 .ensures) _ (c .before .before .before .before .before .before .before .before .before .before .before .blocks-named .ensures) _ first _ (c .before .before .start-of .ensures .0) _ (c .before .before .before .before .before .before .before .before .fields-of .ensures);
-        answered = answers-held _ (c .before .before .before .before .before .before .before .before .before .before .before .before .before .before .before .before .before .before .before .pre) _ (c .before .before .before .before .before .before .before .body-of .ensures) _ (c .before .before .before .before .before .count-code .ensures) _ (c .before .after-lines .ensures .0) _ (c .answers-of .ensures .0);
+        budget = budget-held _ _ limits _ _ (at-budget .before .budgets .ensures) (at-budget .natural-at .ensures);
+        tick = tick-held _ _ limits _ _ (at-tick .before .ticks .ensures) (at-tick .natural-at2 .ensures);
+        code = code-is _ p _ (at-body .body-of .ensures) _ (n .count-code .ensures) (head .with-head .result) (head .before .lines-in .result) (h .0 ∙ n .before .first-address .ensures) (h .1) kept (held .instructions);
+        start = start;
+        answered = answers-held _ p _ (at-body .body-of .ensures) _ (n .count-code .ensures) _ (c .before .after-lines .ensures .0) _ (c .answers-of .ensures .0);
       },
       record {
-        budget = budget-limited _ _ (c .before .before .before .before .before .before .before .before .before .before .before .before .before .before .before .before .before .text-of .ensures) _ _ (c .before .before .before .before .before .before .before .before .before .before .before .before .before .before .before .before .before .before .before .pre) (c .before .before .before .before .before .before .before .before .before .before .before .before .before .before .before .before .budgets .ensures) (c .before .before .before .before .before .before .before .before .before .before .before .before .before .before .before .natural-at .ensures);
-        first = first-low _ _ (c .before .before .before .before .before .before .first-address .ensures);
-        few = k .few;
-        full = record { codes = a; operands = b; cycles = d; words = e; extras = x };
-        sized = columns-sized _ (c .before .before .before .before .columns-in .result) (k .few) a b d e x (c .before .before .before .before .columns-in .ensures .known);
-        placed = start-at _ _ (c .before .before .start-of .result) (c .before .before .start-of .ensures .0);
-        formed = c .before .before .start-of .ensures .1;
-        present = c .before .before .before .before .before .before .before .before .before .before .before .blocks-named .ensures .few;
-        fits = blocks-fit _ (c .before .before .before .before .before .before .before .before .before .before .before .before .before .before .before .before .before .before .before .pre) _ _ _ (c .before .before .before .before .before .before .before .before .before .before .before .before .text-of2 .ensures) (c .before .before .before .before .before .before .before .before .before .text-of3 .ensures) (c .before .before .before .text-of4 .ensures) _ (c .before .before .before .before .before .before .before .before .before .before .before .blocks-named .ensures) _ f;
-        numeric = kept-start _ (start-held _ (c .before .before .before .before .before .before .before .before .before .before .before .before .before .before .before .before .before .before .before .pre) _ _ _ (c .before .before .before .before .before .before .before .before .before .before .before .before .text-of2 .ensures) (c .before .before .before .before .before .before .before .before .before .text-of3 .ensures) (c .before .before .before .text-of4 .ensures) _ (c .before .before .before .before .before .before .before .before .before .before .before .blocks-named .ensures) _ first _ (c .before .before .start-of .ensures .0) _ (c .before .before .before .before .before .before .before .before .fields-of .ensures));
+        budget = budget-limited _ _ limits _ _ p (at-budget .before .budgets .ensures) (at-budget .natural-at .ensures);
+        program = is-program _ p _ _ _ (b .before .text-of2 .ensures) (at-fields .before .text-of3 .ensures) (state .before .text-of4 .ensures) _ (b .blocks-named .ensures) (head .with-head .result) (head .before .lines-in .result) _ _ (long head) (low n) (body n .few) (h .0) (h .1) (h .2) (h .3) kept (held .known);
+        first = omega (arith, h .0, low n);
+        placed = start-at _ _ (state .start-of .result) (state .start-of .ensures .0) ∙ sym (h .0);
+        formed = state .start-of .ensures .1;
+        numeric = kept-start _ start;
         answered = c .answers-of .ensures .1;
-        places = g;
+        places = sixty-four c;
       },
     )
 
@@ -81,7 +126,8 @@ routine-of-spec =
     (λ c κs. search needs)
     (λ c κs. search needs)
     (λ c κs. search needs)
-    columns-in-requires
+    lines-in-requires
+    with-head-requires
     (λ c κs. search needs)
     start-of-requires
     add-after-lines

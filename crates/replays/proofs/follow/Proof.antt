@@ -34,13 +34,12 @@ returns c =
     let b = c .before .before .before .before in
     let x = b .before .step in
     let took = b .taken-after in
-    let s = b .before .before .before .before .before .before .before .before in
+    let s = b .before .before .before in
     let p = c .before .before .next .given in
     record {
       says = λ r st. address-same _ _ (stop-held _ _ _ _ _ _ r st _ _ (x .result .next) (x .result .state) (x .result .blocks) (x .result .calls) _ (b .before .before .answer-at .ensures) (x .ensures .0) (x .ensures .1 .0) (p .0 .0) (took .result) (took .ensures .0 _) (p .1)) (c .if1 .taken);
       goes-on = λ r st h. stop-stands _ _ _ _ _ _ r st (s .args .at) (s .args .spent) (x .result .next) (x .result .state) (x .result .blocks) (x .result .calls) _ (b .before .before .answer-at .ensures) (x .ensures .0) (x .ensures .1 .0) (p .0 .0) (took .result) (took .ensures .0 _) (p .1);
-      formed = s .pre .2;
-      fits = s .pre .3;
+      formed = s .pre .1;
       few = took .ensures .1;
     }
 
@@ -49,13 +48,12 @@ returns-2 c =
     let b = c .before .before .before .before in
     let x = b .before .step in
     let took = b .taken-after in
-    let s = b .before .before .before .before .before .before .before .before in
+    let s = b .before .before .before in
     let p = c .before .before .next .given in
     record {
       says = λ r st. address-other _ (s .args .state .at) (s .args .at) (stop-held _ _ _ _ _ _ r st (s .args .at) (s .args .spent) (x .result .next) (x .result .state) (x .result .blocks) (x .result .calls) _ (b .before .before .answer-at .ensures) (x .ensures .0) (x .ensures .1 .0) (p .0 .0) (took .result) (took .ensures .0 _) (p .1)) (c .if1 .left);
       goes-on = λ r st h. stop-stands _ _ _ _ _ _ r st (s .args .at) (s .args .spent) (x .result .next) (x .result .state) (x .result .blocks) (x .result .calls) _ (b .before .before .answer-at .ensures) (x .ensures .0) (x .ensures .1 .0) (p .0 .0) (took .result) (took .ensures .0 _) (p .1);
-      formed = s .pre .2;
-      fits = s .pre .3;
+      formed = s .pre .1;
       few = took .ensures .1;
     }
 
@@ -63,12 +61,11 @@ returns-3 : tie.Need-returns-3
 returns-3 c =
     let b = c .before .before in
     let x = b .before .step in
-    let s = b .before .before .before .before .before .before .before .before in
+    let s = b .before .before .before in
     record {
       says = λ r st. still-differs _ _ _ _ _ _ r st (s .args .at) (s .args .spent) (x .result .next) (x .result .state) (x .result .blocks) (x .result .calls) _ (b .before .before .answer-at .ensures) (x .ensures .0) (x .ensures .1 .0) (no-stop _ (c .before .match .keys2)) (no-way _ (c .match2 .keys2));
       goes-on = λ r st h. absurd (false≢true h);
-      formed = s .pre .2;
-      fits = s .pre .3;
+      formed = s .pre .1;
       few = omega arith;
     }
 
@@ -78,7 +75,7 @@ returns-4 c =
     let b = at-next2 .before .before .before in
     let at-step = b .before in
     let at-answer-at = at-step .before in
-    let s = at-answer-at .before .before .before .before .before .before in
+    let s = at-answer-at .before in
     let x = at-step .step in
     let took = b .taken-after in
     let p = at-next2 .next2 .given in
@@ -86,7 +83,6 @@ returns-4 c =
       says = λ r st. address-same _ _ (step-held _ _ _ _ _ _ r st _ _ (x .result .next) (x .result .state) (x .result .blocks) (x .result .calls) _ (at-answer-at .answer-at .ensures) (x .ensures .0) (x .ensures .1 .0) (p .0 .0) (took .result) (took .ensures .0 _) (p .1)) (c .if2 .taken);
       goes-on = λ r st h. step-stands _ _ _ _ _ _ r st (s .args .at) (s .args .spent) (x .result .next) (x .result .state) (x .result .blocks) (x .result .calls) _ (at-answer-at .answer-at .ensures) (x .ensures .0) (x .ensures .1 .0) (p .0 .0) (took .result) (took .ensures .0 _) (p .1);
       formed = x .ensures .1 .1 .0 .0;
-      fits = x .ensures .1 .1 .0 .1;
       few = took .ensures .1;
     }
 
@@ -96,7 +92,7 @@ returns-5 c =
     let b = at-next2 .before .before .before in
     let at-step = b .before in
     let at-answer-at = at-step .before in
-    let s = at-answer-at .before .before .before .before .before .before in
+    let s = at-answer-at .before in
     let x = at-step .step in
     let took = b .taken-after in
     let p = at-next2 .next2 .given in
@@ -104,7 +100,6 @@ returns-5 c =
       says = λ r st. address-other _ (s .args .state .at) (s .args .at) (step-held _ _ _ _ _ _ r st (s .args .at) (s .args .spent) (x .result .next) (x .result .state) (x .result .blocks) (x .result .calls) _ (at-answer-at .answer-at .ensures) (x .ensures .0) (x .ensures .1 .0) (p .0 .0) (took .result) (took .ensures .0 _) (p .1)) (c .if2 .left);
       goes-on = λ r st h. step-stands _ _ _ _ _ _ r st (s .args .at) (s .args .spent) (x .result .next) (x .result .state) (x .result .blocks) (x .result .calls) _ (at-answer-at .answer-at .ensures) (x .ensures .0) (x .ensures .1 .0) (p .0 .0) (took .result) (took .ensures .0 _) (p .1);
       formed = x .ensures .1 .1 .0 .0;
-      fits = x .ensures .1 .1 .0 .1;
       few = took .ensures .1;
     }
 

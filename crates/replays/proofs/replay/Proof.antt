@@ -5,7 +5,7 @@ use lib.ListN.{length}
 use native.Mathlib.Omega.{arith}
 use borrow.Author.Needs.{needs}
 use borrow.Author.Tests.{not-true, not-false}
-use Rattle.states.specs.Columns.{codeOf}
+use Rattle.states.specs.Program.{programOf, sizesOf}
 use Rattle.states.specs.View.{whole}
 use Rattle.traces.specs.Traces.{entries}
 use Rattle.replays.specs.Replay.{replay}
@@ -22,23 +22,23 @@ use Rattle.text.proofs.next_lines.Reads as next-lines-reads
 use Rattle.traces.proofs.entry_of.Reads as entry-of-reads
 
 abbrev Inv-loop : tie.InvT-loop
-Inv-loop codes operands cycles words extras sizes first answers trace state₀ blocks₀ taken₀ rest₀ line₀ state blocks taken rest line =
-    Following (codeOf first codes operands cycles words extras) sizes answers (replay (codeOf first codes operands cycles words extras) (whole sizes blocks₀ state₀) answers (entries trace)) taken state blocks rest line
+Inv-loop code answers trace state₀ blocks₀ taken₀ rest₀ line₀ state blocks taken rest line =
+    Following (programOf code) (sizesOf code) answers (replay (programOf code) (whole (sizesOf code) blocks₀ state₀) answers (entries trace)) taken state blocks rest line
 
 abbrev μ-loop : tie.MeasureT-loop
-μ-loop codes operands cycles words extras sizes first answers trace state₀ blocks₀ taken₀ rest₀ line₀ state blocks taken rest line = length rest
+μ-loop code answers trace state₀ blocks₀ taken₀ rest₀ line₀ state blocks taken rest line = length rest
 
 loop-holds : tie.Need-loop-holds Inv-loop μ-loop
-loop-holds c = let s = c .before .before .before .before .before .before .before in begins _ _ _ _ _ _ _ (s .pre .2) (s .pre .3) (s .pre .4) (c .next-lines .ensures .0)
+loop-holds c = let s = c .before .before in begins _ _ _ _ _ _ _ (s .pre .1) (s .pre .2) (c .next-lines .ensures .0)
 
 follow-requires : tie.Need-follow-requires Inv-loop μ-loop
 follow-requires c κs =
     let at-loop = c .before .before .before .before in
-    let s = at-loop .before .before .before .before .before .before .before .before in
+    let s = at-loop .before .before .before in
     let i = at-loop .loop .inv in
     let f = i .few in
     let g = i .near in
-    (s .pre .0, s .pre .1, i .formed, i .fits, omega arith)
+    (s .pre .0, i .formed, omega arith)
 
 returns : tie.Need-returns Inv-loop μ-loop
 unfolding ofReplayed

@@ -9,7 +9,7 @@ use native.Mathlib.Omega.{arith}
 use denote.Enum.Declared.{tagOf}
 use types.Run.{OneOf}
 use borrow.Author.Needs.{needs}
-use Rattle.states.specs.Columns.{codeOf}
+use Rattle.states.specs.Program.{programOf, sizesOf}
 use Rattle.states.specs.View.{whole}
 use Rattle.bounds.specs.Run.{begin}
 use Rattle.steps.specs.declared.Price.{Price}
@@ -22,12 +22,12 @@ use Rattle.runs.proofs.after.Statement.{statement}
 use Rattle.runs.proofs.after.Tie as tie
 
 abbrev Inv-loop : tie.InvT-loop
-Inv-loop codes operands cycles words extras sizes first answers n state₀ blocks₀ taken₀ spent₀ sum₀ depth₀ made₀ state blocks taken spent sum depth made =
-    Going (codeOf first codes operands cycles words extras) sizes answers (begin (whole sizes blocks₀ state₀) answers) n
+Inv-loop code answers n state₀ blocks₀ taken₀ spent₀ sum₀ depth₀ made₀ state blocks taken spent sum depth made =
+    Going (programOf code) (sizesOf code) answers (begin (whole (sizesOf code) blocks₀ state₀) answers) n
     (record { state = state; blocks = blocks; taken = taken; cycles = spent; words = sum; depth = depth; steps = made; stopped = false })
 
 abbrev μ-loop : tie.MeasureT-loop
-μ-loop codes operands cycles words extras sizes first answers n state₀ blocks₀ taken₀ spent₀ sum₀ depth₀ made₀ state blocks taken spent sum depth made = n - made
+μ-loop code answers n state₀ blocks₀ taken₀ spent₀ sum₀ depth₀ made₀ state blocks taken spent sum depth made = n - made
 
 -- what comes next is neither STOP nor one way
 no-stop : (x : Next) → OneOf (0 ∷ 2 ∷ 3 ∷ []) (tagOf next.the-type x) → (p : Price) → x ≡ Stops p → ⊥
@@ -44,28 +44,28 @@ no-way x h p e = ⊎-elim
 
 -- the numbers of a price
 stops-small : (c : tie.After-known-told Inv-loop μ-loop) → SmallPrice (c .before .next .given .0 .0)
-stops-small c = subst Small (c .before .next .given .1) (c .before .before .before .step .ensures .1 .1 .0 .2)
+stops-small c = subst Small (c .before .next .given .1) (c .before .before .before .step .ensures .1 .1 .0 .1)
 
 goes-small : (c : tie.After-known-told2 Inv-loop μ-loop) → SmallPrice (c .before .next2 .given .0 .0)
-goes-small c = subst Small (c .before .next2 .given .1) (c .before .before .before .before .step .ensures .1 .1 .0 .2)
+goes-small c = subst Small (c .before .next2 .given .1) (c .before .before .before .before .step .ensures .1 .1 .0 .1)
 
 loop-holds : tie.Need-loop-holds Inv-loop μ-loop
-loop-holds c = let s = c .before .before .before .before .before .before in begins _ _ _ _ (s .args .start) (s .args .fields) (s .pre .1 .formed) (s .pre .1 .fits)
+loop-holds c = let s = c .before in begins _ _ _ _ (s .args .start) (s .args .fields) (s .pre .1 .formed)
 
 step-requires : tie.Need-step-requires Inv-loop μ-loop
-step-requires c κs = let s = c .before .before .before .before .before .before .before .before .before in let i = c .before .before .loop .inv in (s .pre .0, s .pre .1 .addresses, i .formed, i .fits)
+step-requires c κs = let s = c .before .before .before .before in let i = c .before .before .loop .inv in (s .pre .0, i .formed)
 
 taken-after-requires : tie.Need-taken-after-requires Inv-loop μ-loop
-taken-after-requires c κs = let i = c .before .before .before .before .before .before .loop .inv in omega (arith, i .taken, c .before .before .before .before .before .loop-test .taken, c .before .before .before .before .before .before .before .before .before .before .before .before .before .pre .1 .steps)
+taken-after-requires c κs = let i = c .before .before .before .before .before .before .loop .inv in omega (arith, i .taken, c .before .before .before .before .before .loop-test .taken, c .before .before .before .before .before .before .before .before .pre .1 .steps)
 
-add-t32 : tie.Need-add-t32 Inv-loop μ-loop
-add-t32 c = let i = c .before .before .before .before .before .before .before .before .loop .inv in omega (arith, i .cycles, i .within, stops-small (c .before .before), c .before .before .before .before .before .before .before .before .before .before .before .before .before .before .before .pre .1 .steps)
+add-t26 : tie.Need-add-t26 Inv-loop μ-loop
+add-t26 c = let i = c .before .before .before .before .before .before .before .before .loop .inv in omega (arith, i .cycles, i .within, stops-small (c .before .before), c .before .before .before .before .before .before .before .before .before .before .pre .1 .steps)
 
-add-t33 : tie.Need-add-t33 Inv-loop μ-loop
-add-t33 c = let i = c .before .before .before .before .before .before .before .before .before .loop .inv in omega (arith, i .words, i .within, stops-small (c .before .before .before) .words, c .before .before .before .before .before .before .before .before .before .before .before .before .before .before .before .before .pre .1 .steps)
+add-t27 : tie.Need-add-t27 Inv-loop μ-loop
+add-t27 c = let i = c .before .before .before .before .before .before .before .before .before .loop .inv in omega (arith, i .words, i .within, stops-small (c .before .before .before) .words, c .before .before .before .before .before .before .before .before .before .before .before .pre .1 .steps)
 
-add-t34 : tie.Need-add-t34 Inv-loop μ-loop
-add-t34 c = let i = c .before .before .before .before .before .before .before .before .before .loop .inv in omega (arith, i .within, c .before .before .before .before .before .before .before .before .before .before .before .before .before .before .before .before .pre .1 .steps)
+add-t28 : tie.Need-add-t28 Inv-loop μ-loop
+add-t28 c = let i = c .before .before .before .before .before .before .before .before .before .loop .inv in omega (arith, i .within, c .before .before .before .before .before .before .before .before .before .before .before .pre .1 .steps)
 
 returns : tie.Need-returns Inv-loop μ-loop
 returns c =
@@ -74,23 +74,23 @@ returns c =
     let i = c .before .before .before .before .before .before .before .before .before .loop .inv in
     let e = stops-out _ _ _ _ _ _ i (x .result .next) (x .result .state) (x .result .blocks) (x .result .calls) _ (c .before .before .before .before .before .before .before .answer-at .ensures) (x .ensures .0) (x .ensures .1 .0)
     (c .before .before .before .before .next .given .0 .0) (took .result) (record { drops = took .ensures .0; few = took .ensures .1 }) (stops-small (c .before .before .before)) (c .before .before .before .before .next .given .1) (c .before .before .before .before .before .before .before .before .loop-test .taken) in
-    (e, (safe-from _ _ _ _ _ e, (i .formed, i .fits)))
+    (e, (safe-from _ _ _ _ _ e, i .formed))
 
 returns-2 : tie.Need-returns-2 Inv-loop μ-loop
 returns-2 c =
     let x = c .before .before .step in
     let i = c .before .before .before .before .before .loop .inv in
     let e = stays-out _ _ _ _ _ _ i (x .result .next) (x .result .state) (x .result .blocks) (x .result .calls) _ (c .before .before .before .answer-at .ensures) (x .ensures .0) (x .ensures .1 .0) (no-stop _ (c .before .match .keys2)) (no-way _ (c .match2 .keys2)) in
-    (e, (safe-from _ _ _ _ _ e, (i .formed, i .fits)))
+    (e, (safe-from _ _ _ _ _ e, i .formed))
 
 taken-after-requires-2 : tie.Need-taken-after-requires-2 Inv-loop μ-loop
-taken-after-requires-2 c κs = let i = c .before .before .before .before .before .before .before .loop .inv in omega (arith, i .taken, c .before .before .before .before .before .before .loop-test .taken, c .before .before .before .before .before .before .before .before .before .before .before .before .before .before .pre .1 .steps)
+taken-after-requires-2 c κs = let i = c .before .before .before .before .before .before .before .loop .inv in omega (arith, i .taken, c .before .before .before .before .before .before .loop-test .taken, c .before .before .before .before .before .before .before .before .before .pre .1 .steps)
 
 add-spent : tie.Need-add-spent Inv-loop μ-loop
-add-spent c = let i = c .before .before .before .before .before .before .before .before .before .loop .inv in omega (arith, i .cycles, i .within, goes-small (c .before .before) .cycles, c .before .before .before .before .before .before .before .before .before .before .before .before .before .before .before .before .pre .1 .steps)
+add-spent c = let i = c .before .before .before .before .before .before .before .before .before .loop .inv in omega (arith, i .cycles, i .within, goes-small (c .before .before) .cycles, c .before .before .before .before .before .before .before .before .before .before .before .pre .1 .steps)
 
 add-sum : tie.Need-add-sum Inv-loop μ-loop
-add-sum c = let i = c .before .before .before .before .before .before .before .before .before .before .loop .inv in omega (arith, i .words, i .within, goes-small (c .before .before .before) .words, c .before .before .before .before .before .before .before .before .before .before .before .before .before .before .before .before .before .pre .1 .steps)
+add-sum c = let i = c .before .before .before .before .before .before .before .before .before .before .loop .inv in omega (arith, i .words, i .within, goes-small (c .before .before .before) .words, c .before .before .before .before .before .before .before .before .before .before .before .before .pre .1 .steps)
 
 sub-h : tie.Need-sub-h Inv-loop μ-loop
 sub-h c = c .before .before .before .before .before .before .before .before .before .step .ensures .1 .1 .0 .0 .free
@@ -120,7 +120,7 @@ handed c =
     (c .match3 .came)
 
 add-made : tie.Need-add-made Inv-loop μ-loop
-add-made c = let i = c .before .before .before .before .before .before .before .before .before .before .before .before .before .before .loop .inv in omega (arith, i .within, c .before .before .before .before .before .before .before .before .before .before .before .before .before .before .before .before .before .before .before .before .before .pre .1 .steps)
+add-made c = let i = c .before .before .before .before .before .before .before .before .before .before .before .before .before .before .loop .inv in omega (arith, i .within, c .before .before .before .before .before .before .before .before .before .before .before .before .before .before .before .before .pre .1 .steps)
 
 loop-less : tie.Need-loop-less Inv-loop μ-loop
 loop-less c = omega (arith, c .before .before .before .before .before .before .before .before .before .before .before .before .before .loop-test .taken)
@@ -130,13 +130,13 @@ loop-again c =
     let x = c .before .before .before .before .before .before .before .before .before .before .before .step in
     let took = c .before .before .before .before .before .before .taken-after2 in
     rw (handed c) (goes-on _ _ _ _ _ _ (c .before .before .before .before .before .before .before .before .before .before .before .before .before .before .loop .inv) (x .result .next) (x .result .state) (x .result .blocks) (x .result .calls) _ (c .before .before .before .before .before .before .before .before .before .before .before .before .answer-at .ensures) (x .ensures .0) (x .ensures .1 .0)
-    (c .before .before .before .before .before .before .before .before .next2 .given .0 .0) (took .result) (record { drops = took .ensures .0; few = took .ensures .1 }) (goes-small (c .before .before .before .before .before .before .before)) (c .before .before .before .before .before .before .before .before .next2 .given .1) (c .before .before .before .before .before .before .before .before .before .before .before .before .before .loop-test .taken) (x .ensures .1 .1 .0 .0) (x .ensures .1 .1 .0 .1) _ (deepest (c .before)))
+    (c .before .before .before .before .before .before .before .before .next2 .given .0 .0) (took .result) (record { drops = took .ensures .0; few = took .ensures .1 }) (goes-small (c .before .before .before .before .before .before .before)) (c .before .before .before .before .before .before .before .before .next2 .given .1) (c .before .before .before .before .before .before .before .before .before .before .before .before .before .loop-test .taken) (x .ensures .1 .1 .0 .0) _ (deepest (c .before)))
 
 returns-3 : tie.Need-returns-3 Inv-loop μ-loop
 returns-3 c =
     let i = c .before .loop .inv in
     let e = ends _ _ _ _ _ _ i (c .loop-test .left) in
-    (e, (safe-from _ _ _ _ _ e, (i .formed, i .fits)))
+    (e, (safe-from _ _ _ _ _ e, i .formed))
 
 pub after-spec : {M : Type 1} → statement M
 after-spec =
@@ -150,9 +150,9 @@ after-spec =
     step-requires
     (λ c. search needs)
     taken-after-requires
-    add-t32
-    add-t33
-    add-t34
+    add-t26
+    add-t27
+    add-t28
     returns
     (λ c. search needs)
     returns-2

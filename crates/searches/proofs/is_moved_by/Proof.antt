@@ -1,9 +1,9 @@
 -- `searches::is_moved_by` meets its contract. Assumes nothing.
 use mathlib.Core.Path.{ap, _∙_}
-use native.Mathlib.Omega.{arith}
 use mir.Syntax.{w32}
 use mir.ValLaws.{toZ-ofZ}
 use Rattle.cells.specs.Cells.{number}
+use Rattle.states.specs.Program.{sizesOf}
 use Rattle.states.specs.View.{whole}
 use Rattle.changes.specs.Places.{replaceAt}
 use Rattle.changes.proofs.CellLaws.{whole-replaced}
@@ -13,30 +13,28 @@ use Rattle.searches.proofs.is_moved_by.Statement.{statement}
 use Rattle.searches.proofs.is_moved_by.Tie as tie
 
 with-entry-requires : tie.Need-with-entry-requires
-with-entry-requires c κs = let s = c .before .before .before .before .before .before in (s .pre .0 .explorable .formed, s .pre .0 .explorable .fits, s .pre .1)
+with-entry-requires c κs = let s = c .before in (s .pre .0 .formed, s .pre .0 .explorable .formed, s .pre .1)
 
 with-field-requires : tie.Need-with-field-requires
-with-field-requires c κs = let s = c .before .before .before .before .before .before .before in (s .pre .0 .explorable .formed, s .pre .0 .explorable .fits, s .pre .1)
+with-field-requires c κs = let s = c .before .before in (s .pre .0 .formed, s .pre .0 .explorable .formed, s .pre .1)
 
 explore-requires : tie.Need-explore-requires
 explore-requires c κs =
-    let s = c .before .before .before .before .before .before .before .before in
+    let s = c .before .before .before in
     let x = s .pre .0 .explorable in (
-      s .pre .0 .sized,
+      s .pre .0 .formed,
       record {
-        addresses = x .addresses;
         formed = c .before .with-entry .ensures .1;
         budget-fits = x .budget-fits;
         openings-fit = x .openings-fit;
-        fits = record { few = x .fits .few; room = let e = c .with-field .ensures .1 in let r = x .fits .room in omega arith };
       },
     )
 
 returns : tie.Need-returns
 returns c =
-    let s = c .before .before .before .before .before .before .before .before .before .before in
+    let s = c .before .before .before .before .before in
     let a = s .args in
-    let ns = a .sizes .now in
+    let ns = sizesOf (a .code .now) in
     let e = whole-replaced ns (a .fields) (c .before .before .with-field .result) (a .start) (c .before .before .before .with-entry .result) (a .p) (c .before .before .before .before .number .result)
     (c .before .before .before .with-entry .ensures .0) (c .before .before .with-field .ensures .0) in
     c .is-moved .ensures _

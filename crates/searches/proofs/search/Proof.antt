@@ -7,7 +7,7 @@ use Rattle.searches.proofs.search.Statement.{statement}
 use Rattle.searches.proofs.search.Tie as tie
 
 explore-requires : tie.Need-explore-requires
-explore-requires c κs = let s = c .before .before .before .before .before in (s .pre .sized, s .pre .explorable)
+explore-requires c κs = let s = c in (s .pre .formed, s .pre .explorable)
 
 returns : tie.Need-returns
 returns c =

@@ -2,7 +2,7 @@
 use Prim.Native.Nat.{_-_}
 use mathlib.Core.Path.{sym, ap, _∙_}
 use native.Mathlib.Omega.{arith}
-use Rattle.states.specs.Columns.{codeOf}
+use Rattle.states.specs.Program.{programOf, sizesOf}
 use Rattle.states.specs.View.{whole}
 use Rattle.bounds.specs.Tree.{bound}
 use Rattle.changes.specs.Changes.{changesBy, applied, nearest}
@@ -14,19 +14,19 @@ use Rattle.searches.proofs.try_amounts.Statement.{statement}
 use Rattle.searches.proofs.try_amounts.Tie as tie
 
 abbrev Inv-loop : tie.InvT-loop
-Inv-loop codes operands cycles words extras sizes first start fields budget figure amount₀ amount =
-    let s = whole sizes fields start in
-    Left (λ x. moved figure (bound (codeOf first codes operands cycles words extras) budget (applied x s))) (changesBy s) 65
-    (nearest (λ t. moved figure (bound (codeOf first codes operands cycles words extras) budget t)) s) amount
+Inv-loop code start fields budget figure amount₀ amount =
+    let s = whole (sizesOf code) fields start in
+    Left (λ x. moved figure (bound (programOf code) budget (applied x s))) (changesBy s) 65
+    (nearest (λ t. moved figure (bound (programOf code) budget t)) s) amount
 
 abbrev μ-loop : tie.MeasureT-loop
-μ-loop codes operands cycles words extras sizes first start fields budget figure amount₀ amount = 65 - amount
+μ-loop code start fields budget figure amount₀ amount = 65 - amount
 
 loop-holds : tie.Need-loop-holds Inv-loop μ-loop
-loop-holds c = let s = c .before .before .before .before .before in amounts-left _ (whole (s .args .sizes .now) (s .args .fields) (s .args .start))
+loop-holds c = let s = c in amounts-left _ (whole (sizesOf (s .args .code .now)) (s .args .fields) (s .args .start))
 
 try-amount-requires : tie.Need-try-amount-requires Inv-loop μ-loop
-try-amount-requires c κs = let s = c .before .before .before .before .before .before .before in (s .pre, c .loop-test .taken)
+try-amount-requires c κs = let s = c .before .before in (s .pre, c .loop-test .taken)
 
 returns : tie.Need-returns Inv-loop μ-loop
 returns c =

@@ -10,31 +10,31 @@ use Rattle.searches.proofs.try_value.Statement.{statement}
 use Rattle.searches.proofs.try_value.Tie as tie
 
 -- the test is that of the range
-tested : (c : tie.After-within) → within numbers (c .before .before .before .before .before .before .before .args .v) ≡ c .within .result
+tested : (c : tie.After-within) → within numbers (c .before .before .args .v) ≡ c .within .result
 tested c =
-    let s = c .before .before .before .before .before .before .before in
+    let s = c .before .before in
     sym (c .within .ensures ∙ ap₂ within (c .before .number-range .ensures) (toZ-ofZ w64 (s .args .v) (s .fits .v)))
 
 returns : tie.Need-returns
 returns c =
-    let s = c .before .before .before .before .before .before .before .before in
+    let s = c .before .before .before in
     value-out _ _ _ _ (s .args .p) (s .args .v) (tested (c .before) ∙ not-true _ (c .if1 .taken))
 
 cast-n : tie.Need-cast-n
-cast-n c = let s = c .before .before .before .before .before .before .before .before in cast-fits (s .args .v) (s .fits .v) (tested (c .before) ∙ not-false _ (c .if1 .left))
+cast-n c = let s = c .before .before .before in cast-fits (s .args .v) (s .fits .v) (tested (c .before) ∙ not-false _ (c .if1 .left))
 
 is-moved-by-requires : tie.Need-is-moved-by-requires
-is-moved-by-requires c κs = let s = c .before .before .before .before .before .before .before .before in s .pre
+is-moved-by-requires c κs = let s = c .before .before .before in s .pre
 
 returns-2 : tie.Need-returns-2
 returns-2 c =
-    let s = c .before .before .before .before .before .before .before .before .before .before in
+    let s = c .before .before .before .before .before in
     let w = tested (c .before .before .before) ∙ not-false _ (c .before .before .if1 .left) in
     value-hit _ _ _ _ (s .args .p) (s .args .v) _ w (cast-is (s .args .v) (s .fits .v) w) (sym (c .if2 .taken) ∙ c .before .is-moved-by .ensures)
 
 returns-3 : tie.Need-returns-3
 returns-3 c =
-    let s = c .before .before .before .before .before .before .before .before .before .before in
+    let s = c .before .before .before .before .before in
     let w = tested (c .before .before .before) ∙ not-false _ (c .before .before .if1 .left) in
     value-miss _ _ _ _ (s .args .p) (s .args .v) _ w (cast-is (s .args .v) (s .fits .v) w) (sym (c .if2 .left) ∙ c .before .is-moved-by .ensures)
 

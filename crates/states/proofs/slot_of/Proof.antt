@@ -11,6 +11,7 @@ use Rattle.cells.specs.Answers.{ofHandled}
 use Rattle.cells.specs.declared.Cell.{Cell}
 use Rattle.cells.specs.declared.Handled.{Handled}
 use Rattle.cells.specs.Cells.{block}
+use Rattle.states.specs.Program.{sizesOf}
 use Rattle.states.specs.View.{slot}
 use Rattle.states.proofs.slot_of.Statement.{statement}
 use Rattle.states.proofs.slot_of.Tie as tie
@@ -37,32 +38,45 @@ module _ (ns : List ℕ) (a : Cell) (n : ℕ) where
     unfolding slot _>>=_
     field h g = rw (e, lt-ltb k (length ns) h, lt-ltb n (getD ns k 0) g)
 
-enum-told : tie.Need-enum-told
-enum-told c = search needs
-
 returns : tie.Need-returns
 returns c = no-handle _ _ _ (found _ (c .before .before .block .ensures) (c .enum-told .given .1))
 
-returns-2 : tie.Need-returns-2
-returns-2 c =
-    let handled = c .before .before in
-    no-block _ _ _ _ (found _ (handled .before .before .block .ensures) (handled .handled .given .1)) (c .if1 .taken)
+-- the block that is handled
+module _ (c : tie.After-known-told) where
+  abbrev s : tie.Start
+  s = c .before .before .before .before
 
-cast-if2 : tie.Need-cast-if2
-cast-if2 c = omega (arith, c .shared-slice-known2 .given (c .before .before .before .handled .given .0 .0))
+  abbrev ns : List ℕ
+  ns = sizesOf (s .args .code .now)
+
+  abbrev k : ℕ
+  k = c .before .handled .given .0 .0
+
+  is : block (s .args .a) ≡ done k
+  is = found _ (c .before .before .before .block .ensures) (c .before .handled .given .1)
+
+returns-2 : tie.Need-returns-2
+returns-2 c = let d = c .before .before in no-block (ns d) _ _ (k d) (is d) (omega (arith, c .before .count-blocks .ensures, c .if1 .taken))
+
+-- it is there
+within : (c : tie.Else1) → k (c .before .before) < length (ns (c .before .before))
+within c = omega (arith, c .before .count-blocks .ensures, c .if1 .left)
+
+size-of-requires : tie.Need-size-of-requires
+size-of-requires c κs = (s (c .before .before) .pre, within c)
 
 returns-3 : tie.Need-returns-3
-returns-3 c =
-    let handled = c .before .before .before .before in
-    no-field _ _ _ _ (found _ (handled .before .before .block .ensures) (handled .handled .given .1)) (c .before .before .if1 .left) (c .if2 .taken)
+returns-3 c = let e = c .before .before in let d = e .before .before in no-field (ns d) _ _ (k d) (is d) (within e) (omega (arith, c .before .size-of .ensures, c .if2 .taken))
 
-add-t11 : tie.Need-add-t11
-add-t11 c = omega (arith, c .before .shared-slice-known2 .given (c .before .before .before .before .handled .given .0 .0))
+-- the field is there, so the sum is small
+below : (c : tie.Else2) → s (c .before .before .before .before) .args .n < getD (ns (c .before .before .before .before)) (k (c .before .before .before .before)) 0
+below c = omega (arith, c .before .size-of .ensures, c .if2 .left)
+
+add-t9 : tie.Need-add-t9
+add-t9 c = let d = c .before .before .before .before in omega (arith, below c, s d .pre .sizes (k d))
 
 returns-4 : tie.Need-returns-4
-returns-4 c =
-    let handled = c .before .before .before .before in
-    field _ _ _ _ (found _ (handled .before .before .block .ensures) (handled .handled .given .1)) (c .before .before .if1 .left) (c .if2 .left)
+returns-4 c = let e = c .before .before in let d = e .before .before in field (ns d) _ _ (k d) (is d) (within e) (below c)
 
 pub slot-of-spec : {M : Type 1} → statement M
 slot-of-spec =
@@ -70,13 +84,13 @@ slot-of-spec =
     (tie.spec
     (λ c κs. search needs)
     (λ c. search needs)
-    enum-told
+    (λ c. search needs)
     returns
     (λ c. search needs)
+    (λ c κs. search needs)
     returns-2
-    (λ c. search needs)
-    cast-if2
+    size-of-requires
     returns-3
     (λ c. search needs)
-    add-t11
+    add-t9
     returns-4)

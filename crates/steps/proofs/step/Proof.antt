@@ -5,7 +5,7 @@ use mathlib.Core.Logic.{⊎-elim}
 use Prim.Native.Nat.{ℕ, _+_, _-_, _≤_, _<_}
 use native.Mathlib.Omega.{arith}
 use lib.IntN.{pos}
-use lib.ListN.{length, getD, length-set}
+use lib.ListN.{length, getD}
 use mir.Syntax.{w32}
 use mir.Val.{SFits}
 use mir.ValLaws.{toZ-ofZ}
@@ -22,9 +22,9 @@ use Rattle.outcomes.proofs.ArmLaws.{Arm}
 use Rattle.outcomes.proofs.ArmLaws as arms
 use Rattle.states.specs.declared.State.{State}
 use Rattle.states.specs.declared.code.Line.{Line}
-use Rattle.states.specs.Columns.{codeOf, lineOf, ofFetched, Known}
+use Rattle.states.specs.Program.{programOf, sizesOf, lineOf, ofFetched, Known}
 use Rattle.states.specs.View.{view, WellFormed, Fits, whole, ofSlot}
-use Rattle.states.proofs.ColumnLaws.{fetch-within}
+use Rattle.states.proofs.ProgramLaws.{fetch-within, fits-all}
 use Rattle.states.proofs.Stack.{length-images}
 use Rattle.steps.specs.declared.Change.{Change}
 use Rattle.steps.specs.declared.Change.the-variants.{Nothing, Field}
@@ -36,7 +36,7 @@ use Rattle.steps.proofs.step.Tie as tie
 -- ---- places, and what is known there
 
 abbrev start : tie.After-known-told → tie.Start
-start k = k .before .before .before .before .before .before .before .before .before
+start k = k .before .before .before .before
 
 abbrev line : tie.After-known-told → Line
 line k = k .before .fetched .given .0 .0
@@ -52,27 +52,33 @@ abbrev lined : tie.After-outcome-of → tie.After-known-told
 lined a = joined a .before
 
 abbrev code : tie.Start → Code
-code s = codeOf (s .args .first) (s .args .codes .now) (s .args .operands .now) (s .args .cycles .now) (s .args .words .now) (s .args .extras .now)
+code s = programOf (s .args .code .now)
 
-found : (k : tie.After-known-told) → done (lineOf (line k)) ≡ fetch (code (start k)) (start k .args .t9 .at)
+abbrev sizes : tie.Start → List ℕ
+sizes s = sizesOf (s .args .code .now)
+
+found : (k : tie.After-known-told) → done (lineOf (line k)) ≡ fetch (code (start k)) (start k .args .t3 .at)
 found k = ap ofFetched (sym (k .before .fetched .given .1)) ∙ k .before .before .before .fetch .ensures .0
 
 known : (k : tie.After-known-told) → line k .code ≤ 22
 known k = subst Known (k .before .fetched .given .1) (k .before .before .before .fetch .ensures .1)
 
 -- the code's address is low
-low : (k : tie.After-known-told) → start k .args .t9 .at < 65536
-low k = let s = start k in omega (arith, fetch-within (s .args .first) (s .args .codes .now) (s .args .operands .now) (s .args .cycles .now) (s .args .words .now) (s .args .extras .now) (s .args .t9 .at) (lineOf (line k)) (sym (found k)), s .pre .1)
+low : (k : tie.After-known-told) → start k .args .t3 .at < 65536
+low k = let s = start k in omega (arith, fetch-within (s .args .code .now) (s .args .t3 .at) (lineOf (line k)) (sym (found k)), s .pre .0 .addresses)
 
-fields : (s : tie.Start) → length (s .args .t10) ≡ 128
+fields : (s : tie.Start) → length (s .args .t4) ≡ 128
 fields s = search (needs, length-images)
 
-ready : (j : tie.Joined1) → Ready (start (j .before) .args .sizes .now) (start (j .before) .args .t10) (line (j .before)) (start (j .before) .args .t9) (j .if1 .state)
+fits : (s : tie.Start) → Fits (sizes s) (s .args .t4)
+fits s = fits-all (s .args .code .now) (s .pre .0) (s .args .t4) (fields s)
+
+ready : (j : tie.Joined1) → Ready (sizes (start (j .before))) (start (j .before) .args .t4) (line (j .before)) (start (j .before) .args .t3) (j .if1 .state)
 ready j =
     let s = start (j .before) in
     ⊎-elim
-    (λ x. pushes (s .args .sizes .now) (s .args .t10) (line (j .before)) (s .args .t9) (j .if1 .state) (x .2 .result) (x .0 .taken) (x .2 .ensures .0) (x .2 .ensures .1) (x .3))
-    (λ x. keeps (s .args .sizes .now) (s .args .t10) (line (j .before)) (s .args .t9) (j .if1 .state) (x .0 .left) (s .pre .2) (x .1))
+    (λ x. pushes (sizes s) (s .args .t4) (line (j .before)) (s .args .t3) (j .if1 .state) (x .2 .result) (x .0 .taken) (x .2 .ensures .0) (x .2 .ensures .1) (x .3))
+    (λ x. keeps (sizes s) (s .args .t4) (line (j .before)) (s .args .t3) (j .if1 .state) (x .0 .left) (s .pre .1) (x .1))
     (j .if1 .came)
 
 module _ (a : tie.After-outcome-of) where
@@ -94,13 +100,13 @@ module _ (a : tie.After-outcome-of) where
   fitting : SFits w32 (l .operand)
   fitting = search needs
 
-  prepared : Ready (s .args .sizes .now) (s .args .t10) l (s .args .t9) t
+  prepared : Ready (sizes s) (s .args .t4) l (s .args .t3) t
   prepared = ready (joined a)
 
-  arm : Arm (step (code s) (s .args .answer) (whole (s .args .sizes .now) (s .args .t10) (s .args .t9))) (s .args .sizes .now) (s .args .t10) (lineOf l .price) (l .extra) (operationOf (l .code)) (l .operand) (s .args .answer) (next t) n entry (a .outcome-of .result)
+  arm : Arm (step (code s) (s .args .answer) (whole (sizes s) (s .args .t4) (s .args .t3))) (sizes s) (s .args .t4) (lineOf l .price) (l .extra) (operationOf (l .code)) (l .operand) (s .args .answer) (next t) n entry (a .outcome-of .result)
   arm =
-      arms.arm (code s) (s .args .answer) (s .args .sizes .now) (s .args .t10) (s .args .t9) (next t) l (sym (found (lined a))) (rises (s .args .sizes .now) (s .args .t10) l (s .args .t9) t prepared)
-      (record { free = prepared .formed .free; places = prepared .formed .places }) (s .pre .3) n (settled a .before .entry-place .result) entry (range (pos 0) 0) (a .outcome-of .result)
+      arms.arm (code s) (s .args .answer) (sizes s) (s .args .t4) (s .args .t3) (next t) l (sym (found (lined a))) (rises (sizes s) (s .args .t4) l (s .args .t3) t prepared)
+      (record { free = prepared .formed .free; places = prepared .formed .places }) (fits s) n (settled a .before .entry-place .result) entry (range (pos 0) 0) (a .outcome-of .result)
       (settled a .before .before .index-of .ensures .0 ∙ ap index (toZ-ofZ w32 _ fitting)) (settled a .before .entry-place .ensures) refl
       (a .outcome-of .ensures ∙ ap (λ z. outcome (operationOf (l .code)) z (s .args .answer) (64 - t .free) (t .accu) entry) (toZ-ofZ w32 _ fitting))
 
@@ -119,16 +125,16 @@ module _ (a : tie.After-outcome-of) where
   near v e = omega (arith, e, prepared .stays, low (lined a))
 
   -- what is promised of a step with the state w, once it is known what it leads to, and that its prices are cheap
-  module _ {Cheap : Type 0} (cheap : Cheap) (x : Try Next) (e : step (code s) (s .args .answer) (whole (s .args .sizes .now) (s .args .t10) (s .args .t9)) ≡ x) (w : State) (formed : WellFormed w) where
+  module _ {Cheap : Type 0} (cheap : Cheap) (x : Try Next) (e : step (code s) (s .args .answer) (whole (sizes s) (s .args .t4) (s .args .t3)) ≡ x) (w : State) (formed : WellFormed w) where
     -- with the fields fs, which differ by the change y
-    changed : (y : Change) (fs : List Cell) → Fits (s .args .sizes .now) fs → Differs y (s .args .t10) fs → (x ≡ step (code s) (s .args .answer) (whole (s .args .sizes .now) (s .args .t10) (s .args .t9)))
-        × ((l .calls ≡ takesAnswer (code s) (whole (s .args .sizes .now) (s .args .t10) (s .args .t9))) × ((WellFormed w × Fits (s .args .sizes .now) fs × Cheap) × Differs y (s .args .t10) fs))
-    changed y fs fits differs = (sym e, (calls (code s) (s .args .answer) (s .args .sizes .now) (s .args .t10) (s .args .t9) l (found (lined a)), ((formed, fits, cheap), differs)))
+    changed : (y : Change) (fs : List Cell) → Differs y (s .args .t4) fs → (x ≡ step (code s) (s .args .answer) (whole (sizes s) (s .args .t4) (s .args .t3)))
+        × ((l .calls ≡ takesAnswer (code s) (whole (sizes s) (s .args .t4) (s .args .t3))) × ((WellFormed w × Cheap) × Differs y (s .args .t4) fs))
+    changed y fs differs = (sym e, (calls (code s) (s .args .answer) (sizes s) (s .args .t4) (s .args .t3) l (found (lined a)), ((formed, cheap), differs)))
 
     -- with the fields as they were
-    kept : (x ≡ step (code s) (s .args .answer) (whole (s .args .sizes .now) (s .args .t10) (s .args .t9)))
-        × ((l .calls ≡ takesAnswer (code s) (whole (s .args .sizes .now) (s .args .t10) (s .args .t9))) × ((WellFormed w × Fits (s .args .sizes .now) (s .args .t10) × Cheap) × Differs Nothing (s .args .t10) (s .args .t10)))
-    kept = changed Nothing (s .args .t10) (s .pre .3) refl
+    kept : (x ≡ step (code s) (s .args .answer) (whole (sizes s) (s .args .t4) (s .args .t3)))
+        × ((l .calls ≡ takesAnswer (code s) (whole (sizes s) (s .args .t4) (s .args .t3))) × ((WellFormed w × Cheap) × Differs Nothing (s .args .t4) (s .args .t4)))
+    kept = changed Nothing (s .args .t4) refl
 
 enum-told : tie.Need-enum-told
 enum-told c = search needs
@@ -136,17 +142,17 @@ enum-told c = search needs
 returns : tie.Need-returns
 unfolding ofNext
 returns c =
-    let s = c .before .before .before .before .before .before .before .before in
-    let o = outside (code s) (s .args .answer) (s .args .sizes .now) (s .args .t10) (s .args .t9) (ap ofFetched (sym (c .enum-told .given .1)) ∙ c .before .before .fetch .ensures .0) in
-    (o .0, (o .1, ((s .pre .2, s .pre .3, tt), refl)))
+    let s = c .before .before .before in
+    let o = outside (code s) (s .args .answer) (sizes s) (s .args .t4) (s .args .t3) (ap ofFetched (sym (c .enum-told .given .1)) ∙ c .before .before .fetch .ensures .0) in
+    (o .0, (o .1, ((s .pre .1, tt), refl)))
 
 returns-2 : tie.Need-returns-2
 unfolding ofNext
 returns-2 c =
     let k = c .before .before in
     let s = start k in (
-      overflows (code s) (s .args .answer) (s .args .sizes .now) (s .args .t10) (s .args .t9) (line k) (found k) (c .before .if1 .taken) (s .pre .2) (c .if2 .taken),
-      (calls (code s) (s .args .answer) (s .args .sizes .now) (s .args .t10) (s .args .t9) (line k) (found k), ((s .pre .2, s .pre .3, tt), refl)),
+      overflows (code s) (s .args .answer) (sizes s) (s .args .t4) (s .args .t3) (line k) (found k) (c .before .if1 .taken) (s .pre .1) (c .if2 .taken),
+      (calls (code s) (s .args .answer) (sizes s) (s .args .t4) (s .args .t3) (line k) (found k), ((s .pre .1, tt), refl)),
     )
 
 entry-place-requires : tie.Need-entry-place-requires
@@ -236,6 +242,9 @@ returns-6 c =
 
 -- ---- a field is set
 
+slot-of-requires : tie.Need-slot-of-requires
+slot-of-requires c κs = s (c .before .before .before .before) .pre .0
+
 -- the place that was found
 set-slot : (c : tie.After-known-told5) → done (c .before .field .given .0 .0) ≡ ofSlot (c .before .before .before .slot-of .result)
 set-slot c = ap ofSlot (sym (c .before .field .given .1))
@@ -265,7 +274,7 @@ returns-7 c =
     changed a (plain a) _
     (arms.sets (arm a) (c .before .before .before .before .before .before .before .before .before .before .outcome2 .given .0 .0) (c .before .before .before .before .before .field .given .0 .0) (next v) (c .advance4 .result) (c .before .before .before .before .before .before .before .before .before .before .outcome2 .given .1) (set-slot (c .before .before .before .before) ∙ c .before .before .before .before .before .before .before .slot-of .ensures) (popped-next (t a) v _ (c .before .before .pop3 .ensures .0))
     (loaded-next v (c .before .load3 .result) (c .advance4 .result) _ (c .before .load3 .ensures .0) (c .advance4 .ensures .0) ∙ ap (λ z. load z (view (next v))) (c .before .before .before .number .ensures)))
-    (c .advance4 .result) (c .advance4 .ensures .1) (Field (c .before .before .before .before .before .field .given .0 .0) _) _ (record { few = s a .pre .3 .few; room = simp length-set (s a .pre .3 .room) }) (set-within (c .before .before .before .before), refl)
+    (c .advance4 .result) (c .advance4 .ensures .1) (Field (c .before .before .before .before .before .field .given .0 .0) _) _ (set-within (c .before .before .before .before), refl)
 
 returns-8 : tie.Need-returns-8
 unfolding ofNext
@@ -274,6 +283,9 @@ returns-8 c =
     kept a tt _ (arms.sets-nothing (arm a) _ (c .before .before .before .before .before .outcome2 .given .1) (ap ofSlot (sym (c .enum-told5 .given .1)) ∙ c .before .before .slot-of .ensures)) (t a) (prepared a .formed)
 
 -- ---- the accumulator becomes a field
+
+slot-of-requires-2 : tie.Need-slot-of-requires-2
+slot-of-requires-2 c κs = s (c .before .before .before) .pre .0
 
 get-slot : (c : tie.After-known-told6) → done (c .before .field2 .given .0 .0) ≡ ofSlot (c .before .before .before .slot-of2 .result)
 get-slot c = ap ofSlot (sym (c .before .field2 .given .1))
@@ -335,7 +347,7 @@ returns-13 : tie.Need-returns-13
 unfolding ofNext withExtra
 returns-13 c =
     let a = c .before .before .before in
-    kept a (plain a, jumped a) _ (opened (s a .args .sizes .now) (s a .args .t10) (t a) (c .advance6 .result) (arm a) (c .before .enum-told10 .given .1) (c .advance6 .ensures .0)) (c .advance6 .result) (c .advance6 .ensures .1)
+    kept a (plain a, jumped a) _ (opened (sizes (s a)) (s a .args .t4) (t a) (c .advance6 .result) (arm a) (c .before .enum-told10 .given .1) (c .advance6 .ensures .0)) (c .advance6 .result) (c .advance6 .ensures .1)
 
 returns-14 : tie.Need-returns-14
 unfolding ofNext
@@ -385,7 +397,7 @@ step-spec =
     store-requires
     advance-requires-3
     (λ c. search needs)
-    (λ c κs. search needs)
+    slot-of-requires
     (λ c. search needs)
     mul-blocks
     array-set-from-blocks
@@ -395,7 +407,7 @@ step-spec =
     advance-requires-4
     (λ c. search needs)
     (λ c. search needs)
-    (λ c κs. search needs)
+    slot-of-requires-2
     (λ c. search needs)
     mul-load
     array-copy-out-load

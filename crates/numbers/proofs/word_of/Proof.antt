@@ -1,8 +1,8 @@
--- `words::word_of` meets its contract. Assumes nothing.
+-- `numbers::word_of` meets its contract. Assumes nothing.
 use Rattle.numbers.proofs.SignedLaws.{cast-fits}
-use Rattle.words.proofs.ResidueLaws.{raised-fits, raised-cast, raised-is, kept-cast, kept-is}
-use Rattle.words.proofs.word_of.Statement.{statement}
-use Rattle.words.proofs.word_of.Tie as tie
+use Rattle.numbers.proofs.ResidueLaws.{raised-fits, raised-cast, raised-is, kept-cast, kept-is}
+use Rattle.numbers.proofs.word_of.Statement.{statement}
+use Rattle.numbers.proofs.word_of.Tie as tie
 
 cast-w : tie.Need-cast-w
 cast-w c = cast-fits (c .args .z) (c .fits .z)

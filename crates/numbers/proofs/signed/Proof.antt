@@ -1,20 +1,19 @@
--- `words::signed` meets its contract. Assumes nothing.
+-- `numbers::signed` meets its contract. Assumes nothing.
 use mathlib.Core.Path.{_≡_}
 use lib.IntN.{pos, _-ℤ_}
 use mir.Syntax.{w64}
 use mir.Val.{toZ}
 use Rattle.numbers.specs.Numbers.{modulus, signed}
 use Rattle.numbers.proofs.SignedLaws.{result-fits, result-wide, result-cast, result-read, result-back}
-use Rattle.words.specs.Words.{wordBits}
-use Rattle.words.proofs.WordLaws.{signed-fits, signed-kept, signed-lowered}
+use Rattle.numbers.proofs.ResidueLaws.{signed-fits, signed-kept, signed-lowered}
 use borrow.Author.Needs.{needs}
-use Rattle.words.proofs.signed.Statement.{statement}
-use Rattle.words.proofs.signed.Tie as tie
+use Rattle.numbers.proofs.signed.Statement.{statement}
+use Rattle.numbers.proofs.signed.Tie as tie
 
-kept : (c : tie.Then1) → signed wordBits (c .before .args .word) ≡ toZ w64 (c .before .args .word)
+kept : (c : tie.Then1) → signed 32 (c .before .args .word) ≡ toZ w64 (c .before .args .word)
 kept c = signed-kept (c .before .args .word) (search needs) (c .if1 .taken)
 
-lowered : (c : tie.Else1) → signed wordBits (c .before .args .word) ≡ toZ w64 (c .before .args .word) -ℤ pos (modulus wordBits)
+lowered : (c : tie.Else1) → signed 32 (c .before .args .word) ≡ toZ w64 (c .before .args .word) -ℤ pos (modulus 32)
 lowered c = signed-lowered (c .before .args .word) (search needs) (c .if1 .left)
 
 cast-result : tie.Need-cast-result
