@@ -89,14 +89,14 @@ typedef struct {
  * that a call wrote to, of those tried (32 openings, 1,024 lines of code, as many instructions of words, the examples,
  * files of seeds). Each call was made on no more stack than the macro says. This is measured (tests/stack.c), not
  * proved. */
-#define TICKBOUND_DECIDE_STACK (2048 * 1024)  /* 1,670 */
-#define TICKBOUND_MERGE_STACK (2048 * 1024)   /* 1,638 */
-#define TICKBOUND_PREVIEW_STACK (256 * 1024)  /* 187 */
+#define TICKBOUND_DECIDE_STACK (2048 * 1024)  /* 1,666 */
+#define TICKBOUND_MERGE_STACK (2048 * 1024)   /* 1,643 */
+#define TICKBOUND_PREVIEW_STACK (256 * 1024)  /* 188 */
 #define TICKBOUND_EXPLAIN_STACK (256 * 1024)  /* 165 */
-#define TICKBOUND_NEAREST_STACK (256 * 1024)  /* 165 */
+#define TICKBOUND_NEAREST_STACK (256 * 1024)  /* 167 */
 #define TICKBOUND_BOUND_STACK (256 * 1024)    /* 155 */
-#define TICKBOUND_REPLAY_STACK (128 * 1024)   /* 84 */
-#define TICKBOUND_RUN_STACK (128 * 1024)      /* 80 */
+#define TICKBOUND_REPLAY_STACK (128 * 1024)   /* 77 */
+#define TICKBOUND_RUN_STACK (128 * 1024)      /* 74 */
 #define TICKBOUND_IMPORT_STACK (64 * 1024)    /* 10 */
 #define TICKBOUND_EXPORT_STACK (64 * 1024)    /* 7 */
 #define TICKBOUND_GENERATE_STACK (64 * 1024)  /* 1 */
