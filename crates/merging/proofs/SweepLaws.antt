@@ -49,8 +49,6 @@ nothing-at ns first n b es fs =
     slot-empty ns (first + b) (part (5 * b) 5 (replicate n 0)) (part (64 * b) 64 es) (part (128 * b) 128 fs)
     (getD-take 5 (drop (5 * b) (replicate n 0)) 0 0 (omega arith) ∙ getD-drop (5 * b) (replicate n 0) 0 0 ∙ zeros n (5 * b + 0))
 
--- ---- the code of columns
-
 -- ---- where it begins
 
 -- the way from the start, and the pass with it

@@ -20,7 +20,7 @@ pub record PriceRange (r : Range) : Type 0 where
 abbrev pub pricesOn : List ℕ → List ℕ → List ℕ → PriceList
 pricesOn ns cs ws = record { names = list ns; cycles = list cs; words = list ws }
 
--- an entry b of the column of codes for kind k: its operation's code, 32 more where it pushes first, and 64 more where it calls a primitive
+-- the first word b of a line of kind k: its operation's code, 32 more where it pushes first, and 64 more where it calls a primitive
 pub record Coded (k : Kind) (b : ℕ) : Type 0 where
   pub code : b % 32 ≡ operationCode (k .operation)
   pub pushes : leb 32 (b % 64) ≡ k .pushes

@@ -60,7 +60,8 @@ abbrev pub ofFetched : Fetched → Try Instruction
 ofFetched (Is l) = done (lineOf l)
 ofFetched Outside = stuck
 
--- a list of words is a program: room for 1,024 lines; addresses, lines and blocks within their limits, at most sixteen fields in a block, and codes of operations
+-- a list of words is a program: room for 1,024 lines; addresses, lines and blocks within their limits; at most sixteen fields in a block;
+-- codes of operations
 pub record IsProgram (ws : List ℕ) : Type 0 where
   pub words : length ws ≡ 5131
   pub addresses : firstOf ws + linesIn ws ≤ 65536
