@@ -23,17 +23,10 @@ use Rattle.cells.specs.Try.{Try}
 use Rattle.cells.specs.Cells.{range, high, number, unknown, handle, calculate₁, calculate₂, results, least₁, range₁, wider, range₂, map₁, compareHandles, combineHandles, map₂, operate₁, operate₂, conditionIn, condition, handled, block}
 use Rattle.cells.specs.Order.{Refines, same, inside, Allowed, among, same-handle}
 use Rattle.cells.specs.Codes.{confineValue, confine, Confined, Kept}
-use Rattle.cells.proofs.Covering.{Covered, by-stuck, both, covered-self, Narrower, zeros, nonzeros, zero-unknown, nonzero-unknown, unknowns}
+use Rattle.cells.specs.Covering.{Covered, by-stuck, both, Narrower, zeros, nonzeros, zero-unknown, nonzero-unknown, unknowns, Lawful}
+use Rattle.cells.proofs.Covering.{covered-self}
 use Rattle.cells.proofs.RangeLaws.{Linear, linear, lies, covers, linear-self, linear-trans, linear-one, one-allowed, InBits, fitting-yes, Results, fits, whole, results-is, wrap-bits, wrap-unknown, results-refine, number-refines, one-or-more, high-zero, range₁-refines}
 use Rattle.cells.proofs.JudgeLaws.{Among, Judged, every, none, either, judged-is, Within, judged-refines, pair-judged}
-
--- all that the machine's laws ask of a relation of cells
-pub record Lawful (R : Cell → Cell → Type 0) (two : Type 0) : Type 0 where
-  pub numbers : (n : ℤ) → R (number n) (number n)
-  pub operates₁ : (u : Unary) (i : ℤ) {a a′ : Cell} → R a a′ → Covered R (operate₁ u i a) (operate₁ u i a′)
-  pub operates₂ : (b : Binary) {a c a′ c′ : Cell} → R a a′ → R c c′ → Covered R (operate₂ b a c) (operate₂ b a′ c′)
-  pub conditions : {a a′ : Cell} → R a a′ → Covered (Narrower two) (condition a) (condition a′)
-  pub blocks : {a a′ : Cell} → R a a′ → Covered _≡_ (block a) (block a′)
 
 -- ---- the order, by what the cells hold
 

@@ -19,7 +19,7 @@ use Rattle.cells.specs.Merge.{lower, upper, mergeValues, mergeCells, Cla
 use Rattle.cells.specs.Order as order
 use Rattle.cells.specs.Order.{Refines}
 use Rattle.cells.specs.Codes.{Confined}
-use Rattle.cells.proofs.Covering.{Covered, by-stuck, both}
+use Rattle.cells.specs.Covering.{Covered, by-stuck, both}
 use Rattle.cells.proofs.RangeLaws.{Linear, linear-trans, covers, InBits, bits-down, in-unknown}
 use Rattle.cells.proofs.CellLaws.{Below, ranges, handles, below, confined-range, range-bits, unknown-bits}
 
@@ -244,3 +244,25 @@ values-confined (Handle j) (Handle k) c p q e = go (eqb j k) e
 pub merged-confined : {a b c : Cell} → Confined a → Confined b → done c ≡ mergeCells a b → Confined c
 unfolding mergeCells
 merged-confined {a} {b} {c} p q e = values-confined (a .value) (b .value) c p q e
+
+-- ---- a cell that is merged with itself stays
+
+either-way : {A : Type 0} (t : Bool) (x : A) → cond t x x ≡ x
+either-way true x = refl
+either-way false x = refl
+
+values-same : (v : Value) → mergeValues v v ≡ done (cell v)
+unfolding mergeValues
+values-same (Range low more) =
+    let s = sum-is low (pos more) in
+    let b = between-is low (high low more) (omega arith) in
+    let far = b .1 .far in
+    let n : b .0 ≡ more = omega arith in
+    ap (λ (l : ℤ). done (between l (upper (high low more) (high low more)))) (either-way (leZ low low) low)
+    ∙ ap (λ (h : ℤ). done (between low h)) (either-way (leZ (high low more) (high low more)) (high low more))
+    ∙ ap done (b .1 .is ∙ ap (range low) n)
+values-same (Handle k) = ap (λ (t : Bool). cond t (done (handle k)) stuck) (eq-eqb k k refl)
+
+pub merge-same : (a : Cell) → mergeCells a a ≡ done a
+unfolding mergeCells
+merge-same a = values-same (a .value)

@@ -1,6 +1,6 @@
--- What is promised of the operations on ranges, by the names of specs/Promises. Assumes nothing.
+-- What is promised of the operations on ranges, by the names of specs/Promises, and that results agree where cells agree. Assumes nothing.
 use mathlib.Core.Path.{_≡_, refl, sym, ap, subst, _∙_}
-use mathlib.Core.Bool.{Bool, true, false, cond, true≢false}
+use mathlib.Core.Bool.{Bool, true, false, cond, true≢false, _&&_}
 use Prim.Native.Nat.{ℕ, _+_, _<_}
 use native.Mathlib.Omega.{arith}
 use lib.IntN.{ℤ, pos, _+ℤ_, _-ℤ_}
@@ -14,12 +14,15 @@ use Rattle.cells.specs.declared.Unary.{Unary}
 use Rattle.cells.specs.declared.Unary.the-variants.{Offset, Negate, Complement}
 use Rattle.cells.specs.declared.Binary.{Binary}
 use Rattle.cells.specs.declared.Binary.the-variants.{Add, Subtract, Compare}
-use Rattle.cells.specs.Cells.{range, high, number, unknown, calculate₁, calculate₂, results, least₁, range₁, wider, range₂}
+use Rattle.cells.specs.Cells.{range, high, number, unknown, calculate₁, calculate₂, results, least₁, range₁, wider, range₂, conditionIn, condition}
+use Rattle.cells.specs.declared.Condition.the-variants.{IsZero, IsNonzero, IsUnknown}
+use Rattle.cells.specs.Try.{done}
 use Rattle.cells.specs.Order.{Refines}
-use Rattle.cells.specs.Promises.{Of, EveryUnary, EveryBinary, EveryComparison}
-use Rattle.cells.proofs.RangeLaws.{Linear, linear, lies, covers, linear-one, InBits, number-bits, bits-number, bits-down, Results, fits, whole, results-is, one-or-more, range₁-refines}
+use Rattle.cells.specs.Covering.{ResultsAgree}
+use Rattle.cells.specs.Promises.{Of, EveryUnary, EveryBinary, EveryComparison, EveryCondition}
+use Rattle.cells.proofs.RangeLaws.{Linear, linear, lies, covers, linear-one, InBits, number-bits, bits-number, bits-down, Results, fits, whole, results-is, one-or-more, high-zero, range₁-refines}
 use Rattle.cells.proofs.JudgeLaws.{Among, Judged, every, none, either, judged-is, one-is, zero-is}
-use Rattle.cells.proofs.CellLaws.{range₁-one, range₂-one, range₂-refines, one-among, some-number}
+use Rattle.cells.proofs.CellLaws.{range₁-one, range₂-one, range₂-refines, one-among, some-number, refines-lawful, allowed-lawful}
 use Rattle.cells.proofs.ComputeLaws.{results-inner}
 
 -- ---- the numbers of a range
@@ -269,3 +272,36 @@ everyComparison c l m k n = record {
     some-by f g (every h) = absurd (f (λ x y o p. h x y (one-among (of-linear o)) (one-among (of-linear p))))
     some-by f g (none h) = absurd (g (λ x y o p. h x y (one-among (of-linear o)) (one-among (of-linear p))))
     some-by f g (either h j) = refl
+
+-- ---- conditions
+
+module _ (low : ℤ) (more : ℕ) where
+  has-zero : leZ low (pos 0) ≡ true → leZ (pos 0) (high low more) ≡ true → Of (pos 0) low more
+  has-zero e f = record { least = e; greatest = rw (high-zero (pos 0)) f }
+
+  zero-has : Of (pos 0) low more → (leZ low (pos 0) && leZ (pos 0) (high low more)) ≡ true
+  zero-has i = let f : leZ (pos 0) (high low more) ≡ true = rw (high-zero (pos 0)) at (i .greatest) in rw (i .least) f
+
+pub every-condition : EveryCondition
+unfolding condition conditionIn
+every-condition low more = record { lacks = λ h. lacks h (leZ low (pos 0)) refl (leZ (pos 0) (high low more)) refl; only = only; leaves = leaves }
+  where
+    lacks : (Of (pos 0) low more → ⊥) → (a : Bool) → leZ low (pos 0) ≡ a → (b : Bool) → leZ (pos 0) (high low more) ≡ b → condition (range low more) ≡ done IsNonzero
+    lacks h true e true f = absurd (h (has-zero low more e f))
+    lacks h true e false f = rw (e, f) refl
+    lacks h false e b f = rw e refl
+
+    only : ((n : ℤ) → Of n low more → n ≡ pos 0) → condition (range low more) ≡ done IsZero
+    only h =
+        let e : low ≡ pos 0 = h low (lowest-of low more) in
+        let f : high low more ≡ pos 0 = h (high low more) (highest-of low more) in
+        let k : more ≡ 0 = omega (arith, sum-is low (pos more), ap over e, ap under e, ap over f, ap under f) in
+        rw (e, k) refl
+
+    leaves : Of (pos 0) low more → (n : ℤ) → Of n low more → (n ≡ pos 0 → ⊥) → condition (range low more) ≡ done IsUnknown
+    leaves i n j h = one-or-more (λ t. done (cond (leZ low (pos 0) && leZ (pos 0) (high low more)) (cond t IsZero IsUnknown) IsNonzero) ≡ done IsUnknown) more (λ e. absurd (h (linear-one (rw e at (linear j)) .0 ∙ sym (linear-one (rw e at (linear i)) .0)))) (λ l. rw (zero-has low more i) refl)
+
+-- ---- results agree where cells agree
+
+pub results-agree : ResultsAgree
+results-agree = (refines-lawful, allowed-lawful)

@@ -33,7 +33,7 @@ range low more = cell (Range low more)
 abbrev pub high : ℤ → ℕ → ℤ
 high low more = low +ℤ pos more
 
--- a number enters a cell only here, and wraps
+-- one number, wrapped to the bits that numbers have
 abbrev pub number : ℤ → Cell
 number n = range (wrap n) 0
 

@@ -2,6 +2,7 @@ pub mod Try
 pub mod Cells
 pub mod Answers
 pub mod Order
+pub mod Covering
 pub mod Merge
 pub mod Codes
 pub mod Small

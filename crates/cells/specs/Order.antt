@@ -13,7 +13,7 @@ pub record Inside (low : ℤ) (more : ℕ) (low′ : ℤ) (more′ : ℕ) : Type
   pub least : leZ low′ low ≡ true
   pub greatest : leZ (high low more) (high low′ more′) ≡ true
 
--- Erasure (Definition 3 of document 000, from right to left): b is a, or both are ranges and b covers a
+-- Erasure (Definition 3 of document 000, a ↘ b): b is a, or both are ranges and b covers a
 pub data Refines : Cell → Cell → Type 0 where
   same : {a : Cell} → Refines a a
   inside : {low low′ : ℤ} {more more′ : ℕ} → Inside low more low′ more′ → Refines (range low more) (range low′ more′)

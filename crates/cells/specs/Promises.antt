@@ -8,7 +8,9 @@ use Rattle.numbers.specs.declared.Comparison.{Comparison}
 use Rattle.cells.specs.declared.Unary.{Unary}
 use Rattle.cells.specs.declared.Binary.{Binary}
 use Rattle.cells.specs.declared.Binary.the-variants.{Compare}
-use Rattle.cells.specs.Cells.{range, number, unknown, calculate₁, calculate₂, range₁, range₂}
+use Rattle.cells.specs.declared.Condition.the-variants.{IsZero, IsNonzero, IsUnknown}
+use Rattle.cells.specs.Try.{done}
+use Rattle.cells.specs.Cells.{range, number, unknown, calculate₁, calculate₂, range₁, range₂, condition}
 use Rattle.cells.specs.Order.{Inside, Refines}
 
 -- n is a number of the range of `low` and `more` beyond it
@@ -46,3 +48,12 @@ pub record Compared (c : Comparison) (low : ℤ) (more : ℕ) (low′ : ℤ) (mo
 
 abbrev pub EveryComparison : Type 0
 EveryComparison = (c : Comparison) (low : ℤ) (more : ℕ) (low′ : ℤ) (more′ : ℕ) → Compared c low more low′ more′
+
+-- "A condition whose range lacks 0, or is only 0, opens no second way."; on 0 and other numbers both are open
+pub record Conditioned (low : ℤ) (more : ℕ) : Type 0 where
+  pub lacks : (Of (pos 0) low more → ⊥) → condition (range low more) ≡ done IsNonzero
+  pub only : ((n : ℤ) → Of n low more → n ≡ pos 0) → condition (range low more) ≡ done IsZero
+  pub leaves : Of (pos 0) low more → (n : ℤ) → Of n low more → (n ≡ pos 0 → ⊥) → condition (range low more) ≡ done IsUnknown
+
+abbrev pub EveryCondition : Type 0
+EveryCondition = (low : ℤ) (more : ℕ) → Conditioned low more

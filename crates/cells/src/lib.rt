@@ -103,6 +103,19 @@ pub fn handle(k: u8) -> Cell
     }
 }
 
+// The same cell, part by part: a copy of the whole is one wide read, which waits where the parts were written one by one.
+pub fn same(c: Cell) -> Cell
+    ensures { λ r. ⌜ r ≡ c ⌝ }
+{
+    let value = c.value;
+    match value {
+        Value::Range(low, more) => Cell {
+            value: Value::Range(low, more),
+        },
+        Value::Handle(k) => handle(k),
+    }
+}
+
 // The wrapped result of an operation on numbers.
 fn calculate1(u: Unary, i: i32, n: i32) -> i32
     ensures { λ r. ⌜ r ≡ wrap (calculate₁ u i n) ⌝ }

@@ -1,38 +1,40 @@
--- The arms of a turn: the next turn of each arm that goes on, and the promise kept by each that returns. What each arm leads to is in the laws
--- of `outcomes`. Assumes nothing.
-use mathlib.Core.Path.{_≡_, refl, subst, _∙_, ap}
+-- The arms of a turn: the next turn of each arm that goes on, and the promise kept by each that returns. What each arm leads to is in
+-- `MadeLaws`. Assumes nothing.
+use mathlib.Core.Path.{_≡_, refl, sym, subst, _∙_, ap}
+use mathlib.Core.Bool.{Bool, true, false}
 use mathlib.Core.List.{List}
 use Prim.Native.Nat.{ℕ, suc, _+_, _-_, _*_, _≤_, _<_}
 use native.Mathlib.Omega.{arith}
-use lib.ListN.{length}
+use lib.Dec.{ltb}
+use lib.ListN.{length, getD, set, length-set}
+use borrow.Author.Tests.{ltb-true, ltb-false}
 use Rattle.refusals.specs.declared.Refusal.{Refusal}
 use Rattle.refusals.specs.declared.Refusal.the-variants as refusals
+use Rattle.refusals.specs.declared.Verdict.{Verdict}
 use Rattle.refusals.specs.declared.Verdict.the-variants.{Accepted, Refused}
 use Rattle.cells.specs.Try.{Try, stuck, done}
 use Rattle.cells.specs.declared.Cell.{Cell}
-use Rattle.cells.specs.Cells.{unknown}
-use Rattle.outcomes.specs.declared.Outcome.{Outcome}
-use Rattle.outcomes.specs.declared.Outcome.the-variants.{Opens, Halts}
-use Rattle.outcomes.proofs.ArmLaws as arms
-use Rattle.machine.specs.Machine.{height, Next, goes, withExtra, jump, reblock}
+use Rattle.machine.specs.Machine.{height, Next, goes, opens, index, withExtra, reblock}
 use Rattle.machine.specs.Machine as machine
-use Rattle.instructions.specs.Columns.{operationOf}
 use Rattle.states.specs.declared.State.{State}
+use Rattle.states.specs.declared.registers.Registers.{Registers}
 use Rattle.states.specs.declared.code.Line.{Line}
-use Rattle.states.specs.View.{view, WellFormed, Fits, whole}
+use Rattle.states.specs.Registers.{withStack, popped, stored, loaded, advanced, placed}
+use Rattle.states.specs.View.{WellFormed, Fits, whole}
 use Rattle.states.specs.Program.{programOf, sizesOf, lineOf}
-use Rattle.states.proofs.StateLaws.{placed}
 use Rattle.findings.specs.declared.Found.{Found}
 use Rattle.findings.specs.declared.Tally.{Tally}
-use Rattle.findings.specs.Found.{moreOf, jumpedOf, joinedOf, finishedOf, refusedAs, Summable}
+use Rattle.findings.specs.Found.{moreOf, jumpedOf, joinedOf, bothOf, finishedOf, refusedAs, Summable}
+use Rattle.findings.proofs.PartLaws.{first-refused, second-refused, both-accepted}
+use Rattle.explore.specs.declared.turns.Turn as code
+use Rattle.explore.specs.declared.turns.Turn.the-variants.{Goes, Jumps, Stores, Sets, Gets, Opens, Halts, Stuck}
+use Rattle.explore.specs.declared.Ways.{Ways}
 use Rattle.explore.specs.Contract.{Explores, SafeUnder, ExactFor, Bounded}
+use Rattle.explore.specs.Turn.{turned, Within}
+use Rattle.explore.specs.Ways.{WaysExplored}
 use Rattle.explore.proofs.LoopLaws as loop
 use Rattle.explore.proofs.TurnLaws as turns
 use Rattle.explore.proofs.ReturnLaws.{path-fits, refused-bounded, finished-bounded, joined-bounded, safe-under, exact-for}
-
-at-place : (n : ℕ) (u : State) → view (placed n u) ≡ jump n (view u)
-unfolding jump
-at-place n u = refl
 
 module _ (ps : List ℕ) (o budget : ℕ) (fs₀ : List Cell) (s₀ : State) where
   abbrev act : machine.State → Try Next
@@ -41,13 +43,16 @@ module _ (ps : List ℕ) (o budget : ℕ) (fs₀ : List Cell) (s₀ : State) whe
   abbrev Turn : List Cell → State → ℕ → Tally → Type 0
   Turn = turns.Turn ps o budget fs₀ s₀
 
-  -- what is known once the outcome is: u is the state at the next address and after the push, t′ the tally with this step
-  pub record Arm (fs : List Cell) (s : State) (left : ℕ) (t : Tally) (l : Line) (t′ : Tally) (u : State) (n : ℕ) (e : Cell) (out : Outcome) : Type 0 where
+  -- what is known once the turn is: r are the registers at the line's address after the push, st the stack, t′ the tally with this step
+  pub record Arm (fs : List Cell) (s : State) (left : ℕ) (t : Tally) (l : Line) (t′ : Tally) (r : Registers) (st : List Cell) (d : Cell) (x : code.Turn) : Type 0 where
     pub turn : Turn fs s left t
     pub some : 0 < left
     pub small : (l .cycles < 4294967296) × ((l .words < 4294967296) × (l .extra < 4294967296))
     pub grown : t′ ≡ moreOf t (lineOf l .price) (64 - s .free)
-    pub arm : arms.Arm (act (whole (sizesOf ps) fs s)) (sizesOf ps) fs (lineOf l .price) (l .extra) (operationOf (l .code)) (l .operand) unknown u n e out
+    pub at : r .at ≡ s .at
+    pub formed : WellFormed (withStack r st)
+    pub leads : act (whole (sizesOf ps) fs s) ≡ turned (sizesOf ps) l r fs st d x
+    pub within : Within r fs x
 
   -- what is promised of an answer
   pub record Kept (r : Found) : Type 0 where
@@ -69,12 +74,14 @@ module _ {ps : List ℕ} {o budget : ℕ} {fs₀ : List Cell} {s₀ : State} whe
     unfolding whole reblock
     spent-out h r e = shown ps o budget fs₀ s₀ r _ e (loop.spent-shown (act ps o budget fs₀ s₀) o budget (whole (sizesOf ps) fs₀ s₀) (whole (sizesOf ps) fs s) left t (i .inv) h) (refused-bounded o budget budget _ r e (omega arith))
 
-    pub stuck-out : 0 < left → (act ps o budget fs₀ s₀) (whole (sizesOf ps) fs s) ≡ stuck → (r : Found) → r ≡ refusedAs (refusals.Stuck (s .at)) (budget - left + 1) → Kept ps o budget fs₀ s₀ r
+    pub stuck-out : 0 < left → (act ps o budget fs₀ s₀) (whole (sizesOf ps) fs s) ≡ stuck → (r : Found) → r ≡ refusedAs (refusals.Stuck (s .at)) (budget - (left - 1)) → Kept ps o budget fs₀ s₀ r
     unfolding whole reblock
-    stuck-out h g r e =
+    stuck-out h g r k =
+        let used : budget - (left - 1) ≡ budget - left + 1 = omega (arith, i .inv .within) in
+        let e : r ≡ refusedAs (refusals.Stuck (s .at)) (budget - left + 1) = k ∙ ap (refusedAs (refusals.Stuck (s .at))) used in
         shown ps o budget fs₀ s₀ r _ e (loop.stuck-shown (act ps o budget fs₀ s₀) o budget (whole (sizesOf ps) fs₀ s₀) (whole (sizesOf ps) fs s) left t (i .inv) h g) (refused-bounded o budget (budget - left + 1) _ r e (omega (arith, i .inv .within)))
 
-  module _ {fs : List Cell} {s : State} {left : ℕ} {t : Tally} {l : Line} {t′ : Tally} {u : State} {n : ℕ} {e : Cell} {out : Outcome} (a : Arm ps o budget fs₀ s₀ fs s left t l t′ u n e out) where
+  module _ {fs : List Cell} {s : State} {left : ℕ} {t : Tally} {l : Line} {t′ : Tally} {r : Registers} {st : List Cell} {d : Cell} {x : code.Turn} (a : Arm ps o budget fs₀ s₀ fs s left t l t′ r st d x) where
     -- ---- the next turn
 
     plain-small : (lineOf l .price .cycles < 8589934592) × (lineOf l .price .words < 4294967296)
@@ -84,16 +91,67 @@ module _ {ps : List ℕ} {o budget : ℕ} {fs₀ : List Cell} {s₀ : State} whe
     unfolding withExtra
     jumped-small = omega (arith, a .small .0, a .small .1 .0, a .small .1 .1)
 
-    pub again : (fs′ : List Cell) (v : State) → (act ps o budget fs₀ s₀) (whole (sizesOf ps) fs s) ≡ done (goes (lineOf l .price) (whole (sizesOf ps) fs′ v)) → WellFormed v → Fits (sizesOf ps) fs′ → length fs′ ≡ length fs → Turn ps o budget fs₀ s₀ fs′ v (left - 1) t′
+    again : (fs′ : List Cell) (v : State) → (act ps o budget fs₀ s₀) (whole (sizesOf ps) fs s) ≡ done (goes (lineOf l .price) (whole (sizesOf ps) fs′ v)) → WellFormed v → Fits (sizesOf ps) fs′ → length fs′ ≡ length fs → Turn ps o budget fs₀ s₀ fs′ v (left - 1) t′
     again fs′ v = turns.again ps o budget fs₀ s₀ fs s left t (a .turn) (a .some) (lineOf l .price) plain-small t′ (a .grown) fs′ v
 
     -- the same where a conditional branch jumps, with the extra in the tally t″
-    pub again-jumped : (t″ : Tally) → t″ ≡ jumpedOf t′ (l .extra) → (fs′ : List Cell) (v : State) → (act ps o budget fs₀ s₀) (whole (sizesOf ps) fs s) ≡ done (goes (withExtra (l .extra) (lineOf l .price)) (whole (sizesOf ps) fs′ v)) → WellFormed v → Fits (sizesOf ps) fs′ → length fs′ ≡ length fs → Turn ps o budget fs₀ s₀ fs′ v (left - 1) t″
+    again-jumped : (t″ : Tally) → t″ ≡ jumpedOf t′ (l .extra) → (fs′ : List Cell) (v : State) → (act ps o budget fs₀ s₀) (whole (sizesOf ps) fs s) ≡ done (goes (withExtra (l .extra) (lineOf l .price)) (whole (sizesOf ps) fs′ v)) → WellFormed v → Fits (sizesOf ps) fs′ → length fs′ ≡ length fs → Turn ps o budget fs₀ s₀ fs′ v (left - 1) t″
     again-jumped t″ g fs′ v =
         turns.again ps o budget fs₀ s₀ fs s left t (a .turn) (a .some) (withExtra (l .extra) (lineOf l .price)) jumped-small t″
         (g ∙ ap (λ x. jumpedOf x (l .extra)) (a .grown) ∙ loop.jumped-more t (lineOf l .price) (l .extra) (64 - s .free)) fs′ v
 
+    made : (y : code.Turn) → x ≡ y → (act ps o budget fs₀ s₀) (whole (sizesOf ps) fs s) ≡ turned (sizesOf ps) l r fs st d y
+    made y e = a .leads ∙ ap (turned (sizesOf ps) l r fs st d) e
+
+    room : (y : code.Turn) → x ≡ y → Within r fs y
+    room y e = subst (Within r fs) e (a .within)
+
+    pub goes-on : (v : Registers) → x ≡ Goes v → Turn ps o budget fs₀ s₀ fs (withStack v st) (left - 1) t′
+    unfolding turned
+    goes-on v e = again fs (withStack v st) (made (Goes v) e) (record { free = room (Goes v) e; places = a .formed .places }) (a .turn .fits) refl
+
+    pub jumps-on : (v : Registers) → x ≡ Jumps v → (t″ : Tally) → t″ ≡ jumpedOf t′ (l .extra) → Turn ps o budget fs₀ s₀ fs (withStack v st) (left - 1) t″
+    unfolding turned
+    jumps-on v e t″ g = again-jumped t″ g fs (withStack v st) (made (Jumps v) e) (record { free = room (Jumps v) e; places = a .formed .places }) (a .turn .fits) refl
+
+    pub store-place : (i : ℕ) → x ≡ Stores i → i < 64
+    store-place i e = room (Stores i) e
+
+    pub stores-on : (i : ℕ) → x ≡ Stores i → (v : Registers) (c : Cell) → v ≡ advanced (stored r) → c ≡ r .accu → Turn ps o budget fs₀ s₀ fs (withStack v (set st i c)) (left - 1) t′
+    unfolding turned
+    stores-on i e v c g h =
+        subst (λ c. Turn ps o budget fs₀ s₀ fs (withStack v (set st i c)) (left - 1) t′) (sym h)
+        (subst (λ v. Turn ps o budget fs₀ s₀ fs (withStack v (set st i (r .accu))) (left - 1) t′) (sym g)
+        (again fs (withStack (advanced (stored r)) (set st i (r .accu))) (made (Stores i) e) (record { free = a .formed .free; places = length-set st _ _ ∙ a .formed .places }) (a .turn .fits) refl))
+
+    pub set-place : (j : ℕ) (c : Cell) → x ≡ Sets j c → (j < length fs) × (r .free + 1 ≤ 64)
+    set-place j c e = room (Sets j c) e
+
+    pub sets-on : (j : ℕ) (c : Cell) → x ≡ Sets j c → (v : Registers) (c′ : Cell) → v ≡ advanced (stored (popped 1 r)) → c′ ≡ c → Turn ps o budget fs₀ s₀ (set fs j c′) (withStack v st) (left - 1) t′
+    unfolding turned
+    sets-on j c e v c′ g h =
+        subst (λ c. Turn ps o budget fs₀ s₀ (set fs j c) (withStack v st) (left - 1) t′) (sym h)
+        (subst (λ v. Turn ps o budget fs₀ s₀ (set fs j c) (withStack v st) (left - 1) t′) (sym g)
+        (again (set fs j c) (withStack (advanced (stored (popped 1 r))) st) (made (Sets j c) e) (record { free = set-place j c e .1; places = a .formed .places })
+        (record { few = a .turn .fits .few; room = simp length-set (a .turn .fits .room) }) (length-set fs j c)))
+
+    pub get-place : (j : ℕ) → x ≡ Gets j → j < length fs
+    get-place j e = room (Gets j) e
+
+    pub gets-on : (j : ℕ) → x ≡ Gets j → (v : Registers) → v ≡ advanced (loaded (getD fs j d) r) → Turn ps o budget fs₀ s₀ fs (withStack v st) (left - 1) t′
+    unfolding turned
+    gets-on j e v g =
+        subst (λ v. Turn ps o budget fs₀ s₀ fs (withStack v st) (left - 1) t′) (sym g)
+        (again fs (withStack (advanced (loaded (getD fs j d) r)) st) (made (Gets j) e) (record { free = a .formed .free; places = a .formed .places }) (a .turn .fits) refl)
+
     -- ---- the arms that return
+
+    used-is : budget - (left - 1) ≡ budget - left + 1
+    used-is = omega (arith, a .turn .inv .within, a .some)
+
+    pub stops-short : x ≡ Stuck → (q : Found) → q ≡ refusedAs (refusals.Stuck (r .at)) (budget - (left - 1)) → Kept ps o budget fs₀ s₀ q
+    unfolding turned
+    stops-short e q g = stuck-out (a .turn) (a .some) (made Stuck e) q (g ∙ ap (λ y. refusedAs (refusals.Stuck y) (budget - (left - 1))) (a .at))
 
     costs : (t′ .cycles ≤ 8589934592 * (budget - left + 1)) × (t′ .words ≤ 4294967296 * (budget - left + 1))
     costs =
@@ -114,49 +172,101 @@ module _ {ps : List ℕ} {o budget : ℕ} {fs₀ : List Cell} {s₀ : State} whe
     more-is : t′ ≡ moreOf t (lineOf l .price) (height (whole (sizesOf ps) fs s))
     more-is = turns.more-is ps o budget fs₀ s₀ fs s left t (a .turn) (a .some) (lineOf l .price) plain-small t′ (a .grown)
 
-    pub halts-out : out ≡ Halts → (r : Found) → r ≡ finishedOf t′ (budget - left + 1) → Kept ps o budget fs₀ s₀ r
-    halts-out h r g =
-        shown ps o budget fs₀ s₀ r (finishedOf (moreOf t (lineOf l .price) (height (whole (sizesOf ps) fs s))) (budget - left + 1)) (g ∙ ap (λ x. finishedOf x (budget - left + 1)) more-is)
-        (loop.halts (act ps o budget fs₀ s₀) o budget (whole (sizesOf ps) fs₀ s₀) (whole (sizesOf ps) fs s) left t (a .turn .inv) (a .some) (lineOf l .price) (arms.halts (a .arm) h))
-        (finished-bounded o budget (budget - left + 1) t′ r g (omega (arith, a .turn .inv .within, a .some)) (costs .0) (costs .1))
+    pub halts-out : x ≡ Halts → (q : Found) → q ≡ finishedOf t′ (budget - (left - 1)) → Kept ps o budget fs₀ s₀ q
+    unfolding turned
+    halts-out h q k =
+        let g : q ≡ finishedOf t′ (budget - left + 1) = k ∙ ap (finishedOf t′) used-is in
+        shown ps o budget fs₀ s₀ q (finishedOf (moreOf t (lineOf l .price) (height (whole (sizesOf ps) fs s))) (budget - left + 1)) (g ∙ ap (λ y. finishedOf y (budget - left + 1)) more-is)
+        (loop.halts (act ps o budget fs₀ s₀) o budget (whole (sizesOf ps) fs₀ s₀) (whole (sizesOf ps) fs s) left t (a .turn .inv) (a .some) (lineOf l .price) (made Halts h))
+        (finished-bounded o budget (budget - left + 1) t′ q g (omega (arith, a .turn .inv .within, a .some)) (costs .0) (costs .1))
 
-    -- the two ways of a branch: u is the one not taken, w the one taken
-    module _ (h : out ≡ Opens) where
-      pub over-out : o ≡ 0 → (r : Found) → r ≡ refusedAs (refusals.Openings (s .at)) (budget - left + 1) → Kept ps o budget fs₀ s₀ r
-      unfolding whole reblock
-      over-out z r g =
-          shown ps o budget fs₀ s₀ r _ g
-          (loop.over-shown (act ps o budget fs₀ s₀) o budget (whole (sizesOf ps) fs₀ s₀) (whole (sizesOf ps) fs s) left t (a .turn .inv) (a .some) _ _ _ _ (arms.opens-both (a .arm) (placed n u) (at-place n u) h) z)
-          (refused-bounded o budget (budget - left + 1) _ r g (omega (arith, a .turn .inv .within, a .some)))
+    -- ---- the two ways of a branch
 
-      module _ (z : 0 < o) (f : Found) (ef : Explores (programOf ps) (sizesOf ps) fs u (o - 1) (left - 1) f) (mf : Bounded (o - 1) (left - 1) f) where
-        lower : o ≡ suc (o - 1)
-        lower = omega arith
+    module _ (h : x ≡ Opens) (w : Ways) (ways : WaysExplored (programOf ps) (sizesOf ps) l fs (withStack r st) o (left - 1) w) where
+      abbrev f : Found
+      f = w .untaken
 
-        pub first-out : (x : Refusal) → f .verdict ≡ Refused x → (r : Found) → r ≡ refusedAs x (budget - left + 1 + f .used) → Kept ps o budget fs₀ s₀ r
-        first-out x refuses r g =
-            shown ps o budget fs₀ s₀ r _ g
-            (loop.first-fails (act ps o budget fs₀ s₀) o budget (whole (sizesOf ps) fs₀ s₀) (whole (sizesOf ps) fs s) left t (a .turn .inv) (a .some) _ _ _ _ (arms.opens-both (a .arm) (placed n u) (at-place n u) h) (o - 1) lower f (ef .shows) (ef .counts) x refuses)
-            (refused-bounded o budget (budget - left + 1 + f .used) _ r g (omega (arith, a .turn .inv .within, a .some, mf .used)))
+      abbrev g : Found
+      g = w .taken
 
-        module _ (done-first : f .verdict ≡ Accepted) (w : State) (jumped : view w ≡ jump n (view u)) (g : Found) (eg : Explores (programOf ps) (sizesOf ps) fs w (o - 1) (left - 1 - f .used) g) (mg : Bounded (o - 1) (left - 1 - f .used) g) where
-          pub second-out : (x : Refusal) → g .verdict ≡ Refused x → (r : Found) → r ≡ refusedAs x (budget - left + 1 + f .used + g .used) → Kept ps o budget fs₀ s₀ r
-          second-out x refuses r k =
-              shown ps o budget fs₀ s₀ r _ k
-              (loop.second-fails (act ps o budget fs₀ s₀) o budget (whole (sizesOf ps) fs₀ s₀) (whole (sizesOf ps) fs s) left t (a .turn .inv) (a .some) _ _ _ _ (arms.opens-both (a .arm) w jumped h) (o - 1) lower f (ef .shows) (ef .counts) done-first g (eg .shows) (eg .counts) x refuses)
-              (refused-bounded o budget (budget - left + 1 + f .used + g .used) _ r k (omega (arith, a .turn .inv .within, a .some, mf .used, mg .used)))
+      abbrev u : State
+      u = withStack (advanced r) st
 
-          pub both-out : g .verdict ≡ Accepted → (r : Found) → r ≡ joinedOf t′ (budget - left + 1) f (l .extra) g → Kept ps o budget fs₀ s₀ r
-          both-out done-second r k =
-              shown ps o budget fs₀ s₀ r (joinedOf (moreOf t (lineOf l .price) (height (whole (sizesOf ps) fs s))) (budget - left + 1) f (l .extra) g) (k ∙ ap (λ x. joinedOf x (budget - left + 1) f (l .extra) g) more-is)
-              (loop.both-done (act ps o budget fs₀ s₀) o budget (whole (sizesOf ps) fs₀ s₀) (whole (sizesOf ps) fs s) left t (a .turn .inv) (a .some) _ _ _ _ (arms.opens-both (a .arm) w jumped h) (o - 1) lower f (ef .shows) (ef .counts) done-first g (eg .shows) (eg .counts) (l .extra) refl done-second)
-              (joined-bounded o budget (budget - left + 1) (left - 1) t′ (l .extra) f g r k z (omega (arith, a .turn .inv .within, a .some)) jumped-costs (costs .1) mf mg)
+      abbrev v : State
+      v = withStack (placed (index (l .operand)) r) st
 
-          pub sums : o ≤ 32 → budget ≤ 1000000 → Summable t′ (budget - left + 1) f g
-          sums ho hb = record {
+      opened : (act ps o budget fs₀ s₀) (whole (sizesOf ps) fs s) ≡ done (opens (lineOf l .price) (whole (sizesOf ps) fs u) (withExtra (l .extra) (lineOf l .price)) (whole (sizesOf ps) fs v))
+      unfolding turned
+      opened = made Opens h
+
+      pub sums : o ≤ 32 → budget ≤ 1000000 → Summable t′ (budget - (left - 1)) f g
+      sums ho hb =
+          let mf = ways .first-bounded in
+          let mg = ways .second-bounded in
+          record {
             steps = omega (arith, a .turn .inv .within, a .some, mf .used, mg .used);
             tally = (omega (arith, costs .0, a .turn .inv .within, a .some), omega (arith, costs .1, a .turn .inv .within, a .some));
             first = (omega (arith, mf .cycles, mf .used, a .turn .inv .within), omega (arith, mf .words, mf .used, a .turn .inv .within));
             second = (omega (arith, mg .cycles, mg .used, a .turn .inv .within), omega (arith, mg .words, mg .used, a .turn .inv .within));
-            paths = (path-fits o (f .path) ho z (mf .path), path-fits o (g .path) ho z (mg .path));
+            paths = (path-fits o (f .path) ho (mf .path), path-fits o (g .path) ho (mg .path));
           }
+
+      over-out : o ≡ 0 → (q : Found) → q ≡ bothOf t′ (budget - left + 1) f (l .extra) g → Kept ps o budget fs₀ s₀ q
+      unfolding whole reblock refusedAs
+      over-out z q k =
+          let no = ways .over z in
+          let verdict : f .verdict ≡ Refused (refusals.Openings (r .at)) = ap (λ (y : Found). y .verdict) no in
+          let none : f .used ≡ 0 = ap (λ (y : Found). y .used) no in
+          let count : budget - left + 1 + f .used ≡ budget - left + 1 = omega arith in
+          let is : q ≡ refusedAs (refusals.Openings (s .at)) (budget - left + 1) =
+          k ∙ first-refused t′ (budget - left + 1) f (l .extra) g _ verdict ∙ ap (refusedAs (refusals.Openings (r .at))) count ∙ ap (λ y. refusedAs (refusals.Openings y) (budget - left + 1)) (a .at) in
+          shown ps o budget fs₀ s₀ q _ is
+          (loop.over-shown (act ps o budget fs₀ s₀) o budget (whole (sizesOf ps) fs₀ s₀) (whole (sizesOf ps) fs s) left t (a .turn .inv) (a .some) _ _ _ _ opened z)
+          (refused-bounded o budget (budget - left + 1) _ q is (omega (arith, a .turn .inv .within, a .some)))
+
+      module _ (z : 0 < o) where
+        lower : o ≡ suc (o - 1)
+        lower = omega arith
+
+        ef : Explores (programOf ps) (sizesOf ps) fs u (o - 1) (left - 1) f
+        ef = ways .first z
+
+        first-out : (y : Refusal) → f .verdict ≡ Refused y → (q : Found) → q ≡ refusedAs y (budget - left + 1 + f .used) → Kept ps o budget fs₀ s₀ q
+        first-out y refuses q k =
+            shown ps o budget fs₀ s₀ q _ k
+            (loop.first-fails (act ps o budget fs₀ s₀) o budget (whole (sizesOf ps) fs₀ s₀) (whole (sizesOf ps) fs s) left t (a .turn .inv) (a .some) _ _ _ _ opened (o - 1) lower f (ef .shows) (ef .counts) y refuses)
+            (refused-bounded o budget (budget - left + 1 + f .used) _ q k (omega (arith, a .turn .inv .within, a .some, ways .first-bounded .used)))
+
+        module _ (done-first : f .verdict ≡ Accepted) where
+          eg : Explores (programOf ps) (sizesOf ps) fs v (o - 1) (left - 1 - f .used) g
+          eg = ways .second z done-first
+
+          second-out : (y : Refusal) → g .verdict ≡ Refused y → (q : Found) → q ≡ refusedAs y (budget - left + 1 + f .used + g .used) → Kept ps o budget fs₀ s₀ q
+          second-out y refuses q k =
+              shown ps o budget fs₀ s₀ q _ k
+              (loop.second-fails (act ps o budget fs₀ s₀) o budget (whole (sizesOf ps) fs₀ s₀) (whole (sizesOf ps) fs s) left t (a .turn .inv) (a .some) _ _ _ _ opened (o - 1) lower f (ef .shows) (ef .counts) done-first g (eg .shows) (eg .counts) y refuses)
+              (refused-bounded o budget (budget - left + 1 + f .used + g .used) _ q k (omega (arith, a .turn .inv .within, a .some, ways .first-bounded .used, ways .second-bounded .used)))
+
+          joined-out : g .verdict ≡ Accepted → (q : Found) → q ≡ joinedOf t′ (budget - left + 1) f (l .extra) g → Kept ps o budget fs₀ s₀ q
+          joined-out done-second q k =
+              shown ps o budget fs₀ s₀ q (joinedOf (moreOf t (lineOf l .price) (height (whole (sizesOf ps) fs s))) (budget - left + 1) f (l .extra) g) (k ∙ ap (λ y. joinedOf y (budget - left + 1) f (l .extra) g) more-is)
+              (loop.both-done (act ps o budget fs₀ s₀) o budget (whole (sizesOf ps) fs₀ s₀) (whole (sizesOf ps) fs s) left t (a .turn .inv) (a .some) _ _ _ _ opened (o - 1) lower f (ef .shows) (ef .counts) done-first g (eg .shows) (eg .counts) (l .extra) refl done-second)
+              (joined-bounded o budget (budget - left + 1) (left - 1) t′ (l .extra) f g q k z (omega (arith, a .turn .inv .within, a .some)) jumped-costs (costs .1) (ways .first-bounded) (ways .second-bounded))
+
+          second-way : (y : Verdict) → g .verdict ≡ y → (q : Found) → q ≡ bothOf t′ (budget - left + 1) f (l .extra) g → Kept ps o budget fs₀ s₀ q
+          second-way Accepted e q k = joined-out e q (k ∙ both-accepted t′ (budget - left + 1) f (l .extra) g done-first e)
+          second-way (Refused y) e q k = second-out y e q (k ∙ second-refused t′ (budget - left + 1) f (l .extra) g done-first y e)
+
+        first-way : (y : Verdict) → f .verdict ≡ y → (q : Found) → q ≡ bothOf t′ (budget - left + 1) f (l .extra) g → Kept ps o budget fs₀ s₀ q
+        first-way Accepted e q k = second-way e (g .verdict) refl q k
+        first-way (Refused y) e q k = first-out y e q (k ∙ first-refused t′ (budget - left + 1) f (l .extra) g y e)
+
+      pub both-out : (q : Found) → q ≡ bothOf t′ (budget - (left - 1)) f (l .extra) g → Kept ps o budget fs₀ s₀ q
+      both-out q k = go (ltb 0 o) refl
+        where
+          is : q ≡ bothOf t′ (budget - left + 1) f (l .extra) g
+          is = k ∙ ap (λ y. bothOf t′ y f (l .extra) g) used-is
+
+          go : (b : Bool) → ltb 0 o ≡ b → Kept ps o budget fs₀ s₀ q
+          go true e = first-way (ltb-true 0 o e) (f .verdict) refl q is
+          go false e = over-out (let z = ltb-false 0 o e in omega arith) q is

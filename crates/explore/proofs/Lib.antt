@@ -1,3 +1,5 @@
+pub mod MadeLaws
+pub mod ReachLaws
 pub mod UsedLaws
 pub mod LoopLaws
 pub mod TurnLaws

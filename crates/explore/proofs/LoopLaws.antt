@@ -17,16 +17,13 @@ use Rattle.refusals.specs.declared.Refusal.the-variants.{Stuck, Openings, Spent
 use Rattle.refusals.specs.declared.Verdict.the-variants.{Accepted, Refused}
 use Rattle.findings.specs.declared.Found.{Found}
 use Rattle.findings.specs.declared.Tally.{Tally}
-use Rattle.findings.specs.Found.{encode, acceptedAs, Shows, moreOf, jumpedOf, decidedOf, joinedOf, finishedOf, refusedAs}
+use Rattle.findings.specs.Found.{encode, acceptedAs, Shows, zeroTally, moreOf, jumpedOf, decidedOf, joinedOf, finishedOf, refusedAs}
 use Rattle.explore.proofs.UsedLaws.{used, used-spent, used-stuck, used-stops, used-goes, used-over, used-first, used-both}
 
 -- n steps of a tally before what follows
 unfoldable pub shift : Tally → ℕ → bounds.Verdict → bounds.Verdict
 shift t n (refused x) = refused x
 shift t n (accepted q) = accepted (record { cycles = t .cycles + q .cycles; words = t .words + q .words; depth = max (t .depth) (q .depth); steps = n + q .steps; path = q .path })
-
-abbrev pub zeroTally : Tally
-zeroTally = record { cycles = 0; words = 0; depth = 0 }
 
 reports : (q r : Report) → q .cycles ≡ r .cycles → q .words ≡ r .words → q .depth ≡ r .depth → q .steps ≡ r .steps → q .path ≡ r .path → accepted q ≡ accepted r
 reports q r a b c d e = λ i. accepted (record { cycles = a i; words = b i; depth = c i; steps = d i; path = e i })

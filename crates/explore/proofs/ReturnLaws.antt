@@ -12,15 +12,16 @@ use lib.Pow.{pow-mono, pow-lt}
 use Rattle.refusals.specs.declared.Refusal.{Refusal}
 use Rattle.refusals.specs.declared.Verdict.the-variants.{Accepted, Refused}
 use Rattle.cells.specs.declared.Cell.{Cell}
-use Rattle.machine.specs.Machine.{Code}
+use Rattle.cells.specs.Cells.{unknown}
+use Rattle.machine.specs.Machine.{Code, step, reblock}
 use Rattle.states.specs.declared.State.{State}
-use Rattle.states.specs.View.{whole}
+use Rattle.states.specs.View.{view, blocksOf, whole}
 use Rattle.bounds.specs.Tree.{Decision, N, T, Report, accepted, refused}
 use Rattle.bounds.specs.Tree as bounds
 use Rattle.bounds.proofs.PromiseLaws.{interruptible, exact}
 use Rattle.findings.specs.declared.Found.{Found}
 use Rattle.findings.specs.declared.Tally.{Tally}
-use Rattle.findings.specs.Found.{encode, acceptedAs, Shows, decidedOf, joinedOf, finishedOf, refusedAs}
+use Rattle.findings.specs.Found.{encode, acceptedAs, Shows, walked, decidedOf, joinedOf, finishedOf, refusedAs}
 use Rattle.findings.proofs.PartLaws.{encode-positive}
 use Rattle.explore.specs.Contract.{Explores, SafeUnder, ExactFor, Bounded}
 
@@ -29,8 +30,8 @@ use Rattle.explore.specs.Contract.{Explores, SafeUnder, ExactFor, Bounde
 one-path : (o : ℕ) → 1 < 2 ^ (o + 1)
 one-path o = pow-lt {i = 0} {j = o + 1} (omega arith)
 
-pub path-fits : (o p : ℕ) → o ≤ 32 → 0 < o → p < 2 ^ (o - 1 + 1) → p ≤ 4294967296
-path-fits o p h z k = le-of-lt (lt-of-lt-of-le k (pow-mono {i = o - 1 + 1} {j = 32} (omega arith)))
+pub path-fits : (o p : ℕ) → o ≤ 32 → p < 2 ^ (o - 1 + 1) → p ≤ 4294967296
+path-fits o p h k = le-of-lt (lt-of-lt-of-le k (pow-mono {i = o - 1 + 1} {j = 32} (omega arith)))
 
 pub refused-bounded : (o budget n : ℕ) (x : Refusal) (r : Found) → r ≡ refusedAs x n → n ≤ budget → Bounded o budget r
 unfolding refusedAs
@@ -97,6 +98,14 @@ accepted-verdict (refused x) r q h e =
     absurd (omega arith)
 
 -- ---- the contract
+
+-- what is explored is the state that the code's one stands for
+pub explores-at : (c : Code) (ns : List ℕ) (fs : List Cell) (s s′ : State) (o budget : ℕ) (r : Found) → view s ≡ view s′ → Explores c ns fs s o budget r → Explores c ns fs s′ o budget r
+unfolding whole
+explores-at c ns fs s s′ o budget r e h = record {
+  shows = subst (λ m. Shows r (bounds.explore (step c unknown) o budget (reblock (blocksOf ns fs) m))) e (h .shows);
+  counts = h .counts ∙ ap (λ m. walked budget (bounds.steps (bounds.tree (step c unknown) budget o (reblock (blocksOf ns fs) m)))) e;
+}
 
 module _ (c : Code) (ns : List ℕ) (fs : List Cell) (start : State) (o budget : ℕ) (r : Found) (h : Explores c ns fs start o budget r) where
   pub safe-under : SafeUnder c o budget (whole ns fs start) r

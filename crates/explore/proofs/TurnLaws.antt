@@ -1,60 +1,69 @@
--- A turn of the explorer's loop over the code's own values: the push and the stored entry in place, the loop's invariant, and the next turn.
+-- A turn of the explorer's loop over the code's own values: the push in place, the loop's invariant, and the next turn.
 -- Assumes nothing.
 use mathlib.Core.Path.{_≡_, refl, sym, subst, _∙_, ap}
-use mathlib.Core.Bool.{true, false}
+use mathlib.Core.Bool.{Bool, true, false, cond}
 use mathlib.Core.List.{List}
 use Prim.Native.Nat.{ℕ, _+_, _-_, _*_, _≤_, _<_}
 use native.Mathlib.Omega.{arith}
-use lib.IntN.{pos}
-use lib.ListN.{length}
+use lib.Dec.{eqb}
+use borrow.Author.Tests.{eqb-true}
+use native.Mathlib.Numerals.{add-one}
+use lib.ListN.{length, set}
 use Rattle.cells.specs.Try.{Try, stuck, done, _>>=_}
 use Rattle.cells.specs.declared.Cell.{Cell}
-use Rattle.cells.specs.Cells.{unknown, number}
-use Rattle.machine.specs.Machine.{height, Price, Next, goes, load, store, jump, advance, reblock, fetch, prepare, execute, step}
+use Rattle.cells.specs.Cells.{unknown}
+use Rattle.machine.specs.Machine.{height, Price, Instruction, Next, goes, jump, advance, reblock, fetch, prepare, execute, step}
 use Rattle.machine.specs.Machine as machine
 use Rattle.outcomes.proofs.TurnLaws as turn
 use Rattle.states.specs.declared.State.{State}
+use Rattle.states.specs.declared.registers.Registers.{Registers}
 use Rattle.states.specs.declared.code.Line.{Line}
+use Rattle.states.specs.Registers.{registersOf, withStack}
+use Rattle.states.specs.Registers as registers
 use Rattle.states.specs.View.{view, WellFormed, Fits, whole}
-use Rattle.states.specs.Program.{programOf, sizesOf, lineOf}
-use Rattle.states.proofs.StateLaws.{height-is, pushed, push-is, push-formed, stored, store-is, advance-whole}
+use Rattle.states.specs.Program.{programOf, sizesOf}
+use Rattle.states.proofs.StateLaws.{height-is, pushed, push-is, push-formed, advance-whole}
 use Rattle.findings.specs.declared.Tally.{Tally}
-use Rattle.findings.specs.Found.{moreOf}
+use Rattle.findings.specs.Found.{zeroTally, moreOf}
+use Rattle.explore.specs.Turn.{reached}
 use Rattle.explore.proofs.LoopLaws as loop
 
--- ---- the push, after the address has risen
+-- ---- the push, and the next address
 
+-- the state at the next address
+abbrev pub ahead : State → State
+ahead s = record { at = s .at + 1; accu = s .accu; free = s .free; stack = s .stack }
+
+pub rises : (s : State) → view (ahead s) ≡ advance (view s)
+unfolding advance jump
+rises s = simp add-one
+
+-- u is s after the push, where the line pushes first
 pub record Prepared (ns : List ℕ) (fs : List Cell) (l : Line) (s u : State) : Type 0 where
-  pub ready : prepare (l .pushes) (advance (whole ns fs s)) ≡ done (whole ns fs u)
+  pub ready : prepare (l .pushes) (advance (whole ns fs s)) ≡ done (whole ns fs (ahead u))
   pub formed : WellFormed u
+  pub same-at : u .at ≡ s .at
 
-module _ (ns : List ℕ) (fs : List Cell) (l : Line) (s u v : State) (rises : view v ≡ advance (view s)) (formed : WellFormed v) where
-  pub pushes : l .pushes ≡ true → 0 < v .free → u ≡ pushed v → Prepared ns fs l s u
-  pushes p some same =
-      rw same (record {
-        ready = ap (λ b. prepare b (advance (whole ns fs s))) p ∙ ap (prepare true) (sym (advance-whole ns fs s v rises)) ∙ turn.pushed ns fs v (pushed v) (push-is v formed some);
-        formed = push-formed v formed some;
+module _ (ns : List ℕ) (fs : List Cell) (l : Line) (s : State) (formed : WellFormed s) where
+  risen : (b : Bool) (u : State) → prepare b (whole ns fs s) ≡ done (whole ns fs u) → prepare b (advance (whole ns fs s)) ≡ done (whole ns fs (ahead u))
+  risen b u e = turn.prepare-after b (whole ns fs s) (whole ns fs u) e ∙ ap done (sym (advance-whole ns fs u (ahead u) (rises u)))
+
+  pub pushes : l .pushes ≡ true → 0 < s .free → (r : Registers) (st : List Cell) (c : Cell) → r ≡ registers.pushed (registersOf s) → c ≡ r .accu → st ≡ set (s .stack) (r .free) c → Prepared ns fs l s (withStack r st)
+  pushes p some r st c is written at =
+      let same : withStack r st ≡ pushed s = ap (withStack r) (at ∙ ap (set (s .stack) (r .free)) (written ∙ ap (λ x. x .accu) is) ∙ ap (λ x. set (s .stack) (x .free) (s .accu)) is) ∙ ap (λ x. withStack x (pushed s .stack)) is in
+      subst (Prepared ns fs l s) (sym same) (record {
+        ready = ap (λ b. prepare b (advance (whole ns fs s))) p ∙ risen true (pushed s) (turn.pushed ns fs s (pushed s) (push-is s formed some));
+        formed = push-formed s formed some;
+        same-at = refl;
       })
 
-  pub keeps : l .pushes ≡ false → u ≡ v → Prepared ns fs l s u
-  keeps p same =
-      rw same (record {
-        ready = ap (λ b. prepare b (advance (whole ns fs s))) p ∙ ap (prepare false) (sym (advance-whole ns fs s v rises)) ∙ turn.not-pushed ns fs v;
+  pub keeps : l .pushes ≡ false → (u : State) → u ≡ s → Prepared ns fs l s u
+  keeps p u same =
+      subst (Prepared ns fs l s) (sym same) (record {
+        ready = ap (λ b. prepare b (advance (whole ns fs s))) p ∙ risen false s (turn.not-pushed ns fs s);
         formed = formed;
+        same-at = refl;
       })
-
-  -- the stack is as high as before
-  pub same-free : WellFormed s → v .free ≡ s .free
-  unfolding advance jump
-  same-free h =
-      let e : length (view v .stack) ≡ length (view s .stack) = ap (λ (m : machine.State). length (m .stack)) rises in
-      omega (arith, height-is v formed, height-is s h, formed .free, h .free)
-
--- the cell of an entry is written, and 0 loaded
-pub stored-is : (n : ℕ) (u w : State) → WellFormed u → u .free + n < 64 → (z : Cell) → z ≡ number (pos 0) → view w ≡ load z (view (record { at = u .at; accu = u .accu; free = u .free; stack = stored n u .stack })) →
-    done (view w) ≡ store n (view u)
-unfolding load
-stored-is n u w formed h z e g = ap done (g ∙ ap (λ c. load c (view (record { at = u .at; accu = u .accu; free = u .free; stack = stored n u .stack }))) e) ∙ store-is u formed n h
 
 module _ (ps : List ℕ) (o budget : ℕ) (fs₀ : List Cell) (s₀ : State) where
   abbrev pub act : machine.State → Try Next
@@ -69,7 +78,7 @@ module _ (ps : List ℕ) (o budget : ℕ) (fs₀ : List Cell) (s₀ : State) whe
     pub cycles : t .cycles ≤ 8589934592 * (budget - left)
     pub words : t .words ≤ 4294967296 * (budget - left)
 
-  pub starts : WellFormed s₀ → Fits (sizesOf ps) fs₀ → Turn fs₀ s₀ budget loop.zeroTally
+  pub starts : WellFormed s₀ → Fits (sizesOf ps) fs₀ → Turn fs₀ s₀ budget zeroTally
   starts formed fits =
       record { inv = loop.begins act o budget (whole (sizesOf ps) fs₀ s₀); formed = formed; fits = fits; size = refl; cycles = omega arith; words = omega arith }
 
@@ -78,16 +87,33 @@ module _ (ps : List ℕ) (o budget : ℕ) (fs₀ : List Cell) (s₀ : State) whe
   whole-height fs s formed = height-is s formed
 
   -- a full stack, where the instruction pushes first
-  pub overflows : (fs : List Cell) (s : State) (l : Line) → done (lineOf l) ≡ fetch (programOf ps) (s .at) → l .pushes ≡ true → WellFormed s → s .free ≡ 0 →
+  overflows : (fs : List Cell) (s : State) (i : Instruction) → fetch (programOf ps) (s .at) ≡ done i → i .pushes ≡ true → WellFormed s → s .free ≡ 0 →
       act (whole (sizesOf ps) fs s) ≡ stuck
   unfolding step execute _>>=_ whole reblock
-  overflows fs s l found pushes formed none =
+  overflows fs s i found pushes formed none =
       let h : prepare true (whole (sizesOf ps) fs s) ≡ stuck = turn.full (sizesOf ps) fs s (omega (arith, height-is s formed)) in
-      rw (sym found, pushes, h) refl
+      rw (found, pushes, h) refl
 
-  pub outside : (fs : List Cell) (s : State) → stuck ≡ fetch (programOf ps) (s .at) → act (whole (sizesOf ps) fs s) ≡ stuck
+  outside : (fs : List Cell) (s : State) → stuck ≡ fetch (programOf ps) (s .at) → act (whole (sizesOf ps) fs s) ≡ stuck
   unfolding step _>>=_ whole reblock
   outside fs s e = rw (sym e) refl
+
+  -- no line that can be made
+  pub unreached : (fs : List Cell) (s : State) → WellFormed s → stuck ≡ reached (programOf ps) (registersOf s) → act (whole (sizesOf ps) fs s) ≡ stuck
+  unfolding reached _>>=_
+  unreached fs s formed e = go (fetch (programOf ps) (s .at)) refl
+    where
+      pushing : (i : Instruction) (b z : Bool) → fetch (programOf ps) (s .at) ≡ done i → i .pushes ≡ b → eqb (s .free) 0 ≡ z → stuck ≡ cond b (cond z stuck (done i)) (done i) → act (whole (sizesOf ps) fs s) ≡ stuck
+      pushing i true true f p q h = overflows fs s i f p formed (eqb-true (s .free) 0 q)
+      pushing i true false f p q h = let y : _≡_ {A = ℕ} 0 1 = cc in absurd (omega arith)
+      pushing i false z f p q h = let y : _≡_ {A = ℕ} 0 1 = cc in absurd (omega arith)
+
+      from : Instruction → Try Instruction
+      from i = cond (i .pushes) (cond (eqb (s .free) 0) stuck (done i)) (done i)
+
+      go : (m : Try Instruction) → fetch (programOf ps) (s .at) ≡ m → act (whole (sizesOf ps) fs s) ≡ stuck
+      go stuck f = outside fs s (sym f)
+      go (done i) f = pushing i (i .pushes) (eqb (s .free) 0) f refl refl (e ∙ ap (λ m. m >>= from) f)
 
   -- ---- the next turn
 

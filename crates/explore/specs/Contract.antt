@@ -27,8 +27,8 @@ pub record Explores (c : Code) (ns : List ℕ) (fs : List Cell) (start : states.
   pub shows : Shows r (explore (step c unknown) openings budget (whole ns fs start))
   pub counts : r .used ≡ walked budget (steps (tree (step c unknown) budget openings (whole ns fs start)))
 
--- Demand 3, of an accepted answer for the start t: "any memory that has the file's cells and no others, agrees with each known one and holds
--- some number in each unknown one; it is fed any list of input answers and interrupted after any number of steps"
+-- Demand 3, of an accepted answer for the start t: any memory that has the file's cells and no others, agrees with each known one and holds
+-- some number in each unknown one; it is fed any list of input answers and interrupted after any number of steps
 abbrev pub SafeUnder : Code → ℕ → ℕ → State → Found → Type 0
 SafeUnder c openings budget t r =
     (q : Report) → r ≡ acceptedAs q → (s : State) → Cellwise Allowed s t → (answers : List ℤ) (n : ℕ) → Safe c (explore (step c unknown) openings budget) q (begin s answers) n (after c n (begin s answers))

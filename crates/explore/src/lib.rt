@@ -1,20 +1,72 @@
 // The explorer: every way of a routine, under a budget of steps. The meaning is in specs/.
 use cells::Cell;
-use cells::Operand;
 use findings::Found;
 use findings::Tally;
-use outcomes::Outcome;
 use refusals::Refusal;
 use refusals::Verdict;
-use states::Slot;
 use states::State;
 use states::code::Fetched;
+use states::code::Line;
+use states::registers::Registers;
+use turns::Turn;
+ghost use Prim.Native.Nat.{_<_};
+ghost use Rattle.states.specs.Registers.{withStack};
 ghost use Rattle.states.specs.View.{whole};
 ghost use Rattle.states.specs.Program.{programOf, sizesOf, IsProgram};
 ghost use Rattle.explore.specs.Contract.{Explorable, Explores, SafeUnder, ExactFor, Bounded};
+ghost use Rattle.explore.specs.Ways.{WaysExplored};
+
+pub mod turns;
+
+// What the two ways of a branch come to.
+pub struct Ways {
+    pub untaken: Found,
+    pub taken: Found,
+}
+
+// Both ways of the unknown branch `line`; none of them where no opening is left, and not the one taken where the other is refused.
+fn branch(
+    code: &[u32; 5131],
+    line: Line,
+    registers: Registers,
+    stack: [Cell; 64],
+    blocks: [Cell; 128],
+    openings: usize,
+    left: usize,
+) -> Ways
+    requires { ⌜ IsProgram (now code) ⌝ }
+    requires { ⌜ Explorable (withStack registers stack) openings left × (registers .at < 65536) ⌝ }
+    ensures { λ r. ⌜ WaysExplored (programOf (now (code .entry))) (sizesOf (now (code .entry))) line blocks (withStack registers stack) openings left r ⌝ }
+{
+    if openings == 0 {
+        let over = findings::refused(Refusal::Openings(registers.at), 0);
+        return Ways {
+            untaken: over,
+            taken: over,
+        };
+    }
+    let mut state = State::of(registers, stack).advance();
+    let untaken = explore(code, state, blocks, openings - 1, left);
+    let verdict = untaken.verdict;
+    if let Verdict::Refused(refusal) = verdict {
+        let taken = findings::refused(refusal, 0);
+        return Ways {
+            untaken: untaken,
+            taken: taken,
+        };
+    }
+    let rest = left - untaken.used;
+    let target = outcomes::index_of(line.operand);
+    state = state.jump(target);
+    let taken = explore(code, state, blocks, openings - 1, rest);
+    Ways {
+        untaken: untaken,
+        taken: taken,
+    }
+}
 
 // Every way from `start`: a loop of steps, and a call for each way of an unknown branch. The cells of the stack and of the blocks are written
-// in place, where a method would copy the array.
+// in place, where a method would copy the array; the registers stand beside them.
 pub fn explore(
     code: &[u32; 5131],
     start: State,
@@ -29,116 +81,44 @@ pub fn explore(
     ensures exact { λ r. ⌜ ExactFor (programOf (now (code .entry))) openings (whole (sizesOf (now (code .entry))) blocks start) r ⌝ }
     ensures { λ r. ⌜ Bounded openings budget r ⌝ }
 {
-    let mut state = start;
+    let mut stack = start.stack;
+    let mut registers = start.registers();
     let mut left = budget;
-    let mut tally = Tally {
-        cycles: 0,
-        words: 0,
-        depth: 0,
-    };
+    let mut tally = findings::nothing();
     while 0 < left {
-        let used = budget - left + 1;
         left = left - 1;
-        let at = state.at;
-        let fetched = states::code::fetch(code, at);
-        let Fetched::Is(line) = fetched else {
-            return findings::refused(Refusal::Stuck(at), used);
+        let Fetched::Is(line) = turns::reachable(code, registers) else {
+            return findings::refused(Refusal::Stuck(registers.at), budget - left);
         };
-        tally = findings::more(tally, line.cycles, line.words, 64 - state.free);
-        state = state.advance();
+        tally = findings::more(tally, line.cycles, line.words, 64 - registers.free);
         if line.pushes {
-            if state.free == 0 {
-                return findings::refused(Refusal::Stuck(at), used);
-            }
-            let top = state.free - 1;
-            let pushed = state.accu;
-            state.stack[top] = pushed;
-            state.free = top;
+            registers = registers.push();
+            let top = registers.free;
+            stack[top] = cells::same(registers.accu);
         }
-        let index = outcomes::index_of(line.operand);
-        let free = state.free;
-        let place = outcomes::entry_place(line.code, index, free);
-        let drops = outcomes::drops_of(line.code, index);
-        let answer = cells::unknown();
-        let outcome = outcomes::outcome_of(
-            line.code,
-            line.operand,
-            answer,
-            64 - free,
-            state.accu,
-            state.stack[place],
-        );
-        match outcome {
-            Outcome::Gives(c) => {
-                state = state.pop(drops).load(c);
-            }
-            Outcome::Operates => {
-                let given = outcomes::operated(
-                    line.code,
-                    line.operand,
-                    state.accu,
-                    state.stack[place],
-                );
-                let Operand::Is(c) = given else {
-                    return findings::refused(Refusal::Stuck(at), used);
-                };
-                state = state.pop(drops).load(c);
-            }
-            Outcome::Stores => {
-                let entry = state.free + index;
-                let stored = state.accu;
-                state.stack[entry] = stored;
-                let zero = cells::number(0);
-                state = state.load(zero);
-            }
-            Outcome::Sets(c) => {
-                let field = states::slot_of(code, state.accu, index);
-                let Slot::At(j) = field else {
-                    return findings::refused(Refusal::Stuck(at), used);
-                };
-                blocks[j] = c;
-                let zero = cells::number(0);
-                state = state.pop(1).load(zero);
-            }
-            Outcome::Gets => {
-                let field = states::slot_of(code, state.accu, index);
-                let Slot::At(j) = field else {
-                    return findings::refused(Refusal::Stuck(at), used);
-                };
-                state = state.load(blocks[j]);
-            }
-            Outcome::Goes => {
-                state = state.jump(index);
-            }
-            Outcome::Jumps => {
+        let at = outcomes::entry_place(line.code, outcomes::index_of(line.operand), registers.free);
+        match turns::turn_of(code, line, registers, stack[at]) {
+            Turn::Goes(next) => registers = next,
+            Turn::Jumps(next) => {
                 tally = findings::jumped(tally, line.extra);
-                state = state.jump(index);
+                registers = next;
             }
-            Outcome::Opens => {
-                if openings == 0 {
-                    return findings::refused(Refusal::Openings(at), used);
-                }
-                let untaken = explore(code, state, blocks, openings - 1, left);
-                let first_verdict = untaken.verdict;
-                if let Verdict::Refused(refusal) = first_verdict {
-                    return findings::refused(refusal, used + untaken.used);
-                }
-                let rest = left - untaken.used;
-                state = state.jump(index);
-                let taken = explore(code, state, blocks, openings - 1, rest);
-                let second_verdict = taken.verdict;
-                if let Verdict::Refused(refusal) = second_verdict {
-                    return findings::refused(refusal, used + untaken.used + taken.used);
-                }
-                return findings::joined(tally, used, untaken, line.extra, taken);
+            Turn::Stores(entry) => {
+                stack[entry] = cells::same(registers.accu);
+                registers = registers.store().advance();
             }
-            Outcome::Halts => {
-                return findings::finished(tally, used);
+            Turn::Sets(field, c) => {
+                blocks[field] = cells::same(c);
+                registers = registers.pop(1).store().advance();
             }
-            Outcome::Stuck => {
-                return findings::refused(Refusal::Stuck(at), used);
+            Turn::Gets(field) => registers = registers.load(blocks[field]).advance(),
+            Turn::Opens => {
+                let ways = branch(code, line, registers, stack, blocks, openings, left);
+                return findings::both(tally, budget - left, ways.untaken, line.extra, ways.taken);
             }
+            Turn::Halts => return findings::finished(tally, budget - left),
+            Turn::Stuck => return findings::refused(Refusal::Stuck(registers.at), budget - left),
         }
     }
-    findings::refused(Refusal::Spent(state.at), budget)
+    findings::refused(Refusal::Spent(registers.at), budget)
 }

@@ -7,6 +7,7 @@ use lib.Dec.{leb}
 use Rattle.refusals.specs.declared.Refusal.{Refusal}
 use Rattle.machine.specs.Machine.{Price}
 use Rattle.bounds.specs.Tree.{Decision, N, T, Step, made, not-made, Report, Verdict, accepted, refused}
+use Rattle.refusals.specs.declared.Verdict as code
 use Rattle.refusals.specs.declared.Verdict.the-variants.{Accepted, Refused}
 use Rattle.findings.specs.declared.Found.{Found}
 use Rattle.findings.specs.declared.Tally.{Tally}
@@ -34,6 +35,10 @@ walked (suc b) (made a ∷ xs) = suc (walked b xs)
 walked (suc b) (not-made r a ∷ xs) = 1
 
 -- ---- the parts of the explorer
+
+-- no step yet
+abbrev pub zeroTally : Tally
+zeroTally = record { cycles = 0; words = 0; depth = 0 }
 
 -- the steps since the last branch, with one more of price p from a state of height h
 unfoldable pub moreOf : Tally → Price → ℕ → Tally
@@ -65,6 +70,18 @@ finishedOf t n = record { verdict = Accepted; used = n; cycles = t .cycles; word
 -- n steps walked, and a refusal
 unfoldable pub refusedAs : Refusal → ℕ → Found
 refusedAs x n = record { verdict = Refused x; used = n; cycles = 0; words = 0; depth = 0; path = 1 }
+
+-- n steps of a tally, and then the two ways of a branch: the first refusal of the two, with the steps up to it, or both joined
+unfoldable pub secondOf : Tally → ℕ → Found → ℕ → Found → code.Verdict → Found
+secondOf t n f x g Accepted = joinedOf t n f x g
+secondOf t n f x g (Refused y) = refusedAs y (n + f .used + g .used)
+
+unfoldable pub firstOf : Tally → ℕ → Found → ℕ → Found → code.Verdict → Found
+firstOf t n f x g Accepted = secondOf t n f x g (g .verdict)
+firstOf t n f x g (Refused y) = refusedAs y (n + f .used)
+
+unfoldable pub bothOf : Tally → ℕ → Found → ℕ → Found → Found
+bothOf t n f x g = firstOf t n f x g (f .verdict)
 
 -- a price by its cycles and its words
 abbrev pub price : ℕ → ℕ → Price

@@ -3,7 +3,7 @@ use refusals::Refusal;
 use refusals::Verdict;
 ghost use mathlib.Core.Path.{_≡_};
 ghost use Prim.Native.Nat.{_≤_, max};
-ghost use Rattle.findings.specs.Found.{price, moreOf, jumpedOf, decidedOf, joinedOf, finishedOf, refusedAs, Summable};
+ghost use Rattle.findings.specs.Found.{zeroTally, price, moreOf, jumpedOf, decidedOf, joinedOf, bothOf, finishedOf, refusedAs, Summable};
 
 // What exploring comes to: the verdict, the steps walked, and where it is accepted the figures of the report.
 // `path` has a bit for each decision, the first one lowest, 1 for taken, with a 1 above the last.
@@ -21,6 +21,17 @@ pub struct Tally {
     pub cycles: u64,
     pub words: u64,
     pub depth: u64,
+}
+
+// No step yet.
+pub fn nothing() -> Tally
+    ensures { λ r. ⌜ r ≡ zeroTally ⌝ }
+{
+    Tally {
+        cycles: 0,
+        words: 0,
+        depth: 0,
+    }
 }
 
 // The larger of two numbers.
@@ -112,4 +123,20 @@ pub fn joined(t: Tally, n: usize, f: Found, extra: u32, g: Found) -> Found
         depth: depth,
         path: path,
     }
+}
+
+// `n` steps, and then the two ways of a branch: the first refusal of the two, or both joined.
+pub fn both(t: Tally, n: usize, f: Found, extra: u32, g: Found) -> Found
+    requires { ⌜ Summable t n f g ⌝ }
+    ensures { λ r. ⌜ r ≡ bothOf t n f extra g ⌝ }
+{
+    let first = f.verdict;
+    if let Verdict::Refused(refusal) = first {
+        return refused(refusal, n + f.used);
+    }
+    let second = g.verdict;
+    if let Verdict::Refused(refusal) = second {
+        return refused(refusal, n + f.used + g.used);
+    }
+    joined(t, n, f, extra, g)
 }

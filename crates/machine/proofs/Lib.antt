@@ -12,3 +12,4 @@ pub mod AddressLaws
 pub mod ForwardLaws
 pub mod TargetLaws
 pub mod ApartLaws
+pub mod Theorems

@@ -1,19 +1,11 @@
--- What a step leads to, related: where a step opens two ways, one that knows more may open them too or go one of them.
--- Assumes nothing.
+-- An action that covers itself. Assumes nothing.
 use mathlib.Core.Path.{_≡_, subst}
 use Prim.Native.Nat.{ℕ}
 use native.Mathlib.Omega.{arith}
 use Rattle.cells.specs.Try.{Try, stuck, done}
-use Rattle.cells.proofs.Covering.{Covered, by-stuck, both}
-use Rattle.machine.specs.Machine.{State, Price, Next, stops, goes, opens}
-
--- `two` is what must hold for the first side to open two ways: Unit in the bound, ⊥ in the run
-pub data NextCovered (R : State → State → Type 0) (two : Type 0) : Next → Next → Type 0 where
-  stops-too : {p : Price} → NextCovered R two (stops p) (stops p)
-  goes-too : {p : Price} {s t : State} → R s t → NextCovered R two (goes p s) (goes p t)
-  opens-too : {p q : Price} {s t s′ t′ : State} → two → R s s′ → R t t′ → NextCovered R two (opens p s q t) (opens p s′ q t′)
-  goes-not-taken : {p q : Price} {s s′ t′ : State} → R s s′ → NextCovered R two (goes p s) (opens p s′ q t′)
-  goes-taken : {p q : Price} {t s′ t′ : State} → R t t′ → NextCovered R two (goes q t) (opens p s′ q t′)
+use Rattle.cells.specs.Covering.{Covered, by-stuck, both}
+use Rattle.machine.specs.Covering.{NextCovered, stops-too, goes-too, opens-too, goes-not-taken, goes-taken}
+use Rattle.machine.specs.Machine.{State, Next, stops, goes, opens}
 
 -- each state that an action leads to has a property
 abbrev pub Leads : (State → Type 0) → Try Next → Type 0

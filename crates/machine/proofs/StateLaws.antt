@@ -8,7 +8,8 @@ use lib.ListN.{length}
 use Rattle.cells.specs.Try.{stuck, done}
 use Rattle.cells.specs.declared.Cell.{Cell}
 use Rattle.cells.specs.Order.{Pointwise, end, cons}
-use Rattle.cells.proofs.Covering.{Covered, by-stuck, both, bind}
+use Rattle.cells.specs.Covering.{Covered, by-stuck, both}
+use Rattle.cells.proofs.Covering.{bind}
 use Rattle.machine.specs.Lists.{nth, put, without}
 use Rattle.machine.specs.Machine.{State, stackLimit, height, jump, load, restack, reblock, push, pop, advance}
 use Rattle.machine.specs.Order.{Cellwise}

@@ -8,13 +8,13 @@ use lib.IntN.{ℤ, pos}
 use Rattle.cells.specs.Try.{Try}
 use Rattle.cells.specs.declared.Cell.{Cell}
 use Rattle.cells.specs.declared.Condition.{Condition}
-use Rattle.cells.proofs.Covering.{Covered, both, bind, covered-equal, Narrower, zeros, nonzeros, zero-unknown, nonzero-unknown, unknowns}
-use Rattle.cells.proofs.CellLaws.{Lawful}
+use Rattle.cells.specs.Covering.{Covered, both, Narrower, zeros, nonzeros, zero-unknown, nonzero-unknown, unknowns, Lawful}
+use Rattle.cells.proofs.Covering.{bind, covered-equal}
 use Rattle.instructions.specs.declared.Operation.{Operation}
 use Rattle.instructions.specs.declared.Operation.the-variants.{Nothing, Access, Drop, Assign, Constant, GetField, SetField, Branch, BranchIf, BranchIfNot, Call, Stop, Alter, Combine}
 use Rattle.machine.specs.Machine.{index, State, Price, Instruction, Code, fetch, getField, setField, store, ahead, ways, opposite, perform, prepare, execute, step}
 use Rattle.machine.specs.Order.{Cellwise}
-use Rattle.machine.proofs.NextCovering.{NextCovered, stops-too, goes-too, opens-too, goes-not-taken, goes-taken}
+use Rattle.machine.specs.Covering.{NextCovered, stops-too, goes-too, opens-too, goes-not-taken, goes-taken}
 use Rattle.machine.proofs.StateLaws.{nth-law, put-law, jump-law, advance-law, load-law, restack-law, reblock-law, push-law, pop-law}
 
 module _ {R : Cell → Cell → Type 0} {two : Type 0} (L : Lawful R two) where

@@ -3,3 +3,5 @@ pub mod Machine
 pub mod Order
 pub mod Forward
 pub mod Targets
+pub mod Covering
+pub mod Promises

@@ -19,7 +19,8 @@ pub struct Range {
     pub high: i64,
 }
 
-// "Numbers are 31 bits on the card": the width stands here, and nowhere else in the code.
+// "Numbers are 31 bits on the card": the width stands here. Besides it only `cells::encode` and `cells::decode` know it, which hold the two
+// ends of a range in one word.
 const BITS: i64 = 31;
 
 // The ends of the range.

@@ -8,7 +8,7 @@ use cells::Unary;
 use instructions::operations;
 use numbers::Comparison;
 ghost use mathlib.Core.Path.{_≡_};
-ghost use mathlib.Core.Bool.{true};
+ghost use mathlib.Core.Bool.{true, cond};
 ghost use Prim.Native.Nat.{_+_, _<_, _≤_};
 ghost use Rattle.cells.specs.Cells.{condition};
 ghost use Rattle.cells.specs.Answers.{ofOperand};
@@ -16,6 +16,7 @@ ghost use Rattle.cells.specs.declared.Binary.the-variants.{Compare};
 ghost use Rattle.instructions.specs.declared.Operation.the-variants.{Combine};
 ghost use Rattle.machine.specs.Machine.{index};
 ghost use Rattle.instructions.specs.Columns.{operationOf};
+ghost use Rattle.outcomes.specs.declared.Outcome.the-variants.{Stuck};
 ghost use Rattle.outcomes.specs.Outcome.{isOnCells, operated, branching, outcome, entryOf, drops};
 
 // What an instruction's operands come to, before the state is changed.
@@ -117,6 +118,13 @@ pub fn index_of(i: i32) -> usize
     i as usize
 }
 
+// The outcome, where the entries that it asks for are there.
+fn if_there(there: bool, outcome: Outcome) -> Outcome
+    ensures { λ r. ⌜ r ≡ cond there outcome Stuck ⌝ }
+{
+    if there { outcome } else { Outcome::Stuck }
+}
+
 // What the operation of a code comes to, with its operand and the answer that a C_CALL gets, on a stack of the height, with the accumulator
 // and the entry that it looks at.
 pub fn outcome_of(
@@ -133,57 +141,21 @@ pub fn outcome_of(
     let index = index_of(operand);
     match code {
         operations::NOTHING => Outcome::Gives(accu),
-        operations::ACCESS => {
-            if index < height {
-                Outcome::Gives(entry)
-            } else {
-                Outcome::Stuck
-            }
-        }
-        operations::DROP => {
-            if index <= height {
-                Outcome::Gives(accu)
-            } else {
-                Outcome::Stuck
-            }
-        }
-        operations::ASSIGN => {
-            if index < height {
-                Outcome::Stores
-            } else {
-                Outcome::Stuck
-            }
-        }
+        operations::ACCESS => if_there(index < height, Outcome::Gives(entry)),
+        operations::DROP => if_there(index <= height, Outcome::Gives(accu)),
+        operations::ASSIGN => if_there(index < height, Outcome::Stores),
         operations::CONSTANT => Outcome::Gives(cells::number(operand)),
         operations::OFFSET => Outcome::Operates,
         operations::NEGATE => Outcome::Operates,
         operations::COMPLEMENT => Outcome::Operates,
         operations::GET_FIELD => Outcome::Gets,
-        operations::SET_FIELD => {
-            if 0 < height {
-                Outcome::Sets(entry)
-            } else {
-                Outcome::Stuck
-            }
-        }
+        operations::SET_FIELD => if_there(0 < height, Outcome::Sets(entry)),
         operations::BRANCH => Outcome::Goes,
         operations::BRANCH_IF => outcome_branching(accu, false),
         operations::BRANCH_IF_NOT => outcome_branching(accu, true),
-        operations::CALL => {
-            if index <= height {
-                Outcome::Gives(answer)
-            } else {
-                Outcome::Stuck
-            }
-        }
+        operations::CALL => if_there(index <= height, Outcome::Gives(answer)),
         operations::STOP => Outcome::Halts,
-        _ => {
-            if 0 < height {
-                Outcome::Operates
-            } else {
-                Outcome::Stuck
-            }
-        }
+        _ => if_there(0 < height, Outcome::Operates),
     }
 }
 

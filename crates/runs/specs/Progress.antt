@@ -1,8 +1,11 @@
 -- What a run so far stands for in code.
 use Prim.Native.Nat.{ℕ}
+use mathlib.Core.Bool.{Bool}
 use mathlib.Core.List.{List}
 use lib.IntN.{ℤ}
 use lib.ListN.{drop}
+use Rattle.cells.specs.declared.Cell.{Cell}
+use Rattle.states.specs.declared.State.{State}
 use Rattle.states.specs.View.{whole}
 use Rattle.bounds.specs.Run.{Run}
 use Rattle.runs.specs.declared.Progress.{Progress}
@@ -18,3 +21,7 @@ ofProgress ns answers r = record {
   steps = r .steps;
   stopped = r .stopped;
 }
+
+-- a run by its parts
+abbrev pub soFar : State → List Cell → ℕ → ℕ → ℕ → ℕ → ℕ → Bool → Progress
+soFar s fs a c w d n b = record { state = s; blocks = fs; taken = a; cycles = c; words = w; depth = d; steps = n; stopped = b }

@@ -13,7 +13,7 @@ ghost use lib.ListN.{drop};
 ghost use Rattle.states.specs.Program.{programOf, sizesOf, IsProgram};
 ghost use Rattle.states.specs.View.{WellFormed, whole};
 ghost use Rattle.bounds.specs.Run.{begin, answer, remaining, after, judgeRun, run};
-ghost use Rattle.runs.specs.Progress.{ofProgress};
+ghost use Rattle.runs.specs.Progress.{ofProgress, soFar};
 ghost use Rattle.runs.specs.Contract.{Runnable, verdictOf, SafeFrom, WithinBound};
 
 // A run so far: its state and its blocks, how many answers its calls asked for, its sums, and whether STOP was made.
@@ -55,6 +55,31 @@ pub fn taken_after(calls: bool, taken: usize) -> usize
     if calls { taken + 1 } else { taken }
 }
 
+// The run that has come to this.
+fn so_far(
+    state: State,
+    blocks: [Cell; 128],
+    taken: usize,
+    cycles: u64,
+    words: u64,
+    depth: usize,
+    steps: usize,
+    stopped: bool,
+) -> Progress
+    ensures { λ r. ⌜ r ≡ soFar state blocks taken cycles words depth steps stopped ⌝ }
+{
+    Progress {
+        state: state,
+        blocks: blocks,
+        taken: taken,
+        cycles: cycles,
+        words: words,
+        depth: depth,
+        steps: steps,
+        stopped: stopped,
+    }
+}
+
 // The run after `n` steps from `start` with `fields`.
 pub fn after(
     code: &[u32; 5131],
@@ -81,28 +106,13 @@ pub fn after(
         let stepped = steps::step(code, answer, state, blocks);
         let next = stepped.next;
         if let Next::Stops(p) = next {
-            return Progress {
-                state: state,
-                blocks: blocks,
-                taken: taken_after(stepped.calls, taken),
-                cycles: spent + p.cycles,
-                words: sum + p.words,
-                depth: depth,
-                steps: made + 1,
-                stopped: true,
-            };
+            taken = taken_after(stepped.calls, taken);
+            spent = spent + p.cycles;
+            sum = sum + p.words;
+            return so_far(state, blocks, taken, spent, sum, depth, made + 1, true);
         }
         let Next::Goes(p) = next else {
-            return Progress {
-                state: state,
-                blocks: blocks,
-                taken: taken,
-                cycles: spent,
-                words: sum,
-                depth: depth,
-                steps: made,
-                stopped: false,
-            };
+            return so_far(state, blocks, taken, spent, sum, depth, made, false);
         };
         taken = taken_after(stepped.calls, taken);
         spent = spent + p.cycles;
@@ -119,16 +129,7 @@ pub fn after(
         }
         made += 1;
     }
-    Progress {
-        state: state,
-        blocks: blocks,
-        taken: taken,
-        cycles: spent,
-        words: sum,
-        depth: depth,
-        steps: made,
-        stopped: false,
-    }
+    so_far(state, blocks, taken, spent, sum, depth, made, false)
 }
 
 // The verdict on the run that `budget` steps leave.

@@ -1,15 +1,18 @@
 // The machine's state by value, the place of a field, and the program. The meaning is in specs/.
 use cells::Cell;
 use cells::Handled;
+use registers::Registers;
 ghost use mathlib.Core.Path.{_≡_};
 ghost use Prim.Native.Nat.{_+_, _<_, _≤_};
 ghost use lib.ListN.{length, getD};
 ghost use Rattle.cells.specs.Try.{done};
 ghost use Rattle.machine.specs.Machine.{push, pop, store, load, advance, jump};
 ghost use Rattle.states.specs.Program.{sizesOf, IsProgram};
+ghost use Rattle.states.specs.Registers.{registersOf, withStack};
 ghost use Rattle.states.specs.View.{view, WellFormed, slot, ofSlot};
 
 pub mod code;
+pub mod registers;
 
 // "The state is an address, an accumulator, a stack of at most 64 cells (entry 0 on top)". Of the cells of `stack` the first `free` are
 // unused; the others are the entries, the top entry first. The blocks lie beside the state.
@@ -101,6 +104,31 @@ impl State {
     {
         self.at = place;
         self
+    }
+
+    // Of these registers, with this stack.
+    pub fn of(registers: Registers, stack: [Cell; 64]) -> Self
+        ensures { λ r. ⌜ r ≡ withStack registers stack ⌝ }
+    {
+        let accu = cells::same(registers.accu);
+        State {
+            at: registers.at,
+            accu: accu,
+            free: registers.free,
+            stack: stack,
+        }
+    }
+
+    // What stands beside the stack.
+    pub fn registers(self) -> Registers
+        ensures { λ r. ⌜ r ≡ registersOf self ⌝ }
+    {
+        let accu = cells::same(self.accu);
+        Registers {
+            at: self.at,
+            accu: accu,
+            free: self.free,
+        }
     }
 }
 

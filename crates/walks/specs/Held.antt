@@ -1,13 +1,14 @@
 -- What a step of the walk by value stands for.
 use Prim.Native.Nat.{ℕ, _<_}
 use mathlib.Core.Path.{_≡_}
-use mathlib.Core.Bool.{cond}
+use mathlib.Core.Bool.{Bool, true, false, cond}
 use mathlib.Core.List.{List, [], _∷_}
 use Rattle.cells.specs.declared.Cell.{Cell}
 use Rattle.cells.specs.Cells.{unknown}
 use Rattle.machine.specs.Machine.{State, Price, Code, step}
 use Rattle.states.specs.declared.State as states
 use Rattle.states.specs.View.{WellFormed, whole}
+use Rattle.steps.specs.declared.Price as steps
 use Rattle.bounds.specs.Tree.{Decision}
 use Rattle.bounds.specs.Traces.{Move, move}
 use Rattle.report.specs.Decode.{decode}
@@ -17,6 +18,14 @@ use Rattle.walks.specs.Walk.{onward}
 -- the price that is told
 abbrev pub priceOf : Walked → Price
 priceOf w = record { cycles = w .cycles; words = w .words }
+
+-- a step that is not made, before a state
+abbrev pub notMade : ℕ → states.State → List Cell → Walked
+notMade path t fs = record { made = false; stops = false; cycles = 0; words = 0; way = 1; rest = path; state = t; blocks = fs }
+
+-- a step that is made at a price, to a state
+abbrev pub madeAt : Bool → steps.Price → ℕ → ℕ → states.State → List Cell → Walked
+madeAt stops p way rest t fs = record { made = true; stops = stops; cycles = p .cycles; words = p .words; way = way; rest = rest; state = t; blocks = fs }
 
 -- the moves from s whose first is w: none where it is not made, and it alone where it is STOP; `below` gives those after it
 unfoldable pub movesBy : List ℕ → Walked → State → (List Decision → State → List Move) → List Move

@@ -2,9 +2,11 @@
 use cells::Cell;
 use states::State;
 use steps::Next;
+use steps::Price;
+ghost use mathlib.Core.Path.{_≡_};
 ghost use Rattle.states.specs.Program.{programOf, sizesOf, IsProgram};
 ghost use Rattle.states.specs.View.{WellFormed};
-ghost use Rattle.walks.specs.Held.{StepsOn};
+ghost use Rattle.walks.specs.Held.{StepsOn, notMade, madeAt};
 
 // A step of the walk: whether it is made and whether it is STOP, what it costs, the decision as a path of its own, the path that is left,
 // and the state and the blocks after it. Paths are numbers, as in `findings`.
@@ -19,6 +21,45 @@ pub struct Walked {
     pub blocks: [Cell; 128],
 }
 
+// A step that is not made, before `state` with `blocks`.
+fn not_made(path: u64, state: State, blocks: [Cell; 128]) -> Walked
+    ensures { λ r. ⌜ r ≡ notMade path state blocks ⌝ }
+{
+    Walked {
+        made: false,
+        stops: false,
+        cycles: 0,
+        words: 0,
+        way: 1,
+        rest: path,
+        state: state,
+        blocks: blocks,
+    }
+}
+
+// A step that is made at a price, to `state` with `blocks`.
+fn made_at(
+    stops: bool,
+    price: Price,
+    way: u64,
+    rest: u64,
+    state: State,
+    blocks: [Cell; 128],
+) -> Walked
+    ensures { λ r. ⌜ r ≡ madeAt stops price way rest state blocks ⌝ }
+{
+    Walked {
+        made: true,
+        stops: stops,
+        cycles: price.cycles,
+        words: price.words,
+        way: way,
+        rest: rest,
+        state: state,
+        blocks: blocks,
+    }
+}
+
 // The step from `state` with `blocks`, by the first decision of `path` if it is an unknown branch.
 pub fn walk(code: &[u32; 5131], path: u64, state: State, blocks: [Cell; 128]) -> Walked
     requires { ⌜ IsProgram (now code) × WellFormed state ⌝ }
@@ -30,73 +71,19 @@ pub fn walk(code: &[u32; 5131], path: u64, state: State, blocks: [Cell; 128]) ->
     let reached = stepped.state;
     let left = stepped.blocks;
     match next {
-        Next::Stuck => Walked {
-            made: false,
-            stops: false,
-            cycles: 0,
-            words: 0,
-            way: 1,
-            rest: path,
-            state: reached,
-            blocks: left,
-        },
-        Next::Stops(p) => Walked {
-            made: true,
-            stops: true,
-            cycles: p.cycles,
-            words: p.words,
-            way: 1,
-            rest: path,
-            state: reached,
-            blocks: left,
-        },
-        Next::Goes(p) => Walked {
-            made: true,
-            stops: false,
-            cycles: p.cycles,
-            words: p.words,
-            way: 1,
-            rest: path,
-            state: reached,
-            blocks: left,
-        },
+        Next::Stuck => not_made(path, reached, left),
+        Next::Stops(p) => made_at(true, p, 1, path, reached, left),
+        Next::Goes(p) => made_at(false, p, 1, path, reached, left),
         Next::Opens(p, target, q) => {
             if path < 2 {
-                return Walked {
-                    made: false,
-                    stops: false,
-                    cycles: 0,
-                    words: 0,
-                    way: 1,
-                    rest: path,
-                    state: reached,
-                    blocks: left,
-                };
+                return not_made(path, reached, left);
             }
             let rest = path / 2;
             if path % 2 == 0 {
-                return Walked {
-                    made: true,
-                    stops: false,
-                    cycles: p.cycles,
-                    words: p.words,
-                    way: 2,
-                    rest: rest,
-                    state: reached,
-                    blocks: left,
-                };
+                return made_at(false, p, 2, rest, reached, left);
             }
             let jumped = reached.jump(target);
-            Walked {
-                made: true,
-                stops: false,
-                cycles: q.cycles,
-                words: q.words,
-                way: 3,
-                rest: rest,
-                state: jumped,
-                blocks: left,
-            }
+            made_at(false, q, 3, rest, jumped, left)
         }
     }
 }

@@ -1,6 +1,5 @@
 -- `outcomes::outcome_of` meets its contract: each arm's code computes, and the default arm's is one that combines. Assumes nothing.
 use mathlib.Core.Path.{_≡_, ap, _∙_}
-use borrow.Author.Tests.{lt-ltb, le-ltb, lt-leb, le-leb}
 use borrow.Author.Needs.{needs}
 use mir.Syntax.{w32}
 use mir.ValLaws.{toZ-ofZ}
@@ -27,92 +26,74 @@ returns c = rw (c .match .keys1)
 
 returns-2 : tie.Need-returns-2
 unfolding operations operationOf outcome
-returns-2 c = rw (c .before .match .keys2, ← found (c .before .before), lt-ltb _ _ (c .if1 .taken))
+returns-2 c = rw (c .before .match .keys2, ← found (c .before .before)) (c .if-there .ensures)
 
 returns-3 : tie.Need-returns-3
 unfolding operations operationOf outcome
-returns-3 c = rw (c .before .match .keys2, ← found (c .before .before), le-ltb _ _ (c .if1 .left))
+returns-3 c = rw (c .before .match .keys3, ← found (c .before .before)) (c .if-there2 .ensures)
 
 returns-4 : tie.Need-returns-4
 unfolding operations operationOf outcome
-returns-4 c = rw (c .before .match .keys3, ← found (c .before .before), le-leb _ _ (c .if2 .taken))
+returns-4 c = rw (c .before .match .keys4, ← found (c .before .before)) (c .if-there3 .ensures)
 
 returns-5 : tie.Need-returns-5
 unfolding operations operationOf outcome
-returns-5 c = rw (c .before .match .keys3, ← found (c .before .before), lt-leb _ _ (c .if2 .left))
+returns-5 c = rw (c .before .match .keys5) (ap Gives (c .number .ensures ∙ ap number (same (c .before .before .before))))
 
 returns-6 : tie.Need-returns-6
 unfolding operations operationOf outcome
-returns-6 c = rw (c .before .match .keys4, ← found (c .before .before), lt-ltb _ _ (c .if3 .taken))
+returns-6 c = rw (c .match .keys6)
 
 returns-7 : tie.Need-returns-7
 unfolding operations operationOf outcome
-returns-7 c = rw (c .before .match .keys4, ← found (c .before .before), le-ltb _ _ (c .if3 .left))
+returns-7 c = rw (c .match .keys7)
 
 returns-8 : tie.Need-returns-8
 unfolding operations operationOf outcome
-returns-8 c = rw (c .before .match .keys5) (ap Gives (c .number .ensures ∙ ap number (same (c .before .before .before))))
+returns-8 c = rw (c .match .keys8)
 
 returns-9 : tie.Need-returns-9
 unfolding operations operationOf outcome
-returns-9 c = rw (c .match .keys6)
+returns-9 c = rw (c .match .keys9)
 
 returns-10 : tie.Need-returns-10
 unfolding operations operationOf outcome
-returns-10 c = rw (c .match .keys7)
+returns-10 c = rw (c .before .match .keys10) (c .if-there4 .ensures)
 
 returns-11 : tie.Need-returns-11
 unfolding operations operationOf outcome
-returns-11 c = rw (c .match .keys8)
+returns-11 c = rw (c .match .keys11)
 
 returns-12 : tie.Need-returns-12
 unfolding operations operationOf outcome
-returns-12 c = rw (c .match .keys9)
+returns-12 c = rw (c .before .match .keys12) (c .outcome-branching .ensures)
 
 returns-13 : tie.Need-returns-13
 unfolding operations operationOf outcome
-returns-13 c = rw (c .before .match .keys10, lt-ltb _ _ (c .if4 .taken))
+returns-13 c = rw (c .before .match .keys13) (c .outcome-branching2 .ensures)
 
 returns-14 : tie.Need-returns-14
 unfolding operations operationOf outcome
-returns-14 c = rw (c .before .match .keys10, le-ltb _ _ (c .if4 .left))
+returns-14 c = rw (c .before .match .keys14, ← found (c .before .before)) (c .if-there5 .ensures)
 
 returns-15 : tie.Need-returns-15
 unfolding operations operationOf outcome
-returns-15 c = rw (c .match .keys11)
+returns-15 c = rw (c .match .keys15)
 
 returns-16 : tie.Need-returns-16
-unfolding operations operationOf outcome
-returns-16 c = rw (c .before .match .keys12) (c .outcome-branching .ensures)
-
-returns-17 : tie.Need-returns-17
-unfolding operations operationOf outcome
-returns-17 c = rw (c .before .match .keys13) (c .outcome-branching2 .ensures)
-
-returns-18 : tie.Need-returns-18
-unfolding operations operationOf outcome
-returns-18 c = rw (c .before .match .keys14, ← found (c .before .before), le-leb _ _ (c .if5 .taken))
-
-returns-19 : tie.Need-returns-19
-unfolding operations operationOf outcome
-returns-19 c = rw (c .before .match .keys14, ← found (c .before .before), lt-leb _ _ (c .if5 .left))
-
-returns-20 : tie.Need-returns-20
-unfolding operations operationOf outcome
-returns-20 c = rw (c .match .keys15)
-
-returns-21 : tie.Need-returns-21
 unfolding outcome
-returns-21 c = rw (combined _ (past 15 _ (c .before .match .rest)) (c .before .before .before .pre) .1, lt-ltb _ _ (c .if6 .taken))
-
-returns-22 : tie.Need-returns-22
-unfolding outcome
-returns-22 c = rw (combined _ (past 15 _ (c .before .match .rest)) (c .before .before .before .pre) .1, le-ltb _ _ (c .if6 .left))
+returns-16 c = rw (combined _ (past 15 _ (c .before .match .rest)) (c .before .before .before .pre) .1) (c .if-there6 .ensures)
 
 pub outcome-of-spec : {M : Type 1} → statement M
 outcome-of-spec =
     tie.close
     (tie.spec
+    (λ c κs. search needs)
+    (λ c κs. search needs)
+    (λ c κs. search needs)
+    (λ c κs. search needs)
+    (λ c κs. search needs)
+    (λ c κs. search needs)
     (λ c κs. search needs)
     (λ c κs. search needs)
     (λ c κs. search needs)
@@ -132,10 +113,4 @@ outcome-of-spec =
     returns-13
     returns-14
     returns-15
-    returns-16
-    returns-17
-    returns-18
-    returns-19
-    returns-20
-    returns-21
-    returns-22)
+    returns-16)

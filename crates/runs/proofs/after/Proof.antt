@@ -58,39 +58,39 @@ step-requires c κs = let s = c .before .before .before .before in let i = c .be
 taken-after-requires : tie.Need-taken-after-requires Inv-loop μ-loop
 taken-after-requires c κs = let i = c .before .before .before .before .before .before .loop .inv in omega (arith, i .taken, c .before .before .before .before .before .loop-test .taken, c .before .before .before .before .before .before .before .before .pre .1 .steps)
 
-add-t26 : tie.Need-add-t26 Inv-loop μ-loop
-add-t26 c = let i = c .before .before .before .before .before .before .before .before .loop .inv in omega (arith, i .cycles, i .within, stops-small (c .before .before), c .before .before .before .before .before .before .before .before .before .before .pre .1 .steps)
+add-spent : tie.Need-add-spent Inv-loop μ-loop
+add-spent c = let i = c .before .before .before .before .before .before .before .before .loop .inv in omega (arith, i .cycles, i .within, stops-small (c .before .before), c .before .before .before .before .before .before .before .before .before .before .pre .1 .steps)
 
-add-t27 : tie.Need-add-t27 Inv-loop μ-loop
-add-t27 c = let i = c .before .before .before .before .before .before .before .before .before .loop .inv in omega (arith, i .words, i .within, stops-small (c .before .before .before) .words, c .before .before .before .before .before .before .before .before .before .before .before .pre .1 .steps)
+add-sum : tie.Need-add-sum Inv-loop μ-loop
+add-sum c = let i = c .before .before .before .before .before .before .before .before .before .loop .inv in omega (arith, i .words, i .within, stops-small (c .before .before .before) .words, c .before .before .before .before .before .before .before .before .before .before .before .pre .1 .steps)
 
-add-t28 : tie.Need-add-t28 Inv-loop μ-loop
-add-t28 c = let i = c .before .before .before .before .before .before .before .before .before .loop .inv in omega (arith, i .within, c .before .before .before .before .before .before .before .before .before .before .before .pre .1 .steps)
+add-so-far : tie.Need-add-so-far Inv-loop μ-loop
+add-so-far c = let i = c .before .before .before .before .before .before .before .before .before .loop .inv in omega (arith, i .within, c .before .before .before .before .before .before .before .before .before .before .before .pre .1 .steps)
 
 returns : tie.Need-returns Inv-loop μ-loop
 returns c =
-    let x = c .before .before .before .before .before .before .step in
-    let took = c .before .before .taken-after in
-    let i = c .before .before .before .before .before .before .before .before .before .loop .inv in
-    let e = stops-out _ _ _ _ _ _ i (x .result .next) (x .result .state) (x .result .blocks) (x .result .calls) _ (c .before .before .before .before .before .before .before .answer-at .ensures) (x .ensures .0) (x .ensures .1 .0)
-    (c .before .before .before .before .next .given .0 .0) (took .result) (record { drops = took .ensures .0; few = took .ensures .1 }) (stops-small (c .before .before .before)) (c .before .before .before .before .next .given .1) (c .before .before .before .before .before .before .before .before .loop-test .taken) in
-    (e, (safe-from _ _ _ _ _ e, i .formed))
+    let x = c .before .before .before .before .before .before .before .step in
+    let took = c .before .before .before .taken-after in
+    let i = c .before .before .before .before .before .before .before .before .before .before .loop .inv in
+    let e = stops-out _ _ _ _ _ _ i (x .result .next) (x .result .state) (x .result .blocks) (x .result .calls) _ (c .before .before .before .before .before .before .before .before .answer-at .ensures) (x .ensures .0) (x .ensures .1 .0)
+    (c .before .before .before .before .before .next .given .0 .0) (took .result) (record { drops = took .ensures .0; few = took .ensures .1 }) (stops-small (c .before .before .before .before)) (c .before .before .before .before .before .next .given .1) (c .before .before .before .before .before .before .before .before .before .loop-test .taken) in
+    rw (c .so-far .ensures) (e, (safe-from _ _ _ _ _ e, i .formed))
 
 returns-2 : tie.Need-returns-2 Inv-loop μ-loop
 returns-2 c =
-    let x = c .before .before .step in
-    let i = c .before .before .before .before .before .loop .inv in
-    let e = stays-out _ _ _ _ _ _ i (x .result .next) (x .result .state) (x .result .blocks) (x .result .calls) _ (c .before .before .before .answer-at .ensures) (x .ensures .0) (x .ensures .1 .0) (no-stop _ (c .before .match .keys2)) (no-way _ (c .match2 .keys2)) in
-    (e, (safe-from _ _ _ _ _ e, i .formed))
+    let x = c .before .before .before .step in
+    let i = c .before .before .before .before .before .before .loop .inv in
+    let e = stays-out _ _ _ _ _ _ i (x .result .next) (x .result .state) (x .result .blocks) (x .result .calls) _ (c .before .before .before .before .answer-at .ensures) (x .ensures .0) (x .ensures .1 .0) (no-stop _ (c .before .before .match .keys2)) (no-way _ (c .before .match2 .keys2)) in
+    rw (c .so-far2 .ensures) (e, (safe-from _ _ _ _ _ e, i .formed))
 
 taken-after-requires-2 : tie.Need-taken-after-requires-2 Inv-loop μ-loop
 taken-after-requires-2 c κs = let i = c .before .before .before .before .before .before .before .loop .inv in omega (arith, i .taken, c .before .before .before .before .before .before .loop-test .taken, c .before .before .before .before .before .before .before .before .before .pre .1 .steps)
 
-add-spent : tie.Need-add-spent Inv-loop μ-loop
-add-spent c = let i = c .before .before .before .before .before .before .before .before .before .loop .inv in omega (arith, i .cycles, i .within, goes-small (c .before .before) .cycles, c .before .before .before .before .before .before .before .before .before .before .before .pre .1 .steps)
+add-spent-2 : tie.Need-add-spent-2 Inv-loop μ-loop
+add-spent-2 c = let i = c .before .before .before .before .before .before .before .before .before .loop .inv in omega (arith, i .cycles, i .within, goes-small (c .before .before) .cycles, c .before .before .before .before .before .before .before .before .before .before .before .pre .1 .steps)
 
-add-sum : tie.Need-add-sum Inv-loop μ-loop
-add-sum c = let i = c .before .before .before .before .before .before .before .before .before .before .loop .inv in omega (arith, i .words, i .within, goes-small (c .before .before .before) .words, c .before .before .before .before .before .before .before .before .before .before .before .before .pre .1 .steps)
+add-sum-2 : tie.Need-add-sum-2 Inv-loop μ-loop
+add-sum-2 c = let i = c .before .before .before .before .before .before .before .before .before .before .loop .inv in omega (arith, i .words, i .within, goes-small (c .before .before .before) .words, c .before .before .before .before .before .before .before .before .before .before .before .before .pre .1 .steps)
 
 sub-h : tie.Need-sub-h Inv-loop μ-loop
 sub-h c = c .before .before .before .before .before .before .before .before .before .step .ensures .1 .1 .0 .0 .free
@@ -134,9 +134,9 @@ loop-again c =
 
 returns-3 : tie.Need-returns-3 Inv-loop μ-loop
 returns-3 c =
-    let i = c .before .loop .inv in
-    let e = ends _ _ _ _ _ _ i (c .loop-test .left) in
-    (e, (safe-from _ _ _ _ _ e, i .formed))
+    let i = c .before .before .loop .inv in
+    let e = ends _ _ _ _ _ _ i (c .before .loop-test .left) in
+    rw (c .so-far3 .ensures) (e, (safe-from _ _ _ _ _ e, i .formed))
 
 pub after-spec : {M : Type 1} → statement M
 after-spec =
@@ -150,15 +150,17 @@ after-spec =
     step-requires
     (λ c. search needs)
     taken-after-requires
-    add-t26
-    add-t27
-    add-t28
-    returns
-    (λ c. search needs)
-    returns-2
-    taken-after-requires-2
     add-spent
     add-sum
+    add-so-far
+    (λ c κs. search needs)
+    returns
+    (λ c. search needs)
+    (λ c κs. search needs)
+    returns-2
+    taken-after-requires-2
+    add-spent-2
+    add-sum-2
     sub-h
     (λ c. search needs)
     mul-blocks
@@ -167,4 +169,5 @@ after-spec =
     add-made
     loop-less
     loop-again
+    (λ c κs. search needs)
     returns-3)

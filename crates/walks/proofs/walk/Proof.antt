@@ -1,117 +1,44 @@
 -- `walks::walk` meets its contract: in each arm the step is the walk's. Assumes nothing.
-use native.Mathlib.Omega.{arith}
 use borrow.Author.Needs.{needs}
-use Rattle.states.specs.Program.{sizesOf}
-use Rattle.walks.specs.Held.{movesBy}
-use Rattle.walks.proofs.ArmLaws.{at-stuck, at-stop, at-way, at-no-decision, at-n, at-t, small-stop, small-way, small-ways}
+use Rattle.states.specs.Program.{programOf, sizesOf}
+use Rattle.walks.proofs.ArmLaws.{Steps, at-stuck, at-stop, at-way, at-no-decision, at-n, at-t}
 use Rattle.walks.proofs.walk.Statement.{statement}
 use Rattle.walks.proofs.walk.Tie as tie
 
+-- the step that was made
+abbrev steps : (c : tie.After-left) → (let b = c .before .before in let a = b .before .before .args in let x = b .step .result in Steps (programOf (a .code .now)) (sizesOf (a .code .now)) (a .state) (a .blocks) (x .next) (x .state) (x .blocks))
+steps c =
+    let b = c .before .before in
+    let x = b .step .ensures in
+    record { answer = _; asked = b .before .unknown .ensures; makes = x .0; formed = x .1 .1 .0 .0; small = x .1 .1 .0 .1 }
+
 returns : tie.Need-returns
-unfolding movesBy
 returns c =
-    let at-step = c .before .before .before .before .before .before in
-    let at-unknown = at-step .before in
-    let s = at-unknown .before in
-    let x = at-step .step in
-    let asked = at-unknown .unknown .ensures in
-    let a = s .args in
-    let g = c .before .before .next3 .given in
-    record {
-      moves = λ below. at-no-decision _ (sizesOf (a .code .now)) (a .path) (a .state) (a .blocks) (x .result .next) (x .result .state) (x .result .blocks) _ asked (x .ensures .0) below (g .0 .0) (g .0 .1 .0) (g .0 .1 .1 .0) (g .1) (c .if1 .taken);
-      formed = x .ensures .1 .1 .0 .0;
-      cycles = omega arith;
-      words = omega arith;
-    }
+    let b = c .before .before .before in
+    let g = b .next3 .given in
+    at-no-decision (steps (b .before .before)) _ (g .0 .0) (g .0 .1 .0) (g .0 .1 .1 .0) (g .1) (c .before .if1 .taken) (c .not-made2 .ensures)
 
 returns-2 : tie.Need-returns-2
-unfolding movesBy
 returns-2 c =
-    let at-step = c .before .before .before .before .before .before .before in
-    let at-unknown = at-step .before in
-    let s = at-unknown .before in
-    let x = at-step .step in
-    let asked = at-unknown .unknown .ensures in
-    let a = s .args in
-    let g = c .before .before .before .next3 .given in
-    let l = small-ways (x .result .next) (x .ensures .1 .1 .0 .1) (g .0 .0) (g .0 .1 .0) (g .0 .1 .1 .0) (g .1) in
-    record {
-      moves = λ below. at-n _ (sizesOf (a .code .now)) (a .path) (a .state) (a .blocks) (x .result .next) (x .result .state) (x .result .blocks) _ asked (x .ensures .0) below (g .0 .0) (g .0 .1 .0) (g .0 .1 .1 .0) (g .1) (c .before .if1 .left) (c .if2 .taken);
-      formed = x .ensures .1 .1 .0 .0;
-      cycles = l .0 .cycles;
-      words = l .0 .words;
-    }
+    let b = c .before .before .before .before in
+    let g = b .next3 .given in
+    at-n (steps (b .before .before)) _ (g .0 .0) (g .0 .1 .0) (g .0 .1 .1 .0) (g .1) (c .before .before .if1 .left) (c .before .if2 .taken) (c .made-at3 .ensures)
 
 returns-3 : tie.Need-returns-3
-unfolding movesBy
-returns-3 c =
-    let at-step = c .before .before .before .before in
-    let at-unknown = at-step .before in
-    let s = at-unknown .before in
-    let x = at-step .step in
-    let asked = at-unknown .unknown .ensures in
-    let a = s .args in
-    record {
-      moves = λ below. at-stuck _ (sizesOf (a .code .now)) (a .path) (a .state) (a .blocks) (x .result .next) (x .result .state) (x .result .blocks) _ asked (x .ensures .0) below (c .enum-told .given .1);
-      formed = x .ensures .1 .1 .0 .0;
-      cycles = omega arith;
-      words = omega arith;
-    }
+returns-3 c = at-stuck (steps (c .before .before .before)) _ (c .before .enum-told .given .1) (c .not-made .ensures)
 
 returns-4 : tie.Need-returns-4
-unfolding movesBy
-returns-4 c =
-    let at-step = c .before .before .before .before .before in
-    let at-unknown = at-step .before in
-    let s = at-unknown .before in
-    let x = at-step .step in
-    let asked = at-unknown .unknown .ensures in
-    let a = s .args in
-    let g = c .before .next .given in
-    let l = small-stop (x .result .next) (x .ensures .1 .1 .0 .1) (g .0 .0) (g .1) in
-    record {
-      moves = λ below. at-stop _ (sizesOf (a .code .now)) (a .path) (a .state) (a .blocks) (x .result .next) (x .result .state) (x .result .blocks) _ asked (x .ensures .0) below (g .0 .0) (g .1);
-      formed = x .ensures .1 .1 .0 .0;
-      cycles = l .cycles;
-      words = l .words;
-    }
+returns-4 c = let g = c .before .before .next .given in at-stop (steps (c .before .before .before .before)) _ (g .0 .0) (g .1) (c .made-at .ensures)
 
 returns-5 : tie.Need-returns-5
-unfolding movesBy
-returns-5 c =
-    let at-step = c .before .before .before .before .before in
-    let at-unknown = at-step .before in
-    let s = at-unknown .before in
-    let x = at-step .step in
-    let asked = at-unknown .unknown .ensures in
-    let a = s .args in
-    let g = c .before .next2 .given in
-    let l = small-way (x .result .next) (x .ensures .1 .1 .0 .1) (g .0 .0) (g .1) in
-    record {
-      moves = λ below. at-way _ (sizesOf (a .code .now)) (a .path) (a .state) (a .blocks) (x .result .next) (x .result .state) (x .result .blocks) _ asked (x .ensures .0) below (g .0 .0) (g .1);
-      formed = x .ensures .1 .1 .0 .0;
-      cycles = l .cycles;
-      words = l .words;
-    }
+returns-5 c = let g = c .before .before .next2 .given in at-way (steps (c .before .before .before .before)) _ (g .0 .0) (g .1) (c .made-at2 .ensures)
 
 returns-6 : tie.Need-returns-6
-unfolding movesBy
 returns-6 c =
-    let at-next3 = c .before .before .before .before in
-    let at-step = at-next3 .before .before .before .before in
-    let at-unknown = at-step .before in
-    let s = at-unknown .before in
-    let x = at-step .step in
-    let asked = at-unknown .unknown .ensures in
-    let a = s .args in
-    let g = at-next3 .next3 .given in
-    let l = small-ways (x .result .next) (x .ensures .1 .1 .0 .1) (g .0 .0) (g .0 .1 .0) (g .0 .1 .1 .0) (g .1) in
-    record {
-      moves = λ below. at-t _ (sizesOf (a .code .now)) (a .path) (a .state) (a .blocks) (x .result .next) (x .result .state) (x .result .blocks) _ asked (x .ensures .0) below (g .0 .0) (g .0 .1 .0) (g .0 .1 .1 .0) (g .1) (c .before .before .if1 .left) (c .before .if2 .left) (c .jump .result) (c .jump .ensures .0);
-      formed = c .jump .ensures .1;
-      cycles = l .1 .cycles;
-      words = l .1 .words;
-    }
+    let j = c .before in
+    let b = j .before .before .before .before in
+    let g = b .next3 .given in
+    at-t (steps (b .before .before)) _ (g .0 .0) (g .0 .1 .0) (g .0 .1 .1 .0) (g .1) (j .before .before .if1 .left) (j .before .if2 .left) (j .jump .result) (j .jump .ensures) (c .made-at4 .ensures)
 
 pub walk-spec : {M : Type 1} → statement M
 walk-spec =
@@ -120,11 +47,17 @@ walk-spec =
     (λ c κs. search needs)
     (λ c κs. search needs)
     (λ c. search needs)
+    (λ c κs. search needs)
     (λ c. search needs)
+    (λ c κs. search needs)
     (λ c. search needs)
+    (λ c κs. search needs)
     (λ c. search needs)
+    (λ c κs. search needs)
     returns
+    (λ c κs. search needs)
     returns-2
+    (λ c κs. search needs)
     (λ c κs. search needs)
     returns-3
     returns-4
