@@ -1,17 +1,18 @@
--- Laws of the fields of blocks, in sixteen places for each, that are merged block by block. Assumes nothing.
+-- Laws of the fields of blocks, in sixteen places for each, that are put down and merged block by block. Assumes nothing.
 use Prim.Native.Nat.{ℕ, zero, suc, _+_, _*_, _-_, _≤_, _<_}
 use mathlib.Core.Path.{_≡_, refl, sym, ap, ap₂, _∙_}
-use mathlib.Core.List.{List, [], _∷_, _++_, append-assoc}
+use mathlib.Core.List.{List, [], _∷_, _++_, map, append-assoc}
 use native.Mathlib.Omega.{arith}
+use native.Mathlib.Numerals.{add-one}
 use lib.ListN.{length, getD, take, drop, set, length-drop}
-use lib.Seq.{length-take-le, take-at, drop-at, drop-drop, take-take, take-add}
+use lib.Seq.{length-take-le, take-at, drop-at, drop-drop, take-take, take-add, take-suc, take-suc-set}
 use borrow.Rule.Slice.PartMut.{putMid, take-put}
 use Rattle.cells.specs.Try.{Try, stuck, done}
 use Rattle.cells.specs.declared.Cell.{Cell}
 use Rattle.states.specs.View.{blocksOf}
 use Rattle.cells.specs.Merge.{mergeCells}
 use Rattle.merges.specs.Merge.{mergeLists}
-use Rattle.cells.specs.Codes.{cellsOf}
+use Rattle.cells.specs.Codes.{cellsOf, confine}
 use Rattle.states.specs.Program.{sizesOf, IsProgram}
 use Rattle.states.proofs.ProgramLaws.{sizes-count}
 use Rattle.arrivals.proofs.ZipLaws.{Partly, one-made, none-merged}
@@ -29,6 +30,24 @@ blocks-at (n ∷ ns) fs zero h = refl
 blocks-at (n ∷ ns) fs (suc k) h =
     let e : 16 + k * 16 ≡ suc k * 16 = omega arith in
     blocks-at ns (drop 16 fs) k (omega arith) ∙ ap (take (getD ns k 0)) (drop-drop (k * 16) 16 fs ∙ ap (λ (i : ℕ). drop i fs) e)
+
+-- the cells of a list, each changed
+
+drop-map : (f : Cell → Cell) (n : ℕ) (xs : List Cell) → drop n (map f xs) ≡ map f (drop n xs)
+drop-map f zero xs = refl
+drop-map f (suc n) [] = refl
+drop-map f (suc n) (x ∷ xs) = drop-map f n xs
+
+take-map : (f : Cell → Cell) (n : ℕ) (xs : List Cell) → take n (map f xs) ≡ map f (take n xs)
+take-map f zero xs = refl
+take-map f (suc n) [] = refl
+take-map f (suc n) (x ∷ xs) = ap (λ (l : List Cell). f x ∷ l) (take-map f n xs)
+
+pub blocks-map : (f : Cell → Cell) (ns : List ℕ) (fs : List Cell) → blocksOf ns (map f fs) ≡ map (map f) (blocksOf ns fs)
+unfolding blocksOf
+blocks-map f [] fs = refl
+blocks-map f (n ∷ ns) fs =
+    ap₂ (λ (l : List Cell) (ls : List (List Cell)). l ∷ ls) (take-map f n fs) (ap (blocksOf ns) (drop-map f 16 fs) ∙ blocks-map f ns (drop 16 fs))
 
 -- a block in its places
 
@@ -85,15 +104,29 @@ module _ (ns xs ys : List ℕ) (k z : ℕ) (small : Small ns) (h : length xs ≡
   within : (l : List ℕ) → k < length (blocksOf ns (cellsOf l))
   within l = rw blocks-length r
 
+  -- the block's places are written, p
+  block-put : (p : List ℕ) → length p ≡ z → blocksOf ns (cellsOf (putMid (k * 16) z xs p)) ≡ set (blocksOf ns (cellsOf xs)) k (cellsOf p)
+  block-put p n =
+      let room : k * 16 + 16 ≤ length (cellsOf xs) = rw cells-length (omega (arith, small .blocks)) in
+      ap (blocksOf ns) (cells-put (k * 16) z xs p ∙ ap (λ (i : ℕ). putMid (k * 16) i (cellsOf xs) (cellsOf p)) e)
+      ∙ blocks-put ns (cellsOf xs) (cellsOf p) k (small .few) r room (cells-length p ∙ n ∙ e)
+
+  pub block-encoded : (cs : List Cell) (p : List ℕ) → length p ≡ z → cellsOf p ≡ map confine (take z (drop (k * 16) cs))
+      → take k (blocksOf ns (cellsOf xs)) ≡ take k (blocksOf ns (map confine cs))
+      → take (k + 1) (blocksOf ns (cellsOf (putMid (k * 16) z xs p))) ≡ take (k + 1) (blocksOf ns (map confine cs))
+  block-encoded cs p n q i =
+      let block : cellsOf p ≡ getD (blocksOf ns (map confine cs)) k [] = q ∙ sym (blocks-at ns (map confine cs) k r ∙ ap₂ take (sym e) (drop-map confine (k * 16) cs) ∙ take-map confine z (drop (k * 16) cs)) in
+      rw add-one
+      (ap (take (suc k)) (block-put p n)
+      ∙ take-suc-set (blocksOf ns (cellsOf xs)) k (cellsOf p) (within xs)
+      ∙ ap₂ (λ (l : List (List Cell)) (b : List Cell). l ++ (b ∷ [])) i block
+      ∙ sym (take-suc (blocksOf ns (map confine cs)) k [] (rw blocks-length r)))
+
   pub block-merged : (w : Try (List (List Cell))) (p : List ℕ) → length p ≡ z → done (cellsOf p) ≡ mergeLists mergeCells (cellsOf (part xs)) (cellsOf (part ys))
       → Partly (mergeLists mergeCells) [] w k (blocksOf ns (cellsOf xs)) (blocksOf ns (cellsOf ys))
       → Partly (mergeLists mergeCells) [] w (k + 1) (blocksOf ns (cellsOf (putMid (k * 16) z xs p))) (blocksOf ns (cellsOf ys))
   block-merged w p n q m =
-      let room : k * 16 + 16 ≤ length (cellsOf xs) = rw cells-length (omega (arith, small .blocks)) in
-      let put : blocksOf ns (cellsOf (putMid (k * 16) z xs p)) ≡ set (blocksOf ns (cellsOf xs)) k (cellsOf p) =
-      ap (blocksOf ns) (cells-put (k * 16) z xs p ∙ ap (λ (i : ℕ). putMid (k * 16) i (cellsOf xs) (cellsOf p)) e)
-      ∙ blocks-put ns (cellsOf xs) (cellsOf p) k (small .few) r room (cells-length p ∙ n ∙ e) in
-      rw put
+      rw (block-put p n)
       (one-made (mergeLists mergeCells) [] w (blocksOf ns (cellsOf xs)) (blocksOf ns (cellsOf ys)) k (cellsOf p) (within xs) (within ys) (q ∙ ap₂ (mergeLists mergeCells) (block-is xs) (block-is ys)) m)
 
   pub block-unlike : (w : Try (List (List Cell))) → stuck ≡ mergeLists mergeCells (cellsOf (part xs)) (cellsOf (part ys))

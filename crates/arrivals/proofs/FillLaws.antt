@@ -25,10 +25,10 @@ encoded-next xs cs d i x h k e p =
     ∙ ap₂ (λ (l : List Cell) (c : Cell). l ++ (c ∷ [])) p e
     ∙ sym (ap (map confine) (take-suc cs i d k) ∙ map-append (take i cs) (getD cs i d ∷ [])))
 
--- all are
-pub encoded-all : (xs : List ℕ) (cs : List Cell) (n i : ℕ) → i ≡ n → length xs ≡ n → length cs ≡ n → cellsOf (take i xs) ≡ map confine (take i cs) → cellsOf xs ≡ map confine cs
-encoded-all xs cs n i e h k p =
-    ap cellsOf (sym (take-all i xs (omega arith))) ∙ p ∙ ap (map confine) (take-all i cs (omega arith))
+-- as many as are lent are
+pub encoded-all : (xs : List ℕ) (cs : List Cell) (n i : ℕ) → i ≡ n → length xs ≡ n → cellsOf (take i xs) ≡ map confine (take i cs) → cellsOf xs ≡ map confine (take n cs)
+encoded-all xs cs n i e h p =
+    ap cellsOf (sym (take-all i xs (omega arith))) ∙ p ∙ ap (λ (j : ℕ). map confine (take j cs)) e
 
 -- one number more is read as a cell
 pub decoded-next : (xs : List ℕ) (cs : List Cell) (i : ℕ) (c : Cell) → i < length xs → i < length cs → c ≡ cellOf (getD xs i 0)

@@ -1,5 +1,5 @@
 -- What the numbers of the table stand for: what has come to an address.
-use Prim.Native.Nat.{ℕ, zero, suc, _+_, _*_}
+use Prim.Native.Nat.{ℕ, zero, suc, _+_, _*_, _-_}
 use mathlib.Core.Path.{_≡_}
 use mathlib.Core.Bool.{Bool, true, false, cond}
 use mathlib.Core.List.{List}
@@ -14,6 +14,8 @@ use Rattle.states.specs.Program.{linesIn}
 use Rattle.states.specs.View.{WellFormed, blocksOf, whole}
 use Rattle.merges.specs.Merge.{Arrival, arrival, Slot, empty, unlike, held, join}
 use Rattle.arrivals.specs.declared.Way.{Way}
+use Rattle.arrivals.specs.declared.Merged.{Merged}
+use Rattle.arrivals.specs.declared.Merged.the-variants.{Unlike, Is}
 
 -- the arrays of a way have their lengths
 pub record Formed (w : Way) : Type 0 where
@@ -24,13 +26,17 @@ pub record Formed (w : Way) : Type 0 where
 abbrev pub Numeric : List ℕ → Way → Type 0
 Numeric ns w = Cellwise Kept (whole ns (w .blocks) (w .state)) (whole ns (w .blocks) (w .state))
 
--- the lengths of a row
-abbrev pub Row : List ℕ → List ℕ → List ℕ → Type 0
-Row h es fs = (length h ≡ 5) × (length es ≡ 64) × (length fs ≡ 128)
+-- the length of a row: a mark, the unused places of the stack, cycles, words, the accumulator, 64 entries and 128 fields
+abbrev pub Row : List ℕ → Type 0
+Row r = length r ≡ 197
 
--- the lengths of the 1,025 rows of the table
-abbrev pub Rows : List ℕ → List ℕ → List ℕ → Type 0
-Rows hs es fs = (length hs ≡ 5125) × (length es ≡ 65600) × (length fs ≡ 131200)
+-- the length of the 1,025 rows of the table
+abbrev pub Rows : List ℕ → Type 0
+Rows rs = length rs ≡ 201925
+
+-- the numbers of a list from place i up to place e
+abbrev pub part : ℕ → ℕ → List ℕ → List ℕ
+part i e xs = take (e - i) (drop i xs)
 
 -- a row for each address of a program, and one for the address after its last
 abbrev pub rowsOf : List ℕ → ℕ
@@ -41,6 +47,10 @@ unfoldable pub unusedOf : ℕ → ℕ
 unusedOf n = cond (ltb n 64) n 64
 
 -- what the answers of the merges stand for, with what is left in the first list
+unfoldable pub ofMerged : Merged → Try Cell
+ofMerged Unlike = stuck
+ofMerged (Is x) = done (cellOf x)
+
 abbrev pub ofCells : Bool → List ℕ → Try (List Cell)
 ofCells true xs = done (cellsOf xs)
 ofCells false xs = stuck
@@ -54,20 +64,20 @@ unfoldable pub arrivalOf : List ℕ → Way → Arrival
 arrivalOf ns w = arrival (whole ns (w .blocks) (w .state)) (record { cycles = w .cycles; words = w .words })
 
 -- the state of a row, at the address a
-unfoldable pub stateIn : List ℕ → ℕ → List ℕ → List ℕ → List ℕ → State
-stateIn ns a h es fs = record { at = a; accu = cellOf (getD h 4 0); stack = cellsOf (drop (unusedOf (getD h 1 0)) es); blocks = blocksOf ns (cellsOf fs) }
+unfoldable pub stateIn : List ℕ → ℕ → List ℕ → State
+stateIn ns a r = record { at = a; accu = cellOf (getD r 4 0); stack = cellsOf (part (5 + unusedOf (getD r 1 0)) 69 r); blocks = blocksOf ns (cellsOf (part 69 197 r)) }
 
 -- the largest sums
 unfoldable pub priceIn : List ℕ → Price
-priceIn h = record { cycles = getD h 2 0; words = getD h 3 0 }
+priceIn r = record { cycles = getD r 2 0; words = getD r 3 0 }
 
 -- both
-abbrev pub arrivalIn : List ℕ → ℕ → List ℕ → List ℕ → List ℕ → Arrival
-arrivalIn ns a h es fs = arrival (stateIn ns a h es fs) (priceIn h)
+abbrev pub arrivalIn : List ℕ → ℕ → List ℕ → Arrival
+arrivalIn ns a r = arrival (stateIn ns a r) (priceIn r)
 
-abbrev pub ofStates : List ℕ → ℕ → Bool → List ℕ → List ℕ → List ℕ → Try State
-ofStates ns a true h es fs = done (stateIn ns a h es fs)
-ofStates ns a false h es fs = stuck
+abbrev pub ofStates : List ℕ → ℕ → Bool → List ℕ → Try State
+ofStates ns a true r = done (stateIn ns a r)
+ofStates ns a false r = stuck
 
 -- by the mark of a row
 unfoldable pub marked : ℕ → Arrival → Slot
@@ -76,16 +86,12 @@ marked (suc zero) x = held (x .state) (x .spent)
 marked (suc (suc n)) x = unlike
 
 -- what a row holds
-unfoldable pub slotIn : List ℕ → ℕ → List ℕ → List ℕ → List ℕ → Slot
-slotIn ns a h es fs = marked (getD h 0 0) (arrivalIn ns a h es fs)
-
--- n numbers of a list from place i on
-abbrev pub part : ℕ → ℕ → List ℕ → List ℕ
-part i n xs = take n (drop i xs)
+unfoldable pub slotIn : List ℕ → ℕ → List ℕ → Slot
+slotIn ns a r = marked (getD r 0 0) (arrivalIn ns a r)
 
 -- what row b of the table holds, which is that of the address `first + b`
-unfoldable pub slotAt : List ℕ → ℕ → List ℕ → List ℕ → List ℕ → ℕ → Slot
-slotAt ns first hs es fs b = slotIn ns (first + b) (part (5 * b) 5 hs) (part (64 * b) 64 es) (part (128 * b) 128 fs)
+unfoldable pub slotAt : List ℕ → ℕ → List ℕ → ℕ → Slot
+slotAt ns first rs b = slotIn ns (first + b) (part (197 * b) (197 * b + 197) rs)
 
 -- what has come to the address a, once x has come to its own
 unfoldable pub joinAt : ℕ → Arrival → Slot → Slot

@@ -123,54 +123,54 @@ spent-words ns v m h = h
 -- ---- by what the step leads to
 
 -- the rows after that of j hold no more than j steps can cost, so no more than one more can
-abbrev pub Under : List ℕ → ℕ → ℕ → ℕ → ℕ → List ℕ → List ℕ → List ℕ → Type 0
-Under ns first n j m hs es fs = (b : ℕ) → j < b → b < n → Spent (most m) (slotAt ns first hs es fs b)
+abbrev pub Under : List ℕ → ℕ → ℕ → ℕ → ℕ → List ℕ → Type 0
+Under ns first n j m rs = (b : ℕ) → j < b → b < n → Spent (most m) (slotAt ns first rs b)
 
-pub raised : (ns : List ℕ) (first n j : ℕ) (hs es fs : List ℕ) → Under ns first n j j hs es fs → Under ns first n j (j + 1) hs es fs
-raised ns first n j hs es fs u b h k = spent-more (most j) (most (j + 1)) (omega arith) (slotAt ns first hs es fs b) (u b h k)
+pub raised : (ns : List ℕ) (first n j : ℕ) (rs : List ℕ) → Under ns first n j j rs → Under ns first n j (j + 1) rs
+raised ns first n j rs u b h k = spent-more (most j) (most (j + 1)) (omega arith) (slotAt ns first rs b) (u b h k)
 
-module _ (ns : List ℕ) (first n j : ℕ) (hs es fs : List ℕ) (sums : Under ns first n j (j + 1) hs es fs) where
+module _ (ns : List ℕ) (first n j : ℕ) (rs : List ℕ) (sums : Under ns first n j (j + 1) rs) where
   -- nothing is sent, and no way goes to the next address
-  pub stays-ready : Rows hs es fs → (g : Found) (w : Way) → Figures (j + 1) g → Ready ns first n (j + 1) hs es fs (record { found = g; here = false; way = w })
+  pub stays-ready : Rows rs → (g : Found) (w : Way) → Figures (j + 1) g → Ready ns first n (j + 1) rs (record { found = g; here = false; way = w })
   stays-ready rows g w i = record {
     rows = rows;
     figures = i;
     comes = tt;
-    sums = λ b h k. rw (alone ns w (j + 1) b (slotAt ns first hs es fs b)) (sums b (omega arith) k);
+    sums = λ b h k. rw (alone ns w (j + 1) b (slotAt ns first rs b)) (sums b (omega arith) k);
   }
 
-  pub stays-agree : (tab : Table) (w : Way) → ((b : ℕ) → j < b → b < n → slot (tab (first + b)) ≡ slotAt ns first hs es fs b) → Agrees ns first n (j + 1) tab hs es fs false w
-  stays-agree tab w a b h k = a b (omega arith) k ∙ sym (alone ns w (j + 1) b (slotAt ns first hs es fs b))
+  pub stays-agree : (tab : Table) (w : Way) → ((b : ℕ) → j < b → b < n → slot (tab (first + b)) ≡ slotAt ns first rs b) → Agrees ns first n (j + 1) tab rs false w
+  stays-agree tab w a b h k = a b (omega arith) k ∙ sym (alone ns w (j + 1) b (slotAt ns first rs b))
 
   -- one way goes on, v
-  module _ (hs′ es′ fs′ : List ℕ) (v : Way) (here : Bool)
-      (on : (b : ℕ) → j < b → b < n → waiting ns here v (j + 1) b (slotAt ns first hs′ es′ fs′ b) ≡ joinAt (first + b) (arrivalOf ns v) (slotAt ns first hs es fs b)) where
-    pub goes-ready : Rows hs′ es′ fs′ → (g : Found) → Figures (j + 1) g → Comes ns here v (first + (j + 1)) → v .cycles ≤ most (j + 1) → v .words ≤ most (j + 1)
-        → Ready ns first n (j + 1) hs′ es′ fs′ (record { found = g; here = here; way = v })
+  module _ (rs′ : List ℕ) (v : Way) (here : Bool)
+      (on : (b : ℕ) → j < b → b < n → waiting ns here v (j + 1) b (slotAt ns first rs′ b) ≡ joinAt (first + b) (arrivalOf ns v) (slotAt ns first rs b)) where
+    pub goes-ready : Rows rs′ → (g : Found) → Figures (j + 1) g → Comes ns here v (first + (j + 1)) → v .cycles ≤ most (j + 1) → v .words ≤ most (j + 1)
+        → Ready ns first n (j + 1) rs′ (record { found = g; here = here; way = v })
     goes-ready rows g i c m l = record {
       rows = rows;
       figures = i;
       comes = c;
       sums = λ b h k.
           rw (on b (omega arith) k)
-          (spent-at (most (j + 1)) (first + b) (slotAt ns first hs es fs b) (arrivalOf ns v) (sums b (omega arith) k) (spent-cycles ns v _ m) (spent-words ns v _ l));
+          (spent-at (most (j + 1)) (first + b) (slotAt ns first rs b) (arrivalOf ns v) (sums b (omega arith) k) (spent-cycles ns v _ m) (spent-words ns v _ l));
     }
 
-    pub goes-agree : (tab : Table) → ((b : ℕ) → j < b → b < n → slot (tab (first + b)) ≡ slotAt ns first hs es fs b)
-        → Agrees ns first n (j + 1) (arrive (arrivalOf ns v) tab) hs′ es′ fs′ here v
+    pub goes-agree : (tab : Table) → ((b : ℕ) → j < b → b < n → slot (tab (first + b)) ≡ slotAt ns first rs b)
+        → Agrees ns first n (j + 1) (arrive (arrivalOf ns v) tab) rs′ here v
     goes-agree tab a b h k =
         arrived (arrivalOf ns v) tab (first + b)
         ∙ ap (joinAt (first + b) (arrivalOf ns v)) (a b (omega arith) k)
         ∙ sym (on b (omega arith) k)
 
   -- a way y is sent
-  module _ (hs′ es′ fs′ : List ℕ) (y : Way) (to : (b : ℕ) → b < n → slotAt ns first hs′ es′ fs′ b ≡ joinAt (first + b) (arrivalOf ns y) (slotAt ns first hs es fs b)) where
-    pub sent-sums : y .cycles ≤ most (j + 1) → y .words ≤ most (j + 1) → Under ns first n j (j + 1) hs′ es′ fs′
+  module _ (rs′ : List ℕ) (y : Way) (to : (b : ℕ) → b < n → slotAt ns first rs′ b ≡ joinAt (first + b) (arrivalOf ns y) (slotAt ns first rs b)) where
+    pub sent-sums : y .cycles ≤ most (j + 1) → y .words ≤ most (j + 1) → Under ns first n j (j + 1) rs′
     sent-sums m l b h k =
-        rw (to b k) (spent-at (most (j + 1)) (first + b) (slotAt ns first hs es fs b) (arrivalOf ns y) (sums b h k) (spent-cycles ns y _ m) (spent-words ns y _ l))
+        rw (to b k) (spent-at (most (j + 1)) (first + b) (slotAt ns first rs b) (arrivalOf ns y) (sums b h k) (spent-cycles ns y _ m) (spent-words ns y _ l))
 
-    pub sent-agree : (tab : Table) → ((b : ℕ) → j < b → b < n → slot (tab (first + b)) ≡ slotAt ns first hs es fs b)
-        → (b : ℕ) → j < b → b < n → slot (arrive (arrivalOf ns y) tab (first + b)) ≡ slotAt ns first hs′ es′ fs′ b
+    pub sent-agree : (tab : Table) → ((b : ℕ) → j < b → b < n → slot (tab (first + b)) ≡ slotAt ns first rs b)
+        → (b : ℕ) → j < b → b < n → slot (arrive (arrivalOf ns y) tab (first + b)) ≡ slotAt ns first rs′ b
     sent-agree tab a b h k = arrived (arrivalOf ns y) tab (first + b) ∙ ap (joinAt (first + b) (arrivalOf ns y)) (a b h k) ∙ sym (to b k)
 
 -- ---- what the step in code leads to

@@ -54,18 +54,18 @@ waiting-other ns here w j b s n = ap (λ (t : Bool). cond t (with ns here w s) s
 
 -- ---- what a row holds, as the code's answer
 
-module _ (ns : List ℕ) (at : ℕ) (h es fs : List ℕ) where
-  pub came-nothing : (w : Way) → getD h 0 0 ≡ 0 → cameAs ns Nothing w ≡ slotIn ns at h es fs
+module _ (ns : List ℕ) (at : ℕ) (r : List ℕ) where
+  pub came-nothing : (w : Way) → getD r 0 0 ≡ 0 → cameAs ns Nothing w ≡ slotIn ns at r
   unfolding cameAs
-  came-nothing w e = sym (slot-empty ns at h es fs e)
+  came-nothing w e = sym (slot-empty ns at r e)
 
-  pub came-way : (w : Way) → getD h 0 0 ≡ 1 → arrivalOf ns w ≡ arrivalIn ns at h es fs → cameAs ns Is w ≡ slotIn ns at h es fs
+  pub came-way : (w : Way) → getD r 0 0 ≡ 1 → arrivalOf ns w ≡ arrivalIn ns at r → cameAs ns Is w ≡ slotIn ns at r
   unfolding cameAs
-  came-way w e a = ap (λ (x : Arrival). held (x .state) (x .spent)) a ∙ sym (slot-held ns at h es fs e)
+  came-way w e a = ap (λ (x : Arrival). held (x .state) (x .spent)) a ∙ sym (slot-held ns at r e)
 
-  pub came-unlike : (w : Way) → (getD h 0 0 ≡ 0 → ⊥) → (getD h 0 0 ≡ 1 → ⊥) → cameAs ns Unlike w ≡ slotIn ns at h es fs
+  pub came-unlike : (w : Way) → (getD r 0 0 ≡ 0 → ⊥) → (getD r 0 0 ≡ 1 → ⊥) → cameAs ns Unlike w ≡ slotIn ns at r
   unfolding cameAs
-  came-unlike w n k = sym (slot-unlike ns at h es fs n k)
+  came-unlike w n k = sym (slot-unlike ns at r n k)
 
 -- ---- the same with the way at hand
 

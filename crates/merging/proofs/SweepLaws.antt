@@ -27,13 +27,13 @@ use Rattle.merging.proofs.PassLaws.{arrived, same-test}
 use Rattle.arrivals.proofs.PartLaws.{comes-to}
 
 -- the pass before the address of row j: what is left of it gives the verdict v
-pub record Going (c : Code) (ns : List ℕ) (first n : ℕ) (v : Verdict) (hs es fs : List ℕ) (j : ℕ) (p : Pass) : Type 0 where
-  pub ready : Ready ns first n j hs es fs p
+pub record Going (c : Code) (ns : List ℕ) (first n : ℕ) (v : Verdict) (rs : List ℕ) (j : ℕ) (p : Pass) : Type 0 where
+  pub ready : Ready ns first n j rs p
   pub within : j ≤ n
   pub tab : Table
   pub report : Report
   pub found : p .found ≡ acceptedAs report
-  pub agrees : Agrees ns first n j tab hs es fs (p .here) (p .way)
+  pub agrees : Agrees ns first n j tab rs (p .here) (p .way)
   pub rest : sweep (step c unknown) (n - j) (first + j) tab report ≡ v
 
 -- ---- an empty table
@@ -43,11 +43,11 @@ zeros zero i = refl
 zeros (suc n) zero = refl
 zeros (suc n) (suc i) = zeros n i
 
-nothing-at : (ns : List ℕ) (first n b : ℕ) (es fs : List ℕ) → slotAt ns first (replicate n 0) es fs b ≡ empty
+nothing-at : (ns : List ℕ) (first n b : ℕ) → slotAt ns first (replicate n 0) b ≡ empty
 unfolding slotAt
-nothing-at ns first n b es fs =
-    slot-empty ns (first + b) (part (5 * b) 5 (replicate n 0)) (part (64 * b) 64 es) (part (128 * b) 128 fs)
-    (getD-take 5 (drop (5 * b) (replicate n 0)) 0 0 (omega arith) ∙ getD-drop (5 * b) (replicate n 0) 0 0 ∙ zeros n (5 * b + 0))
+nothing-at ns first n b =
+    slot-empty ns (first + b) (part (197 * b) (197 * b + 197) (replicate n 0))
+    (getD-take (197 * b + 197 - 197 * b) (drop (197 * b) (replicate n 0)) 0 0 (omega arith) ∙ getD-drop (197 * b) (replicate n 0) 0 0 ∙ zeros n (197 * b + 0))
 
 -- ---- where it begins
 
@@ -59,7 +59,7 @@ begun s bl = record {
   way = record { state = s; blocks = bl; cycles = 0; words = 0 };
 }
 
-module _ (c : Code) (ns : List ℕ) (first l : ℕ) (hn en fn : ℕ) (s : code.State) (bl : List Cell)
+module _ (c : Code) (ns : List ℕ) (first l m : ℕ) (s : code.State) (bl : List Cell)
     (from : c .first ≡ first) (count : length (c .instructions) ≡ l) (low : first ≤ s .at) (high : s .at ≤ first + l) where
   abbrev w : Way
   w = begun s bl .way
@@ -67,20 +67,14 @@ module _ (c : Code) (ns : List ℕ) (first l : ℕ) (hn en fn : ℕ) (s : code.S
   abbrev j : ℕ
   j = s .at - first
 
-  abbrev hs : List ℕ
-  hs = replicate hn 0
+  abbrev rs : List ℕ
+  rs = replicate m 0
 
-  abbrev es : List ℕ
-  es = replicate en 0
-
-  abbrev fs : List ℕ
-  fs = replicate fn 0
-
-  begun-slot : (b : ℕ) → waiting ns true w j b (slotAt ns first hs es fs b) ≡ joinAt (first + b) (arrivalOf ns w) empty
+  begun-slot : (b : ℕ) → waiting ns true w j b (slotAt ns first rs b) ≡ joinAt (first + b) (arrivalOf ns w) empty
   unfolding waiting with joinAt
   begun-slot b =
       let at : arrivalOf ns w .state .at ≡ s .at = comes-to ns w in
-      ap (λ (x : Slot). cond (eqb b j) (join x (arrivalOf ns w)) x) (nothing-at ns first hn b es fs)
+      ap (λ (x : Slot). cond (eqb b j) (join x (arrivalOf ns w)) x) (nothing-at ns first m b)
       ∙ ap (λ (t : Bool). cond t (join empty (arrivalOf ns w)) empty) (same-test b j (first + b) (arrivalOf ns w .state .at) (λ e. omega arith) (λ e. omega arith))
 
   begun-spent : (b : ℕ) → Spent (most j) (joinAt (first + b) (arrivalOf ns w) empty)
@@ -91,7 +85,7 @@ module _ (c : Code) (ns : List ℕ) (first l : ℕ) (hn en fn : ℕ) (s : code.S
       go true = (omega arith, omega arith)
       go false = tt
 
-  begun-agrees : Agrees ns first (l + 1) j (only (whole ns bl s)) hs es fs true w
+  begun-agrees : Agrees ns first (l + 1) j (only (whole ns bl s)) rs true w
   unfolding only nowhere arrivalOf slot
   begun-agrees b h k = arrived (arrivalOf ns w) nowhere (first + b) ∙ sym (begun-slot b)
 
@@ -106,10 +100,10 @@ module _ (c : Code) (ns : List ℕ) (first l : ℕ) (hn en fn : ℕ) (s : code.S
       let at : first + j ≡ s .at = omega arith in
       ap₂ (λ (n a : ℕ). sweep (step c unknown) n a (only (whole ns bl s)) none) many at
 
-  pub begins : hn ≡ 5125 → en ≡ 65600 → fn ≡ 131200 → WellFormed s → length bl ≡ 128 → Numeric ns w → Going c ns first (l + 1) (merged c (whole ns bl s)) hs es fs j (begun s bl)
-  begins hl el fl formed fields numeric = record {
+  pub begins : m ≡ 201925 → WellFormed s → length bl ≡ 128 → Numeric ns w → Going c ns first (l + 1) (merged c (whole ns bl s)) rs j (begun s bl)
+  begins long formed fields numeric = record {
     ready = record {
-      rows = (length-replicate hn 0 ∙ hl, length-replicate en 0 ∙ el, length-replicate fn 0 ∙ fl);
+      rows = length-replicate m 0 ∙ long;
       figures = record { used = omega arith; cycles = omega arith; words = omega arith; depth = omega arith };
       comes = (omega arith, (record { state = formed; fields = fields }, numeric));
       sums = λ b h k. rw (begun-slot b) (begun-spent b);
@@ -124,7 +118,7 @@ module _ (c : Code) (ns : List ℕ) (first l : ℕ) (hn en fn : ℕ) (s : code.S
 
 -- ---- one address more
 
-module _ {c : Code} {ns : List ℕ} {first n : ℕ} {v : Verdict} {hs es fs : List ℕ} {j : ℕ} {p : Pass} (g : Going c ns first n v hs es fs j p) (inside : j < n) (hs′ es′ fs′ : List ℕ) (r : Pass) where
+module _ {c : Code} {ns : List ℕ} {first n : ℕ} {v : Verdict} {rs : List ℕ} {j : ℕ} {p : Pass} (g : Going c ns first n v rs j p) (inside : j < n) (rs′ : List ℕ) (r : Pass) where
   -- how the definition goes on there
   abbrev there : (Table → Report → Verdict) → Verdict
   there rest = visit (step c unknown) rest (first + j) (g .tab) (g .report) (slot (g .tab (first + j)))
@@ -138,7 +132,7 @@ module _ {c : Code} {ns : List ℕ} {first n : ℕ} {v : Verdict} {hs es fs : Li
   never : {A : Type 0} (x : Refusal) → r .found .verdict ≡ Accepted → r .found .verdict ≡ Refused x → A
   never x e h = let z : _≡_ {A = ℕ} 0 1 = cc in absurd (omega arith)
 
-  pub goes-on : Ready ns first n (j + 1) hs′ es′ fs′ r → r .found .verdict ≡ Accepted → Moved ns first n (j + 1) there hs′ es′ fs′ r → Going c ns first n v hs′ es′ fs′ (j + 1) r
+  pub goes-on : Ready ns first n (j + 1) rs′ r → r .found .verdict ≡ Accepted → Moved ns first n (j + 1) there rs′ r → Going c ns first n v rs′ (j + 1) r
   goes-on ready e (stopped x h k) = never x e h
   goes-on ready e (moved tab q f k a) = record {
     ready = ready;
@@ -156,13 +150,13 @@ module _ {c : Code} {ns : List ℕ} {first n : ℕ} {v : Verdict} {hs es fs : Li
   unfolding acceptedAs
   accepted-verdict q e = ap (λ (f : Found). f .verdict) e
 
-  pub ends : (x : Refusal) → r .found .verdict ≡ Refused x → Moved ns first n (j + 1) there hs′ es′ fs′ r → Shows (r .found) v
+  pub ends : (x : Refusal) → r .found .verdict ≡ Refused x → Moved ns first n (j + 1) there rs′ r → Shows (r .found) v
   ends y e (stopped x h k) = subst (Shows (r .found)) (sym (k _) ∙ ahead) h
   ends y e (moved tab q f k a) = never y (accepted-verdict q f) e
 
 -- ---- where it ends
 
-pub finishes : {c : Code} {ns : List ℕ} {first n : ℕ} {v : Verdict} {hs es fs : List ℕ} {j : ℕ} {p : Pass} → Going c ns first n v hs es fs j p → n ≤ j → Shows (p .found) v
+pub finishes : {c : Code} {ns : List ℕ} {first n : ℕ} {v : Verdict} {rs : List ℕ} {j : ℕ} {p : Pass} → Going c ns first n v rs j p → n ≤ j → Shows (p .found) v
 unfolding sweep
 finishes {c} {first = first} {n = n} {j = j} {p = p} g h =
     let m : n - j ≡ 0 = omega arith in

@@ -3,7 +3,7 @@ use Prim.Native.Nat.{ℕ, _+_, _*_, _-_, _<_, _≤_}
 use mathlib.Core.Path.{_≡_, refl, sym, ap, subst, _∙_}
 use mathlib.Core.List.{List}
 use native.Mathlib.Omega.{arith}
-use lib.ListN.{length, take, drop}
+use lib.ListN.{length}
 use borrow.Rule.Slice.PartMut.{putMid, same-len-mid}
 use Rattle.refusals.specs.declared.Refusal.the-variants.{NoMeeting}
 use Rattle.cells.specs.Try.{Try}
@@ -19,84 +19,49 @@ use Rattle.merging.specs.declared.Pass.{Pass}
 use Rattle.arrivals.specs.Rows.{Rows, arrivalOf, part, slotIn, slotAt, with, waiting}
 use Rattle.merging.specs.Pass.{cameAs, Spent, most, Figures, Ready, Agrees, Moved, stopped, moved, spentOf}
 use Rattle.merging.proofs.PassLaws.{waiting-here, waiting-other}
-use Rattle.arrivals.proofs.PartLaws.{sub-same, row-length, slot-other}
+use Rattle.arrivals.proofs.PartLaws.{row-length, slot-other}
 use Rattle.merging.proofs.CarryLaws.{Under}
 
 pub figures-more : (j : ℕ) (f : Found) → Figures j f → Figures (j + 1) f
 figures-more j f i = record { used = omega (arith, i .used); cycles = omega (arith, i .cycles); words = omega (arith, i .words); depth = i .depth }
 
 -- the same way of going on, said in another way
-pub moved-as : {ns : List ℕ} {first n j : ℕ} {v v′ : (Table → Report → Verdict) → Verdict} {hs es fs : List ℕ} {r : Pass}
-    → ((rest : Table → Report → Verdict) → v′ rest ≡ v rest) → Moved ns first n j v hs es fs r → Moved ns first n j v′ hs es fs r
+pub moved-as : {ns : List ℕ} {first n j : ℕ} {v v′ : (Table → Report → Verdict) → Verdict} {rs : List ℕ} {r : Pass}
+    → ((rest : Table → Report → Verdict) → v′ rest ≡ v rest) → Moved ns first n j v rs r → Moved ns first n j v′ rs r
 moved-as e (stopped x h k) = stopped x h (λ rest. e rest ∙ k rest)
 moved-as e (moved tab q h k a) = moved tab q h (λ rest. e rest ∙ k rest) a
 
--- the row that is lent, as a row of the table
-pub row-lent : (ns : List ℕ) (first k : ℕ) (hs es fs : List ℕ)
-    → slotIn ns (first + k) (take (5 * k + 5 - 5 * k) (drop (5 * k) hs)) (take (64 * k + 64 - 64 * k) (drop (64 * k) es)) (take (128 * k + 128 - 128 * k) (drop (128 * k) fs)) ≡ slotAt ns first hs es fs k
-unfolding slotAt
-row-lent ns first k hs es fs =
-    ap (λ (i : ℕ). slotIn ns (first + k) (take i (drop (5 * k) hs)) (take (64 * k + 64 - 64 * k) (drop (64 * k) es)) (take (128 * k + 128 - 128 * k) (drop (128 * k) fs))) (sub-same (5 * k) 5)
-    ∙ ap (λ (i : ℕ). slotIn ns (first + k) (part (5 * k) 5 hs) (take i (drop (64 * k) es)) (take (128 * k + 128 - 128 * k) (drop (128 * k) fs))) (sub-same (64 * k) 64)
-    ∙ ap (λ (i : ℕ). slotIn ns (first + k) (part (5 * k) 5 hs) (part (64 * k) 64 es) (take i (drop (128 * k) fs))) (sub-same (128 * k) 128)
+-- row k comes back as r
+module _ (ns : List ℕ) (first n k : ℕ) (rs r : List ℕ) (p : Pass) (few : k < 1025) (ready : Ready ns first n k rs p) (l : length r ≡ length (part (197 * k) (197 * k + 197) rs)) where
+  abbrev rs′ : List ℕ
+  rs′ = putMid (197 * k) (197 * k + 197 - 197 * k) rs r
 
--- row k comes back as h, e and f
-module _ (ns : List ℕ) (first n k : ℕ) (hs es fs h e f : List ℕ) (p : Pass) (few : k < 1025) (ready : Ready ns first n k hs es fs p)
-    (hl : length h ≡ length (take (5 * k + 5 - 5 * k) (drop (5 * k) hs))) (el : length e ≡ length (take (64 * k + 64 - 64 * k) (drop (64 * k) es)))
-    (fl : length f ≡ length (take (128 * k + 128 - 128 * k) (drop (128 * k) fs))) where
-  abbrev hs′ : List ℕ
-  hs′ = putMid (5 * k) (5 * k + 5 - 5 * k) hs h
+  pub rows-back : Rows rs′
+  rows-back = same-len-mid (197 * k) (197 * k + 197 - 197 * k) rs r l ∙ ready .rows
 
-  abbrev es′ : List ℕ
-  es′ = putMid (64 * k) (64 * k + 64 - 64 * k) es e
-
-  abbrev fs′ : List ℕ
-  fs′ = putMid (128 * k) (128 * k + 128 - 128 * k) fs f
-
-  hs-same : length hs′ ≡ length hs
-  hs-same = same-len-mid (5 * k) (5 * k + 5 - 5 * k) hs h hl
-
-  es-same : length es′ ≡ length es
-  es-same = same-len-mid (64 * k) (64 * k + 64 - 64 * k) es e el
-
-  fs-same : length fs′ ≡ length fs
-  fs-same = same-len-mid (128 * k) (128 * k + 128 - 128 * k) fs f fl
-
-  pub rows-back : Rows hs′ es′ fs′
-  rows-back = (hs-same ∙ ready .rows .0, es-same ∙ ready .rows .1, fs-same ∙ ready .rows .2)
-
-  others : (b : ℕ) → (b ≡ k → ⊥) → slotAt ns first hs′ es′ fs′ b ≡ slotAt ns first hs es fs b
-  others b d =
-      let hl′ : length hs ≡ 5125 = ready .rows .0 in
-      let el′ : length es ≡ 65600 = ready .rows .1 in
-      let fl′ : length fs ≡ 131200 = ready .rows .2 in
-      slot-other ns first k hs es fs h e f few hl′ el′ fl′ (hl ∙ row-length 5 k hs (omega arith) ∙ sym (sub-same (5 * k) 5)) (el ∙ row-length 64 k es (omega arith) ∙ sym (sub-same (64 * k) 64))
-      (fl ∙ row-length 128 k fs (omega arith) ∙ sym (sub-same (128 * k) 128)) hs-same es-same fs-same b d
+  others : (b : ℕ) → (b ≡ k → ⊥) → slotAt ns first rs′ b ≡ slotAt ns first rs b
+  others b d = slot-other ns first k rs r few (ready .rows) (l ∙ row-length k rs few (ready .rows) ∙ omega arith) b d
 
   apart : (b : ℕ) → k < b → b ≡ k → ⊥
   apart b l q = omega arith
 
   -- a row after that of k
-  later : (b : ℕ) → k < b → waiting ns (p .here) (p .way) k b (slotAt ns first hs es fs b) ≡ slotAt ns first hs′ es′ fs′ b
-  later b l = waiting-other ns (p .here) (p .way) k b (slotAt ns first hs es fs b) (apart b l) ∙ sym (others b (apart b l))
+  later : (b : ℕ) → k < b → waiting ns (p .here) (p .way) k b (slotAt ns first rs b) ≡ slotAt ns first rs′ b
+  later b l = waiting-other ns (p .here) (p .way) k b (slotAt ns first rs b) (apart b l) ∙ sym (others b (apart b l))
 
-  pub back-under : Under ns first n k k hs′ es′ fs′
+  pub back-under : Under ns first n k k rs′
   back-under b l m = subst (Spent (most k)) (later b l) (ready .sums b (omega arith) m)
 
-  pub back-agree : (tab : Table) → Agrees ns first n k tab hs es fs (p .here) (p .way) → (b : ℕ) → k < b → b < n → slot (tab (first + b)) ≡ slotAt ns first hs′ es′ fs′ b
+  pub back-agree : (tab : Table) → Agrees ns first n k tab rs (p .here) (p .way) → (b : ℕ) → k < b → b < n → slot (tab (first + b)) ≡ slotAt ns first rs′ b
   back-agree tab a b l m = a b (omega arith) m ∙ later b l
 
   -- what has come to the address of row k, where the code found it to be m and v
-  module _ (m : Mark) (v : Way)
-      (came : cameAs ns m v ≡ with ns (p .here) (p .way) (slotIn ns (first + k) (take (5 * k + 5 - 5 * k) (drop (5 * k) hs)) (take (64 * k + 64 - 64 * k) (drop (64 * k) es)) (take (128 * k + 128 - 128 * k) (drop (128 * k) fs))))
-      (inside : k < n) where
-    waits : waiting ns (p .here) (p .way) k k (slotAt ns first hs es fs k) ≡ cameAs ns m v
-    waits =
-        waiting-here ns (p .here) (p .way) k (slotAt ns first hs es fs k)
-        ∙ ap (with ns (p .here) (p .way)) (sym (row-lent ns first k hs es fs))
-        ∙ sym came
+  module _ (m : Mark) (v : Way) (came : cameAs ns m v ≡ with ns (p .here) (p .way) (slotIn ns (first + k) (part (197 * k) (197 * k + 197) rs))) (inside : k < n) where
+    waits : waiting ns (p .here) (p .way) k k (slotAt ns first rs k) ≡ cameAs ns m v
+    unfolding slotAt
+    waits = waiting-here ns (p .here) (p .way) k (slotAt ns first rs k) ∙ sym came
 
-    pub here-slot : (tab : Table) → Agrees ns first n k tab hs es fs (p .here) (p .way) → slot (tab (first + k)) ≡ cameAs ns m v
+    pub here-slot : (tab : Table) → Agrees ns first n k tab rs (p .here) (p .way) → slot (tab (first + k)) ≡ cameAs ns m v
     here-slot tab a = a k (omega arith) inside ∙ waits
 
     pub here-spent : Spent (most k) (cameAs ns m v)

@@ -52,22 +52,22 @@ pub record Figures (j : ℕ) (f : Found) : Type 0 where
   pub depth : f .depth ≤ 64
 
 -- before the address of row j, of n rows from the address `first` on
-pub record Ready (ns : List ℕ) (first n j : ℕ) (hs es fs : List ℕ) (p : Pass) : Type 0 where
-  pub rows : Rows hs es fs
+pub record Ready (ns : List ℕ) (first n j : ℕ) (rs : List ℕ) (p : Pass) : Type 0 where
+  pub rows : Rows rs
   pub figures : Figures j (p .found)
   pub comes : Comes ns (p .here) (p .way) (first + j)
-  pub sums : (b : ℕ) → j ≤ b → b < n → Spent (most j) (waiting ns (p .here) (p .way) j b (slotAt ns first hs es fs b))
+  pub sums : (b : ℕ) → j ≤ b → b < n → Spent (most j) (waiting ns (p .here) (p .way) j b (slotAt ns first rs b))
 
 -- the table of the definition has what the rows from j on hold
-abbrev pub Agrees : List ℕ → ℕ → ℕ → ℕ → Table → List ℕ → List ℕ → List ℕ → Bool → Way → Type 0
-Agrees ns first n j tab hs es fs here w = (b : ℕ) → j ≤ b → b < n → slot (tab (first + b)) ≡ waiting ns here w j b (slotAt ns first hs es fs b)
+abbrev pub Agrees : List ℕ → ℕ → ℕ → ℕ → Table → List ℕ → Bool → Way → Type 0
+Agrees ns first n j tab rs here w = (b : ℕ) → j ≤ b → b < n → slot (tab (first + b)) ≡ waiting ns here w j b (slotAt ns first rs b)
 
 -- the address before that of row j was gone through, and v says how the definition goes on there: it is refused, or goes on with the same
 -- figures and a table that has what the rows from j on hold
-pub data Moved (ns : List ℕ) (first n j : ℕ) (v : (Table → Report → Verdict) → Verdict) (hs es fs : List ℕ) (r : Pass) : Type 0 where
-  stopped : (x : Refusal) → r .found .verdict ≡ Refused x → ((rest : Table → Report → Verdict) → v rest ≡ refused x) → Moved ns first n j v hs es fs r
+pub data Moved (ns : List ℕ) (first n j : ℕ) (v : (Table → Report → Verdict) → Verdict) (rs : List ℕ) (r : Pass) : Type 0 where
+  stopped : (x : Refusal) → r .found .verdict ≡ Refused x → ((rest : Table → Report → Verdict) → v rest ≡ refused x) → Moved ns first n j v rs r
   moved : (tab : Table) (q : Report) → r .found ≡ acceptedAs q → ((rest : Table → Report → Verdict) → v rest ≡ rest tab q)
-      → Agrees ns first n j tab hs es fs (r .here) (r .way) → Moved ns first n j v hs es fs r
+      → Agrees ns first n j tab rs (r .here) (r .way) → Moved ns first n j v rs r
 
 -- a way after a step at the price p
 abbrev pub spentOf : Way → Price

@@ -27,16 +27,9 @@ ghost use Rattle.arrivals.specs.Rows.{Formed, Numeric, Row, Rows, arrivalOf, sl
 ghost use Rattle.merging.specs.Pass.{cameAs, Held, Comes, Spent, most, Figures, Ready, Agrees, Moved, spentOf};
 
 // A way goes on from the address of row `j`: whether to the next. To any other it is sent.
-fn onward(
-    heads: &mut [u64],
-    entries: &mut [u64],
-    fields: &mut [u64],
-    code: &[u32; 5131],
-    j: usize,
-    w: Way,
-) -> bool
-    requires { ⌜ Rows (now heads) (now entries) (now fields) × (j < rowsOf (now code)) × (Formed w × Numeric (sizesOf (now code)) w) × IsProgram (now code) ⌝ }
-    ensures { λ r. ⌜ ((b : ℕ) → j < b → b < rowsOf (now (code .entry)) → waiting (sizesOf (now (code .entry))) r w (j + 1) b (slotAt (sizesOf (now (code .entry))) (firstOf (now (code .entry))) (now (heads .exit)) (now (entries .exit)) (now (fields .exit)) b) ≡ joinAt (firstOf (now (code .entry)) + b) (arrivalOf (sizesOf (now (code .entry))) w) (slotAt (sizesOf (now (code .entry))) (firstOf (now (code .entry))) (now (heads .entry)) (now (entries .entry)) (now (fields .entry)) b)) ⌝ }
+fn onward(rows: &mut [u64], code: &[u32; 5131], j: usize, w: Way) -> bool
+    requires { ⌜ Rows (now rows) × (j < rowsOf (now code)) × (Formed w × Numeric (sizesOf (now code)) w) × IsProgram (now code) ⌝ }
+    ensures { λ r. ⌜ ((b : ℕ) → j < b → b < rowsOf (now (code .entry)) → waiting (sizesOf (now (code .entry))) r w (j + 1) b (slotAt (sizesOf (now (code .entry))) (firstOf (now (code .entry))) (now (rows .exit)) b) ≡ joinAt (firstOf (now (code .entry)) + b) (arrivalOf (sizesOf (now (code .entry))) w) (slotAt (sizesOf (now (code .entry))) (firstOf (now (code .entry))) (now (rows .entry)) b)) ⌝ }
     ensures { λ r. ⌜ Comes (sizesOf (now (code .entry))) r w (firstOf (now (code .entry)) + (j + 1)) ⌝ }
 {
     let s = w.state;
@@ -44,7 +37,7 @@ fn onward(
     if at == code[0] as usize + j + 1 {
         return true;
     }
-    arrivals::send(heads, entries, fields, code, w);
+    arrivals::send(rows, code, w);
     false
 }
 
@@ -61,12 +54,12 @@ pub struct Came {
 }
 
 // What a row holds, that of the address `at`; where it is no way, `w` stands beside it.
-fn found(at: usize, head: &[u64], entries: &[u64], fields: &[u64], w: Way) -> Came
-    requires { ⌜ Row (now head) (now entries) (now fields) ⌝ }
-    ensures { λ r. ⌜ ((ns : List ℕ) → cameAs ns (r .mark) (r .way) ≡ slotIn ns at (now (head .entry)) (now (entries .entry)) (now (fields .entry))) ⌝ }
+fn found(at: usize, row: &[u64], w: Way) -> Came
+    requires { ⌜ Row (now row) ⌝ }
+    ensures { λ r. ⌜ ((ns : List ℕ) → cameAs ns (r .mark) (r .way) ≡ slotIn ns at (now (row .entry))) ⌝ }
     ensures { λ r. ⌜ ((ns : List ℕ) → Held ns (r .mark) (r .way) at) ⌝ }
 {
-    let mark = head[0];
+    let mark = row[0];
     if mark == 0 {
         return Came {
             mark: Mark::Nothing,
@@ -74,7 +67,7 @@ fn found(at: usize, head: &[u64], entries: &[u64], fields: &[u64], w: Way) -> Ca
         };
     }
     if mark == 1 {
-        let held = arrivals::take(at, head, entries, fields);
+        let held = arrivals::take(at, row);
         return Came {
             mark: Mark::Is,
             way: held,
@@ -87,31 +80,23 @@ fn found(at: usize, head: &[u64], entries: &[u64], fields: &[u64], w: Way) -> Ca
 }
 
 // What has come to the address `at`: what its row holds, and the way `w` if `here` says so.
-fn reach(
-    head: &mut [u64],
-    entries: &mut [u64],
-    fields: &mut [u64],
-    code: &[u32; 5131],
-    at: usize,
-    here: bool,
-    w: Way,
-) -> Came
-    requires { ⌜ Row (now head) (now entries) (now fields) × Comes (sizesOf (now code)) here w at × IsProgram (now code) ⌝ }
-    ensures { λ r. ⌜ cameAs (sizesOf (now (code .entry))) (r .mark) (r .way) ≡ with (sizesOf (now (code .entry))) here w (slotIn (sizesOf (now (code .entry))) at (now (head .entry)) (now (entries .entry)) (now (fields .entry))) ⌝ }
+fn reach(row: &mut [u64], code: &[u32; 5131], at: usize, here: bool, w: Way) -> Came
+    requires { ⌜ Row (now row) × Comes (sizesOf (now code)) here w at × IsProgram (now code) ⌝ }
+    ensures { λ r. ⌜ cameAs (sizesOf (now (code .entry))) (r .mark) (r .way) ≡ with (sizesOf (now (code .entry))) here w (slotIn (sizesOf (now (code .entry))) at (now (row .entry))) ⌝ }
     ensures { λ r. ⌜ Held (sizesOf (now (code .entry))) (r .mark) (r .way) at ⌝ }
 {
     if !here {
-        return found(at, head, entries, fields, w);
+        return found(at, row, w);
     }
-    let mark = head[0];
+    let mark = row[0];
     if mark == 0 {
         return Came {
             mark: Mark::Is,
             way: w,
         };
     }
-    arrivals::join(head, entries, fields, code, w);
-    found(at, head, entries, fields, w)
+    arrivals::join(row, code, w);
+    found(at, row, w)
 }
 
 // A way after a step at the price `p`, which leaves `state` and `blocks`.
@@ -169,21 +154,13 @@ pub struct Pass {
 }
 
 // The way `w`, which is all that has come to the address of row `j`, is carried out there.
-fn carry(
-    code: &[u32; 5131],
-    heads: &mut [u64],
-    entries: &mut [u64],
-    fields: &mut [u64],
-    j: usize,
-    f: Found,
-    w: Way,
-) -> Pass
+fn carry(code: &[u32; 5131], rows: &mut [u64], j: usize, f: Found, w: Way) -> Pass
     requires { ⌜ IsProgram (now code) ⌝ }
-    requires { ⌜ Rows (now heads) (now entries) (now fields) × (j < rowsOf (now code)) ⌝ }
+    requires { ⌜ Rows (now rows) × (j < rowsOf (now code)) ⌝ }
     requires { ⌜ (Formed w × Numeric (sizesOf (now code)) w) × (w .state .at ≡ firstOf (now code) + j) × (w .cycles ≤ most j) × (w .words ≤ most j) × Figures j f ⌝ }
-    requires { ⌜ ((b : ℕ) → j < b → b < rowsOf (now code) → Spent (most j) (slotAt (sizesOf (now code)) (firstOf (now code)) (now heads) (now entries) (now fields) b)) ⌝ }
-    ensures { λ r. ⌜ Ready (sizesOf (now (code .entry))) (firstOf (now (code .entry))) (rowsOf (now (code .entry))) (j + 1) (now (heads .exit)) (now (entries .exit)) (now (fields .exit)) r ⌝ }
-    ensures { λ r. ⌜ ((tab : Table) (q : Report) → f ≡ acceptedAs q → ((b : ℕ) → j < b → b < rowsOf (now (code .entry)) → slot (tab (firstOf (now (code .entry)) + b)) ≡ slotAt (sizesOf (now (code .entry))) (firstOf (now (code .entry))) (now (heads .entry)) (now (entries .entry)) (now (fields .entry)) b) → Moved (sizesOf (now (code .entry))) (firstOf (now (code .entry))) (rowsOf (now (code .entry))) (j + 1) (λ rest. carry rest (firstOf (now (code .entry)) + j) tab q (whole (sizesOf (now (code .entry))) (w .blocks) (w .state)) (spentOf w) (step (programOf (now (code .entry))) unknown (whole (sizesOf (now (code .entry))) (w .blocks) (w .state)))) (now (heads .exit)) (now (entries .exit)) (now (fields .exit)) r) ⌝ }
+    requires { ⌜ ((b : ℕ) → j < b → b < rowsOf (now code) → Spent (most j) (slotAt (sizesOf (now code)) (firstOf (now code)) (now rows) b)) ⌝ }
+    ensures { λ r. ⌜ Ready (sizesOf (now (code .entry))) (firstOf (now (code .entry))) (rowsOf (now (code .entry))) (j + 1) (now (rows .exit)) r ⌝ }
+    ensures { λ r. ⌜ ((tab : Table) (q : Report) → f ≡ acceptedAs q → ((b : ℕ) → j < b → b < rowsOf (now (code .entry)) → slot (tab (firstOf (now (code .entry)) + b)) ≡ slotAt (sizesOf (now (code .entry))) (firstOf (now (code .entry))) (now (rows .entry)) b) → Moved (sizesOf (now (code .entry))) (firstOf (now (code .entry))) (rowsOf (now (code .entry))) (j + 1) (λ rest. carry rest (firstOf (now (code .entry)) + j) tab q (whole (sizesOf (now (code .entry))) (w .blocks) (w .state)) (spentOf w) (step (programOf (now (code .entry))) unknown (whole (sizesOf (now (code .entry))) (w .blocks) (w .state)))) (now (rows .exit)) r) ⌝ }
 {
     let s = w.state;
     let b = w.blocks;
@@ -206,7 +183,7 @@ fn carry(
         },
         Next::Goes(p) => {
             let v = paid(w, state, blocks, p);
-            let here = onward(heads, entries, fields, code, j, v);
+            let here = onward(rows, code, j, v);
             Pass {
                 found: g,
                 here: here,
@@ -215,9 +192,9 @@ fn carry(
         }
         Next::Opens(p, place, q) => {
             let taken = paid(w, state.jump(place), blocks, q);
-            arrivals::send(heads, entries, fields, code, taken);
+            arrivals::send(rows, code, taken);
             let v = paid(w, state, blocks, p);
-            let here = onward(heads, entries, fields, code, j, v);
+            let here = onward(rows, code, j, v);
             Pass {
                 found: g,
                 here: here,
@@ -228,36 +205,17 @@ fn carry(
 }
 
 // The address of row `j`.
-fn visit(
-    code: &[u32; 5131],
-    heads: &mut [u64],
-    entries: &mut [u64],
-    fields: &mut [u64],
-    j: usize,
-    p: Pass,
-) -> Pass
+fn visit(code: &[u32; 5131], rows: &mut [u64], j: usize, p: Pass) -> Pass
     requires { ⌜ IsProgram (now code) × (j < rowsOf (now code)) ⌝ }
-    requires { ⌜ Ready (sizesOf (now code)) (firstOf (now code)) (rowsOf (now code)) j (now heads) (now entries) (now fields) p ⌝ }
-    ensures { λ r. ⌜ Ready (sizesOf (now (code .entry))) (firstOf (now (code .entry))) (rowsOf (now (code .entry))) (j + 1) (now (heads .exit)) (now (entries .exit)) (now (fields .exit)) r ⌝ }
-    ensures { λ r. ⌜ ((tab : Table) (q : Report) → p .found ≡ acceptedAs q → Agrees (sizesOf (now (code .entry))) (firstOf (now (code .entry))) (rowsOf (now (code .entry))) j tab (now (heads .entry)) (now (entries .entry)) (now (fields .entry)) (p .here) (p .way) → Moved (sizesOf (now (code .entry))) (firstOf (now (code .entry))) (rowsOf (now (code .entry))) (j + 1) (λ rest. visit (step (programOf (now (code .entry))) unknown) rest (firstOf (now (code .entry)) + j) tab q (slot (tab (firstOf (now (code .entry)) + j)))) (now (heads .exit)) (now (entries .exit)) (now (fields .exit)) r) ⌝ }
+    requires { ⌜ Ready (sizesOf (now code)) (firstOf (now code)) (rowsOf (now code)) j (now rows) p ⌝ }
+    ensures { λ r. ⌜ Ready (sizesOf (now (code .entry))) (firstOf (now (code .entry))) (rowsOf (now (code .entry))) (j + 1) (now (rows .exit)) r ⌝ }
+    ensures { λ r. ⌜ ((tab : Table) (q : Report) → p .found ≡ acceptedAs q → Agrees (sizesOf (now (code .entry))) (firstOf (now (code .entry))) (rowsOf (now (code .entry))) j tab (now (rows .entry)) (p .here) (p .way) → Moved (sizesOf (now (code .entry))) (firstOf (now (code .entry))) (rowsOf (now (code .entry))) (j + 1) (λ rest. visit (step (programOf (now (code .entry))) unknown) rest (firstOf (now (code .entry)) + j) tab q (slot (tab (firstOf (now (code .entry)) + j)))) (now (rows .exit)) r) ⌝ }
 {
     let at = code[0] as usize + j;
-    let head = 5 * j;
-    let entry = 64 * j;
-    let field = 128 * j;
-    let head_end = head + 5;
-    let entry_end = entry + 64;
-    let field_end = field + 128;
+    let low = 197 * j;
+    let high = low + 197;
     let w = p.way;
-    let came = reach(
-        &mut heads[head..head_end],
-        &mut entries[entry..entry_end],
-        &mut fields[field..field_end],
-        code,
-        at,
-        p.here,
-        w,
-    );
+    let came = reach(&mut rows[low..high], code, at, p.here, w);
     let v = came.way;
     let f = p.found;
     let mark = came.mark;
@@ -272,21 +230,19 @@ fn visit(
             here: false,
             way: v,
         },
-        Mark::Is => carry(code, heads, entries, fields, j, f, v),
+        Mark::Is => carry(code, rows, j, f, v),
     }
 }
 
-// The merging bound from `start` with `blocks`. Ways over jumps wait in the rows of three arrays, one row for each address up to that after
-// the last; the way from the address before is at hand.
+// The merging bound from `start` with `blocks`. Ways over jumps wait in the rows of one array, one row for each address up to that after the
+// last; the way from the address before is at hand.
 pub fn merge(code: &[u32; 5131], start: State, blocks: [Cell; 128]) -> Found
     requires { ⌜ IsProgram (now code) × WellFormed start × (length blocks ≡ 128) × Cellwise Kept (whole (sizesOf (now code)) blocks start) (whole (sizesOf (now code)) blocks start) ⌝ }
     requires { ⌜ (firstOf (now code) ≤ start .at) × (start .at ≤ firstOf (now code) + linesIn (now code)) ⌝ }
     ensures { λ r. ⌜ Shows r (merged (programOf (now (code .entry))) (whole (sizesOf (now (code .entry))) blocks start)) ⌝ }
     ensures { λ r. ⌜ Figures 1025 r ⌝ }
 {
-    let mut heads = [0; 5125];
-    let mut entries = [0; 65600];
-    let mut fields = [0; 131200];
+    let mut rows = [0; 201925];
     let n = code[1] as usize + 1;
     let mut j = start.at - code[0] as usize;
     let way = Way {
@@ -309,7 +265,7 @@ pub fn merge(code: &[u32; 5131], start: State, blocks: [Cell; 128]) -> Found
         way: way,
     };
     while j < n {
-        p = visit(code, &mut heads, &mut entries, &mut fields, j, p);
+        p = visit(code, &mut rows, j, p);
         let f = p.found;
         let verdict = f.verdict;
         let Verdict::Accepted = verdict else {

@@ -1,9 +1,10 @@
 -- `arrivals::encode_fields` meets its contract. The loop's invariant: the first i cells are put down. The measure is what is left of them.
 -- Assumes nothing.
 use Prim.Native.Nat.{_≤_, _-_}
-use mathlib.Core.Path.{_≡_, refl, sym, _∙_}
+use mathlib.Core.Path.{_≡_, refl, sym, ap, _∙_}
 use native.Mathlib.Omega.{arith}
-use lib.ListN.{length, take, length-set}
+use lib.ListN.{length, take, drop, length-set, length-drop}
+use lib.Seq.{getD-drop}
 use mathlib.Core.List.{map}
 use Rattle.cells.specs.Codes.{cellsOf, confine}
 use Rattle.arrivals.proofs.FillLaws.{encoded-next, encoded-all}
@@ -12,32 +13,31 @@ use Rattle.arrivals.proofs.encode_fields.Statement.{statement}
 use Rattle.arrivals.proofs.encode_fields.Tie as tie
 
 abbrev Inv-loop : tie.InvT-loop
-Inv-loop fields₀ blocks i₀ fields i = (i ≤ 128) × (length fields ≡ 128) × (cellsOf (take i fields) ≡ map confine (take i blocks))
+Inv-loop low fields₀ blocks i₀ fields i = (i ≤ length fields₀) × (length fields ≡ length fields₀) × (cellsOf (take i fields) ≡ map confine (take i (drop low blocks)))
 
 abbrev μ-loop : tie.MeasureT-loop
-μ-loop fields₀ blocks i₀ fields i = 128 - i
+μ-loop low fields₀ blocks i₀ fields i = length fields₀ - i
 
 loop-holds : tie.Need-loop-holds Inv-loop μ-loop
 unfolding cellsOf
-loop-holds c = (omega arith, search needs, refl)
+loop-holds c = (omega arith, refl, refl)
 
 loop-again : tie.Need-loop-again Inv-loop μ-loop
 loop-again c =
-    let l = c .before .before .before in
-    let a = l .before .before .args in (
+    let at-loop = c .before .before .before in
+    let start = at-loop .before .before in
+    let a = start .args in
+    let l = at-loop .loop in (
       omega arith,
-      rw length-set (l .loop .inv .1),
-      encoded-next (l .loop .fields) (a .t1) _ (l .loop .i) (c .encode .result) (omega arith) (omega (arith, l .before .before .pre .1)) (c .encode .ensures) (l .loop .inv .2),
+      rw length-set (l .inv .1),
+      encoded-next (l .fields) (drop (a .low) (a .t1)) _ (l .i) (c .encode .result) (omega arith) (rw length-drop (omega (arith, start .pre))) (c .encode .ensures ∙ ap confine (sym (getD-drop (a .low) (a .t1) (l .i) _))) (l .inv .2),
     )
-
-same-length : tie.Need-same-length Inv-loop μ-loop
-same-length c = c .before .loop .inv .1 ∙ sym (c .before .before .before .pre .0)
 
 returns : tie.Need-returns Inv-loop μ-loop
 returns c =
-    let l = c .before in
-    let start = l .before .before in
-    encoded-all (l .loop .fields) (start .args .t1) 128 (l .loop .i) (omega arith) (l .loop .inv .1) (start .pre .1) (l .loop .inv .2)
+    let l = c .before .loop in
+    let a = c .before .before .before .args in
+    encoded-all (l .fields) (drop (a .low) (a .t1)) _ (l .i) (omega arith) (l .inv .1) (l .inv .2)
 
 pub encode-fields-spec : {M : Type 1} → statement M
 encode-fields-spec =
@@ -48,11 +48,12 @@ encode-fields-spec =
     loop-holds
     (λ c. search needs)
     (λ c. search needs)
+    (λ c. search needs)
     (λ c κs. search needs)
     (λ c. search needs)
     (λ c. search needs)
     (λ c. search needs)
     (λ c. search needs)
     loop-again
-    same-length
+    (λ c. search needs)
     returns)

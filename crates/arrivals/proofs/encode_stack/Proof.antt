@@ -1,9 +1,10 @@
 -- `arrivals::encode_stack` meets its contract. The loop's invariant: the first i cells are put down. The measure is what is left of them.
 -- Assumes nothing.
 use Prim.Native.Nat.{_≤_, _-_}
-use mathlib.Core.Path.{_≡_, refl, sym, _∙_}
+use mathlib.Core.Path.{_≡_, refl, sym, ap, _∙_}
 use native.Mathlib.Omega.{arith}
-use lib.ListN.{length, take, length-set}
+use lib.ListN.{length, take, drop, length-set, length-drop}
+use lib.Seq.{getD-drop}
 use mathlib.Core.List.{map}
 use Rattle.cells.specs.Codes.{cellsOf, confine}
 use Rattle.arrivals.proofs.FillLaws.{encoded-next, encoded-all}
@@ -12,32 +13,31 @@ use Rattle.arrivals.proofs.encode_stack.Statement.{statement}
 use Rattle.arrivals.proofs.encode_stack.Tie as tie
 
 abbrev Inv-loop : tie.InvT-loop
-Inv-loop entries₀ stack i₀ entries i = (i ≤ 64) × (length entries ≡ 64) × (cellsOf (take i entries) ≡ map confine (take i stack))
+Inv-loop low entries₀ stack i₀ entries i = (i ≤ length entries₀) × (length entries ≡ length entries₀) × (cellsOf (take i entries) ≡ map confine (take i (drop low stack)))
 
 abbrev μ-loop : tie.MeasureT-loop
-μ-loop entries₀ stack i₀ entries i = 64 - i
+μ-loop low entries₀ stack i₀ entries i = length entries₀ - i
 
 loop-holds : tie.Need-loop-holds Inv-loop μ-loop
 unfolding cellsOf
-loop-holds c = (omega arith, search needs, refl)
+loop-holds c = (omega arith, refl, refl)
 
 loop-again : tie.Need-loop-again Inv-loop μ-loop
 loop-again c =
-    let l = c .before .before .before in
-    let a = l .before .before .args in (
+    let at-loop = c .before .before .before in
+    let start = at-loop .before .before in
+    let a = start .args in
+    let l = at-loop .loop in (
       omega arith,
-      rw length-set (l .loop .inv .1),
-      encoded-next (l .loop .entries) (a .t1) _ (l .loop .i) (c .encode .result) (omega arith) (omega (arith, l .before .before .pre .1)) (c .encode .ensures) (l .loop .inv .2),
+      rw length-set (l .inv .1),
+      encoded-next (l .entries) (drop (a .low) (a .t1)) _ (l .i) (c .encode .result) (omega arith) (rw length-drop (omega (arith, start .pre))) (c .encode .ensures ∙ ap confine (sym (getD-drop (a .low) (a .t1) (l .i) _))) (l .inv .2),
     )
-
-same-length : tie.Need-same-length Inv-loop μ-loop
-same-length c = c .before .loop .inv .1 ∙ sym (c .before .before .before .pre .0)
 
 returns : tie.Need-returns Inv-loop μ-loop
 returns c =
-    let l = c .before in
-    let start = l .before .before in
-    encoded-all (l .loop .entries) (start .args .t1) 64 (l .loop .i) (omega arith) (l .loop .inv .1) (start .pre .1) (l .loop .inv .2)
+    let l = c .before .loop in
+    let a = c .before .before .before .args in
+    encoded-all (l .entries) (drop (a .low) (a .t1)) _ (l .i) (omega arith) (l .inv .1) (l .inv .2)
 
 pub encode-stack-spec : {M : Type 1} → statement M
 encode-stack-spec =
@@ -48,11 +48,12 @@ encode-stack-spec =
     loop-holds
     (λ c. search needs)
     (λ c. search needs)
+    (λ c. search needs)
     (λ c κs. search needs)
     (λ c. search needs)
     (λ c. search needs)
     (λ c. search needs)
     (λ c. search needs)
     loop-again
-    same-length
+    (λ c. search needs)
     returns)

@@ -4,13 +4,11 @@ use Prim.Native.Nat.{_-_, _≤_}
 use mathlib.Core.Path.{_≡_, refl, sym, ap, ap₂, _∙_}
 use native.Mathlib.Omega.{arith}
 use lib.ListN.{length, length-set}
-use Rattle.cells.specs.Try.{done}
-use Rattle.cells.specs.Answers.{ofOperand}
 use Rattle.cells.specs.Merge.{mergeCells}
 use Rattle.cells.specs.Codes.{cellOf, cellsOf}
 use Rattle.merges.specs.Merge.{mergeLists}
-use Rattle.cells.proofs.CodeLaws.{cells-length, cells-at, cells-set, decoded-confined}
-use Rattle.cells.proofs.MergeLaws.{merged-confined}
+use Rattle.cells.proofs.CodeLaws.{cells-length, cells-at, cells-set}
+use Rattle.arrivals.specs.Rows.{ofMerged}
 use Rattle.arrivals.proofs.ZipLaws.{Partly, none-made, one-made, none-merged, all-made}
 use borrow.Author.Needs.{needs}
 use Rattle.arrivals.proofs.merge_cells.Statement.{statement}
@@ -25,39 +23,27 @@ abbrev μ-loop : tie.MeasureT-loop
 loop-holds : tie.Need-loop-holds Inv-loop μ-loop
 loop-holds c = (omega arith, refl, none-made mergeCells (cellOf 0) _ _)
 
-merge-requires : tie.Need-merge-requires Inv-loop μ-loop
-merge-requires c κs =
-    (decoded-confined _ (c .before .before .decode .ensures), decoded-confined _ (c .decode2 .ensures))
-
-enum-told : tie.Need-enum-told Inv-loop μ-loop
-enum-told c = search needs
-
 same-length : tie.Need-same-length Inv-loop μ-loop
-same-length c = c .before .before .before .before .before .before .before .before .loop .inv .1
+same-length c = c .before .before .before .before .before .before .loop .inv .1
 
 returns : tie.Need-returns Inv-loop μ-loop
+unfolding ofMerged
 returns c =
     let m = c .before .before in
-    let at-decode = m .before .before .before in
-    let at-loop = at-decode .before .before .before in
-    let start = at-loop .before .before .before in
+    let at-loop = m .before .before .before .before in
     let l = at-loop .loop in
-    let came = start .args .came .now in
-    let e = ap ofOperand (sym (c .enum-told .given .1)) ∙ m .merge .ensures ∙ ap₂ mergeCells (at-decode .decode .ensures) (m .before .decode2 .ensures) ∙ sym (ap₂ mergeCells (cells-at (l .held) (l .i)) (cells-at came (l .i))) in
+    let came = at-loop .before .before .before .args .came .now in
+    let e = ap ofMerged (sym (c .enum-told .given .1)) ∙ m .merge-numbers .ensures ∙ sym (ap₂ mergeCells (cells-at (l .held) (l .i)) (cells-at came (l .i))) in
     sym (none-merged mergeCells (cellOf 0) _ (cellsOf (l .held)) (cellsOf came) (l .i) (rw cells-length (omega arith)) (rw cells-length (omega arith)) e (l .inv .2))
 
 loop-again : tie.Need-loop-again Inv-loop μ-loop
+unfolding ofMerged
 loop-again c =
-    let at-merged = c .before .before in
-    let m = at-merged .before .before in
-    let at-decode2 = m .before in
-    let at-decode = at-decode2 .before .before in
-    let at-loop = at-decode .before .before .before in
-    let start = at-loop .before .before .before in
+    let m = c .before .before .before in
+    let at-loop = m .before .before .before .before in
     let l = at-loop .loop in
-    let came = start .args .came .now in
-    let kept = merged-confined (decoded-confined _ (at-decode .decode .ensures)) (decoded-confined _ (at-decode2 .decode2 .ensures)) (ap ofOperand (sym (at-merged .merged .given .1)) ∙ m .merge .ensures) .stays in
-    let e = ap done (c .encode .ensures ∙ kept) ∙ ap ofOperand (sym (at-merged .merged .given .1)) ∙ m .merge .ensures ∙ ap₂ mergeCells (at-decode .decode .ensures) (at-decode2 .decode2 .ensures) ∙ sym (ap₂ mergeCells (cells-at (l .held) (l .i)) (cells-at came (l .i))) in (
+    let came = at-loop .before .before .before .args .came .now in
+    let e = ap ofMerged (sym (c .before .merged .given .1)) ∙ m .merge-numbers .ensures ∙ sym (ap₂ mergeCells (cells-at (l .held) (l .i)) (cells-at came (l .i))) in (
       omega arith,
       rw length-set (l .inv .1),
       rw cells-set
@@ -81,16 +67,13 @@ merge-cells-spec =
     loop-holds
     (λ c. search needs)
     (λ c. search needs)
-    (λ c κs. search needs)
     (λ c. search needs)
     (λ c. search needs)
     (λ c κs. search needs)
-    merge-requires
     (λ c. search needs)
-    enum-told
+    (λ c. search needs)
     same-length
     returns
-    (λ c κs. search needs)
     (λ c. search needs)
     (λ c. search needs)
     (λ c. search needs)

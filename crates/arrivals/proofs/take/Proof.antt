@@ -7,18 +7,20 @@ use Rattle.arrivals.proofs.take.Tie as tie
 
 returns : tie.Need-returns
 returns c =
-    let at-unused = c .before .before .before .before in
-    let at-decode = at-unused .before .before in
-    let start = at-decode .before .before .before .before .before in
+    let d = c .before .before in
+    let s = d .before .before in
+    let u = s .before .before in
+    let e = u .before .before in
+    let start = e .before .before .before in
     let a = start .args in
-    let free = at-unused .unused .ensures in
-    let stack = c .before .before .before .decode-stack .ensures in
-    let blocks = c .before .before .decode-fields .ensures in (
-      λ ns. take-holds (a .at) (a .head .now) (a .entries .now) (a .fields .now) _ _ _ _ free stack blocks ns (at-decode .decode .ensures),
+    let free = u .unused .ensures in
+    let stack = s .decode-stack .ensures in
+    let blocks = d .decode-fields .ensures in (
+      λ ns. take-holds (a .at) (a .row .now) _ _ _ _ (start .pre) free stack blocks ns (e .decode .ensures),
       (
         (
-          take-formed (a .at) (a .head .now) (a .entries .now) (a .fields .now) _ _ _ _ free stack blocks (start .pre .1) (start .pre .2),
-          λ ns. take-numeric (a .at) (a .head .now) (a .entries .now) (a .fields .now) _ _ _ _ free stack blocks ns (at-decode .decode .ensures),
+          take-formed (a .at) (a .row .now) _ _ _ _ (start .pre) free stack blocks,
+          λ ns. take-numeric (a .at) (a .row .now) _ _ _ _ (start .pre) free stack blocks ns (e .decode .ensures),
         ),
         refl,
       ),
@@ -32,7 +34,13 @@ take-spec =
     (λ c κs. search needs)
     (λ c. search needs)
     (λ c κs. search needs)
+    (λ c. search needs)
+    (λ c. search needs)
+    (λ c. search needs)
     (λ c κs. search needs)
+    (λ c. search needs)
+    (λ c. search needs)
+    (λ c. search needs)
     (λ c κs. search needs)
     (λ c. search needs)
     (λ c. search needs)

@@ -1,260 +1,273 @@
 -- `merging::carry` meets its contract. Assumes nothing.
-use Prim.Native.Nat.{_+_, _<_}
+use Prim.Native.Nat.{ℕ, _+_, _-_, _<_, _≤_}
 use mathlib.Core.Path.{_≡_, sym, ap, subst, _∙_}
+use mathlib.Core.List.{List}
 use native.Mathlib.Omega.{arith}
 use lib.ListN.{length}
 use Rattle.refusals.specs.declared.Refusal.the-variants.{Stuck}
-use Rattle.machine.specs.Machine.{stops, step}
+use Rattle.cells.specs.declared.Cell.{Cell}
+use Rattle.cells.specs.Try.{Try, done}
+use Rattle.cells.specs.Cells.{unknown}
+use Rattle.cells.specs.Codes.{Kept}
+use Rattle.machine.specs.Machine.{State, Next, stops, goes, opens, jump, height, step}
+use Rattle.machine.specs.Order.{Cellwise}
 use Rattle.states.specs.Program.{firstOf, programOf, sizesOf}
 use Rattle.states.specs.View.{whole}
 use Rattle.bounds.specs.Tree.{refused}
+use Rattle.steps.specs.declared.Price as code
+use Rattle.steps.specs.declared.Next as leads-to
+use Rattle.steps.specs.declared.Next.the-variants as leads
 use Rattle.steps.specs.Step.{ofPrice, Small}
 use Rattle.merges.specs.Merge.{arrive, reach, finish}
-use Rattle.arrivals.specs.Rows.{arrivalOf, rowsOf}
-use Rattle.merging.specs.Pass.{stopped, moved, spentOf}
-use Rattle.merging.proofs.CarryLaws.{reached-as, ended-as, reached-figures, ended-figures, refused-figures, refused-verdict, paid-as, paid-formed, paid-numeric, goes-numeric, opens-numeric, jump-numeric, paid-cycles, paid-words, raised, stays-ready, stays-agree, goes-ready, goes-agree, sent-sums, sent-agree, leads-stuck, leads-stops, leads-goes, leads-opens, same-fields, way-height, jumped-as, carried-stuck, carried-stops, carried-goes, carried-opens}
+use Rattle.arrivals.specs.declared.Way.{Way}
+use Rattle.arrivals.specs.Rows.{Rows, Formed, Numeric, arrivalOf, rowsOf}
+use Rattle.merging.specs.Pass.{most, Figures, stopped, moved, spentOf}
+use Rattle.merging.proofs.CarryLaws.{Under, Paid, reached-as, ended-as, reached-figures, ended-figures, refused-figures, refused-verdict, paid-as, paid-formed, paid-numeric, goes-numeric, opens-numeric, jump-numeric, paid-cycles, paid-words, raised, stays-ready, stays-agree, goes-ready, goes-agree, sent-sums, sent-agree, leads-stuck, leads-stops, leads-goes, leads-opens, same-fields, way-height, jumped-as, carried-stuck, carried-stops, carried-goes, carried-opens}
 use borrow.Author.Needs.{needs}
 use Rattle.merging.proofs.carry.Statement.{statement}
 use Rattle.merging.proofs.carry.Tie as tie
 
-step-requires : tie.Need-step-requires
-step-requires c κs =
-    let start = c .before .before .before .before .before .before in
-    let a = start .args in
-    let limits = start .pre .1 .0 in
-    let way = start .pre .1 .1 .0 in
-    (start .pre .0, way .0 .0 .state)
+-- the step is made, and the address reached
+module _ (c : tie.After-reached) where
+  abbrev stepped : tie.After-step
+  stepped = c .before .before .before .before
 
-sub-reached : tie.Need-sub-reached
-sub-reached c =
-    let start = c .before .before .before .before .before .before .before .before .before .before in
-    let a = start .args in
-    let limits = start .pre .1 .0 in
-    let way = start .pre .1 .1 .0 in
-    way .0 .0 .state .free
+  abbrev start : tie.Start
+  start = stepped .before .before .before .before .before
 
-reached-requires : tie.Need-reached-requires
-reached-requires c κs =
-    let start = c .before .before .before .before .before .before .before .before .before .before in
-    let a = start .args in
-    let limits = start .pre .1 .0 in
-    let way = start .pre .1 .1 .0 in
-    let few : a .j < rowsOf (a .code .now) = limits .1 in
-    let most = start .pre .0 .lines in
-    (omega (arith, way .4 .used), omega arith)
+  abbrev w : Way
+  w = start .args .w
 
-enum-told : tie.Need-enum-told
-enum-told c = search needs
+  abbrev j : ℕ
+  j = start .args .j
+
+  abbrev rs : List ℕ
+  rs = start .args .rows .now
+
+  abbrev ns : List ℕ
+  ns = sizesOf (start .args .code .now)
+
+  abbrev first : ℕ
+  first = firstOf (start .args .code .now)
+
+  abbrev n : ℕ
+  n = rowsOf (start .args .code .now)
+
+  abbrev s : State
+  s = whole ns (w .blocks) (w .state)
+
+  abbrev to : Cell → Try Next
+  to u = step (programOf (start .args .code .now)) u s
+
+  -- what was asked
+  rows : Rows rs
+  rows = start .pre .1 .0 .0
+
+  few : j < n
+  few = start .pre .1 .0 .1
+
+  formed : Formed w
+  formed = start .pre .1 .1 .0 .0 .0
+
+  numeric : Numeric ns w
+  numeric = start .pre .1 .1 .0 .0 .1
+
+  at : w .state .at ≡ first + j
+  at = start .pre .1 .1 .0 .1
+
+  cycles : w .cycles ≤ most j
+  cycles = start .pre .1 .1 .0 .2
+
+  words : w .words ≤ most j
+  words = start .pre .1 .1 .0 .3
+
+  sums : Under ns first n j (j + 1) rs
+  sums = raised ns first n j rs (start .pre .1 .1 .1)
+
+  cycles-few : w .cycles ≤ most 1025
+  cycles-few = omega (arith, cycles, few, start .pre .0 .lines)
+
+  words-few : w .words ≤ most 1025
+  words-few = omega (arith, words, few, start .pre .0 .lines)
+
+  -- what the step leaves
+  told : stepped .before .unknown .result ≡ unknown
+  told = stepped .before .unknown .ensures
+
+  fields : length (stepped .step .result .blocks) ≡ 128
+  fields = same-fields (stepped .step .result .change) (w .blocks) _ (stepped .step .ensures .1 .1 .1) (formed .fields)
+
+  small : (x : leads-to.Next) → stepped .step .result .next ≡ x → Small x
+  small x e = subst Small e (stepped .step .ensures .1 .1 .0 .1)
+
+  figures : Figures (j + 1) (c .reached .result)
+  figures = reached-figures j (start .args .f) (c .reached .result) _ (omega arith) (c .reached .ensures) (start .pre .1 .1 .0 .4)
+
+  high : 64 - w .state .free ≡ height s
+  high = way-height ns w (formed .state)
+
+  -- a way after the step
+  module _ (v : Way) (p : code.Price) (paid : Paid w (stepped .step .result .state) (stepped .step .result .blocks) p v) where
+    left-formed : Formed v
+    left-formed = paid-formed w v _ _ p paid (stepped .step .ensures .1 .1 .0 .0) fields
+
+    left-numeric : done (goes (ofPrice p) (whole ns (stepped .step .result .blocks) (stepped .step .result .state))) ≡ to unknown → Numeric ns v
+    left-numeric e = paid-numeric ns w v _ _ p paid (goes-numeric (programOf (start .args .code .now)) s _ _ numeric e)
+
+-- by what the step leads to
+stops-to : (c : tie.After-next) → done (stops (ofPrice (c .next .given .0 .0))) ≡ to (c .before .before) unknown
+stops-to c =
+    let r = c .before .before in
+    leads-stops (stepped r .step .result .next) (c .next .given .0 .0) _ (to r) _ (c .next .given .1) (told r) (stepped r .step .ensures .0)
+
+module _ (c : tie.After-next2) where
+  abbrev to-one : tie.After-reached
+  to-one = c .before .before
+
+  abbrev price : code.Price
+  price = c .next2 .given .0 .0
+
+  goes-to : done (goes (ofPrice price) (whole (ns to-one) (stepped to-one .step .result .blocks) (stepped to-one .step .result .state))) ≡ to to-one unknown
+  goes-to = leads-goes (stepped to-one .step .result .next) price _ (to to-one) _ (c .next2 .given .1) (told to-one) (stepped to-one .step .ensures .0)
+
+module _ (c : tie.After-next3) where
+  abbrev to-two : tie.After-reached
+  to-two = c .before .before
+
+  abbrev left : code.Price
+  left = c .next3 .given .0 .0
+
+  abbrev place : ℕ
+  place = c .next3 .given .0 .1 .0
+
+  abbrev extra : code.Price
+  extra = c .next3 .given .0 .1 .1 .0
+
+  abbrev after : State
+  after = whole (ns to-two) (stepped to-two .step .result .blocks) (stepped to-two .step .result .state)
+
+  opens-to : done (opens (ofPrice left) after (ofPrice extra) (jump place after)) ≡ to to-two unknown
+  opens-to = leads-opens (stepped to-two .step .result .next) left extra place _ (to to-two) _ (c .next3 .given .1) (told to-two) (stepped to-two .step .ensures .0)
+
+  both-numeric : Cellwise Kept after after × Cellwise Kept (jump place after) (jump place after)
+  both-numeric = opens-numeric (programOf (start to-two .args .code .now)) (s to-two) _ _ _ _ (numeric to-two) opens-to
 
 paid-requires : tie.Need-paid-requires
-paid-requires c κs =
-    let start = c .before .before .before .before .before .before .before .before .before .before .before .before .before .before in
-    let a = start .args in
-    let limits = start .pre .1 .0 in
-    let way = start .pre .1 .1 .0 in
-    let few : a .j < rowsOf (a .code .now) = limits .1 in
-    let most = start .pre .0 .lines in
-    (omega (arith, way .2), omega (arith, way .3), subst Small (c .before .next .given .1) (c .before .before .before .before .before .before .before .step .ensures .1 .1 .0 .1))
+paid-requires c κs = let r = c .before .before .before in (cycles-few r, words-few r, small r _ (c .before .next .given .1))
 
 paid-requires-2 : tie.Need-paid-requires-2
-paid-requires-2 c κs =
-    let start = c .before .before .before .before .before .before .before .before .before .before .before .before .before .before in
-    let a = start .args in
-    let limits = start .pre .1 .0 in
-    let way = start .pre .1 .1 .0 in
-    let few : a .j < rowsOf (a .code .now) = limits .1 in
-    let most = start .pre .0 .lines in
-    (omega (arith, way .2), omega (arith, way .3), subst Small (c .before .next2 .given .1) (c .before .before .before .before .before .before .before .step .ensures .1 .1 .0 .1))
+paid-requires-2 c κs = let r = c .before .before .before in (cycles-few r, words-few r, small r _ (c .before .next2 .given .1))
 
 onward-requires : tie.Need-onward-requires
 onward-requires c κs =
-    let start = c .before .before .before .before .before .before .before .before .before .before .before .before .before .before .before .before .before .before in
-    let a = start .args in
-    let limits = start .pre .1 .0 in
-    let way = start .pre .1 .1 .0 in
-    let st = c .before .before .before .before .before .before .before .before .before .before .before .step in
-    let price = c .before .before .before .before .before .next2 .given .0 .0 in
-    let s = whole (sizesOf (a .code .now)) (a .w .blocks) (a .w .state) in
-    let numeric = goes-numeric (programOf (a .code .now)) s _ _ (way .0 .1) (leads-goes (st .result .next) price _ (λ u. step (programOf (a .code .now)) u s) _ (c .before .before .before .before .before .next2 .given .1) (c .before .before .before .before .before .before .before .before .before .before .before .before .unknown .ensures) (st .ensures .0)) in
-    (limits .0, limits .1, (paid-formed (a .w) _ _ _ _ (c .before .before .before .paid2 .ensures) (c .before .before .before .before .before .before .before .before .before .before .before .step .ensures .1 .1 .0 .0) (same-fields (c .before .before .before .before .before .before .before .before .before .before .before .step .result .change) _ _ (c .before .before .before .before .before .before .before .before .before .before .before .step .ensures .1 .1 .1) (way .0 .0 .fields)), paid-numeric (sizesOf (a .code .now)) (a .w) _ _ _ _ (c .before .before .before .paid2 .ensures) numeric), start .pre .0)
-
-jump-requires : tie.Need-jump-requires
-jump-requires c κs = c .before .before .before .before .before .before .before .step .ensures .1 .1 .0 .0
+    let v = c .before in
+    let g = v .before .before in
+    let r = to-one g in
+    (rows r, few r, (left-formed r (v .paid2 .result) (price g) (v .paid2 .ensures), left-numeric r (v .paid2 .result) (price g) (v .paid2 .ensures) (goes-to g)), start r .pre .0)
 
 paid-requires-3 : tie.Need-paid-requires-3
-paid-requires-3 c κs =
-    let start = c .before .before .before .before .before .before .before .before .before .before .before .before .before .before .before in
-    let a = start .args in
-    let limits = start .pre .1 .0 in
-    let way = start .pre .1 .1 .0 in
-    let few : a .j < rowsOf (a .code .now) = limits .1 in
-    let most = start .pre .0 .lines in
-    (omega (arith, way .2), omega (arith, way .3), subst Small (c .before .before .next3 .given .1) (c .before .before .before .before .before .before .before .before .step .ensures .1 .1 .0 .1) .1)
+paid-requires-3 c κs = let g = c .before .before in let r = to-two g in (cycles-few r, words-few r, small r _ (g .next3 .given .1) .1)
+
+-- the taken way
+module _ (c : tie.After-paid3) where
+  abbrev opened : tie.After-next3
+  opened = c .before .before .before
+
+  taken-formed : Formed (c .paid3 .result)
+  taken-formed = paid-formed (w (to-two opened)) (c .paid3 .result) _ _ (extra opened) (c .paid3 .ensures) (c .before .jump .ensures .1) (fields (to-two opened))
+
+  taken-numeric : Numeric (ns (to-two opened)) (c .paid3 .result)
+  taken-numeric = paid-numeric (ns (to-two opened)) (w (to-two opened)) (c .paid3 .result) _ _ (extra opened) (c .paid3 .ensures) (jump-numeric (ns (to-two opened)) _ _ _ _ (c .before .jump .ensures .0) (both-numeric opened .1))
 
 send-requires : tie.Need-send-requires
 send-requires c κs =
-    let start = c .before .before .before .before .before .before .before .before .before .before .before .before .before .before .before .before .before .before .before in
-    let a = start .args in
-    let limits = start .pre .1 .0 in
-    let way = start .pre .1 .1 .0 in
-    let st = c .before .before .before .before .before .before .before .before .before .before .before .before .step in
-    let known = c .before .before .before .before .before .before .next3 .given .0 in
-    let s = whole (sizesOf (a .code .now)) (a .w .blocks) (a .w .state) in
-    let numeric = opens-numeric (programOf (a .code .now)) s _ _ _ _ (way .0 .1) (leads-opens (st .result .next) (known .0) (known .1 .1 .0) (known .1 .0) _ (λ u. step (programOf (a .code .now)) u s) _ (c .before .before .before .before .before .before .next3 .given .1) (c .before .before .before .before .before .before .before .before .before .before .before .before .before .unknown .ensures) (st .ensures .0)) in
-    (limits .0, (paid-formed (a .w) _ _ _ _ (c .before .before .before .paid3 .ensures) (c .before .before .before .before .jump .ensures .1) (same-fields (c .before .before .before .before .before .before .before .before .before .before .before .before .step .result .change) _ _ (c .before .before .before .before .before .before .before .before .before .before .before .before .step .ensures .1 .1 .1) (way .0 .0 .fields)), paid-numeric (sizesOf (a .code .now)) (a .w) _ _ _ _ (c .before .before .before .paid3 .ensures) (jump-numeric (sizesOf (a .code .now)) _ _ _ _ (c .before .before .before .before .jump .ensures .0) (numeric .1))), start .pre .0)
+    let y = c .before in
+    let r = to-two (opened y) in
+    (rows r, (taken-formed y, taken-numeric y), start r .pre .0)
 
 paid-requires-4 : tie.Need-paid-requires-4
-paid-requires-4 c κs =
-    let start = c .before .before .before .before .before .before .before .before .before .before .before .before .before .before .before .before .before .before .before .before .before .before .before .before .before .before in
-    let a = start .args in
-    let limits = start .pre .1 .0 in
-    let way = start .pre .1 .1 .0 in
-    let few : a .j < rowsOf (a .code .now) = limits .1 in
-    let most = start .pre .0 .lines in
-    (omega (arith, way .2), omega (arith, way .3), subst Small (c .before .before .before .before .before .before .before .before .before .before .before .before .before .next3 .given .1) (c .before .before .before .before .before .before .before .before .before .before .before .before .before .before .before .before .before .before .before .step .ensures .1 .1 .0 .1) .0)
+paid-requires-4 c κs = let g = opened (c .before .before .before .before) in let r = to-two g in (cycles-few r, words-few r, small r _ (g .next3 .given .1) .0)
 
 onward-requires-2 : tie.Need-onward-requires-2
 onward-requires-2 c κs =
-    let start = c .before .before .before .before .before .before .before .before .before .before .before .before .before .before .before .before .before .before .before .before .before .before .before .before .before .before .before .before .before .before in
-    let a = start .args in
-    let limits = start .pre .1 .0 in
-    let way = start .pre .1 .1 .0 in
-    let sent = c .before .before .before .before .before .before .before .before .before .before .send .last in
-    let hl : length (sent .0) ≡ 5125 = c .before .before .before .before .before .before .before .before .before .heads2 .given ∙ limits .0 .0 in
-    let el : length (sent .1 .0) ≡ 65600 = c .before .before .before .before .before .before .before .entries2 .given ∙ limits .0 .1 in
-    let fl : length (sent .1 .1 .0) ≡ 131200 = c .before .before .before .before .before .fields2 .given ∙ limits .0 .2 in
-    let st = c .before .before .before .before .before .before .before .before .before .before .before .before .before .before .before .before .before .before .before .before .before .before .before .step in
-    let known = c .before .before .before .before .before .before .before .before .before .before .before .before .before .before .before .before .before .next3 .given .0 in
-    let s = whole (sizesOf (a .code .now)) (a .w .blocks) (a .w .state) in
-    let numeric = opens-numeric (programOf (a .code .now)) s _ _ _ _ (way .0 .1) (leads-opens (st .result .next) (known .0) (known .1 .1 .0) (known .1 .0) _ (λ u. step (programOf (a .code .now)) u s) _ (c .before .before .before .before .before .before .before .before .before .before .before .before .before .before .before .before .before .next3 .given .1) (c .before .before .before .before .before .before .before .before .before .before .before .before .before .before .before .before .before .before .before .before .before .before .before .before .unknown .ensures) (st .ensures .0)) in
-    ((hl, el, fl), limits .1, (paid-formed (a .w) _ _ _ _ (c .before .before .before .paid4 .ensures) (c .before .before .before .before .before .before .before .before .before .before .before .before .before .before .before .before .before .before .before .before .before .before .before .step .ensures .1 .1 .0 .0) (same-fields (c .before .before .before .before .before .before .before .before .before .before .before .before .before .before .before .before .before .before .before .before .before .before .before .step .result .change) _ _ (c .before .before .before .before .before .before .before .before .before .before .before .before .before .before .before .before .before .before .before .before .before .before .before .step .ensures .1 .1 .1) (way .0 .0 .fields)), paid-numeric (sizesOf (a .code .now)) (a .w) _ _ _ _ (c .before .before .before .paid4 .ensures) (numeric .0)), start .pre .0)
+    let v = c .before in
+    let t = v .before .before .before in
+    let g = opened (t .before .before) in
+    let r = to-two g in
+    (v .before .before .rows2 .given ∙ rows r, few r, (left-formed r (v .paid4 .result) (left g) (v .paid4 .ensures), paid-numeric (ns r) (w r) (v .paid4 .result) _ _ (left g) (v .paid4 .ensures) (both-numeric g .0)), start r .pre .0)
 
 returns : tie.Need-returns
 returns c =
-    let start = c .before .before .before .before .before .before .before .before .before .before .before .before .before .before in
-    let a = start .args in
-    let limits = start .pre .1 .0 in
-    let way = start .pre .1 .1 .0 in
-    let ns = sizesOf (a .code .now) in
-    let hs = a .heads .now in
-    let es = a .entries .now in
-    let fs = a .fields .now in
-    let st = c .before .before .before .before .before .before .before .step in
-    let code = programOf (a .code .now) in
-    let s = whole ns (a .w .blocks) (a .w .state) in
-    let sums = raised ns (firstOf (a .code .now)) (rowsOf (a .code .now)) (a .j) hs es fs (start .pre .1 .1 .1) in
-    let lead = leads-stuck (st .result .next) _ (λ u. step code u s) _ (c .before .enum-told .given .1) (c .before .before .before .before .before .before .before .before .unknown .ensures) (st .ensures .0) in (
-      stays-ready ns (firstOf (a .code .now)) (rowsOf (a .code .now)) (a .j) hs es fs sums (limits .0) (c .refused .result) (a .w) (refused-figures (a .j + 1) _ _ (c .refused .ensures)),
-      λ tab q e agree. stopped (Stuck (a .w .state .at)) (refused-verdict _ _ (c .refused .ensures)) (λ rest. carried-stuck rest (firstOf (a .code .now) + a .j) tab q s (spentOf (a .w)) _ lead ∙ ap (λ i. refused (Stuck i)) (sym (way .1))),
+    let r = c .before .before .before in
+    let lead = leads-stuck (stepped r .step .result .next) _ (to r) _ (c .before .enum-told .given .1) (told r) (stepped r .step .ensures .0) in (
+      stays-ready (ns r) (first r) (n r) (j r) (rs r) (sums r) (rows r) (c .refused .result) (w r) (refused-figures (j r + 1) _ _ (c .refused .ensures)),
+      λ tab q e agree. stopped (Stuck (w r .state .at)) (refused-verdict _ _ (c .refused .ensures)) (λ rest. carried-stuck rest (first r + j r) tab q (s r) (spentOf (w r)) _ lead ∙ ap (λ i. refused (Stuck i)) (sym (at r))),
     )
 
 returns-2 : tie.Need-returns-2
 returns-2 c =
-    let start = c .before .before .before .before .before .before .before .before .before .before .before .before .before .before .before .before in
-    let a = start .args in
-    let limits = start .pre .1 .0 in
-    let way = start .pre .1 .1 .0 in
-    let ns = sizesOf (a .code .now) in
-    let hs = a .heads .now in
-    let es = a .entries .now in
-    let fs = a .fields .now in
-    let st = c .before .before .before .before .before .before .before .before .before .step in
-    let code = programOf (a .code .now) in
-    let s = whole ns (a .w .blocks) (a .w .state) in
-    let sums = raised ns (firstOf (a .code .now)) (rowsOf (a .code .now)) (a .j) hs es fs (start .pre .1 .1 .1) in
-    let g = c .before .before .before .before .before .reached in
-    let figures = reached-figures (a .j) (a .f) (g .result) _ (omega arith) (g .ensures) (way .4) in
-    let height = way-height ns (a .w) (way .0 .0 .state) in
-    let price = c .before .before .before .next .given .0 .0 in
-    let small = subst Small (c .before .before .before .next .given .1) (st .ensures .1 .1 .0 .1) in
     let v = c .before .paid in
-    let cycles = paid-cycles (a .j) (a .w) (v .result) _ _ price (v .ensures) (way .2) small in
-    let words = paid-words (a .j) (a .w) (v .result) _ _ price (v .ensures) (way .3) small in
-    let lead = leads-stops (st .result .next) price _ (λ u. step code u s) _ (c .before .before .before .next .given .1) (c .before .before .before .before .before .before .before .before .before .before .unknown .ensures) (st .ensures .0) in (
-      stays-ready ns (firstOf (a .code .now)) (rowsOf (a .code .now)) (a .j) hs es fs sums (limits .0) (c .ended .result) (a .w) (ended-figures (a .j + 1) (g .result) (c .ended .result) _ _ (c .ended .ensures) cycles words figures),
+    let known = c .before .before .before in
+    let r = known .before .before in
+    let p = known .next .given .0 .0 in
+    let g = r .reached in
+    let fits = small r _ (known .next .given .1) in
+    let k = paid-cycles (j r) (w r) (v .result) _ _ p (v .ensures) (cycles r) fits in
+    let l = paid-words (j r) (w r) (v .result) _ _ p (v .ensures) (words r) fits in (
+      stays-ready (ns r) (first r) (n r) (j r) (rs r) (sums r) (rows r) (c .ended .result) (w r) (ended-figures (j r + 1) (g .result) (c .ended .result) _ _ (c .ended .ensures) k l (figures r)),
       λ tab q e agree.
-          moved tab (finish (spentOf (a .w)) (stops (ofPrice price)) (reach s q))
-          (ended-as (g .result) (c .ended .result) (reach s q) (spentOf (a .w)) (ofPrice price) _ _ (c .ended .ensures) (v .ensures .2) (v .ensures .3) (reached-as (a .f) (g .result) q s _ (g .ensures) height e))
-          (λ rest. carried-stops rest (firstOf (a .code .now) + a .j) tab q s (spentOf (a .w)) (ofPrice price) _ lead)
-          (stays-agree ns (firstOf (a .code .now)) (rowsOf (a .code .now)) (a .j) hs es fs sums tab (a .w) agree),
+          moved tab (finish (spentOf (w r)) (stops (ofPrice p)) (reach (s r) q))
+          (ended-as (g .result) (c .ended .result) (reach (s r) q) (spentOf (w r)) (ofPrice p) _ _ (c .ended .ensures) (v .ensures .2) (v .ensures .3) (reached-as (start r .args .f) (g .result) q (s r) _ (g .ensures) (high r) e))
+          (λ rest. carried-stops rest (first r + j r) tab q (s r) (spentOf (w r)) (ofPrice p) _ (stops-to known))
+          (stays-agree (ns r) (first r) (n r) (j r) (rs r) (sums r) tab (w r) agree),
     )
 
 returns-3 : tie.Need-returns-3
 returns-3 c =
-    let start = c .before .before .before .before .before .before .before .before .before .before .before .before .before .before .before .before .before .before .before .before .before .before .before .before .before in
-    let a = start .args in
-    let limits = start .pre .1 .0 in
-    let way = start .pre .1 .1 .0 in
-    let ns = sizesOf (a .code .now) in
-    let hs = a .heads .now in
-    let es = a .entries .now in
-    let fs = a .fields .now in
-    let st = c .before .before .before .before .before .before .before .before .before .before .before .before .before .before .before .before .before .before .step in
-    let code = programOf (a .code .now) in
-    let s = whole ns (a .w .blocks) (a .w .state) in
-    let sums = raised ns (firstOf (a .code .now)) (rowsOf (a .code .now)) (a .j) hs es fs (start .pre .1 .1 .1) in
-    let g = c .before .before .before .before .before .before .before .before .before .before .before .before .before .before .reached in
-    let figures = reached-figures (a .j) (a .f) (g .result) _ (omega arith) (g .ensures) (way .4) in
-    let height = way-height ns (a .w) (way .0 .0 .state) in
-    let price = c .before .before .before .before .before .before .before .before .before .before .before .before .next2 .given .0 .0 in
-    let small = subst Small (c .before .before .before .before .before .before .before .before .before .before .before .before .next2 .given .1) (st .ensures .1 .1 .0 .1) in
-    let v = c .before .before .before .before .before .before .before .before .before .before .paid2 in
-    let o = c .before .before .before .before .before .before .onward in
-    let hl : length (o .last .0) ≡ 5125 = c .before .before .before .before .before .heads .given ∙ limits .0 .0 in
-    let el : length (o .last .1 .0) ≡ 65600 = c .before .before .before .entries .given ∙ limits .0 .1 in
-    let fl : length (o .last .1 .1 .0) ≡ 131200 = c .before .fields .given ∙ limits .0 .2 in
-    let cycles = paid-cycles (a .j) (a .w) (v .result) _ _ price (v .ensures) (way .2) small in
-    let words = paid-words (a .j) (a .w) (v .result) _ _ price (v .ensures) (way .3) small in
-    let lead = leads-goes (st .result .next) price _ (λ u. step code u s) _ (c .before .before .before .before .before .before .before .before .before .before .before .before .next2 .given .1) (c .before .before .before .before .before .before .before .before .before .before .before .before .before .before .before .before .before .before .before .unknown .ensures) (st .ensures .0) in (
-      goes-ready ns (firstOf (a .code .now)) (rowsOf (a .code .now)) (a .j) hs es fs sums (o .last .0) (o .last .1 .0) (o .last .1 .1 .0) (v .result) (o .result) (o .ensures .0) (hl, el, fl) (g .result) figures (o .ensures .1) cycles words,
+    let onto = c .before .before in
+    let o = onto .onward in
+    let v = onto .before .before .paid2 in
+    let known = onto .before .before .before .before in
+    let r = to-one known in
+    let p = price known in
+    let g = r .reached in
+    let fits = small r _ (known .next2 .given .1) in
+    let k = paid-cycles (j r) (w r) (v .result) _ _ p (v .ensures) (cycles r) fits in
+    let l = paid-words (j r) (w r) (v .result) _ _ p (v .ensures) (words r) fits in (
+      goes-ready (ns r) (first r) (n r) (j r) (rs r) (sums r) (o .last .0) (v .result) (o .result) (o .ensures .0) (c .before .rows .given ∙ rows r) (g .result) (figures r) (o .ensures .1) k l,
       λ tab q e agree.
-          moved (arrive (arrivalOf ns (v .result)) tab) (reach s q) (reached-as (a .f) (g .result) q s _ (g .ensures) height e)
-          (λ rest. carried-goes rest (firstOf (a .code .now) + a .j) tab q s _ (spentOf (a .w)) (ofPrice price) _ _ lead (paid-as ns (a .w) (v .result) _ _ price (v .ensures)))
-          (goes-agree ns (firstOf (a .code .now)) (rowsOf (a .code .now)) (a .j) hs es fs sums (o .last .0) (o .last .1 .0) (o .last .1 .1 .0) (v .result) (o .result) (o .ensures .0) tab agree),
+          moved (arrive (arrivalOf (ns r) (v .result)) tab) (reach (s r) q) (reached-as (start r .args .f) (g .result) q (s r) _ (g .ensures) (high r) e)
+          (λ rest. carried-goes rest (first r + j r) tab q (s r) _ (spentOf (w r)) (ofPrice p) _ _ (goes-to known) (paid-as (ns r) (w r) (v .result) _ _ p (v .ensures)))
+          (goes-agree (ns r) (first r) (n r) (j r) (rs r) (sums r) (o .last .0) (v .result) (o .result) (o .ensures .0) tab agree),
     )
 
 returns-4 : tie.Need-returns-4
 returns-4 c =
-    let start = c .before .before .before .before .before .before .before .before .before .before .before .before .before .before .before .before .before .before .before .before .before .before .before .before .before .before .before .before .before .before .before .before .before .before .before .before .before in
-    let a = start .args in
-    let limits = start .pre .1 .0 in
-    let way = start .pre .1 .1 .0 in
-    let ns = sizesOf (a .code .now) in
-    let hs = a .heads .now in
-    let es = a .entries .now in
-    let fs = a .fields .now in
-    let st = c .before .before .before .before .before .before .before .before .before .before .before .before .before .before .before .before .before .before .before .before .before .before .before .before .before .before .before .before .before .before .step in
-    let code = programOf (a .code .now) in
-    let s = whole ns (a .w .blocks) (a .w .state) in
-    let sums = raised ns (firstOf (a .code .now)) (rowsOf (a .code .now)) (a .j) hs es fs (start .pre .1 .1 .1) in
-    let g = c .before .before .before .before .before .before .before .before .before .before .before .before .before .before .before .before .before .before .before .before .before .before .before .before .before .before .reached in
-    let figures = reached-figures (a .j) (a .f) (g .result) _ (omega arith) (g .ensures) (way .4) in
-    let height = way-height ns (a .w) (way .0 .0 .state) in
-    let price = c .before .before .before .before .before .before .before .before .before .before .before .before .before .before .before .before .before .before .before .before .before .before .before .before .next3 .given .0 .0 in
-    let place = c .before .before .before .before .before .before .before .before .before .before .before .before .before .before .before .before .before .before .before .before .before .before .before .before .next3 .given .0 .1 .0 in
-    let extra = c .before .before .before .before .before .before .before .before .before .before .before .before .before .before .before .before .before .before .before .before .before .before .before .before .next3 .given .0 .1 .1 .0 in
-    let small = subst Small (c .before .before .before .before .before .before .before .before .before .before .before .before .before .before .before .before .before .before .before .before .before .before .before .before .next3 .given .1) (st .ensures .1 .1 .0 .1) in
-    let y = c .before .before .before .before .before .before .before .before .before .before .before .before .before .before .before .before .before .before .before .before .before .paid3 in
-    let t = c .before .before .before .before .before .before .before .before .before .before .before .before .before .before .before .before .before .send in
-    let v = c .before .before .before .before .before .before .before .before .before .before .paid4 in
-    let o = c .before .before .before .before .before .before .onward2 in
-    let hl : length (o .last .0) ≡ 5125 = c .before .before .before .before .before .heads3 .given ∙ c .before .before .before .before .before .before .before .before .before .before .before .before .before .before .before .before .heads2 .given ∙ limits .0 .0 in
-    let el : length (o .last .1 .0) ≡ 65600 = c .before .before .before .entries3 .given ∙ c .before .before .before .before .before .before .before .before .before .before .before .before .before .before .entries2 .given ∙ limits .0 .1 in
-    let fl : length (o .last .1 .1 .0) ≡ 131200 = c .before .fields3 .given ∙ c .before .before .before .before .before .before .before .before .before .before .before .before .fields2 .given ∙ limits .0 .2 in
-    let cycles = paid-cycles (a .j) (a .w) (v .result) _ _ price (v .ensures) (way .2) (small .0) in
-    let words = paid-words (a .j) (a .w) (v .result) _ _ price (v .ensures) (way .3) (small .0) in
-    let cycles′ = paid-cycles (a .j) (a .w) (y .result) _ _ extra (y .ensures) (way .2) (small .1) in
-    let words′ = paid-words (a .j) (a .w) (y .result) _ _ extra (y .ensures) (way .3) (small .1) in
-    let sums′ = sent-sums ns (firstOf (a .code .now)) (rowsOf (a .code .now)) (a .j) hs es fs sums (t .last .0) (t .last .1 .0) (t .last .1 .1 .0) (y .result) (t .ensures) cycles′ words′ in
-    let lead = leads-opens (st .result .next) price extra place _ (λ u. step code u s) _ (c .before .before .before .before .before .before .before .before .before .before .before .before .before .before .before .before .before .before .before .before .before .before .before .before .next3 .given .1) (c .before .before .before .before .before .before .before .before .before .before .before .before .before .before .before .before .before .before .before .before .before .before .before .before .before .before .before .before .before .before .before .unknown .ensures) (st .ensures .0) in (
-      goes-ready ns (firstOf (a .code .now)) (rowsOf (a .code .now)) (a .j) (t .last .0) (t .last .1 .0) (t .last .1 .1 .0) sums′ (o .last .0) (o .last .1 .0) (o .last .1 .1 .0) (v .result) (o .result) (o .ensures .0) (hl, el, fl) (g .result) figures (o .ensures .1) cycles words,
+    let onto = c .before .before in
+    let o = onto .onward2 in
+    let at-paid = onto .before .before in
+    let v = at-paid .paid4 in
+    let at-send = at-paid .before .before .before in
+    let t = at-send .send in
+    let at-taken = at-send .before .before in
+    let y = at-taken .paid3 in
+    let known = opened at-taken in
+    let r = to-two known in
+    let g = r .reached in
+    let fits = small r _ (known .next3 .given .1) in
+    let k = paid-cycles (j r) (w r) (v .result) _ _ (left known) (v .ensures) (cycles r) (fits .0) in
+    let l = paid-words (j r) (w r) (v .result) _ _ (left known) (v .ensures) (words r) (fits .0) in
+    let k′ = paid-cycles (j r) (w r) (y .result) _ _ (extra known) (y .ensures) (cycles r) (fits .1) in
+    let l′ = paid-words (j r) (w r) (y .result) _ _ (extra known) (y .ensures) (words r) (fits .1) in
+    let sums′ = sent-sums (ns r) (first r) (n r) (j r) (rs r) (sums r) (t .last .0) (y .result) (t .ensures) k′ l′ in (
+      goes-ready (ns r) (first r) (n r) (j r) (t .last .0) sums′ (o .last .0) (v .result) (o .result) (o .ensures .0) (c .before .rows3 .given ∙ at-paid .before .before .rows2 .given ∙ rows r) (g .result) (figures r) (o .ensures .1) k l,
       λ tab q e agree.
-          moved (arrive (arrivalOf ns (v .result)) (arrive (arrivalOf ns (y .result)) tab)) (reach s q) (reached-as (a .f) (g .result) q s _ (g .ensures) height e)
+          moved (arrive (arrivalOf (ns r) (v .result)) (arrive (arrivalOf (ns r) (y .result)) tab)) (reach (s r) q) (reached-as (start r .args .f) (g .result) q (s r) _ (g .ensures) (high r) e)
           (λ rest.
-          carried-opens rest (firstOf (a .code .now) + a .j) tab q s _ _ (spentOf (a .w)) (ofPrice price) (ofPrice extra) _ _ _ lead (paid-as ns (a .w) (v .result) _ _ price (v .ensures))
-          (jumped-as ns (a .w) (y .result) _ _ _ extra place (c .before .before .before .before .before .before .before .before .before .before .before .before .before .before .before .before .before .before .before .before .before .before .jump .ensures .0) (y .ensures)))
-          (goes-agree ns (firstOf (a .code .now)) (rowsOf (a .code .now)) (a .j) (t .last .0) (t .last .1 .0) (t .last .1 .1 .0) sums′ (o .last .0) (o .last .1 .0) (o .last .1 .1 .0) (v .result) (o .result) (o .ensures .0) (arrive (arrivalOf ns (y .result)) tab)
-          (sent-agree ns (firstOf (a .code .now)) (rowsOf (a .code .now)) (a .j) hs es fs sums (t .last .0) (t .last .1 .0) (t .last .1 .1 .0) (y .result) (t .ensures) tab agree)),
+          carried-opens rest (first r + j r) tab q (s r) _ _ (spentOf (w r)) (ofPrice (left known)) (ofPrice (extra known)) _ _ _ (opens-to known) (paid-as (ns r) (w r) (v .result) _ _ (left known) (v .ensures))
+          (jumped-as (ns r) (w r) (y .result) _ _ _ (extra known) (place known) (at-taken .before .jump .ensures .0) (y .ensures)))
+          (goes-agree (ns r) (first r) (n r) (j r) (t .last .0) sums′ (o .last .0) (v .result) (o .result) (o .ensures .0) (arrive (arrivalOf (ns r) (y .result)) tab)
+          (sent-agree (ns r) (first r) (n r) (j r) (rs r) (sums r) (t .last .0) (y .result) (t .ensures) tab agree)),
     )
 
 pub carry-spec : {M : Type 1} → statement M
@@ -262,10 +275,10 @@ carry-spec =
     tie.close
     (tie.spec
     (λ c κs. search needs)
-    step-requires
-    sub-reached
-    reached-requires
-    enum-told
+    (λ c κs. search needs)
+    (λ c. search needs)
+    (λ c κs. search needs)
+    (λ c. search needs)
     (λ c κs. search needs)
     (λ c. search needs)
     paid-requires
@@ -274,7 +287,7 @@ carry-spec =
     paid-requires-2
     onward-requires
     (λ c. search needs)
-    jump-requires
+    (λ c κs. search needs)
     paid-requires-3
     send-requires
     paid-requires-4
@@ -282,10 +295,6 @@ carry-spec =
     returns
     returns-2
     (λ c. search needs)
-    (λ c. search needs)
-    (λ c. search needs)
     returns-3
-    (λ c. search needs)
-    (λ c. search needs)
     (λ c. search needs)
     returns-4)

@@ -13,66 +13,59 @@ use Rattle.merging.proofs.merge.Statement.{statement}
 use Rattle.merging.proofs.merge.Tie as tie
 
 abbrev Inv-loop : tie.InvT-loop
-Inv-loop code heads₀ entries₀ fields₀ n j₀ p₀ heads entries fields j p =
-    Going (programOf code) (sizesOf code) (firstOf code) n (merged (programOf code) (whole (sizesOf code) (p₀ .way .blocks) (p₀ .way .state))) heads entries fields j p
+Inv-loop code rows₀ n j₀ p₀ rows j p =
+    Going (programOf code) (sizesOf code) (firstOf code) n (merged (programOf code) (whole (sizesOf code) (p₀ .way .blocks) (p₀ .way .state))) rows j p
 
 abbrev μ-loop : tie.MeasureT-loop
-μ-loop code heads₀ entries₀ fields₀ n j₀ p₀ heads entries fields j p =
-    n - j
+μ-loop code rows₀ n j₀ p₀ rows j p = n - j
 
 loop-holds : tie.Need-loop-holds Inv-loop μ-loop
 loop-holds c =
     let start = c .before .before .before in
     let a = start .args in
     let limits = start .pre .0 in
-    begins (programOf (a .code .now)) (sizesOf (a .code .now)) (firstOf (a .code .now)) (linesIn (a .code .now)) 5125 65600 131200 (a .start) (a .blocks) (code-first (a .code .now)) (code-count (a .code .now)) (start .pre .1 .0) (start .pre .1 .1) refl refl refl (limits .1) (limits .2) (limits .3)
+    begins (programOf (a .code .now)) (sizesOf (a .code .now)) (firstOf (a .code .now)) (linesIn (a .code .now)) 201925 (a .start) (a .blocks) (code-first (a .code .now)) (code-count (a .code .now)) (start .pre .1 .0) (start .pre .1 .1) refl (limits .1) (limits .2) (limits .3)
+
+-- the address of row j is gone through
+module _ (c : tie.After-visit Inv-loop μ-loop) where
+  abbrev turn : tie.In-loop Inv-loop μ-loop
+  turn = c .before .before
+
+  abbrev start : tie.Start Inv-loop μ-loop
+  start = turn .before .before .before .before .before
+
+  few : turn .before .loop .j < 1025
+  few = omega (arith, turn .loop-test .taken, start .pre .0 .0 .lines)
 
 visit-requires : tie.Need-visit-requires Inv-loop μ-loop
 visit-requires c κs =
-    let start = c .before .before .before .before .before .before .before .before in
-    let a = start .args in
-    let limits = start .pre .0 in
-    ((limits .0, omega (arith, c .before .before .before .loop-test .taken)), c .before .before .before .before .loop .inv .ready)
-
-enum-told : tie.Need-enum-told Inv-loop μ-loop
-enum-told c = search needs
+    let t = c .before in
+    ((t .before .before .before .before .before .pre .0 .0, omega (arith, t .loop-test .taken)), t .before .loop .inv .ready)
 
 returns : tie.Need-returns Inv-loop μ-loop
 returns c =
-    let start = c .before .before .before .before .before .before .before .before .before .before .before .before .before .before .before in
-    let a = start .args in
-    let l = c .before .before .before .before .before .before .before .before .before .before .before .loop in
-    let v = c .before .before .before .before .before .before .visit in
-    let i = l .inv in
-    let t : l .j < linesIn (a .code .now) + 1 = c .before .before .before .before .before .before .before .before .before .before .loop-test .taken in
-    let few : linesIn (a .code .now) ≤ 1024 = start .pre .0 .0 .lines in (
-      ends i t _ _ _ (v .result) _ (c .enum-told2 .given .1) (v .ensures .1 (i .tab) (i .report) (i .found) (i .agrees)),
-      figures-all (l .j + 1) _ (omega arith) (v .ensures .0 .figures),
+    let m = c .before .before .before .before in
+    let t = turn m in
+    let i = t .before .loop .inv in
+    let f = few m in (
+      ends i (t .loop-test .taken) _ (m .visit .result) _ (c .enum-told2 .given .1) (m .visit .ensures .1 (i .tab) (i .report) (i .found) (i .agrees)),
+      figures-all (t .before .loop .j + 1) _ (omega arith) (m .visit .ensures .0 .figures),
     )
-
-add-j : tie.Need-add-j Inv-loop μ-loop
-add-j c =
-    let start = c .before .before .before .before .before .before .before .before .before .before .before .before .before .before .before in
-    let t : c .before .before .before .before .before .before .before .before .before .before .before .loop .j < linesIn (start .args .code .now) + 1 = c .before .before .before .before .before .before .before .before .before .before .loop-test .taken in
-    let few : linesIn (start .args .code .now) ≤ 1024 = start .pre .0 .0 .lines in
-    search needs
 
 loop-again : tie.Need-loop-again Inv-loop μ-loop
 loop-again c =
-    let start = c .before .before .before .before .before .before .before .before .before .before .before .before .before .before .before in
-    let l = c .before .before .before .before .before .before .before .before .before .before .before .loop in
-    let v = c .before .before .before .before .before .before .visit in
-    let i = l .inv in
-    goes-on i (c .before .before .before .before .before .before .before .before .before .before .loop-test .taken) _ _ _ (v .result) (v .ensures .0) (c .enum-told .given .1) (v .ensures .1 (i .tab) (i .report) (i .found) (i .agrees))
+    let m = c .before .before .before .before in
+    let t = turn m in
+    let i = t .before .loop .inv in
+    goes-on i (t .loop-test .taken) _ (m .visit .result) (m .visit .ensures .0) (c .enum-told .given .1) (m .visit .ensures .1 (i .tab) (i .report) (i .found) (i .agrees))
 
 returns-2 : tie.Need-returns-2 Inv-loop μ-loop
 returns-2 c =
-    let start = c .before .before .before .before .before .before in
-    let a = start .args in
     let l = c .before .before .loop in
+    let start = c .before .before .before .before .before .before in
     let i = l .inv in
-    let few : linesIn (a .code .now) ≤ 1024 = start .pre .0 .0 .lines in
-    let within : l .j ≤ linesIn (a .code .now) + 1 = i .within in
+    let few : linesIn (start .args .code .now) ≤ 1024 = start .pre .0 .0 .lines in
+    let within : l .j ≤ linesIn (start .args .code .now) + 1 = i .within in
     (finishes i (omega arith), figures-all (l .j) _ (omega arith) (i .ready .figures))
 
 pub merge-spec : {M : Type 1} → statement M
@@ -89,13 +82,11 @@ merge-spec =
     (λ c. search needs)
     loop-holds
     (λ c. search needs)
-    (λ c. search needs)
-    (λ c. search needs)
     visit-requires
-    enum-told
+    (λ c. search needs)
     (λ c. search needs)
     returns
-    add-j
+    (λ c. let f = few (c .before .before .before .before) in search needs)
     (λ c. search needs)
     loop-again
     returns-2)

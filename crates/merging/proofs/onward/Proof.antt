@@ -10,15 +10,16 @@ use Rattle.merging.proofs.onward.Tie as tie
 
 returns : tie.Need-returns
 returns c =
-    let start = c .before .before .before .before .before .before in
+    let start = c .before .before .before .before in
     let a = start .args in
     let e : a .w .state .at ≡ firstOf (a .code .now) + a .j + 1 = c .if1 .taken in
     (λ b h k. falls (sizesOf (a .code .now)) (a .w) (firstOf (a .code .now)) (a .j) b _ e, (omega arith, start .pre .2))
 
 returns-2 : tie.Need-returns-2
 returns-2 c =
-    let a = c .before .before .before .before .before .before .before .before .before .before .before .before .before .before .before .before .args in
-    (λ b h k. alone (sizesOf (a .code .now)) (a .w) (a .j + 1) b _ ∙ c .before .before .before .before .before .before .send .ensures b k, tt)
+    let s = c .before .before in
+    let a = s .before .before .before .before .before .before .args in
+    (λ b h k. alone (sizesOf (a .code .now)) (a .w) (a .j + 1) b _ ∙ s .send .ensures b k, tt)
 
 pub onward-spec : {M : Type 1} → statement M
 onward-spec =
@@ -30,7 +31,5 @@ onward-spec =
     (λ c. search needs)
     returns
     (λ c κs. search needs)
-    (λ c. search needs)
-    (λ c. search needs)
     (λ c. search needs)
     returns-2)

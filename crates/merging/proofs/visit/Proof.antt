@@ -1,151 +1,128 @@
 -- `merging::visit` meets its contract. Assumes nothing.
-use Prim.Native.Nat.{_+_, _*_, _-_, _<_}
-use mathlib.Core.Path.{_≡_, subst, _∙_}
+use Prim.Native.Nat.{ℕ, _+_, _*_, _-_, _<_, _≤_}
+use mathlib.Core.Path.{_≡_, subst}
+use mathlib.Core.List.{List}
 use native.Mathlib.Omega.{arith}
-use lib.ListN.{length, take, drop}
-use borrow.Rule.Slice.PartMut.{same-len-mid}
+use lib.ListN.{length}
+use borrow.Rule.Slice.PartMut.{putMid}
 use Rattle.refusals.specs.declared.Refusal.the-variants.{NoMeeting}
 use Rattle.cells.specs.Cells.{unknown}
 use Rattle.machine.specs.Machine.{step}
 use Rattle.states.specs.Program.{firstOf, programOf, sizesOf}
-use Rattle.arrivals.specs.Rows.{rowsOf}
+use Rattle.merges.specs.Merge.{Table, slot}
+use Rattle.arrivals.specs.declared.Way.{Way}
+use Rattle.arrivals.specs.Rows.{part, rowsOf, slotAt}
 use Rattle.merging.specs.declared.Mark.{Mark}
-use Rattle.merging.specs.Pass.{Held, most, stopped, moved}
-use Rattle.arrivals.proofs.PartLaws.{row-length}
-use Rattle.merging.proofs.CarryLaws.{raised, stays-ready, stays-agree, refused-figures, refused-verdict}
+use Rattle.merging.specs.declared.Mark.the-variants.{Is}
+use Rattle.merging.specs.Pass.{Held, Agrees, Ready, cameAs, most, stopped, moved}
+use Rattle.merging.proofs.CarryLaws.{Under, raised, stays-ready, stays-agree, refused-figures, refused-verdict}
 use Rattle.merging.proofs.VisitLaws.{figures-more, moved-as, rows-back, back-under, back-agree, here-slot, here-spent, visit-nothing, visit-unlike, visit-way, way-spent}
 use borrow.Author.Needs.{needs}
 use Rattle.merging.proofs.visit.Statement.{statement}
 use Rattle.merging.proofs.visit.Tie as tie
 
-reach-requires : tie.Need-reach-requires
-reach-requires c κs =
-    let start = c .before .before .before .before .before .before .before .before in
-    let a = start .args in
-    let limits = start .pre .0 in
-    let ready = start .pre .1 in
-    let rows = ready .rows in
-    let few : a .j < 1025 = omega (arith, limits .0 .lines, limits .1) in (
-      (row-length 5 (a .j) (a .heads .now) (omega (arith, rows .0)), row-length 64 (a .j) (a .entries .now) (omega (arith, rows .1)), row-length 128 (a .j) (a .fields .now) (omega (arith, rows .2))),
-      ready .comes,
-      limits .0,
-    )
+-- what has come to the address of row k
+module _ (c : tie.After-rows) where
+  abbrev came : tie.After-reach
+  came = c .before
 
-enum-told : tie.Need-enum-told
-enum-told c = search needs
+  abbrev start : tie.Start
+  start = came .before .before .before .before .before
+
+  abbrev k : ℕ
+  k = start .args .j
+
+  abbrev rs : List ℕ
+  rs = start .args .rows .now
+
+  abbrev r : List ℕ
+  r = came .reach .last .0
+
+  abbrev ns : List ℕ
+  ns = sizesOf (start .args .code .now)
+
+  abbrev first : ℕ
+  first = firstOf (start .args .code .now)
+
+  abbrev n : ℕ
+  n = rowsOf (start .args .code .now)
+
+  abbrev mark : Mark
+  mark = came .reach .result .mark
+
+  abbrev way : Way
+  way = came .reach .result .way
+
+  abbrev back : List ℕ
+  back = putMid (197 * k) (197 * k + 197 - 197 * k) rs r
+
+  few : k < 1025
+  few = omega (arith, start .pre .0 .0 .lines, start .pre .0 .1)
+
+  ready : Ready ns first n k rs (start .args .p)
+  ready = start .pre .1
+
+  module _ (l : length r ≡ length (part (197 * k) (197 * k + 197) rs)) where
+    under : Under ns first n k k back
+    under = back-under ns first n k rs r (start .args .p) few ready l
+
+    sums : Under ns first n k (k + 1) back
+    sums = raised ns first n k back under
+
+    agrees : (tab : Table) → Agrees ns first n k tab rs (start .args .p .here) (start .args .p .way) → (b : ℕ) → k < b → b < n → slot (tab (first + b)) ≡ slotAt ns first back b
+    agrees = back-agree ns first n k rs r (start .args .p) few ready l
+
+    slots : (tab : Table) → Agrees ns first n k tab rs (start .args .p .here) (start .args .p .way) → slot (tab (first + k)) ≡ cameAs ns mark way
+    slots = here-slot ns first n k rs r (start .args .p) few ready l mark way (came .reach .ensures .0) (start .pre .0 .1)
+
+    spent : mark ≡ Is → (way .cycles ≤ most k) × (way .words ≤ most k)
+    spent told = way-spent ns mark way (most k) told (here-spent ns first n k rs r (start .args .p) few ready l mark way (came .reach .ensures .0) (start .pre .0 .1))
+
+  held : mark ≡ Is → Held ns Is way (first + k)
+  held told = subst (λ (x : Mark). Held ns x way (first + k)) told (came .reach .ensures .1)
 
 carry-requires : tie.Need-carry-requires
 carry-requires c κs =
-    let start = c .before .before .before .before .before .before .before .before .before .before .before .before .before .before .before .before .before .before .before .before .before .before in
-    let a = start .args in
-    let limits = start .pre .0 in
-    let ready = start .pre .1 in
-    let r = c .before .before .before .before .before .before .before .before .before .before .before .before .before .reach in
-    let ns = sizesOf (a .code .now) in
-    let k = a .j in
-    let hs = a .heads .now in
-    let es = a .entries .now in
-    let fs = a .fields .now in
-    let few : k < 1025 = omega (arith, limits .0 .lines, limits .1) in
-    let h : length (r .last .0) ≡ length (take (5 * k + 5 - 5 * k) (drop (5 * k) hs)) = search needs in
-    let e : length (r .last .1 .0) ≡ length (take (64 * k + 64 - 64 * k) (drop (64 * k) es)) = search needs in
-    let f : length (r .last .1 .1 .0) ≡ length (take (128 * k + 128 - 128 * k) (drop (128 * k) fs)) = search needs in
-    let told = c .before .before .before .enum-told3 .given .1 in
-    let way = subst (λ (x : Mark). Held ns x (r .result .way) (firstOf (a .code .now) + k)) told (r .ensures .1) in
-    let spent = way-spent ns (r .result .mark) (r .result .way) (most k) told (here-spent ns (firstOf (a .code .now)) (rowsOf (a .code .now)) k hs es fs (r .last .0) (r .last .1 .0) (r .last .1 .1 .0) (a .p) few ready h e f (r .result .mark) (r .result .way) (r .ensures .0) (limits .1)) in (
-      limits .0,
-      ((rows-back ns (firstOf (a .code .now)) (rowsOf (a .code .now)) k hs es fs (r .last .0) (r .last .1 .0) (r .last .1 .1 .0) (a .p) few ready h e f, limits .1), ((way .1, way .0, spent .0, spent .1, ready .figures), back-under ns (firstOf (a .code .now)) (rowsOf (a .code .now)) k hs es fs (r .last .0) (r .last .1 .0) (r .last .1 .1 .0) (a .p) few ready h e f)),
-    )
+    let b = c .before .before .before .before .before .before in
+    let l : length (r b) ≡ length (part (197 * k b) (197 * k b + 197) (rs b)) = search needs in
+    let told = c .before .enum-told3 .given .1 in
+    let h = held b told in
+    let m = spent b l told in
+    (start b .pre .0 .0, ((rows-back (ns b) (first b) (n b) (k b) (rs b) (r b) (start b .args .p) (few b) (ready b) l, start b .pre .0 .1), ((h .1, h .0, m .0, m .1, ready b .figures), under b l)))
 
 returns : tie.Need-returns
 returns c =
-    let start = c .before .before .before .before .before .before .before .before .before .before .before .before .before .before .before .before .before .before .before in
-    let a = start .args in
-    let limits = start .pre .0 in
-    let ready = start .pre .1 in
-    let r = c .before .before .before .before .before .before .before .before .before .before .reach in
-    let ns = sizesOf (a .code .now) in
-    let k = a .j in
-    let hs = a .heads .now in
-    let es = a .entries .now in
-    let fs = a .fields .now in
-    let few : k < 1025 = omega (arith, limits .0 .lines, limits .1) in
-    let h : length (r .last .0) ≡ length (take (5 * k + 5 - 5 * k) (drop (5 * k) hs)) = search needs in
-    let e : length (r .last .1 .0) ≡ length (take (64 * k + 64 - 64 * k) (drop (64 * k) es)) = search needs in
-    let f : length (r .last .1 .1 .0) ≡ length (take (128 * k + 128 - 128 * k) (drop (128 * k) fs)) = search needs in
-    let sums = raised ns (firstOf (a .code .now)) (rowsOf (a .code .now)) k _ _ _ (back-under ns (firstOf (a .code .now)) (rowsOf (a .code .now)) k hs es fs (r .last .0) (r .last .1 .0) (r .last .1 .1 .0) (a .p) few ready h e f) in (
-      stays-ready ns (firstOf (a .code .now)) (rowsOf (a .code .now)) k _ _ _ sums (rows-back ns (firstOf (a .code .now)) (rowsOf (a .code .now)) k hs es fs (r .last .0) (r .last .1 .0) (r .last .1 .1 .0) (a .p) few ready h e f) (a .p .found) (r .result .way) (figures-more k (a .p .found) (ready .figures)),
+    let b = c .before .before .before .before .before in
+    let l : length (r b) ≡ length (part (197 * k b) (197 * k b + 197) (rs b)) = search needs in (
+      stays-ready (ns b) (first b) (n b) (k b) (back b) (sums b l) (rows-back (ns b) (first b) (n b) (k b) (rs b) (r b) (start b .args .p) (few b) (ready b) l) (start b .args .p .found) (way b) (figures-more (k b) (start b .args .p .found) (ready b .figures)),
       λ tab q g agree.
           moved tab q g
-          (λ rest. visit-nothing (step (programOf (a .code .now)) unknown) rest (firstOf (a .code .now) + k) tab q ns (r .result .mark) (r .result .way) _ (here-slot ns (firstOf (a .code .now)) (rowsOf (a .code .now)) k hs es fs (r .last .0) (r .last .1 .0) (r .last .1 .1 .0) (a .p) few ready h e f (r .result .mark) (r .result .way) (r .ensures .0) (limits .1) tab agree) (c .enum-told .given .1))
-          (stays-agree ns (firstOf (a .code .now)) (rowsOf (a .code .now)) k _ _ _ sums tab (r .result .way) (back-agree ns (firstOf (a .code .now)) (rowsOf (a .code .now)) k hs es fs (r .last .0) (r .last .1 .0) (r .last .1 .1 .0) (a .p) few ready h e f tab agree)),
+          (λ rest. visit-nothing (step (programOf (start b .args .code .now)) unknown) rest (first b + k b) tab q (ns b) (mark b) (way b) _ (slots b l tab agree) (c .enum-told .given .1))
+          (stays-agree (ns b) (first b) (n b) (k b) (back b) (sums b l) tab (way b) (agrees b l tab agree)),
     )
 
 returns-2 : tie.Need-returns-2
 returns-2 c =
-    let start = c .before .before .before .before .before .before .before .before .before .before .before .before .before .before .before .before .before .before .before .before in
-    let a = start .args in
-    let limits = start .pre .0 in
-    let ready = start .pre .1 in
-    let r = c .before .before .before .before .before .before .before .before .before .before .before .reach in
-    let ns = sizesOf (a .code .now) in
-    let k = a .j in
-    let hs = a .heads .now in
-    let es = a .entries .now in
-    let fs = a .fields .now in
-    let few : k < 1025 = omega (arith, limits .0 .lines, limits .1) in
-    let h : length (r .last .0) ≡ length (take (5 * k + 5 - 5 * k) (drop (5 * k) hs)) = search needs in
-    let e : length (r .last .1 .0) ≡ length (take (64 * k + 64 - 64 * k) (drop (64 * k) es)) = search needs in
-    let f : length (r .last .1 .1 .0) ≡ length (take (128 * k + 128 - 128 * k) (drop (128 * k) fs)) = search needs in
-    let sums = raised ns (firstOf (a .code .now)) (rowsOf (a .code .now)) k _ _ _ (back-under ns (firstOf (a .code .now)) (rowsOf (a .code .now)) k hs es fs (r .last .0) (r .last .1 .0) (r .last .1 .1 .0) (a .p) few ready h e f) in (
-      stays-ready ns (firstOf (a .code .now)) (rowsOf (a .code .now)) k _ _ _ sums (rows-back ns (firstOf (a .code .now)) (rowsOf (a .code .now)) k hs es fs (r .last .0) (r .last .1 .0) (r .last .1 .1 .0) (a .p) few ready h e f) (c .refused .result) (r .result .way) (refused-figures (k + 1) _ _ (c .refused .ensures)),
+    let b = c .before .before .before .before .before .before in
+    let l : length (r b) ≡ length (part (197 * k b) (197 * k b + 197) (rs b)) = search needs in (
+      stays-ready (ns b) (first b) (n b) (k b) (back b) (sums b l) (rows-back (ns b) (first b) (n b) (k b) (rs b) (r b) (start b .args .p) (few b) (ready b) l) (c .refused .result) (way b) (refused-figures (k b + 1) _ _ (c .refused .ensures)),
       λ tab q g agree.
-          stopped (NoMeeting (firstOf (a .code .now) + k)) (refused-verdict _ _ (c .refused .ensures))
-          (λ rest. visit-unlike (step (programOf (a .code .now)) unknown) rest (firstOf (a .code .now) + k) tab q ns (r .result .mark) (r .result .way) _ (here-slot ns (firstOf (a .code .now)) (rowsOf (a .code .now)) k hs es fs (r .last .0) (r .last .1 .0) (r .last .1 .1 .0) (a .p) few ready h e f (r .result .mark) (r .result .way) (r .ensures .0) (limits .1) tab agree) (c .before .enum-told2 .given .1)),
+          stopped (NoMeeting (first b + k b)) (refused-verdict _ _ (c .refused .ensures))
+          (λ rest. visit-unlike (step (programOf (start b .args .code .now)) unknown) rest (first b + k b) tab q (ns b) (mark b) (way b) _ (slots b l tab agree) (c .before .enum-told2 .given .1)),
     )
-
-same-length-7 : tie.Need-same-length-7
-same-length-7 c =
-    let start = c .before .before .before .before .before .before .before .before .before .before .before .before .before .before .before .before .before .before .before .before .before .before .before .before .before .before .before .before .before in
-    let a = start .args in
-    let limits = start .pre .0 in
-    let ready = start .pre .1 in
-    let r = c .before .before .before .before .before .before .before .before .before .before .before .before .before .before .before .before .before .before .before .before .reach in
-    let ns = sizesOf (a .code .now) in
-    let k = a .j in
-    let hs = a .heads .now in
-    let es = a .entries .now in
-    let fs = a .fields .now in
-    let few : k < 1025 = omega (arith, limits .0 .lines, limits .1) in
-    let h : length (r .last .0) ≡ length (take (5 * k + 5 - 5 * k) (drop (5 * k) hs)) = search needs in
-    let e : length (r .last .1 .0) ≡ length (take (64 * k + 64 - 64 * k) (drop (64 * k) es)) = search needs in
-    let f : length (r .last .1 .1 .0) ≡ length (take (128 * k + 128 - 128 * k) (drop (128 * k) fs)) = search needs in
-    c .before .before .before .before .before .heads2 .given ∙ same-len-mid (5 * k) (5 * k + 5 - 5 * k) hs (r .last .0) h
 
 returns-3 : tie.Need-returns-3
 returns-3 c =
-    let start = c .before .before .before .before .before .before .before .before .before .before .before .before .before .before .before .before .before .before .before .before .before .before .before .before .before .before .before .before .before in
-    let a = start .args in
-    let limits = start .pre .0 in
-    let ready = start .pre .1 in
-    let r = c .before .before .before .before .before .before .before .before .before .before .before .before .before .before .before .before .before .before .before .before .reach in
-    let ns = sizesOf (a .code .now) in
-    let k = a .j in
-    let hs = a .heads .now in
-    let es = a .entries .now in
-    let fs = a .fields .now in
-    let few : k < 1025 = omega (arith, limits .0 .lines, limits .1) in
-    let h : length (r .last .0) ≡ length (take (5 * k + 5 - 5 * k) (drop (5 * k) hs)) = search needs in
-    let e : length (r .last .1 .0) ≡ length (take (64 * k + 64 - 64 * k) (drop (64 * k) es)) = search needs in
-    let f : length (r .last .1 .1 .0) ≡ length (take (128 * k + 128 - 128 * k) (drop (128 * k) fs)) = search needs in
-    let told = c .before .before .before .before .before .before .before .before .before .before .enum-told3 .given .1 in
-    let way = subst (λ (x : Mark). Held ns x (r .result .way) (firstOf (a .code .now) + k)) told (r .ensures .1) in
-    let m = c .before .before .before .before .before .before .carry in (
-      m .ensures .0,
+    let m = c .before .before in
+    let t = m .before .before in
+    let b = t .before .before .before .before .before in
+    let l : length (r b) ≡ length (part (197 * k b) (197 * k b + 197) (rs b)) = search needs in
+    let told = t .enum-told3 .given .1 in (
+      m .carry .ensures .0,
       λ tab q g agree.
           moved-as
-          (λ rest. visit-way (step (programOf (a .code .now)) unknown) rest (firstOf (a .code .now) + k) tab q ns (r .result .mark) (r .result .way) _ (here-slot ns (firstOf (a .code .now)) (rowsOf (a .code .now)) k hs es fs (r .last .0) (r .last .1 .0) (r .last .1 .1 .0) (a .p) few ready h e f (r .result .mark) (r .result .way) (r .ensures .0) (limits .1) tab agree) told (way .0))
-          (m .ensures .1 tab q g (back-agree ns (firstOf (a .code .now)) (rowsOf (a .code .now)) k hs es fs (r .last .0) (r .last .1 .0) (r .last .1 .1 .0) (a .p) few ready h e f tab agree)),
+          (λ rest. visit-way (step (programOf (start b .args .code .now)) unknown) rest (first b + k b) tab q (ns b) (mark b) (way b) _ (slots b l tab agree) told (held b told .0))
+          (m .carry .ensures .1 tab q g (agrees b l tab agree)),
     )
 
 pub visit-spec : {M : Type 1} → statement M
@@ -161,33 +138,15 @@ visit-spec =
     (λ c. search needs)
     (λ c. search needs)
     (λ c. search needs)
+    (λ c κs. search needs)
     (λ c. search needs)
-    (λ c. search needs)
-    (λ c. search needs)
-    (λ c. search needs)
-    (λ c. search needs)
-    (λ c. search needs)
-    (λ c. search needs)
-    (λ c. search needs)
-    (λ c. search needs)
-    (λ c. search needs)
-    (λ c. search needs)
-    (λ c. search needs)
-    reach-requires
-    enum-told
     (λ c. search needs)
     (λ c κs. search needs)
     (λ c. search needs)
     carry-requires
     (λ c. search needs)
-    (λ c. search needs)
-    (λ c. search needs)
     returns
     (λ c. search needs)
-    (λ c. search needs)
-    (λ c. search needs)
     returns-2
-    same-length-7
-    (λ c. search needs)
     (λ c. search needs)
     returns-3)
