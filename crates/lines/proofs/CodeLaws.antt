@@ -7,6 +7,7 @@ use native.Mathlib.Omega.{arith}
 use native.Mathlib.Nat.{eq-or-lt-of-le}
 use mathlib.Core.Logic.{⊎-elim}
 use lib.Dec.{eqb, leb, ltb}
+use lib.ListN.{length}
 use lib.IntN.{ℤ, pos, negsuc, natAbs, _+ℤ_}
 use lib.Signed.{mag, leZ, ltZ}
 use types.Run.{OneOf, miss}
@@ -15,9 +16,10 @@ use mir.Syntax.{w64}
 use mir.Val.{SFits, ofZ, toZ}
 use mir.ValLaws.{toZ-ofZ, toZ-pos}
 use borrow.Author.Tests.{eqb-true, eqb-false, leb-true, leb-false, le-leb, lt-leb, ltb-true, ltb-false, le-ltb}
-use Rattle.text.specs.Text.{among, place}
+use Rattle.text.specs.Text.{words, among, place}
+use Rattle.text.specs.declared.Place.{Place}
 use Rattle.text.specs.declared.Place.the-variants.{At, Missing}
-use Rattle.text.specs.Decimal.{most}
+use Rattle.text.specs.Decimal.{numeral, most}
 use Rattle.numbers.specs.declared.Range.{Range}
 use Rattle.numbers.specs.Numbers.{range, within, same}
 use Rattle.instructions.specs.declared.Argument.{Argument}
@@ -26,34 +28,30 @@ use Rattle.instructions.proofs.Argument.{the-type}
 use Rattle.instructions.specs.Kinds.{Kind, kinds, kindNames}
 use Rattle.instructions.specs.Columns.{kindAt, rangeOf}
 use Rattle.instructions.proofs.ColumnLaws.{column-at}
-use Rattle.routine.specs.Rows.{argumentOf, op, onArgument, argumentInRange, argumentReaches, argumentForward, firstAddresses, atRange, value}
+use Rattle.routine.specs.Rows.{isNumeral, argumentOf, at, op, arg, onArgument, codeLaidOut, codeInRange, codeNamed, argumentLaidOut, argumentInRange, argumentNamed, argumentReaches, argumentForward, firstAddresses, atRange, value}
 use Rattle.text.proofs.TextLaws.{and-left, and-right, isFound, among-place}
 use Rattle.values.specs.Values.{Near}
 use Rattle.routine.proofs.RangeLaws.{Natural, natural-within}
 
+-- ---- the kind that a word names
+
+pub name-unknown : (w : List ℕ) → place w kindNames ≡ Missing → among w kindNames ≡ false
+name-unknown w q = among-place 0 w kindNames ∙ ap isFound q
+
+pub name-known : (w : List ℕ) {k : ℕ} → place w kindNames ≡ At k → among w kindNames ≡ true
+name-known w q = among-place 0 w kindNames ∙ ap isFound q
+
 -- ---- the argument that OP calls for
 
-module _ (t : Argument → Bool) (line : List ℕ) where
-  -- OP is unknown
-  pub on-unknown : place (op line) kindNames ≡ Missing → true ≡ onArgument t line
-  unfolding onArgument argumentOf
-  on-unknown q = sym (ap (argumentOf t) q)
+-- no test fails where OP is unknown
+pub argument-none : (t : Argument → Bool) {p : Place} → p ≡ Missing → true ≡ argumentOf t p
+unfolding argumentOf
+argument-none t q = sym (ap (argumentOf t) q)
 
-  pub op-unknown : place (op line) kindNames ≡ Missing → among (op line) kindNames ≡ false
-  op-unknown q = among-place 0 (op line) kindNames ∙ ap isFound q
-
-  module _ {k : ℕ} (q : place (op line) kindNames ≡ At k) where
-    pub op-known : among (op line) kindNames ≡ true
-    op-known = among-place 0 (op line) kindNames ∙ ap isFound q
-
-    -- it takes the argument a, and x is the test's answer for it
-    pub on-taken : {a : Argument} {x : Bool} → a ≡ kindAt k .argument → x ≡ t a → x ≡ onArgument t line
-    unfolding onArgument argumentOf
-    on-taken p e = e ∙ ap t p ∙ sym (ap (argumentOf t) q)
-
-    -- or for d, which it is
-    pub on-argument : {a d : Argument} {x : Bool} → a ≡ kindAt k .argument → a ≡ d → x ≡ t d → x ≡ onArgument t line
-    on-argument p r e = on-taken p (e ∙ ap t (sym r))
+-- the kind at k takes the argument a, and x is the test's answer for it
+pub argument-some : (t : Argument → Bool) {p : Place} {k : ℕ} {a : Argument} {x : Bool} → p ≡ At k → a ≡ kindAt k .argument → x ≡ t a → x ≡ argumentOf t p
+unfolding argumentOf
+argument-some t q e h = h ∙ ap t e ∙ sym (ap (argumentOf t) q)
 
 -- the arm of all other arguments knows by the variants' numbers which they are
 
@@ -63,6 +61,13 @@ no-number w Absent o = refl
 no-number w Target o = absurd (miss (0 ∷ 2 ∷ []) 1 tt o)
 no-number w Primitive o = refl
 no-number w (Within r) o = absurd (miss (0 ∷ 2 ∷ []) 3 tt o)
+
+pub no-call : (ps : List (List ℕ)) (w : List ℕ) (a : Argument) → OneOf (0 ∷ 1 ∷ 3 ∷ []) (tagOf the-type a) → true ≡ argumentNamed ps w a
+unfolding argumentNamed
+no-call ps w Absent o = refl
+no-call ps w Target o = refl
+no-call ps w Primitive o = absurd (miss (0 ∷ 1 ∷ 3 ∷ []) 2 tt o)
+no-call ps w (Within r) o = refl
 
 pub no-target : (first : ℤ) (n : ℕ) (w : List ℕ) (a : Argument) → OneOf (0 ∷ 2 ∷ 3 ∷ []) (tagOf the-type a) → true ≡ argumentReaches first n w a
 unfolding argumentReaches
@@ -95,10 +100,6 @@ near-at k {r} h e =
     let a = ltb (mag (r .low)) most in
     let b = ltb (mag (r .high)) most in
     record { low = ltb-true (mag (r .low)) most (and-left a b (sym n)); high = ltb-true (mag (r .high)) most (and-right a b (sym n)) }
-
-pub near-within : (k : ℕ) {a : Argument} {r : Range} → k < 61 → a ≡ kindAt k .argument → a ≡ Within r → Near r
-unfolding rangeOf
-near-within k h p q = near-at k h (ap rangeOf (sym q ∙ p))
 
 pub near-at-range : (k : ℕ) → Near (atRange k)
 near-at-range zero = record { low = omega arith; high = omega arith }
@@ -218,3 +219,25 @@ module _ (first : ℤ) (n : ℕ) (h : within firstAddresses first ≡ true) (l :
   reach-within g z =
       ap₂ (λ a b. within (record { low = a; high = b }) z) (first-read first (n - 1) h less) (sum-read first (n - 1) h less)
       ∙ reached-some first n h z (positive n g)
+
+-- ---- the tests of a code line by those of its words
+
+-- a test of the argument w of the kind at p, which OP names
+pub on-line : (f : List ℕ → Argument → Bool) (line : List ℕ) {w : List ℕ} {p : Place} {x : Bool} → w ≡ arg line → p ≡ place (op line) kindNames → x ≡ argumentOf (f w) p → x ≡ onArgument (f (arg line)) line
+unfolding onArgument
+on-line f line e q h = h ∙ ap₂ (λ v o. argumentOf (f v) o) e q
+
+module _ (k : ℕ) (line : List ℕ) {w : List ℕ} (word : w ≡ at line) where
+  pub laid-line : {n : ℕ} {s a b d r : Bool} → n ≡ length (words line) → s ≡ isNumeral (numeral w) → a ≡ onArgument (argumentLaidOut (arg line)) line
+      → b ≡ ltb k 1024 && eqb n 3 → d ≡ b && s → r ≡ d && a → r ≡ codeLaidOut k line
+  unfolding codeLaidOut
+  laid-line n-is s-is a-is b-is d-is r-is = r-is ∙ ap₂ _&&_ (d-is ∙ ap₂ _&&_ (b-is ∙ ap (λ m. ltb k 1024 && eqb m 3) n-is) (s-is ∙ ap (λ v. isNumeral (numeral v)) word)) a-is
+
+  pub ranged-line : {g : Range} {s a r : Bool} → g ≡ atRange k → s ≡ within g (value w) → a ≡ onArgument (argumentInRange (arg line)) line → r ≡ s && a → r ≡ codeInRange k line
+  unfolding codeInRange
+  ranged-line g-is s-is a-is r-is = r-is ∙ ap₂ _&&_ (s-is ∙ ap₂ (λ g v. within g (value v)) g-is word) a-is
+
+  pub named-line : (first : ℤ) (ps : List (List ℕ)) {s o a d r : Bool} → s ≡ same (value w) (first +ℤ pos k) → o ≡ among (op line) kindNames → a ≡ onArgument (argumentNamed ps (arg line)) line
+      → d ≡ s && o → r ≡ d && a → r ≡ codeNamed first ps k line
+  unfolding codeNamed
+  named-line first ps s-is o-is a-is d-is r-is = r-is ∙ ap₂ _&&_ (d-is ∙ ap₂ _&&_ (s-is ∙ ap (λ v. same (value v) (first +ℤ pos k)) word) o-is) a-is

@@ -1,3 +1,4 @@
 pub mod LineLaws
 pub mod CodeLaws
 pub mod ExtraLaws
+pub mod PriceLaws

@@ -1,6 +1,6 @@
 -- Laws of tests joined by `&&`, of a match, and of a loop over words. Assumes nothing.
 use Prim.Native.Nat.{ℕ, suc, _<_, _≤_}
-use mathlib.Core.Path.{_≡_, refl, sym, ap, ap₂, subst, _∙_}
+use mathlib.Core.Path.{_≡_, refl, sym, ap, subst, _∙_}
 use mathlib.Core.Bool.{Bool, true, false, not, _&&_, and-true as and-right}
 use mathlib.Core.List.{List, [], _∷_}
 use native.Mathlib.Omega.{arith}
@@ -23,26 +23,13 @@ and-true {b = b} p q = q ∙ sym (ap (λ a. a && b) p)
 pub and-false : {a : Bool} (b : Bool) → a ≡ false → false ≡ a && b
 and-false b p = sym (ap (λ a. a && b) p)
 
--- the same for three and four tests
+-- the same for three tests
 
 pub and-through : (a b c : Bool) {x : Bool} → a ≡ true → x ≡ b && c → x ≡ a && b && c
 and-through a b c p e = e ∙ sym (ap (λ t. t && b && c) p)
 
 pub and-stop : (a b c : Bool) → a ≡ false → false ≡ a && b && c
 and-stop a b c p = sym (ap (λ t. t && b && c) p)
-
-module _ (a b c d : Bool) where
-  pub stop-first : a ≡ false → false ≡ a && b && c && d
-  stop-first p = sym (ap (λ t. t && b && c && d) p)
-
-  pub stop-second : a ≡ true → b ≡ false → false ≡ a && b && c && d
-  stop-second p q = sym (ap₂ (λ t u. t && u && c && d) p q)
-
-  pub stop-third : a ≡ true → b ≡ true → c ≡ false → false ≡ a && b && c && d
-  stop-third p q r = sym (ap₂ (λ t u. t && u && c && d) p q ∙ ap (λ t. t && d) r)
-
-  pub through : {x : Bool} → a ≡ true → b ≡ true → c ≡ true → x ≡ d → x ≡ a && b && c && d
-  through p q r e = e ∙ sym (ap₂ (λ t u. t && u && c && d) p q ∙ ap (λ t. t && d) r)
 
 -- the arm of a match that found d
 pub arm : {B X : Type 0} (f : B → X) {a d : B} {x : X} → a ≡ d → x ≡ f d → x ≡ f a

@@ -6,21 +6,25 @@ use routine::Role;
 use routine::Section;
 use routine::layout;
 use text::Place;
-ghost use mathlib.Core.Bool.{true, _&&_};
+ghost use mathlib.Core.Bool.{true, cond, _&&_};
 ghost use mathlib.Core.Path.{_≡_};
-ghost use Prim.Native.Nat.{ℕ, _≤_};
+ghost use Prim.Native.Nat.{ℕ, _<_, _≤_};
+ghost use lib.IntN.{pos, _+ℤ_};
 ghost use mathlib.Core.List.{List, []};
 ghost use lib.ListN.{drop};
 ghost use lib.Dec.{ltb};
 ghost use Rattle.text.specs.Text.{words, place, among, all};
 ghost use Rattle.text.specs.Decimal.{numeral};
-ghost use Rattle.numbers.specs.Numbers.{within, numbers};
+ghost use Rattle.text.specs.declared.Place.the-variants.{At};
+ghost use Rattle.numbers.specs.Numbers.{within, numbers, same};
 ghost use Rattle.instructions.specs.Kinds.{kindNames};
+ghost use Rattle.instructions.specs.Columns.{rangeOf};
 ghost use Rattle.instructions.specs.declared.Argument.the-variants.{Target};
 ghost use Rattle.routine.specs.declared.Column.the-variants.{Limit};
 ghost use Rattle.routine.specs.Layout.{list};
-ghost use Rattle.routine.specs.Rows.{isNumeral, value, op, arg, onArgument, argumentLaidOut, argumentInRange, argumentNamed, argumentReaches, firstAddresses, extraRange, extrasInRange, columnInRange, columnLaidOut, onCells, namesLaidOut, valuesLaidOut, codeLaidOut, codeInRange, codeNamed, codeForward};
-ghost use Rattle.lines.specs.Lines.{wordTest};
+ghost use Rattle.routine.specs.Rows.{isNumeral, value, op, argumentLaidOut, argumentInRange, argumentNamed, argumentReaches, argumentForward, firstAddresses, extraRange, extrasInRange, columnInRange, columnLaidOut, onCells, namesLaidOut, valuesLaidOut};
+ghost use Rattle.values.specs.Values.{Near};
+ghost use Rattle.lines.specs.Lines.{wordTest, ArgumentTests, CodeTests, PricesKept};
 
 // What a word is tested for: that it is not empty, spells a number, one of a price's cycles or words, a cell, a cell in range, a
 // handle of one of the blocks that are present, a cell that holds one number or a handle, the name of a kind, a name that a primitive may have.
@@ -211,21 +215,20 @@ pub fn cells_pass(t: WordTest, role: Role, line: &[u8]) -> bool
 
 // ---- code lines
 
-// The kind that OP names, by its place in the table.
-fn kind_of(line: &[u8]) -> Place
-    ensures { λ r. ⌜ r ≡ place (op (now (line .entry))) kindNames ⌝ }
-{
-    instructions::kind_named(text::word_at(line, 1))
+// What the tests of rows 2, 3, 4, 6 and 13 come to on a code line, or on its argument.
+pub struct Tested {
+    pub layout: bool,
+    pub range: bool,
+    pub name: bool,
+    pub target: bool,
+    pub forward: bool,
 }
 
-fn argument_laid_out(line: &[u8]) -> bool
-    ensures { λ r. ⌜ r ≡ onArgument (argumentLaidOut (arg (now (line .entry)))) (now (line .entry)) ⌝ }
+// Row 2 on an argument.
+fn argument_laid_out(a: Argument, w: &[u8]) -> bool
+    ensures { λ r. ⌜ r ≡ argumentLaidOut (now (w .entry)) a ⌝ }
 {
-    let Place::At(k) = kind_of(line) else {
-        return true;
-    };
-    let w = text::word_at(line, 2);
-    match instructions::argument_at(k) {
+    match a {
         Argument::Absent => text::same(w, b"-"),
         Argument::Target => values::is_numeral(w),
         Argument::Primitive => !text::same(w, b"-"),
@@ -233,87 +236,26 @@ fn argument_laid_out(line: &[u8]) -> bool
     }
 }
 
-// Row 2 on code line k.
-pub fn code_laid_out(k: usize, line: &[u8]) -> bool
-    ensures { λ r. ⌜ r ≡ codeLaidOut k (now (line .entry)) ⌝ }
+// Row 3 on an argument.
+fn argument_in_range(a: Argument, w: &[u8]) -> bool
+    requires { ⌜ Near (rangeOf a) ⌝ }
+    ensures { λ r. ⌜ r ≡ argumentInRange (now (w .entry)) a ⌝ }
 {
-    if 1024 <= k {
-        return false;
-    }
-    if text::count_words(line) != 3 {
-        return false;
-    }
-    if values::is_numeral(text::word_at(line, 0)) {
-        return argument_laid_out(line);
-    }
-    false
-}
-
-fn argument_in_range(line: &[u8]) -> bool
-    ensures { λ r. ⌜ r ≡ onArgument (argumentInRange (arg (now (line .entry)))) (now (line .entry)) ⌝ }
-{
-    let Place::At(k) = kind_of(line) else {
-        return true;
-    };
-    let w = text::word_at(line, 2);
-    match instructions::argument_at(k) {
-        Argument::Target => values::is_within(instructions::range_at(k), w),
+    match a {
+        Argument::Target => values::is_within(layout::addresses(), w),
         Argument::Within(r) => values::is_within(r, w),
         _ => true,
     }
 }
 
-// Row 3 on code line k.
-pub fn code_in_range(k: usize, line: &[u8]) -> bool
-    ensures { λ r. ⌜ r ≡ codeInRange k (now (line .entry)) ⌝ }
+// Row 4 on an argument, where `primitives` is the line of their names.
+fn argument_named(primitives: &[u8], a: Argument, w: &[u8]) -> bool
+    ensures { λ r. ⌜ r ≡ argumentNamed (list (now (primitives .entry))) (now (w .entry)) a ⌝ }
 {
-    let at = text::word_at(line, 0);
-    if values::is_within(layout::at_range(k), at) {
-        return argument_in_range(line);
-    }
-    false
-}
-
-// Whether OP is known, and the primitive that ARG names is listed.
-fn argument_named(primitives: &[u8], line: &[u8]) -> bool
-    ensures { λ r. ⌜ r ≡ (among (op (now (line .entry))) kindNames && onArgument (argumentNamed (list (now (primitives .entry))) (arg (now (line .entry)))) (now (line .entry))) ⌝ }
-{
-    let Place::At(k) = kind_of(line) else {
-        return false;
+    let Argument::Primitive = a else {
+        return true;
     };
-    let w = text::word_at(line, 2);
-    if instructions::calls_at(k) {
-        return layout::is_listed(w, primitives);
-    }
-    true
-}
-
-// Row 4 on code line k, where the first address is `first` and `primitives` is the line of their names.
-pub fn code_named(first: i64, primitives: &[u8], k: usize, line: &[u8]) -> bool
-    requires { ⌜ within firstAddresses first ≡ true ⌝ }
-    requires { ⌜ k ≤ 32768 ⌝ }
-    ensures { λ r. ⌜ r ≡ codeNamed first (list (now (primitives .entry))) k (now (line .entry)) ⌝ }
-{
-    let next = first + (k as i64);
-    let at = text::word_at(line, 0);
-    if values::is_within(
-        Range {
-            low: next,
-            high: next,
-        },
-        at,
-    ) {
-        return argument_named(primitives, line);
-    }
-    false
-}
-
-// Row 5 on a code line, where `kinds` is the line of the kinds that have a price.
-pub fn code_priced(kinds: &[u8], line: &[u8]) -> bool
-    ensures { λ r. ⌜ r ≡ among (op (now (line .entry))) (list (now (kinds .entry))) ⌝ }
-{
-    let op = text::word_at(line, 1);
-    layout::is_listed(op, kinds)
+    layout::is_listed(w, primitives)
 }
 
 // Whether w is one of the n addresses from `first` on.
@@ -335,35 +277,151 @@ fn is_reached(first: i64, n: usize, w: &[u8]) -> bool
     )
 }
 
-// Row 6 on a code line, where the code has n addresses from `first` on.
-pub fn code_reaches(first: i64, n: usize, line: &[u8]) -> bool
+// Row 6 on an argument, where the code has n addresses from `first` on.
+fn argument_reaches(first: i64, n: usize, a: Argument, w: &[u8]) -> bool
     requires { ⌜ within firstAddresses first ≡ true ⌝ }
     requires { ⌜ n ≤ 32768 ⌝ }
-    ensures { λ r. ⌜ r ≡ onArgument (argumentReaches first n (arg (now (line .entry)))) (now (line .entry)) ⌝ }
+    ensures { λ r. ⌜ r ≡ argumentReaches first n (now (w .entry)) a ⌝ }
 {
-    let Place::At(k) = kind_of(line) else {
+    let Argument::Target = a else {
         return true;
     };
-    let Argument::Target = instructions::argument_at(k) else {
-        return true;
-    };
-    is_reached(first, n, text::word_at(line, 2))
+    is_reached(first, n, w)
 }
 
-// Row 13 on code line k, where the first address is `first`.
-pub fn code_forward(first: i64, k: usize, line: &[u8]) -> bool
+// Row 13 on an argument of code line k, where the first address is `first`.
+fn argument_forward(first: i64, k: usize, a: Argument, w: &[u8]) -> bool
     requires { ⌜ within firstAddresses first ≡ true ⌝ }
     requires { ⌜ k ≤ 32768 ⌝ }
-    ensures { λ r. ⌜ r ≡ codeForward first k (now (line .entry)) ⌝ }
+    ensures { λ r. ⌜ r ≡ argumentForward (first +ℤ pos k) (now (w .entry)) a ⌝ }
 {
-    let Place::At(i) = kind_of(line) else {
-        return true;
-    };
-    let Argument::Target = instructions::argument_at(i) else {
+    let Argument::Target = a else {
         return true;
     };
     let own = first + (k as i64);
-    values::is_above(own, text::word_at(line, 2))
+    values::is_above(own, w)
+}
+
+// The argument w of the kind at a place, on code line k, where the code has n addresses from `first` on: no test fails where OP is unknown.
+fn test_argument(first: i64, n: usize, primitives: &[u8], k: usize, kind: Place, w: &[u8]) -> Tested
+    requires { ⌜ within firstAddresses first ≡ true ⌝ }
+    requires { ⌜ (n ≤ 32768) × (k ≤ 32768) ⌝ }
+    requires { ⌜ ((i : ℕ) → kind ≡ At i → i < 61) ⌝ }
+    ensures { λ r. ⌜ ArgumentTests first n (list (now (primitives .entry))) k (now (w .entry)) kind r ⌝ }
+{
+    let Place::At(i) = kind else {
+        return Tested {
+            layout: true,
+            range: true,
+            name: true,
+            target: true,
+            forward: true,
+        };
+    };
+    let a = instructions::argument_at(i);
+    let layout = argument_laid_out(a, w);
+    let range = argument_in_range(a, w);
+    let name = argument_named(primitives, a, w);
+    let target = argument_reaches(first, n, a, w);
+    let forward = argument_forward(first, k, a, w);
+    Tested {
+        layout: layout,
+        range: range,
+        name: name,
+        target: target,
+        forward: forward,
+    }
+}
+
+fn both(a: bool, b: bool) -> bool
+    ensures { λ r. ⌜ r ≡ (a && b) ⌝ }
+{
+    if a { b } else { false }
+}
+
+// Whether a kind was found.
+fn is_known(kind: Place) -> bool
+    ensures { λ r. ⌜ ((w : List ℕ) → kind ≡ place w kindNames → r ≡ among w kindNames) ⌝ }
+{
+    let Place::At(_) = kind else {
+        return false;
+    };
+    true
+}
+
+// Whether the address w is that of code line k.
+fn is_address(first: i64, k: usize, w: &[u8]) -> bool
+    requires { ⌜ within firstAddresses first ≡ true ⌝ }
+    requires { ⌜ k ≤ 32768 ⌝ }
+    ensures { λ r. ⌜ r ≡ same (value (now (w .entry))) (first +ℤ pos k) ⌝ }
+{
+    let own = first + (k as i64);
+    values::is_within(
+        Range {
+            low: own,
+            high: own,
+        },
+        w,
+    )
+}
+
+// Code line k, whose OP names the kind at a place, where the code has n addresses from `first` on and `primitives` is the line of their names.
+pub fn test_code(
+    first: i64,
+    n: usize,
+    primitives: &[u8],
+    k: usize,
+    kind: Place,
+    line: &[u8],
+) -> Tested
+    requires { ⌜ within firstAddresses first ≡ true ⌝ }
+    requires { ⌜ (n ≤ 32768) × (k ≤ 32768) ⌝ }
+    requires { ⌜ kind ≡ place (op (now line)) kindNames ⌝ }
+    ensures { λ r. ⌜ CodeTests first n (list (now (primitives .entry))) k (now (line .entry)) r ⌝ }
+{
+    let at = text::word_at(line, 0);
+    let w = text::word_at(line, 2);
+    let argument = test_argument(first, n, primitives, k, kind, w);
+    let three = both(k < 1024, text::count_words(line) == 3);
+    let spelt = both(three, values::is_numeral(at));
+    let layout = both(spelt, argument.layout);
+    let range = both(values::is_within(layout::at_range(k), at), argument.range);
+    let known = both(is_address(first, k, at), is_known(kind));
+    let name = both(known, argument.name);
+    Tested {
+        layout: layout,
+        range: range,
+        name: name,
+        target: argument.target,
+        forward: argument.forward,
+    }
+}
+
+// 1 for yes, 2 for no.
+fn one_or_two(yes: bool) -> u8
+    ensures { λ r. ⌜ r ≡ cond yes 1 2 ⌝ }
+{
+    if yes { 1 } else { 2 }
+}
+
+// Row 5 on a code line whose OP is `op`, the name of the kind at a place, and `kinds` the line of the kinds that have a price. What the search
+// found of a kind is kept: 1 where it has a price, 2 where it has none, and 0 as long as it was not looked for.
+pub fn code_priced(kinds: &[u8], kept: &mut [u8; 61], kind: Place, op: &[u8]) -> bool
+    requires { ⌜ kind ≡ place (now op) kindNames ⌝ }
+    requires { ⌜ PricesKept (list (now kinds)) (now kept) ⌝ }
+    ensures priced { λ r. ⌜ r ≡ among (now (op .entry)) (list (now (kinds .entry))) ⌝ }
+    ensures kept { λ _. ⌜ PricesKept (list (now (kinds .entry))) (now (kept .exit)) ⌝ }
+{
+    let Place::At(k) = kind else {
+        return layout::is_listed(op, kinds);
+    };
+    let known = kept[k];
+    if 0 < known {
+        return known == 1;
+    }
+    let listed = layout::is_listed(op, kinds);
+    kept[k] = one_or_two(listed);
+    listed
 }
 
 // ---- answers

@@ -31,7 +31,7 @@ use Rattle.routine.specs.Rows.{op, arg, value, cycleCounts, wordCounts, extraCo
 use Rattle.routine.specs.Routine.{inside, naturalAt, PriceList, prices, argumentValue, instructionOf}
 use Rattle.routine.proofs.RangeLaws.{natural-inside}
 use Rattle.values.specs.Values.{NaturalRange}
-use Rattle.parts.specs.Parts.{PriceRange, Coded}
+use Rattle.parts.specs.Parts.{PriceRange, Coded, putLine}
 
 -- where a word is found, as an index
 pub found : (ws : List (List ℕ)) (w v : List ℕ) (p : Place) {k : ℕ} → k ≡ indexOf p → p ≡ place w ws → w ≡ v → k ≡ find v ws
@@ -121,15 +121,18 @@ module _ (r : Range) (p : PriceRange r) where
   pub natural-small : (ws : List (List ℕ)) (i : ℕ) {n : ℕ} → n ≡ naturalAt r ws i → n ≤ p .greatest
   natural-small ws i e = omega (arith, e ∙ ap (λ q. naturalAt q ws i) (p .is), natural-inside 0 (p .greatest) (value (getD ws i [])) .below)
 
-pub with-primitive : {b : Bool} {x y m n : ℕ} → b ≡ true → m ≡ x → n ≡ y → m + n ≡ x + cond b y 0
-with-primitive {b} {x} {y} e p q = ap₂ _+_ p (q ∙ sym (ap (λ (t : Bool). cond t y 0) e))
+-- a number that is wanted
+pub when-true : {b : Bool} {x n : ℕ} → b ≡ true → n ≡ x → n ≡ cond b x 0
+when-true {x = x} e q = q ∙ sym (ap (λ (t : Bool). cond t x 0) e)
 
-pub without-primitive : {b : Bool} {x m : ℕ} (y : ℕ) → b ≡ false → m ≡ x → m ≡ x + cond b y 0
-without-primitive {b} {x} {m} y e p = let q : cond b y 0 ≡ 0 = ap (λ (t : Bool). cond t y 0) e in omega arith
-
-pub same-price : (ks ps : List (List ℕ)) {r r′ : Range} {i i′ j j′ : ℕ} {b b′ : Bool} {n : ℕ} → r ≡ r′ → i ≡ i′ → b ≡ b′ → j ≡ j′
-    → n ≡ naturalAt r ks i + cond b (naturalAt r ps j) 0 → n ≡ naturalAt r′ ks i′ + cond b′ (naturalAt r′ ps j′) 0
-same-price ks ps s p t q e = e ∙ (λ x. naturalAt (s x) ks (p x) + cond (t x) (naturalAt (s x) ps (q x)) 0)
+-- the price of a primitive that is called, at the place where it is found
+pub called-price : (ns ps : List (List ℕ)) {b b′ : Bool} {r r′ : Range} {v v′ : List ℕ} {j n : ℕ} → b ≡ b′ → r ≡ r′ → v ≡ v′ → j ≡ cond b (find v ns) 0 → n ≡ cond b (naturalAt r ps j) 0
+    → n ≡ cond b′ (naturalAt r′ ps (find v′ ns)) 0
+called-price ns ps {b} {b′} {r} {r′} {v} {v′} {j} s t u i e = e ∙ go b j i ∙ (λ x. cond (s x) (naturalAt (t x) ps (find (u x) ns)) 0)
+  where
+    go : (d : Bool) (k : ℕ) → k ≡ cond d (find v ns) 0 → cond d (naturalAt r ps k) 0 ≡ cond d (naturalAt r ps (find v ns)) 0
+    go true k q = ap (λ m. naturalAt r ps m) q
+    go false k q = refl
 
 -- the operand by the argument that the kind takes
 module _ (k : Kind) (ps : List (List ℕ)) (w : List ℕ) where
@@ -192,10 +195,6 @@ module _ (ks : PriceList) (xs : List (List ℕ)) (ps : PriceList) (text : List �
 
 -- ---- a program with one more line
 
--- the five words of a line from place k on
-abbrev pub putLine : List ℕ → ℕ → ℕ → ℕ → ℕ → ℕ → ℕ → List ℕ
-putLine ws k b o c w x = set (set (set (set (set ws k b) (k + 1) o) (k + 2) c) (k + 3) w) (k + 4) x
-
 module _ (ws : List ℕ) (k b o c w x : ℕ) where
   -- what stands before them and after them stays
   pub put-kept : (i : ℕ) → (k ≤ i → k + 5 ≤ i) → getD (putLine ws k b o c w x) i 0 ≡ getD ws i 0
@@ -210,33 +209,34 @@ module _ (ws : List ℕ) (k b o c w x : ℕ) where
       apart j e l m = let g : k + 5 ≤ i = h (omega arith) in omega arith
 
   -- and they are read back
-  pub put-line : k + 5 ≤ length ws → lineAt (putLine ws k b o c w x) k ≡ line b (signed 32 o) c w x
-  put-line h = rw (word-0, word-1, word-2, word-3, word-4) refl
-    where
-      word-0 : getD (putLine ws k b o c w x) k 0 ≡ b
-      word-0 = getD-set-other (set (set (set (set ws k b) (k + 1) o) (k + 2) c) (k + 3) w) (k + 4) k x 0 (λ e. omega arith)
-          ∙ getD-set-other (set (set (set ws k b) (k + 1) o) (k + 2) c) (k + 3) k w 0 (λ e. omega arith)
-          ∙ getD-set-other (set (set ws k b) (k + 1) o) (k + 2) k c 0 (λ e. omega arith)
-          ∙ getD-set-other (set ws k b) (k + 1) k o 0 (λ e. omega arith)
-          ∙ getD-set-same ws k b 0 (omega arith)
+  module _ (h : k + 5 ≤ length ws) where
+    pub word-0 : getD (putLine ws k b o c w x) k 0 ≡ b
+    word-0 = getD-set-other (set (set (set (set ws k b) (k + 1) o) (k + 2) c) (k + 3) w) (k + 4) k x 0 (λ e. omega arith)
+        ∙ getD-set-other (set (set (set ws k b) (k + 1) o) (k + 2) c) (k + 3) k w 0 (λ e. omega arith)
+        ∙ getD-set-other (set (set ws k b) (k + 1) o) (k + 2) k c 0 (λ e. omega arith)
+        ∙ getD-set-other (set ws k b) (k + 1) k o 0 (λ e. omega arith)
+        ∙ getD-set-same ws k b 0 (omega arith)
 
-      word-1 : getD (putLine ws k b o c w x) (k + 1) 0 ≡ o
-      word-1 = getD-set-other (set (set (set (set ws k b) (k + 1) o) (k + 2) c) (k + 3) w) (k + 4) (k + 1) x 0 (λ e. omega arith)
-          ∙ getD-set-other (set (set (set ws k b) (k + 1) o) (k + 2) c) (k + 3) (k + 1) w 0 (λ e. omega arith)
-          ∙ getD-set-other (set (set ws k b) (k + 1) o) (k + 2) (k + 1) c 0 (λ e. omega arith)
-          ∙ getD-set-same (set ws k b) (k + 1) o 0 (simp length-set (omega arith))
+    pub word-1 : getD (putLine ws k b o c w x) (k + 1) 0 ≡ o
+    word-1 = getD-set-other (set (set (set (set ws k b) (k + 1) o) (k + 2) c) (k + 3) w) (k + 4) (k + 1) x 0 (λ e. omega arith)
+        ∙ getD-set-other (set (set (set ws k b) (k + 1) o) (k + 2) c) (k + 3) (k + 1) w 0 (λ e. omega arith)
+        ∙ getD-set-other (set (set ws k b) (k + 1) o) (k + 2) (k + 1) c 0 (λ e. omega arith)
+        ∙ getD-set-same (set ws k b) (k + 1) o 0 (simp length-set (omega arith))
 
-      word-2 : getD (putLine ws k b o c w x) (k + 2) 0 ≡ c
-      word-2 = getD-set-other (set (set (set (set ws k b) (k + 1) o) (k + 2) c) (k + 3) w) (k + 4) (k + 2) x 0 (λ e. omega arith)
-          ∙ getD-set-other (set (set (set ws k b) (k + 1) o) (k + 2) c) (k + 3) (k + 2) w 0 (λ e. omega arith)
-          ∙ getD-set-same (set (set ws k b) (k + 1) o) (k + 2) c 0 (simp length-set (omega arith))
+    pub word-2 : getD (putLine ws k b o c w x) (k + 2) 0 ≡ c
+    word-2 = getD-set-other (set (set (set (set ws k b) (k + 1) o) (k + 2) c) (k + 3) w) (k + 4) (k + 2) x 0 (λ e. omega arith)
+        ∙ getD-set-other (set (set (set ws k b) (k + 1) o) (k + 2) c) (k + 3) (k + 2) w 0 (λ e. omega arith)
+        ∙ getD-set-same (set (set ws k b) (k + 1) o) (k + 2) c 0 (simp length-set (omega arith))
 
-      word-3 : getD (putLine ws k b o c w x) (k + 3) 0 ≡ w
-      word-3 = getD-set-other (set (set (set (set ws k b) (k + 1) o) (k + 2) c) (k + 3) w) (k + 4) (k + 3) x 0 (λ e. omega arith)
-          ∙ getD-set-same (set (set (set ws k b) (k + 1) o) (k + 2) c) (k + 3) w 0 (simp length-set (omega arith))
+    pub word-3 : getD (putLine ws k b o c w x) (k + 3) 0 ≡ w
+    word-3 = getD-set-other (set (set (set (set ws k b) (k + 1) o) (k + 2) c) (k + 3) w) (k + 4) (k + 3) x 0 (λ e. omega arith)
+        ∙ getD-set-same (set (set (set ws k b) (k + 1) o) (k + 2) c) (k + 3) w 0 (simp length-set (omega arith))
 
-      word-4 : getD (putLine ws k b o c w x) (k + 4) 0 ≡ x
-      word-4 = getD-set-same (set (set (set (set ws k b) (k + 1) o) (k + 2) c) (k + 3) w) (k + 4) x 0 (simp length-set (omega arith))
+    pub word-4 : getD (putLine ws k b o c w x) (k + 4) 0 ≡ x
+    word-4 = getD-set-same (set (set (set (set ws k b) (k + 1) o) (k + 2) c) (k + 3) w) (k + 4) x 0 (simp length-set (omega arith))
+
+    pub put-line : lineAt (putLine ws k b o c w x) k ≡ line b (signed 32 o) c w x
+    put-line = rw (word-0, word-1, word-2, word-3, word-4) refl
 
 -- a program whose first n lines are those of a list, with the next one
 module _ (f : Line → Instruction) (ls : List Line) (ws : List ℕ) (n b o c w x : ℕ) (long : length ws ≡ 5131) (few : n < 1024) where

@@ -10,17 +10,26 @@ use Rattle.machine.specs.Machine.{reblock}
 use Rattle.states.specs.View.{view, blocksOf, whole}
 use Rattle.states.specs.declared.State as code
 use Rattle.routine.specs.declared.Section.the-variants.{Kinds as kinds, Primitives as primitives}
-use Rattle.routine.specs.declared.Column.the-variants.{Extra as extra}
-use Rattle.routine.specs.declared.Role.the-variants.{Values as values}
-use Rattle.routine.specs.Layout.{body, codeLines, listed}
+use Rattle.routine.specs.declared.Column.the-variants.{Cycles as cycles, Words as words-column, Extra as extra}
+use Rattle.routine.specs.declared.Role.the-variants.{Names as names, Values as values}
+use Rattle.routine.specs.Layout.{layout, body, codeLines, list, textAt, listed}
 use Rattle.routine.specs.Rows.{value}
 use Rattle.routine.specs.Routine.{inside, priceList, instructionOf, codeIn, startOf, routineOf, blocksInLine}
+use Rattle.parts.specs.Parts.{pricesOn}
 use Rattle.routine.proofs.CodeLineLaws.{code-take, answer-drop}
 
 -- the instructions are those of the first lines after the layout
 pub instructions-in : (ls : List Line) → codeIn ls .instructions ≡ map (λ l. instructionOf (priceList kinds ls) (listed (values kinds extra) ls) (priceList primitives ls) (l .text)) (take (length (codeLines (body ls))) (body ls))
 unfolding codeIn
 instructions-in ls = ap (map (λ (l : Line). instructionOf (priceList kinds ls) (listed (values kinds extra) ls) (priceList primitives ls) (l .text))) (code-take (body ls))
+
+-- the prices that they are read by are those of the seven lines
+module _ (ls ms : List Line) {ks kc kw kx ps pc pw : List ℕ} where
+  pub lines-priced : ks ≡ textAt (names kinds) layout ls → kc ≡ textAt (values kinds cycles) layout ls → kw ≡ textAt (values kinds words-column) layout ls → kx ≡ textAt (values kinds extra) layout ls
+      → ps ≡ textAt (names primitives) layout ls → pc ≡ textAt (values primitives cycles) layout ls → pw ≡ textAt (values primitives words-column) layout ls
+      → map (λ l. instructionOf (pricesOn ks kc kw) (list kx) (pricesOn ps pc pw) (l .text)) ms ≡ map (λ l. instructionOf (priceList kinds ls) (listed (values kinds extra) ls) (priceList primitives ls) (l .text)) ms
+  unfolding priceList listed
+  lines-priced a b c g d e f = λ i. map (λ (l : Line). instructionOf (pricesOn (a i) (b i) (c i)) (list (g i)) (pricesOn (d i) (e i) (f i)) (l .text)) ms
 
 -- the answers are those of the lines after ANSWER
 pub answers-in : (ls : List Line) → routineOf ls .answers ≡ map (λ l. inside numbers (value (l .text))) (drop (suc (length (codeLines (body ls)))) (body ls))

@@ -2,26 +2,35 @@
 use cells::Cell;
 use instructions::Argument;
 use numbers::Range;
+use routine::Column;
+use routine::Role;
+use routine::Section;
 use routine::layout;
 use states::State;
+use text::Place;
 ghost use mathlib.Core.Path.{_≡_};
 ghost use mathlib.Core.Bool.{cond};
 ghost use mathlib.Core.List.{List, [], map};
 ghost use Prim.Native.Nat.{ℕ, _+_, _*_, _%_, _≤_, _<_};
+ghost use lib.Dec.{ltb};
 ghost use lib.IntN.{pos};
 ghost use lib.ListN.{length, getD, take, drop};
-ghost use Rattle.text.specs.Text.{lines};
-ghost use Rattle.numbers.specs.Numbers.{IsNumber, numbers};
+ghost use Rattle.text.specs.Text.{lines, place, find};
+ghost use Rattle.text.specs.declared.Place.the-variants.{At};
+ghost use Rattle.numbers.specs.Numbers.{IsNumber, numbers, residue};
 ghost use Rattle.cells.specs.Cells.{number};
-ghost use Rattle.instructions.specs.Kinds.{operand};
+ghost use Rattle.instructions.specs.Kinds.{operand, kindNames};
 ghost use Rattle.instructions.specs.Columns.{kindAt};
 ghost use Rattle.states.specs.Program.{firstOf, linesIn, blocksIn, sizesOf, line, lineOf, linesFrom};
 ghost use Rattle.states.specs.View.{view, WellFormed, blocksOf};
-ghost use Rattle.routine.specs.Layout.{list};
-ghost use Rattle.routine.specs.Rows.{value, total};
-ghost use Rattle.routine.specs.Routine.{inside, naturalAt, argumentValue, instructionOf, cellsOf, blocksInLine, startOf};
+ghost use Rattle.routine.specs.declared.Section.the-variants.{Kinds, Primitives};
+ghost use Rattle.routine.specs.declared.Column.the-variants.{Extra};
+ghost use Rattle.routine.specs.declared.Role.the-variants.{Values};
+ghost use Rattle.routine.specs.Layout.{list, listed};
+ghost use Rattle.routine.specs.Rows.{value, total, op};
+ghost use Rattle.routine.specs.Routine.{inside, naturalAt, PriceList, priceList, argumentValue, instructionOf, cellsOf, blocksInLine, startOf};
 ghost use Rattle.values.specs.Values.{NaturalRange};
-ghost use Rattle.parts.specs.Parts.{PriceRange, pricesOn, Coded};
+ghost use Rattle.parts.specs.Parts.{PriceRange, pricesOn, Coded, slotOf, PriceAt, KindsKept, putLine};
 
 // ---- the words of a line
 
@@ -142,117 +151,165 @@ fn operand_of(k: usize, w: &[u8]) -> i32
     }
 }
 
-// The price at place i of a line of the kinds' prices, and where the kind calls, that at place j of a line of the primitives'.
-fn price_of(range: Range, kinds: &[u8], i: usize, called: bool, primitives: &[u8], j: usize) -> u32
-    requires { ⌜ PriceRange range ⌝ }
-    ensures { λ r. ⌜ r ≡ naturalAt range (list (now (kinds .entry))) i + cond called (naturalAt range (list (now (primitives .entry))) j) 0 ⌝ }
+// A code line, by the five words that a program has for it.
+struct Entry {
+    code: u32,
+    operand: i32,
+    cycles: u32,
+    words: u32,
+    extra: u32,
+}
+
+// Where what is kept of the kind at a place begins: five words for each kind, and five more for a name that no kind has.
+fn slot_of(kind: Place) -> usize
+    requires { ⌜ ((k : ℕ) → kind ≡ At k → k < 61) ⌝ }
+    ensures { λ r. ⌜ r ≡ slotOf kind ⌝ }
 {
-    let price = natural_at(range, kinds, i);
-    if called {
-        price + natural_at(range, primitives, j)
-    } else {
-        price
+    match kind {
+        Place::At(k) => k * 5,
+        Place::Missing => 305,
     }
 }
 
-// A code line, by the five words that a program has for it.
-pub struct Entry {
-    pub code: u8,
-    pub operand: i32,
-    pub cycles: u32,
-    pub words: u32,
-    pub extra: u32,
+// 1 for the slot of a kind, which is kept, and 0 for the other.
+fn is_kept(slot: usize) -> u32
+    ensures { λ r. ⌜ r ≡ cond (ltb slot 305) 1 0 ⌝ }
+{
+    if slot < 305 { 1 } else { 0 }
 }
 
-// The entries of a code line, by the seven lines of prices.
-pub fn entry_of(
+// The slot of the kind that `op` names: its code, 1 once it is kept, and the cycles, the words and the extra that the four lines of the
+// kinds' prices list. They are searched when the kind is met for the first time.
+fn find_price(
+    kept: &mut [u32; 310],
     kinds: &[u8],
-    kind_cycles: &[u8],
-    kind_words: &[u8],
-    kind_extras: &[u8],
+    cycles: &[u8],
+    words: &[u8],
+    extras: &[u8],
+    kind: Place,
+    op: &[u8],
+) -> usize
+    requires { ⌜ kind ≡ place (now op) kindNames ⌝ }
+    requires { ⌜ KindsKept (pricesOn (now kinds) (now cycles) (now words)) (list (now extras)) (now kept) ⌝ }
+    ensures slot { λ r. ⌜ r ≡ slotOf kind ⌝ }
+    ensures price { λ r. ⌜ PriceAt (pricesOn (now (kinds .entry)) (now (cycles .entry)) (now (words .entry))) (list (now (extras .entry))) (now (op .entry)) (now (kept .exit)) r ⌝ }
+    ensures kept { λ _. ⌜ KindsKept (pricesOn (now (kinds .entry)) (now (cycles .entry)) (now (words .entry))) (list (now (extras .entry))) (now (kept .exit)) ⌝ }
+{
+    let slot = slot_of(kind);
+    if kept[slot + 1] == 1 {
+        return slot;
+    }
+    let i = layout::index_listed(kinds, op);
+    let code = code_of(text::index_of(kind));
+    kept[slot] = code as u32;
+    kept[slot + 1] = is_kept(slot);
+    kept[slot + 2] = natural_at(layout::cycle_counts(), cycles, i);
+    kept[slot + 3] = natural_at(layout::word_counts(), words, i);
+    kept[slot + 4] = natural_at(layout::extra_counts(), extras, i);
+    slot
+}
+
+// The price of a primitive at place i of a line, where one is called.
+fn price_called(range: Range, called: bool, primitives: &[u8], i: usize) -> u32
+    requires { ⌜ PriceRange range ⌝ }
+    ensures price { λ r. ⌜ r ≡ cond called (naturalAt range (list (now (primitives .entry))) i) 0 ⌝ }
+    ensures small { λ r. ⌜ r ≤ 65535 ⌝ }
+{
+    if called {
+        return natural_at(range, primitives, i);
+    }
+    0
+}
+
+// The place of the primitive w on the line of their names, where one is called.
+fn place_called(called: bool, primitives: &[u8], w: &[u8]) -> usize
+    ensures { λ r. ⌜ r ≡ cond called (find (now (w .entry)) (list (now (primitives .entry)))) 0 ⌝ }
+{
+    if called {
+        return layout::index_listed(primitives, w);
+    }
+    0
+}
+
+// The entry of a code line whose OP names the kind at a place, by its slot and the three lines of the primitives' prices.
+fn entry_of(
+    kept: &[u32; 310],
+    slot: usize,
+    kind: Place,
     primitives: &[u8],
-    primitive_cycles: &[u8],
-    primitive_words: &[u8],
+    cycles: &[u8],
+    words: &[u8],
     text: &[u8],
 ) -> Entry
-    ensures instruction { λ r. ⌜ lineOf (line (r .code) (r .operand) (r .cycles) (r .words) (r .extra)) ≡ instructionOf (pricesOn (now (kinds .entry)) (now («kind_cycles» .entry)) (now («kind_words» .entry))) (list (now («kind_extras» .entry))) (pricesOn (now (primitives .entry)) (now («primitive_cycles» .entry)) (now («primitive_words» .entry))) (now (text .entry)) ⌝ }
-    ensures known { λ r. ⌜ r .code % 32 ≤ 22 ⌝ }
+    requires { ⌜ kind ≡ place (op (now text)) kindNames ⌝ }
+    requires { ⌜ (slot + 5 ≤ 310) × (getD (now kept) (slot + 2) 0 ≤ 65535) × (getD (now kept) (slot + 3) 0 ≤ 65535) ⌝ }
+    ensures { λ r. ⌜ ((ks : PriceList) (xs : List (List ℕ)) → PriceAt ks xs (op (now (text .entry))) (now (kept .entry)) slot → (lineOf (line (r .code) (r .operand) (r .cycles) (r .words) (r .extra)) ≡ instructionOf ks xs (pricesOn (now (primitives .entry)) (now (cycles .entry)) (now (words .entry))) (now (text .entry))) × (r .code % 32 ≤ 22)) ⌝ }
 {
-    let op = text::word_at(text, 1);
     let arg = text::word_at(text, 2);
-    let k = text::index_of(instructions::kind_named(op));
+    let k = text::index_of(kind);
     let called = instructions::calls_at(k);
-    let i = layout::index_listed(kinds, op);
-    let j = layout::index_listed(primitives, arg);
-    let code = code_of(k);
+    let j = place_called(called, primitives, arg);
     let operand = operand_of(k, arg);
-    let cycles = price_of(
-        layout::cycle_counts(),
-        kind_cycles,
-        i,
-        called,
-        primitive_cycles,
-        j,
-    );
-    let words = price_of(
-        layout::word_counts(),
-        kind_words,
-        i,
-        called,
-        primitive_words,
-        j,
-    );
-    let extra = natural_at(layout::extra_counts(), kind_extras, i);
+    let more_cycles = price_called(layout::cycle_counts(), called, cycles, j);
+    let more_words = price_called(layout::word_counts(), called, words, j);
     Entry {
-        code: code,
+        code: kept[slot],
         operand: operand,
-        cycles: cycles,
-        words: words,
-        extra: extra,
+        cycles: kept[slot + 2] + more_cycles,
+        words: kept[slot + 3] + more_words,
+        extra: kept[slot + 4],
     }
 }
 
-// The first `count` lines of `body` as the lines of a program, by the seven lines of prices. Its head is not filled in.
-pub fn lines_of(
-    kinds: &[u8],
-    kind_cycles: &[u8],
-    kind_words: &[u8],
-    kind_extras: &[u8],
-    primitives: &[u8],
-    primitive_cycles: &[u8],
-    primitive_words: &[u8],
-    body: &[u8],
-    count: usize,
-) -> [u32; 5131]
+// Puts an entry over the five words of line n of a program.
+fn put_entry(code: &mut [u32; 5131], n: usize, entry: Entry)
+    requires { ⌜ n < 1024 ⌝ }
+    ensures { λ _. ⌜ now (code .exit) ≡ putLine (now (code .entry)) (11 + n * 5) (entry .code) (residue 32 (entry .operand)) (entry .cycles) (entry .words) (entry .extra) ⌝ }
+{
+    let k = 11 + n * 5;
+    let operand = numbers::word_of(entry.operand);
+    code[k] = entry.code;
+    code[k + 1] = operand;
+    code[k + 2] = entry.cycles;
+    code[k + 3] = entry.words;
+    code[k + 4] = entry.extra;
+}
+
+// The first `count` lines of `body` as the lines of a program, by the seven lines of prices in `text`. Its head is not filled in.
+pub fn lines_of(text: &[u8], body: &[u8], count: usize) -> [u32; 5131]
     requires { ⌜ (count ≤ 1024) × (count ≤ length (lines (now body))) ⌝ }
-    ensures instructions { λ r. ⌜ linesFrom r count 11 ≡ map (λ l. instructionOf (pricesOn (now (kinds .entry)) (now («kind_cycles» .entry)) (now («kind_words» .entry))) (list (now («kind_extras» .entry))) (pricesOn (now (primitives .entry)) (now («primitive_cycles» .entry)) (now («primitive_words» .entry))) (l .text)) (take count (lines (now (body .entry)))) ⌝ }
+    ensures instructions { λ r. ⌜ linesFrom r count 11 ≡ map (λ l. instructionOf (priceList Kinds (lines (now (text .entry)))) (listed (Values Kinds Extra) (lines (now (text .entry)))) (priceList Primitives (lines (now (text .entry)))) (l .text)) (take count (lines (now (body .entry)))) ⌝ }
     ensures known { λ r. ⌜ ((j : ℕ) → j < count → getD r (11 + j * 5) 0 % 32 ≤ 22) ⌝ }
 {
+    let kinds = layout::text_of(text, Role::Names(Section::Kinds));
+    let kind_cycles = layout::text_of(text, Role::Values(Section::Kinds, Column::Cycles));
+    let kind_words = layout::text_of(text, Role::Values(Section::Kinds, Column::Words));
+    let kind_extras = layout::text_of(text, Role::Values(Section::Kinds, Column::Extra));
+    let primitives = layout::text_of(text, Role::Names(Section::Primitives));
+    let cycles = layout::text_of(text, Role::Values(Section::Primitives, Column::Cycles));
+    let words = layout::text_of(text, Role::Values(Section::Primitives, Column::Words));
     let mut code = [0u32; 5131];
+    let mut kept = [0u32; 310];
     let mut rest = body;
-    let mut place = 0;
-    while place < count {
+    let mut n = 0;
+    while n < count {
         let line = text::first_line(rest);
-        let entry = entry_of(
+        let op = text::word_at(line, 1);
+        let kind = instructions::kind_named(op);
+        let slot = find_price(
+            &mut kept,
             kinds,
             kind_cycles,
             kind_words,
             kind_extras,
-            primitives,
-            primitive_cycles,
-            primitive_words,
-            line,
+            kind,
+            op,
         );
-        let k = 11 + place * 5;
-        let word = numbers::word_of(entry.operand);
-        code[k] = entry.code as u32;
-        code[k + 1] = word;
-        code[k + 2] = entry.cycles;
-        code[k + 3] = entry.words;
-        code[k + 4] = entry.extra;
-        let next = text::next_lines(rest);
+        let entry = entry_of(&kept, slot, kind, primitives, cycles, words, line);
+        put_entry(&mut code, n, entry);
+        let next = text::after_line(rest, line.len());
         rest = next;
-        place += 1;
+        n += 1;
     }
     code
 }

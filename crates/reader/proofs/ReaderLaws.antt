@@ -1,6 +1,6 @@
 -- The parts that the reader puts together are those of the routine. Assumes nothing.
 use Prim.Native.Nat.{ℕ, zero, suc, _+_, _*_, _%_, _≤_, _<_, min}
-use mathlib.Core.Path.{_≡_, refl, sym, ap, ap₂, subst, _∙_}
+use mathlib.Core.Path.{_≡_, sym, ap, ap₂, subst, _∙_}
 use mathlib.Core.List.{List, [], _∷_, map}
 use native.Mathlib.Omega.{arith}
 use native.Mathlib.Numerals.{add-one}
@@ -20,7 +20,7 @@ use Rattle.states.specs.View.{view, whole}
 use Rattle.states.specs.declared.State as code
 use Rattle.states.specs.View as view-of
 use Rattle.routine.specs.declared.Section.the-variants.{Limits as limits, Kinds as kinds, Primitives as primitives, Cells as cells, Fields as fields}
-use Rattle.routine.specs.declared.Column.the-variants.{Limit as limit, Cycles as cycles, Words as words-column, Extra as extra, Cell as cell}
+use Rattle.routine.specs.declared.Column.the-variants.{Limit as limit, Extra as extra, Cell as cell}
 use Rattle.routine.specs.declared.Role.the-variants.{Names as names, Values as values}
 use Rattle.routine.specs.Layout.{layout, body, codeLines, list, textAt, listed}
 use Rattle.routine.specs.Rows.{Passes, value, blockSizes, total, firstAt, budgets, ticks}
@@ -31,7 +31,6 @@ use Rattle.routine.proofs.PassingLaws.{code-among, first-small, answers-few, ce
 use Rattle.routine.proofs.PassingLaws as passing
 use Rattle.names.specs.declared.Blocks.{Blocks}
 use Rattle.names.specs.Names.{BlocksOf}
-use Rattle.parts.specs.Parts.{pricesOn}
 use Rattle.routine.proofs.CodeLineLaws.{answer-drop}
 use Rattle.parts.proofs.PartLaws.{instructions-in, answers-in, start-whole}
 use Rattle.reader.specs.Reader.{BodyLines, HoldsCode}
@@ -47,30 +46,14 @@ module _ (ls ms : List Line) (count : ℕ) (x : BodyLines ls ms count) where
   pub counted-few : (count ≤ 1024) × (count ≤ length ms)
   counted-few = (x .few, rw (x .after, x .counted) (code-among (body ls)))
 
-  module _ (ks kc kw kx ps pc pw : List ℕ) (a : ks ≡ textAt (names kinds) layout ls) (b : kc ≡ textAt (values kinds cycles) layout ls) (c : kw ≡ textAt (values kinds words-column) layout ls) (g : kx ≡ textAt (values kinds extra) layout ls)
-      (d : ps ≡ textAt (names primitives) layout ls) (e : pc ≡ textAt (values primitives cycles) layout ls) (f : pw ≡ textAt (values primitives words-column) layout ls) where
-    kinds-at : pricesOn ks kc kw ≡ priceList kinds ls
-    unfolding priceList listed
-    kinds-at = rw (a, b, c) refl
-
-    extras-at : list kx ≡ listed (values kinds extra) ls
-    unfolding listed
-    extras-at = rw g refl
-
-    primitives-at : pricesOn ps pc pw ≡ priceList primitives ls
-    unfolding priceList listed
-    primitives-at = rw (d, e, f) refl
-
-    pub code-held : (r : List ℕ)
-        → linesFrom r count 11 ≡ map (λ l. instructionOf (pricesOn ks kc kw) (list kx) (pricesOn ps pc pw) (l .text)) (take count ms)
-        → ((j : ℕ) → j < count → getD r (11 + j * 5) 0 % 32 ≤ 22) → HoldsCode ls count r
-    code-held r h k = record {
-      instructions =
-          h ∙ ap₂ (λ q s. map (λ (l : Line). instructionOf q (list kx) s (l .text)) (take count ms)) kinds-at primitives-at
-          ∙ ap (λ xs. map (λ (l : Line). instructionOf (priceList kinds ls) xs (priceList primitives ls) (l .text)) (take count ms)) extras-at
-          ∙ ap₂ (λ n (xs : List Line). map (λ (l : Line). instructionOf (priceList kinds ls) (listed (values kinds extra) ls) (priceList primitives ls) (l .text)) (take n xs)) (x .counted) (x .after) ∙ sym (instructions-in ls);
-      known = k;
-    }
+  pub code-held : (r : List ℕ)
+      → linesFrom r count 11 ≡ map (λ l. instructionOf (priceList kinds ls) (listed (values kinds extra) ls) (priceList primitives ls) (l .text)) (take count ms)
+      → ((j : ℕ) → j < count → getD r (11 + j * 5) 0 % 32 ≤ 22) → HoldsCode ls count r
+  code-held r h k = record {
+    instructions =
+        h ∙ ap₂ (λ n (xs : List Line). map (λ (l : Line). instructionOf (priceList kinds ls) (listed (values kinds extra) ls) (priceList primitives ls) (l .text)) (take n xs)) (x .counted) (x .after) ∙ sym (instructions-in ls);
+    known = k;
+  }
 
 -- ---- the lines after the layout
 

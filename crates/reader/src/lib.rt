@@ -26,24 +26,7 @@ fn lines_in(text: &[u8], body: &[u8], count: usize) -> [u32; 5131]
     requires { ⌜ BodyLines (lines (now text)) (lines (now body)) count ⌝ }
     ensures { λ r. ⌜ HoldsCode (lines (now (text .entry))) count r ⌝ }
 {
-    let kinds = layout::text_of(text, Role::Names(Section::Kinds));
-    let kind_cycles = layout::text_of(text, Role::Values(Section::Kinds, Column::Cycles));
-    let kind_words = layout::text_of(text, Role::Values(Section::Kinds, Column::Words));
-    let kind_extras = layout::text_of(text, Role::Values(Section::Kinds, Column::Extra));
-    let primitives = layout::text_of(text, Role::Names(Section::Primitives));
-    let primitive_cycles = layout::text_of(text, Role::Values(Section::Primitives, Column::Cycles));
-    let primitive_words = layout::text_of(text, Role::Values(Section::Primitives, Column::Words));
-    parts::lines_of(
-        kinds,
-        kind_cycles,
-        kind_words,
-        kind_extras,
-        primitives,
-        primitive_cycles,
-        primitive_words,
-        body,
-        count,
-    )
+    parts::lines_of(text, body, count)
 }
 
 // The routine of a text that passes.

@@ -161,7 +161,7 @@ abbrev pub boundChecks : List Check
 boundChecks =
     check layout-row Layout ∷ check range-row OutOfRange ∷ check name-row BadName ∷ check price-row Unpriced ∷ check target-row NoTarget ∷ check forward-row Backward ∷ []
 
--- "run only: a `?` on line 10, then 12"
+-- "run only: a `?` on line 10, then 12", which are lines 11 and 13 since §1 of document 02
 abbrev pub runChecks : List Check
 runChecks = boundChecks ++ (check known-row UnknownCell ∷ [])
 

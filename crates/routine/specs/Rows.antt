@@ -302,7 +302,8 @@ onCode t (values s c) text = true
 onCode t (code k) text = t text
 onCode t (answer k) text = true
 
--- row 2 on a line of names: "a wrong fixed word (BUDGET TICK, AT OP ARG, ANSWER), an empty list on line 9, a 33rd primitive"
+-- row 2 on a line of names: "a wrong fixed word (BUDGET TICK, AT OP ARG, ANSWER), an empty list on line 9", which is line 10 since §1 of
+-- document 02, and "a 33rd primitive"
 unfoldable pub namesLaidOut : Section → List ℕ → Bool
 namesLaidOut limits text = equals text (bytes "BUDGET TICK")
 namesLaidOut kinds text = true
@@ -384,7 +385,7 @@ forward ls (values s c) text = true
 forward ls (code k) text = codeForward (firstAt (body ls)) k text
 forward ls (answer k) text = true
 
--- row 11: "run only: a `?` on line 10, then 12"; "A run refuses a range of more than one number as it does `?`." (document 02 §12)
+-- row 11: "run only: a `?` on line 10, then 12", which are lines 11 and 13 since §1 of document 02; "A run refuses a range of more than one number as it does `?`." (document 02 §12)
 unfoldable pub allKnown : Role → List ℕ → Bool
 allKnown r text = onCells (λ w. isSingle (cellWord w)) r text
 

@@ -2,6 +2,7 @@
 use Prim.Native.Nat.{ℕ, _<_, _≤_}
 use mathlib.Core.Path.{_≡_, refl, ap, _∙_}
 use mathlib.Core.List.{List, [], _∷_, _++_}
+use mathlib.Core.Logic.{_⊎_, inl, inr}
 use native.Mathlib.Omega.{arith}
 use lib.ListN.{length}
 use borrow.Author.Tests.{le-ltb}
@@ -15,24 +16,20 @@ use Rattle.routine.specs.declared.RefusedLine.the-variants.{Nowhere as nowhere,
 use Rattle.routine.specs.Rows.{refusedLine, Passes}
 use Rattle.routine.specs.Routine.{Routine, routineOf, Reading, refused, routine, Check, check, boundChecks, runChecks, checked, orElse, limited, readRun}
 use Rattle.routine.proofs.RowLaws.{Unrefused, read-passes, run-passes, passes-read, bound-order, run-order, too-long}
-use Rattle.rows.specs.Checks.{readBy, checkOf, knownChecks, Due}
+use Rattle.rows.specs.Checks.{readBy, checkOf, Due}
 use Rattle.refusals.specs.declared.Verdict.the-variants.{Accepted, Refused}
 use Rattle.rows.specs.declared.Reader.{Reader}
 use Rattle.rows.specs.declared.Reader.the-variants.{Bound, Run}
 
--- when a row is due
-
-pub due-layout : (ls : List Line) → Due layout-row ls
-due-layout ls = record { names-row = λ e. let z : _≡_ {A = ℕ} 0 1 = cc in absurd (omega arith); targets-row = λ e. let z : _≡_ {A = ℕ} 0 1 = cc in absurd (omega arith); jumps-row = λ e. let z : _≡_ {A = ℕ} 0 1 = cc in absurd (omega arith) }
-
-pub due-range : (ls : List Line) → Due range-row ls
-due-range ls = record { names-row = λ e. let z : _≡_ {A = ℕ} 0 1 = cc in absurd (omega arith); targets-row = λ e. let z : _≡_ {A = ℕ} 0 1 = cc in absurd (omega arith); jumps-row = λ e. let z : _≡_ {A = ℕ} 0 1 = cc in absurd (omega arith) }
-
-pub due-known : (ls : List Line) → Due known-row ls
-due-known ls = record { names-row = λ e. let z : _≡_ {A = ℕ} 0 1 = cc in absurd (omega arith); targets-row = λ e. let z : _≡_ {A = ℕ} 0 1 = cc in absurd (omega arith); jumps-row = λ e. let z : _≡_ {A = ℕ} 0 1 = cc in absurd (omega arith) }
-
-pub due-after : (row : Row) {ls : List Line} → refusedLine range-row ls ≡ nowhere → Due row ls
-due-after row h = record { names-row = λ e. h; targets-row = λ e. h; jumps-row = λ e. h }
+-- row 2 is due at once, and any other row once row 2 refuses nothing
+pub due-after-layout : (row : Row) (ls : List Line) → Due row ls → (row ≡ layout-row) ⊎ (refusedLine layout-row ls ≡ nowhere)
+due-after-layout layout-row ls d = inl refl
+due-after-layout range-row ls d = inr d
+due-after-layout name-row ls d = inr (d .0)
+due-after-layout price-row ls d = inr (d .0)
+due-after-layout target-row ls d = inr (d .0)
+due-after-layout forward-row ls d = inr (d .0)
+due-after-layout known-row ls d = inr (d .layout)
 
 -- a text that is too long
 pub check-long : (text : List ℕ) (r : Reader) → 32768 < length text → Refused TextLength ≡ checkOf (readBy r text)
@@ -85,19 +82,20 @@ pub check-bound : (text : List ℕ) (r : Reader) → r ≡ Bound → length text
 unfolding readBy checkOf
 check-bound text r e h p = rw (e, passes-read text p h) refl
 
-pub check-run : (text : List ℕ) (r : Reader) → r ≡ Run → length text ≤ 32768 → Passes (lines text) → checkOf (checked knownChecks (lines text)) ≡ checkOf (readBy r text)
+-- row 11, for the run
+
+run-is : (text : List ℕ) (r : Reader) → r ≡ Run → length text ≤ 32768 → Passes (lines text) → checkOf (orElse (refusedLine known-row (lines text)) UnknownCell (routine (routineOf (lines text)))) ≡ checkOf (readBy r text)
 unfolding readBy readRun limited checked orElse
-check-run text r e h p = rw (e, le-ltb 32768 (length text) h, p .layout, p .range, p .names, p .prices, p .targets, p .forward) refl
+run-is text r e h p = rw (e, le-ltb 32768 (length text) h, p .layout, p .range, p .names, p .prices, p .targets, p .forward) refl
 
--- row 11
+module _ (text : List ℕ) (r : Reader) (e : r ≡ Run) (h : length text ≤ 32768) (p : Passes (lines text)) where
+  pub check-known : (n : ℕ) → refusedLine known-row (lines text) ≡ line n → Refused (UnknownCell n) ≡ checkOf (readBy r text)
+  unfolding checkOf orElse
+  check-known n q = (rw q refl) ∙ run-is text r e h p
 
-pub known-fails : (ls : List Line) (n : ℕ) → refusedLine known-row ls ≡ line n → Refused (UnknownCell n) ≡ checkOf (checked knownChecks ls)
-unfolding checkOf checked orElse
-known-fails ls n e = rw e refl
-
-pub known-passes : (ls : List Line) → refusedLine known-row ls ≡ nowhere → Accepted ≡ checkOf (checked knownChecks ls)
-unfolding checkOf checked orElse
-known-passes ls e = rw e refl
+  pub check-run : refusedLine known-row (lines text) ≡ nowhere → Accepted ≡ checkOf (readBy r text)
+  unfolding checkOf orElse
+  check-run q = (rw q refl) ∙ run-is text r e h p
 
 -- what a check says of a reading
 

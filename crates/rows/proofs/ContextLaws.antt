@@ -1,8 +1,9 @@
 -- What a row says of a line, by what it looks at in the other lines. Assumes nothing.
 use Prim.Native.Nat.{ℕ, _≤_}
 use mathlib.Core.Path.{_≡_, refl, sym, ap, ap₂, subst, _∙_}
-use mathlib.Core.Bool.{Bool, true, false, not}
+use mathlib.Core.Bool.{Bool, true, false, not, _&&_}
 use mathlib.Core.List.{List, [], _∷_}
+use mathlib.Core.Logic.{_⊎_, inl, inr}
 use native.Mathlib.Omega.{arith}
 use lib.IntN.{ℤ, pos}
 use types.Run.{OneOf, miss}
@@ -17,9 +18,9 @@ use Rattle.routine.specs.declared.Section.the-variants.{Limits as limits, Kinds
 use Rattle.routine.specs.declared.Column.{Column}
 use Rattle.routine.specs.declared.Role.{Role}
 use Rattle.routine.specs.declared.Role.the-variants.{Names as names, Values as values, Code as code, Answer as answer}
-use Rattle.routine.specs.declared.Row.the-variants.{Layout as layout-row}
-use Rattle.routine.specs.Layout.{layout, body, list, textAt, listed}
-use Rattle.routine.specs.Rows.{equalLists, blockSizes, total, wellNamed, test, valuesLaidOut, laidOut, onCells, onCode, codeNamed, named, op, arg, onArgument, argumentReaches, priced, reaches, codeForward, forward, firstAddresses, firstAt, columnInRange, inRange}
+use Rattle.routine.specs.declared.Row.the-variants.{Layout as layout-row, Range as range-row, Name as name-row, Price as price-row, Target as target-row, Forward as forward-row, Known as known-row}
+use Rattle.routine.specs.Layout.{layout, list, textAt, listed}
+use Rattle.routine.specs.Rows.{equalLists, blockSizes, total, wellNamed, test, valuesLaidOut, laidOut, onCells, onCode, codeNamed, named, op, arg, onArgument, argumentReaches, priced, reaches, codeForward, forward, firstAddresses, columnInRange, inRange, allKnown}
 use Rattle.names.specs.declared.Blocks.{Blocks}
 use Rattle.names.specs.Names.{BlocksOf}
 use Rattle.lines.specs.Lines.{wordTest}
@@ -28,7 +29,12 @@ use Rattle.lines.proofs.LineLaws.{and-true, and-false, and-through, and-stop}
 use Rattle.routine.proofs.Section.{the-type}
 use Rattle.routine.proofs.Role as roles
 use Rattle.routine.proofs.LayoutLaws.{list-none, list-words}
-use Rattle.rows.specs.Scan.{NameContext, TargetContext, ForwardContext, Small, lineWith}
+use Rattle.rows.specs.Scan.{Context, Small, Other, lineWith}
+use Rattle.rows.specs.Checks.{Due, testedBy}
+use Rattle.rows.proofs.FoundLaws.{address-is}
+use Rattle.lines.specs.declared.Tested.{Tested}
+use Rattle.lines.specs.Lines.{CodeTests}
+use Rattle.routine.specs.declared.Row.{Row}
 use Rattle.rows.proofs.ArmLaws.{not-true, not-false}
 
 -- the first address is in its range
@@ -44,38 +50,84 @@ module _ (ls : List Line) (text : List ℕ) (r : Bool) where
   unfolding inRange listed
   ranged-values s c ns e h = h ∙ ap (λ t. columnInRange c (list t) (list text)) e
 
-  pub named-values : {ps : List ℕ} {b f : ℕ} → NameContext ls ps b f → (s : Section) (c : Column) → r ≡ onCells (wordTest (Present b)) (values s c) text → r ≡ named ls (values s c) text
-  unfolding named wordTest
-  named-values x s c h = h ∙ ap (λ n. onCells (wordTest (Present n)) (values s c) text) (x .blocks-named)
+  pub named-values : {b : ℕ} → b ≡ length (blockSizes (listed (names fields) ls)) → (o : Role) → Other o → ((s : Section) → o ≡ names s → ⊥) → r ≡ onCells (wordTest (Present b)) o text → r ≡ named ls o text
+  unfolding named wordTest onCells
+  named-values e (names s) h n q = absurd (n s refl)
+  named-values e (values s c) h n q = q ∙ ap (λ n. onCells (wordTest (Present n)) (values s c) text) e
+  named-values e (code k) h n q = absurd h
+  named-values e (answer k) h n q = q
 
-  pub named-code : {ps : List ℕ} {b f : ℕ} → NameContext ls ps b f → (z : ℤ) → z ≡ pos f → (k : ℕ) → r ≡ codeNamed z (list ps) k text → r ≡ named ls (code k) text
-  unfolding named listed
-  named-code {ps} x z e k h = h ∙ ap (λ w. codeNamed w (list ps) k text) (e ∙ x .first-address) ∙ ap (λ t. codeNamed (firstAt (body ls)) (list t) k text) (x .primitives-line)
+-- rows 5, 6 and 13 look at code lines alone
 
-  pub priced-code : (ks : List ℕ) → ks ≡ textAt (names kinds) layout ls → (k : ℕ) → r ≡ among (op text) (list ks) → r ≡ priced ls (code k) text
-  unfolding priced onCode listed
-  priced-code ks e k h = h ∙ ap (λ t. among (op text) (list t)) e
+module _ (ls : List Line) (text : List ℕ) where
+  pub priced-other : (o : Role) → Other o → true ≡ priced ls o text
+  unfolding priced onCode
+  priced-other (names s) h = refl
+  priced-other (values s c) h = refl
+  priced-other (code k) h = absurd h
+  priced-other (answer k) h = refl
 
-  pub reaches-code : {f n : ℕ} → TargetContext ls f n → (z : ℤ) → z ≡ pos f → (k : ℕ) → r ≡ onArgument (argumentReaches z n (arg text)) text → r ≡ reaches ls (code k) text
+  pub reaches-other : (o : Role) → Other o → true ≡ reaches ls o text
   unfolding reaches onCode
-  reaches-code {f} {n} x z e k h = h ∙ ap₂ (λ w m. onArgument (argumentReaches w m (arg text)) text) (e ∙ x .first-address) (x .code-lines)
+  reaches-other (names s) h = refl
+  reaches-other (values s c) h = refl
+  reaches-other (code k) h = absurd h
+  reaches-other (answer k) h = refl
 
-  pub forward-code : {f : ℕ} → ForwardContext ls f → (z : ℤ) → z ≡ pos f → (k : ℕ) → r ≡ codeForward z k text → r ≡ forward ls (code k) text
+  pub forward-other : (o : Role) → Other o → true ≡ forward ls o text
   unfolding forward
-  forward-code x z e k h = h ∙ ap (λ w. codeForward w k text) (e ∙ x .first-address)
+  forward-other (names s) h = refl
+  forward-other (values s c) h = refl
+  forward-other (code k) h = absurd h
+  forward-other (answer k) h = refl
 
--- any line but one of code is let through by row 13, by the variants' numbers
-pub forward-other : (ls : List Line) (o : Role) (text : List ℕ) → OneOf (0 ∷ 1 ∷ 3 ∷ []) (tagOf roles.the-type o) → true ≡ forward ls o text
-unfolding forward
-forward-other ls (names s) text h = refl
-forward-other ls (values s c) text h = refl
-forward-other ls (code k) text h = absurd (miss (0 ∷ 1 ∷ 3 ∷ []) 2 tt h)
-forward-other ls (answer k) text h = refl
+-- a line is not code, by the variants' numbers
+pub not-code : (o : Role) → OneOf (0 ∷ 1 ∷ 3 ∷ []) (tagOf roles.the-type o) → Other o
+not-code (names s) h = tt
+not-code (values s c) h = tt
+not-code (code k) h = absurd (miss (0 ∷ 1 ∷ 3 ∷ []) 2 tt h)
+not-code (answer k) h = tt
+
+pub not-names : (o : Role) → OneOf (1 ∷ 2 ∷ 3 ∷ []) (tagOf roles.the-type o) → (s : Section) → o ≡ names s → ⊥
+not-names (names s) h t e = absurd (miss (1 ∷ 2 ∷ 3 ∷ []) 0 tt h)
+not-names (values s c) h t e = let z : _≡_ {A = ℕ} 0 1 = cc in omega arith
+not-names (code k) h t e = let z : _≡_ {A = ℕ} 0 1 = cc in omega arith
+not-names (answer k) h t e = let z : _≡_ {A = ℕ} 0 1 = cc in omega arith
+
+-- the rows on a line that is not code
+module _ (ls : List Line) (o : Role) (h : Other o) (text : List ℕ) (ended : Bool) {l r n k : Bool} (laid : l ≡ test layout-row ls o (lineWith text ended)) (ranged : r ≡ inRange ls o text)
+    (names-are : n ≡ named ls o text) (known : k ≡ allKnown o text) where
+  pub other-tests : (row : Row) → testedBy row (record { layout = l; range = r; name = n; price = true; target = true; forward = true; known = k }) ≡ test row ls o (lineWith text ended)
+  unfolding test
+  other-tests layout-row = laid
+  other-tests range-row = ranged
+  other-tests name-row = names-are
+  other-tests price-row = priced-other ls text o h
+  other-tests target-row = reaches-other ls text o h
+  other-tests forward-row = forward-other ls text o h
+  other-tests known-row = known
+
+pub code-other : {A : Type 0} (o : Role) (k : ℕ) → o ≡ code k → Other o → A
+code-other o k e h = absurd (subst Other e h)
 
 pub small-code : (o : Role) (k : ℕ) → o ≡ code k → Small o → k ≤ 32768
 small-code o k e h = subst Small e h
 
--- row 2, by its three parts
+-- the rows on a code line
+
+module _ (ls : List Line) {ks ps : List ℕ} {blocks first count : ℕ} (x : Context ls ks ps blocks first count) (z : ℤ) (is : z ≡ pos first) (k : ℕ) (text : List ℕ) (ended : Bool)
+    (t : Tested) {ns : List ℕ} (tested : CodeTests z count (list ns) k text t) {filled layout price due : Bool} (f : filled ≡ all (wordTest Filled) (words text)) (l : layout ≡ ended && filled && t .layout)
+    (n : due ≡ true → ns ≡ ps) (p : due ≡ true → price ≡ among (op text) (list ks)) where
+  pub code-tests : (row : Row) → Due row ls → ((row ≡ name-row) ⊎ (row ≡ price-row) → due ≡ true)
+      → testedBy row (record { layout = layout; range = t .range; name = t .name; price = price; target = t .target; forward = t .forward; known = true }) ≡ test row ls (code k) (lineWith text ended)
+  unfolding test wordTest laidOut inRange named priced onCode reaches forward allKnown onCells listed
+  code-tests layout-row d g = l ∙ ap₂ (λ a b. ended && a && b) f (tested .layout)
+  code-tests range-row d g = tested .range
+  code-tests name-row d g = tested .name ∙ ap₂ (λ w ns. codeNamed w (list ns) k text) (is ∙ address-is x (d .1)) (n (g (inl refl)) ∙ x .primitives-line)
+  code-tests price-row d g = p (g (inr refl)) ∙ ap (λ ns. among (op text) (list ns)) (x .kinds-line)
+  code-tests target-row d g = tested .target ∙ ap₂ (λ w m. onArgument (argumentReaches w m (arg text)) text) (is ∙ address-is x (d .1)) (x .code-lines)
+  code-tests forward-row d g = tested .forward ∙ ap (λ w. codeForward w k text) (is ∙ address-is x (d .1))
+  code-tests known-row d g = refl
 
 module _ (ls : List Line) (o : Role) (text : List ℕ) (ended filled : Bool) (f : filled ≡ all (wordTest Filled) (words text)) where
   pub unended : not ended ≡ true → false ≡ test layout-row ls o (lineWith text ended)

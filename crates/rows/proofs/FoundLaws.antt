@@ -17,7 +17,7 @@ use Rattle.routine.proofs.PassingLaws.{first-natural, first-small}
 use Rattle.routine.proofs.PassingLaws as passing
 use Rattle.names.specs.declared.Blocks.{Blocks}
 use Rattle.names.specs.Names.{BlocksOf}
-use Rattle.rows.specs.Scan.{Context, NameContext, TargetContext, ForwardContext}
+use Rattle.rows.specs.Scan.{Context}
 
 -- as many blocks as sizes are held
 block-count : (ns : List ℕ) (b : Blocks) → BlocksOf ns b → length (b .sizes) ≡ 8 → b .count ≡ length ns
@@ -47,17 +47,9 @@ module _ (text ks ps fs rest : List ℕ) (short : length text ≤ 32768) (k : ks
 
 -- once row 3 refuses nothing, the first address is the number that the first AT spells
 module _ {ls : List Line} {ks ps : List ℕ} {blocks first count : ℕ} (x : Context ls ks ps blocks first count) (range : refusedLine range-row ls ≡ nowhere) where
-  address-is : pos first ≡ firstAt (body ls)
+  pub address-is : pos first ≡ firstAt (body ls)
   address-is = ap pos (x .first-address) ∙ first-natural ls range
 
-  address-low : first ≤ 60000
-  address-low = rw (x .first-address) (first-small (firstAt (body ls)))
-
-  pub name-context : NameContext ls ps blocks first
-  name-context = record { primitives-line = x .primitives-line; blocks-named = x .blocks-named; few = x .few-blocks; first-address = address-is; low = address-low }
-
-  pub target-context : TargetContext ls first count
-  target-context = record { first-address = address-is; low = address-low; code-lines = x .code-lines; few = x .few-lines }
-
-  pub forward-context : ForwardContext ls first
-  forward-context = record { first-address = address-is; low = address-low }
+-- and it is in its range in any case
+pub address-low : {ls : List Line} {ks ps : List ℕ} {blocks first count : ℕ} → Context ls ks ps blocks first count → first ≤ 60000
+address-low {ls} x = rw (x .first-address) (first-small (firstAt (body ls)))

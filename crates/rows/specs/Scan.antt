@@ -5,14 +5,13 @@ use mathlib.Core.List.{List}
 use mathlib.Core.Logic.{_⊎_}
 use Prim.Native.Nat.{ℕ, _+_, _-_, _<_, _≤_}
 use lib.Dec.{leb, ltb, eqb}
-use lib.IntN.{pos}
 use lib.ListN.{length, getD}
 use Rattle.text.specs.Text.{bytes, equals, Line}
 use Rattle.routine.specs.declared.Section.the-variants.{Kinds as kinds, Primitives as primitives, Fields as fields, Answers as answers}
 use Rattle.routine.specs.declared.Role.{Role}
 use Rattle.routine.specs.declared.Role.the-variants.{Names as names, Values as values, Code as code, Answer as answer}
 use Rattle.routine.specs.Layout.{layout, body, codeLines, textAt, listed}
-use Rattle.routine.specs.Rows.{blockSizes, firstAt}
+use Rattle.routine.specs.Rows.{blockSizes}
 use Rattle.routine.specs.Routine.{firstAddress}
 
 -- what the rows look at in the lines ls beside a line itself: lines 3 and 7, the number of blocks, the first address, the number of code lines
@@ -25,32 +24,19 @@ pub record Context (ls : List Line) (ks ps : List ℕ) (blocks first count : ℕ
   pub code-lines : count ≡ length (codeLines (body ls))
   pub few-lines : count ≤ 32768
 
--- for row 4, once row 3 refuses nothing
-pub record NameContext (ls : List Line) (ps : List ℕ) (blocks first : ℕ) : Type 0 where
-  pub primitives-line : ps ≡ textAt (names primitives) layout ls
-  pub blocks-named : blocks ≡ length (blockSizes (listed (names fields) ls))
-  pub few : blocks ≤ 8
-  pub first-address : pos first ≡ firstAt (body ls)
-  pub low : first ≤ 60000
-
--- and for row 6
-pub record TargetContext (ls : List Line) (first count : ℕ) : Type 0 where
-  pub first-address : pos first ≡ firstAt (body ls)
-  pub low : first ≤ 60000
-  pub code-lines : count ≡ length (codeLines (body ls))
-  pub few : count ≤ 32768
-
--- and for row 13
-pub record ForwardContext (ls : List Line) (first : ℕ) : Type 0 where
-  pub first-address : pos first ≡ firstAt (body ls)
-  pub low : first ≤ 60000
-
 -- a code line's number is small
 abbrev pub Small : Role → Type 0
 Small (names s) = Unit {0}
 Small (values s c) = Unit {0}
 Small (code k) = k ≤ 32768
 Small (answer k) = Unit {0}
+
+-- a line that is not code
+abbrev pub Other : Role → Type 0
+Other (names s) = Unit {0}
+Other (values s c) = Unit {0}
+Other (code k) = ⊥
+Other (answer k) = Unit {0}
 
 -- a line by its two parts
 abbrev pub lineWith : List ℕ → Bool → Line

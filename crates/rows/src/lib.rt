@@ -2,24 +2,27 @@
 use lines::WordTest;
 use refusals::Refusal;
 use refusals::Verdict;
-use routine::RefusedLine;
 use routine::Role;
-use routine::Row;
 use routine::Section;
 use routine::layout;
+use text::Place;
 ghost use mathlib.Core.Path.{_≡_};
-ghost use mathlib.Core.Bool.{true};
+ghost use mathlib.Core.Bool.{true, _&&_};
+ghost use mathlib.Core.List.{List};
+ghost use mathlib.Core.Logic.{_⊎_};
 ghost use Prim.Native.Nat.{_≤_};
 ghost use lib.ListN.{length};
-ghost use Rattle.text.specs.Text.{lines};
-ghost use Rattle.routine.specs.declared.Role.the-variants.{Names};
-ghost use Rattle.routine.specs.declared.Section.the-variants.{Kinds};
-ghost use Rattle.routine.specs.declared.Row.the-variants.{Layout};
-ghost use Rattle.routine.specs.Layout.{layout, list, textAt};
-ghost use Rattle.routine.specs.Rows.{wellNamed, laidOut, inRange, named, priced, reaches, forward, allKnown, test, refusedLine};
-ghost use Rattle.rows.specs.Scan.{NameContext, TargetContext, ForwardContext, Context, Small, HeadingBefore, lineWith, isHeading, roleOf, headingAfter, missing};
-ghost use Rattle.routine.specs.Routine.{checked};
-ghost use Rattle.rows.specs.Checks.{readBy, checkOf, knownChecks, Due};
+ghost use Rattle.text.specs.Text.{Line, lines, place, among};
+ghost use Rattle.routine.specs.declared.Role.the-variants.{Names, Code};
+ghost use Rattle.routine.specs.declared.Section.the-variants.{Fields};
+ghost use Rattle.routine.specs.declared.Row.{Row};
+ghost use Rattle.routine.specs.declared.Row.the-variants.{Layout, Name, Price};
+ghost use Rattle.routine.specs.Layout.{list, listed};
+ghost use Rattle.routine.specs.Rows.{wellNamed, laidOut, inRange, named, allKnown, blockSizes, test, refusedLine};
+ghost use Rattle.instructions.specs.Kinds.{kindNames};
+ghost use Rattle.lines.specs.Lines.{PricesKept};
+ghost use Rattle.rows.specs.Scan.{Context, Other, HeadingBefore, lineWith, isHeading, roleOf, headingAfter, missing};
+ghost use Rattle.rows.specs.Checks.{readBy, checkOf, Due, testedBy, keptBy, keptAfter, refusedAt};
 
 // Which program reads a text: the run has one row more.
 pub enum Reader {
@@ -27,8 +30,9 @@ pub enum Reader {
     Run,
 }
 
-// Row 2 on a line.
+// Row 2 on a line that is not code.
 fn laid_out(text: &[u8], role: Role, line: &[u8]) -> bool
+    requires { ⌜ Other role ⌝ }
     ensures { λ r. ⌜ r ≡ laidOut (lines (now (text .entry))) role (now (line .entry)) ⌝ }
 {
     match role {
@@ -38,13 +42,14 @@ fn laid_out(text: &[u8], role: Role, line: &[u8]) -> bool
             layout::text_of(text, Role::Names(s)),
             line,
         ),
-        Role::Code(k) => lines::code_laid_out(k, line),
+        Role::Code(_) => true,
         Role::Answer(k) => lines::answer_laid_out(k, line),
     }
 }
 
-// Row 3 on a line.
+// Row 3 on a line that is not code.
 fn in_range(text: &[u8], role: Role, line: &[u8]) -> bool
+    requires { ⌜ Other role ⌝ }
     ensures { λ r. ⌜ r ≡ inRange (lines (now (text .entry))) role (now (line .entry)) ⌝ }
 {
     match role {
@@ -54,7 +59,7 @@ fn in_range(text: &[u8], role: Role, line: &[u8]) -> bool
             layout::text_of(text, Role::Names(s)),
             line,
         ),
-        Role::Code(k) => lines::code_in_range(k, line),
+        Role::Code(_) => true,
         Role::Answer(_) => lines::answer_in_range(line),
     }
 }
@@ -90,59 +95,16 @@ fn well_named(s: Section, line: &[u8]) -> bool
     }
 }
 
-// Row 4 on a line.
-fn named(
-    text: &[u8],
-    primitives: &[u8],
-    blocks: usize,
-    first: usize,
-    role: Role,
-    line: &[u8],
-) -> bool
-    requires { ⌜ NameContext (lines (now text)) (now primitives) blocks first ⌝ }
-    requires { ⌜ Small role ⌝ }
-    ensures { λ r. ⌜ r ≡ named (lines (now (text .entry))) role (now (line .entry)) ⌝ }
+// Row 4 on a line that is not code, where `blocks` are present.
+fn named(blocks: usize, role: Role, line: &[u8]) -> bool
+    requires { ⌜ Other role ⌝ }
+    requires { ⌜ blocks ≤ 8 ⌝ }
+    ensures { λ r. ⌜ ((ls : List Line) → blocks ≡ length (blockSizes (listed (Names Fields) ls)) → r ≡ named ls role (now (line .entry))) ⌝ }
 {
-    match role {
-        Role::Names(s) => well_named(s, line),
-        Role::Values(_, _) => lines::cells_pass(WordTest::Present(blocks as u8), role, line),
-        Role::Code(k) => lines::code_named(first as i64, primitives, k, line),
-        Role::Answer(_) => true,
+    if let Role::Names(s) = role {
+        return well_named(s, line);
     }
-}
-
-// Row 5 on a line.
-fn priced(text: &[u8], kinds: &[u8], role: Role, line: &[u8]) -> bool
-    requires { ⌜ now kinds ≡ textAt (Names Kinds) layout (lines (now text)) ⌝ }
-    ensures { λ r. ⌜ r ≡ priced (lines (now (text .entry))) role (now (line .entry)) ⌝ }
-{
-    let Role::Code(_) = role else {
-        return true;
-    };
-    lines::code_priced(kinds, line)
-}
-
-// Row 6 on a line.
-fn reaches(text: &[u8], first: usize, count: usize, role: Role, line: &[u8]) -> bool
-    requires { ⌜ TargetContext (lines (now text)) first count ⌝ }
-    ensures { λ r. ⌜ r ≡ reaches (lines (now (text .entry))) role (now (line .entry)) ⌝ }
-{
-    let Role::Code(_) = role else {
-        return true;
-    };
-    lines::code_reaches(first as i64, count, line)
-}
-
-// Row 13 on a line.
-fn forward(text: &[u8], first: usize, role: Role, line: &[u8]) -> bool
-    requires { ⌜ ForwardContext (lines (now text)) first ⌝ }
-    requires { ⌜ Small role ⌝ }
-    ensures { λ r. ⌜ r ≡ forward (lines (now (text .entry))) role (now (line .entry)) ⌝ }
-{
-    let Role::Code(k) = role else {
-        return true;
-    };
-    lines::code_forward(first as i64, k, line)
+    lines::cells_pass(WordTest::Present(blocks as u8), role, line)
 }
 
 // Row 11 on a line.
@@ -152,8 +114,9 @@ fn all_known(role: Role, line: &[u8]) -> bool
     lines::cells_pass(WordTest::Known, role, line)
 }
 
-// Row 2 on a line that a line feed ends or not.
+// Row 2 on a line that is not code, which a line feed ends or not.
 fn laid_out_line(text: &[u8], role: Role, line: &[u8], ended: bool) -> bool
+    requires { ⌜ Other role ⌝ }
     ensures { λ r. ⌜ r ≡ test Layout (lines (now (text .entry))) role (lineWith (now (line .entry)) ended) ⌝ }
 {
     if !ended {
@@ -165,32 +128,182 @@ fn laid_out_line(text: &[u8], role: Role, line: &[u8], ended: bool) -> bool
     laid_out(text, role, line)
 }
 
-// A row on a line.
-fn passes(
-    row: Row,
-    text: &[u8],
-    kinds: &[u8],
-    primitives: &[u8],
+// What the rows look at in a text beside a line: the number of blocks, the first address, the number of code lines.
+struct Counts {
     blocks: usize,
     first: usize,
     count: usize,
-    role: Role,
+}
+
+// What the tests of the rows come to on a line.
+struct Tests {
+    layout: bool,
+    range: bool,
+    name: bool,
+    price: bool,
+    target: bool,
+    forward: bool,
+    known: bool,
+}
+
+// The rows on a line that is not code.
+fn test_line(text: &[u8], blocks: usize, role: Role, line: &[u8], ended: bool) -> Tests
+    requires { ⌜ Other role ⌝ }
+    requires { ⌜ (blocks ≡ length (blockSizes (listed (Names Fields) (lines (now text))))) × (blocks ≤ 8) ⌝ }
+    ensures { λ r. ⌜ ((row : Row) → testedBy row r ≡ test row (lines (now (text .entry))) role (lineWith (now (line .entry)) ended)) ⌝ }
+{
+    let layout = laid_out_line(text, role, line, ended);
+    let range = in_range(text, role, line);
+    let name = named(blocks, role, line);
+    let known = all_known(role, line);
+    Tests {
+        layout: layout,
+        range: range,
+        name: name,
+        price: true,
+        target: true,
+        forward: true,
+        known: known,
+    }
+}
+
+// Row 5 on a code line, where it is due.
+fn is_priced(kinds: &[u8], prices: &mut [u8; 61], kind: Place, op: &[u8], due: bool) -> bool
+    requires { ⌜ kind ≡ place (now op) kindNames ⌝ }
+    requires { ⌜ PricesKept (list (now kinds)) (now prices) ⌝ }
+    ensures priced { λ r. ⌜ (due ≡ true → r ≡ among (now (op .entry)) (list (now (kinds .entry)))) ⌝ }
+    ensures kept { λ _. ⌜ PricesKept (list (now (kinds .entry))) (now (prices .exit)) ⌝ }
+{
+    if due {
+        return lines::code_priced(kinds, prices, kind, op);
+    }
+    true
+}
+
+// The line where a primitive is looked for on a code line: that of their names as long as row 4 is due, and else none.
+fn names_due(primitives: &[u8], due: bool) -> &[u8]
+    ensures { λ r. ⌜ (due ≡ true → now r ≡ now (primitives .entry)) ⌝ }
+{
+    if due {
+        return primitives;
+    }
+    &primitives[..0]
+}
+
+// Row 2 on a line by its parts: that a line feed ends it, that no word is empty, and that the words are those called for.
+fn all_three(ended: bool, filled: bool, laid: bool) -> bool
+    ensures { λ r. ⌜ r ≡ (ended && filled && laid) ⌝ }
+{
+    if !ended {
+        return false;
+    }
+    if filled { laid } else { false }
+}
+
+// The rows on code line k. What rows 4 and 5 look for on other lines is looked for only where they are due: no wrong name stands before.
+fn test_code(
+    kinds: &[u8],
+    primitives: &[u8],
+    counts: Counts,
+    k: usize,
     line: &[u8],
     ended: bool,
-) -> bool
-    requires { ⌜ Context (lines (now text)) (now kinds) (now primitives) blocks first count ⌝ }
-    requires { ⌜ Due row (lines (now text)) ⌝ }
-    requires { ⌜ Small role ⌝ }
-    ensures { λ r. ⌜ r ≡ test row (lines (now (text .entry))) role (lineWith (now (line .entry)) ended) ⌝ }
+    due: bool,
+    prices: &mut [u8; 61],
+) -> Tests
+    requires { ⌜ (counts .first ≤ 60000) × (counts .count ≤ 32768) × (k ≤ 32768) ⌝ }
+    requires { ⌜ PricesKept (list (now kinds)) (now prices) ⌝ }
+    ensures tests { λ r. ⌜ ((ls : List Line) → Context ls (now (kinds .entry)) (now (primitives .entry)) (counts .blocks) (counts .first) (counts .count) → (row : Row) → Due row ls → ((row ≡ Name) ⊎ (row ≡ Price) → due ≡ true) → testedBy row r ≡ test row ls (Code k) (lineWith (now (line .entry)) ended)) ⌝ }
+    ensures kept { λ _. ⌜ PricesKept (list (now (kinds .entry))) (now (prices .exit)) ⌝ }
 {
-    match row {
-        Row::Layout => laid_out_line(text, role, line, ended),
-        Row::Range => in_range(text, role, line),
-        Row::Name => named(text, primitives, blocks, first, role, line),
-        Row::Price => priced(text, kinds, role, line),
-        Row::Target => reaches(text, first, count, role, line),
-        Row::Forward => forward(text, first, role, line),
-        Row::Known => all_known(role, line),
+    let op = text::word_at(line, 1);
+    let kind = instructions::kind_named(op);
+    let names = names_due(primitives, due);
+    let tested = lines::test_code(counts.first as i64, counts.count, names, k, kind, line);
+    let filled = lines::all_words(WordTest::Filled, line);
+    let layout = all_three(ended, filled, tested.layout);
+    let price = is_priced(kinds, prices, kind, op, due);
+    Tests {
+        layout: layout,
+        range: tested.range,
+        name: tested.name,
+        price: price,
+        target: tested.target,
+        forward: tested.forward,
+        known: true,
+    }
+}
+
+// Every test passes, or none does.
+fn all_tests(passes: bool) -> Tests
+    ensures { λ r. ⌜ ((row : Row) → testedBy row r ≡ passes) ⌝ }
+{
+    Tests {
+        layout: passes,
+        range: passes,
+        name: passes,
+        price: passes,
+        target: passes,
+        forward: passes,
+        known: passes,
+    }
+}
+
+// The earliest line that each row refuses, or 0 as long as it refuses none.
+struct Earliest {
+    layout: u32,
+    range: u32,
+    name: u32,
+    price: u32,
+    target: u32,
+    forward: u32,
+    known: u32,
+}
+
+// The line that a row refuses, or 0, after line n.
+fn earlier(kept: u32, passes: bool, n: u32) -> u32
+    ensures { λ r. ⌜ r ≡ keptAfter kept passes n ⌝ }
+{
+    if 0 < kept {
+        return kept;
+    }
+    if passes { 0 } else { n }
+}
+
+// The same of every row.
+fn keep(kept: Earliest, tests: Tests, n: u32) -> Earliest
+    ensures { λ r. ⌜ ((row : Row) → keptBy row r ≡ keptAfter (keptBy row kept) (testedBy row tests) n) ⌝ }
+{
+    let layout = earlier(kept.layout, tests.layout, n);
+    let range = earlier(kept.range, tests.range, n);
+    let name = earlier(kept.name, tests.name, n);
+    let price = earlier(kept.price, tests.price, n);
+    let target = earlier(kept.target, tests.target, n);
+    let forward = earlier(kept.forward, tests.forward, n);
+    let known = earlier(kept.known, tests.known, n);
+    Earliest {
+        layout: layout,
+        range: range,
+        name: name,
+        price: price,
+        target: target,
+        forward: forward,
+        known: known,
+    }
+}
+
+// No row refuses a line so far.
+fn none_refused() -> Earliest
+    ensures { λ r. ⌜ ((row : Row) → keptBy row r ≡ 0) ⌝ }
+{
+    Earliest {
+        layout: 0,
+        range: 0,
+        name: 0,
+        price: 0,
+        target: 0,
+        forward: 0,
+        known: 0,
     }
 }
 
@@ -242,21 +355,14 @@ fn misses(i: usize, heading: usize) -> bool
     if 0 < heading { i == heading + 1 } else { false }
 }
 
-// The earliest line that a row refuses.
-fn earliest(
-    row: Row,
-    text: &[u8],
-    kinds: &[u8],
-    primitives: &[u8],
-    blocks: usize,
-    first: usize,
-    count: usize,
-) -> RefusedLine
+// One scan of the lines: the earliest line that each row refuses. It ends at the first line that row 2 refuses.
+fn scan(text: &[u8], kinds: &[u8], primitives: &[u8], counts: Counts) -> Earliest
     requires { ⌜ length (now text) ≤ 32768 ⌝ }
-    requires { ⌜ Context (lines (now text)) (now kinds) (now primitives) blocks first count ⌝ }
-    requires { ⌜ Due row (lines (now text)) ⌝ }
-    ensures { λ r. ⌜ r ≡ refusedLine row (lines (now (text .entry))) ⌝ }
+    requires { ⌜ Context (lines (now text)) (now kinds) (now primitives) (counts .blocks) (counts .first) (counts .count) ⌝ }
+    ensures { λ r. ⌜ ((row : Row) → Due row (lines (now (text .entry))) → refusedAt (keptBy row r) ≡ refusedLine row (lines (now (text .entry)))) ⌝ }
 {
+    let mut prices = [0u8; 61];
+    let mut kept = none_refused();
     let mut rest = text;
     let mut passed: usize = 0;
     let mut heading: usize = 0;
@@ -264,94 +370,64 @@ fn earliest(
         let line = text::first_line(rest);
         let ended = text::line_ends(rest, line.len());
         let role = role_of(passed, heading, line);
-        if !passes(
-            row,
-            text,
-            kinds,
-            primitives,
-            blocks,
-            first,
-            count,
-            role,
-            line,
-            ended,
-        ) {
-            return RefusedLine::Line((passed + 1) as u32);
+        let due = kept.name == 0;
+        let tests = if let Role::Code(k) = role {
+            test_code(kinds, primitives, counts, k, line, ended, due, &mut prices)
+        } else {
+            test_line(text, counts.blocks, role, line, ended)
+        };
+        let more = keep(kept, tests, (passed + 1) as u32);
+        kept = more;
+        if 0 < kept.layout {
+            return kept;
         }
         heading = heading_after(passed, heading, line);
         let next = text::after_line(rest, line.len());
         rest = next;
         passed += 1;
     }
-    if misses(passed, heading) {
-        RefusedLine::Line((passed + 1) as u32)
-    } else {
-        RefusedLine::Nowhere
-    }
+    let whole = !misses(passed, heading);
+    keep(kept, all_tests(whole), (passed + 1) as u32)
 }
 
-// Row 11.
-fn check_known(
-    text: &[u8],
-    kinds: &[u8],
-    primitives: &[u8],
-    blocks: usize,
-    first: usize,
-    count: usize,
-) -> Verdict
-    requires { ⌜ length (now text) ≤ 32768 ⌝ }
-    requires { ⌜ Context (lines (now text)) (now kinds) (now primitives) blocks first count ⌝ }
-    ensures { λ r. ⌜ r ≡ checkOf (checked knownChecks (lines (now (text .entry)))) ⌝ }
-{
-    let known = earliest(Row::Known, text, kinds, primitives, blocks, first, count);
-    if let RefusedLine::Line(n) = known {
-        return Verdict::Refused(Refusal::UnknownCell(n));
-    }
-    Verdict::Accepted
-}
-
-// The rows in their order, each over the whole text.
+// The rows speak in their order.
 fn check_rows(
     reader: Reader,
     text: &[u8],
     kinds: &[u8],
     primitives: &[u8],
-    blocks: usize,
-    first: usize,
-    count: usize,
+    counts: Counts,
 ) -> Verdict
     requires { ⌜ length (now text) ≤ 32768 ⌝ }
-    requires { ⌜ Context (lines (now text)) (now kinds) (now primitives) blocks first count ⌝ }
+    requires { ⌜ Context (lines (now text)) (now kinds) (now primitives) (counts .blocks) (counts .first) (counts .count) ⌝ }
     ensures { λ r. ⌜ r ≡ checkOf (readBy reader (now (text .entry))) ⌝ }
 {
-    let layout = earliest(Row::Layout, text, kinds, primitives, blocks, first, count);
-    if let RefusedLine::Line(n) = layout {
-        return Verdict::Refused(Refusal::Layout(n));
+    let refused = scan(text, kinds, primitives, counts);
+    if 0 < refused.layout {
+        return Verdict::Refused(Refusal::Layout(refused.layout));
     }
-    let range = earliest(Row::Range, text, kinds, primitives, blocks, first, count);
-    if let RefusedLine::Line(n) = range {
-        return Verdict::Refused(Refusal::OutOfRange(n));
+    if 0 < refused.range {
+        return Verdict::Refused(Refusal::OutOfRange(refused.range));
     }
-    let name = earliest(Row::Name, text, kinds, primitives, blocks, first, count);
-    if let RefusedLine::Line(n) = name {
-        return Verdict::Refused(Refusal::BadName(n));
+    if 0 < refused.name {
+        return Verdict::Refused(Refusal::BadName(refused.name));
     }
-    let price = earliest(Row::Price, text, kinds, primitives, blocks, first, count);
-    if let RefusedLine::Line(n) = price {
-        return Verdict::Refused(Refusal::Unpriced(n));
+    if 0 < refused.price {
+        return Verdict::Refused(Refusal::Unpriced(refused.price));
     }
-    let target = earliest(Row::Target, text, kinds, primitives, blocks, first, count);
-    if let RefusedLine::Line(n) = target {
-        return Verdict::Refused(Refusal::NoTarget(n));
+    if 0 < refused.target {
+        return Verdict::Refused(Refusal::NoTarget(refused.target));
     }
-    let forward = earliest(Row::Forward, text, kinds, primitives, blocks, first, count);
-    if let RefusedLine::Line(n) = forward {
-        return Verdict::Refused(Refusal::Backward(n));
+    if 0 < refused.forward {
+        return Verdict::Refused(Refusal::Backward(refused.forward));
     }
-    match reader {
-        Reader::Bound => Verdict::Accepted,
-        Reader::Run => check_known(text, kinds, primitives, blocks, first, count),
+    let Reader::Run = reader else {
+        return Verdict::Accepted;
+    };
+    if 0 < refused.known {
+        return Verdict::Refused(Refusal::UnknownCell(refused.known));
     }
+    Verdict::Accepted
 }
 
 // The refusal of a text, as the bound or the run reads it. What the rows look at beside a line is found once.
@@ -369,5 +445,10 @@ pub fn check(reader: Reader, text: &[u8]) -> Verdict
     let body = layout::body_of(text);
     let first = values::first_address(body);
     let count = layout::count_code(body);
-    check_rows(reader, text, kinds, primitives, blocks, first, count)
+    let counts = Counts {
+        blocks: blocks,
+        first: first,
+        count: count,
+    };
+    check_rows(reader, text, kinds, primitives, counts)
 }

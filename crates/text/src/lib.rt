@@ -71,27 +71,30 @@ pub fn find(w: &[u8], text: &[u8]) -> Lookup
 {
     let mut rest = text;
     let mut k = 0;
+    let mut looked = 0;
     let mut e = piece_length(rest, b' ');
     while e < rest.len() {
+        looked += 1;
         if same(w, &rest[..e]) {
             return Lookup {
                 place: Place::At(k),
-                looked: k + 1,
+                looked: looked,
             };
         }
         rest = &rest[e + 1..];
         e = piece_length(rest, b' ');
         k += 1;
     }
+    looked += 1;
     if same(w, rest) {
         Lookup {
             place: Place::At(k),
-            looked: k + 1,
+            looked: looked,
         }
     } else {
         Lookup {
             place: Place::Missing,
-            looked: k + 1,
+            looked: looked,
         }
     }
 }
@@ -159,14 +162,6 @@ pub fn after_lines(s: &[u8], k: usize) -> &[u8]
         left -= 1;
     }
     rest
-}
-
-// The text of line k of s, counted from 0; no bytes where s has fewer lines.
-pub fn line_at(s: &[u8], k: usize) -> &[u8]
-    ensures { λ r. ⌜ now r ≡ getD (lines (now (s .entry))) k noLine .text ⌝ }
-{
-    let rest = after_lines(s, k);
-    first_line(rest)
 }
 
 // The number of words of a line.

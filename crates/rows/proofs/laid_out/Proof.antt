@@ -1,8 +1,7 @@
 -- `rows::laid_out` meets its contract. Assumes nothing.
-use Rattle.rows.proofs.ContextLaws.{laid-values}
+use Rattle.rows.proofs.ContextLaws.{laid-values, code-other}
 use Rattle.text.specs.Text.{lines}
 use Rattle.routine.specs.Rows.{laidOut}
-use denote.Ref.{now}
 use Rattle.lines.proofs.LineLaws.{arm}
 use borrow.Author.Needs.{needs}
 use Rattle.rows.proofs.laid_out.Statement.{statement}
@@ -10,18 +9,19 @@ use Rattle.rows.proofs.laid_out.Tie as tie
 
 returns : tie.Need-returns
 unfolding laidOut
-returns c = arm (λ o. laidOut (lines (now (c .before .before .before .before .before .before .args .text))) o (now (c .before .before .before .before .before .before .args .line))) (c .before .before .role .given .1) (c .names-laid-out .ensures)
+returns c = let a = c .before .before .before .before .before .before .args in arm (λ o. laidOut (lines (a .text .now)) o (a .line .now)) (c .before .before .role .given .1) (c .names-laid-out .ensures)
 
 returns-2 : tie.Need-returns-2
-returns-2 c = arm (λ o. laidOut (lines (now (c .before .before .before .before .before .before .before .args .text))) o (now (c .before .before .before .before .before .before .before .args .line))) (c .before .before .before .role2 .given .1) (laid-values (lines (now (c .before .before .before .before .before .before .before .args .text))) (now (c .before .before .before .before .before .before .before .args .line)) _ _ _ _ (c .before .text-of .ensures) (c .values-laid-out .ensures))
+returns-2 c =
+    let a = c .before .before .before .before .before .before .before .args in
+    arm (λ o. laidOut (lines (a .text .now)) o (a .line .now)) (c .before .before .before .role2 .given .1) (laid-values (lines (a .text .now)) (a .line .now) _ _ _ _ (c .before .text-of .ensures) (c .values-laid-out .ensures))
 
 returns-3 : tie.Need-returns-3
-unfolding laidOut
-returns-3 c = arm (λ o. laidOut (lines (now (c .before .before .before .before .before .before .args .text))) o (now (c .before .before .before .before .before .before .args .line))) (c .before .before .role3 .given .1) (c .code-laid-out .ensures)
+returns-3 c = code-other _ _ (c .enum-told .given .1) (c .before .before .before .before .pre)
 
 returns-4 : tie.Need-returns-4
 unfolding laidOut
-returns-4 c = arm (λ o. laidOut (lines (now (c .before .before .before .before .before .before .args .text))) o (now (c .before .before .before .before .before .before .args .line))) (c .before .before .role4 .given .1) (c .answer-laid-out .ensures)
+returns-4 c = let a = c .before .before .before .before .before .before .args in arm (λ o. laidOut (lines (a .text .now)) o (a .line .now)) (c .before .before .role3 .given .1) (c .answer-laid-out .ensures)
 
 pub laid-out-spec : {M : Type 1} → statement M
 laid-out-spec =
@@ -33,7 +33,6 @@ laid-out-spec =
     (λ c κs. search needs)
     (λ c κs. search needs)
     (λ c. search needs)
-    (λ c κs. search needs)
     (λ c. search needs)
     (λ c κs. search needs)
     returns
