@@ -5,12 +5,13 @@ use mathlib.Core.Bool.{Bool, true, false}
 use mathlib.Core.List.{List, []}
 use native.Mathlib.Omega.{arith}
 use lib.Dec.{ltb}
+use lib.IntN.{ℤ}
 use lib.ListN.{length, getD, set, length-set}
 use lib.Seq.{getD-drop, drop-set-add}
 use borrow.Author.Tests.{ltb-true, ltb-false}
-use Rattle.cells.specs.Try.{stuck, done, _>>=_}
+use Rattle.cells.specs.Try.{Try, stuck, done, _>>=_}
 use Rattle.cells.specs.declared.Cell.{Cell}
-use Rattle.cells.specs.Cells.{handle, block, handled}
+use Rattle.cells.specs.Cells.{range, handle, block, handled}
 use Rattle.machine.specs.Lists.{nth, put}
 use Rattle.machine.specs.Machine.{State, load, restack, reblock, getField, setField}
 use Rattle.machine.proofs.ListLaws.{nth-in, nth-out, put-in, put-out}
@@ -24,6 +25,7 @@ use Rattle.changes.specs.Single.{single}
 use Rattle.changes.specs.Places.{cellAt, replaceAt}
 use Rattle.changes.specs.Changes.{numberAt}
 use Rattle.changes.specs.Held.{Present}
+use Rattle.changes.proofs.SingleLaws.{single-is}
 
 pub never : {A X : Type 0} (a : A) → stuck ≡ done a → X
 never a e = let z : _≡_ {A = ℕ} 0 1 = cc in absurd (omega arith)
@@ -35,6 +37,18 @@ number-in p s c e = rw e refl
 pub number-out : (p : Position) (s : State) → cellAt p s ≡ stuck → numberAt p s ≡ stuck
 unfolding numberAt _>>=_
 number-out p s e = rw e refl
+
+-- a number stands in a cell, which holds it alone
+pub number-cell : (p : Position) (s : State) (v : ℤ) → numberAt p s ≡ done v → cellAt p s ≡ done (range v 0)
+unfolding numberAt _>>=_
+number-cell p s v h = go (cellAt p s) h
+  where
+    go : (m : Try Cell) → (m >>= λ c. single c) ≡ done v → m ≡ done (range v 0)
+    go stuck h = never v h
+    go (done c) h = ap done (single-is c v h)
+
+pub number-present : (p : Position) (s : State) (v : ℤ) → numberAt p s ≡ done v → Present p s
+number-present p s v h = record { cell = range v 0; there = number-cell p s v h }
 
 -- a block set, in two ways
 set-blocks : (k n : ℕ) (c : Cell) (bs x : List (List Cell)) (s : State) →

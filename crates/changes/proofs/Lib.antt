@@ -4,3 +4,4 @@ pub mod FirstLaws
 pub mod CellLaws
 pub mod PlaceLaws
 pub mod Theorems
+pub mod TrialLaws

@@ -4,15 +4,14 @@ use cells::Value;
 use states::Slot;
 use states::State;
 ghost use mathlib.Core.Path.{_≡_};
-ghost use Prim.Native.Nat.{_≤_};
-ghost use lib.IntN.{pos, _+ℤ_, _-ℤ_};
+ghost use Prim.Native.Nat.{_≤_, _<_};
 ghost use lib.ListN.{length};
 ghost use Rattle.states.specs.Program.{sizesOf, IsProgram};
 ghost use Rattle.states.specs.View.{view, WellFormed, blocksOf, whole};
 ghost use Rattle.changes.specs.Single.{single};
 ghost use Rattle.changes.specs.Places.{replaceAt};
 ghost use Rattle.changes.specs.Changes.{numberAt};
-ghost use Rattle.changes.specs.Held.{positionOf, ofSingle, Present};
+ghost use Rattle.changes.specs.Held.{positionOf, ofSingle, ofTrial, shift, trialOf, Present};
 
 // Where a cell of the start stands: ACCU, an entry of the stack, a field of a block.
 pub enum Position {
@@ -31,6 +30,12 @@ pub struct Change {
 pub enum Single {
     Number(i32),
     Other,
+}
+
+// What a trial changes: one cell, or none.
+pub enum Trial {
+    Of(Change),
+    Nothing,
 }
 
 // The number of a cell that holds one.
@@ -145,18 +150,35 @@ pub fn with_field(
     }
 }
 
-// n below v.
-pub fn lowered(v: i32, n: usize) -> i64
+// v changed by n: downwards in the first of two trials, upwards in the second.
+fn shifted(v: i32, n: usize, d: usize) -> i64
     requires { ⌜ n ≤ 64 ⌝ }
-    ensures { λ r. ⌜ r ≡ v -ℤ pos n ⌝ }
+    ensures { λ r. ⌜ r ≡ shift d n v ⌝ }
 {
+    if d == 1 {
+        return (v as i64) + (n as i64);
+    }
     (v as i64) - (n as i64)
 }
 
-// n above v.
-pub fn raised(v: i32, n: usize) -> i64
-    requires { ⌜ n ≤ 64 ⌝ }
-    ensures { λ r. ⌜ r ≡ v +ℤ pos n ⌝ }
+// Trial j of a start: by 1, by 2 and on to 64, each of all places in the file's order, each downwards and then upwards. It changes nothing
+// where the start has no single number there, and where the value would be outside the range of numbers.
+pub fn trial_at(code: &[u32; 5131], start: State, fields: [Cell; 128], j: usize) -> Trial
+    requires { ⌜ IsProgram (now code) × WellFormed start × (j < 24704) ⌝ }
+    ensures { λ r. ⌜ ofTrial r ≡ trialOf (whole (sizesOf (now (code .entry))) fields start) j ⌝ }
 {
-    (v as i64) + (n as i64)
+    let p = position_of(j / 2 % 193);
+    let held = number_at(code, start, fields, p);
+    let Single::Number(n) = held else {
+        return Trial::Nothing;
+    };
+    let amount = j / 2 / 193 + 1;
+    let v = shifted(n, amount, j % 2);
+    if !numbers::within(numbers::number_range(), v) {
+        return Trial::Nothing;
+    }
+    Trial::Of(Change {
+        place: p,
+        value: v as i32,
+    })
 }

@@ -1,2 +1,4 @@
+pub mod Threefold
+pub mod UnreadLaws
 pub mod SearchLaws
 pub mod Theorems

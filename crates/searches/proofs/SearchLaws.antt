@@ -5,17 +5,14 @@ use mathlib.Core.Bool.{Bool, true, false, not}
 use mathlib.Core.List.{List, [], _∷_, _++_, flatMap}
 use mathlib.Core.Option.{Option, some, none}
 use native.Mathlib.Omega.{arith}
-use lib.Dec.{eqb}
-use lib.IntN.{ℤ, pos, _+ℤ_, _-ℤ_}
-use lib.ListN.{length, getD, drop, length-take}
-use mir.Syntax.{w32, w64}
-use mir.Val.{SFits, ofZ, toZ}
-use mir.ValLaws.{toZ-ofZ}
+use lib.Dec.{eqb, ltb}
+use lib.IntN.{ℤ}
+use lib.ListN.{length, getD, set, drop, length-take}
+use lib.Seq.{getD-set-same, getD-set-other}
+use borrow.Author.Tests.{ltb-true, ltb-false}
 use Rattle.refusals.specs.declared.Refusal.{Refusal}
 use Rattle.refusals.specs.declared.Verdict.the-variants.{Accepted, Refused}
-use Rattle.numbers.specs.Numbers.{within, numbers}
-use Rattle.numbers.proofs.SignedLaws.{number-fits}
-use Rattle.cells.specs.Try.{Try, stuck, done, _>>=_}
+use Rattle.cells.specs.Try.{stuck, done}
 use Rattle.cells.specs.Cells.{number, unknown}
 use Rattle.cells.specs.declared.Cell.{Cell}
 use Rattle.machine.specs.Machine.{State, Code, height, step, reblock}
@@ -27,18 +24,16 @@ use Rattle.findings.specs.declared.Found.{Found}
 use Rattle.findings.specs.Found.{acceptedAs, Shows}
 use Rattle.changes.specs.declared.Position.{Position}
 use Rattle.changes.specs.declared.Change.{Change}
-use Rattle.changes.specs.Single.{single}
-use Rattle.changes.specs.Places.{cellAt, replaceAt, from}
-use Rattle.changes.specs.Changes.{numberAt, change, changeTo, changesOf, changesAt, changesBy, changes, applied, first, nearest}
-use Rattle.changes.specs.Held.{positionOf, Present}
+use Rattle.changes.specs.Places.{replaceAt, from}
+use Rattle.changes.specs.Changes.{numberAt, applied, first, nearest}
+use Rattle.changes.specs.Held.{trialOf}
 use Rattle.changes.proofs.FirstLaws.{append-first, append-second}
-use Rattle.changes.proofs.CellLaws.{never}
-use Rattle.changes.proofs.PlaceLaws.{Limited, all-changes}
-use Rattle.changes.proofs.Theorems.{within-number}
+use Rattle.changes.proofs.PlaceLaws.{Limited}
+use Rattle.changes.proofs.TrialLaws.{all-trials}
 use Rattle.searches.specs.Search.{moved, found, refused-by, searchFrom, search}
-use Rattle.searches.specs.Held.{MovedAs, firstMoved}
+use Rattle.searches.specs.Held.{MovedAs, Reported, noBlock, readBy, isRead, firstMoved}
 
--- ---- one trial
+-- ---- one bound
 
 -- other figures, or the same
 pub moved-cycles : (n : ℕ) (f : Found) (b : Bool) → f .verdict ≡ Accepted → not (eqb (f .cycles) n) ≡ b → MovedAs n f b
@@ -56,57 +51,40 @@ pub shows-bound : (c : Code) (budget : ℕ) (f : Found) (s t : State) → s ≡ 
 unfolding bound
 shows-bound c budget f s t e h = rw (← e) h
 
--- a number of the range fits the code's 32 bits
-pub cast-fits : (v : ℤ) → SFits w64 v → within numbers v ≡ true → SFits w32 (toZ w64 (ofZ w64 v))
-cast-fits v h w = rw (toZ-ofZ w64 v h) (number-fits v (within-number v w))
-
-pub cast-is : (v : ℤ) → SFits w64 v → within numbers v ≡ true → toZ w32 (ofZ w32 (toZ w64 (ofZ w64 v))) ≡ v
-cast-is v h w = toZ-ofZ w32 _ (cast-fits v h w) ∙ toZ-ofZ w64 v h
-
 -- ---- one cell
 
-module _ (c : Code) (budget n : ℕ) (s : State) where
-  pub value-out : (p : Position) (v : ℤ) → within numbers v ≡ false → none ≡ firstMoved c budget n s (changeTo p v)
-  unfolding changeTo first
-  value-out p v h = rw h refl
+module _ (c : Code) (budget n : ℕ) (s : State) (p : Position) where
+  pub read-none : stuck ≡ numberAt p s → false ≡ isRead c budget n s p
+  unfolding isRead readBy
+  read-none h = rw (← h) refl
 
-  pub value-hit : (p : Position) (v m : ℤ) → within numbers v ≡ true → m ≡ v → true ≡ moved n (bound c budget (replaceAt p (number m) s)) → some (change p m) ≡ firstMoved c budget n s (changeTo p v)
-  unfolding changeTo first applied
-  value-hit p v m h e k = rw (h, ← e, ← k) refl
+  pub read-some : (v : ℤ) (b : Bool) → done v ≡ numberAt p s → b ≡ moved n (bound c budget (replaceAt p noBlock s)) → b ≡ isRead c budget n s p
+  unfolding isRead readBy
+  read-some v b h e = rw (← h) e
 
-  pub value-miss : (p : Position) (v m : ℤ) → within numbers v ≡ true → m ≡ v → false ≡ moved n (bound c budget (replaceAt p (number m) s)) → none ≡ firstMoved c budget n s (changeTo p v)
-  unfolding changeTo first applied
-  value-miss p v m h e k = rw (h, ← e, ← k) refl
-
-  pub place-none : (i : ℕ) (p : Position) → stuck ≡ numberAt p s → none ≡ firstMoved c budget n s (changesAt s i p)
-  unfolding changesAt changesOf first
-  place-none i p h = rw (← h) refl
-
-  module _ (i : ℕ) (p : Position) (v : ℤ) (h : done v ≡ numberAt p s) where
-    pub place-down : (b : ℤ) (x : Change) → b ≡ v -ℤ pos i → some x ≡ firstMoved c budget n s (changeTo p b) → some x ≡ firstMoved c budget n s (changesAt s i p)
-    unfolding changesAt changesOf
-    place-down b x e k =
-        rw (← h)
-        (sym (append-first (λ y. moved n (bound c budget (applied y s))) (changeTo p (v -ℤ pos i)) (changeTo p (v +ℤ pos i)) x (rw (← e) (sym k))))
-
-    pub place-up : (b a : ℤ) (o : Option Change) → b ≡ v -ℤ pos i → a ≡ v +ℤ pos i → none ≡ firstMoved c budget n s (changeTo p b) → o ≡ firstMoved c budget n s (changeTo p a) →
-        o ≡ firstMoved c budget n s (changesAt s i p)
-    unfolding changesAt changesOf
-    place-up b a o e f k l =
-        rw (← h)
-        (l ∙ ap (λ z. firstMoved c budget n s (changeTo p z)) f ∙ sym (append-second (λ y. moved n (bound c budget (applied y s))) (changeTo p (v -ℤ pos i)) (changeTo p (v +ℤ pos i)) (rw (← e) (sym k))))
-
--- of the place with a number
-pub at-place : (t : Change → Bool) (s : State) (n k : ℕ) (p : Position) (o : Option Change) → p ≡ positionOf k → o ≡ first t (changesAt s n p) → o ≡ first t (changesAt s n (positionOf k))
-at-place t s n k p o e h = rw e at h
-
-pub number-present : (p : Position) (s : State) (v : ℤ) → done v ≡ numberAt p s → Present p s
-unfolding numberAt _>>=_
-number-present p s v h = go (cellAt p s) refl h
+-- one place more
+pub one-more : (r : List Bool) (k : ℕ) (b : Bool) (f : ℕ → Bool) → k < length r → b ≡ f k → ((i : ℕ) → i < k → getD r i false ≡ f i) →
+    (i : ℕ) → i < k + 1 → getD (set r k b) i false ≡ f i
+one-more r k b f l e h i a = go (ltb i k) refl
   where
-    go : (m : Try Cell) → cellAt p s ≡ m → done v ≡ (m >>= λ c. single c) → Present p s
-    go stuck e h = never v (sym h)
-    go (done c) e h = record { cell = c; there = e }
+    go : (t : Bool) → ltb i k ≡ t → getD (set r k b) i false ≡ f i
+    go true m = let x = ltb-true i k m in getD-set-other r k i b false (λ z. omega arith) ∙ h i x
+    go false m = let x : i ≡ k = omega (arith, ltb-false i k m) in rw x (getD-set-same r k b false l ∙ e)
+
+-- ---- one trial
+
+module _ (c : Code) (budget n : ℕ) (s : State) (xs : List Change) where
+  pub tried-nothing : [] ≡ xs → none ≡ firstMoved c budget n s xs
+  unfolding first
+  tried-nothing e = rw (← e) refl
+
+  pub tried-hit : (x : Change) → x ∷ [] ≡ xs → true ≡ moved n (bound c budget (replaceAt (x .place) (number (x .value)) s)) → some x ≡ firstMoved c budget n s xs
+  unfolding first applied
+  tried-hit x e h = rw (← e, ← h) refl
+
+  pub tried-miss : (x : Change) → x ∷ [] ≡ xs → false ≡ moved n (bound c budget (replaceAt (x .place) (number (x .value)) s)) → none ≡ firstMoved c budget n s xs
+  unfolding first applied
+  tried-miss x e h = rw (← e, ← h) refl
 
 -- ---- numbers that rise, to below `top`
 
@@ -152,14 +130,11 @@ whole-limited ns fs s f g l = record {
   fields = blocks-small ns fs g;
 }
 
--- the first turn over places, and the first over amounts
-pub places-left : (ns : List ℕ) (fs : List Cell) (s : code.State) → WellFormed s → ((k : ℕ) → getD ns k 0 ≤ 16) → length ns ≤ 8 → (t : Change → Bool) (n : ℕ) →
-    Left t (λ k. changesAt (whole ns fs s) n (positionOf k)) 193 (first t (changesBy (whole ns fs s) n)) 0
-places-left ns fs s f g l t n = ap (first t) (all-changes (whole ns fs s) (whole-limited ns fs s f g l) n)
-
-pub amounts-left : (moves : State → Bool) (s : State) → Left (λ x. moves (applied x s)) (changesBy s) 65 (nearest moves s) 1
-unfolding nearest changes
-amounts-left moves s = refl
+-- the first turn
+pub trials-left : (ns : List ℕ) (fs : List Cell) (s : code.State) → WellFormed s → ((k : ℕ) → getD ns k 0 ≤ 16) → length ns ≤ 8 → (moves : State → Bool) →
+    Left (λ x. moves (applied x (whole ns fs s))) (trialOf (whole ns fs s)) 24704 (nearest moves (whole ns fs s)) 0
+unfolding nearest
+trials-left ns fs s f g l moves = ap (first (λ x. moves (applied x (whole ns fs s)))) (all-trials (whole ns fs s) (whole-limited ns fs s f g l))
 
 -- ---- the whole search
 
@@ -171,6 +146,15 @@ searched c budget s f o = go (bound c budget s)
     go : (v : Verdict) → Shows f v → f .verdict ≡ Accepted → o ≡ nearest (λ t. moved (f .cycles) (bound c budget t)) s → found o ≡ searchFrom c budget s v
     go (accepted q) h e k = ap found (k ∙ ap (λ (g : Found). nearest (λ t. moved (g .cycles) (bound c budget t)) s) h)
     go (refused r) h e k = let j : Accepted ≡ Refused r = sym e ∙ h in let z : _≡_ {A = ℕ} 0 1 = cc in absurd (omega arith)
+
+-- the verdict that an answer shows
+pub reported : (c : Code) (budget : ℕ) (s : State) (f : Found) → Shows f (bound c budget s) → f .verdict ≡ Accepted → Reported c budget (f .cycles) s
+unfolding acceptedAs
+reported c budget s f h e = go (bound c budget s) refl h
+  where
+    go : (v : Verdict) → bound c budget s ≡ v → Shows f v → Reported c budget (f .cycles) s
+    go (accepted q) a h = record { report = q; accepts = a; figure = ap (λ (g : Found). g .cycles) (sym h) }
+    go (refused r) a h = let j : Accepted ≡ Refused r = sym e ∙ h in let z : _≡_ {A = ℕ} 0 1 = cc in absurd (omega arith)
 
 pub search-refused : (c : Code) (budget : ℕ) (s : State) (f : Found) (r : Refusal) → Shows f (bound c budget s) → f .verdict ≡ Refused r → refused-by r ≡ search c budget s
 unfolding search searchFrom acceptedAs

@@ -31,7 +31,7 @@ pub record NeverMoved (c : Code) (budget : ℕ) (s : State) (q : Report) : Type 
   pub reports : bound c budget s ≡ accepted q
   pub still : (n : ℕ) (d : Direction) (x : Change) → ChangeBy s n d x → Moves q (bound c budget (applied x s)) → ⊥
 
--- "the change printed moves the bound, and no change before it in the order does"
+-- the change printed moves the bound, and no change before it in the order does
 abbrev pub FoundMoves : Type 0
 FoundMoves = (c : Code) (budget : ℕ) (s : State) (x : Change) → search c budget s ≡ found (some x) → (q : Report) × MovedFirst c budget s q x
 

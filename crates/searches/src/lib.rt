@@ -4,21 +4,21 @@ use cells::Cell;
 use changes::Change;
 use changes::Position;
 use changes::Single;
+use changes::Trial;
 use findings::Found;
 use refusals::Refusal;
 use refusals::Verdict;
 use states::State;
 ghost use mathlib.Core.Path.{_≡_};
-ghost use Prim.Native.Nat.{_≤_};
-ghost use Rattle.cells.specs.Cells.{number};
+ghost use Prim.Native.Nat.{_<_};
 ghost use Rattle.states.specs.View.{whole};
 ghost use Rattle.states.specs.Program.{programOf, sizesOf};
 ghost use Rattle.bounds.specs.Tree.{bound};
 ghost use Rattle.changes.specs.Places.{replaceAt};
-ghost use Rattle.changes.specs.Changes.{changeTo, changesAt, changesBy, nearest};
-ghost use Rattle.changes.specs.Held.{Present};
+ghost use Rattle.changes.specs.Changes.{nearest};
+ghost use Rattle.changes.specs.Held.{Present, trialOf};
 ghost use Rattle.searches.specs.Search.{moved, search};
-ghost use Rattle.searches.specs.Held.{Searchable, MovedAs, ofHit, ofSought, firstMoved};
+ghost use Rattle.searches.specs.Held.{Searchable, MovedAs, ofHit, ofSought, isRead, ReadAs, Reported, firstMoved};
 
 // The first change that moves the bound, if there is one.
 pub enum Hit {
@@ -44,7 +44,7 @@ fn is_moved(figure: u64, found: Found) -> bool
     }
 }
 
-// Whether the bound is moved where the cell at p holds n.
+// Whether the bound is moved where the cell at p is c.
 fn is_moved_by(
     code: &[u32; 5131],
     start: State,
@@ -52,109 +52,103 @@ fn is_moved_by(
     budget: usize,
     figure: u64,
     p: Position,
-    n: i32,
+    c: Cell,
 ) -> bool
     requires { ⌜ Searchable (now code) start budget × Present p (whole (sizesOf (now code)) fields start) ⌝ }
-    ensures { λ r. ⌜ r ≡ moved figure (bound (programOf (now (code .entry))) budget (replaceAt p (number n) (whole (sizesOf (now (code .entry))) fields start))) ⌝ }
+    ensures { λ r. ⌜ r ≡ moved figure (bound (programOf (now (code .entry))) budget (replaceAt p c (whole (sizesOf (now (code .entry))) fields start))) ⌝ }
 {
-    let c = cells::number(n);
     let state = changes::with_entry(code, start, fields, p, c);
     let blocks = changes::with_field(code, start, fields, p, c);
     let found = explore::explore(code, state, blocks, 32, budget);
     is_moved(figure, found)
 }
 
-// The cell at p changed to v, where that moves the bound. A v outside the range of numbers is passed over.
-fn try_value(
+// Whether the number at p is read: a handle of no block in its place moves the bound. Where it is not, no number there does.
+fn is_read(
     code: &[u32; 5131],
     start: State,
     fields: [Cell; 128],
     budget: usize,
     figure: u64,
     p: Position,
-    v: i64,
-) -> Hit
-    requires { ⌜ Searchable (now code) start budget × Present p (whole (sizesOf (now code)) fields start) ⌝ }
-    ensures { λ r. ⌜ ofHit r ≡ firstMoved (programOf (now (code .entry))) budget figure (whole (sizesOf (now (code .entry))) fields start) (changeTo p v) ⌝ }
-{
-    if !numbers::within(numbers::number_range(), v) {
-        return Hit::Nowhere;
-    }
-    let n = v as i32;
-    if is_moved_by(code, start, fields, budget, figure, p, n) {
-        return Hit::At(Change { place: p, value: n });
-    }
-    Hit::Nowhere
-}
-
-// The changes of the cell at p by `amount`, downwards and then upwards.
-fn try_place(
-    code: &[u32; 5131],
-    start: State,
-    fields: [Cell; 128],
-    budget: usize,
-    figure: u64,
-    amount: usize,
-    p: Position,
-) -> Hit
-    requires { ⌜ Searchable (now code) start budget × (amount ≤ 64) ⌝ }
-    ensures { λ r. ⌜ ofHit r ≡ firstMoved (programOf (now (code .entry))) budget figure (whole (sizesOf (now (code .entry))) fields start) (changesAt (whole (sizesOf (now (code .entry))) fields start) amount p) ⌝ }
+) -> bool
+    requires { ⌜ Searchable (now code) start budget ⌝ }
+    ensures { λ r. ⌜ r ≡ isRead (programOf (now (code .entry))) budget figure (whole (sizesOf (now (code .entry))) fields start) p ⌝ }
 {
     let held = changes::number_at(code, start, fields, p);
-    let Single::Number(n) = held else {
-        return Hit::Nowhere;
+    let Single::Number(_) = held else {
+        return false;
     };
-    let below = changes::lowered(n, amount);
-    let down = try_value(code, start, fields, budget, figure, p, below);
-    if let Hit::At(change) = down {
-        return Hit::At(change);
-    }
-    let above = changes::raised(n, amount);
-    try_value(code, start, fields, budget, figure, p, above)
+    is_moved_by(code, start, fields, budget, figure, p, cells::handle(8))
 }
 
-// The changes by `amount` of all cells, in the file's order.
-fn try_amount(
+// The same of every place.
+fn cells_read(
     code: &[u32; 5131],
     start: State,
     fields: [Cell; 128],
     budget: usize,
     figure: u64,
-    amount: usize,
-) -> Hit
-    requires { ⌜ Searchable (now code) start budget × (amount ≤ 64) ⌝ }
-    ensures { λ r. ⌜ ofHit r ≡ firstMoved (programOf (now (code .entry))) budget figure (whole (sizesOf (now (code .entry))) fields start) (changesBy (whole (sizesOf (now (code .entry))) fields start) amount) ⌝ }
+) -> [bool; 193]
+    requires { ⌜ Searchable (now code) start budget ⌝ }
+    ensures { λ r. ⌜ ReadAs (programOf (now (code .entry))) budget figure (whole (sizesOf (now (code .entry))) fields start) r ⌝ }
 {
+    let mut read = [false; 193];
     let mut k = 0;
     while k < 193 {
         let p = changes::position_of(k);
-        let hit = try_place(code, start, fields, budget, figure, amount, p);
-        if let Hit::At(change) = hit {
-            return Hit::At(change);
-        }
+        read[k] = is_read(code, start, fields, budget, figure, p);
         k += 1;
     }
-    Hit::Nowhere
+    read
 }
 
-// The changes by 1, by 2 and on to 64.
-fn try_amounts(
+// Trial j, where it moves the bound.
+fn try_change(
     code: &[u32; 5131],
     start: State,
     fields: [Cell; 128],
     budget: usize,
     figure: u64,
+    j: usize,
 ) -> Hit
-    requires { ⌜ Searchable (now code) start budget ⌝ }
+    requires { ⌜ Searchable (now code) start budget × (j < 24704) ⌝ }
+    ensures { λ r. ⌜ ofHit r ≡ firstMoved (programOf (now (code .entry))) budget figure (whole (sizesOf (now (code .entry))) fields start) (trialOf (whole (sizesOf (now (code .entry))) fields start) j) ⌝ }
+{
+    let trial = changes::trial_at(code, start, fields, j);
+    let Trial::Of(change) = trial else {
+        return Hit::Nowhere;
+    };
+    let p = change.place;
+    let c = cells::number(change.value);
+    if is_moved_by(code, start, fields, budget, figure, p, c) {
+        return Hit::At(change);
+    }
+    Hit::Nowhere
+}
+
+// The first trial that moves the bound, among those of the cells that are read.
+fn first_moved(
+    code: &[u32; 5131],
+    start: State,
+    fields: [Cell; 128],
+    budget: usize,
+    figure: u64,
+    read: [bool; 193],
+) -> Hit
+    requires { ⌜ Searchable (now code) start budget × Reported (programOf (now code)) budget figure (whole (sizesOf (now code)) fields start) × ReadAs (programOf (now code)) budget figure (whole (sizesOf (now code)) fields start) read ⌝ }
     ensures { λ r. ⌜ ofHit r ≡ nearest (λ t. moved figure (bound (programOf (now (code .entry))) budget t)) (whole (sizesOf (now (code .entry))) fields start) ⌝ }
 {
-    let mut amount = 1;
-    while amount <= 64 {
-        let hit = try_amount(code, start, fields, budget, figure, amount);
-        if let Hit::At(change) = hit {
-            return Hit::At(change);
+    let mut j = 0;
+    while j < 24704 {
+        let k = j / 2 % 193;
+        if read[k] {
+            let hit = try_change(code, start, fields, budget, figure, j);
+            if let Hit::At(change) = hit {
+                return Hit::At(change);
+            }
         }
-        amount += 1;
+        j += 1;
     }
     Hit::Nowhere
 }
@@ -170,7 +164,8 @@ pub fn search(code: &[u32; 5131], start: State, fields: [Cell; 128], budget: usi
     if let Verdict::Refused(refusal) = verdict {
         return Sought::Refused(refusal);
     }
-    let hit = try_amounts(code, start, fields, budget, figure);
+    let read = cells_read(code, start, fields, budget, figure);
+    let hit = first_moved(code, start, fields, budget, figure, read);
     match hit {
         Hit::At(change) => Sought::Moves(change),
         Hit::Nowhere => Sought::Still,

@@ -1,11 +1,5 @@
 -- `searches::is_moved_by` meets its contract. Assumes nothing.
-use mathlib.Core.Path.{ap, _∙_}
-use mir.Syntax.{w32}
-use mir.ValLaws.{toZ-ofZ}
-use Rattle.cells.specs.Cells.{number}
 use Rattle.states.specs.Program.{sizesOf}
-use Rattle.states.specs.View.{whole}
-use Rattle.changes.specs.Places.{replaceAt}
 use Rattle.changes.proofs.CellLaws.{whole-replaced}
 use Rattle.searches.proofs.SearchLaws.{shows-bound}
 use borrow.Author.Needs.{needs}
@@ -13,14 +7,14 @@ use Rattle.searches.proofs.is_moved_by.Statement.{statement}
 use Rattle.searches.proofs.is_moved_by.Tie as tie
 
 with-entry-requires : tie.Need-with-entry-requires
-with-entry-requires c κs = let s = c .before in (s .pre .0 .formed, s .pre .0 .explorable .formed, s .pre .1)
+with-entry-requires c κs = let s = c in (s .pre .0 .formed, s .pre .0 .explorable .formed, s .pre .1)
 
 with-field-requires : tie.Need-with-field-requires
-with-field-requires c κs = let s = c .before .before in (s .pre .0 .formed, s .pre .0 .explorable .formed, s .pre .1)
+with-field-requires c κs = let s = c .before in (s .pre .0 .formed, s .pre .0 .explorable .formed, s .pre .1)
 
 explore-requires : tie.Need-explore-requires
 explore-requires c κs =
-    let s = c .before .before .before in
+    let s = c .before .before in
     let x = s .pre .0 .explorable in (
       s .pre .0 .formed,
       record {
@@ -32,19 +26,16 @@ explore-requires c κs =
 
 returns : tie.Need-returns
 returns c =
-    let s = c .before .before .before .before .before in
+    let s = c .before .before .before .before in
     let a = s .args in
-    let ns = sizesOf (a .code .now) in
-    let e = whole-replaced ns (a .fields) (c .before .before .with-field .result) (a .start) (c .before .before .before .with-entry .result) (a .p) (c .before .before .before .before .number .result)
+    let e = whole-replaced (sizesOf (a .code .now)) (a .fields) (c .before .before .with-field .result) (a .start) (c .before .before .before .with-entry .result) (a .p) (a .c)
     (c .before .before .before .with-entry .ensures .0) (c .before .before .with-field .ensures .0) in
-    c .is-moved .ensures _
-    (shows-bound _ (a .budget) (c .before .explore .result) _ _ (e ∙ ap (λ x. replaceAt (a .p) x (whole ns (a .fields) (a .start))) (c .before .before .before .before .number .ensures ∙ ap number (toZ-ofZ w32 _ (s .fits .n)))) (c .before .explore .ensures .0 .shows))
+    c .is-moved .ensures _ (shows-bound _ (a .budget) (c .before .explore .result) _ _ e (c .before .explore .ensures .0 .shows))
 
 pub is-moved-by-spec : {M : Type 1} → statement M
 is-moved-by-spec =
     tie.close
     (tie.spec
-    (λ c κs. search needs)
     with-entry-requires
     with-field-requires
     explore-requires

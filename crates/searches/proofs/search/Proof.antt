@@ -1,7 +1,11 @@
 -- `searches::search` meets its contract. Assumes nothing.
 use mathlib.Core.Path.{refl, sym, ap, _∙_}
+use Rattle.states.specs.Program.{programOf, sizesOf}
+use Rattle.states.specs.View.{whole}
+use Rattle.bounds.specs.Tree.{bound}
+use Rattle.findings.specs.Found.{Shows}
 use Rattle.searches.specs.Held.{ofHit}
-use Rattle.searches.proofs.SearchLaws.{shows-bound, searched, search-refused}
+use Rattle.searches.proofs.SearchLaws.{shows-bound, reported, searched, search-refused}
 use borrow.Author.Needs.{needs}
 use Rattle.searches.proofs.search.Statement.{statement}
 use Rattle.searches.proofs.search.Tie as tie
@@ -9,22 +13,33 @@ use Rattle.searches.proofs.search.Tie as tie
 explore-requires : tie.Need-explore-requires
 explore-requires c κs = let s = c in (s .pre .formed, s .pre .explorable)
 
+-- what is found shows the bound of the start
+shown : (c : tie.After-explore) →
+    let s = c .before in
+    Shows (c .explore .result) (bound (programOf (s .args .code .now)) (s .args .budget) (whole (sizesOf (s .args .code .now)) (s .args .fields) (s .args .start)))
+shown c = shows-bound _ _ _ _ _ refl (c .explore .ensures .0 .shows)
+
 returns : tie.Need-returns
 returns c =
-    search-refused _ _ _ (c .before .before .before .explore .result) _ (shows-bound _ _ _ _ _ refl (c .before .before .before .explore .ensures .0 .shows)) (c .before .verdict .given .1)
+    let found = c .before .before .before in
+    search-refused _ _ _ (found .explore .result) _ (shown found) (c .before .verdict .given .1)
 
-enum-told : tie.Need-enum-told
-enum-told c = search needs
+first-moved-requires : tie.Need-first-moved-requires
+first-moved-requires c κs =
+    let found = c .before .before .before in
+    (found .before .pre, reported _ _ _ (found .explore .result) (shown found) (c .before .enum-told .given .1), c .cells-read .ensures)
 
 returns-2 : tie.Need-returns-2
 returns-2 c =
-    searched _ _ _ (c .before .before .before .before .before .before .explore .result) _ (shows-bound _ _ _ _ _ refl (c .before .before .before .before .before .before .explore .ensures .0 .shows)) (c .before .before .before .before .enum-told .given .1)
-    (sym (ap ofHit (c .before .hit .given .1)) ∙ c .before .before .before .try-amounts .ensures)
+    let moved = c .before .before .before in
+    let told = moved .before .before in
+    searched _ _ _ (told .before .before .explore .result) _ (shown (told .before .before)) (told .enum-told .given .1) (sym (ap ofHit (c .before .hit .given .1)) ∙ moved .first-moved .ensures)
 
 returns-3 : tie.Need-returns-3
 returns-3 c =
-    searched _ _ _ (c .before .before .before .before .before .explore .result) _ (shows-bound _ _ _ _ _ refl (c .before .before .before .before .before .explore .ensures .0 .shows)) (c .before .before .before .enum-told .given .1)
-    (sym (ap ofHit (c .enum-told2 .given .1)) ∙ c .before .before .try-amounts .ensures)
+    let moved = c .before .before in
+    let told = moved .before .before in
+    searched _ _ _ (told .before .before .explore .result) _ (shown (told .before .before)) (told .enum-told .given .1) (sym (ap ofHit (c .enum-told2 .given .1)) ∙ moved .first-moved .ensures)
 
 pub search-spec : {M : Type 1} → statement M
 search-spec =
@@ -33,8 +48,9 @@ search-spec =
     explore-requires
     (λ c. search needs)
     returns
-    enum-told
+    (λ c. search needs)
     (λ c κs. search needs)
+    first-moved-requires
     (λ c. search needs)
     (λ c. search needs)
     returns-2
