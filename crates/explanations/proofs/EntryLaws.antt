@@ -6,9 +6,9 @@ use native.Mathlib.Omega.{arith}
 use Rattle.cells.specs.Try.{done}
 use Rattle.machine.specs.Lists.{nth}
 use Rattle.machine.proofs.FetchLaws.{stuck-not}
-use Rattle.bounds.specs.Traces.{Move, cost, decisions}
+use Rattle.bounds.specs.Traces.{Move, cost, wordSum, decisions}
 use Rattle.listings.specs.Listing.{Entry, entriesFrom, entries}
-use Rattle.explanations.specs.Promises.{lastCycles, ways}
+use Rattle.explanations.specs.Promises.{lastCycles, lastWords, ways}
 
 last-from : (cycles words : ℕ) (m : Move) (ms : List Move) → lastCycles (entriesFrom cycles words (m ∷ ms)) ≡ cycles + cost (m ∷ ms)
 unfolding lastCycles entriesFrom cost
@@ -19,6 +19,16 @@ pub last-cost : (ms : List Move) → lastCycles (entries ms) ≡ cost ms
 unfolding lastCycles entries entriesFrom cost
 last-cost [] = refl
 last-cost (m ∷ ms) = omega (arith, last-from 0 0 m ms)
+
+last-words-from : (cycles words : ℕ) (m : Move) (ms : List Move) → lastWords (entriesFrom cycles words (m ∷ ms)) ≡ words + wordSum (m ∷ ms)
+unfolding lastWords entriesFrom wordSum
+last-words-from cycles words m [] = omega arith
+last-words-from cycles words m (n ∷ ms) = omega (arith, last-words-from (cycles + m .price .cycles) (words + m .price .words) n ms)
+
+pub last-words : (ms : List Move) → lastWords (entries ms) ≡ wordSum ms
+unfolding lastWords entries entriesFrom wordSum
+last-words [] = refl
+last-words (m ∷ ms) = omega (arith, last-words-from 0 0 m ms)
 
 ways-from : (cycles words : ℕ) (ms : List Move) → ways (entriesFrom cycles words ms) ≡ decisions ms
 unfolding ways entriesFrom decisions

@@ -28,7 +28,7 @@ use Rattle.answers.specs.Answers.{reported, refused}
 use Rattle.answers.proofs.AnswerLaws.{never, from-reading, place-from}
 use Rattle.explanations.specs.Answers.{explanationLimit, worstMoves, explanationText, explained, explainRoutine, explainAnswer}
 use Rattle.explanations.specs.Promises.{ExplanationsKept, ExplanationsFit}
-use Rattle.explanations.proofs.EntryLaws.{last-cost, ways-decisions, entry-of}
+use Rattle.explanations.proofs.EntryLaws.{last-cost, last-words, ways-decisions, entry-of}
 
 -- ---- what an explanation comes from
 
@@ -70,6 +70,7 @@ explanations-kept text n bs e =
         worst = w;
         prints = sym (v .prints);
         last = last-cost moves ∙ w .lemma12;
+        words = last-words moves;
         path = ways-decisions moves ∙ w .path;
         follows = λ k d f h i.
             let s = entry-of moves k d h in

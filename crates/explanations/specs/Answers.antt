@@ -15,7 +15,7 @@ use Rattle.walks.specs.Walk.{follow}
 use Rattle.listings.specs.Listing.{entries, listing}
 use Rattle.answers.specs.Answers.{Answer, reported, refused, lending, ofReading}
 
--- "Lent memory under 65,536 bytes is refusal 10"
+-- Lent memory under 65,536 bytes is refusal 10
 abbrev pub explanationLimit : ℕ
 explanationLimit = 65536
 
@@ -28,11 +28,11 @@ worstMoves x q = follow (step (x .code) unknown) (length (x .code .instructions)
 abbrev pub entryNames : List ℕ
 entryNames = bytes "AT OP ARG CYCLES WORDS DEPTH WAY\n"
 
--- "the report's two lines, then one line for each step of the maximum trace, under a line of names"; ls are the lines after the layout
+-- the report's two lines, then one line for each step of the maximum trace, under a line of names; ls are the lines after the layout
 unfoldable pub explanationText : List Line → Routine → Report → List ℕ
 explanationText ls x q = boundText (x .tick) q ++ entryNames ++ listing ls (x .code .first) (entries (worstMoves x q))
 
--- of the bound's verdict: what is explained, or "all other refusals are those of the bound"
+-- of the bound's verdict: what is explained, or the bound's refusal
 unfoldable pub explained : List Line → Routine → Verdict → Answer
 explained ls x (verdicts.accepted q) = reported (explanationText ls x q)
 explained ls x (verdicts.refused r) = refused r

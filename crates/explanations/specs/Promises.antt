@@ -9,7 +9,7 @@ use Rattle.cells.specs.Cells.{unknown}
 use Rattle.machine.specs.Lists.{nth}
 use Rattle.machine.specs.Machine.{Code, step}
 use Rattle.bounds.specs.Tree.{Decision, Report, accepted, bound}
-use Rattle.bounds.specs.Traces.{Move, Transition}
+use Rattle.bounds.specs.Traces.{Move, Transition, wordSum}
 use Rattle.routine.specs.Layout.{body}
 use Rattle.routine.specs.Routine.{Routine, routine, readBound}
 use Rattle.report.specs.Report.{boundText}
@@ -23,6 +23,12 @@ unfoldable pub lastCycles : List Entry → ℕ
 lastCycles [] = 0
 lastCycles (e ∷ []) = e .cycles
 lastCycles (e ∷ f ∷ es) = lastCycles (f ∷ es)
+
+-- WORDS of the last line
+unfoldable pub lastWords : List Entry → ℕ
+lastWords [] = 0
+lastWords (e ∷ []) = e .words
+lastWords (e ∷ f ∷ es) = lastWords (f ∷ es)
 
 -- the letters of WAY, in order
 unfoldable pub ways : List Entry → List Decision
@@ -47,6 +53,8 @@ pub record Explains (text bs : List ℕ) (x : Routine) (q : Report) (moves : Lis
   pub prints : bs ≡ boundText (x .tick) q ++ entryNames ++ listing (body (lines text)) (x .code .first) (entries moves)
   -- the last line's CYCLES is the report's (Lemma 12)
   pub last : lastCycles (entries moves) ≡ q .cycles
+  -- the last line's WORDS is the sum of the words of all moves
+  pub words : lastWords (entries moves) ≡ wordSum moves
   -- the letters of WAY are PATH
   pub path : ways (entries moves) ≡ q .path
   -- each line's address follows from the one before

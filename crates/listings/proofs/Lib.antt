@@ -1,4 +1,5 @@
 pub mod Examples
 pub mod LineLaws
+pub mod CursorLaws
 pub mod WalkLaws
 pub mod LengthLaws

@@ -1,6 +1,6 @@
 -- Laws of a line: the code line by its number, and how long the line is, by its parts. Assumes nothing.
-use Prim.Native.Nat.{ℕ, _+_, _-_, _<_}
-use mathlib.Core.Path.{_≡_, refl, ap}
+use Prim.Native.Nat.{ℕ, _+_, _-_}
+use mathlib.Core.Path.{_≡_, ap}
 use mathlib.Core.List.{List}
 use native.Mathlib.Omega.{arith}
 use lib.ListN.{length, getD, length-append}
@@ -10,13 +10,9 @@ use Rattle.bounds.specs.Tree.{Decision}
 use Rattle.report.specs.Report.{pathText}
 use Rattle.listings.specs.Listing.{codeText, entryText}
 
-pub line-below : (ls : List Line) (first at : ℕ) → at < first → getD ls 0 noLine .text ≡ codeText ls first at
+pub line-there : (ls : List Line) (first at : ℕ) {k : ℕ} → k ≡ at - first → getD ls k noLine .text ≡ codeText ls first at
 unfolding codeText
-line-below ls first at h = let z : 0 ≡ at - first = omega arith in ap (λ n. getD ls n noLine .text) z
-
-pub line-there : (ls : List Line) (first at : ℕ) → getD ls (at - first) noLine .text ≡ codeText ls first at
-unfolding codeText
-line-there ls first at = refl
+line-there ls first at e = ap (λ n. getD ls n noLine .text) e
 
 pub entry-length : (line : List ℕ) (cycles words depth : ℕ) (way : List Decision)
     → length (entryText line cycles words depth way) ≡ length line + 1 + length (decimal cycles) + 1 + length (decimal words) + 1 + length (decimal depth) + 1 + length (pathText way) + 1

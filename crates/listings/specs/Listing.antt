@@ -9,7 +9,7 @@ use Rattle.bounds.specs.Tree.{Decision}
 use Rattle.bounds.specs.Traces.{Move}
 use Rattle.report.specs.Report.{space, feed, pathText}
 
--- what a line says of a move: its address, "the sums so far, this step included", "the height before the step", and the decision "at an
+-- what a line says of a move: its address, the sums so far, this step included, the height before the step, and the decision "at an
 -- unknown branch"
 pub record Entry : Type 0 where
   pub at : ℕ
@@ -33,7 +33,7 @@ entries ms = entriesFrom 0 0 ms
 unfoldable pub codeText : List Line → ℕ → ℕ → List ℕ
 codeText ls first at = getD ls (at - first) noLine .text
 
--- a line: the code line, then the four values; "WAY is `N` or `T` at an unknown branch and `-` elsewhere"
+-- a line: the code line, then the four values; WAY is `N` or `T` at an unknown branch and `-` elsewhere
 unfoldable pub entryText : List ℕ → ℕ → ℕ → ℕ → List Decision → List ℕ
 entryText line cycles words depth way =
     line ++ space ++ decimal cycles ++ space ++ decimal words ++ space ++ decimal depth ++ space ++ pathText way ++ feed

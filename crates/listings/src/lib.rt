@@ -2,9 +2,9 @@
 use cells::Cell;
 use states::State;
 ghost use mathlib.Core.Path.{_≡_};
-ghost use Prim.Native.Nat.{_+_, _≤_};
-ghost use lib.ListN.{length};
-ghost use Rattle.text.specs.Text.{lines};
+ghost use Prim.Native.Nat.{_+_, _-_, _≤_};
+ghost use lib.ListN.{length, getD, drop};
+ghost use Rattle.text.specs.Text.{noLine, lines};
 ghost use Rattle.text.specs.Memory.{over};
 ghost use Rattle.cells.specs.Cells.{unknown};
 ghost use Rattle.machine.specs.Machine.{step};
@@ -12,16 +12,66 @@ ghost use Rattle.states.specs.Program.{firstOf, linesIn, programOf, sizesOf, Is
 ghost use Rattle.states.specs.View.{WellFormed, whole};
 ghost use Rattle.report.specs.Decode.{decode};
 ghost use Rattle.walks.specs.Walk.{follow};
-ghost use Rattle.listings.specs.Listing.{entries, codeText, entryText, listing};
+ghost use Rattle.listings.specs.Listing.{entries, entryText, listing};
+ghost use Rattle.listings.specs.Held.{Stands};
 
-// The code line of an address.
-fn code_line(body: &[u8], first: usize, at: usize) -> &[u8]
-    ensures { λ r. ⌜ now r ≡ codeText (lines (now (body .entry))) first at ⌝ }
+// A place in a text: the byte at which a line begins, and the line's number, counted from 0.
+struct Cursor {
+    byte: usize,
+    line: usize,
+}
+
+// The number of the code line of an address; the first address has line 0.
+fn line_of(first: usize, at: usize) -> usize
+    ensures { λ r. ⌜ r ≡ at - first ⌝ }
 {
     if at < first {
-        return text::line_at(body, 0);
+        return 0;
     }
-    text::line_at(body, at - first)
+    at - first
+}
+
+// Where the line after the one at `byte` begins; the end of the body where there is none.
+fn line_after(body: &[u8], byte: usize) -> usize
+    requires { ⌜ byte ≤ length (now body) ⌝ }
+    ensures { λ r. ⌜ (r ≤ length (now (body .entry))) × (lines (drop r (now (body .entry))) ≡ drop 1 (lines (drop byte (now (body .entry))))) ⌝ }
+{
+    let rest = &body[byte..];
+    let e = text::piece_length(rest, b'\n');
+    if e < rest.len() {
+        return byte + e + 1;
+    }
+    body.len()
+}
+
+// The cursor of line k: it goes on from a cursor of the same body, or from the start where that one is past the line.
+fn seek(body: &[u8], from: Cursor, k: usize) -> Cursor
+    requires { ⌜ Stands (now body) from ⌝ }
+    ensures { λ r. ⌜ Stands (now (body .entry)) r × (r .line ≡ k) ⌝ }
+{
+    let mut byte = from.byte;
+    let mut line = from.line;
+    if k < line {
+        byte = 0;
+        line = 0;
+    }
+    while line < k {
+        byte = line_after(body, byte);
+        line += 1;
+    }
+    Cursor {
+        byte: byte,
+        line: line,
+    }
+}
+
+// The line at a cursor.
+fn line_under(body: &[u8], cursor: Cursor) -> &[u8]
+    requires { ⌜ Stands (now body) cursor ⌝ }
+    ensures { λ r. ⌜ now r ≡ getD (lines (now (body .entry))) (cursor .line) noLine .text ⌝ }
+{
+    let byte = cursor.byte;
+    text::first_line(&body[byte..])
 }
 
 // Puts a line over out from `at` on, and answers where it ends.
@@ -73,6 +123,7 @@ pub fn put_walk(
     let mut sum: u64 = 0;
     let first = code[0] as usize;
     let mut left = code[1] as usize;
+    let mut cursor = Cursor { byte: 0, line: 0 };
     while 0 < left {
         let walked = walks::walk(code, rest, state, blocks);
         if !walked.made {
@@ -80,7 +131,8 @@ pub fn put_walk(
         }
         spent = spent + walked.cycles;
         sum = sum + walked.words;
-        let line = code_line(body, first, state.at);
+        cursor = seek(body, cursor, line_of(first, state.at));
+        let line = line_under(body, cursor);
         let height = 64 - state.free;
         e = put_entry(out, e, line, spent, sum, height as u64, walked.way);
         if walked.stops {
