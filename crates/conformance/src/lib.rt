@@ -13,8 +13,9 @@ ghost use Rattle.text.specs.Text.{lines};
 ghost use Rattle.reader.specs.Reader.{Limited};
 ghost use Rattle.traces.specs.Traces.{traceVerdict};
 ghost use Rattle.replays.specs.Held.{ofReplayed};
-ghost use Rattle.answers.specs.Answers.{ofVerdict, memory, answerOf};
+ghost use Rattle.answers.specs.Answers.{ofVerdict, memory, answerOf, reportLength, Delivers};
 ghost use Rattle.conformance.specs.Answers.{outcomeText, replayAnswer};
+ghost use Rattle.conformance.specs.Promises.{ReplayKept};
 ghost use Rattle.conformance.specs.Held.{outcomeIn};
 
 // What the replay of an accepted trace says of the routine.
@@ -68,6 +69,7 @@ fn replay_trace(routine: Routine, trace: &[u8], out: &mut [u8]) -> Answer
 pub fn replay(text: &[u8], trace: &[u8], out: &mut [u8]) -> Answer
     ensures { λ r. ⌜ r ≡ answerOf (replayAnswer (now (text .entry)) (now (trace .entry)) (length (now (out .entry)))) ⌝ }
     ensures { λ _. ⌜ now (out .exit) ≡ memory (replayAnswer (now (text .entry)) (now (trace .entry)) (length (now (out .entry)))) (now (out .entry)) ⌝ }
+    ensures kept { λ r. ⌜ Delivers (reportLength r) (now (out .exit)) (ReplayKept (now (text .entry)) (now (trace .entry))) ⌝ }
 {
     if out.len() < 128 {
         return Answer::Refused(Refusal::ReportMemory);

@@ -9,6 +9,7 @@ use Rattle.rows.proofs.CheckLaws.{refused-reading, accepted-reading}
 use Rattle.answers.specs.Answers.{memory, answerOf}
 use Rattle.answers.proofs.AnswerLaws.{gives-refusal}
 use Rattle.conformance.proofs.FunctionLaws.{held-answer, replay-short, replay-refused, replay-passed}
+use Rattle.conformance.proofs.Theorems.{told-kept}
 use borrow.Author.Needs.{needs}
 use Rattle.conformance.proofs.replay.Statement.{statement}
 use Rattle.conformance.proofs.replay.Tie as tie
@@ -16,7 +17,7 @@ use Rattle.conformance.proofs.replay.Tie as tie
 returns : tie.Need-returns
 returns c =
     let start = c .before .before .before .before in
-    gives-refusal _ _ (replay-short (start .args .text .now) (start .args .trace .now) (length (start .args .out .now)) (c .if1 .taken)) _
+    told-kept _ _ _ _ _ _ (gives-refusal _ _ (replay-short (start .args .text .now) (start .args .trace .now) (length (start .args .out .now)) (c .if1 .taken)) _)
 
 routine-of-requires : tie.Need-routine-of-requires
 routine-of-requires c κs = accepted-reading _ Run (sym (c .before .before .check .ensures) ∙ c .enum-told .given .1) .0
@@ -40,7 +41,7 @@ returns-2 c =
     let trace = start .args .trace .now in
     let e = replay-passed text trace (length out) (at-if1 .if1 .left) _ (a .1) in
     let q = sym (e ∙ held-answer (routineOf (lines text)) (held .result) (held .ensures .0) trace) in
-    (at-replay-trace .replay-trace .ensures .0 ∙ ap answerOf q, at-replay-trace .replay-trace .ensures .1 ∙ ap (λ a. memory a out) q)
+    told-kept _ _ _ _ _ _ (at-replay-trace .replay-trace .ensures .0 ∙ ap answerOf q, at-replay-trace .replay-trace .ensures .1 ∙ ap (λ a. memory a out) q)
 
 returns-3 : tie.Need-returns-3
 unfolding readBy
@@ -48,7 +49,7 @@ returns-3 c =
     let start = c .before .before .before .before .before .before .before .before in
     let text = start .args .text .now in
     let e = refused-reading (readRun text) _ (sym (c .before .before .before .check .ensures) ∙ c .before .verdict .given .1) in
-    gives-refusal _ _ (replay-refused text (start .args .trace .now) (length (start .args .out .now)) (c .before .before .before .before .if1 .left) _ e) _
+    told-kept _ _ _ _ _ _ (gives-refusal _ _ (replay-refused text (start .args .trace .now) (length (start .args .out .now)) (c .before .before .before .before .if1 .left) _ e) _)
 
 pub replay-spec : {M : Type 1} → statement M
 replay-spec =

@@ -11,14 +11,14 @@ put-line-requires : tie.Need-put-line-requires
 put-line-requires c κs =
     let b = c .before .before .before in
     let s = b .before .before .before .before .before in
-    line-held (replayAnswer (s .args .text .now) (s .args .trace .now) (length (s .args .out .now))) (s .args .out .now) (b .replay .ensures .0) (b .replay .ensures .1) (s .pre)
+    line-held (replayAnswer (s .args .text .now) (s .args .trace .now) (length (s .args .out .now))) (s .args .out .now) (b .replay .ensures .0) (b .replay .ensures .1 .0) (s .pre)
 
 returns : tie.Need-returns
 returns c =
     let l = c .before .before in
     let b = l .before .before .before .before in
     let s = b .before .before .before .before .before in
-    (l .put-line .ensures .0, l .put-line .ensures .1 ∙ line-printed (replayAnswer (s .args .text .now) (s .args .trace .now) (length (s .args .out .now))) (s .args .out .now) (b .replay .ensures .0) (b .replay .ensures .1))
+    (l .put-line .ensures .0, l .put-line .ensures .1 ∙ line-printed (replayAnswer (s .args .text .now) (s .args .trace .now) (length (s .args .out .now))) (s .args .out .now) (b .replay .ensures .0) (b .replay .ensures .1 .0))
 
 pub answer-spec : {M : Type 1} → statement M
 answer-spec = tie.close (tie.spec (λ c κs. search needs) put-line-requires (λ c. search needs) returns)

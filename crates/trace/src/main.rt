@@ -1,0 +1,31 @@
+// Reads a routine file from standard input, and prints its run as a card would record it, or its refusal.
+ghost use mathlib.Core.Path.{_≡_};
+ghost use Prim.Native.Nat.{_≤_};
+ghost use lib.ListN.{length, take};
+ghost use Rattle.io.specs.Counts.{Counts};
+ghost use Rattle.trace_entry.specs.Answers.{traceAnswer};
+ghost use Rattle.analyser.specs.Answers.{printed};
+
+// Puts what is printed for a text at the start of out, and answers how many bytes it is.
+fn answer(text: &[u8], out: &mut [u8]) -> usize
+    requires { ⌜ 128 ≤ length (now out) ⌝ }
+    ensures { λ r. ⌜ Counts r (now (out .exit)) ⌝ }
+    ensures { λ r. ⌜ take r (now (out .exit)) ≡ printed (traceAnswer (now (text .entry)) (length (now (out .entry)))) ⌝ }
+{
+    let answer = trace_entry::trace(text, out);
+    console::put_line(answer, out)
+}
+
+fn main() {
+    // one byte more than a routine file may have
+    let mut text = [0u8; 32769];
+    let input = console::read_text(&mut text);
+    if !input.is_whole {
+        console::read_failed();
+        return;
+    }
+    let n = input.length;
+    let mut lines = [0u8; 32768];
+    let length = answer(&text[..n], &mut lines);
+    console::write(&lines[..length]);
+}

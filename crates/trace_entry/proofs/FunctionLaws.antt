@@ -1,0 +1,68 @@
+-- The trace in code is that of the definition. Assumes nothing.
+use Prim.Native.Nat.{ℕ, _+_, _≤_, _<_}
+use mathlib.Core.Path.{_≡_, sym, ap, _∙_}
+use mathlib.Core.List.{List}
+use native.Mathlib.Omega.{arith}
+use lib.ListN.{length, length-append}
+use Rattle.refusals.specs.declared.Refusal.{Refusal}
+use Rattle.refusals.specs.declared.Refusal.the-variants.{ReportMemory}
+use Rattle.refusals.specs.declared.Verdict.the-variants.{Accepted, Refused}
+use Rattle.bounds.specs.Run.{run}
+use Rattle.runs.specs.declared.Ran.{Ran}
+use Rattle.runs.specs.Contract.{judged, verdictOf}
+use Rattle.routine.specs.Routine.{Routine, readRun}
+use Rattle.routine.specs.Routine as readings
+use Rattle.traces.specs.Traces.{Entry}
+use Rattle.answers.specs.Answers.{reported, refused, memory, answerOf, reportLength, Delivers}
+use Rattle.answers.specs.declared.Answer as code
+use Rattle.answers.proofs.AnswerLaws.{lent-short, reading-refused, reading-passed, delivers}
+use Rattle.trace_theory.specs.Trace.{trace, entriesText, traceNames, traceText}
+use Rattle.trace_entry.specs.Answers.{traceMemory, ofRun, traceRoutine, traceAnswer}
+use Rattle.trace_entry.specs.Promises.{TracesRun}
+use Rattle.trace_entry.specs.Held.{Roomy}
+use Rattle.trace_entry.proofs.Theorems.{traces-kept, traces-fit}
+
+-- ---- the text
+
+-- the names, and the lines under them
+pub text-length : (es : List Entry) → length (traceText es) ≡ 10 + length (entriesText es)
+unfolding traceText
+text-length es = length-append traceNames (entriesText es)
+
+-- ---- a routine
+
+module _ (x : Routine) (r : Ran) (e : verdictOf r ≡ run (x .code) (x .budget) (x .start) (x .answers)) where
+  pub ran-traced : r .verdict ≡ Accepted → traceRoutine x ≡ reported (traceText (trace (x .code) (x .budget) (x .start) (x .answers)))
+  unfolding verdictOf judged traceRoutine ofRun
+  ran-traced h =
+      ap (ofRun (traceText (trace (x .code) (x .budget) (x .start) (x .answers)))) (sym e)
+      ∙ ap (λ v. ofRun (traceText (trace (x .code) (x .budget) (x .start) (x .answers))) (judged v r)) h
+
+  pub ran-refused : (y : Refusal) → r .verdict ≡ Refused y → traceRoutine x ≡ refused y
+  unfolding verdictOf judged traceRoutine ofRun
+  ran-refused y h =
+      ap (ofRun (traceText (trace (x .code) (x .budget) (x .start) (x .answers)))) (sym e)
+      ∙ ap (λ v. ofRun (traceText (trace (x .code) (x .budget) (x .start) (x .answers))) (judged v r)) h
+
+-- ---- a text
+
+module _ (text : List ℕ) (n : ℕ) where
+  pub trace-short : n < 32768 → traceAnswer text n ≡ refused ReportMemory
+  unfolding traceAnswer
+  trace-short = lent-short traceMemory n _
+
+  pub trace-refused : 32768 ≤ n → (y : Refusal) → readRun text ≡ readings.refused y → traceAnswer text n ≡ refused y
+  unfolding traceAnswer
+  trace-refused = reading-refused traceRoutine (readRun text) traceMemory n
+
+  pub trace-passed : 32768 ≤ n → (x : Routine) → readRun text ≡ readings.routine x → traceAnswer text n ≡ traceRoutine x
+  unfolding traceAnswer
+  trace-passed = reading-passed traceRoutine (readRun text) traceMemory n
+
+  pub trace-roomy : 32768 ≤ n → (x : Routine) → readRun text ≡ readings.routine x → Roomy (traceRoutine x) n
+  trace-roomy h x e bs q = let f = traces-fit text n bs (trace-passed h x e ∙ q) in omega (arith, f .1, f .2)
+
+  -- what the equations of an answer give besides
+  pub trace-keeps : (former out : List ℕ) (r : code.Answer) → (r ≡ answerOf (traceAnswer text n)) × (out ≡ memory (traceAnswer text n) former) →
+      (r ≡ answerOf (traceAnswer text n)) × ((out ≡ memory (traceAnswer text n) former) × Delivers (reportLength r) out (TracesRun text))
+  trace-keeps former out r (e, m) = (e, (m, delivers (TracesRun text) (traceAnswer text n) (traces-kept text n) r e former out m))

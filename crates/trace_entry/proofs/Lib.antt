@@ -1,0 +1,4 @@
+pub mod StepLaws
+pub mod WritingLaws
+pub mod Theorems
+pub mod FunctionLaws

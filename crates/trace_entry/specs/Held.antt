@@ -1,0 +1,40 @@
+-- What the internal functions are handed, and what a step by value stands for.
+use Prim.Native.Nat.{ℕ, suc, _≤_}
+use mathlib.Core.Path.{_≡_}
+use mathlib.Core.Bool.{true, false}
+use mathlib.Core.List.{List}
+use lib.IntN.{ℤ}
+use lib.ListN.{length}
+use Rattle.cells.specs.declared.Cell.{Cell}
+use Rattle.machine.specs.Machine.{Code}
+use Rattle.states.specs.declared.State as states
+use Rattle.states.specs.View.{WellFormed}
+use Rattle.bounds.specs.Run.{Run, once}
+use Rattle.traces.specs.Traces.{Entry}
+use Rattle.replays.specs.Replay.{goesOn, cost}
+use Rattle.replays.specs.Held.{Stands}
+use Rattle.reader.specs.declared.Routine.{Routine}
+use Rattle.evaluations.specs.Held.{routineIn}
+use Rattle.answers.specs.Answers.{Answer, reported}
+use Rattle.trace_theory.specs.Trace.{trace}
+use Rattle.trace_entry.specs.declared.Recorded.{Recorded}
+
+-- h says of each run that stands there whether it makes a step more, and if so what that step costs, and stands for the run after it
+pub record Records (c : Code) (ns : List ℕ) (answers : List ℤ) (taken : ℕ) (state : states.State) (blocks : List Cell) (h : Recorded) : Type 0 where
+  pub makes : (r : Run) → Stands ns answers taken state blocks false r → h .made ≡ goesOn c r
+  pub costs : (r : Run) → Stands ns answers taken state blocks false r → h .made ≡ true → h .cycles ≡ cost c r
+  pub goes-on : (r : Run) → Stands ns answers taken state blocks false r → h .made ≡ true → Stands ns answers (h .taken) (h .state) (h .blocks) (h .stopped) (once c r)
+  pub formed : WellFormed (h .state)
+  pub few : h .taken ≤ suc taken
+
+-- a recorded step by its two numbers
+abbrev pub entryOf : ℕ → ℕ → Entry
+entryOf at cycles = record { at = at; cycles = cycles }
+
+-- the steps of the run of the routine that the code's arrays hold
+abbrev pub traceIn : Routine → List Entry
+traceIn x = let y = routineIn x in trace (y .code) (y .budget) (y .start) (y .answers)
+
+-- an answer with a trace, if it is one, has room in n bytes
+abbrev pub Roomy : Answer → ℕ → Type 0
+Roomy a n = (bs : List ℕ) → a ≡ reported bs → length bs ≤ n

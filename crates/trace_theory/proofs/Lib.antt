@@ -1,0 +1,4 @@
+pub mod Examples
+pub mod RecordingLaws
+pub mod TextLaws
+pub mod Theorems
