@@ -3,6 +3,7 @@ use mathlib.Core.Path.{_≡_, refl, sym, ap, _∙_}
 use mathlib.Core.Bool.{Bool, true, false, cond}
 use mathlib.Core.List.{List, [], _∷_}
 use mathlib.Core.Logic.{_⊎_, inl, inr}
+use mathlib.Core.Option.{some}
 use Prim.Native.Nat.{ℕ, _≤_, _<_}
 use native.Mathlib.Omega.{arith}
 use lib.Dec.{ltb}
@@ -14,29 +15,34 @@ use Rattle.refusals.specs.Refusals.{place}
 use Rattle.text.specs.Text.{Line, lines, all}
 use Rattle.text.proofs.TextLaws.{Every, more}
 use Rattle.machine.specs.Forward.{Forward}
+use Rattle.machine.specs.Targets.{Closed}
 use Rattle.bounds.specs.Tree.{Report, Verdict, openingLimit, bound}
 use Rattle.bounds.specs.Tree as verdicts
-use Rattle.bounds.specs.Run.{run}
+use Rattle.bounds.specs.Run.{begin, after, run}
 use Rattle.bounds.specs.Promises.{NoGreater, SinglePass}
 use Rattle.bounds.proofs.PromiseLaws.{interruptible, bound-exact, run-within-bound}
 use Rattle.bounds.proofs.PlaceLaws.{bound-place, run-place}
 use Rattle.bounds.proofs.ForwardLaws.{forward-once}
 use Rattle.merges.specs.Merge.{merged}
-use Rattle.merges.proofs.Theorems.{merged-interruptible, merged-exact}
+use Rattle.merges.specs.Ways.{table}
+use Rattle.merges.specs.Promises.{NotSmaller}
+use Rattle.merges.proofs.Theorems.{merged-interruptible, run-within-merged, merged-not-smaller, refused-for-size, merged-covers-paths, table-gathered, merged-exact}
 use Rattle.merges.proofs.FigureLaws.{merged-place}
+use Rattle.refinements.proofs.RunLaws.{judged-figures}
 use Rattle.routine.specs.Layout.{body, codeLines}
 use Rattle.routine.specs.Routine.{Routine, Reading, routineOf, readBound, readRun}
 use Rattle.routine.specs.Routine as readings
 use Rattle.routine.specs.Rows.{Passes}
 use Rattle.routine.proofs.RowLaws.{read-passes, run-passes}
+use Rattle.routine.proofs.RangeLaws.{tick-positive}
 use Rattle.routine.proofs.BranchLaws.{passing-forward, passing-closed}
 use Rattle.routine.proofs.PlaceLaws.{read-bound-place, read-run-place, confined, start-small}
 use Rattle.routine.proofs.SpellingLaws.{accepted-ascii}
 use Rattle.routine.proofs.AnswerLaws.{SameButAnswers, same-but-answers}
 use Rattle.report.specs.Report.{boundText, runText}
-use Rattle.report.proofs.ReportLaws.{bound-small, bound-fits, run-fits}
+use Rattle.report.proofs.ReportLaws.{share-nearest, bound-small, bound-fits, run-fits}
 use Rattle.answers.specs.Answers.{Answer, reported, refused, memoryLimit, ofReading, answerOf, reportLength}
-use Rattle.answers.proofs.AnswerLaws.{never, from-reading, place-from}
+use Rattle.answers.proofs.AnswerLaws.{never, from-reading, place-from, reading-passed}
 use Rattle.conversions.proofs.FunctionLaws.{import-reported, import-place, export-reported, export-place}
 use Rattle.conformance.proofs.FunctionLaws.{replay-reported, replay-place}
 use Rattle.evaluations.proofs.SizeLaws.{code-length, ticks, bound-limited, merged-limited, run-limited}
@@ -46,7 +52,7 @@ use Rattle.sensitivity.proofs.FunctionLaws.{nearest-reported, nearest-place}
 use Rattle.generating.proofs.FunctionLaws.{generate-reported, generate-place}
 use Rattle.decide_entry.specs.Answers.{decideRoutine, decideAnswer}
 use Rattle.decide_entry.proofs.PromiseLaws.{decided-refused, decide-reported, decide-place}
-use Rattle.analyser.specs.Promises.{BoundReported, MergeReported, WithinReport, RunAccepted, FilledIn, ReportsKept, MergesKept, RunsKept, AnswersIrrelevant, PassingIsAscii, PassingIsSinglePass, ReportsFit, PlacesSmall, PreviewsKept, DecisionRefused}
+use Rattle.analyser.specs.Promises.{BoundReported, MergeReported, NearestShare, WithinReport, RunAccepted, FilledIn, FilledCells, ReportsKept, MergesKept, RunsKept, AnswersIrrelevant, PassingIsAscii, PassingIsSinglePass, ReportsFit, PlacesSmall, PreviewsKept, DecisionRefused}
 
 -- ---- what a report comes from
 
@@ -60,6 +66,15 @@ unfolding ofVerdict
 from-verdict text (verdicts.accepted q) bs e = record { report = q; accepts = refl; prints = cc }
 from-verdict text (verdicts.refused r) bs e = never r bs e
 
+pub from-refused : (text : Report → List ℕ) (v : Verdict) (r : Refusal) → ofVerdict text v ≡ refused r → v ≡ verdicts.refused r
+unfolding ofVerdict
+from-refused text (verdicts.accepted q) r e = never r (text q) (sym e)
+from-refused text (verdicts.refused x) r e = let h : x ≡ r = cc in ap verdicts.refused h
+
+-- SHARE
+nearest-share : (text : List ℕ) (x : Routine) → readBound text ≡ readings.routine x → (q : Report) → NearestShare x q
+nearest-share text x e q = let p = read-passes text x e in share-nearest (x .tick) (q .cycles) (rw (p .1) (tick-positive (p .0)))
+
 -- ---- demands 2 and 3
 
 pub reports-kept : ReportsKept
@@ -70,11 +85,11 @@ reports-kept text n bs e =
     let v = from-verdict (boundText (x .tick)) (bound (x .code) (x .budget) (x .start)) bs (a .gives) in
     let is : BoundReported text bs x (v .report) = record { reads = a .reads; accepts = v .accepts; prints = sym (v .prints) } in (
       (x, v .report, is, λ s h answers m. interruptible (x .code) openingLimit (x .budget) (x .start) (v .report) (v .accepts) s h answers m),
-      (x, v .report, is, bound-exact (x .code) (x .budget) (x .start) (v .report) (v .accepts)),
+      (x, v .report, is, bound-exact (x .code) (x .budget) (x .start) (v .report) (v .accepts), nearest-share text x (a .reads) (v .report)),
     )
 
 pub merges-kept : MergesKept
-unfolding mergeAnswer mergeRoutine
+unfolding mergeAnswer mergeRoutine boundAnswer boundRoutine
 merges-kept text n bs e =
     let a = from-reading mergeRoutine (readBound text) memoryLimit n bs e in
     let x = a .routine in
@@ -84,8 +99,35 @@ merges-kept text n bs e =
     let closed = rw (← p .1) at (passing-closed (lines text) (p .0)) in
     let is : MergeReported text bs x (v .report) = record { reads = a .reads; accepts = v .accepts; prints = sym (v .prints) } in (
       (x, v .report, is, λ s h answers m. merged-interruptible (x .code) forward closed (x .start) (v .report) (v .accepts) s h answers m),
-      (x, v .report, is, merged-exact (x .code) forward closed (x .start) (v .report) (v .accepts)),
+      (
+        x,
+        v .report,
+        is,
+        table (x .code) (x .start),
+        table-gathered (x .code) forward closed (x .start),
+        merged-exact (x .code) forward closed (x .start) (v .report) (v .accepts),
+        nearest-share text x (a .reads) (v .report),
+      ),
+      (
+        x,
+        v .report,
+        is,
+        merged-covers-paths (x .code) forward closed (x .start) (v .report) (v .accepts),
+        λ m first f. beside x (v .report) (a .reads) forward closed (v .accepts) m first f,
+        λ m r h f.
+            refused-for-size (x .code) forward closed (x .budget) (x .start) (v .report) r (v .accepts)
+            (from-refused (boundText (x .tick)) (bound (x .code) (x .budget) (x .start)) r (sym (reading-passed boundRoutine (readBound text) memoryLimit m h x (a .reads)) ∙ f)),
+      ),
     )
+  where
+    -- the first bound of the same text
+    beside : (x : Routine) (q : Report) → readBound text ≡ readings.routine x → Forward (x .code) → Closed (x .code) → merged (x .code) (x .start) ≡ verdicts.accepted q →
+        (m : ℕ) (first : List ℕ) → boundAnswer text m ≡ reported first → (r : Report) × BoundReported text first x r × NotSmaller r q
+    beside x q reads forward closed accepts m first f =
+        let a = from-reading boundRoutine (readBound text) memoryLimit m first f in
+        let same : a .routine ≡ x = cc (a .reads) in
+        let v = from-verdict (boundText (x .tick)) (bound (x .code) (x .budget) (x .start)) first (ap boundRoutine (sym same) ∙ a .gives) in
+        (v .report, record { reads = reads; accepts = v .accepts; prints = sym (v .prints) }, merged-not-smaller (x .code) forward closed (x .budget) (x .start) (v .report) q (v .accepts) accepts)
 
 -- ---- a preview
 
@@ -109,12 +151,30 @@ previews-kept text instruction address n bs e = reports-kept (patched (lines tex
 
 -- ---- two files
 
+run-single-pass : (text : List ℕ) (y : Routine) → readRun text ≡ readings.routine y → Forward (y .code) × Closed (y .code)
+run-single-pass text y e = let p = run-passes text y e in rw (p .2) (passing-forward (lines text) (p .0), passing-closed (lines text) (p .0))
+
 -- the run of y under the bound of x
 filled-in : (x y : Routine) (q : Report) → bound (x .code) (x .budget) (x .start) ≡ verdicts.accepted q → FilledIn y x →
     (r : Report) × (run (y .code) (y .budget) (y .start) (y .answers) ≡ verdicts.accepted r) × NoGreater r q
 filled-in x y q a h =
     let a′ : bound (y .code) (y .budget) (x .start) ≡ verdicts.accepted q = rw (h .code, h .budget) a in
     run-within-bound (y .code) (y .budget) (x .start) q a′ (y .start) (h .start) (y .answers)
+
+-- the run of y beside the merging bound of x, under any BUDGET
+module _ (x y : Routine) (forward : Forward (y .code)) (closed : Closed (y .code)) (q : Report) (a : merged (x .code) (x .start) ≡ verdicts.accepted q) (h : FilledCells y x) where
+  same-code : merged (y .code) (x .start) ≡ verdicts.accepted q
+  same-code = rw (h .code) a
+
+  merged-filled : q .steps ≤ y .budget → (r : Report) × (run (y .code) (y .budget) (y .start) (y .answers) ≡ verdicts.accepted r) × NoGreater r q
+  merged-filled le = run-within-merged (y .code) forward closed (x .start) q same-code (y .budget) le (y .start) (h .start) (y .answers)
+
+  merged-within : (r : Report) → run (y .code) (y .budget) (y .start) (y .answers) ≡ verdicts.accepted r → NoGreater r q
+  unfolding run
+  merged-within r e =
+      let safe = merged-interruptible (y .code) forward closed (x .start) q same-code (y .start) (h .start) (y .answers) (y .budget) in
+      let f = judged-figures (y .budget) (after (y .code) (y .budget) (begin (y .start) (y .answers))) r e in
+      record { cycles = omega (arith, safe .cycles, f); words = omega (arith, safe .words, f); depth = omega (arith, safe .depth, f); steps = omega (arith, safe .steps, f) }
 
 pub runs-kept : RunsKept
 unfolding runAnswer runRoutine ofReading ofVerdict answerOf reportLength
@@ -129,12 +189,17 @@ runs-kept = (within, accepts)
           v .report,
           record { reads = a .reads; accepts = v .accepts; prints = sym (v .prints) },
           λ x q b h. let (r, f, le) = filled-in x y q b h in let same : r ≡ v .report = cc (v .accepts) in rw same at le,
+          λ x q b h. let (f, g) = run-single-pass text y (a .reads) in merged-within x y f g q b h (v .report) (v .accepts),
         )
 
     accepts : (text : List ℕ) (n : ℕ) → RunAccepted text n (reportLength (answerOf (runAnswer text n)))
-    accepts text n x y q a h e lent =
-        let (r, b, le) = filled-in x y q a h in
-        (length (runText r), rw (le-ltb n memoryLimit lent, e, b) refl)
+    accepts text n y e lent = (
+      λ x q a h. let (r, b, le) = filled-in x y q a h in told (r, b),
+      λ x q a h le. let (f, g) = run-single-pass text y e in let (r, b, l) = merged-filled x y f g q a h le in told (r, b),
+    )
+      where
+        told : (r : Report) × (run (y .code) (y .budget) (y .start) (y .answers) ≡ verdicts.accepted r) → (m : ℕ) × (reportLength (answerOf (runAnswer text n)) ≡ some m)
+        told (r, b) = (length (runText r), rw (le-ltb n memoryLimit lent, e, b) refl)
 
 pub answers-irrelevant : AnswersIrrelevant
 unfolding boundAnswer mergeAnswer ofReading boundRoutine mergeRoutine
@@ -156,8 +221,8 @@ passing-is-ascii text x e = every-all text (accepted-ascii text (read-passes tex
 
 -- ---- no jump backwards
 
-passes-once : (ls : List Line) → Passes ls → Forward (routineOf ls .code) × SinglePass (routineOf ls .code) (length (codeLines (body ls)))
-passes-once ls p = let f = passing-forward ls p in (f, rw (code-length ls) at (forward-once (routineOf ls .code) f))
+passes-once : (ls : List Line) → Passes ls → Forward (routineOf ls .code) × Closed (routineOf ls .code) × SinglePass (routineOf ls .code) (length (codeLines (body ls)))
+passes-once ls p = let f = passing-forward ls p in (f, passing-closed ls p, rw (code-length ls) at (forward-once (routineOf ls .code) f))
 
 pub passing-is-single-pass : PassingIsSinglePass
 passing-is-single-pass text x (inl e) = let p = read-passes text x e in rw (p .1) (passes-once (lines text) (p .0))
@@ -227,14 +292,9 @@ pub merge-reports-some : (text : List ℕ) (n : ℕ) (bs : List ℕ) → mergeAn
 merge-reports-some text n bs e = let (x, q, is, safe) = merges-kept text n bs e .0 in rw (is .prints) (bound-some (x .tick) q)
 
 pub run-reports-some : (text : List ℕ) (n : ℕ) (bs : List ℕ) → runAnswer text n ≡ reported bs → 1 ≤ length bs
-run-reports-some text n bs e = let (y, r, is, within) = runs-kept .0 text n bs e in rw (is .prints) (run-some r)
+run-reports-some text n bs e = let (y, r, is, within, merged-within) = runs-kept .0 text n bs e in rw (is .prints) (run-some r)
 
 -- ---- places
-
-from-refused : (text : Report → List ℕ) (v : Verdict) (r : Refusal) → ofVerdict text v ≡ refused r → v ≡ verdicts.refused r
-unfolding ofVerdict
-from-refused text (verdicts.accepted q) r e = never r (text q) (sym e)
-from-refused text (verdicts.refused x) r e = let h : x ≡ r = cc in ap verdicts.refused h
 
 pub places-small : PlacesSmall
 unfolding place ofReading previewAnswer previewed boundAnswer boundRoutine mergeAnswer mergeRoutine runAnswer runRoutine

@@ -13,6 +13,7 @@ use Rattle.refusals.specs.declared.Refusal.{Refusal}
 use Rattle.refusals.specs.declared.Refusal.the-variants.{ReportMemory, TextLength, BadName}
 use Rattle.refusals.specs.declared.Refusal.the-variants as refusals
 use Rattle.refusals.specs.Refusals.{number, place}
+use Rattle.bounds.specs.Run.{run}
 use Rattle.bounds.specs.Tree.{Report, accepted, refused, bound}
 use Rattle.bounds.specs.Tree as bounds
 use Rattle.findings.specs.declared.Found.{Found}
@@ -27,7 +28,7 @@ use Rattle.routine.proofs.RowLaws.{read-passes, run-passes, too-long}
 use Rattle.routine.proofs.RangeLaws.{tick-positive, tick-small}
 use Rattle.refusals.specs.declared.Verdict.the-variants as verdicts
 use Rattle.refusals.specs.declared.Verdict.the-variants.{Accepted}
-use Rattle.report.specs.Report.{boundText}
+use Rattle.report.specs.Report.{boundText, runText}
 use Rattle.report.specs.Decode.{reportOf}
 use Rattle.listings.specs.Listing.{entries, listing}
 use Rattle.report.proofs.DecodeLaws.{report-of, report-of-run}
@@ -52,11 +53,16 @@ use Rattle.sensitivity.proofs.FunctionLaws.{nearest-reported, nearest-place}
 use Rattle.generating.proofs.FunctionLaws.{generate-reported, generate-place}
 use Rattle.decide_entry.specs.Answers.{decideAnswer}
 use Rattle.decide_entry.proofs.PromiseLaws.{decide-reported, decide-place}
-use Rattle.analyser.specs.Functions.{toldLength, wordOf, Tells, AnswerTold, AnswersTold, ExplanationsTold}
-use Rattle.analyser.specs.Promises.{SafeReport, ExactReport, SafeMerge, ExactMerge, WithinReport, RunAccepted, ExplainsBound}
+use Rattle.trace_theory.specs.Trace.{trace, traceText}
+use Rattle.trace_entry.specs.Answers.{traceMemory, ofRun, traceRoutine, traceAnswer}
+use Rattle.trace_entry.proofs.Theorems.{traces-fit, trace-place}
+use Rattle.analyser.specs.Functions.{toldLength, wordOf, Tells, AnswerTold, AnswersTold, ExplanationsTold, TracesTold}
+use Rattle.analyser.specs.Promises.{SafeReport, ExactReport, SafeMerge, ExactMerge, AboveMerge, WithinReport, RunAccepted, ExplainsBound, TraceRefused}
+use Rattle.analyser.specs.Listed.{BoundRefused, MergeRefused, RunRefused, Refuses, RefusesWord, ListedAlone}
 use Rattle.analyser.specs.Refined.{MonotoneReport, KnownReport, MonotoneMerge, KnownMerge}
 use Rattle.analyser.proofs.AnswerLaws.{reports-kept, merges-kept, reports-fit, runs-kept, bound-reports-some, merge-reports-some, run-reports-some, places-small, preview-reports-some}
 use Rattle.analyser.proofs.RefinedLaws.{bounds-refined, merges-refined}
+use Rattle.analyser.proofs.ListedLaws.{bound-listed, merge-listed, run-listed, listed-alone, listed-word}
 
 -- ---- a verdict is of one case
 
@@ -220,7 +226,8 @@ module _ (text : List ℕ) (n : ℕ) (former out : List ℕ) (r : code.Answer) w
   pub bound-keeps : (r ≡ answerOf (boundAnswer text n)) × (out ≡ memory (boundAnswer text n) former) →
       (r ≡ answerOf (boundAnswer text n)) × ((out ≡ memory (boundAnswer text n) former)
       × (Delivers (reportLength r) out (SafeReport text) × (Delivers (reportLength r) out (ExactReport text)
-      × (Delivers (reportLength r) out (MonotoneReport text) × Delivers (reportLength r) out (KnownReport text)))))
+      × (Delivers (reportLength r) out (MonotoneReport text) × (Delivers (reportLength r) out (KnownReport text)
+      × ListedAlone (Refuses r) (BoundRefused text n))))))
   bound-keeps (e, m) = (
     e,
     (
@@ -231,7 +238,10 @@ module _ (text : List ℕ) (n : ℕ) (former out : List ℕ) (r : code.Answer) w
           delivers (ExactReport text) (boundAnswer text n) (λ bs q. reports-kept text n bs q .1) r e former out m,
           (
             delivers (MonotoneReport text) (boundAnswer text n) (λ bs q. bounds-refined text n bs q .0) r e former out m,
-            delivers (KnownReport text) (boundAnswer text n) (λ bs q. bounds-refined text n bs q .1) r e former out m,
+            (
+              delivers (KnownReport text) (boundAnswer text n) (λ bs q. bounds-refined text n bs q .1) r e former out m,
+              listed-alone (BoundRefused text n) (boundAnswer text n) (bound-listed text n) r e,
+            ),
           ),
         ),
       ),
@@ -241,7 +251,8 @@ module _ (text : List ℕ) (n : ℕ) (former out : List ℕ) (r : code.Answer) w
   pub merge-keeps : (r ≡ answerOf (mergeAnswer text n)) × (out ≡ memory (mergeAnswer text n) former) →
       (r ≡ answerOf (mergeAnswer text n)) × ((out ≡ memory (mergeAnswer text n) former)
       × (Delivers (reportLength r) out (SafeMerge text) × (Delivers (reportLength r) out (ExactMerge text)
-      × (Delivers (reportLength r) out (MonotoneMerge text) × Delivers (reportLength r) out (KnownMerge text)))))
+      × (Delivers (reportLength r) out (MonotoneMerge text) × (Delivers (reportLength r) out (KnownMerge text)
+      × (Delivers (reportLength r) out (AboveMerge text) × ListedAlone (Refuses r) (MergeRefused text n)))))))
   merge-keeps (e, m) = (
     e,
     (
@@ -252,7 +263,13 @@ module _ (text : List ℕ) (n : ℕ) (former out : List ℕ) (r : code.Answer) w
           delivers (ExactMerge text) (mergeAnswer text n) (λ bs q. merges-kept text n bs q .1) r e former out m,
           (
             delivers (MonotoneMerge text) (mergeAnswer text n) (λ bs q. merges-refined text n bs q .0) r e former out m,
-            delivers (KnownMerge text) (mergeAnswer text n) (λ bs q. merges-refined text n bs q .1) r e former out m,
+            (
+              delivers (KnownMerge text) (mergeAnswer text n) (λ bs q. merges-refined text n bs q .1) r e former out m,
+              (
+                delivers (AboveMerge text) (mergeAnswer text n) (λ bs q. merges-kept text n bs q .2) r e former out m,
+                listed-alone (MergeRefused text n) (mergeAnswer text n) (merge-listed text n) r e,
+              ),
+            ),
           ),
         ),
       ),
@@ -261,14 +278,14 @@ module _ (text : List ℕ) (n : ℕ) (former out : List ℕ) (r : code.Answer) w
 
   pub run-keeps : (r ≡ answerOf (runAnswer text n)) × (out ≡ memory (runAnswer text n) former) →
       (r ≡ answerOf (runAnswer text n)) × ((out ≡ memory (runAnswer text n) former)
-      × (Delivers (reportLength r) out (WithinReport text) × RunAccepted text n (reportLength r)))
+      × (Delivers (reportLength r) out (WithinReport text) × (RunAccepted text n (reportLength r) × ListedAlone (Refuses r) (RunRefused text n))))
   run-keeps (e, m) = (
     e,
     (
       m,
       (
         delivers (WithinReport text) (runAnswer text n) (λ bs q. runs-kept .0 text n bs q) r e former out m,
-        rw e (runs-kept .1 text n),
+        (rw e (runs-kept .1 text n), listed-alone (RunRefused text n) (runAnswer text n) (run-listed text n) r e),
       ),
     ),
   )
@@ -416,6 +433,13 @@ explain-limits text n = record {
   refusal = λ r e. omega (arith, explain-place text n r e);
 }
 
+trace-limits : (text : List ℕ) (n : ℕ) → WithinLimits traceMemory (traceAnswer text n)
+trace-limits text n = record {
+  small = omega arith;
+  report = λ bs e. let r = traces-fit text n bs e in (r .0, r .1);
+  refusal = λ r e. omega (arith, trace-place text n r e);
+}
+
 -- what holds of the number
 tells : {most : ℕ} {a : Answer} → WithinLimits most a → (w : ℕ) → w ≡ wordOf (answerOf a) → Tells most a w
 unfolding wordOf answerOf
@@ -457,6 +481,17 @@ answers-told = (
   λ text text′ n n′. told memoryLimit _ _ (decide-limits text n) (decide-limits text′ n′),
 )
 
+-- the refusals that the number tells are the listed cases
+module _ (text : List ℕ) (n w : ℕ) where
+  pub bound-listed-word : w ≡ wordOf (answerOf (boundAnswer text n)) → ListedAlone (RefusesWord w) (BoundRefused text n)
+  bound-listed-word e = listed-word (BoundRefused text n) (boundAnswer text n) (bound-listed text n) memoryLimit w (omega arith) (tells (bound-limits text n) w e)
+
+  pub merge-listed-word : w ≡ wordOf (answerOf (mergeAnswer text n)) → ListedAlone (RefusesWord w) (MergeRefused text n)
+  merge-listed-word e = listed-word (MergeRefused text n) (mergeAnswer text n) (merge-listed text n) memoryLimit w (omega arith) (tells (merge-limits text n) w e)
+
+  pub run-listed-word : w ≡ wordOf (answerOf (runAnswer text n)) → ListedAlone (RefusesWord w) (RunRefused text n)
+  run-listed-word e = listed-word (RunRefused text n) (runAnswer text n) (run-listed text n) memoryLimit w (omega arith) (tells (run-limits text n) w e)
+
 module _ (text : List ℕ) (n : ℕ) where
   pub bound-tells : (w : ℕ) → w ≡ wordOf (answerOf (boundAnswer text n)) → Tells memoryLimit (boundAnswer text n) w
   bound-tells = tells (bound-limits text n)
@@ -482,6 +517,12 @@ module _ (text : List ℕ) (n : ℕ) where
   pub decide-length : (r : code.Answer) → r ≡ answerOf (decideAnswer text n) → (w : ℕ) → w ≡ wordOf r → reportLength r ≡ toldLength w
   decide-length r e w f = rw (f, e) (sym (told-length memoryLimit (decideAnswer text n) (decide-limits text n)))
 
+  pub trace-tells : (w : ℕ) → w ≡ wordOf (answerOf (traceAnswer text n)) → Tells traceMemory (traceAnswer text n) w
+  trace-tells = tells (trace-limits text n)
+
+  pub trace-length : (r : code.Answer) → r ≡ answerOf (traceAnswer text n) → (w : ℕ) → w ≡ wordOf r → reportLength r ≡ toldLength w
+  trace-length r e w f = rw (f, e) (sym (told-length traceMemory (traceAnswer text n) (trace-limits text n)))
+
   pub export-tells : (w : ℕ) → w ≡ wordOf (answerOf (exportAnswer text n)) → Tells conversionLimit (exportAnswer text n) w
   export-tells = tells (export-limits text n)
 
@@ -491,11 +532,17 @@ import-tells words primitives n = tells (import-limits words primitives n)
 pub explanations-told : ExplanationsTold
 explanations-told text text′ n n′ = told explanationLimit _ _ (explain-limits text n) (explain-limits text′ n′)
 
+pub traces-told : TracesTold
+traces-told text text′ n n′ = told traceMemory _ _ (trace-limits text n) (trace-limits text′ n′)
+
 pub explain-tells : (text : List ℕ) (n w : ℕ) → w ≡ wordOf (answerOf (explainAnswer text n)) → Tells explanationLimit (explainAnswer text n) w
 explain-tells text n = tells (explain-limits text n)
 
 pub replay-tells : (text trace : List ℕ) (n w : ℕ) → w ≡ wordOf (answerOf (replayAnswer text trace n)) → Tells memoryLimit (replayAnswer text trace n) w
 replay-tells text trace n = tells (replay-limits text trace n)
+
+pub replay-length : (text trace : List ℕ) (n : ℕ) (r : code.Answer) → r ≡ answerOf (replayAnswer text trace n) → (w : ℕ) → w ≡ wordOf r → reportLength r ≡ toldLength w
+replay-length text trace n r e w f = rw (f, e) (sym (told-length memoryLimit (replayAnswer text trace n) (replay-limits text trace n)))
 
 pub preview-tells : (text instruction : List ℕ) (address n : ℕ) → address < 4294967296 → (w : ℕ) → w ≡ wordOf (answerOf (previewAnswer text address instruction n)) →
     Tells memoryLimit (previewAnswer text address instruction n) w
@@ -536,3 +583,22 @@ explains-bound text n h =
     let b = lent-enough memoryLimit n (ofReading boundRoutine (readBound text)) (omega arith) in
     let k = reading-beside (body (lines text)) (readBound text) in
     rw (a, b) (k .refuses, k .begins)
+
+-- ---- a trace beside the run
+
+verdict-refused : (made : List ℕ) (v : bounds.Verdict) (r : Refusal) → (ofRun made v ≡ answers.refused r) ↔ (ofVerdict runText v ≡ answers.refused r)
+unfolding ofRun ofVerdict
+verdict-refused made (accepted q) r = (λ e. never r _ (sym e), λ e. never r _ (sym e))
+verdict-refused made (refused y) r = (λ e. e, λ e. e)
+
+reading-refused-too : (m : readings.Reading) (r : Refusal) → (ofReading traceRoutine m ≡ answers.refused r) ↔ (ofReading runRoutine m ≡ answers.refused r)
+unfolding ofReading traceRoutine runRoutine
+reading-refused-too (readings.refused y) r = (λ e. e, λ e. e)
+reading-refused-too (readings.routine x) r = verdict-refused (traceText (trace (x .code) (x .budget) (x .start) (x .answers))) (run (x .code) (x .budget) (x .start) (x .answers)) r
+
+pub trace-refused : TraceRefused
+unfolding traceAnswer runAnswer
+trace-refused text n h r =
+    let a = lent-enough traceMemory n (ofReading traceRoutine (readRun text)) h in
+    let b = lent-enough memoryLimit n (ofReading runRoutine (readRun text)) (omega arith) in
+    rw (a, b) (reading-refused-too (readRun text) r)

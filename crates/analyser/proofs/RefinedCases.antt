@@ -2,10 +2,8 @@
 -- computation. Assumes nothing.
 use mathlib.Core.Path.{_≡_, refl}
 use mathlib.Core.List.{List, [], _∷_}
-use mathlib.Core.Logic.{_⊎_}
-use Prim.Native.Nat.{ℕ}
+use Prim.Native.Nat.{ℕ, _≤_}
 use native.Mathlib.Omega.{arith}
-use Rattle.refusals.specs.declared.Refusal.the-variants.{Spent}
 use Rattle.bounds.specs.Tree.{Report}
 use Rattle.bounds.specs.Promises.{NoGreater}
 use Rattle.cells.specs.declared.Cell.{Cell}
@@ -32,10 +30,11 @@ use Rattle.bounds.specs.Run as run
 use Rattle.text.specs.Text as text
 use Rattle.bounds.specs.Tree as tree
 use Rattle.cells.specs.Try as try
+use Rattle.refinements.specs.Promises.{Plain}
 use Rattle.analyser.specs.Promises.{BoundReported, MergeReported}
 use Rattle.analyser.specs.Refined.{Narrows, MonotoneReport, KnownReport, MonotoneMerge, KnownMerge}
 use Rattle.analyser.proofs.Cases.{file, one-branch, report, case2}
-use Rattle.analyser.proofs.RefinedLaws.{bounds-refined, merges-refined}
+use Rattle.analyser.proofs.RefinedLaws.{runs-known, bounds-refined, merges-refined}
 
 -- case 2 with ACCU `0..1008`
 unfoldable pub counted : List ℕ
@@ -69,7 +68,7 @@ computed = (refl, refl, refl, refl, refl, refl, refl, refl, refl, refl)
 -- ---- each statement at these files
 
 narrows : (tick tick′ : ℕ) {a b : Cell} → Cellwise Refines (states.start a) (states.start b) → Narrows (holding tick a) (holding tick′ b)
-narrows tick tick′ r = record { budget = refl; code = refl; start = r }
+narrows tick tick′ r = record { code = refl; start = r }
 
 -- a report on a text is one on the routine that it holds, with the figures of its bound
 module _ (text bytes : List ℕ) (x : routines.Routine) (q : Report) (reads : routines.readBound text ≡ routines.routine x) where
@@ -94,18 +93,18 @@ MergeWithin text y q = (bytes : List ℕ) × (r : Report) × (analyser.mergeAnsw
 
 -- the first statement, of a text and of another that holds y
 module _ (text bytes : List ℕ) (x : routines.Routine) (q : Report) (reads : routines.readBound text ≡ routines.routine x)
-    (other : List ℕ) (y : routines.Routine) (others : routines.readBound other ≡ routines.routine y) (n : Narrows y x) where
+    (other : List ℕ) (y : routines.Routine) (others : routines.readBound other ≡ routines.routine y) (n : Narrows y x) (le : x .budget ≤ y .budget) where
   bound-within : tree.bound (x .code) (x .budget) (x .start) ≡ tree.accepted q → analyser.boundAnswer text 128 ≡ answers.reported bytes → BoundWithin other y q
   bound-within e a = go (bounds-refined text 128 bytes a .0)
     where
       go : MonotoneReport text bytes → BoundWithin other y q
-      go (z, p, is, more) = let (h, k) = same-bound text bytes x q reads e z p is in (rw (h, k) at more) other y others n 128 (omega arith)
+      go (z, p, is, more) = let (h, k) = same-bound text bytes x q reads e z p is in (rw (h, k) at more) other y others n le 128 (omega arith)
 
   merge-within : merges.merged (x .code) (x .start) ≡ tree.accepted q → analyser.mergeAnswer text 128 ≡ answers.reported bytes → MergeWithin other y q
   merge-within e a = go (merges-refined text 128 bytes a .0)
     where
       go : MonotoneMerge text bytes → MergeWithin other y q
-      go (z, p, is, more) = let (h, k) = same-merge text bytes x q reads e z p is in (rw (h, k) at more) other y others n 128 (omega arith)
+      go (z, p, is, more) = let (h, k) = same-merge text bytes x q reads e z p is in (rw (h, k) at more) other y others n tt 128 (omega arith)
 
 -- knowing that ACCU is in 0..1008, and that it is 7
 pub narrowed :
@@ -113,28 +112,30 @@ pub narrowed :
     × (BoundWithin seven (holding 2000 states.seven) (states.figures 6 3 (tree.T ∷ [])) × MergeWithin seven (holding 2000 states.seven) (states.figures 6 2 []))
 narrowed = (
   (
-    bound-within case2 _ (holding 1000 cells.unknown) _ (computed .4) counted (holding 1000 states.count) (computed .9) (narrows 1000 1000 states.count-narrower) (states.computed .0) (computed .0),
-    merge-within case2 _ (holding 1000 cells.unknown) _ (computed .4) counted (holding 1000 states.count) (computed .9) (narrows 1000 1000 states.count-narrower) (states.computed .3) (computed .1),
+    bound-within case2 _ (holding 1000 cells.unknown) _ (computed .4) counted (holding 1000 states.count) (computed .9) (narrows 1000 1000 states.count-narrower) (omega arith) (states.computed .0) (computed .0),
+    merge-within case2 _ (holding 1000 cells.unknown) _ (computed .4) counted (holding 1000 states.count) (computed .9) (narrows 1000 1000 states.count-narrower) (omega arith) (states.computed .3) (computed .1),
   ),
   (
-    bound-within counted _ (holding 1000 states.count) _ (computed .9) seven (holding 2000 states.seven) (computed .5) (narrows 2000 1000 states.seven-in-count) (states.computed .1) (computed .7),
-    merge-within counted _ (holding 1000 states.count) _ (computed .9) seven (holding 2000 states.seven) (computed .5) (narrows 2000 1000 states.seven-in-count) (states.computed .4) (computed .8),
+    bound-within counted _ (holding 1000 states.count) _ (computed .9) seven (holding 2000 states.seven) (computed .5) (narrows 2000 1000 states.seven-in-count) (omega arith) (states.computed .1) (computed .7),
+    merge-within counted _ (holding 1000 states.count) _ (computed .9) seven (holding 2000 states.seven) (computed .5) (narrows 2000 1000 states.seven-in-count) (omega arith) (states.computed .4) (computed .8),
   ),
 )
 
 -- knowing all, with no call
 pub known :
     ((analyser.runAnswer seven 128 ≡ answers.reported (reports.runText (states.figures 6 2 []))) × (states.figures 6 2 [] .path ≡ []))
-    × ((analyser.runAnswer seven 128 ≡ answers.reported (reports.runText (states.figures 6 2 []))) ⊎ ((a : ℕ) × (analyser.runAnswer seven 128 ≡ answers.refused (Spent a))))
+    × (analyser.runAnswer seven 128 ≡ answers.reported (reports.runText (states.figures 6 2 [])))
 known = (of-bound (bounds-refined seven 128 _ (computed .2) .1), of-merge (merges-refined seven 128 _ (computed .3) .1))
   where
+    plain : Plain (states.start states.seven)
+    plain = runs-known seven (holding 2000 states.seven) .0 (computed .6) .1
+
     of-bound : KnownReport seven (file (report "6 0 0 2 3 -")) → (analyser.runAnswer seven 128 ≡ answers.reported (reports.runText (states.figures 6 2 []))) × (states.figures 6 2 [] .path ≡ [])
     of-bound (x, q, is, more) =
         let (h, k) = same-bound seven _ (holding 2000 states.seven) (states.figures 6 2 []) (computed .5) (states.computed .2) x q is in
-        (rw (h, k) at more) (computed .6) states.case2-calls-nothing 128 (omega arith)
+        (rw (h, k) at more) plain states.case2-calls-nothing 128 (omega arith)
 
-    of-merge : KnownMerge seven (file (report "6 0 0 2 3 -")) →
-        (analyser.runAnswer seven 128 ≡ answers.reported (reports.runText (states.figures 6 2 []))) ⊎ ((a : ℕ) × (analyser.runAnswer seven 128 ≡ answers.refused (Spent a)))
+    of-merge : KnownMerge seven (file (report "6 0 0 2 3 -")) → analyser.runAnswer seven 128 ≡ answers.reported (reports.runText (states.figures 6 2 []))
     of-merge (x, q, is, more) =
         let (h, k) = same-merge seven _ (holding 2000 states.seven) (states.figures 6 2 []) (computed .5) (states.computed .5) x q is in
-        (rw (h, k) at more) (computed .6) states.case2-calls-nothing 128 (omega arith)
+        (rw (h, k) at more) plain states.case2-calls-nothing 128 (omega arith) .0 (omega arith)

@@ -1,7 +1,6 @@
 -- Knowing more, and knowing all, of files. Assumes nothing.
 use mathlib.Core.Path.{_≡_, refl, sym, ap, _∙_}
 use mathlib.Core.List.{List}
-use mathlib.Core.Logic.{_⊎_, inl, inr}
 use Prim.Native.Nat.{ℕ, _≤_}
 use Rattle.refusals.specs.declared.Refusal.the-variants.{Spent}
 use Rattle.text.specs.Text.{lines}
@@ -9,34 +8,35 @@ use Rattle.bounds.specs.Tree.{Report, Verdict, accepted, refused, bound}
 use Rattle.bounds.specs.Run.{run}
 use Rattle.merges.specs.Merge.{merged}
 use Rattle.merges.proofs.Theorems.{merged-monotone}
-use Rattle.refinements.proofs.Theorems.{bound-monotone, bound-is-run, merged-is-run}
+use Rattle.refinements.proofs.Theorems.{bound-monotone, larger-budget, bound-is-run, merged-is-run}
 use Rattle.refinements.proofs.RunLaws.{run-pathless}
 use Rattle.routine.specs.Routine.{Routine, readBound, readRun}
 use Rattle.routine.specs.Routine as readings
-use Rattle.routine.proofs.RowLaws.{read-passes, run-passes}
+use Rattle.routine.proofs.RowLaws.{read-passes, passes-read, run-passes}
 use Rattle.routine.proofs.BranchLaws.{passing-forward, passing-closed}
 use Rattle.routine.proofs.KnownLaws.{known-start}
 use Rattle.report.specs.Report.{boundText, runText}
-use Rattle.answers.specs.Answers.{reported, memoryLimit}
+use Rattle.answers.specs.Answers.{memoryLimit}
 use Rattle.answers.specs.Answers as answers
 use Rattle.answers.proofs.AnswerLaws.{reading-passed}
 use Rattle.analyser.specs.Answers.{ofVerdict, boundRoutine, mergeRoutine, runRoutine, boundAnswer, mergeAnswer, runAnswer}
 use Rattle.analyser.specs.Promises.{BoundReported, MergeReported}
 use Rattle.analyser.specs.Refined.{NarrowedTexts, RunsKnown, BoundsRefined, MergesRefined}
 use Rattle.analyser.proofs.AnswerLaws.{reports-kept, merges-kept}
+use Rattle.analyser.proofs.KnownLaws.{plain-read}
 
 -- ---- a file that knows more
 
-narrowed-bound : (x : Routine) (q : Report) → bound (x .code) (x .budget) (x .start) ≡ accepted q → NarrowedTexts boundAnswer BoundReported x q
+narrowed-bound : (x : Routine) (q : Report) → bound (x .code) (x .budget) (x .start) ≡ accepted q → NarrowedTexts boundAnswer BoundReported (λ budget. x .budget ≤ budget) x q
 unfolding boundAnswer boundRoutine ofVerdict
-narrowed-bound x q a text y reads h n lent =
-    let a′ : bound (y .code) (y .budget) (x .start) ≡ accepted q = rw (h .code, h .budget) a in
-    let (r, b, le) = bound-monotone (y .code) (y .budget) (x .start) q a′ (y .start) (h .start) in
-    (boundText (y .tick) r, r, reading-passed boundRoutine (readBound text) memoryLimit n lent y reads ∙ ap (ofVerdict (boundText (y .tick))) b, record { reads = reads; accepts = b; prints = refl }, le)
+narrowed-bound x q a text y reads h le n lent =
+    let a′ : bound (y .code) (x .budget) (x .start) ≡ accepted q = rw (h .code) a in
+    let (r, b, k) = bound-monotone (y .code) (y .budget) (x .start) q (larger-budget (y .code) (x .budget) (y .budget) le (x .start) q a′) (y .start) (h .start) in
+    (boundText (y .tick) r, r, reading-passed boundRoutine (readBound text) memoryLimit n lent y reads ∙ ap (ofVerdict (boundText (y .tick))) b, record { reads = reads; accepts = b; prints = refl }, k)
 
-narrowed-merge : (x : Routine) (q : Report) → merged (x .code) (x .start) ≡ accepted q → NarrowedTexts mergeAnswer MergeReported x q
+narrowed-merge : (x : Routine) (q : Report) → merged (x .code) (x .start) ≡ accepted q → NarrowedTexts mergeAnswer MergeReported (λ budget. Unit {0}) x q
 unfolding mergeAnswer mergeRoutine ofVerdict
-narrowed-merge x q a text y reads h n lent =
+narrowed-merge x q a text y reads h any n lent =
     let a′ : merged (y .code) (x .start) ≡ accepted q = rw (h .code) a in
     let (r, b, le) = merged-monotone (y .code) (x .start) q a′ (y .start) (h .start) in
     (boundText (y .tick) r, r, reading-passed mergeRoutine (readBound text) memoryLimit n lent y reads ∙ ap (ofVerdict (boundText (y .tick))) b, record { reads = reads; accepts = b; prints = refl }, le)
@@ -44,7 +44,10 @@ narrowed-merge x q a text y reads h n lent =
 -- ---- a file that knows all
 
 pub runs-known : RunsKnown
-runs-known text x e = let (p, known, is, short) = run-passes text x e in rw is (known-start p known)
+runs-known text x = (
+  λ e. let (p, known, is, short) = run-passes text x e in (passes-read text p short ∙ ap readings.routine (sym is), rw is (known-start p known)),
+  λ (e, plain). plain-read text x e plain,
+)
 
 -- the answer of the run, by its verdict
 run-answered : (text : List ℕ) (x : Routine) (n : ℕ) (v : Verdict) → readRun text ≡ readings.routine x → memoryLimit ≤ n → run (x .code) (x .budget) (x .start) (x .answers) ≡ v → runAnswer text n ≡ ofVerdict runText v
@@ -60,9 +63,9 @@ bounds-refined text n bytes e =
         x,
         q,
         is,
-        λ reads calls m lent.
-            let ran : run (x .code) (x .budget) (x .start) (x .answers) ≡ accepted q = sym (bound-is-run (x .code) (x .budget) (x .start) (x .answers) (runs-known text x reads) calls) ∙ is .accepts in
-            (run-answered text x m (accepted q) reads lent ran, run-pathless (x .code) (x .budget) (x .start) (x .answers) q ran),
+        λ plain calls m lent.
+            let ran : run (x .code) (x .budget) (x .start) (x .answers) ≡ accepted q = sym (bound-is-run (x .code) (x .budget) (x .start) (x .answers) plain calls) ∙ is .accepts in
+            (run-answered text x m (accepted q) (plain-read text x (is .reads) plain) lent ran, run-pathless (x .code) (x .budget) (x .start) (x .answers) q ran),
       ),
     )
 
@@ -74,11 +77,15 @@ merges-refined text n bytes e =
     let forward = rw (← p .1) at (passing-forward (lines text) (p .0)) in
     let closed = rw (← p .1) at (passing-closed (lines text) (p .0)) in (
       (x, q, is, narrowed-merge x q (is .accepts)),
-      (x, q, is, λ reads calls m lent. says x q m reads lent (is .accepts) (merged-is-run (x .code) forward closed (x .budget) (x .start) (x .answers) (runs-known text x reads) calls)),
+      (
+        x,
+        q,
+        is,
+        λ plain calls m lent.
+            let reads = plain-read text x (is .reads) plain in
+            let same = merged-is-run (x .code) forward closed (x .budget) (x .start) (x .answers) plain calls in (
+              λ le. run-answered text x m (accepted q) reads lent (same .0 q (is .accepts) le),
+              λ lt. let (a, h) = same .1 q (is .accepts) lt in (a, run-answered text x m (refused (Spent a)) reads lent h),
+            ),
+      ),
     )
-  where
-    says : (x : Routine) (q : Report) (m : ℕ) → readRun text ≡ readings.routine x → memoryLimit ≤ m → merged (x .code) (x .start) ≡ accepted q →
-        (merged (x .code) (x .start) ≡ run (x .code) (x .budget) (x .start) (x .answers)) ⊎ ((a : ℕ) × (run (x .code) (x .budget) (x .start) (x .answers) ≡ refused (Spent a))) →
-        (runAnswer text m ≡ reported (runText q)) ⊎ ((a : ℕ) × (runAnswer text m ≡ answers.refused (Spent a)))
-    says x q m reads lent a (inl h) = inl (run-answered text x m (accepted q) reads lent (sym h ∙ a))
-    says x q m reads lent a (inr (b, h)) = inr (b, run-answered text x m (refused (Spent b)) reads lent h)

@@ -1,18 +1,18 @@
--- What is proved, by the names of the statements in specs/. Nothing else of proofs/ needs to be read.
+-- What is proved of texts and bytes, by the names of the statements in specs/. docs/PROOFS.md names these and those of the other crates.
 -- Assumes nothing.
 use Prim.Native.Nat.{ℕ}
 use mathlib.Core.Path.{ap}
 use Rattle.text.proofs.DecimalLaws.{decimal-read}
-use Rattle.cells.specs.declared.Cell.{Cell}
-use Rattle.cells.specs.Cells.{unknown}
-use Rattle.cells.specs.Order.{Refines, same, Allowed}
-use Rattle.cells.proofs.Covering.{Covered}
-use Rattle.cells.proofs.CellLaws.{refines-trans, refines-lawful, allowed-lawful}
-use Rattle.machine.specs.Machine.{State, Code, step}
+use Rattle.cells.specs.Order.{Refines, same}
+use Rattle.cells.specs.Covering as covering
+use Rattle.cells.specs.Promises as cells
+use Rattle.cells.proofs.CellLaws.{refines-trans}
+use Rattle.cells.proofs.Theorems as cell-theorems
+use Rattle.machine.specs.Machine.{State, Code}
 use Rattle.machine.specs.Order.{Cellwise}
-use Rattle.machine.proofs.NextCovering.{NextCovered}
+use Rattle.machine.specs.Promises as machine
 use Rattle.machine.proofs.StateLaws.{cellwise-refl, cellwise-trans}
-use Rattle.machine.proofs.StepLaws.{step-law}
+use Rattle.machine.proofs.Theorems as machine-theorems
 use Rattle.bounds.specs.Tree.{openingLimit, bound}
 use Rattle.bounds.specs.Promises as bounds
 use Rattle.bounds.proofs.PromiseLaws as promise-laws
@@ -33,12 +33,16 @@ use Rattle.generator.specs.Promises as generator
 use Rattle.generator.proofs.Theorems as generator-theorems
 use Rattle.decide_entry.specs.Promises as decisions
 use Rattle.decide_entry.proofs.PromiseLaws as decision-laws
+use Rattle.trace_entry.specs.Promises as traces
+use Rattle.trace_entry.proofs.Theorems as trace-theorems
 use Rattle.analyser.specs.Answers.{boundAnswer, mergeAnswer, runAnswer}
 use Rattle.analyser.specs.Promises as answers
 use Rattle.analyser.specs.Refined as refined
+use Rattle.analyser.specs.Listed as listed
 use Rattle.analyser.specs.Functions as functions
 use Rattle.analyser.proofs.AnswerLaws as answer-laws
 use Rattle.analyser.proofs.RefinedLaws as refined-laws
+use Rattle.analyser.proofs.ListedLaws as listed-laws
 use Rattle.analyser.proofs.FunctionLaws as function-laws
 use Rattle.analyser.proofs.NearestLaws as nearest-laws
 
@@ -50,13 +54,22 @@ order-reflexive s = cellwise-refl (λ a. same) s
 pub order-transitive : {s t u : State} → Cellwise Refines s t → Cellwise Refines t u → Cellwise Refines s u
 order-transitive e f = cellwise-trans (λ a b c h k. refines-trans h k) e f
 
--- where the step from t is not stuck, neither is that from a state that refines t, and what they lead to is related
-pub step-refines : (c : Code) {s t : State} → Cellwise Refines s t → Covered (NextCovered (Cellwise Refines) (Unit {0})) (step c unknown s) (step c unknown t)
-step-refines c e = step-law refines-lawful c same e
+-- results agree where cells agree (document 02 §3), of the operations and of the step
+pub results-agree : covering.ResultsAgree
+results-agree = cell-theorems.results-agree
 
--- the same for a plain state that t allows and an answer that an unknown allows; the plain state never opens two ways
-pub step-plain : (c : Code) {a : Cell} {s t : State} → Allowed a unknown → Cellwise Allowed s t → Covered (NextCovered (Cellwise Allowed) ⊥) (step c a s) (step c unknown t)
-step-plain c h e = step-law allowed-lawful c h e
+pub step-refines : machine.StepRefines
+step-refines = machine-theorems.step-refines
+
+pub step-plain : machine.StepPlain
+step-plain = machine-theorems.step-plain
+
+-- a condition that opens no second way (document 02 §12)
+pub every-condition : cells.EveryCondition
+every-condition = cell-theorems.every-condition
+
+pub opens-where : machine.OpensWhere
+opens-where = machine-theorems.opens-where
 
 -- ---- the bound and the run of a code
 
@@ -117,6 +130,10 @@ merges-kept = answer-laws.merges-kept
 pub runs-kept : answers.RunsKept
 runs-kept = answer-laws.runs-kept
 
+-- a call is refused in the listed cases and in no other
+pub answers-listed : listed.AnswersListed
+answers-listed = listed-laws.answers-listed
+
 -- knowing more never costs more, and knowing all is the run (document 02 §14); of states: `refinements/proofs/Theorems`
 pub bounds-refined : refined.BoundsRefined
 bounds-refined = refined-laws.bounds-refined
@@ -168,6 +185,20 @@ decisions-kept = decision-laws.decisions-kept
 
 pub decision-refused : answers.DecisionRefused
 decision-refused = answer-laws.decision-refused
+
+-- ---- the trace of a run: it replays, adds up and fits (`trace_entry/specs/Promises`), and the run beside it
+
+pub traces-kept : traces.TracesKept
+traces-kept = trace-theorems.traces-kept
+
+pub traces-fit : traces.TracesFit
+traces-fit = trace-theorems.traces-fit
+
+pub trace-refused : answers.TraceRefused
+trace-refused = function-laws.trace-refused
+
+pub traces-told : functions.TracesTold
+traces-told = function-laws.traces-told
 
 -- exporting and importing bring back the file's lines, and the words (`conversions/specs/Promises`)
 pub exports-import : conversions.ExportsImport

@@ -17,6 +17,7 @@ use Rattle.analyser.specs.Answers.{boundAnswer, mergeAnswer, runAnswer, 
 use Rattle.sensitivity.specs.Answers.{nearestAnswer}
 use Rattle.generating.specs.Answers.{generateAnswer}
 use Rattle.decide_entry.specs.Answers.{decideAnswer}
+use Rattle.trace_entry.specs.Answers.{traceAnswer}
 
 -- ---- for C
 
@@ -56,3 +57,7 @@ AnswersTold =
 -- and of the explanation
 abbrev pub ExplanationsTold : Type 0
 ExplanationsTold = (text text′ : List ℕ) (n n′ : ℕ) → AnswerTold (explainAnswer text n) (explainAnswer text′ n′)
+
+-- and of the trace
+abbrev pub TracesTold : Type 0
+TracesTold = (text text′ : List ℕ) (n n′ : ℕ) → AnswerTold (traceAnswer text n) (traceAnswer text′ n′)

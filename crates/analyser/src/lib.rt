@@ -12,16 +12,20 @@ ghost use Rattle.answers.specs.Answers.{memoryLimit, memory, answerOf, reportLe
 ghost use Rattle.answers.specs.declared.Answer.the-variants.{Refused};
 ghost use Rattle.conversions.specs.Answers.{conversionLimit, importAnswer, exportAnswer};
 ghost use Rattle.conformance.specs.Answers.{replayAnswer};
+ghost use Rattle.conformance.specs.Promises.{ReplayKept};
 ghost use Rattle.explanations.specs.Answers.{explanationLimit, explainAnswer};
 ghost use Rattle.decide_entry.specs.Answers.{decideAnswer};
 ghost use Rattle.decide_entry.specs.Promises.{KeepsTick, OverTick, UndecidedTick};
+ghost use Rattle.trace_entry.specs.Answers.{traceMemory, traceAnswer};
+ghost use Rattle.trace_entry.specs.Promises.{TracesRun};
 ghost use Rattle.analyser.specs.Answers.{boundRoutine, mergeRoutine, runRoutine, boundAnswer, mergeAnswer, runAnswer, previewAnswer};
 ghost use Rattle.sensitivity.specs.Answers.{nearestAnswer};
 ghost use Rattle.generating.specs.Answers.{generatorLimit, generateAnswer};
 ghost use Rattle.analyser.specs.Functions.{wordOf, toldLength, Tells};
 ghost use Rattle.evaluations.specs.Held.{routineIn, Shareable};
 ghost use Rattle.analyser.specs.Held.{Printable, foundAnswer};
-ghost use Rattle.analyser.specs.Promises.{SafeReport, ExactReport, SafeMerge, ExactMerge, WithinReport, RunAccepted};
+ghost use Rattle.analyser.specs.Promises.{SafeReport, ExactReport, SafeMerge, ExactMerge, AboveMerge, WithinReport, RunAccepted};
+ghost use Rattle.analyser.specs.Listed.{BoundRefused, MergeRefused, RunRefused, Refuses, RefusesWord, ListedAlone};
 ghost use Rattle.analyser.specs.Refined.{MonotoneReport, KnownReport, MonotoneMerge, KnownMerge};
 
 // What was found of a routine with this TICK: its report, or its refusal.
@@ -102,6 +106,7 @@ pub fn bound(text: &[u8], out: &mut [u8]) -> Answer
     ensures exact { λ r. ⌜ Delivers (reportLength r) (now (out .exit)) (ExactReport (now (text .entry))) ⌝ }
     ensures monotone { λ r. ⌜ Delivers (reportLength r) (now (out .exit)) (MonotoneReport (now (text .entry))) ⌝ }
     ensures known { λ r. ⌜ Delivers (reportLength r) (now (out .exit)) (KnownReport (now (text .entry))) ⌝ }
+    ensures listed { λ r. ⌜ ListedAlone (Refuses r) (BoundRefused (now (text .entry)) (length (now (out .entry)))) ⌝ }
 {
     let lent = out.len();
     if lent < 128 {
@@ -125,6 +130,8 @@ pub fn merge(text: &[u8], out: &mut [u8]) -> Answer
     ensures exact { λ r. ⌜ Delivers (reportLength r) (now (out .exit)) (ExactMerge (now (text .entry))) ⌝ }
     ensures monotone { λ r. ⌜ Delivers (reportLength r) (now (out .exit)) (MonotoneMerge (now (text .entry))) ⌝ }
     ensures known { λ r. ⌜ Delivers (reportLength r) (now (out .exit)) (KnownMerge (now (text .entry))) ⌝ }
+    ensures above { λ r. ⌜ Delivers (reportLength r) (now (out .exit)) (AboveMerge (now (text .entry))) ⌝ }
+    ensures listed { λ r. ⌜ ListedAlone (Refuses r) (MergeRefused (now (text .entry)) (length (now (out .entry)))) ⌝ }
 {
     let length = out.len();
     if length < 128 {
@@ -146,6 +153,7 @@ pub fn run(text: &[u8], out: &mut [u8]) -> Answer
     ensures { λ _. ⌜ now (out .exit) ≡ memory (runAnswer (now (text .entry)) (length (now (out .entry)))) (now (out .entry)) ⌝ }
     ensures within { λ r. ⌜ Delivers (reportLength r) (now (out .exit)) (WithinReport (now (text .entry))) ⌝ }
     ensures accepts { λ r. ⌜ RunAccepted (now (text .entry)) (length (now (out .entry))) (reportLength r) ⌝ }
+    ensures listed { λ r. ⌜ ListedAlone (Refuses r) (RunRefused (now (text .entry)) (length (now (out .entry)))) ⌝ }
 {
     if out.len() < 128 {
         return Answer::Refused(Refusal::ReportMemory);
@@ -206,6 +214,7 @@ pub extern "C" fn tickbound_bound(text: &[u8], out: &mut [u8]) -> u64
     ensures exact { λ r. ⌜ Delivers (toldLength r) (now (out .exit)) (ExactReport (now (text .entry))) ⌝ }
     ensures monotone { λ r. ⌜ Delivers (toldLength r) (now (out .exit)) (MonotoneReport (now (text .entry))) ⌝ }
     ensures known { λ r. ⌜ Delivers (toldLength r) (now (out .exit)) (KnownReport (now (text .entry))) ⌝ }
+    ensures listed { λ r. ⌜ ListedAlone (RefusesWord r) (BoundRefused (now (text .entry)) (length (now (out .entry)))) ⌝ }
 {
     let answer = bound(text, out);
     word_of(answer)
@@ -221,6 +230,8 @@ pub extern "C" fn tickbound_merge(text: &[u8], out: &mut [u8]) -> u64
     ensures exact { λ r. ⌜ Delivers (toldLength r) (now (out .exit)) (ExactMerge (now (text .entry))) ⌝ }
     ensures monotone { λ r. ⌜ Delivers (toldLength r) (now (out .exit)) (MonotoneMerge (now (text .entry))) ⌝ }
     ensures known { λ r. ⌜ Delivers (toldLength r) (now (out .exit)) (KnownMerge (now (text .entry))) ⌝ }
+    ensures above { λ r. ⌜ Delivers (toldLength r) (now (out .exit)) (AboveMerge (now (text .entry))) ⌝ }
+    ensures listed { λ r. ⌜ ListedAlone (RefusesWord r) (MergeRefused (now (text .entry)) (length (now (out .entry)))) ⌝ }
 {
     let answer = merge(text, out);
     word_of(answer)
@@ -234,6 +245,7 @@ pub extern "C" fn tickbound_run(text: &[u8], out: &mut [u8]) -> u64
     ensures tells { λ r. ⌜ Tells memoryLimit (runAnswer (now (text .entry)) (length (now (out .entry)))) r ⌝ }
     ensures within { λ r. ⌜ Delivers (toldLength r) (now (out .exit)) (WithinReport (now (text .entry))) ⌝ }
     ensures accepts { λ r. ⌜ RunAccepted (now (text .entry)) (length (now (out .entry))) (toldLength r) ⌝ }
+    ensures listed { λ r. ⌜ ListedAlone (RefusesWord r) (RunRefused (now (text .entry)) (length (now (out .entry)))) ⌝ }
 {
     let answer = run(text, out);
     word_of(answer)
@@ -267,6 +279,7 @@ pub extern "C" fn tickbound_replay(text: &[u8], trace: &[u8], out: &mut [u8]) ->
     ensures { λ r. ⌜ r ≡ wordOf (answerOf (replayAnswer (now (text .entry)) (now (trace .entry)) (length (now (out .entry))))) ⌝ }
     ensures { λ _. ⌜ now (out .exit) ≡ memory (replayAnswer (now (text .entry)) (now (trace .entry)) (length (now (out .entry)))) (now (out .entry)) ⌝ }
     ensures tells { λ r. ⌜ Tells memoryLimit (replayAnswer (now (text .entry)) (now (trace .entry)) (length (now (out .entry)))) r ⌝ }
+    ensures kept { λ r. ⌜ Delivers (toldLength r) (now (out .exit)) (ReplayKept (now (text .entry)) (now (trace .entry))) ⌝ }
 {
     let replayed = conformance::replay(text, trace, out);
     word_of(replayed)
@@ -333,4 +346,16 @@ pub extern "C" fn tickbound_decide(text: &[u8], out: &mut [u8]) -> u64
 {
     let decided = decide_entry::decide(text, out);
     word_of(decided)
+}
+
+// `trace_entry::trace` for C.
+#[no_mangle]
+pub extern "C" fn tickbound_trace(text: &[u8], out: &mut [u8]) -> u64
+    ensures { λ r. ⌜ r ≡ wordOf (answerOf (traceAnswer (now (text .entry)) (length (now (out .entry))))) ⌝ }
+    ensures { λ _. ⌜ now (out .exit) ≡ memory (traceAnswer (now (text .entry)) (length (now (out .entry)))) (now (out .entry)) ⌝ }
+    ensures tells { λ r. ⌜ Tells traceMemory (traceAnswer (now (text .entry)) (length (now (out .entry)))) r ⌝ }
+    ensures traces { λ r. ⌜ Delivers (toldLength r) (now (out .exit)) (TracesRun (now (text .entry))) ⌝ }
+{
+    let traced = trace_entry::trace(text, out);
+    word_of(traced)
 }

@@ -39,7 +39,7 @@ unfoldable pub ofVerdict : List ℕ → Verdict → Answer
 ofVerdict made verdicts.Accepted = reported made
 ofVerdict made (verdicts.Refused r) = refused r
 
--- "Lent report memory holds, after an accepted call, exactly the report and then its former bytes; after a refusal it is as before."
+-- demand 1: lent report memory holds, after an accepted call, exactly the report and then its former bytes; after a refusal it is as before.
 unfoldable pub memory : Answer → List ℕ → List ℕ
 memory (reported bs) former = bs ++ drop (length bs) former
 memory (refused r) former = former

@@ -46,7 +46,7 @@ module _ (c : Code) (limit budget : ℕ) where
       (explore (acts c) limit budget s ≡ accepted (report (whole s))) × NoGreater (report (whole s)) (report (tree (acts c) f o t))
   unfolding explore verdict whole report
   afresh f o s t e lf lo w le =
-      let k = tree-law (λ s t e. height-law e) (acts c) (λ s t e. step-law refines-lawful c same e) budget f limit o s t lf lo e w in
+      let k = tree-law (λ s t e. height-law e) (acts c) (acts c) (λ s t e. step-law refines-lawful c same e) budget f limit o s t lf lo e w in
       (complete-accepted (whole s) budget (report (whole s)) (k .complete) (omega (arith, k .less .steps)), k .less)
 
   pub monotone : Monotone (explore (acts c) limit budget)

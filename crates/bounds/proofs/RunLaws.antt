@@ -10,11 +10,11 @@ use lib.IntN.{ℤ, pos}
 use Rattle.cells.specs.Try.{Try, done}
 use Rattle.cells.specs.Cells.{unknown}
 use Rattle.cells.specs.Order.{Refines, Allowed}
-use Rattle.cells.proofs.Covering.{Covered, both}
+use Rattle.cells.specs.Covering.{Covered, both}
 use Rattle.cells.proofs.CellLaws.{allowed-refines, allowed-plain, number-allowed, allowed-lawful}
 use Rattle.machine.specs.Machine.{State, Price, Next, stops, goes, opens, Code, height, step}
 use Rattle.machine.specs.Order.{Cellwise}
-use Rattle.machine.proofs.NextCovering.{NextCovered, stops-too, goes-too, opens-too, goes-not-taken, goes-taken}
+use Rattle.machine.specs.Covering.{NextCovered, stops-too, goes-too, opens-too, goes-not-taken, goes-taken}
 use Rattle.machine.proofs.StateLaws.{cellwise-map, cellwise-self}
 use Rattle.machine.proofs.StepLaws.{step-law}
 use Rattle.bounds.specs.Tree.{Report, Verdict, accepted}

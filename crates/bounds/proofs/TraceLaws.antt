@@ -10,12 +10,12 @@ use lib.ListN.{length}
 use Rattle.cells.specs.Try.{Try, stuck, done}
 use Rattle.cells.specs.Cells.{unknown}
 use Rattle.cells.specs.Order.{Refines}
-use Rattle.cells.proofs.Covering.{Covered, by-stuck, both}
+use Rattle.cells.specs.Covering.{Covered, by-stuck, both}
 use Rattle.cells.proofs.CellLaws.{allowed-refines, refines-lawful}
 use Rattle.machine.specs.Lists.{nth}
 use Rattle.machine.specs.Machine.{State, Next, stops, goes, opens, Code, step, takesAnswer, withExtra}
 use Rattle.machine.specs.Order.{Cellwise}
-use Rattle.machine.proofs.NextCovering.{NextCovered, stops-too, goes-too, opens-too, goes-not-taken, goes-taken}
+use Rattle.machine.specs.Covering.{NextCovered, stops-too, goes-too, opens-too, goes-not-taken, goes-taken}
 use Rattle.machine.proofs.StepLaws.{step-law}
 use Rattle.bounds.specs.Traces.{Move, move, cost, wordSum, CostMax}
 use Rattle.bounds.specs.Run.{Run, begin, answer, remaining, moved, leads, once, after, DeterministicTrace}

@@ -1,5 +1,5 @@
 -- The tree from a state that another covers: every step of it is made where every step of the other's is, and no figure of its report
--- is greater. Over any action on states and any relation that the action keeps: nothing here knows a cell or an instruction.
+-- is greater. Over any two actions on states and any relation that they keep: nothing here knows a cell or an instruction.
 -- Assumes nothing.
 use mathlib.Core.Path.{_≡_, refl, _∙_}
 use mathlib.Core.List.{List, [], _++_, append-assoc, append-nil}
@@ -8,9 +8,9 @@ use native.Mathlib.Omega.{arith}
 use lib.ListN.{length, length-append}
 use Rattle.refusals.specs.declared.Refusal.{Refusal}
 use Rattle.cells.specs.Try.{Try, stuck, done}
-use Rattle.cells.proofs.Covering.{Covered, by-stuck, both}
+use Rattle.cells.specs.Covering.{Covered, by-stuck, both}
 use Rattle.machine.specs.Machine.{State, Next, stops, goes, opens, height}
-use Rattle.machine.proofs.NextCovering.{NextCovered, stops-too, goes-too, opens-too, goes-not-taken, goes-taken}
+use Rattle.machine.specs.Covering.{NextCovered, stops-too, goes-too, opens-too, goes-not-taken, goes-taken}
 use Rattle.bounds.specs.Tree.{Tree, unmade, stop, next, fork, expand, tree, cycles, words, depth, size, Report, report, Step, steps, accepted, refused, judge}
 use Rattle.bounds.specs.Promises.{NoGreater}
 
@@ -58,13 +58,13 @@ module _ {R : State → State → Type 0} (heights : (s t : State) → R s t →
       record { complete = k .complete; less = omega arith }
 
   -- with at least as much fuel and as many openings
-  pub tree-law : (act : State → Try Next) (keeps : (s t : State) → R s t → Covered (NextCovered R (Unit {0})) (act s) (act t))
-      (f f′ o o′ : ℕ) (s t : State) → f′ ≤ f → o′ ≤ o → R s t → Complete (tree act f′ o′ t) → NoMore (tree act f o s) (tree act f′ o′ t)
+  pub tree-law : (act act′ : State → Try Next) (keeps : (s t : State) → R s t → Covered (NextCovered R (Unit {0})) (act s) (act′ t))
+      (f f′ o o′ : ℕ) (s t : State) → f′ ≤ f → o′ ≤ o → R s t → Complete (tree act′ f′ o′ t) → NoMore (tree act f o s) (tree act′ f′ o′ t)
   unfolding tree
-  tree-law act keeps f zero o o′ s t lf lo r w = absurd w
-  tree-law act keeps zero (suc f′) o o′ s t lf lo r w = absurd (omega arith)
-  tree-law act keeps (suc f) (suc f′) o o′ s t lf lo r w =
-      expand-law (tree act f) (tree act f′) (λ o o′ s t lo r w. tree-law act keeps f f′ o o′ s t (omega arith) lo r w) o o′ lo r (keeps s t r) w
+  tree-law act act′ keeps f zero o o′ s t lf lo r w = absurd w
+  tree-law act act′ keeps zero (suc f′) o o′ s t lf lo r w = absurd (omega arith)
+  tree-law act act′ keeps (suc f) (suc f′) o o′ s t lf lo r w =
+      expand-law (tree act f) (tree act′ f′) (λ o o′ s t lo r w. tree-law act act′ keeps f f′ o o′ s t (omega arith) lo r w) o o′ lo r (keeps s t r) w
 
 -- the root's height is one of the tree's, and the root one of its steps
 expand-root : (below : ℕ → State → Tree) (o : ℕ) (s : State) (m : Try Next) → (height s ≤ depth (expand below o s m)) × (1 ≤ size (expand below o s m))

@@ -29,18 +29,18 @@ pub record NoGreater (less more : Report) : Type 0 where
 
 -- Demand 3, of the run that so many steps from the start have made, under what the bound has reported
 pub record Safe (code : Code) (bounding : State → Verdict) (reported : Report) (start : Run) (made : ℕ) (run : Run) : Type 0 where
-  -- "it is not stuck, its stack has nowhere been deeper than reported": by what the run remembers, and in each state up to this one
+  -- it is not stuck, its stack has nowhere been deeper than reported: by what the run remembers, and in each state up to this one
   pub moves : isStuck code run ≡ false
   pub depth : run .depth ≤ reported .depth
   pub heights : (k : ℕ) → k ≤ made → height (after code k start .state) ≤ reported .depth
   pub steps : run .steps ≤ reported .steps
-  -- "bounding it afresh from the state reached, under the same budget, is never refused"; "after STOP nothing is left to bound"
+  -- bounding it afresh from the state reached, under the same budget, is never refused; after STOP nothing is left to bound
   pub fresh : Report
   pub accepts : boundedAfresh bounding (run .stopped) (run .state) ≡ accepted fresh
-  -- "The cycles spent plus those bounded afresh are at most the reported cycles, and the same for words"
+  -- The cycles spent plus those bounded afresh are at most the reported cycles, and the same for words
   pub cycles : run .cycles + fresh .cycles ≤ reported .cycles
   pub words : run .words + fresh .words ≤ reported .words
-  -- "Every such run makes its STOP within the reported steps."
+  -- Every such run makes its STOP within the reported steps.
   pub stops : reported .steps ≤ made → run .stopped ≡ true
 
 -- Demand 3, whole: for every start that t allows, every list of answers and every number of steps
@@ -127,7 +127,7 @@ OneMaximum =
     ((k l : ℕ) → CostMax (step c unknown) s k → CostMax (step c unknown) s l → k ≡ l)
     × ((xs ys : List Move) → RunMax (step c unknown) s xs → RunMax (step c unknown) s ys → xs ≡ ys)
 
--- "A routine is refused in the listed cases and in no other"
+-- demand 2: a routine is refused in the listed cases and in no other
 abbrev pub AcceptedWhere : Type 0
 AcceptedWhere =
     (c : Code) (budget : ℕ) (s : State) →

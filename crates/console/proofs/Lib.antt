@@ -1,1 +1,3 @@
 pub mod PrintLaws
+pub mod GivenLaws
+pub mod ReadLaws

@@ -3,31 +3,58 @@ use answers::Answer;
 use libc::STDERR_FILENO;
 use libc::STDIN_FILENO;
 use libc::STDOUT_FILENO;
+use text::Numeral;
 ghost use mathlib.Core.Path.{_≡_};
 ghost use lib.ListN.{take};
 ghost use Rattle.io.specs.Counts.{Counts};
+ghost use Rattle.text.specs.Decimal.{numeral};
+ghost use Rattle.console.specs.Given.{given};
+ghost use Rattle.console.specs.Read.{Whole};
 ghost use Rattle.console.specs.Line.{line, Held};
 
-// How many bytes came from standard input, and whether no read failed.
+// What was read: how many bytes came, whether that is a whole text, and what the last read answered.
 pub struct Input {
     pub length: usize,
     pub is_whole: bool,
+    pub last: isize,
 }
 
-// Reads from a descriptor to its end, or until text is full.
+// What a word says where a number of 32 bits is wanted.
+pub enum Given {
+    Number(u32),
+    Wrong,
+}
+
+// The number that a word spells, as a number of a routine file is spelt.
+pub fn number_of(word: &[u8]) -> Given
+    ensures { λ r. ⌜ r ≡ given (numeral (now (word .entry))) ⌝ }
+{
+    let Numeral::Number(z) = text::read_numeral(word) else {
+        return Given::Wrong;
+    };
+    if z < 0 || 4294967295 < z {
+        return Given::Wrong;
+    }
+    Given::Number(z as u32)
+}
+
+// Reads from a descriptor to its end, or until text is full. A read that fails ends it, and then the text is not whole.
 pub fn read_from(descriptor: i32, text: &mut [u8]) -> Input
     ensures { λ r. ⌜ Counts (r .length) (now (text .exit)) ⌝ }
+    ensures whole { λ r. ⌜ Whole (r .length) (r .«is_whole») (r .last) (now (text .exit)) ⌝ }
 {
     let mut n = 0;
+    let mut last: isize = 0;
     while n < text.len() {
-        let got = libc::read(descriptor, &mut text[n..]);
-        if got < 0 {
+        last = libc::read(descriptor, &mut text[n..]);
+        if last < 0 {
             return Input {
                 length: n,
                 is_whole: false,
+                last: last,
             };
         }
-        let more = io::count(got, &text[n..]);
+        let more = io::count(last, &text[n..]);
         if more == 0 {
             break;
         }
@@ -36,12 +63,14 @@ pub fn read_from(descriptor: i32, text: &mut [u8]) -> Input
     Input {
         length: n,
         is_whole: true,
+        last: last,
     }
 }
 
 // Reads standard input likewise.
 pub fn read_text(text: &mut [u8]) -> Input
     ensures { λ r. ⌜ Counts (r .length) (now (text .exit)) ⌝ }
+    ensures whole { λ r. ⌜ Whole (r .length) (r .«is_whole») (r .last) (now (text .exit)) ⌝ }
 {
     read_from(STDIN_FILENO, text)
 }

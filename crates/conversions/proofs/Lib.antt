@@ -1,2 +1,4 @@
 pub mod FunctionLaws
+pub mod FaultLaws
+pub mod MeantLaws
 pub mod Theorems

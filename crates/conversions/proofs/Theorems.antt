@@ -1,30 +1,42 @@
 -- The statements of `specs/Promises`, each proved by its name. Assumes nothing.
-use Prim.Native.Nat.{ℕ}
+use Prim.Native.Nat.{ℕ, _≤_}
 use mathlib.Core.Path.{_≡_, refl, sym, ap, _∙_}
-use mathlib.Core.List.{List}
+use mathlib.Core.Bool.{Bool, true, false, cond}
+use mathlib.Core.List.{List, [], _∷_}
+use native.Mathlib.Omega.{arith}
 use lib.Dec.{ltb}
 use lib.IntN.{pos}
-use borrow.Author.Tests.{ltb-true}
+use lib.ListN.{length}
+use borrow.Author.Tests.{ltb-true, ltb-false}
+use Rattle.refusals.specs.declared.Refusal.the-variants.{ReportMemory, Layout, BadName, BadWord}
 use Rattle.refusals.specs.declared.Verdict.{Verdict}
 use Rattle.refusals.specs.declared.Verdict.the-variants.{Accepted, Refused}
-use Rattle.text.specs.Text.{lines}
+use Rattle.text.specs.Text.{Line, lines}
+use Rattle.text.specs.declared.Place.{Place}
+use Rattle.text.specs.declared.Place.the-variants.{At, Missing}
 use Rattle.text.proofs.TextLaws.{every-map, all-every}
-use Rattle.routine.specs.Layout.{body}
-use Rattle.routine.specs.Rows.{firstAt, Passes}
-use Rattle.routine.specs.Routine.{readBound}
+use Rattle.routine.specs.declared.Section.the-variants.{Primitives as primitives}
+use Rattle.routine.specs.Layout.{body, list}
+use Rattle.routine.specs.Rows.{wellNamed, firstAt, Passes}
+use Rattle.routine.specs.Routine.{Routine, routineOf, readBound}
 use Rattle.routine.proofs.RowLaws.{read-passes}
 use Rattle.routine.proofs.PassingLaws.{first-natural}
-use Rattle.words.specs.Import.{importVerdict, importText}
+use Rattle.words.specs.Words.{wordsOf}
+use Rattle.words.specs.Decoding.{codeFault}
+use Rattle.words.specs.Import.{lineLaidOut, lineVerdict, oneLine, primitivesVerdict, primitivesOf, faultVerdict, both, importVerdict, importText}
+use Rattle.imports.proofs.ImportLaws.{import-next, import-line, import-sound}
 use Rattle.words.specs.Export.{exportBytes}
 use Rattle.inverses.specs.Sections.{replaced, primitivesLine}
 use Rattle.inverses.proofs.FileLaws.{replaced-whole}
 use Rattle.inverses.proofs.ExportedLaws.{export-imported, export-text}
 use Rattle.inverses.proofs.RestoredLaws.{import-exported}
-use Rattle.answers.specs.Answers.{reported, ofVerdict}
+use Rattle.answers.specs.Answers.{reported, refused, ofVerdict}
 use Rattle.answers.proofs.AnswerLaws.{never, lent-reported, from-reading}
 use Rattle.conversions.specs.Answers.{conversionLimit, importAnswer, exportAnswer}
-use Rattle.conversions.specs.Promises.{BeginsAtZero, ExportsImport, ImportsReplace, ImportsExport}
-use Rattle.conversions.proofs.FunctionLaws.{import-made}
+use Rattle.conversions.specs.Promises.{BeginsAtZero, ExportsImport, ImportsReplace, ImportsExport, ImportRefusedWhere, ImportedWhere, ImportsMean}
+use Rattle.conversions.proofs.FunctionLaws.{import-refused, import-made, import-reported}
+use Rattle.conversions.proofs.MeantLaws.{code-meant}
+use Rattle.conversions.proofs.FaultLaws.{fault-decides, decides-fault, fault-nowhere, nowhere-fault}
 
 same-bytes : (bs cs : List ℕ) → reported bs ≡ reported cs → bs ≡ cs
 same-bytes bs cs e = cc
@@ -75,3 +87,65 @@ imports-export words line made text out n m small e s l g =
     let x = exported text out m g in
     let y = imported words line made n e in
     x .1 ∙ import-exported words line text (every-map (λ b k. ltb-true b 256 k) (all-every (λ b. ltb b 256) words small)) (y .0) (x .0) l (s ∙ y .1)
+
+-- ---- where an import refuses by 12, and where it makes lines
+
+-- a primitives line is never refused by 12
+line-other : (line : List ℕ) (i : ℕ) {A : Type 0} → primitivesVerdict line ≡ Refused (BadWord i) → A
+unfolding primitivesVerdict oneLine lineVerdict
+line-other line i {A} = go (lines line)
+  where
+    one : (a b : Bool) → cond a (cond b Accepted (Refused (BadName 1))) (Refused (Layout 1)) ≡ Refused (BadWord i) → A
+    one true true e = let z : _≡_ {A = ℕ} 0 1 = cc in absurd (omega arith)
+    one true false e = let z : _≡_ {A = ℕ} 0 1 = cc in absurd (omega arith)
+    one false b e = let z : _≡_ {A = ℕ} 0 1 = cc in absurd (omega arith)
+
+    go : (ls : List Line) → oneLine ls ≡ Refused (BadWord i) → A
+    go [] e = let z : _≡_ {A = ℕ} 0 1 = cc in absurd (omega arith)
+    go (l ∷ []) e = one (lineLaidOut (l .text)) (wellNamed primitives (list (l .text))) e
+    go (l ∷ m ∷ ls) e = let z : _≡_ {A = ℕ} 0 1 = cc in absurd (omega arith)
+
+module _ (words line : List ℕ) (n : ℕ) where
+  abbrev fault : Place
+  fault = codeFault (length (primitivesOf line)) (wordsOf words)
+
+  -- a refusal by 12 is not for the memory, nor for the line
+  refused-word : (i : ℕ) → importAnswer words line n ≡ refused (BadWord i) → (conversionLimit ≤ n) × (primitivesVerdict line ≡ Accepted) × (fault ≡ At i)
+  unfolding importAnswer ofVerdict importVerdict both faultVerdict
+  refused-word i = go (ltb n conversionLimit) refl (primitivesVerdict line) refl
+    where
+      made : (p : Place) → ofVerdict (importText words line) (faultVerdict p) ≡ refused (BadWord i) → p ≡ At i
+      made Missing e = never (BadWord i) (importText words line) (sym e)
+      made (At j) e = ap At (cc)
+
+      go : (b : Bool) → ltb n conversionLimit ≡ b → (v : Verdict) → primitivesVerdict line ≡ v → cond b (refused ReportMemory) (ofVerdict (importText words line) (both v (faultVerdict fault))) ≡ refused (BadWord i) → (conversionLimit ≤ n) × (primitivesVerdict line ≡ Accepted) × (fault ≡ At i)
+      go true h v q e = let z : _≡_ {A = ℕ} 0 1 = cc in absurd (omega arith)
+      go false h Accepted q e = (ltb-false n conversionLimit h, q, made fault e)
+      go false h (Refused r) q e = line-other line i (q ∙ ap Refused (cc))
+
+pub import-refused-where : ImportRefusedWhere
+unfolding importVerdict both faultVerdict
+import-refused-where words line n i = (
+  (λ e. let r = refused-word words line n i e in (r .0, r .1, fault-decides (length (primitivesOf line)) (wordsOf words) i (r .2))),
+  (λ d. import-refused words line n (d .0) (BadWord i) (import-next words line (d .1) ∙ ap faultVerdict (decides-fault (length (primitivesOf line)) (wordsOf words) i (d .2)))),
+)
+
+pub imported-where : ImportedWhere
+unfolding faultVerdict
+imported-where words line n = (
+  (λ e.
+      let x = imported words line (e .0) n (e .1) in
+      let f = fault-nowhere (length (primitivesOf line)) (wordsOf words) (import-sound words line (x .0)) in
+      (import-reported words line n (e .0) (e .1) .2, import-line words line (x .0), f .0, f .1)),
+  (λ d. (importText words line, import-made words line n (d .0) (import-next words line (d .1) ∙ ap faultVerdict (nowhere-fault (length (primitivesOf line)) (wordsOf words) (d .2) (d .3))))),
+)
+
+-- ---- the code of words
+
+pub imports-mean : ImportsMean
+unfolding routineOf
+imports-mean words line made text n x small e s l g =
+    let y = imported words line made n e in
+    let r = read-passes text x g in
+    ap (λ (z : Routine). z .code) (r .1)
+    ∙ code-meant words line text (every-map (λ b k. ltb-true b 256 k) (all-every (λ b. ltb b 256) words small)) (y .0) (r .0) l (s ∙ y .1)

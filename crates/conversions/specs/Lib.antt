@@ -1,2 +1,4 @@
 pub mod Answers
+pub mod Faults
+pub mod Meant
 pub mod Promises

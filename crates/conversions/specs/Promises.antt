@@ -3,16 +3,23 @@ use Prim.Native.Nat.{ℕ, _≤_}
 use mathlib.Core.Path.{_≡_}
 use mathlib.Core.Bool.{true}
 use mathlib.Core.List.{List}
+use mathlib.Core.Logic.{_↔_}
 use lib.Dec.{ltb}
+use lib.ListN.{length}
+use Rattle.refusals.specs.declared.Refusal.the-variants.{BadWord}
+use Rattle.refusals.specs.declared.Verdict.the-variants.{Accepted as accepted}
 use Rattle.text.specs.Text.{lines, all}
 use Rattle.routine.specs.declared.Section.the-variants.{Primitives as primitives}
 use Rattle.routine.specs.declared.Role.the-variants.{Names as names}
 use Rattle.routine.specs.Layout.{body, listed}
-use Rattle.routine.specs.Routine.{firstAddress}
-use Rattle.words.specs.Import.{primitivesOf}
+use Rattle.routine.specs.Routine.{Routine, routine, firstAddress, readBound}
+use Rattle.words.specs.Words.{wordsOf}
+use Rattle.words.specs.Import.{primitivesVerdict, primitivesOf}
 use Rattle.inverses.specs.Sections.{codeSection, replaced, primitivesLine}
-use Rattle.answers.specs.Answers.{reported}
+use Rattle.answers.specs.Answers.{reported, refused}
 use Rattle.conversions.specs.Answers.{conversionLimit, importAnswer, exportAnswer}
+use Rattle.conversions.specs.Faults.{AtFault, WrongOffset, Decides}
+use Rattle.conversions.specs.Meant.{codeMeant}
 
 -- "a routine whose addresses begin at 0"
 abbrev pub BeginsAtZero : List ℕ → Type 0
@@ -36,3 +43,25 @@ abbrev pub ImportsExport : Type 0
 ImportsExport =
     (words line made text out : List ℕ) (n m : ℕ) → all (λ b. ltb b 256) words ≡ true → importAnswer words line n ≡ reported made →
     codeSection (lines text) ≡ made → listed (names primitives) (lines text) ≡ primitivesOf line → exportAnswer text m ≡ reported out → out ≡ words
+
+-- 12 at i where, and only where, the memory is enough, the primitives line is accepted and the word at i decides
+abbrev pub ImportRefusedWhere : Type 0
+ImportRefusedWhere =
+    (words line : List ℕ) (n i : ℕ) →
+    (importAnswer words line n ≡ refused (BadWord i))
+    ↔ ((conversionLimit ≤ n) × (primitivesVerdict line ≡ accepted) × Decides (length (primitivesOf line)) (wordsOf words) i)
+
+-- and lines are made where, and only where, there is neither a word at fault nor a wrong offset
+abbrev pub ImportedWhere : Type 0
+ImportedWhere =
+    (words line : List ℕ) (n : ℕ) →
+    ((made : List ℕ) × (importAnswer words line n ≡ reported made))
+    ↔ ((conversionLimit ≤ n) × (primitivesVerdict line ≡ accepted) × ((j : ℕ) → AtFault (length (primitivesOf line)) (wordsOf words) j → ⊥) × ((j : ℕ) → WrongOffset (wordsOf words) j → ⊥))
+
+-- "An import followed by a bound gives what the written file gives", of any words: a file that passes, with the lines made in their place
+-- and the same primitives, has the code that the words hold
+abbrev pub ImportsMean : Type 0
+ImportsMean =
+    (words line made text : List ℕ) (n : ℕ) (x : Routine) → all (λ b. ltb b 256) words ≡ true → importAnswer words line n ≡ reported made →
+    codeSection (lines text) ≡ made → listed (names primitives) (lines text) ≡ primitivesOf line → readBound text ≡ routine x →
+    x .code ≡ codeMeant (lines text) words

@@ -13,17 +13,17 @@ use Rattle.answers.specs.Answers.{Answer, reported, refused, memoryLimit, lendi
 use Rattle.decide_entry.specs.declared.Source.the-variants.{First, Merging}
 use Rattle.decide_entry.specs.Decision.{decisionText}
 
--- the first bound has too much to walk: "refuses by 8 or 9"
+-- the first bound has too much to walk: it refuses by 8 or 9
 unfoldable pub forSize : Refusal → Bool
 forSize r = cond (eqb (number r) 8) true (eqb (number r) 9)
 
--- by the merging bound, where the first refuses by r for its size: "the merging bound reports", or "otherwise: the first bound's refusal"
+-- by the merging bound, where the first refuses by r for its size: the merging bound reports, or otherwise: the first bound's refusal
 unfoldable pub byMerging : ℕ → Refusal → Verdict → Answer
 byMerging tick r (verdicts.accepted q) = reported (decisionText Merging tick q)
 byMerging tick r (verdicts.refused s) = refused r
 
--- by the verdicts of both bounds: "the first bound reports"; else the merging bound where the first "refuses by 8 or 9"; "otherwise: the
--- first bound's refusal"
+-- by the verdicts of both bounds: the first bound reports; else the merging bound where the first refuses by 8 or 9; otherwise: the
+-- first bound's refusal
 unfoldable pub decided : ℕ → Verdict → Verdict → Answer
 decided tick (verdicts.accepted q) second = reported (decisionText First tick q)
 decided tick (verdicts.refused r) second = cond (forSize r) (byMerging tick r second) (refused r)
@@ -32,6 +32,6 @@ decided tick (verdicts.refused r) second = cond (forSize r) (byMerging tick r se
 unfoldable pub decideRoutine : Routine → Answer
 decideRoutine x = decided (x .tick) (bound (x .code) (x .budget) (x .start)) (merged (x .code) (x .start))
 
--- the answer to a text and to n lent bytes: "Lent memory under 128 bytes is refusal 10; then the file's 1 to 6 and 13."
+-- the answer to a text and to n lent bytes: memory under 128 bytes is refusal 10; then the file's 1 to 6 and 13.
 unfoldable pub decideAnswer : List ℕ → ℕ → Answer
 decideAnswer text n = lending memoryLimit n (ofReading decideRoutine (readBound text))

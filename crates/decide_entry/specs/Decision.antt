@@ -14,7 +14,7 @@ use Rattle.decide_entry.specs.declared.Source.the-variants.{First, Mergi
 pub data Ruling : Type 0 where
   fits over undecided : Ruling
 
--- "CYCLES at most TICK: FITS", by either bound; "CYCLES above TICK: OVER by the first bound, UNDECIDED by the merging bound", whose cycles
+-- CYCLES at most TICK: FITS, by either bound; CYCLES above TICK: OVER by the first bound, UNDECIDED by the merging bound, whose cycles
 -- may be above the maximum cost
 unfoldable pub ruling : Source → ℕ → ℕ → Ruling
 ruling First tick cycles = cond (ltb tick cycles) over fits
@@ -39,7 +39,7 @@ decisionNames = bytes "DECISION BOUND CYCLES TICK WORDS DEPTH STEPS\n"
 unfoldable pub decisionWords : Source → ℕ → ℕ → List ℕ
 decisionWords s tick cycles = rulingWord (ruling s tick cycles) ++ space ++ sourceWord s
 
--- "printed as two lines": the names, and the values in their order
+-- printed as two lines: the names, and the values in their order
 unfoldable pub decisionText : Source → ℕ → Report → List ℕ
 decisionText s tick q =
     decisionNames ++ decisionWords s tick (q .cycles) ++ space ++ decimal (q .cycles) ++ space ++ decimal tick ++ space ++ decimal (q .words) ++ space ++ decimal (q .depth) ++ space

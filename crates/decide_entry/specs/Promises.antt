@@ -38,8 +38,8 @@ pub record Decided (text bytes : List ℕ) (x : Routine) (s : Source) (q : Repor
   pub gives : Gives x s q
   pub prints : bytes ≡ decisionText s (x .tick) q
 
--- "is not stuck, has spent at most TICK cycles and at most WORDS words, has nowhere been deeper than DEPTH, and makes its STOP within
--- STEPS": of the run that so many steps from the start have made
+-- is not stuck, has spent at most TICK cycles and at most WORDS words, has nowhere been deeper than DEPTH, and makes its STOP within
+-- STEPS: of the run that so many steps from the start have made
 pub record Kept (code : Code) (tick : ℕ) (reported : Report) (start : Run) (made : ℕ) (run : Run) : Type 0 where
   pub moves : isStuck code run ≡ false
   pub cycles : run .cycles ≤ tick
@@ -49,7 +49,7 @@ pub record Kept (code : Code) (tick : ℕ) (reported : Report) (start : Run) (ma
   pub steps : run .steps ≤ reported .steps
   pub stops : reported .steps ≤ made → run .stopped ≡ true
 
--- "every run of the routine, from any start that the file allows, with any list of answers, after any number of steps"
+-- every run of the routine, from any start that the file allows, with any list of answers, after any number of steps
 abbrev pub KeptRuns : Routine → Report → Type 0
 KeptRuns x q =
     (s : State) → Cellwise Allowed s (x .start) → (answers : List ℤ) (n : ℕ) →
@@ -59,12 +59,12 @@ KeptRuns x q =
 abbrev pub KeepsTick : List ℕ → List ℕ → Type 0
 KeepsTick text bytes = Says fits bytes → (x : Routine) × (s : Source) × (q : Report) × Decided text bytes x s q × KeptRuns x q
 
--- where OVER is answered, "the maximum cost of Definition 5 is above TICK": it speaks of the bound and not of a run
+-- where OVER is answered, the maximum cost of Definition 5 is above TICK: it speaks of the bound and not of a run
 abbrev pub OverTick : List ℕ → List ℕ → Type 0
 OverTick text bytes =
     Says over bytes → (x : Routine) × (q : Report) × (k : ℕ) × Decided text bytes x First q × CostMax (step (x .code) unknown) (x .start) k × (x .tick < k)
 
--- where UNDECIDED is answered, "the first bound refuses by 8 or 9, and the largest sum over the merged ways is above TICK"
+-- where UNDECIDED is answered, the first bound refuses by 8 or 9, and the largest sum over the merged ways is above TICK
 abbrev pub UndecidedTick : List ℕ → List ℕ → Type 0
 UndecidedTick text bytes =
     Says undecided bytes →

@@ -1,17 +1,11 @@
 // Prints the routine file of the seed that is the first argument, or a refusal.
-use text::Numeral;
+use console::Given;
 ghost use mathlib.Core.Path.{_≡_};
 ghost use Prim.Native.Nat.{_≤_};
 ghost use lib.ListN.{length, take};
 ghost use Rattle.io.specs.Counts.{Counts};
 ghost use Rattle.analyser.specs.Answers.{printed};
 ghost use Rattle.generating.specs.Answers.{generateAnswer};
-
-// What an argument says where a seed is wanted: "a seed of 32 bits", spelt as a number in a routine file.
-enum Seed {
-    Given(u32),
-    Wrong,
-}
 
 // Puts what is printed for a seed at the start of out, and answers how many bytes it is.
 fn answer(seed: u32, out: &mut [u8]) -> usize
@@ -23,23 +17,12 @@ fn answer(seed: u32, out: &mut [u8]) -> usize
     console::put_line(answer, out)
 }
 
-// The seed that a word spells.
-fn seed_of(word: &[u8]) -> Seed {
-    let Numeral::Number(z) = text::read_numeral(word) else {
-        return Seed::Wrong;
-    };
-    if z < 0 || 4294967295 < z {
-        return Seed::Wrong;
-    }
-    Seed::Given(values::natural_in(0, 4294967295, word))
-}
-
 fn main() {
     // an argument that is missing, empty or longer has the length 0
     let mut digits = [0u8; 10];
     let n = os::arg(1, &mut digits);
-    let seed = seed_of(&digits[..n]);
-    let Seed::Given(s) = seed else {
+    let seed = console::number_of(&digits[..n]);
+    let Given::Number(s) = seed else {
         console::say(b"generate SEED: SEED is no number of 32 bits\n");
         return;
     };

@@ -27,7 +27,8 @@ use Rattle.imports.proofs.IntegerLaws.{integer-length}
 use Rattle.text.specs.Text.{split, words, all}
 use Rattle.text.proofs.TextLaws.{every-getD, all-every}
 use Rattle.text.proofs.DecimalLaws.{decimal-length}
-use Rattle.generator.proofs.NumberLaws.{sound, numbers-sound, soundArgument, kind-sound, range-sound as kind-range-sound, number-is}
+use Rattle.generator.specs.Held.{sound}
+use Rattle.generator.proofs.NumberLaws.{numbers-sound, soundArgument, kind-sound, range-sound as kind-range-sound, number-is}
 use Rattle.generator.proofs.CodeLaws.{target-within}
 use Rattle.generator.specs.Words.{below, numberIn, spread, amount, handleWord, numberWord, openWord, word, break, goesOn}
 use Rattle.generator.specs.File.{count, primitives, target, argument, accesses, isOpen, plainCells, cellsFor, kindOf}

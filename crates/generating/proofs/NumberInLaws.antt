@@ -17,7 +17,8 @@ use Rattle.numbers.specs.declared.Range.{Range}
 use Rattle.numbers.specs.Numbers.{bits, half, IsNumber}
 use Rattle.numbers.proofs.SignedLaws.{number-fits}
 use Rattle.generator.specs.Words.{below, sizeOf, numberIn}
-use Rattle.generator.proofs.NumberLaws.{startsLow, sound, below-under, number-is}
+use Rattle.generator.specs.Held.{startsLow, sound}
+use Rattle.generator.proofs.NumberLaws.{below-under, number-is}
 
 -- as the code holds it
 abbrev held : ℤ → ℤ

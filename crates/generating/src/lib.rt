@@ -19,7 +19,7 @@ ghost use Rattle.generator.specs.declared.Column.the-variants.{Limits, Extras};
 ghost use Rattle.generator.specs.Draws.{next, after};
 ghost use Rattle.generator.specs.Words.{below, numberIn, spread, handleWord, numberWord, openWord, word, break, goesOn, row};
 ghost use Rattle.generator.specs.File.{count, target, argument, lineOf, codeFrom, accesses, plainCells, cellsFor, later, limitLines, kindPrices, primitivePrices, prices, start, file};
-ghost use Rattle.generator.proofs.NumberLaws.{sound};
+ghost use Rattle.generator.specs.Held.{sound};
 ghost use Rattle.generating.specs.Answers.{generateAnswer};
 
 // One round.

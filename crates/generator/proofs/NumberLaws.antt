@@ -18,21 +18,13 @@ use Rattle.instructions.specs.declared.Argument.{Argument}
 use Rattle.instructions.specs.declared.Argument.the-variants.{Absent, Target, Primitive, Within}
 use Rattle.inverses.proofs.LineLaws.{argument-number}
 use Rattle.generator.specs.Words.{below, sizeOf, numberIn}
+use Rattle.generator.specs.Held.{startsLow, sound}
 
 pub below-under : (n d : ℕ) → 0 < n → below n d < n
 unfolding below
 below-under n d h = let q = div-le-self (d % n) (suc (d / n % 8)) in let r = mod-lt d h in omega arith
 
 -- ---- ranges
-
--- a range that begins at 0 or below it, and ends at 0 or above it, with ends that are numbers
-abbrev pub startsLow : ℤ → Bool
-startsLow (pos zero) = true
-startsLow (pos (suc n)) = false
-startsLow (negsuc n) = true
-
-abbrev pub sound : Range → Bool
-sound r = (startsLow (r .low) && nonNeg (r .high)) && (ltb (mag (r .low)) (half bits) && ltb (mag (r .high)) (half bits))
 
 abbrev pub soundArgument : Argument → Bool
 soundArgument Absent = true

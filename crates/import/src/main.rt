@@ -38,8 +38,12 @@ fn main() {
     let named = os::arg(1, &mut path);
     let mut primitives = [0u8; 4095];
     let listed = os::arg(2, &mut primitives);
-    if named == 0 || listed == 0 {
-        console::say(b"import WORDS PRIMITIVES: an argument is missing, empty or too long\n");
+    // a line that is empty is given all the same, and refused as an empty text is
+    let error = os::errno();
+    if named == 0 || error != 0 {
+        console::say(
+            b"import WORDS PRIMITIVES: an argument is missing or too long, or WORDS is empty\n",
+        );
         return;
     }
     let descriptor = os::open_read(&path[..named]);

@@ -34,7 +34,7 @@ numbersOf c budget r = numbersOfRun r ++ numbersOfVerdict (boundedAfresh (bound 
 unfoldable pub stepsOf : ℕ → ℕ
 stepsOf n = cond (ltb n 1000000) n 1000000
 
--- the routine x, "interrupted after any number of steps, 0 included"
+-- the routine x, interrupted after any number of steps, 0 included
 unfoldable pub interrupted : Routine → ℕ → List ℕ
 interrupted x n = numbersOf (x .code) (x .budget) (after (x .code) (stepsOf n) (begin (x .start) (x .answers)))
 

@@ -160,10 +160,10 @@ module _ (bs line text : List ℕ) (small : Every (λ b. b < 256) bs) (ok : impo
   same-lines : map (λ l. endedLine (l .text)) held ≡ map (λ l. endedLine (l .text)) written
   same-lines = sym (lines-of-text held-free) ∙ ap lines same-text ∙ lines-of-text written-free
 
-  said-again : Said ps (length xs) 0 (codeLines (body ls)) (map (opSaid xs) xs)
+  pub said-again : Said ps (length xs) 0 (codeLines (body ls)) (map (opSaid xs) xs)
   said-again = rows-said xs ps (codeLines (body ls)) xs sound-all (cc (same-lines))
 
-  begins : firstAt (body ls) ≡ pos 0
+  pub begins : firstAt (body ls) ≡ pos 0
   begins = sym (first-code (body ls)) ∙ first-said said-again (code-some ls (p .layout))
 
   unlike : distinct ps ≡ true
@@ -173,7 +173,7 @@ module _ (bs line text : List ℕ) (small : Every (λ b. b < 256) bs) (ok : impo
   same-count : length (ops text p begins) ≡ length xs
   same-count = counted text p begins ∙ said-length said-again ∙ length-map xs (opSaid xs)
 
-  same-ops : ops text p begins ≡ map (opSaid xs) xs
+  pub same-ops : ops text p begins ≡ map (opSaid xs) xs
   same-ops = said-one ps unlike (length xs) (subst (λ n. Said ps n 0 (codeLines (body ls)) (ops text p begins)) same-count (file-said text p begins)) said-again
 
   pub import-exported : exportBytes ls ≡ bs

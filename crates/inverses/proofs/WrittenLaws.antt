@@ -30,7 +30,7 @@ use Rattle.inverses.proofs.ImportedLaws.{Said, end, next}
 
 module _ (xs : List Item) where
   -- what the line of an instruction says
-  abbrev valueSaid : Item → Argument → ℤ
+  abbrev pub valueSaid : Item → Argument → ℤ
   valueSaid x Absent = pos 0
   valueSaid x Target = pos (indexOf (numberAt xs (landing x)))
   valueSaid x Primitive = x .argument

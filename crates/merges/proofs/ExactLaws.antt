@@ -9,7 +9,6 @@ use lib.Dec.{ltb}
 use lib.ListN.{length}
 use borrow.Author.Tests.{ltb-true, ltb-false}
 use Rattle.refusals.specs.declared.Refusal.{Refusal}
-use Rattle.refusals.specs.declared.Refusal.the-variants.{NoMeeting}
 use Rattle.cells.specs.Try.{Try, done}
 use Rattle.machine.specs.Machine.{State, Price, Next, stops, goes, opens, height, jump, sum}
 use Rattle.machine.proofs.LeadLaws.{Leads, goes-there, opens-there}
@@ -19,7 +18,7 @@ use Rattle.bounds.specs.Tree.{Report, Verdict, accepted, refused}
 use Rattle.bounds.specs.Traces.{Move, move, Transition, goes-on, not-taken, taken}
 use Rattle.bounds.specs.Promises.{NoGreater, LargestOver}
 use Rattle.merges.specs.Merge.{Arrival, arrival, Slot, empty, unlike, held, slot, Table, nowhere, join, reach, finish, sweep, only, none}
-use Rattle.merges.specs.Ways.{fill, Among, Under, NoMore, Together, MergedPath, stop, go-on, Comes, begins, follows, Fault, FirstFault, LargestMerged, count}
+use Rattle.merges.specs.Ways.{fill, Among, Under, NoMore, Together, Unlike, MergedPath, stop, go-on, Comes, begins, follows, Fault, FirstFault, LargestMerged, count}
 use Rattle.merges.specs.Ways as ways
 use Rattle.merges.proofs.FillLaws.{assess, arrive-own, arrive-has, New, itself, former, arrive-new, From, from, fill-keeps, fill-start, fill-has, Source, before, by-way, fill-from, swept}
 use Rattle.merges.proofs.SlotLaws.{Summary, of-none, of-unlike, of-held, nobody, summary, slot-held, slot-unlike, parted-unlike, unlike-parted}
@@ -162,14 +161,18 @@ module _ (act : State → Try Next) (pass : Pass act) where
   fault-bad {a} (ways.no-meeting {x} {y} h k u) = rw (slot-unlike (summary (came a)) h k (unlike-parted (x .state) (y .state) u)) no-meeting
   fault-bad (ways.is-stuck e f) = rw e (is-stuck f)
 
-  bad-fault : {a : ℕ} {x : Refusal} {i : Slot} → slot (came a) ≡ i → Bad act came a x i → Fault act came a x
-  bad-fault {a} e no-meeting = go (summary (came a)) e
+  -- there is no merged state where two are unlike, and only there
+  pub parts-where : (b : ℕ) → (slot (came b) ≡ unlike) ↔ ((x : Arrival) × (y : Arrival) × Among x (came b) × Among y (came b) × Unlike (x .state) (y .state))
+  parts-where b = (out (summary (came b)), λ (x, y, h, k, u). slot-unlike (summary (came b)) h k (unlike-parted (x .state) (y .state) u))
     where
-      go : {i : Slot} → Summary (came a) i → i ≡ unlike → Fault act came a (NoMeeting a)
-      go (of-none h) f = let z : _≡_ {A = ℕ} 0 1 = cc in absurd (omega arith)
-      go (of-unlike {x} {y} h k u) f =
-          ways.no-meeting h k (parted-unlike (x .state) (y .state) (sized (suc a) a x (omega arith) h .sizes ∙ sym (sized (suc a) a y (omega arith) k .sizes)) u)
-      go (of-held h) f = let z : _≡_ {A = ℕ} 0 1 = cc in absurd (omega arith)
+      out : {i : Slot} → Summary (came b) i → i ≡ unlike → (x : Arrival) × (y : Arrival) × Among x (came b) × Among y (came b) × Unlike (x .state) (y .state)
+      out (of-none h) f = let z : _≡_ {A = ℕ} 0 1 = cc in absurd (omega arith)
+      out (of-unlike {x} {y} h k u) f =
+          (x, y, h, k, parted-unlike (x .state) (y .state) (sized (suc b) b x (omega arith) h .sizes ∙ sym (sized (suc b) b y (omega arith) k .sizes)) u)
+      out (of-held h) f = let z : _≡_ {A = ℕ} 0 1 = cc in absurd (omega arith)
+
+  bad-fault : {a : ℕ} {x : Refusal} {i : Slot} → slot (came a) ≡ i → Bad act came a x i → Fault act came a x
+  bad-fault {a} e no-meeting = let (x, y, h, k, u) = parts-where a .0 e in ways.no-meeting h k u
   bad-fault e (is-stuck f) = ways.is-stuck e f
 
   fault-range : {a : ℕ} {x : Refusal} → Fault act came a x → (start .at ≤ a) × (a ≤ z)

@@ -11,7 +11,7 @@ use Rattle.refusals.specs.declared.Refusal.{Refusal}
 use Rattle.refusals.specs.declared.Refusal.the-variants.{Stuck, NoMeeting}
 use Rattle.cells.specs.Try.{Try, stuck, done}
 use Rattle.cells.specs.Cells.{unknown}
-use Rattle.cells.proofs.Covering.{Covered, by-stuck, both}
+use Rattle.cells.specs.Covering.{Covered, by-stuck, both}
 use Rattle.machine.specs.Machine.{State, Price, Instruction, Code, fetch, Next, stops, goes, opens, stackLimit, height, jump, sum, step}
 use Rattle.machine.proofs.PriceLaws.{AtMost, Both, Priced, stops-at, goes-at, opens-at, step-price}
 use Rattle.machine.proofs.LeadLaws.{Leads, goes-to, opens-to}

@@ -8,5 +8,6 @@ pub mod StepwiseLaws
 pub mod CompareLaws
 pub mod PassLaws
 pub mod FigureLaws
+pub mod TableLaws
 pub mod Theorems
 pub mod Examples

@@ -6,7 +6,7 @@ use Prim.Native.Nat.{suc}
 use lib.ListN.{length}
 use Rattle.cells.specs.Try.{Try, done, _>>=_}
 use Rattle.cells.specs.Order.{Refines, same, Pointwise, end, cons}
-use Rattle.cells.proofs.Covering.{Covered, by-stuck, both}
+use Rattle.cells.specs.Covering.{Covered, by-stuck, both}
 use Rattle.cells.proofs.MergeLaws.{Merging, cell-merging}
 use Rattle.machine.specs.Machine.{State, height}
 use Rattle.machine.specs.Order.{Cellwise}

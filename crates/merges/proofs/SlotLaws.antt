@@ -12,7 +12,7 @@ use borrow.Author.Tests.{eqb-true, eqb-false, ltb-true, ltb-false}
 use Rattle.cells.specs.Try.{Try, stuck, done, _>>=_}
 use Rattle.cells.specs.Order.{Pointwise, end, cons}
 use Rattle.cells.specs.Merge.{mergeCells, Clash}
-use Rattle.cells.proofs.Covering.{Covered, by-stuck, both}
+use Rattle.cells.specs.Covering.{Covered, by-stuck, both}
 use Rattle.cells.proofs.MergeLaws.{cells-clash, clash-down}
 use Rattle.machine.specs.Machine.{State, Price, height}
 use Rattle.merges.specs.Merge.{mergeLists, mergeStates, Arrival, Slot, empty, unlike, held, larger, settle, join, slot}

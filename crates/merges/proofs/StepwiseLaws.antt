@@ -67,7 +67,7 @@ module _ (c : Code) where
   act = step c unknown
 
   compare : (d : Price) (k n a : ℕ) (x y : Table) (r q : Report) → Tables d x y → Less d k r q → Verdicts d k (sweep act n a x r) (sweep act n a y q)
-  compare d k n a x y r q h l = sweep-law d k act (λ s t e. step-law refines-lawful c same e) n a x y r q h l
+  compare d k n a x y r q h l = sweep-law d k act act (λ s t e. step-law refines-lawful c same e) n a x y r q h l
 
   empty-below : (d : Price) (y : Table) → Tables d nowhere y
   unfolding nowhere slot

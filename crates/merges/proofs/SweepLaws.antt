@@ -9,10 +9,10 @@ use lib.Dec.{eqb}
 use Rattle.refusals.specs.declared.Refusal.{Refusal}
 use Rattle.cells.specs.Try.{Try, stuck, done}
 use Rattle.cells.specs.Order.{Refines}
-use Rattle.cells.proofs.Covering.{Covered, by-stuck, both}
+use Rattle.cells.specs.Covering.{Covered, by-stuck, both}
 use Rattle.machine.specs.Machine.{State, Price, Next, stops, goes, opens, height, jump, sum}
 use Rattle.machine.specs.Order.{Cellwise}
-use Rattle.machine.proofs.NextCovering.{NextCovered, stops-too, goes-too, opens-too, goes-not-taken, goes-taken}
+use Rattle.machine.specs.Covering.{NextCovered, stops-too, goes-too, opens-too, goes-not-taken, goes-taken}
 use Rattle.machine.proofs.StateLaws.{height-law}
 use Rattle.bounds.specs.Tree.{Report, Verdict, accepted, refused}
 use Rattle.merges.specs.Merge.{Arrival, Slot, empty, unlike, held, larger, settle, join, slot, Table, arrive, send, reach, finish, carry, visit, sweep}
@@ -118,10 +118,10 @@ module _ (d : Price) where
     unfolding reach finish
     stop-law s t z e w l = omega (arith, l, w)
 
-    module _ (rest : Table → Report → Verdict) (ih : (x y : Table) (r q : Report) → Tables x y → Less r q → Verdicts (rest x r) (rest y q))
+    module _ (rest rest′ : Table → Report → Verdict) (ih : (x y : Table) (r q : Report) → Tables x y → Less r q → Verdicts (rest x r) (rest′ y q))
         (a : ℕ) (x y : Table) (h : Tables x y) (r r′ : Report) (l : Less r r′) where
       carry-law : (s t : State) (p q : Price) {m n : Try Next} → height s ≡ height t → Within d p q → Covered (NextCovered (Cellwise Refines) (Unit {0})) m n →
-          Verdicts (carry rest a x r s p m) (carry rest a y r′ t q n)
+          Verdicts (carry rest a x r s p m) (carry rest′ a y r′ t q n)
       unfolding carry send finish
       carry-law s t p q g w by-stuck = refused-there
       carry-law s t p q g w (both (stops-too {p = z})) = ih x y _ _ h (stop-law s t z g w l)
@@ -131,24 +131,24 @@ module _ (d : Price) where
       carry-law s t p q g w (both (goes-taken {q = z′} f)) = ih _ _ _ _ (arrive-up _ (arrive-law _ _ f (within-sum z′ w) h)) (reach-law s t g l)
 
       -- an address that only the larger sweep reaches
-      pass-law : (t : State) (q : Price) (m : Try Next) → Verdicts (rest x r) (carry rest a y r′ t q m)
+      pass-law : (t : State) (q : Price) (m : Try Next) → Verdicts (rest x r) (carry rest′ a y r′ t q m)
       unfolding carry
       pass-law t q stuck = refused-there
       pass-law t q (done n) = ih x _ r _ (send-up q n h) (reach-up t q n l)
 
-      visit-law : (act : State → Try Next) → ((s t : State) → Cellwise Refines s t → Covered (NextCovered (Cellwise Refines) (Unit {0})) (act s) (act t)) →
-          {i j : Slot} → Below i j → Verdicts (visit act rest a x r i) (visit act rest a y r′ j)
+      visit-law : (act act′ : State → Try Next) → ((s t : State) → Cellwise Refines s t → Covered (NextCovered (Cellwise Refines) (Unit {0})) (act s) (act′ t)) →
+          {i j : Slot} → Below i j → Verdicts (visit act rest a x r i) (visit act′ rest′ a y r′ j)
       unfolding visit jump height
-      visit-law act keeps (below-empty {y = empty}) = ih x y r r′ h l
-      visit-law act keeps (below-empty {y = unlike}) = refused-there
-      visit-law act keeps (below-empty {y = held t q}) = pass-law t q (act (jump a t))
-      visit-law act keeps below-unlike = refused-there
-      visit-law act keeps (below-held {s} {t} {p} {q} u w) =
+      visit-law act act′ keeps (below-empty {y = empty}) = ih x y r r′ h l
+      visit-law act act′ keeps (below-empty {y = unlike}) = refused-there
+      visit-law act act′ keeps (below-empty {y = held t q}) = pass-law t q (act′ (jump a t))
+      visit-law act act′ keeps below-unlike = refused-there
+      visit-law act act′ keeps (below-held {s} {t} {p} {q} u w) =
           let e : Cellwise Refines (jump a s) (jump a t) = record { at = refl; accu = u .accu; stack = u .stack; blocks = u .blocks } in
           carry-law s t p q (height-law e) w (keeps (jump a s) (jump a t) e)
 
-    pub sweep-law : (act : State → Try Next) → ((s t : State) → Cellwise Refines s t → Covered (NextCovered (Cellwise Refines) (Unit {0})) (act s) (act t)) →
-        (n a : ℕ) (x y : Table) (r q : Report) → Tables x y → Less r q → Verdicts (sweep act n a x r) (sweep act n a y q)
+    pub sweep-law : (act act′ : State → Try Next) → ((s t : State) → Cellwise Refines s t → Covered (NextCovered (Cellwise Refines) (Unit {0})) (act s) (act′ t)) →
+        (n a : ℕ) (x y : Table) (r q : Report) → Tables x y → Less r q → Verdicts (sweep act n a x r) (sweep act′ n a y q)
     unfolding sweep
-    sweep-law act keeps zero a x y r q h l = accepted-both l
-    sweep-law act keeps (suc n) a x y r q h l = visit-law (sweep act n (suc a)) (sweep-law act keeps n (suc a)) a x y h r q l act keeps (h .at a)
+    sweep-law act act′ keeps zero a x y r q h l = accepted-both l
+    sweep-law act act′ keeps (suc n) a x y r q h l = visit-law (sweep act n (suc a)) (sweep act′ n (suc a)) (sweep-law act act′ keeps n (suc a)) a x y h r q l act act′ keeps (h .at a)

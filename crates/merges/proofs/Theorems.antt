@@ -7,12 +7,13 @@ use Rattle.bounds.specs.Run.{begin, after, run}
 use Rattle.bounds.proofs.RunLaws.{stopped-verdict}
 use Rattle.merges.specs.Merge.{merged}
 use Rattle.merges.specs.Ways.{table}
-use Rattle.merges.specs.Promises.{MergedInterruptible, RunWithinMerged, MergedMonotone, MergedNotSmaller, RefusedForSize, TableGathered, MergedExact, MergedRefusedWhere, MergedAcceptedWhere}
+use Rattle.merges.specs.Promises.{MergedInterruptible, RunWithinMerged, MergedMonotone, MergedNotSmaller, RefusedForSize, MergedCoversPaths, TableGathered, OneTable, MergedExact, MergedRefusedWhere, MergedAcceptedWhere}
 use Rattle.merges.proofs.StepwiseLaws as stepwise-laws
 use Rattle.merges.proofs.StepwiseLaws.{pass}
 use Rattle.merges.proofs.CompareLaws as compare-laws
 use Rattle.merges.proofs.AssessLaws.{in-cycles, in-words}
 use Rattle.merges.proofs.ExactLaws as exact-laws
+use Rattle.merges.proofs.TableLaws as table-laws
 
 pub merged-interruptible : MergedInterruptible
 merged-interruptible c f g = stepwise-laws.interruptible c f g
@@ -36,13 +37,21 @@ merged-not-smaller c f g = compare-laws.not-smaller c (merged c) (stepwise-laws.
 pub refused-for-size : RefusedForSize
 refused-for-size c f g = compare-laws.refused-for-size c (merged c) (stepwise-laws.stepwise c f g)
 
+-- where the first bound is refused by 8 or 9 too
+pub merged-covers-paths : MergedCoversPaths
+merged-covers-paths c f g = compare-laws.covers-paths c (merged c) (stepwise-laws.stepwise c f g)
+
 pub table-gathered : TableGathered
 unfolding table exact-laws.came
 table-gathered c f g s = record {
   comes = exact-laws.comes-where (step c unknown) (pass c f g s);
   merges = λ a m p e. exact-laws.together (step c unknown) (pass c f g s) a e;
+  parts = exact-laws.parts-where (step c unknown) (pass c f g s);
   nothing = exact-laws.nothing-where (step c unknown) (pass c f g s);
 }
+
+pub one-table : OneTable
+one-table c f g s came came′ h k = table-laws.one-table c f s came came′ h k
 
 pub merged-exact : MergedExact
 unfolding merged table exact-laws.came in-cycles in-words
@@ -57,8 +66,8 @@ merged-exact c f g s q e = record {
 pub merged-refused-where : MergedRefusedWhere
 unfolding merged table exact-laws.came
 merged-refused-where c f g s r = (
-  exact-laws.first-fault (step c unknown) (pass c f g s) r,
-  exact-laws.fault-refused (step c unknown) (pass c f g s) r,
+  λ e. (table c s, table-gathered c f g s, exact-laws.first-fault (step c unknown) (pass c f g s) r e),
+  λ (came, h, k). exact-laws.fault-refused (step c unknown) (pass c f g s) r (table-laws.first-there c f s came (table c s) h (table-gathered c f g s) r k),
 )
 
 pub merged-accepted-where : MergedAcceptedWhere

@@ -8,16 +8,16 @@ use Rattle.refusals.specs.Refusals.{number}
 use Rattle.refusals.specs.declared.Refusal.{Refusal}
 use Rattle.cells.specs.Cells.{unknown}
 use Rattle.cells.specs.Order.{Allowed}
-use Rattle.machine.specs.Machine.{State, Price, Code, step}
+use Rattle.machine.specs.Machine.{State, Price, Code, height, step}
 use Rattle.machine.specs.Order.{Cellwise}
 use Rattle.machine.specs.Forward.{Forward}
 use Rattle.machine.specs.Targets.{Closed}
 use Rattle.bounds.specs.Tree.{Report, accepted, refused, bound}
-use Rattle.bounds.specs.Traces.{cost, wordSum}
+use Rattle.bounds.specs.Traces.{Move, cost, wordSum, Trace, Path, CostMax}
 use Rattle.bounds.specs.Run.{run}
 use Rattle.bounds.specs.Promises.{NoGreater, Interruptible, Monotone, LargestOver}
-use Rattle.merges.specs.Merge.{Arrival, empty, held, slot, span, merged}
-use Rattle.merges.specs.Ways.{table, Among, Together, MergedPath, Comes, Fault, FirstFault, LargestMerged, count}
+use Rattle.merges.specs.Merge.{Arrival, empty, unlike, held, slot, Table, span, merged}
+use Rattle.merges.specs.Ways.{table, Among, Together, Unlike, MergedPath, Comes, Fault, FirstFault, LargestMerged, count}
 
 -- what holds of all code that passes refusals 6 and 13
 abbrev pub OfSinglePass : (Code → Type 0) → Type 0
@@ -52,35 +52,60 @@ abbrev pub RefusedForSize : Type 0
 RefusedForSize =
     OfSinglePass (λ c. (budget : ℕ) (s : State) (q : Report) (r : Refusal) → merged c s ≡ accepted q → bound c budget s ≡ refused r → (number r ≡ 8) ⊎ (number r ≡ 9))
 
--- what the table is, for the start s
-pub record Gathered (c : Code) (s : State) : Type 0 where
+-- what a report of this bound is to the paths of the machine, with openings without limit: so it is too where the first bound is refused by
+-- 8 or 9
+pub record CoversPaths (c : Code) (s : State) (reported : Report) : Type 0 where
+  -- Definition 5 has a value from the start, and CYCLES is not below it
+  pub maximum : ℕ
+  pub costs : CostMax (step c unknown) s maximum
+  pub cycles : (k : ℕ) → CostMax (step c unknown) s k → k ≤ reported .cycles
+  -- no path costs more cycles or more words, and no trace comes to a higher stack
+  pub paths : (moves : List Move) → Path (step c unknown) s moves → cost moves ≤ reported .cycles
+  pub words : (moves : List Move) → Path (step c unknown) s moves → wordSum moves ≤ reported .words
+  pub depth : (moves : List Move) (t : State) → Trace (step c unknown) s moves t → height t ≤ reported .depth
+
+abbrev pub MergedCoversPaths : Type 0
+MergedCoversPaths = OfSinglePass (λ c. (s : State) (q : Report) → merged c s ≡ accepted q → CoversPaths c s q)
+
+-- a table holds what comes to each address from the start s on
+pub record Gathered (c : Code) (s : State) (came : Table) : Type 0 where
   -- to each address come the start and what the merged states lead to, and nothing else
-  pub comes : (a : ℕ) (x : Arrival) → Among x (table c s a) ↔ ((x .state .at ≡ a) × Comes (step c unknown) (table c s) s x)
+  pub comes : (a : ℕ) (x : Arrival) → Among x (came a) ↔ ((x .state .at ≡ a) × Comes (step c unknown) came s x)
   -- "merges the states where ways meet"
-  pub merges : (a : ℕ) (m : State) (p : Price) → slot (table c s a) ≡ held m p → Together (table c s a) m p
-  pub nothing : (a : ℕ) → (slot (table c s a) ≡ empty) ↔ (table c s a ≡ [])
+  pub merges : (a : ℕ) (m : State) (p : Price) → slot (came a) ≡ held m p → Together (came a) m p
+  -- which is not possible where two of them are unlike, and there is nothing where none comes
+  pub parts : (a : ℕ) → (slot (came a) ≡ unlike) ↔ ((x : Arrival) × (y : Arrival) × Among x (came a) × Among y (came a) × Unlike (x .state) (y .state))
+  pub nothing : (a : ℕ) → (slot (came a) ≡ empty) ↔ (came a ≡ [])
 
 abbrev pub TableGathered : Type 0
-TableGathered = OfSinglePass (λ c. (s : State) → Gathered c s)
+TableGathered = OfSinglePass (λ c. (s : State) → Gathered c s (table c s))
 
--- what the merging bound reports from the start s
-pub record MergedFigures (c : Code) (s : State) (reported : Report) : Type 0 where
+-- and there is one only, as far as anything is said of it: the merged states, their sums and where states are unlike
+abbrev pub OneTable : Type 0
+OneTable = OfSinglePass (λ c. (s : State) (came came′ : Table) → Gathered c s came → Gathered c s came′ → (a : ℕ) → slot (came a) ≡ slot (came′ a))
+
+-- what the merging bound reports from the start s, by the table of what comes
+pub record MergedFigures (c : Code) (s : State) (came : Table) (reported : Report) : Type 0 where
   -- "CYCLES and WORDS are the largest sums over the ways that stay open": each is that of some way, and no way has a larger
-  pub cycles : LargestOver (MergedPath (step c unknown) (table c s) (s .at)) cost (reported .cycles)
-  pub words : LargestOver (MergedPath (step c unknown) (table c s) (s .at)) wordSum (reported .words)
+  pub cycles : LargestOver (MergedPath (step c unknown) came (s .at)) cost (reported .cycles)
+  pub words : LargestOver (MergedPath (step c unknown) came (s .at)) wordSum (reported .words)
   -- "DEPTH is the largest height of the merged states"
-  pub depth : LargestMerged (step c unknown) (table c s) (reported .depth)
+  pub depth : LargestMerged (step c unknown) came (reported .depth)
   -- "STEPS is the number of addresses reached"
-  pub steps : count (table c s) (span c s) (s .at) ≡ reported .steps
+  pub steps : count came (span c s) (s .at) ≡ reported .steps
   -- "PATH is `-`"
   pub path : reported .path ≡ []
 
 abbrev pub MergedExact : Type 0
-MergedExact = OfSinglePass (λ c. (s : State) (q : Report) → merged c s ≡ accepted q → MergedFigures c s q)
+MergedExact = OfSinglePass (λ c. (s : State) (q : Report) → merged c s ≡ accepted q → MergedFigures c s (table c s) q)
+
+-- "the lowest address with a 14 or a 7 decides", by the table of what comes
+abbrev pub Decides : Code → State → Refusal → Type 0
+Decides c s r = (came : Table) × Gathered c s came × FirstFault (step c unknown) came r
 
 -- a routine is refused by 14 or 7 at the lowest address with one, and in no other case
 abbrev pub MergedRefusedWhere : Type 0
-MergedRefusedWhere = OfSinglePass (λ c. (s : State) (r : Refusal) → (merged c s ≡ refused r) ↔ FirstFault (step c unknown) (table c s) r)
+MergedRefusedWhere = OfSinglePass (λ c. (s : State) (r : Refusal) → (merged c s ≡ refused r) ↔ Decides c s r)
 
 abbrev pub MergedAcceptedWhere : Type 0
 MergedAcceptedWhere = OfSinglePass (λ c. (s : State) → ((q : Report) × (merged c s ≡ accepted q)) ↔ ((a : ℕ) (r : Refusal) → Fault (step c unknown) (table c s) a r → ⊥))

@@ -14,15 +14,19 @@ use Rattle.text.specs.Decimal.{digitsFrom, natural, numeral}
 use Rattle.text.proofs.TextLaws.{Every, none, more, every-append, every-left, every-getD}
 use Rattle.text.proofs.LineLaws.{endedLine}
 use Rattle.routine.specs.declared.Section.{Section}
+use Rattle.routine.specs.declared.Section.the-variants.{Kinds as kinds, Primitives as primitives}
+use Rattle.routine.specs.declared.Column.the-variants.{Extra as extra}
 use Rattle.routine.specs.declared.Role.{Role}
+use Rattle.routine.specs.declared.Role.the-variants.{Values as values}
 use Rattle.routine.specs.Layout.{layout, isAnswer, body, upToAnswer, pastAnswer, codeLines, answerLines, list, isRole, textAt, listed}
 use Rattle.routine.specs.Rows.{isNumeral, at, op, arg, firstAt, value, Passes}
-use Rattle.routine.specs.Routine.{priceList, codeIn, routineOf}
+use Rattle.routine.specs.Routine.{PriceList, priceList, instructionOf, codeIn, routineOf}
 use Rattle.routine.proofs.RowLaws.{lines-ended}
 use Rattle.inverses.specs.Sections.{linesText}
+use Rattle.inverses.proofs.LineLaws.{decimal-free}
 use Rattle.inverses.proofs.JoinLaws.{Free, text-free, lines-append, split-free, lines-free, lines-of-text, split-first}
 use Rattle.patches.specs.Patch.{patchedAt}
-use Rattle.patches.specs.Promises.{OneReplaced}
+use Rattle.patches.specs.Promises.{newInstruction, OneReplaced}
 use Rattle.patches.proofs.PatchLaws.{CodeLine, InCode, line-there, line-coded}
 
 -- ---- one place of a list
@@ -39,6 +43,11 @@ map-other f (y ∷ ys) zero zero x d h = absurd (h refl)
 map-other f (y ∷ ys) zero (suc j) x d h = refl
 map-other f (y ∷ ys) (suc i) zero x d h = refl
 map-other f (y ∷ ys) (suc i) (suc j) x d h = map-other f ys i j x d (λ e. h (ap suc e))
+
+map-same : {A B : Type 0} (f : A → B) (xs : List A) (i : ℕ) (x : A) (d : B) → i < length xs → getD (map f (set xs i x)) i d ≡ f x
+map-same f [] i x d h = absurd (omega arith)
+map-same f (y ∷ ys) zero x d h = refl
+map-same f (y ∷ ys) (suc i) x d h = map-same f ys i x d (omega arith)
 
 -- ---- the lines of the copy
 
@@ -150,17 +159,26 @@ module _ (ls : List Line) (j : ℕ) (l : Line) (e : at (l .text) ≡ at (getD (b
   answers-kept : answerLines (body (set ls (length layout + j) l)) ≡ answerLines (body ls)
   answers-kept = ap answerLines body-set ∙ code-set l n (body ls) j h .1
 
-  routine-replaced : OneReplaced j (routineOf ls) (routineOf (set ls (length layout + j) l))
+  routine-replaced : OneReplaced j (instructionOf (priceList kinds ls) (listed (values kinds extra) ls) (priceList primitives ls) (l .text)) (routineOf ls) (routineOf (set ls (length layout + j) l))
   unfolding routineOf codeIn
   routine-replaced = record {
     budget = simp listed-kept;
     tick = simp listed-kept;
     first = simp first-stays;
     count = simp (codes-set, length-map, length-set);
+    replaced = λ d. simp (listed-kept, prices-kept, codes-set) (map-same _ (codeLines (body ls)) j l d h);
     others = λ i d x. simp (listed-kept, prices-kept, codes-set) (map-other _ (codeLines (body ls)) j i l x d);
     start = simp (first-stays, listed-kept);
     answers = simp answers-kept;
   }
+
+-- the instruction of a line, whatever its first word
+instruction-after : (ks ps : PriceList) (xs : List (List ℕ)) {v w : List ℕ} (t : List ℕ) → Free 32 v → Free 32 w →
+    instructionOf ks xs ps (v ++ bytes " " ++ t) ≡ instructionOf ks xs ps (w ++ bytes " " ++ t)
+unfolding instructionOf words
+instruction-after ks ps xs {v} {w} t f g =
+    let is : (u : List ℕ) → Free 32 u → split 32 (u ++ bytes " " ++ t) ≡ u ∷ split 32 t = λ u k. ap (split 32) (append-assoc u (bytes " ") t) ∙ split-first 32 t k in
+    rw (is v f, is w g) refl
 
 -- the new line as it stands
 module _ (ls : List Line) (p : Passes ls) (j : ℕ) (h : j < length (codeLines (body ls))) (instruction : List ℕ) where
@@ -180,5 +198,9 @@ module _ (ls : List Line) (p : Passes ls) (j : ℕ) (h : j < length (codeLines (
       let w = at (getD ls (length layout + j) noLine .text) in
       ap (λ t. equals t (bytes "ANSWER")) (append-assoc w (bytes " ") instruction) ∙ number-first w (bytes " " ++ instruction) (own .spelt)
 
-  pub one-replaced : OneReplaced j (routineOf ls) (routineOf (set ls (length layout + j) (replacedLine ls (length layout + j) instruction)))
-  one-replaced = routine-replaced ls j (replacedLine ls (length layout + j) instruction) new-address new-code h
+  pub one-replaced : (address : ℕ) → OneReplaced j (newInstruction ls address instruction) (routineOf ls) (routineOf (set ls (length layout + j) (replacedLine ls (length layout + j) instruction)))
+  unfolding words
+  one-replaced address =
+      subst (λ i. OneReplaced j i (routineOf ls) (routineOf (set ls (length layout + j) (replacedLine ls (length layout + j) instruction))))
+      (instruction-after (priceList kinds ls) (priceList primitives ls) (listed (values kinds extra) ls) instruction (every-getD (split-free 32 (getD ls (length layout + j) noLine .text)) none 0) (decimal-free 32 (omega arith) address))
+      (routine-replaced ls j (replacedLine ls (length layout + j) instruction) new-address new-code h)

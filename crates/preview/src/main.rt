@@ -1,17 +1,11 @@
 // Reads a routine file from the file that the first argument names, and prints the report or the refusal of its copy that has the third
 // argument as the instruction at the address that is the second.
-use text::Numeral;
+use console::Given;
 ghost use mathlib.Core.Path.{_≡_};
 ghost use Prim.Native.Nat.{_≤_};
 ghost use lib.ListN.{length, take};
 ghost use Rattle.io.specs.Counts.{Counts};
 ghost use Rattle.analyser.specs.Answers.{printed, previewAnswer};
-
-// What an argument says where an address is wanted: "a number of 32 bits", spelt as in a routine file.
-enum Address {
-    At(u32),
-    Wrong,
-}
 
 // Puts what is printed for a text, an address and an instruction at the start of out, and answers how many bytes it is.
 fn answer(text: &[u8], address: u32, instruction: &[u8], out: &mut [u8]) -> usize
@@ -21,17 +15,6 @@ fn answer(text: &[u8], address: u32, instruction: &[u8], out: &mut [u8]) -> usiz
 {
     let answer = analyser::preview(text, address, instruction, out);
     console::put_line(answer, out)
-}
-
-// The address that a word spells.
-fn address_of(word: &[u8]) -> Address {
-    let Numeral::Number(z) = text::read_numeral(word) else {
-        return Address::Wrong;
-    };
-    if z < 0 || 4294967295 < z {
-        return Address::Wrong;
-    }
-    Address::At(values::natural_in(0, 4294967295, word))
 }
 
 // Prints the answer for the routine file that is open.
@@ -51,8 +34,8 @@ fn preview_from(routine: i32, address: u32, instruction: &[u8]) {
 
 // Prints the answer for the routine file at a path and the address that a word spells.
 fn preview_at(path: &[u8], word: &[u8], instruction: &[u8]) {
-    let address = address_of(word);
-    let Address::At(a) = address else {
+    let address = console::number_of(word);
+    let Given::Number(a) = address else {
         console::say(b"preview ROUTINE ADDRESS INSTRUCTION: ADDRESS is no number of 32 bits\n");
         return;
     };

@@ -1,1 +1,3 @@
+pub mod FormerLaws
 pub mod Theorems
+pub mod Examples

@@ -1,5 +1,5 @@
--- What is promised of ranges beside `?`, by the names of specs/Ranges: both bounds are monotone, and `?` covers every range of numbers.
--- Assumes nothing.
+-- What is promised of ranges beside `?`, by the names of specs/Ranges: both bounds are monotone, and `?` covers every range of numbers. And
+-- beside the former bounds, by those of specs/Former. Assumes nothing.
 use mathlib.Core.Path.{_≡_, refl, subst}
 use mathlib.Core.Bool.{cond}
 use mathlib.Core.List.{List, map}
@@ -20,7 +20,9 @@ use Rattle.merges.specs.Merge.{merged}
 use Rattle.merges.proofs.Theorems.{merged-monotone}
 use Rattle.routine.specs.Routine.{routineOf}
 use Rattle.routine.proofs.StartLaws.{start-kept}
+use Rattle.ranges.specs.Former.{WholeIsUnknown, BoundNotAboveFormer, MergedNotAboveFormer}
 use Rattle.ranges.specs.Ranges.{widenValue, widen, widenState, BoundNeverAbove, MergedNeverAbove}
+use Rattle.ranges.proofs.FormerLaws as former-laws
 
 -- `?` covers every range of numbers
 value-widens : (v : Value) → Confined (cell v) → Refines (cell v) (widenValue v)
@@ -58,3 +60,12 @@ boundNeverAbove ls budget = never-above (bound (routineOf ls .code) budget) (pro
 
 pub mergedNeverAbove : MergedNeverAbove
 mergedNeverAbove ls = never-above (merged (routineOf ls .code)) (merged-monotone (routineOf ls .code)) (routineOf ls .start) (start-kept ls)
+
+pub whole-is-unknown : WholeIsUnknown
+whole-is-unknown = former-laws.whole-is-unknown
+
+pub bound-not-above-former : BoundNotAboveFormer
+bound-not-above-former = former-laws.bound-not-above-former
+
+pub merged-not-above-former : MergedNotAboveFormer
+merged-not-above-former = former-laws.merged-not-above-former

@@ -10,9 +10,10 @@ use Rattle.cells.specs.Cells.{unknown}
 use Rattle.machine.specs.Machine.{State, Price, Next, stops, goes, Code, height, step}
 use Rattle.bounds.specs.Tree.{Decision, Report, Verdict, accepted, refused, openingLimit, tree, report, verdict, explore, bound}
 use Rattle.bounds.specs.Run.{Run, begin, leads, after, judgeRun}
-use Rattle.bounds.proofs.TreeLaws.{tree-root, accepted-complete}
+use Rattle.bounds.proofs.TreeLaws.{tree-root, accepted-complete, complete-accepted}
+use Rattle.bounds.proofs.PromiseLaws.{fuel-irrelevant}
 use Rattle.bounds.proofs.ExploreLaws.{before, explore-spent, explore-stuck, explore-stops, explore-goes}
-use Rattle.refinements.specs.Promises.{Plain, BoundIsRun}
+use Rattle.refinements.specs.Promises.{Plain, LargerBudget, BoundIsRun}
 use Rattle.refinements.proofs.PlainLaws.{OneWay, is-stuck, is-stop, goes-on, plain-step}
 use Rattle.refinements.proofs.RunLaws.{gone, left-none, left-stuck, left-stops, left-goes, once-goes, Uncalled, later, same-step, from-start}
 
@@ -73,3 +74,12 @@ bound-is-run c budget s answers e u =
     sym (begun s answers (explore (step c unknown) openingLimit budget s) (root c openingLimit budget s))
     ∙ follows c openingLimit budget (begin s answers) refl e (omega arith) u
     ∙ from-start c budget s answers
+
+-- ---- a larger BUDGET: the tree is complete within the smaller one
+
+pub larger-budget : LargerBudget
+unfolding bound explore verdict
+larger-budget c budget larger le s q e =
+    let t = tree (step c unknown) larger openingLimit s in
+    let (w, fits, same) = accepted-complete t budget (report t) q (fuel-irrelevant c budget larger s le ∙ e) in
+    complete-accepted t larger (report t) w (omega arith) ∙ ap accepted same

@@ -3,14 +3,12 @@
 use mathlib.Core.Path.{_≡_, refl, sym, ap, _∙_}
 use mathlib.Core.Bool.{true, false≢true}
 use mathlib.Core.List.{List, [], _∷_}
-use mathlib.Core.Logic.{_⊎_}
 use Prim.Native.Nat.{ℕ, zero, suc, _+_, _-_, _<_}
 use native.Mathlib.Omega.{arith}
 use lib.IntN.{pos}
 use Rattle.text.specs.Text.{bytes, equals, find}
 use Rattle.text.proofs.TextLaws.{none, more}
 use Rattle.numbers.specs.Numbers.{wrap}
-use Rattle.refusals.specs.declared.Refusal.the-variants.{Spent}
 use Rattle.cells.specs.Try.{done, _>>=_}
 use Rattle.cells.specs.declared.Cell.{Cell}
 use Rattle.cells.specs.Cells.{number, unknown, between, conditionIn, condition}
@@ -27,7 +25,7 @@ use Rattle.machine.specs.Order.{Cellwise}
 use Rattle.machine.specs.Forward.{branches, Forward}
 use Rattle.machine.specs.Targets.{Closed}
 use Rattle.machine.proofs.FetchLaws.{stuck-not, from-first, fetch-every}
-use Rattle.bounds.specs.Tree.{expand, tree, steps, size, cycles, words, depth, Decision, T, worse, path, Report, report, accepted, refused, judge, verdict, explore, bound}
+use Rattle.bounds.specs.Tree.{expand, tree, steps, size, cycles, words, depth, Decision, T, worse, path, Report, report, accepted, judge, verdict, explore, bound}
 use Rattle.bounds.specs.Run.{begin, answer, remaining, moved, leads, once, after, judgeRun, run}
 use Rattle.bounds.specs.Promises.{NoGreater}
 use Rattle.bounds.proofs.RunLaws.{nothing-follows, after-after}
@@ -155,12 +153,12 @@ pub instances :
     × ((r : Report) × (merged code (start seven) ≡ accepted r) × NoGreater r (figures 6 2 []))
     -- every cell known, and no call on the way that is walked
     × (bound calling 1000 (start seven) ≡ run calling 1000 (start seven) [])
-    × ((merged calling (start seven) ≡ run calling 1000 (start seven) []) ⊎ ((a : ℕ) × (run calling 1000 (start seven) [] ≡ refused (Spent a))))
+    × (run calling 1000 (start seven) [] ≡ accepted (figures 6 2 []))
 instances = (
   bound-monotone code 1000 (start unknown) (figures 6 3 (T ∷ [])) (computed .0) (start count) count-narrower,
   bound-monotone code 1000 (start count) (figures 6 3 (T ∷ [])) (computed .1) (start seven) seven-in-count,
   merged-monotone code (start unknown) (figures 6 2 []) (computed .3) (start count) count-narrower,
   merged-monotone code (start count) (figures 6 2 []) (computed .4) (start seven) seven-in-count,
   bound-is-run calling 1000 (start seven) [] is-plain calls-nothing,
-  merged-is-run calling is-forward is-closed 1000 (start seven) [] is-plain calls-nothing,
+  merged-is-run calling is-forward is-closed 1000 (start seven) [] is-plain calls-nothing .0 (figures 6 2 []) (computed .8) (omega arith),
 )

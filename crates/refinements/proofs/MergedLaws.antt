@@ -2,12 +2,14 @@
 -- to the others. Assumes nothing.
 use mathlib.Core.Path.{_≡_, refl, sym, _∙_, ap}
 use mathlib.Core.Bool.{Bool, true, false, cond}
-use mathlib.Core.List.{[]}
+use mathlib.Core.List.{List, []}
 use mathlib.Core.Logic.{_⊎_, inl, inr, _≢_}
 use Prim.Native.Nat.{ℕ, zero, suc, _+_, _-_, _<_, _≤_, max}
 use native.Mathlib.Omega.{arith}
 use lib.Dec.{eqb}
+use lib.IntN.{ℤ}
 use borrow.Author.Tests.{eqb-true, eqb-false}
+use Rattle.refusals.specs.declared.Refusal.{Refusal}
 use Rattle.refusals.specs.declared.Refusal.the-variants.{Spent}
 use Rattle.cells.specs.Try.{Try, stuck, done}
 use Rattle.cells.specs.Cells.{unknown}
@@ -17,14 +19,16 @@ use Rattle.machine.specs.Targets.{Closed}
 use Rattle.machine.proofs.LeadLaws.{goes-there}
 use Rattle.machine.proofs.TargetLaws.{step-onward}
 use Rattle.bounds.specs.Tree.{Report, Verdict, accepted, refused}
-use Rattle.bounds.specs.Run.{Run, begin, leads, after, judgeRun}
+use Rattle.bounds.specs.Run.{Run, begin, leads, after, judgeRun, run}
+use Rattle.bounds.proofs.TreeLaws.{contradiction}
 use Rattle.merges.specs.Merge.{Arrival, arrival, held, join, slot, Table, nowhere, arrive, send, reach, finish, carry, visit, sweep, end, span, only, none, merged}
 use Rattle.merges.proofs.FillLaws.{arrive-other, arrive-own}
 use Rattle.merges.proofs.PassLaws.{Agree, arrive-slot, sweep-agree}
-use Rattle.refinements.specs.Promises.{Plain, MergedIsRun}
+use Rattle.merges.proofs.Theorems.{run-within-merged}
+use Rattle.refinements.specs.Promises.{Plain, NoCalls, MergedIsRun}
 use Rattle.refinements.proofs.BoundLaws.{same-report}
 use Rattle.refinements.proofs.PlainLaws.{OneWay, is-stuck, is-stop, goes-on, plain-step}
-use Rattle.refinements.proofs.RunLaws.{stopped, gone, left-none, left-stuck, left-stops, left-goes, once-goes, Uncalled, later, same-step, from-start}
+use Rattle.refinements.proofs.RunLaws.{stopped, gone, left-none, left-stuck, left-stops, left-goes, once-goes, Uncalled, later, same-step, from-start, run-steps}
 
 -- nothing but x has come
 abbrev alone : Arrival → Table
@@ -130,10 +134,26 @@ module _ (c : Code) (forward : Forward c) (closed : Closed c) (top : ℕ) (over 
           let h : a ≢ r .state .at = eqb-false a (r .state .at) q in
           says (skips act (arrival (r .state) (spent r)) n a f h) refl (on (suc a) f r g e u k (omega arith) (omega arith) (omega arith))
 
-pub merged-is-run : MergedIsRun
+merged-says : (c : Code) → Forward c → Closed c → (budget : ℕ) (s : State) (answers : List ℤ) → Plain s → NoCalls c budget s answers → Says (merged c s) (run c budget s answers)
 unfolding merged only begin
-merged-is-run c forward closed budget s answers e u =
+merged-says c forward closed budget s answers e u =
     says refl (sym (from-start c budget s answers))
     (follows c forward closed (s .at + (end c - s .at)) (omega arith) (span c s) budget (s .at) none (begin s answers) refl e u
     (record { cycles = refl; words = refl; depth = omega arith; steps = refl })
     (omega arith) (omega arith) (omega arith))
+
+-- which of the two, by BUDGET
+pub merged-is-run : MergedIsRun
+merged-is-run c forward closed budget s answers e u = let says-so = merged-says c forward closed budget s answers e u in (within says-so, beyond says-so, refuses says-so)
+  where
+    within : Says (merged c s) (run c budget s answers) → (q : Report) → merged c s ≡ accepted q → q .steps ≤ budget → run c budget s answers ≡ accepted q
+    within (inl h) q a le = sym h ∙ a
+    within (inr (b, h)) q a le = let (r, k, l) = run-within-merged c forward closed s q a budget le s e answers in contradiction (Spent b) r (sym h ∙ k)
+
+    beyond : Says (merged c s) (run c budget s answers) → (q : Report) → merged c s ≡ accepted q → budget < q .steps → (a : ℕ) × (run c budget s answers ≡ refused (Spent a))
+    beyond (inl h) q a le = absurd (omega (arith, run-steps c budget s answers q (sym h ∙ a)))
+    beyond (inr k) q a le = k
+
+    refuses : Says (merged c s) (run c budget s answers) → (r : Refusal) → merged c s ≡ refused r → (run c budget s answers ≡ refused r) ⊎ ((a : ℕ) × (run c budget s answers ≡ refused (Spent a)))
+    refuses (inl h) r a = inl (sym h ∙ a)
+    refuses (inr k) r a = inr k

@@ -7,13 +7,13 @@ use lib.IntN.{ℤ}
 use Rattle.cells.specs.Try.{Try, stuck, done, _>>=_}
 use Rattle.cells.specs.declared.Cell.{Cell}
 use Rattle.cells.specs.Order.{Allowed}
-use Rattle.cells.proofs.Covering.{Covered, by-stuck, both}
+use Rattle.cells.specs.Covering.{Covered, by-stuck, both}
 use Rattle.cells.proofs.CellLaws.{allowed-lawful, allowed-plain}
 use Rattle.instructions.specs.declared.Operation.{Operation}
 use Rattle.instructions.specs.declared.Operation.the-variants.{Nothing, Access, Drop, Assign, Constant, GetField, SetField, Branch, BranchIf, BranchIfNot, Call, Stop, Alter, Combine}
 use Rattle.machine.specs.Machine.{State, Price, Code, fetch, Next, stops, goes, perform, prepare, execute, step}
 use Rattle.machine.specs.Order.{Cellwise}
-use Rattle.machine.proofs.NextCovering.{NextCovered, stops-too, goes-too, opens-too, goes-not-taken, goes-taken}
+use Rattle.machine.specs.Covering.{NextCovered, stops-too, goes-too, opens-too, goes-not-taken, goes-taken}
 use Rattle.machine.proofs.StepLaws.{step-law}
 use Rattle.bounds.specs.Run.{Run, leads}
 use Rattle.bounds.proofs.RunLaws.{answered}

@@ -2,14 +2,14 @@
 use mathlib.Core.Path.{_≡_, refl, sym, _∙_, ap}
 use mathlib.Core.Bool.{Bool, true, false, cond}
 use mathlib.Core.List.{List, []}
-use Prim.Native.Nat.{ℕ, suc, _+_, _<_, max}
+use Prim.Native.Nat.{ℕ, zero, suc, _+_, _≤_, _<_, max}
 use native.Mathlib.Omega.{arith}
 use lib.IntN.{ℤ}
 use Rattle.refusals.specs.declared.Refusal.{Refusal}
 use Rattle.refusals.specs.declared.Refusal.the-variants.{Stuck, Spent}
 use Rattle.cells.specs.Try.{Try, stuck, done}
 use Rattle.cells.specs.Cells.{unknown}
-use Rattle.machine.specs.Machine.{State, Price, Next, stops, goes, Code, height, step, takesAnswer}
+use Rattle.machine.specs.Machine.{State, Price, Next, stops, goes, opens, Code, height, step, takesAnswer}
 use Rattle.bounds.specs.Tree.{Report, Verdict, accepted, refused}
 use Rattle.bounds.specs.Run.{Run, begin, answer, remaining, moved, leads, once, after, judgeRun, run}
 use Rattle.bounds.proofs.TreeLaws.{contradiction}
@@ -90,6 +90,40 @@ module _ (c : Code) where
   pub from-start : (budget : ℕ) (s : State) (answers : List ℤ) → judgeRun (begin s answers .steps + budget) (after c budget (begin s answers)) ≡ run c budget s answers
   unfolding run begin
   from-start budget s answers = let e : 0 + budget ≡ budget = omega arith in ap (λ k. judgeRun k (after c budget (begin s answers))) e
+
+-- ---- the figures of a run that is accepted
+
+pub judged-figures : (budget : ℕ) (r : Run) (q : Report) → judgeRun budget r ≡ accepted q → (r .cycles ≡ q .cycles) × (r .words ≡ q .words) × (r .depth ≡ q .depth) × (r .steps ≡ q .steps)
+unfolding judgeRun
+judged-figures budget r q = by (r .stopped) _
+  where
+    by : (b : Bool) (x : Refusal) → cond b (accepted (record { cycles = r .cycles; words = r .words; depth = r .depth; steps = r .steps; path = [] })) (refused x) ≡ accepted q →
+        (r .cycles ≡ q .cycles) × (r .words ≡ q .words) × (r .depth ≡ q .depth) × (r .steps ≡ q .steps)
+    by true x e = (cc, cc, cc, cc)
+    by false x e = contradiction x q e
+
+moved-steps : (r : Run) (rest : List ℤ) (b : Bool) (m : Try Next) → moved r rest b m .steps ≤ suc (r .steps)
+unfolding moved
+moved-steps r rest true m = omega arith
+moved-steps r rest false stuck = omega arith
+moved-steps r rest false (done (stops p)) = omega arith
+moved-steps r rest false (done (goes p t)) = omega arith
+moved-steps r rest false (done (opens p t q u)) = omega arith
+
+after-steps : (c : Code) (n : ℕ) (r : Run) → after c n r .steps ≤ r .steps + n
+unfolding after once
+after-steps c zero r = omega arith
+after-steps c (suc n) r =
+    let x = after c n r in
+    let h = moved-steps x (remaining (takesAnswer c (x .state)) (x .answers)) (x .stopped) (leads c x) in
+    omega (arith, h, after-steps c n r)
+
+-- its steps are within BUDGET
+pub run-steps : (c : Code) (budget : ℕ) (s : State) (answers : List ℤ) (q : Report) → run c budget s answers ≡ accepted q → q .steps ≤ budget
+unfolding run begin
+run-steps c budget s answers q e =
+    let r = after c budget (begin s answers) in
+    omega (arith, judged-figures budget r q e .3, after-steps c budget (begin s answers))
 
 -- a run has no path
 pub run-pathless : (c : Code) (budget : ℕ) (s : State) (answers : List ℤ) (q : Report) → run c budget s answers ≡ accepted q → q .path ≡ []

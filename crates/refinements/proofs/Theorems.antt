@@ -2,7 +2,7 @@
 use Rattle.cells.proofs.AllowLaws as allow-laws
 use Rattle.bounds.specs.Tree.{openingLimit, bound}
 use Rattle.bounds.proofs.PromiseLaws as promise-laws
-use Rattle.refinements.specs.Promises.{RefinesWhere, BoundMonotone, BoundIsRun, MergedIsRun}
+use Rattle.refinements.specs.Promises.{RefinesWhere, BoundMonotone, LargerBudget, BoundIsRun, MergedIsRun}
 use Rattle.refinements.proofs.BoundLaws as bound-laws
 use Rattle.refinements.proofs.MergedLaws as merged-laws
 
@@ -12,6 +12,9 @@ refines-where = allow-laws.refines-where
 pub bound-monotone : BoundMonotone
 unfolding bound
 bound-monotone c budget = promise-laws.monotone c openingLimit budget
+
+pub larger-budget : LargerBudget
+larger-budget = bound-laws.larger-budget
 
 pub bound-is-run : BoundIsRun
 bound-is-run = bound-laws.bound-is-run

@@ -3,8 +3,9 @@
 use mathlib.Core.Path.{_≡_}
 use mathlib.Core.List.{List}
 use mathlib.Core.Logic.{_⊎_, _↔_}
-use Prim.Native.Nat.{ℕ, _<_}
+use Prim.Native.Nat.{ℕ, _≤_, _<_}
 use lib.IntN.{ℤ}
+use Rattle.refusals.specs.declared.Refusal.{Refusal}
 use Rattle.refusals.specs.declared.Refusal.the-variants.{Spent}
 use Rattle.cells.specs.Try.{done}
 use Rattle.cells.specs.declared.Cell.{Cell}
@@ -12,7 +13,7 @@ use Rattle.cells.specs.Order.{Refines, Allowed}
 use Rattle.instructions.specs.declared.Operation.the-variants.{Call}
 use Rattle.machine.specs.Machine.{State, Instruction, Code, fetch}
 use Rattle.machine.specs.Order.{Cellwise}
-use Rattle.bounds.specs.Tree.{refused, bound}
+use Rattle.bounds.specs.Tree.{Report, accepted, refused, bound}
 use Rattle.bounds.specs.Run.{begin, after, run}
 use Rattle.bounds.specs.Promises.{Monotone}
 use Rattle.merges.specs.Merge.{merged}
@@ -26,6 +27,10 @@ RefinesWhere = (a b : Cell) → Refines a b ↔ ((v : Cell) → Allowed v a → 
 -- cycles, words, depth and steps are no greater". Of the merging bound: `MergedMonotone` in the crate `merges`.
 abbrev pub BoundMonotone : Type 0
 BoundMonotone = (c : Code) (budget : ℕ) → Monotone (bound c budget)
+
+-- and a larger BUDGET changes no report
+abbrev pub LargerBudget : Type 0
+LargerBudget = (c : Code) (budget larger : ℕ) → budget ≤ larger → (s : State) (q : Report) → bound c budget s ≡ accepted q → bound c larger s ≡ accepted q
 
 -- "every cell is a single number or a handle": each allows itself, as a plain cell
 abbrev pub Plain : State → Type 0
@@ -44,8 +49,10 @@ NoCalls c n s answers = (k : ℕ) → k < n → NoCall c (after c k (begin s ans
 abbrev pub BoundIsRun : Type 0
 BoundIsRun = (c : Code) (budget : ℕ) (s : State) (answers : List ℤ) → Plain s → NoCalls c budget s answers → bound c budget s ≡ run c budget s answers
 
--- the same of the merging bound, which takes no BUDGET: unless the run spends it
+-- the same of the merging bound, which takes no BUDGET: a run whose BUDGET is below its STEPS spends it
 abbrev pub MergedIsRun : Type 0
 MergedIsRun =
     OfSinglePass (λ c. (budget : ℕ) (s : State) (answers : List ℤ) → Plain s → NoCalls c budget s answers →
-    (merged c s ≡ run c budget s answers) ⊎ ((a : ℕ) × (run c budget s answers ≡ refused (Spent a))))
+    ((q : Report) → merged c s ≡ accepted q → q .steps ≤ budget → run c budget s answers ≡ accepted q)
+    × ((q : Report) → merged c s ≡ accepted q → budget < q .steps → (a : ℕ) × (run c budget s answers ≡ refused (Spent a)))
+    × ((r : Refusal) → merged c s ≡ refused r → (run c budget s answers ≡ refused r) ⊎ ((a : ℕ) × (run c budget s answers ≡ refused (Spent a)))))

@@ -1,7 +1,7 @@
 -- `analyser::tickbound_replay` meets its contract. Assumes nothing.
 use Rattle.analyser.specs.Functions.{wordOf}
 use mathlib.Core.Path.{ap, _∙_}
-use Rattle.analyser.proofs.FunctionLaws.{replay-tells}
+use Rattle.analyser.proofs.FunctionLaws.{replay-tells, replay-length}
 use borrow.Author.Needs.{needs}
 use Rattle.analyser.proofs.tickbound_replay.Statement.{statement}
 use Rattle.analyser.proofs.tickbound_replay.Tie as tie
@@ -10,7 +10,8 @@ returns : tie.Need-returns
 returns c =
     let b = c .before .before .before .replay .ensures in
     let w = c .word-of .ensures ∙ ap wordOf (b .0) in
-    (w, (b .1, replay-tells _ _ _ _ w))
+    let l = replay-length _ _ _ _ (b .0) _ (c .word-of .ensures) in
+    (w, (b .1 .0, (replay-tells _ _ _ _ w, rw l at (b .1 .1))))
 
 pub tickbound-replay-spec : {M : Type 1} → statement M
 tickbound-replay-spec = tie.close (tie.spec (λ c κs. search needs) (λ c κs. search needs) (λ c. search needs) returns)
