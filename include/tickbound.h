@@ -1,6 +1,7 @@
-/* The decision whether a routine fits in its tick, its two bounds, its run, the steps of its worst path, its code from
- * and to the compiler's words, a card's trace held against its run, the bound of a routine with one instruction
- * replaced, the nearest number that moves the bound and a routine file of a seed, for a loader in C.
+/* The decision whether a routine fits in its tick, its two bounds, its run, that run as a card would record it, the
+ * steps of its worst path, its code from and to the compiler's words, a card's trace held against its run, the bound of
+ * a routine with one instruction replaced, the nearest number that moves the bound and a routine file of a seed, for a
+ * loader in C.
  *
  * `tickbound install PREFIX` puts this header into PREFIX/include and the library to link with into PREFIX/lib:
  * `cc -I PREFIX/include .. -L PREFIX/lib -ltickbound`, on x86-64 Linux. In the repository `rt staticlib analyser`
@@ -23,7 +24,8 @@
  *   bytes lent for writing must be writable.
  * - Every text of every length is answered. An empty text is refused by 2. Too little lent memory, fewer than
  *   TICKBOUND_REPORT_MEMORY bytes for a report, TICKBOUND_CODE_MEMORY for lines and words, TICKBOUND_EXPLAIN_MEMORY
- *   for an explanation or TICKBOUND_FILE_MEMORY for the file of a seed, is refused by 10, before anything is read.
+ *   for an explanation, TICKBOUND_TRACE_MEMORY for a trace or TICKBOUND_FILE_MEMORY for the file of a seed, is refused
+ *   by 10, before anything is read.
  * - After a report (lines, words), the memory holds its bytes and then its former bytes. After a refusal it is
  *   unchanged. A report is text (two lines, one of a replay and of a search, each ending in a line feed); no 0 byte
  *   ends it.
@@ -66,7 +68,8 @@ extern "C" {
  * `tickbound_refusal_place` and not for a caller:
  *
  *   a report    its length, 1 to TICKBOUND_REPORT_MEMORY; of lines or words, 1 to TICKBOUND_CODE_MEMORY;
- *               of an explanation, 1 to TICKBOUND_EXPLAIN_MEMORY; of the file of a seed, 1 to TICKBOUND_FILE_MEMORY
+ *               of an explanation, 1 to TICKBOUND_EXPLAIN_MEMORY; of a trace, 1 to TICKBOUND_TRACE_MEMORY;
+ *               of the file of a seed, 1 to TICKBOUND_FILE_MEMORY
  *   a refusal   bit 63 is 1, bits 32 to 47 are the refusal's number, bits 0 to 31 its place;
  *               all other bits are 0. No place is above 62,000, but for the address of a preview,
  *               which may be any number of 32 bits
@@ -91,14 +94,15 @@ typedef struct {
  * proved. */
 #define TICKBOUND_DECIDE_STACK (2048 * 1024)  /* 1,666 */
 #define TICKBOUND_MERGE_STACK (2048 * 1024)   /* 1,643 */
-#define TICKBOUND_PREVIEW_STACK (256 * 1024)  /* 188 */
-#define TICKBOUND_EXPLAIN_STACK (256 * 1024)  /* 165 */
-#define TICKBOUND_NEAREST_STACK (256 * 1024)  /* 167 */
-#define TICKBOUND_BOUND_STACK (256 * 1024)    /* 155 */
+#define TICKBOUND_PREVIEW_STACK (256 * 1024)  /* 186 */
+#define TICKBOUND_EXPLAIN_STACK (256 * 1024)  /* 164 */
+#define TICKBOUND_NEAREST_STACK (256 * 1024)  /* 166 */
+#define TICKBOUND_BOUND_STACK (256 * 1024)    /* 154 */
 #define TICKBOUND_REPLAY_STACK (128 * 1024)   /* 77 */
-#define TICKBOUND_RUN_STACK (128 * 1024)      /* 74 */
+#define TICKBOUND_TRACE_STACK (128 * 1024)    /* 79 */
+#define TICKBOUND_RUN_STACK (128 * 1024)      /* 69 */
 #define TICKBOUND_IMPORT_STACK (64 * 1024)    /* 10 */
-#define TICKBOUND_EXPORT_STACK (64 * 1024)    /* 7 */
+#define TICKBOUND_EXPORT_STACK (64 * 1024)    /* 6 */
 #define TICKBOUND_GENERATE_STACK (64 * 1024)  /* 1 */
 
 /* Report memory that is enough for every report; with less a call is refused by 10. */
@@ -110,6 +114,9 @@ typedef struct {
 
 /* Memory that is enough for every explanation; with less a call is refused by 10. */
 #define TICKBOUND_EXPLAIN_MEMORY 65536
+
+/* Memory that is enough for the trace of every run; with less a call is refused by 10. */
+#define TICKBOUND_TRACE_MEMORY 32768
 
 /* Memory that is enough for the file of every seed; with less a call is refused by 10. */
 #define TICKBOUND_FILE_MEMORY 32768
@@ -193,6 +200,16 @@ TICKBOUND_USED tickbound_answer tickbound_explain(const uint8_t *text, size_t te
  * is `?` or a range of more than one number. */
 TICKBOUND_USED tickbound_answer tickbound_run(const uint8_t *text, size_t text_length, uint8_t *report,
                                               size_t report_length);
+
+/* The run that the file gives, as a card would record it: the line `AT CYCLES`, and under it a line for each step with its
+ * address and what it costs, its primitive and a jump that is taken included. STOP is the last. `tickbound_replay` of
+ * these bytes and the same file says `AGREES`, the cycles of the lines add up to CYCLES of `tickbound_run`, and there are
+ * STEPS lines under the names; this is proved. The answer's length is 1 to TICKBOUND_TRACE_MEMORY, and that much must be
+ * lent.
+ *
+ * Refused by 10; then as the run is: by 1 to 6, 13, 11, 7 and 9. */
+TICKBOUND_USED tickbound_answer tickbound_trace(const uint8_t *text, size_t text_length, uint8_t *lines,
+                                                size_t lines_length);
 
 /* The nearest number that moves the bound: among the start and block cells that hold one number, the single change of at
  * least 1 and at most 64 that alters CYCLES of `tickbound_bound` or makes the routine refused by 7, 8 or 9. The smallest

@@ -56,6 +56,10 @@ static tickbound_answer call_replay(void) {
     return tickbound_replay(text, text_length, trace, trace_length, lent, sizeof lent);
 }
 
+static tickbound_answer call_trace(void) {
+    return tickbound_trace(text, text_length, lent, sizeof lent);
+}
+
 static tickbound_answer call_run(void) {
     return tickbound_run(text, text_length, lent, sizeof lent);
 }
@@ -87,6 +91,7 @@ static struct {
     {"nearest", call_nearest, TICKBOUND_NEAREST_STACK, 0, 0, 0},
     {"bound", call_bound, TICKBOUND_BOUND_STACK, 0, 0, 0},
     {"replay", call_replay, TICKBOUND_REPLAY_STACK, 0, 0, 0},
+    {"trace", call_trace, TICKBOUND_TRACE_STACK, 0, 0, 0},
     {"run", call_run, TICKBOUND_RUN_STACK, 0, 0, 0},
     {"import", call_import, TICKBOUND_IMPORT_STACK, 0, 0, 0},
     {"export", call_export, TICKBOUND_EXPORT_STACK, 0, 0, 0},

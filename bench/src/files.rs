@@ -1,12 +1,15 @@
 //! The files, words and traces that are measured.
 use independent::draft::{Arg, Draft};
-use independent::routine::{jumps_at_a_cost, read, Argument, KINDS};
+use independent::routine::{jumps_at_a_cost, read, Argument, KINDS, TEXT_LIMIT};
 use independent::trace_draft::{self, walk};
 use independent::words::{export_answer, MEMORY};
 use std::iter::repeat_n;
 use std::sync::OnceLock;
 
 const BUDGET: usize = 1_000_000;
+
+/// Lines of a turn.
+const TURN: usize = 44;
 
 type Code = Vec<(&'static str, Arg)>;
 
@@ -100,7 +103,23 @@ fn straight(openings: usize, turns: usize, rest: usize, count: &str, field: &str
 
 /// As long a path as code can have: 1,024 lines.
 pub fn straight_path() -> Vec<u8> {
-    straight(0, 23, 11, "1000", "7")
+    straight_lines(TEXT_LIMIT)
+}
+
+/// A straight path with a line for each 32 bytes of these.
+pub fn straight_lines(bytes: usize) -> Vec<u8> {
+    let before_stop = bytes / 32 - 1;
+    straight(0, before_stop / TURN, before_stop % TURN, "1000", "7")
+}
+
+/// One turn and STOP, from 32 cells and 128 fields that hold one number each: the turn reads one of the cells and two of the fields, and no
+/// change of 64 or less moves the bound.
+pub fn numbers() -> Vec<u8> {
+    let mut cells = ["7"; 33];
+    (cells[1], cells[2]) = ("1000", "#0");
+    let mut code = turn(0);
+    code.push(("STOP", Arg::Nothing));
+    draft(&cells, blocks(16), code).text().into_bytes()
 }
 
 /// 1,024 paths of 974 steps behind 10 openings: nearly all of BUDGET in steps.

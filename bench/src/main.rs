@@ -1,9 +1,12 @@
-//! The speed of the analyser's bound, merging bound, run, import, export and replay, as a ratio against the independent implementation in the same run.
+//! The speed of the analyser's bound, merging bound, run, import, export, replay, explanation and search for the nearest number, as a ratio
+//! against the independent implementation in the same run.
 mod clock;
 mod files;
 
 use clock::now;
 use independent::analyser::{self, Function};
+use independent::explain::{self, explain_answer};
+use independent::nearest::nearest_answer;
 use independent::replay::replay_answer;
 use independent::report::{bound_answer, merge_answer, printed, run_answer, told, Answer, MEMORY};
 use independent::routine::TEXT_LIMIT;
@@ -37,6 +40,8 @@ const REPLAY: Pair = Pair {
     independent: |trace, lent| replay_answer(files::straight_file(), trace, lent),
     lent: MEMORY,
 };
+const EXPLAIN: Pair = Pair { proved: analyser::explain, independent: explain_answer, lent: explain::MEMORY };
+const NEAREST: Pair = Pair { proved: analyser::nearest, independent: nearest_answer, lent: MEMORY };
 
 /// A file, and the best times of one call of both.
 struct Measured {
@@ -87,7 +92,7 @@ fn below<const SPACE: usize>(f: &mut dyn FnMut()) {
     black_box(&space);
 }
 
-/// What both answer: the last line that is printed, or the length of what is made of an import or an export. They must agree.
+/// What both answer: the last line that is printed, or the length of what an import, an export or an explanation makes. They must agree.
 fn answer(pair: Pair, text: &[u8]) -> String {
     let mut memory = vec![0; pair.lent];
     let answer = (pair.independent)(text, pair.lent);
@@ -153,7 +158,7 @@ impl Merged {
 }
 
 fn main() {
-    let scanned: [(&str, fn(usize) -> Vec<u8>, Pair); 11] = [
+    let scanned: [(&str, fn(usize) -> Vec<u8>, Pair); 12] = [
         ("names on line 3", files::names, BOUND),
         ("spaces on line 3", files::spaces, BOUND),
         ("a kind repeated on line 3", files::repeated_kind, BOUND),
@@ -165,6 +170,7 @@ fn main() {
         ("the import of 1,023 branches to the last", files::branch_words, IMPORT),
         ("the export of 1,023 branches to the last", files::branches, EXPORT),
         ("the replay of a straight path", files::trace, REPLAY),
+        ("the explanation of a straight path", files::straight_lines, EXPLAIN),
     ];
     let mut explored = vec![
         Measured::new("1,024 paths of 974 steps, 10 openings on each", files::long_paths(), BOUND),
@@ -178,6 +184,8 @@ fn main() {
         Measured::new("the import of 1,024 instructions", files::words(TEXT_LIMIT), IMPORT),
         Measured::new("the export of 1,024 instructions", files::instructions(TEXT_LIMIT), EXPORT),
         Measured::new("the replay of that path", files::trace(TEXT_LIMIT), REPLAY),
+        Measured::new("the explanation of that path", files::straight_path(), EXPLAIN),
+        Measured::new("the nearest of 160 numbers, 45 lines", files::numbers(), NEAREST),
     ];
     let of_length = |bytes| scanned.map(|(name, text, pair)| Measured::new(name, text(bytes), pair));
     let (mut whole, mut half) = (of_length(TEXT_LIMIT), of_length(TEXT_LIMIT / 2));

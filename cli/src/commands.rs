@@ -11,11 +11,12 @@ pub struct Question {
     pub ask: fn(&[u8]) -> Answer,
 }
 
-pub const QUESTIONS: [Question; 7] = [
+pub const QUESTIONS: [Question; 8] = [
     Question { name: "bound", ask: library::bound },
     Question { name: "merge", ask: library::merge },
     Question { name: "run", ask: library::run },
     Question { name: "decide", ask: library::decide },
+    Question { name: "trace", ask: library::trace },
     Question { name: "explain", ask: library::explain },
     Question { name: "nearest", ask: library::nearest },
     Question { name: "export", ask: library::export },
@@ -64,8 +65,8 @@ pub fn import(arguments: &[String]) -> Result<u8, Failure> {
         return Err(wrong_call("import", "WORDS and PRIMITIVES are wanted, the primitives as one word or - for none"));
     };
     let primitives = bytes_of(primitives);
-    if primitives.is_empty() || primitives.len() > PRIMITIVES_LIMIT {
-        let what = format!("PRIMITIVES has {} bytes, and 1 to {PRIMITIVES_LIMIT} are wanted", primitives.len());
+    if primitives.len() > PRIMITIVES_LIMIT {
+        let what = format!("PRIMITIVES has {} bytes, and at most {PRIMITIVES_LIMIT} are taken", primitives.len());
         return Err(wrong_call("import", &what));
     }
     // the 1,025th instruction, at which words are refused at the latest, is within these bytes

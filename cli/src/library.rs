@@ -7,7 +7,7 @@ mod calls;
 #[path = "programs.rs"]
 mod calls;
 
-pub use calls::{bound, decide, explain, export, generate, import, merge, nearest, preview, replay, run};
+pub use calls::{bound, decide, explain, export, generate, import, merge, nearest, preview, replay, run, trace};
 
 /// What the analyser answers.
 #[derive(Clone, Debug, PartialEq)]

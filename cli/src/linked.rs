@@ -6,6 +6,7 @@ extern "C" {
     fn tickbound_bound(text: *const u8, text_length: usize, report: *mut u8, report_length: usize) -> u64;
     fn tickbound_merge(text: *const u8, text_length: usize, report: *mut u8, report_length: usize) -> u64;
     fn tickbound_run(text: *const u8, text_length: usize, report: *mut u8, report_length: usize) -> u64;
+    fn tickbound_trace(text: *const u8, text_length: usize, lines: *mut u8, lines_length: usize) -> u64;
     fn tickbound_explain(text: *const u8, text_length: usize, lines: *mut u8, lines_length: usize) -> u64;
     fn tickbound_decide(text: *const u8, text_length: usize, report: *mut u8, report_length: usize) -> u64;
     fn tickbound_nearest(text: *const u8, text_length: usize, report: *mut u8, report_length: usize) -> u64;
@@ -38,7 +39,7 @@ extern "C" {
     ) -> u64;
 }
 
-/// Memory that is enough for a report, for lines or words or the file of a seed, and for an explanation.
+/// Memory that is enough for a report, for lines or words, a trace or the file of a seed, and for an explanation.
 const REPORT: usize = 128;
 const LINES: usize = 32768;
 const EXPLANATION: usize = 65536;
@@ -71,6 +72,10 @@ pub fn merge(text: &[u8]) -> Answer {
 
 pub fn run(text: &[u8]) -> Answer {
     of_text(tickbound_run, text, REPORT)
+}
+
+pub fn trace(text: &[u8]) -> Answer {
+    of_text(tickbound_trace, text, LINES)
 }
 
 pub fn explain(text: &[u8]) -> Answer {

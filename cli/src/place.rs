@@ -2,7 +2,8 @@
 use std::path::{Path, PathBuf};
 
 /// The documents for users, as they are named in the repository and where they are installed.
-pub const DOCUMENTS: [&str; 4] = ["FIELD-SHEET.md", "ROUTINE-FILE.md", "GENERATOR.md", "EXTRACTION.md"];
+pub const DOCUMENTS: [&str; 6] =
+    ["FIELD-SHEET.md", "HANDBOOK.md", "ROUTINE-FILE.md", "LOADER.md", "GENERATOR.md", "EXTRACTION.md"];
 
 fn command() -> Option<PathBuf> {
     std::env::current_exe().ok()?.canonicalize().ok()

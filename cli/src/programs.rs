@@ -81,6 +81,10 @@ pub fn run(text: &[u8]) -> Answer {
     of_text("run", text)
 }
 
+pub fn trace(text: &[u8]) -> Answer {
+    of_text("trace", text)
+}
+
 pub fn explain(text: &[u8]) -> Answer {
     of_text("explain", text)
 }

@@ -11,7 +11,7 @@ pub struct Usage {
 
 const WHY: &str = "--why adds to standard error why it is so, where it is refused";
 
-pub const COMMANDS: [Usage; 16] = [
+pub const COMMANDS: [Usage; 17] = [
     Usage {
         name: "decide",
         call: "decide [--why] [FILE]",
@@ -96,6 +96,16 @@ space, as preview FILE 4 'OFFSETINT 2'; the file stays as it is. An ADDRESS outs
 as the place. With a refusal it says on standard error where the place is: in the routine file, in the copy, or that it
 is the address. ADDRESS is a number of 32 bits without leading zeros.
 Exit status: 0 a report, 1 refused, 2 anything else.",
+    },
+    Usage {
+        name: "trace",
+        call: "trace [--why] [FILE]",
+        summary: "the run of a file as a card would record it",
+        text: "\
+Makes the one run that the file gives (as for run) and prints it as a card would record it, for `replay`: a line for each
+step under `AT CYCLES`, with the step's address and what it costs, its primitive and a jump that is taken included. STOP
+is the last.
+Exit status: 0 a trace, 1 refused, 2 anything else.",
     },
     Usage {
         name: "replay",

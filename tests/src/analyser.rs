@@ -15,6 +15,7 @@ extern "C" {
         lines_length: usize,
     ) -> u64;
     fn tickbound_export(text: *const u8, text_length: usize, words: *mut u8, words_length: usize) -> u64;
+    fn tickbound_trace(text: *const u8, text_length: usize, lines: *mut u8, lines_length: usize) -> u64;
     fn tickbound_explain(text: *const u8, text_length: usize, lines: *mut u8, lines_length: usize) -> u64;
     fn tickbound_generate(seed: u32, file: *mut u8, file_length: usize) -> u64;
     fn tickbound_replay(
@@ -81,6 +82,11 @@ pub fn import(words: &[u8], primitives: &[u8], lines: &mut [u8]) -> u64 {
 pub fn export(text: &[u8], words: &mut [u8]) -> u64 {
     // SAFETY: as above.
     unsafe { tickbound_export(start(text), text.len(), start_mut(words), words.len()) }
+}
+
+pub fn trace(text: &[u8], lines: &mut [u8]) -> u64 {
+    // SAFETY: as above.
+    unsafe { tickbound_trace(start(text), text.len(), start_mut(lines), lines.len()) }
 }
 
 pub fn explain(text: &[u8], lines: &mut [u8]) -> u64 {

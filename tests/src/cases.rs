@@ -9,6 +9,7 @@ use crate::merge_cases;
 use crate::nearest_cases;
 use crate::report::MEMORY;
 use crate::routine::TEXT_LIMIT;
+use crate::trace;
 
 /// The published file.
 pub fn published() -> String {
@@ -345,6 +346,7 @@ pub fn program_files() -> Vec<(&'static str, Vec<u8>)> {
     let (bound, run) = (named("published"), named("published_run"));
     let decision = decide_cases::decisions().into_iter().find(|case| case.name == "siren_budget_1").unwrap();
     let nearest = nearest_cases::nearests().into_iter().find(|case| case.name == "the_earlier_cell").unwrap();
+    let (traced, trace) = trace::pinned().swap_remove(0);
     let (mut stdin, mut stdout) = (Vec::new(), Vec::new());
     for text in &cases {
         stdin.extend([format!("{} {}\n", text.name, text.bytes.len()).as_bytes(), &text.bytes, b"\n"].concat());
@@ -355,6 +357,8 @@ pub fn program_files() -> Vec<(&'static str, Vec<u8>)> {
         ("crates/bound/stdout", bound.printed()[0].clone().into_bytes()),
         ("crates/run/stdin", run.bytes.clone()),
         ("crates/run/stdout", run.printed()[1].clone().into_bytes()),
+        ("crates/trace/stdin", traced.into_bytes()),
+        ("crates/trace/stdout", trace.into()),
         ("crates/merge/stdin", bound.bytes.clone()),
         ("crates/merge/stdout", merge_cases::printed(bound).unwrap().into_bytes()),
         ("crates/decide/stdin", decision.text.clone()),

@@ -137,9 +137,9 @@ pub fn exported(random: &mut Random, text: &[u8], bound: &Answer) -> Result<Answ
 /// The bytes of the longest primitives line that is not refused.
 const LINE: usize = 32 * 9;
 
-/// What the program prints for an import. A line that is empty, longer than any that passes, or with a zero byte is no argument for it.
+/// What the program prints for an import. A line longer than any that passes, or with a zero byte, is no argument for it.
 pub fn import_by_program(programs: &Path, import: &Import, answer: &Answer) -> Result<(), String> {
-    if import.primitives.is_empty() || import.primitives.len() > LINE || import.primitives.contains(&0) {
+    if import.primitives.len() > LINE || import.primitives.contains(&0) {
         return Ok(());
     }
     let file = std::env::temp_dir().join(format!("tickbound-words-{}", std::process::id()));

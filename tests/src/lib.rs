@@ -34,6 +34,7 @@ pub mod run;
 pub mod seeded;
 pub mod tagged;
 pub mod texts;
+pub mod trace;
 pub mod trace_draft;
 pub mod word_cases;
 pub mod word_draft;

@@ -15,6 +15,7 @@ mod nearests;
 mod pinned;
 mod previews;
 mod ranges;
+mod recordings;
 mod replays;
 mod seeds;
 mod shares;
@@ -45,10 +46,11 @@ use independent::preview_draft::{instruction_at, preview};
 use independent::random::Random;
 use independent::range_cases::{self, ranges, RANGES};
 use independent::replay_cases;
-use independent::report::{bound_answer, merge_answer, told, Answer, MEMORY};
+use independent::report::{bound_answer, merge_answer, printed, told, Answer, MEMORY};
 use independent::routine::{line, read, KINDS};
 use independent::seeded;
 use independent::texts::{texts, TEXTS};
+use independent::trace;
 use independent::word_cases::{self, CASES};
 use independent::word_draft;
 use jumps::Jumps;
@@ -61,6 +63,7 @@ use pinned::{
 };
 use previews::{compare_preview, preview_by_program, Previews};
 use ranges::Ranges;
+use recordings::{traced, Recordings};
 use replays::{replay_by_program, replayed};
 use seeds::{pinned_seeds, seeds, Seeds};
 use shares::Shares;
@@ -94,6 +97,7 @@ struct Tally {
     ranges: Ranges,
     causes: Causes,
     traces: Traces,
+    recordings: Recordings,
     previews: Previews,
     nearests: Nearests,
     explanations: Explanations,
@@ -172,6 +176,7 @@ impl Tally {
     fn trace(&mut self, random: &mut Random, text: &[u8], programs: Option<&Path>) -> Result<(), String> {
         let (replay, answer) = replayed(random, text)?;
         self.traces.note(&replay);
+        traced(random, &replay.text, programs, &mut self.recordings)?;
         programs.map_or(Ok(()), |programs| replay_by_program(programs, &replay, &answer))
     }
 
@@ -307,6 +312,23 @@ fn compare_replays(tally: &mut Tally, programs: &Path, random: &mut Random) {
     }
 }
 
+/// The traces of the examples and of the cases, and those that are pinned.
+fn compare_traces(tally: &mut Tally, programs: &Path, random: &mut Random) {
+    let mut texts = examples();
+    texts.extend(cases().into_iter().chain(starred()).map(|text| (text.name.to_string(), text.bytes)));
+    for (name, text) in &texts {
+        let found = traced(random, text, Some(programs), &mut Recordings::default());
+        tally.count(&format!("the trace of {name}"), text, found);
+    }
+    for (text, wanted) in trace::pinned() {
+        let text = text.as_bytes();
+        let as_pinned = printed(&trace::trace_answer(text, trace::MEMORY)) == wanted.as_bytes();
+        let found = if as_pinned { Ok(()) } else { Err(format!("not as pinned: {wanted}")) };
+        let found = found.and_then(|()| traced(random, text, Some(programs), &mut Recordings::default()));
+        tally.count("a pinned trace", text, found);
+    }
+}
+
 /// The previews with pinned answers.
 fn compare_previews(tally: &mut Tally, programs: &Path, random: &mut Random) {
     let cases = preview_cases::previews();
@@ -381,7 +403,7 @@ fn compare_program_files(tally: &mut Tally) {
 
 /// Files enough that every kind, every refusal of a text, every use of an extra, every pair with a handle, every operation that wraps,
 /// SHARE on each side of a half, every jump, every meeting of ways, every use of a range, every figure that falls where more is known,
-/// every cause, every way in which a trace compares, all that a patch may come to and every way in which a number moves the bound must
+/// every cause, every way in which a trace compares, traces of every kind of run, all that a patch may come to and every way in which a number moves the bound must
 /// come up.
 const MANY: u64 = 5_000;
 
@@ -393,7 +415,7 @@ const MANY: u64 = 5_000;
 /// of each row and with each refusal, 25 of each in 20,000 files.
 fn covers(tally: &Tally, count: u64) -> Result<(), String> {
     let missing: Vec<u32> = (0..=14).filter(|n| ![10, 12].contains(n) && !tally.answers.contains_key(n)).collect();
-    let of_words = tally.causes.counts().into_iter().chain(tally.traces.counts());
+    let of_words = tally.causes.counts().into_iter().chain(tally.traces.counts()).chain(tally.recordings.counts());
     let of_others = of_words.chain(tally.previews.counts()).chain(tally.nearests.counts());
     let counts = tally.counts().chain(of_others);
     let counts = counts.chain(tally.explanations.counts());
@@ -485,6 +507,7 @@ fn main() {
     compare_ranges(&mut tally, programs, &mut Random::new(seed));
     compare_words(&mut tally, programs, &mut Random::new(seed));
     compare_replays(&mut tally, programs, &mut Random::new(seed));
+    compare_traces(&mut tally, programs, &mut Random::new(seed));
     compare_previews(&mut tally, programs, &mut Random::new(seed));
     compare_decisions(&mut tally, programs, &mut Random::new(seed));
     compare_nearests(&mut tally, programs, &mut Random::new(seed));
@@ -528,7 +551,7 @@ fn main() {
     for (what, count) in tally.explanations.counts().into_iter().chain(tally.decisions.counts()) {
         println!("{what}: {count}");
     }
-    let traces = tally.traces.counts().into_iter().chain(tally.traces.rare());
+    let traces = tally.traces.counts().into_iter().chain(tally.traces.rare()).chain(tally.recordings.counts());
     let previews = tally.previews.counts().into_iter().chain(tally.previews.rare());
     for (what, count) in tally.causes.counts().into_iter().chain(traces).chain(previews) {
         println!("{what}: {count}");

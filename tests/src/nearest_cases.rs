@@ -10,7 +10,7 @@ pub struct Case {
 }
 
 /// How many there are.
-pub const CASES: usize = 28;
+pub const CASES: usize = 31;
 
 const KINDS: &str =
     "ACC0 ACC1 PUSHCONSTINT EQ LEINT GEINT BRANCHIF BRANCHIFNOT CONST0 GETFIELD0 GETFIELD1 POP PUSH C_CALL1 STOP";
@@ -25,7 +25,7 @@ fn over(budget: u32, cells: &str, fields: &str, code: &[&str]) -> String {
     if fields.is_empty() {
         return text;
     }
-    let names: Vec<String> = (0..fields.split(' ').count()).map(|i| format!("B0.{i}")).collect();
+    let names: Vec<String> = (0..fields.split(' ').count()).map(|i| format!("B{}.{}", i / 16, i % 16)).collect();
     text.replacen("-\n-\nAT", &format!("{}\n{fields}\nAT", names.join(" ")), 1)
 }
 
@@ -33,6 +33,11 @@ fn over(budget: u32, cells: &str, fields: &str, code: &[&str]) -> String {
 fn equal(accu: &str, against: &str) -> String {
     let test = format!("PUSHCONSTINT {against}");
     over(100, accu, "", &[&test, "EQ -", "BRANCHIF 4", "STOP -", "C_CALL1 A", "STOP -"])
+}
+
+/// Numbers from 1 to n.
+fn numbers(n: usize) -> String {
+    (1..=n).map(|i| i.to_string()).collect::<Vec<_>>().join(" ")
 }
 
 pub fn nearests() -> Vec<Case> {
@@ -173,6 +178,15 @@ pub fn nearests() -> Vec<Case> {
         case("a_wider_range", equal("5..6", "8"), "NONE\n"),
         case("a_handle", over(100, "#0", "1", &["GETFIELD0 -", "STOP -"]), "NONE\n"),
         case("no_cell_is_read", over(100, "1 2", "3", &unread), "NONE\n"),
+        case("no_cell_of_161_is_read", over(100, &numbers(33), &numbers(128), &unread), "NONE\n"),
+        // two numbers, each of which is read only beside the other
+        case("two_cells_compared", over(100, "3 4", "", &["EQ -", "BRANCHIF 3", "C_CALL1 A", "STOP -"]), "ACCU 4\n"),
+        // a number that is only held against itself does not matter
+        case(
+            "a_cell_against_itself",
+            over(100, "3", "", &["PUSH -", "EQ -", "BRANCHIF 4", "STOP -", "C_CALL1 A", "STOP -"]),
+            "NONE\n",
+        ),
         // "A file that is refused to begin with is refused the same way here."
         case("refused_by_7", over(100, "1", "", &["POP 64", "STOP -"]), "REFUSED 7 0\n"),
         case("refused_by_3", over(100, "1073741824", "", &unread), "REFUSED 3 11\n"),

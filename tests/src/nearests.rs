@@ -47,18 +47,24 @@ fn is_short(text: &[u8]) -> bool {
     numbered(text, &routine).len() as u64 * 128 * (figures.steps + 20) <= STEPS
 }
 
-/// Compares the search on a text, if it is short; gives the answer wanted.
-pub fn compare_nearest(random: &mut Random, text: &[u8]) -> Result<Option<Answer>, String> {
-    if !is_short(text) {
-        return Ok(None);
-    }
+/// Compares the search on a text; gives the answer wanted.
+pub fn compare_search(random: &mut Random, text: &[u8]) -> Result<Answer, String> {
     let copy = text.to_vec();
     let answer = compare_report(random, &|memory| analyser::nearest(&copy, memory), &|lent| nearest_answer(text, lent))
         .map_err(|what| format!("nearest {what}"))?;
     if copy == text {
-        Ok(Some(answer))
+        Ok(answer)
     } else {
         Err("nearest wrote the text".to_string())
+    }
+}
+
+/// The same, if the search is short.
+pub fn compare_nearest(random: &mut Random, text: &[u8]) -> Result<Option<Answer>, String> {
+    if is_short(text) {
+        compare_search(random, text).map(Some)
+    } else {
+        Ok(None)
     }
 }
 

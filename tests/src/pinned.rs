@@ -3,7 +3,7 @@
 use crate::compare::{by_programs, compare, file, shown};
 use crate::decisions::{compare_decision, decision_by_program};
 use crate::imports::{export_by_program, exported, import_by_program, imported};
-use crate::nearests::{compare_nearest, nearest_by_program};
+use crate::nearests::{compare_search, nearest_by_program};
 use crate::previews::{compare_preview, preview_by_program};
 use crate::replays::{compare_replay, replay_by_program};
 use independent::analyser::{self, Function};
@@ -86,7 +86,7 @@ pub fn pinned_nearest(programs: &Path, random: &mut Random, case: &NearestCase) 
     let text = case.text.as_bytes();
     let own = nearest_answer(text, case.lent);
     both("nearest", &|memory| analyser::nearest(text, memory), case.lent, &own, case.printed.as_bytes())?;
-    let answer = compare_nearest(random, text)?.ok_or("too long a search")?;
+    let answer = compare_search(random, text)?;
     nearest_by_program(programs, text, &answer)
 }
 
