@@ -11,7 +11,7 @@ fn toolchain() -> Option<String> {
 fn find_library() {
     let folder = Path::new(env!("CARGO_MANIFEST_DIR")).join("../target/staticlib");
     println!("cargo:rustc-link-search=native={}", folder.display());
-    println!("cargo:rerun-if-changed={}", folder.join("libanalyser.a").display());
+    println!("cargo:rerun-if-changed={}", folder.join("libc_interface.a").display());
 }
 
 fn main() {

@@ -46,7 +46,7 @@ struct Install {
 
 impl Install {
     fn all(&self) -> Result<(), String> {
-        let library = self.root.join("target/staticlib/libanalyser.a");
+        let library = self.root.join("target/staticlib/libc_interface.a");
         let header = self.root.join("include/tickbound.h");
         let manual = self.root.join("cli/tickbound.1");
         let itself = std::env::current_exe().map_err(|error| error.to_string())?;

@@ -1,7 +1,7 @@
 //! The calls of the static library.
 use super::Answer;
 
-#[link(name = "analyser", kind = "static")]
+#[link(name = "c_interface", kind = "static")]
 extern "C" {
     fn tickbound_bound(text: *const u8, text_length: usize, report: *mut u8, report_length: usize) -> u64;
     fn tickbound_merge(text: *const u8, text_length: usize, report: *mut u8, report_length: usize) -> u64;

@@ -4,7 +4,8 @@ use Prim.Native.String.{String}
 use mathlib.Core.Bool.{Bool, true, false}
 use mathlib.Core.List.{List, [], _∷_, _++_}
 use Rattle.text.specs.Text.{bytes, equals}
-use Rattle.analyser.specs.Answers.{printed, boundAnswer, runAnswer}
+use Rattle.report_theory.specs.Answers.{boundAnswer, runAnswer}
+use Rattle.console.specs.Line.{printed}
 
 -- a text by its lines
 abbrev pub file : List String → List ℕ

@@ -28,9 +28,9 @@ fn print(answer: Answer, bytes: &[u8]) {
 
 // Prints the answer of the bound, then that of the run, with out lent for the report.
 fn show(text: &[u8], out: &mut [u8]) {
-    let bounded = analyser::bound(text, out);
+    let bounded = bound_entry::bound(text, out);
     print(bounded, out);
-    let ran = analyser::run(text, out);
+    let ran = run_entry::run(text, out);
     print(ran, out);
 }
 

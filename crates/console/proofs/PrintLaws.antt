@@ -1,4 +1,4 @@
--- Laws of what is printed: the line of a refusal fits into its memory; the bytes after a call of the analyser are those of its answer.
+-- Laws of what is printed: the line of a refusal fits into its memory; the bytes after a call are those of its answer.
 -- Assumes nothing.
 use Prim.Native.Nat.{ℕ, _^_, _<_, _≤_}
 use mathlib.Core.Path.{_≡_, refl, sym, ap, _∙_, subst}
@@ -15,8 +15,7 @@ use Rattle.report.proofs.PutLaws.{refusal-length}
 use Rattle.answers.specs.Answers.{Answer, reported, refused, memory, answerOf}
 use Rattle.answers.specs.declared.Answer as code
 use Rattle.answers.specs.declared.Answer.the-variants.{Reported, Refused}
-use Rattle.analyser.specs.Answers.{printed}
-use Rattle.console.specs.Line.{line, Held}
+use Rattle.console.specs.Line.{line, Held, printed}
 
 pub refusal-fits : (k p : ℕ) → k < 2 ^ 64 → p < 2 ^ 64 → length (refusalLine k p) ≤ 128
 refusal-fits k p h g = omega (arith, refusal-length k p, decimal-length 20 k (omega arith) (omega arith), decimal-length 20 p (omega arith) (omega arith))
@@ -54,7 +53,7 @@ unfolding answerOf memory
 held-of (reported bs) former h = omega (arith, length-append bs (drop (length bs) former))
 held-of (refused r) former h = h
 
--- an answer x and the memory m as the analyser leaves them
+-- an answer x and the memory m as a call leaves them
 pub line-printed : (a : Answer) (former : List ℕ) {x : code.Answer} {m : List ℕ} → x ≡ answerOf a → m ≡ memory a former → line x m ≡ printed a
 line-printed a former {x} {m} e h = subst (λ (y : code.Answer). line y m ≡ printed a) (sym e) (subst (λ (l : List ℕ). line (answerOf a) l ≡ printed a) (sym h) (line-of a former))
 

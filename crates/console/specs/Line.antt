@@ -3,6 +3,8 @@ use Prim.Native.Nat.{ℕ, _≤_}
 use mathlib.Core.List.{List}
 use lib.ListN.{length, take}
 use Rattle.report.specs.Report.{refusalText}
+use Rattle.answers.specs.Answers.{reported, refused}
+use Rattle.answers.specs.Answers as answers
 use Rattle.answers.specs.declared.Answer.{Answer}
 use Rattle.answers.specs.declared.Answer.the-variants.{Reported, Refused}
 
@@ -15,3 +17,8 @@ line (Refused r) bytes = refusalText r
 abbrev pub Held : Answer → List ℕ → Type 0
 Held (Reported n) bytes = n ≤ length bytes
 Held (Refused r) bytes = 128 ≤ length bytes
+
+-- what is printed for an answer: the bytes of its report, or the line of its refusal
+unfoldable pub printed : answers.Answer → List ℕ
+printed (reported bs) = bs
+printed (refused r) = refusalText r

@@ -19,7 +19,7 @@ use Rattle.routine.proofs.RowLaws.{read-passes}
 use Rattle.routine.proofs.RangeLaws.{tick-small}
 use Rattle.routine.proofs.BranchLaws.{passing-forward, passing-closed}
 use Rattle.routine.proofs.PlaceLaws.{read-bound-place, confined, start-small}
-use Rattle.evaluations.proofs.SizeLaws.{ticks, bound-limited, merged-limited}
+use Rattle.report_theory.proofs.SizeLaws.{ticks, bound-limited, merged-limited}
 use Rattle.report.proofs.ReportLaws.{bound-small}
 use Rattle.answers.specs.Answers.{reported, refused, memoryLimit}
 use Rattle.answers.proofs.AnswerLaws.{never, from-reading, place-from}

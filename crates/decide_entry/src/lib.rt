@@ -13,7 +13,7 @@ ghost use lib.ListN.{length, drop};
 ghost use Rattle.text.specs.Memory.{over};
 ghost use Rattle.bounds.specs.Tree.{bound, refused};
 ghost use Rattle.reader.specs.Reader.{Limited};
-ghost use Rattle.evaluations.specs.Held.{routineIn};
+ghost use Rattle.entry.specs.Held.{routineIn};
 ghost use Rattle.answers.specs.Answers.{memory, answerOf, reportLength, Delivers};
 ghost use Rattle.decide_entry.specs.Decision.{decisionWords, decisionText};
 ghost use Rattle.decide_entry.specs.Answers.{forSize, decideRoutine, decideAnswer};

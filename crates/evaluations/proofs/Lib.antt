@@ -1,2 +1,1 @@
 pub mod EvaluationLaws
-pub mod SizeLaws

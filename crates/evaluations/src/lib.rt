@@ -1,5 +1,5 @@
 // The routine that was read, bounded and run: its arrays lent to the explorer, to the pass of the merging bound and to the run. The meaning
-// is in specs/.
+// is in the specs/ of `entry`.
 use findings::Found;
 use reader::Routine;
 use runs::Ran;
@@ -10,7 +10,7 @@ ghost use Rattle.merges.specs.Merge.{merged};
 ghost use Rattle.findings.specs.Found.{Shows};
 ghost use Rattle.runs.specs.Contract.{verdictOf};
 ghost use Rattle.reader.specs.Reader.{Limited};
-ghost use Rattle.evaluations.specs.Held.{routineIn, Shareable};
+ghost use Rattle.entry.specs.Held.{routineIn, Shareable};
 
 // The routine's bound.
 pub fn explored(routine: Routine) -> Found

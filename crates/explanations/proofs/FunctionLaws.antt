@@ -24,7 +24,7 @@ use Rattle.routine.specs.Routine as readings
 use Rattle.routine.proofs.RowLaws.{read-passes}
 use Rattle.routine.proofs.RangeLaws.{tick-positive, tick-small}
 use Rattle.reader.specs.declared.Routine.{Routine}
-use Rattle.evaluations.specs.Held.{routineIn}
+use Rattle.entry.specs.Held.{routineIn}
 use Rattle.report.specs.Report.{boundText}
 use Rattle.report.specs.Decode.{decode, reportOf}
 use Rattle.report.proofs.DecodeLaws.{report-of}

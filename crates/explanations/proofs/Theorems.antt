@@ -20,7 +20,7 @@ use Rattle.routine.proofs.BranchLaws.{passing-forward}
 use Rattle.routine.proofs.PlaceLaws.{read-bound-place, confined, start-small}
 use Rattle.report.specs.Report.{boundText}
 use Rattle.report.proofs.ReportLaws.{bound-small, bound-fits}
-use Rattle.evaluations.proofs.SizeLaws.{code-length, priced, low, ticks, bound-limited}
+use Rattle.report_theory.proofs.SizeLaws.{code-length, priced, low, ticks, bound-limited}
 use Rattle.walks.proofs.Theorems.{walks-worst}
 use Rattle.listings.specs.Listing.{entries, listing}
 use Rattle.listings.proofs.LengthLaws.{total, total-drop, total-lines, walk-fits}

@@ -10,7 +10,7 @@ use Rattle.states.specs.Program.{firstOf, linesIn}
 use Rattle.bounds.specs.Tree.{Report}
 use Rattle.findings.specs.declared.Found.{Found}
 use Rattle.reader.specs.declared.Routine.{Routine}
-use Rattle.evaluations.specs.Held.{routineIn}
+use Rattle.entry.specs.Held.{routineIn}
 use Rattle.report.specs.Decode.{decode, reportOf}
 use Rattle.walks.specs.Walk.{follow}
 use Rattle.listings.specs.Listing.{entries, listing}

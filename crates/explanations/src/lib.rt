@@ -13,7 +13,7 @@ ghost use lib.ListN.{length, drop};
 ghost use Rattle.text.specs.Text.{lines};
 ghost use Rattle.text.specs.Memory.{over};
 ghost use Rattle.reader.specs.Reader.{Limited};
-ghost use Rattle.evaluations.specs.Held.{routineIn};
+ghost use Rattle.entry.specs.Held.{routineIn};
 ghost use Rattle.answers.specs.Answers.{memory, answerOf};
 ghost use Rattle.explanations.specs.Answers.{explainRoutine, explainAnswer};
 ghost use Rattle.explanations.specs.Held.{walkIn, textIn, Printable};

@@ -31,8 +31,8 @@ use Rattle.reader.specs.declared.Routine.{Routine}
 use Rattle.answers.specs.Answers.{Answer, reported, memory}
 use Rattle.answers.specs.Answers as answers
 use Rattle.answers.proofs.AnswerLaws.{lent-short, reading-refused, reading-passed}
-use Rattle.evaluations.specs.Held.{routineIn}
-use Rattle.analyser.proofs.FunctionLaws.{passes-not, same-refused}
+use Rattle.entry.specs.Held.{routineIn}
+use Rattle.entry.proofs.EntryLaws.{passes-not, same-refused}
 use Rattle.interrupts.specs.Interrupts.{numbersOfRun, numbersOfVerdict, numbersOf, stepsOf, interrupted, interruptAnswer, numberOf, Numbered}
 
 -- ---- bounded afresh

@@ -21,7 +21,7 @@ ghost use Rattle.runs.specs.Contract.{Runnable};
 ghost use Rattle.explore.specs.Contract.{Explorable};
 ghost use Rattle.reader.specs.Reader.{Limited};
 ghost use Rattle.answers.specs.Answers.{memory};
-ghost use Rattle.evaluations.specs.Held.{routineIn};
+ghost use Rattle.entry.specs.Held.{routineIn};
 ghost use Rattle.interrupts.specs.Interrupts.{Numbered, numbersOf, stepsOf, interrupted, interruptAnswer, numberOf};
 
 // The state that a run has reached, bounded afresh.

@@ -4,7 +4,7 @@ ghost use Prim.Native.Nat.{_≤_};
 ghost use lib.ListN.{length, take};
 ghost use Rattle.io.specs.Counts.{Counts};
 ghost use Rattle.sensitivity.specs.Answers.{nearestAnswer};
-ghost use Rattle.analyser.specs.Answers.{printed};
+ghost use Rattle.console.specs.Line.{printed};
 
 // Puts what is printed for a text at the start of out, and answers how many bytes it is.
 fn answer(text: &[u8], out: &mut [u8]) -> usize

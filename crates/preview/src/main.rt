@@ -5,7 +5,8 @@ ghost use mathlib.Core.Path.{_≡_};
 ghost use Prim.Native.Nat.{_≤_};
 ghost use lib.ListN.{length, take};
 ghost use Rattle.io.specs.Counts.{Counts};
-ghost use Rattle.analyser.specs.Answers.{printed, previewAnswer};
+ghost use Rattle.preview_entry.specs.Answers.{previewAnswer};
+ghost use Rattle.console.specs.Line.{printed};
 
 // Puts what is printed for a text, an address and an instruction at the start of out, and answers how many bytes it is.
 fn answer(text: &[u8], address: u32, instruction: &[u8], out: &mut [u8]) -> usize
@@ -13,7 +14,7 @@ fn answer(text: &[u8], address: u32, instruction: &[u8], out: &mut [u8]) -> usiz
     ensures { λ r. ⌜ Counts r (now (out .exit)) ⌝ }
     ensures { λ r. ⌜ take r (now (out .exit)) ≡ printed (previewAnswer (now (text .entry)) address (now (instruction .entry)) (length (now (out .entry)))) ⌝ }
 {
-    let answer = analyser::preview(text, address, instruction, out);
+    let answer = preview_entry::preview(text, address, instruction, out);
     console::put_line(answer, out)
 }
 

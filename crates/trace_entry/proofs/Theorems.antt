@@ -22,7 +22,7 @@ use Rattle.routine.proofs.RowLaws.{run-passes}
 use Rattle.routine.proofs.PassingLaws.{code-few}
 use Rattle.routine.proofs.BranchLaws.{passing-forward}
 use Rattle.routine.proofs.PlaceLaws.{read-run-place, confined, start-small}
-use Rattle.evaluations.proofs.SizeLaws.{code-length, priced}
+use Rattle.report_theory.proofs.SizeLaws.{code-length, priced}
 use Rattle.traces.specs.Traces.{Entry, traceVerdict, entries}
 use Rattle.replays.specs.Replay.{replay}
 use Rattle.answers.specs.Answers.{reported, refused, memoryLimit, ofVerdict}

@@ -14,7 +14,7 @@ use Rattle.traces.specs.Traces.{Entry}
 use Rattle.replays.specs.Replay.{goesOn, cost}
 use Rattle.replays.specs.Held.{Stands}
 use Rattle.reader.specs.declared.Routine.{Routine}
-use Rattle.evaluations.specs.Held.{routineIn}
+use Rattle.entry.specs.Held.{routineIn}
 use Rattle.answers.specs.Answers.{Answer, reported}
 use Rattle.trace_theory.specs.Trace.{trace}
 use Rattle.trace_entry.specs.declared.Recorded.{Recorded}

@@ -16,7 +16,7 @@ ghost use Rattle.states.specs.Program.{programOf, sizesOf, IsProgram};
 ghost use Rattle.states.specs.View.{WellFormed, whole};
 ghost use Rattle.runs.specs.Contract.{Runnable};
 ghost use Rattle.reader.specs.Reader.{Limited};
-ghost use Rattle.evaluations.specs.Held.{routineIn};
+ghost use Rattle.entry.specs.Held.{routineIn};
 ghost use Rattle.answers.specs.Answers.{memory, answerOf, reportLength, Delivers};
 ghost use Rattle.trace_theory.specs.Trace.{trace, entryText, entriesText, traceText};
 ghost use Rattle.trace_entry.specs.Answers.{traceRoutine, traceAnswer};

@@ -1,8 +1,8 @@
--- `bound::answer` meets its contract: what is printed is what the analyser's answer and its memory say. Assumes nothing.
+-- `bound::answer` meets its contract: what is printed is what the answer and its memory say. Assumes nothing.
 use mathlib.Core.Path.{_∙_}
 use lib.ListN.{length}
 use borrow.Author.Needs.{needs}
-use Rattle.analyser.specs.Answers.{boundAnswer}
+use Rattle.report_theory.specs.Answers.{boundAnswer}
 use Rattle.console.proofs.PrintLaws.{line-held, line-printed}
 use Rattle.bound.proofs.answer.Statement.{statement}
 use Rattle.bound.proofs.answer.Tie as tie

@@ -8,7 +8,7 @@ use Rattle.rows.specs.declared.Reader.the-variants.{Bound}
 use Rattle.rows.proofs.CheckLaws.{refused-reading, accepted-reading}
 use Rattle.answers.specs.Answers.{memory, answerOf}
 use Rattle.answers.proofs.AnswerLaws.{gives-refusal}
-use Rattle.evaluations.proofs.EvaluationLaws.{held-routine}
+use Rattle.entry.proofs.EntryLaws.{held-routine}
 use Rattle.decide_entry.proofs.FunctionLaws.{decide-short, decide-refused, decide-passed, decide-roomy, decide-keeps}
 use borrow.Author.Needs.{needs}
 use Rattle.decide_entry.proofs.decide.Statement.{statement}

@@ -8,7 +8,7 @@ use Rattle.rows.specs.declared.Reader.the-variants.{Bound}
 use Rattle.rows.proofs.CheckLaws.{refused-reading, accepted-reading}
 use Rattle.answers.specs.Answers.{memory, answerOf}
 use Rattle.answers.proofs.AnswerLaws.{gives-refusal}
-use Rattle.evaluations.proofs.EvaluationLaws.{held-routine}
+use Rattle.entry.proofs.EntryLaws.{held-routine}
 use Rattle.explanations.proofs.FunctionLaws.{explain-short, explain-refused, explain-passed, explain-printable}
 use borrow.Author.Needs.{needs}
 use Rattle.explanations.proofs.explain.Statement.{statement}

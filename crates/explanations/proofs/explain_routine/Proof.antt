@@ -1,7 +1,7 @@
 -- `explanations::explain_routine` meets its contract. Assumes nothing.
 use Rattle.text.specs.Text.{lines}
 use Rattle.answers.proofs.AnswerLaws.{gives-report, gives-refusal}
-use Rattle.evaluations.specs.Held.{routineIn}
+use Rattle.entry.specs.Held.{routineIn}
 use Rattle.explanations.proofs.FunctionLaws.{routine-explained, routine-refused}
 use borrow.Author.Needs.{needs}
 use Rattle.explanations.proofs.explain_routine.Statement.{statement}

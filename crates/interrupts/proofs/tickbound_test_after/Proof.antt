@@ -8,7 +8,7 @@ use Rattle.rows.specs.Checks.{readBy}
 use Rattle.rows.specs.declared.Reader.the-variants.{Run}
 use Rattle.rows.proofs.CheckLaws.{refused-reading, accepted-reading}
 use Rattle.answers.specs.Answers.{reported}
-use Rattle.evaluations.proofs.EvaluationLaws.{held-routine}
+use Rattle.entry.proofs.EntryLaws.{held-routine}
 use borrow.Author.Needs.{needs}
 use Rattle.interrupts.proofs.InterruptLaws.{answer-short, answer-refused, answer-passed, tells-refusal, tells-numbers}
 use Rattle.interrupts.proofs.tickbound_test_after.Statement.{statement}

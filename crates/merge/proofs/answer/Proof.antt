@@ -1,8 +1,8 @@
--- `merge::answer` meets its contract: what is printed is what the analyser's answer and its memory say. Assumes nothing.
+-- `merge::answer` meets its contract: what is printed is what the answer and its memory say. Assumes nothing.
 use mathlib.Core.Path.{_∙_}
 use lib.ListN.{length}
 use borrow.Author.Needs.{needs}
-use Rattle.analyser.specs.Answers.{mergeAnswer}
+use Rattle.report_theory.specs.Answers.{mergeAnswer}
 use Rattle.console.proofs.PrintLaws.{line-held, line-printed}
 use Rattle.merge.proofs.answer.Statement.{statement}
 use Rattle.merge.proofs.answer.Tie as tie

@@ -2,7 +2,7 @@
 use mathlib.Core.Path.{_∙_}
 use lib.ListN.{length}
 use borrow.Author.Needs.{needs}
-use Rattle.analyser.specs.Answers.{previewAnswer}
+use Rattle.preview_entry.specs.Answers.{previewAnswer}
 use Rattle.console.proofs.PrintLaws.{line-held, line-printed}
 use Rattle.preview.proofs.answer.Statement.{statement}
 use Rattle.preview.proofs.answer.Tie as tie

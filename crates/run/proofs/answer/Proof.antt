@@ -1,8 +1,8 @@
--- `run::answer` meets its contract: what is printed is what the analyser's answer and its memory say. Assumes nothing.
+-- `run::answer` meets its contract: what is printed is what the answer and its memory say. Assumes nothing.
 use mathlib.Core.Path.{_∙_}
 use lib.ListN.{length}
 use borrow.Author.Needs.{needs}
-use Rattle.analyser.specs.Answers.{runAnswer}
+use Rattle.report_theory.specs.Answers.{runAnswer}
 use Rattle.console.proofs.PrintLaws.{line-held, line-printed}
 use Rattle.run.proofs.answer.Statement.{statement}
 use Rattle.run.proofs.answer.Tie as tie

@@ -8,7 +8,7 @@ use Rattle.rows.specs.declared.Reader.the-variants.{Run}
 use Rattle.rows.proofs.CheckLaws.{refused-reading, accepted-reading}
 use Rattle.answers.specs.Answers.{memory, answerOf}
 use Rattle.answers.proofs.AnswerLaws.{gives-refusal}
-use Rattle.evaluations.proofs.EvaluationLaws.{held-routine}
+use Rattle.entry.proofs.EntryLaws.{held-routine}
 use Rattle.trace_entry.proofs.FunctionLaws.{trace-short, trace-refused, trace-passed, trace-roomy, trace-keeps}
 use borrow.Author.Needs.{needs}
 use Rattle.trace_entry.proofs.trace.Statement.{statement}

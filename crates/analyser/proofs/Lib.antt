@@ -1,9 +1,0 @@
-pub mod Cases
-pub mod AnswerLaws
-pub mod KnownLaws
-pub mod RefinedLaws
-pub mod Theorems
-pub mod ListedLaws
-pub mod FunctionLaws
-pub mod NearestLaws
-pub mod RefinedCases

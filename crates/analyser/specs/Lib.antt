@@ -1,6 +1,0 @@
-pub mod Answers
-pub mod Functions
-pub mod Listed
-pub mod Promises
-pub mod Refined
-pub mod Held

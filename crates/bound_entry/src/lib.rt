@@ -1,0 +1,51 @@
+// The bound of a routine file, on texts and lent memory. The meaning is in the specs/ of `report_theory`.
+use answers::Answer;
+use reader::Routine;
+use refusals::Refusal;
+use refusals::Verdict;
+use rows::Reader;
+ghost use mathlib.Core.Path.{_≡_};
+ghost use lib.ListN.{length};
+ghost use Rattle.reader.specs.Reader.{Limited};
+ghost use Rattle.answers.specs.Answers.{memory, answerOf, reportLength, Delivers};
+ghost use Rattle.entry.specs.Held.{routineIn, Printable};
+ghost use Rattle.report_theory.specs.Answers.{boundRoutine, boundAnswer};
+ghost use Rattle.report_theory.specs.Promises.{SafeReport, ExactReport};
+ghost use Rattle.report_theory.specs.Listed.{BoundRefused, Refuses, ListedAlone};
+ghost use Rattle.report_theory.specs.Refined.{MonotoneReport, KnownReport};
+
+// The answer of the bound to a routine.
+fn bound_routine(routine: Routine, out: &mut [u8]) -> Answer
+    requires { ⌜ Limited routine ⌝ }
+    requires { ⌜ Printable (boundRoutine (routineIn routine)) (routine .tick) (length (now out)) ⌝ }
+    ensures { λ r. ⌜ r ≡ answerOf (boundRoutine (routineIn routine)) ⌝ }
+    ensures { λ _. ⌜ now (out .exit) ≡ memory (boundRoutine (routineIn routine)) (now (out .entry)) ⌝ }
+{
+    let tick = routine.tick;
+    let found = evaluations::explored(routine);
+    entry::put_found(found, tick, out)
+}
+
+// The bound of a routine file: the report in the lent memory, or a refusal.
+pub fn bound(text: &[u8], out: &mut [u8]) -> Answer
+    ensures { λ r. ⌜ r ≡ answerOf (boundAnswer (now (text .entry)) (length (now (out .entry)))) ⌝ }
+    ensures { λ _. ⌜ now (out .exit) ≡ memory (boundAnswer (now (text .entry)) (length (now (out .entry)))) (now (out .entry)) ⌝ }
+    ensures safe { λ r. ⌜ Delivers (reportLength r) (now (out .exit)) (SafeReport (now (text .entry))) ⌝ }
+    ensures exact { λ r. ⌜ Delivers (reportLength r) (now (out .exit)) (ExactReport (now (text .entry))) ⌝ }
+    ensures monotone { λ r. ⌜ Delivers (reportLength r) (now (out .exit)) (MonotoneReport (now (text .entry))) ⌝ }
+    ensures known { λ r. ⌜ Delivers (reportLength r) (now (out .exit)) (KnownReport (now (text .entry))) ⌝ }
+    ensures listed { λ r. ⌜ ListedAlone (Refuses r) (BoundRefused (now (text .entry)) (length (now (out .entry)))) ⌝ }
+{
+    let lent = out.len();
+    if lent < 128 {
+        return Answer::Refused(Refusal::ReportMemory); // the first row, before the text is read
+    }
+    let verdict = rows::check(Reader::Bound, text);
+    match verdict {
+        Verdict::Accepted => {
+            let routine = reader::routine_of(text);
+            bound_routine(routine, out)
+        }
+        Verdict::Refused(refusal) => Answer::Refused(refusal),
+    }
+}

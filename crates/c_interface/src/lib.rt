@@ -1,0 +1,198 @@
+// The public functions for C: each calls the function of its entry crate, and tells the answer as one number. The meaning is in specs/.
+use answers::Answer;
+use refusals::Refusal;
+ghost use mathlib.Core.Path.{_≡_};
+ghost use lib.ListN.{length};
+ghost use Rattle.answers.specs.Answers.{memoryLimit, memory, answerOf, Delivers};
+ghost use Rattle.answers.specs.declared.Answer.the-variants.{Refused};
+ghost use Rattle.report_theory.specs.Answers.{boundAnswer, mergeAnswer, runAnswer};
+ghost use Rattle.report_theory.specs.Promises.{SafeReport, ExactReport, SafeMerge, ExactMerge, AboveMerge, WithinReport, RunAccepted};
+ghost use Rattle.report_theory.specs.Listed.{BoundRefused, MergeRefused, RunRefused, ListedAlone};
+ghost use Rattle.report_theory.specs.Refined.{MonotoneReport, KnownReport, MonotoneMerge, KnownMerge};
+ghost use Rattle.preview_entry.specs.Answers.{previewAnswer};
+ghost use Rattle.conversions.specs.Answers.{conversionLimit, importAnswer, exportAnswer};
+ghost use Rattle.conformance.specs.Answers.{replayAnswer};
+ghost use Rattle.conformance.specs.Promises.{ReplayKept};
+ghost use Rattle.explanations.specs.Answers.{explanationLimit, explainAnswer};
+ghost use Rattle.decide_entry.specs.Answers.{decideAnswer};
+ghost use Rattle.decide_entry.specs.Promises.{KeepsTick, OverTick, UndecidedTick};
+ghost use Rattle.trace_entry.specs.Answers.{traceMemory, traceAnswer};
+ghost use Rattle.trace_entry.specs.Promises.{TracesRun};
+ghost use Rattle.sensitivity.specs.Answers.{nearestAnswer};
+ghost use Rattle.generating.specs.Answers.{generatorLimit, generateAnswer};
+ghost use Rattle.c_interface.specs.Functions.{wordOf, toldLength, Tells, RefusesWord};
+
+// An answer as one number.
+fn word_of(answer: Answer) -> u64
+    ensures { λ r. ⌜ r ≡ wordOf answer ⌝ }
+{
+    match answer {
+        Answer::Reported(n) => n as u64,
+        Answer::Refused(r) => refusal_word(r),
+    }
+}
+
+// A refusal as one number.
+fn refusal_word(r: Refusal) -> u64
+    ensures { λ w. ⌜ w ≡ wordOf (Refused r) ⌝ }
+{
+    let number = refusals::number(r);
+    let place = refusals::place(r);
+    9223372036854775808 + number * 4294967296 + place % 4294967296
+}
+
+// `bound_entry::bound` for C: see include/tickbound.h.
+#[no_mangle]
+pub extern "C" fn tickbound_bound(text: &[u8], out: &mut [u8]) -> u64
+    ensures { λ r. ⌜ r ≡ wordOf (answerOf (boundAnswer (now (text .entry)) (length (now (out .entry))))) ⌝ }
+    ensures { λ _. ⌜ now (out .exit) ≡ memory (boundAnswer (now (text .entry)) (length (now (out .entry)))) (now (out .entry)) ⌝ }
+    ensures tells { λ r. ⌜ Tells memoryLimit (boundAnswer (now (text .entry)) (length (now (out .entry)))) r ⌝ }
+    ensures safe { λ r. ⌜ Delivers (toldLength r) (now (out .exit)) (SafeReport (now (text .entry))) ⌝ }
+    ensures exact { λ r. ⌜ Delivers (toldLength r) (now (out .exit)) (ExactReport (now (text .entry))) ⌝ }
+    ensures monotone { λ r. ⌜ Delivers (toldLength r) (now (out .exit)) (MonotoneReport (now (text .entry))) ⌝ }
+    ensures known { λ r. ⌜ Delivers (toldLength r) (now (out .exit)) (KnownReport (now (text .entry))) ⌝ }
+    ensures listed { λ r. ⌜ ListedAlone (RefusesWord r) (BoundRefused (now (text .entry)) (length (now (out .entry)))) ⌝ }
+{
+    let answer = bound_entry::bound(text, out);
+    word_of(answer)
+}
+
+// `merge_entry::merge` for C.
+#[no_mangle]
+pub extern "C" fn tickbound_merge(text: &[u8], out: &mut [u8]) -> u64
+    ensures { λ r. ⌜ r ≡ wordOf (answerOf (mergeAnswer (now (text .entry)) (length (now (out .entry))))) ⌝ }
+    ensures { λ _. ⌜ now (out .exit) ≡ memory (mergeAnswer (now (text .entry)) (length (now (out .entry)))) (now (out .entry)) ⌝ }
+    ensures tells { λ r. ⌜ Tells memoryLimit (mergeAnswer (now (text .entry)) (length (now (out .entry)))) r ⌝ }
+    ensures safe { λ r. ⌜ Delivers (toldLength r) (now (out .exit)) (SafeMerge (now (text .entry))) ⌝ }
+    ensures exact { λ r. ⌜ Delivers (toldLength r) (now (out .exit)) (ExactMerge (now (text .entry))) ⌝ }
+    ensures monotone { λ r. ⌜ Delivers (toldLength r) (now (out .exit)) (MonotoneMerge (now (text .entry))) ⌝ }
+    ensures known { λ r. ⌜ Delivers (toldLength r) (now (out .exit)) (KnownMerge (now (text .entry))) ⌝ }
+    ensures above { λ r. ⌜ Delivers (toldLength r) (now (out .exit)) (AboveMerge (now (text .entry))) ⌝ }
+    ensures listed { λ r. ⌜ ListedAlone (RefusesWord r) (MergeRefused (now (text .entry)) (length (now (out .entry)))) ⌝ }
+{
+    let answer = merge_entry::merge(text, out);
+    word_of(answer)
+}
+
+// `run_entry::run` for C.
+#[no_mangle]
+pub extern "C" fn tickbound_run(text: &[u8], out: &mut [u8]) -> u64
+    ensures { λ r. ⌜ r ≡ wordOf (answerOf (runAnswer (now (text .entry)) (length (now (out .entry))))) ⌝ }
+    ensures { λ _. ⌜ now (out .exit) ≡ memory (runAnswer (now (text .entry)) (length (now (out .entry)))) (now (out .entry)) ⌝ }
+    ensures tells { λ r. ⌜ Tells memoryLimit (runAnswer (now (text .entry)) (length (now (out .entry)))) r ⌝ }
+    ensures within { λ r. ⌜ Delivers (toldLength r) (now (out .exit)) (WithinReport (now (text .entry))) ⌝ }
+    ensures accepts { λ r. ⌜ RunAccepted (now (text .entry)) (length (now (out .entry))) (toldLength r) ⌝ }
+    ensures listed { λ r. ⌜ ListedAlone (RefusesWord r) (RunRefused (now (text .entry)) (length (now (out .entry)))) ⌝ }
+{
+    let answer = run_entry::run(text, out);
+    word_of(answer)
+}
+
+// `conversions::import` for C.
+#[no_mangle]
+pub extern "C" fn tickbound_import(words: &[u8], primitives: &[u8], out: &mut [u8]) -> u64
+    ensures { λ r. ⌜ r ≡ wordOf (answerOf (importAnswer (now (words .entry)) (now (primitives .entry)) (length (now (out .entry))))) ⌝ }
+    ensures { λ _. ⌜ now (out .exit) ≡ memory (importAnswer (now (words .entry)) (now (primitives .entry)) (length (now (out .entry)))) (now (out .entry)) ⌝ }
+    ensures tells { λ r. ⌜ Tells conversionLimit (importAnswer (now (words .entry)) (now (primitives .entry)) (length (now (out .entry)))) r ⌝ }
+{
+    let imported = conversions::import(words, primitives, out);
+    word_of(imported)
+}
+
+// `conversions::export` for C.
+#[no_mangle]
+pub extern "C" fn tickbound_export(text: &[u8], out: &mut [u8]) -> u64
+    ensures { λ r. ⌜ r ≡ wordOf (answerOf (exportAnswer (now (text .entry)) (length (now (out .entry))))) ⌝ }
+    ensures { λ _. ⌜ now (out .exit) ≡ memory (exportAnswer (now (text .entry)) (length (now (out .entry)))) (now (out .entry)) ⌝ }
+    ensures tells { λ r. ⌜ Tells conversionLimit (exportAnswer (now (text .entry)) (length (now (out .entry)))) r ⌝ }
+{
+    let exported = conversions::export(text, out);
+    word_of(exported)
+}
+
+// `conformance::replay` for C.
+#[no_mangle]
+pub extern "C" fn tickbound_replay(text: &[u8], trace: &[u8], out: &mut [u8]) -> u64
+    ensures { λ r. ⌜ r ≡ wordOf (answerOf (replayAnswer (now (text .entry)) (now (trace .entry)) (length (now (out .entry))))) ⌝ }
+    ensures { λ _. ⌜ now (out .exit) ≡ memory (replayAnswer (now (text .entry)) (now (trace .entry)) (length (now (out .entry)))) (now (out .entry)) ⌝ }
+    ensures tells { λ r. ⌜ Tells memoryLimit (replayAnswer (now (text .entry)) (now (trace .entry)) (length (now (out .entry)))) r ⌝ }
+    ensures kept { λ r. ⌜ Delivers (toldLength r) (now (out .exit)) (ReplayKept (now (text .entry)) (now (trace .entry))) ⌝ }
+{
+    let replayed = conformance::replay(text, trace, out);
+    word_of(replayed)
+}
+
+// `preview_entry::preview` for C.
+#[no_mangle]
+pub extern "C" fn tickbound_preview(
+    text: &[u8],
+    address: u32,
+    instruction: &[u8],
+    out: &mut [u8],
+) -> u64
+    ensures { λ r. ⌜ r ≡ wordOf (answerOf (previewAnswer (now (text .entry)) address (now (instruction .entry)) (length (now (out .entry))))) ⌝ }
+    ensures { λ _. ⌜ now (out .exit) ≡ memory (previewAnswer (now (text .entry)) address (now (instruction .entry)) (length (now (out .entry)))) (now (out .entry)) ⌝ }
+    ensures tells { λ r. ⌜ Tells memoryLimit (previewAnswer (now (text .entry)) address (now (instruction .entry)) (length (now (out .entry)))) r ⌝ }
+{
+    let previewed = preview_entry::preview(text, address, instruction, out);
+    word_of(previewed)
+}
+
+// `sensitivity::nearest` for C.
+#[no_mangle]
+pub extern "C" fn tickbound_nearest(text: &[u8], out: &mut [u8]) -> u64
+    ensures { λ r. ⌜ r ≡ wordOf (answerOf (nearestAnswer (now (text .entry)) (length (now (out .entry))))) ⌝ }
+    ensures { λ _. ⌜ now (out .exit) ≡ memory (nearestAnswer (now (text .entry)) (length (now (out .entry)))) (now (out .entry)) ⌝ }
+    ensures tells { λ r. ⌜ Tells memoryLimit (nearestAnswer (now (text .entry)) (length (now (out .entry)))) r ⌝ }
+{
+    let nearest = sensitivity::nearest(text, out);
+    word_of(nearest)
+}
+
+// `generating::generate` for C.
+#[no_mangle]
+pub extern "C" fn tickbound_generate(seed: u32, out: &mut [u8]) -> u64
+    ensures { λ r. ⌜ r ≡ wordOf (answerOf (generateAnswer seed (length (now (out .entry))))) ⌝ }
+    ensures { λ _. ⌜ now (out .exit) ≡ memory (generateAnswer seed (length (now (out .entry)))) (now (out .entry)) ⌝ }
+    ensures tells { λ r. ⌜ Tells generatorLimit (generateAnswer seed (length (now (out .entry)))) r ⌝ }
+{
+    let generated = generating::generate(seed, out);
+    word_of(generated)
+}
+
+// `explanations::explain` for C.
+#[no_mangle]
+pub extern "C" fn tickbound_explain(text: &[u8], out: &mut [u8]) -> u64
+    ensures { λ r. ⌜ r ≡ wordOf (answerOf (explainAnswer (now (text .entry)) (length (now (out .entry))))) ⌝ }
+    ensures { λ _. ⌜ now (out .exit) ≡ memory (explainAnswer (now (text .entry)) (length (now (out .entry)))) (now (out .entry)) ⌝ }
+    ensures tells { λ r. ⌜ Tells explanationLimit (explainAnswer (now (text .entry)) (length (now (out .entry)))) r ⌝ }
+{
+    let explained = explanations::explain(text, out);
+    word_of(explained)
+}
+
+// `decide_entry::decide` for C.
+#[no_mangle]
+pub extern "C" fn tickbound_decide(text: &[u8], out: &mut [u8]) -> u64
+    ensures { λ r. ⌜ r ≡ wordOf (answerOf (decideAnswer (now (text .entry)) (length (now (out .entry))))) ⌝ }
+    ensures { λ _. ⌜ now (out .exit) ≡ memory (decideAnswer (now (text .entry)) (length (now (out .entry)))) (now (out .entry)) ⌝ }
+    ensures tells { λ r. ⌜ Tells memoryLimit (decideAnswer (now (text .entry)) (length (now (out .entry)))) r ⌝ }
+    ensures keeps { λ r. ⌜ Delivers (toldLength r) (now (out .exit)) (KeepsTick (now (text .entry))) ⌝ }
+    ensures over { λ r. ⌜ Delivers (toldLength r) (now (out .exit)) (OverTick (now (text .entry))) ⌝ }
+    ensures undecided { λ r. ⌜ Delivers (toldLength r) (now (out .exit)) (UndecidedTick (now (text .entry))) ⌝ }
+{
+    let decided = decide_entry::decide(text, out);
+    word_of(decided)
+}
+
+// `trace_entry::trace` for C.
+#[no_mangle]
+pub extern "C" fn tickbound_trace(text: &[u8], out: &mut [u8]) -> u64
+    ensures { λ r. ⌜ r ≡ wordOf (answerOf (traceAnswer (now (text .entry)) (length (now (out .entry))))) ⌝ }
+    ensures { λ _. ⌜ now (out .exit) ≡ memory (traceAnswer (now (text .entry)) (length (now (out .entry)))) (now (out .entry)) ⌝ }
+    ensures tells { λ r. ⌜ Tells traceMemory (traceAnswer (now (text .entry)) (length (now (out .entry)))) r ⌝ }
+    ensures traces { λ r. ⌜ Delivers (toldLength r) (now (out .exit)) (TracesRun (now (text .entry))) ⌝ }
+{
+    let traced = trace_entry::trace(text, out);
+    word_of(traced)
+}

@@ -1,0 +1,15 @@
+-- What is promised of the answers of a preview, as a statement.
+use Prim.Native.Nat.{ℕ}
+use mathlib.Core.Path.{_≡_}
+use mathlib.Core.List.{List}
+use Rattle.text.specs.Text.{lines}
+use Rattle.answers.specs.Answers.{reported}
+use Rattle.patches.specs.Patch.{patched}
+use Rattle.report_theory.specs.Promises.{SafeReport, ExactReport}
+use Rattle.preview_entry.specs.Answers.{previewAnswer}
+
+-- a report of a preview is one of the copy, with all that is promised of it (document 02 §10)
+abbrev pub PreviewsKept : Type 0
+PreviewsKept =
+    (text instruction : List ℕ) (address n : ℕ) (bytes : List ℕ) → previewAnswer text address instruction n ≡ reported bytes →
+    SafeReport (patched (lines text) address instruction) bytes × ExactReport (patched (lines text) address instruction) bytes

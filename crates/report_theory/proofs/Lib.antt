@@ -1,0 +1,5 @@
+pub mod SizeLaws
+pub mod AnswerLaws
+pub mod KnownLaws
+pub mod RefinedLaws
+pub mod ListedLaws

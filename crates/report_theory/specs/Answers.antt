@@ -1,0 +1,40 @@
+-- The answer of the bound, of the merging bound and of the run to a text and a length of lent report memory.
+-- (document 01, Refusal table; demands 1 and 2)
+use Prim.Native.Nat.{ℕ}
+use mathlib.Core.List.{List}
+use Rattle.bounds.specs.Tree.{Report, Verdict, bound}
+use Rattle.bounds.specs.Tree as verdicts
+use Rattle.bounds.specs.Run.{run}
+use Rattle.merges.specs.Merge.{merged}
+use Rattle.routine.specs.Routine.{Routine, readBound, readRun}
+use Rattle.answers.specs.Answers.{Answer, reported, refused, memoryLimit, lending, ofReading}
+use Rattle.report.specs.Report.{boundText, runText}
+
+-- of a verdict: the text of its report, or its refusal
+unfoldable pub ofVerdict : (Report → List ℕ) → Verdict → Answer
+ofVerdict text (verdicts.accepted q) = reported (text q)
+ofVerdict text (verdicts.refused r) = refused r
+
+-- the bound's answer for a routine: its report, or 7, 8 or 9
+unfoldable pub boundRoutine : Routine → Answer
+boundRoutine x = ofVerdict (boundText (x .tick)) (bound (x .code) (x .budget) (x .start))
+
+-- the merging bound's: its report, or 14 or 7; "It takes no BUDGET" (document 02 §9)
+unfoldable pub mergeRoutine : Routine → Answer
+mergeRoutine x = ofVerdict (boundText (x .tick)) (merged (x .code) (x .start))
+
+-- the run's: its report, or 7 or 9
+unfoldable pub runRoutine : Routine → Answer
+runRoutine x = ofVerdict runText (run (x .code) (x .budget) (x .start) (x .answers))
+
+-- the answer to a text and to n lent bytes
+unfoldable pub boundAnswer : List ℕ → ℕ → Answer
+boundAnswer text n = lending memoryLimit n (ofReading boundRoutine (readBound text))
+
+-- the same of the merging bound
+unfoldable pub mergeAnswer : List ℕ → ℕ → Answer
+mergeAnswer text n = lending memoryLimit n (ofReading mergeRoutine (readBound text))
+
+-- the same of the run
+unfoldable pub runAnswer : List ℕ → ℕ → Answer
+runAnswer text n = lending memoryLimit n (ofReading runRoutine (readRun text))

@@ -1,0 +1,152 @@
+-- What holds of all entry points, and of one beside another. Assumes nothing.
+use Prim.Native.Nat.{ℕ}
+use mathlib.Core.Path.{_≡_, refl, sym, ap, _∙_}
+use mathlib.Core.Bool.{Bool, true, false, cond}
+use mathlib.Core.List.{List, _++_, append-assoc}
+use mathlib.Core.Logic.{_↔_}
+use native.Mathlib.Omega.{arith}
+use lib.Dec.{ltb}
+use Rattle.refusals.specs.declared.Refusal.{Refusal}
+use Rattle.refusals.specs.declared.Refusal.the-variants.{ReportMemory}
+use Rattle.text.specs.Text.{lines, Line}
+use Rattle.bounds.specs.Run.{run}
+use Rattle.bounds.specs.Tree.{accepted, refused, bound}
+use Rattle.bounds.specs.Tree as bounds
+use Rattle.routine.specs.Layout.{body}
+use Rattle.routine.specs.Routine.{readBound, readRun}
+use Rattle.routine.specs.Routine as readings
+use Rattle.report.specs.Report.{boundText, runText}
+use Rattle.answers.specs.Answers.{Answer, reported, memoryLimit, ofReading}
+use Rattle.answers.specs.Answers as answers
+use Rattle.answers.proofs.AnswerLaws.{lent-enough, never}
+use Rattle.report_theory.specs.Answers.{ofVerdict, boundRoutine, runRoutine, boundAnswer, runAnswer}
+use Rattle.report_theory.proofs.AnswerLaws.{bound-reported, merge-reported, run-reported, bound-refusal-place, merge-refusal-place, run-refusal-place}
+use Rattle.preview_entry.proofs.PreviewLaws.{preview-reported, preview-place}
+use Rattle.conversions.specs.Answers.{conversionLimit}
+use Rattle.conversions.proofs.FunctionLaws.{import-reported, import-place, export-reported, export-place}
+use Rattle.conformance.proofs.FunctionLaws.{replay-reported, replay-place}
+use Rattle.listings.specs.Listing.{entries, listing}
+use Rattle.explanations.specs.Answers.{explanationLimit, worstMoves, entryNames, explanationText, explained, explainRoutine, explainAnswer}
+use Rattle.sensitivity.proofs.FunctionLaws.{nearest-reported, nearest-place}
+use Rattle.generating.specs.Answers.{generatorLimit}
+use Rattle.generating.proofs.FunctionLaws.{generate-reported, generate-place}
+use Rattle.decide_entry.specs.Answers.{decideRoutine, decideAnswer}
+use Rattle.decide_entry.proofs.PromiseLaws.{decided-refused, decide-reported, decide-place}
+use Rattle.trace_theory.specs.Trace.{trace, traceText}
+use Rattle.trace_entry.specs.Answers.{traceMemory, ofRun, traceRoutine, traceAnswer}
+use Rattle.c_interface.proofs.FunctionLaws.{told, bound-limits, merge-limits, run-limits, import-limits, export-limits, replay-limits, preview-limits, nearest-limits, generate-limits, decide-limits, explain-limits, trace-limits}
+use Rattle.theorems.specs.Promises.{ReportsFit, PlacesSmall, DecisionRefused, ExplainsBound, TraceRefused, AnswersTold, ExplanationsTold, TracesTold}
+
+-- ---- the size of a report
+
+pub reports-fit : ReportsFit
+reports-fit = (
+  λ text n bs e. let r = bound-reported text n bs e in (r .1, r .2),
+  λ text n bs e. let r = run-reported text n bs e in (r .1, r .2),
+  λ words primitives n bs e. let r = import-reported words primitives n bs e in (r .1, r .2),
+  λ text n bs e. let r = export-reported text n bs e in (r .1, r .2),
+  λ text trace n bs e. let r = replay-reported text trace n bs e in (r .1, r .2),
+  λ text n bs e. let r = merge-reported text n bs e in (r .1, r .2),
+  λ text instruction address n bs e. let r = preview-reported text instruction address n bs e in (r .1, r .2),
+  λ text n bs e. let r = nearest-reported text n bs e in (r .1, r .2),
+  λ seed n bs e. let r = generate-reported seed n bs e in (r .1, r .2),
+  λ text n bs e. let r = decide-reported text n bs e in (r .1, r .2),
+)
+
+-- ---- places
+
+pub places-small : PlacesSmall
+places-small = (
+  bound-refusal-place,
+  run-refusal-place,
+  λ words primitives n r e. omega (arith, import-place words primitives n r e),
+  λ text n r e. omega (arith, export-place text n r e),
+  λ text trace n r e. omega (arith, replay-place text trace n r e),
+  merge-refusal-place,
+  preview-place,
+  nearest-place,
+  λ seed n r e. omega (arith, generate-place seed n r e),
+  decide-place,
+)
+
+-- ---- the number that C gets
+
+pub answers-told : AnswersTold
+answers-told = (
+  λ text text′ n n′. told memoryLimit _ _ (bound-limits text n) (bound-limits text′ n′),
+  λ text text′ n n′. told memoryLimit _ _ (run-limits text n) (run-limits text′ n′),
+  λ words words′ primitives primitives′ n n′. told conversionLimit _ _ (import-limits words primitives n) (import-limits words′ primitives′ n′),
+  λ text text′ n n′. told conversionLimit _ _ (export-limits text n) (export-limits text′ n′),
+  λ text text′ trace trace′ n n′. told memoryLimit _ _ (replay-limits text trace n) (replay-limits text′ trace′ n′),
+  λ text text′ n n′. told memoryLimit _ _ (merge-limits text n) (merge-limits text′ n′),
+  λ text text′ instruction instruction′ address address′ n n′ h h′. told memoryLimit _ _ (preview-limits text instruction address n h) (preview-limits text′ instruction′ address′ n′ h′),
+  λ text text′ n n′. told memoryLimit _ _ (nearest-limits text n) (nearest-limits text′ n′),
+  λ seed seed′ n n′. told generatorLimit _ _ (generate-limits seed n) (generate-limits seed′ n′),
+  λ text text′ n n′. told memoryLimit _ _ (decide-limits text n) (decide-limits text′ n′),
+)
+
+pub explanations-told : ExplanationsTold
+explanations-told text text′ n n′ = told explanationLimit _ _ (explain-limits text n) (explain-limits text′ n′)
+
+pub traces-told : TracesTold
+traces-told text text′ n n′ = told traceMemory _ _ (trace-limits text n) (trace-limits text′ n′)
+
+-- ---- the decision beside the first bound
+
+pub decision-refused : DecisionRefused
+unfolding decideAnswer boundAnswer ofReading boundRoutine ofVerdict
+decision-refused text n r = go (ltb n memoryLimit) (readBound text)
+  where
+    go : (b : Bool) (m : readings.Reading) → cond b (answers.refused ReportMemory) (ofReading decideRoutine m) ≡ answers.refused r → cond b (answers.refused ReportMemory) (ofReading boundRoutine m) ≡ answers.refused r
+    go true m e = e
+    go false (readings.refused y) e = e
+    go false (readings.routine x) e = ap (ofVerdict (boundText (x .tick))) (decided-refused x r e)
+
+-- ---- an explanation beside the bound
+
+-- of a reading, by its cases
+record Beside (a b : Answer) : Type 0 where
+  refuses : (r : Refusal) → (a ≡ answers.refused r) ↔ (b ≡ answers.refused r)
+  begins : (bs : List ℕ) → a ≡ reported bs → (report : List ℕ) × (rest : List ℕ) × (b ≡ reported report) × (bs ≡ report ++ rest)
+
+verdict-beside : (ls : List Line) (x : readings.Routine) (v : bounds.Verdict) → Beside (explained ls x v) (ofVerdict (boundText (x .tick)) v)
+unfolding explained ofVerdict explanationText
+verdict-beside ls x (accepted q) = record {
+  refuses = λ r. (λ e. never r _ (sym e), λ e. never r _ (sym e));
+  begins = λ bs e.
+      let f : explanationText ls x q ≡ bs = cc in
+      (boundText (x .tick) q, entryNames ++ listing ls (x .code .first) (entries (worstMoves x q)), refl, sym f ∙ append-assoc (boundText (x .tick) q) entryNames (listing ls (x .code .first) (entries (worstMoves x q))));
+}
+verdict-beside ls x (refused y) = record { refuses = λ r. (λ e. e, λ e. e); begins = λ bs e. never y bs e }
+
+reading-beside : (ls : List Line) (m : readings.Reading) → Beside (ofReading (explainRoutine ls) m) (ofReading boundRoutine m)
+unfolding ofReading explainRoutine boundRoutine
+reading-beside ls (readings.refused y) = record { refuses = λ r. (λ e. e, λ e. e); begins = λ bs e. never y bs e }
+reading-beside ls (readings.routine x) = verdict-beside ls x (bound (x .code) (x .budget) (x .start))
+
+pub explains-bound : ExplainsBound
+unfolding explainAnswer boundAnswer
+explains-bound text n h =
+    let a = lent-enough explanationLimit n (ofReading (explainRoutine (body (lines text))) (readBound text)) h in
+    let b = lent-enough memoryLimit n (ofReading boundRoutine (readBound text)) (omega arith) in
+    let k = reading-beside (body (lines text)) (readBound text) in
+    rw (a, b) (k .refuses, k .begins)
+
+-- ---- a trace beside the run
+
+verdict-refused : (made : List ℕ) (v : bounds.Verdict) (r : Refusal) → (ofRun made v ≡ answers.refused r) ↔ (ofVerdict runText v ≡ answers.refused r)
+unfolding ofRun ofVerdict
+verdict-refused made (accepted q) r = (λ e. never r _ (sym e), λ e. never r _ (sym e))
+verdict-refused made (refused y) r = (λ e. e, λ e. e)
+
+reading-refused-too : (m : readings.Reading) (r : Refusal) → (ofReading traceRoutine m ≡ answers.refused r) ↔ (ofReading runRoutine m ≡ answers.refused r)
+unfolding ofReading traceRoutine runRoutine
+reading-refused-too (readings.refused y) r = (λ e. e, λ e. e)
+reading-refused-too (readings.routine x) r = verdict-refused (traceText (trace (x .code) (x .budget) (x .start) (x .answers))) (run (x .code) (x .budget) (x .start) (x .answers)) r
+
+pub trace-refused : TraceRefused
+unfolding traceAnswer runAnswer
+trace-refused text n h r =
+    let a = lent-enough traceMemory n (ofReading traceRoutine (readRun text)) h in
+    let b = lent-enough memoryLimit n (ofReading runRoutine (readRun text)) (omega arith) in
+    rw (a, b) (reading-refused-too (readRun text) r)

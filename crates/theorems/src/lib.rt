@@ -1,0 +1,1 @@
+// What is promised to users, by name. Definitions and proofs only.
