@@ -83,7 +83,7 @@ all-said ls b {k} (l ∷ ms) (coded.next p₂ c₂) (coded.next p₃ c₃) (code
     next (code-said ls b k l p₂ p₃ p₄ p₆) (all-said ls b ms c₂ c₃ c₄ c₆)
 
 -- what holds of every line holds of the one that has a role
-role-every : (P : List ℕ → Type 0) → P [] → (r : Role) (rs : List Role) {ls : List Line} → Every (λ l. P (l .text)) ls → P (textAt r rs ls)
+pub role-every : (P : List ℕ → Type 0) → P [] → (r : Role) (rs : List Role) {ls : List Line} → Every (λ l. P (l .text)) ls → P (textAt r rs ls)
 unfolding textAt
 role-every P e r [] h = e
 role-every P e r (x ∷ rs) none = e

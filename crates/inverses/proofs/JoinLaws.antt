@@ -1,18 +1,19 @@
 -- Laws of pieces put together again: the pieces of a text make the text, and joined pieces are split into the same; lines that each
 -- end in a line feed likewise. Assumes nothing.
-use mathlib.Core.Path.{_≡_, refl, sym, ap, _∙_}
+use mathlib.Core.Path.{_≡_, refl, sym, ap, ap₂, _∙_}
 use mathlib.Core.Bool.{Bool, true, false, cond, not, false≢true}
 use mathlib.Core.List.{List, [], _∷_, _++_, append-assoc, map}
-use Prim.Native.Nat.{ℕ, _+_, _<_}
+use Prim.Native.Nat.{ℕ, zero, suc, _+_, _<_}
 use native.Mathlib.Omega.{arith}
 use lib.Dec.{eqb}
-use lib.ListN.{length, getD}
+use lib.ListN.{length, getD, set, take, drop}
+use lib.Seq.{set-split}
 use borrow.Author.Tests.{eqb-true, eqb-false, eq-eqb, ne-eqb, not-true}
 use Rattle.text.specs.Text.{bytes, onto, split, words, Line, linesOf, lines, all}
-use Rattle.text.proofs.TextLaws.{Every, none, more, every-map, all-every}
+use Rattle.text.proofs.TextLaws.{Every, none, more, every-append, every-map, all-every}
 use Rattle.text.proofs.PieceLaws.{split-some}
 use Rattle.text.proofs.LineLaws.{endedLine}
-use Rattle.inverses.specs.Sections.{linesText}
+use Rattle.inverses.specs.Sections.{linesText, joined}
 
 -- ---- pieces
 
@@ -23,12 +24,6 @@ Free c w = Every (λ b. b ≡ c → ⊥) w
 -- the same of a closed text: `refl` shows the test
 pub text-free : (c : ℕ) (w : List ℕ) → all (λ b. not (eqb b c)) w ≡ true → Free c w
 text-free c w e = every-map (λ b k. eqb-false b c (not-true (eqb b c) k)) (all-every (λ b. not (eqb b c)) w e)
-
--- pieces with c between them
-pub joined : ℕ → List (List ℕ) → List ℕ
-joined c [] = []
-joined c (w ∷ []) = w
-joined c (w ∷ v ∷ ws) = w ++ c ∷ joined c (v ∷ ws)
 
 join-onto : (c x : ℕ) (ps : List (List ℕ)) → 0 < length ps → joined c (onto x ps) ≡ x ∷ joined c ps
 unfolding joined
@@ -87,6 +82,28 @@ unfolding split
 split-first c t none = rw (eq-eqb c c refl) refl
 split-first c t (more {x} {xs} h hs) = rw (ne-eqb x c h, split-first c t hs) refl
 
+pub split-joined : (c : ℕ) {ps : List (List ℕ)} → 0 < length ps → Every (Free c) ps → split c (joined c ps) ≡ ps
+unfolding joined
+split-joined c h none = absurd (omega arith)
+split-joined c h (more f none) = split-alone c f
+split-joined c h (more {x = w} f (more {x = v} {xs = ws} g gs)) =
+    split-first c (joined c (v ∷ ws)) f ∙ ap (λ ps. w ∷ ps) (split-joined c (omega arith) (more g gs))
+
+-- what holds of c and of each byte of the pieces holds of each byte of the text
+pub joined-every : {P : ℕ → Type 0} (c : ℕ) → P c → {ps : List (List ℕ)} → Every (Every P) ps → Every P (joined c ps)
+unfolding joined
+joined-every c h none = none
+joined-every c h (more q none) = q
+joined-every c h (more q (more r rs)) = every-append q (more h (joined-every c h (more r rs)))
+
+-- ---- one place of a list
+
+module _ {A : Type 0} {P : A → Type 0} where
+  pub every-set : {xs : List A} {x : A} → Every P xs → P x → (i : ℕ) → Every P (set xs i x)
+  every-set none q i = none
+  every-set (more p ps) q zero = more q ps
+  every-set (more p ps) q (suc i) = more p (every-set ps q i)
+
 -- ---- lines
 
 -- lines that each end in a line feed, one after the other
@@ -133,6 +150,20 @@ lines-of-text (more {x = l} {xs = ls} h hs) =
     ∙ ap linesOf (split-first 10 (linesText ls) h)
     ∙ more-lines (l .text) (split 10 (linesText ls)) (split-some 10 (linesText ls))
     ∙ ap (λ ms. endedLine (l .text) ∷ ms) (lines-of-text hs)
+
+-- lines that are ended, by their texts
+ended-lines : {ls : List Line} → Every (λ l. l .ended ≡ true) ls → map (λ l. endedLine (l .text)) ls ≡ ls
+ended-lines none = refl
+ended-lines (more {x = l} e es) = ap₂ (λ b ms. record { text = l .text; ended = b } ∷ ms) (sym e) (ended-lines es)
+
+-- another text in the place of line k, where each line is ended
+pub lines-set : (text new : List ℕ) (k : ℕ) → Every (λ l. l .ended ≡ true) (lines text) → Free 10 new → lines (linesText (set (lines text) k (endedLine new))) ≡ set (lines text) k (endedLine new)
+lines-set text new k e f = lines-of-text (every-set (lines-free text) f k) ∙ ended-lines (every-set e refl k)
+
+-- the same by its bytes
+pub text-set : (ls : List Line) (new : List ℕ) (k : ℕ) → k < length ls → linesText (set ls k (endedLine new)) ≡ linesText (take k ls) ++ new ++ bytes "\n" ++ linesText (drop (suc k) ls)
+unfolding linesText
+text-set ls new k h = ap linesText (set-split ls k (endedLine new) h) ∙ lines-append (take k ls) (endedLine new ∷ drop (suc k) ls) ∙ simp append-assoc
 
 -- ---- words
 

@@ -3,6 +3,7 @@ pub mod JoinLaws
 pub mod FileLaws
 pub mod NameLaws
 pub mod LineLaws
+pub mod CellLaws
 pub mod ImportedLaws
 pub mod ExportedLaws
 pub mod DecodedLaws

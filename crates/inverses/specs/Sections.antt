@@ -12,6 +12,12 @@ unfoldable pub linesText : List Line → List ℕ
 linesText [] = []
 linesText (l ∷ ls) = l .text ++ bytes "\n" ++ linesText ls
 
+-- pieces with the byte c between them, as the words of a line are parted by a space
+unfoldable pub joined : ℕ → List (List ℕ) → List ℕ
+joined c [] = []
+joined c (w ∷ []) = w
+joined c (w ∷ v ∷ ws) = w ++ c ∷ joined c (v ∷ ws)
+
 -- how many lines stand before `AT OP ARG`, the last line of the layout
 abbrev pub linesBefore : ℕ
 linesBefore = length layout - 1

@@ -1,17 +1,17 @@
 -- Laws of a copy whose new instruction has no line feed: its lines are those of the file with another one in one place, and so is its
 -- routine. Assumes nothing.
-use mathlib.Core.Path.{_≡_, refl, sym, ap, ap₂, subst, _∙_}
+use mathlib.Core.Path.{_≡_, refl, sym, ap, subst, _∙_}
 use mathlib.Core.Bool.{Bool, true, false, cond, not, false≢true}
 use mathlib.Core.List.{List, [], _∷_, _++_, append-assoc, map}
 use Prim.Native.Nat.{ℕ, zero, suc, _+_, _<_, _≤_}
 use native.Mathlib.Omega.{arith}
 use lib.Dec.{eqb}
-use lib.ListN.{length, getD, set, take, drop, length-set, length-map}
-use lib.Seq.{set-split, drop-set-add, getD-drop}
+use lib.ListN.{length, getD, set, length-set, length-map}
+use lib.Seq.{drop-set-add, getD-drop}
 use borrow.Author.Tests.{eqb-true}
 use Rattle.text.specs.Text.{bytes, equals, split, words, Line, noLine, lines, all}
 use Rattle.text.specs.Decimal.{digitsFrom, natural, numeral}
-use Rattle.text.proofs.TextLaws.{Every, none, more, every-append, every-left, every-getD}
+use Rattle.text.proofs.TextLaws.{none, every-append, every-left, every-getD}
 use Rattle.text.proofs.LineLaws.{endedLine}
 use Rattle.routine.specs.declared.Section.{Section}
 use Rattle.routine.specs.declared.Section.the-variants.{Kinds as kinds, Primitives as primitives}
@@ -24,18 +24,12 @@ use Rattle.routine.specs.Routine.{PriceList, priceList, instructionOf, codeIn, 
 use Rattle.routine.proofs.RowLaws.{lines-ended}
 use Rattle.inverses.specs.Sections.{linesText}
 use Rattle.inverses.proofs.LineLaws.{decimal-free}
-use Rattle.inverses.proofs.JoinLaws.{Free, text-free, lines-append, split-free, lines-free, lines-of-text, split-first}
+use Rattle.inverses.proofs.JoinLaws.{Free, text-free, split-free, lines-free, lines-set, text-set, split-first}
 use Rattle.patches.specs.Patch.{patchedAt}
 use Rattle.patches.specs.Promises.{newInstruction, OneReplaced}
 use Rattle.patches.proofs.PatchLaws.{CodeLine, InCode, line-there, line-coded}
 
 -- ---- one place of a list
-
-module _ {A : Type 0} {P : A → Type 0} where
-  every-set : {xs : List A} {x : A} → Every P xs → P x → (i : ℕ) → Every P (set xs i x)
-  every-set none q i = none
-  every-set (more p ps) q zero = more q ps
-  every-set (more p ps) q (suc i) = more p (every-set ps q i)
 
 map-other : {A B : Type 0} (f : A → B) (xs : List A) (i j : ℕ) (x : A) (d : B) → (j ≡ i → ⊥) → getD (map f (set xs i x)) j d ≡ getD (map f xs) j d
 map-other f [] i j x d h = refl
@@ -57,13 +51,8 @@ replacedLine ls k instruction = endedLine (at (getD ls k noLine .text) ++ bytes 
 
 module _ (ls : List Line) (k : ℕ) (instruction : List ℕ) (h : k < length ls) where
   pub patched-lines : patchedAt ls k instruction ≡ linesText (set ls k (replacedLine ls k instruction))
-  unfolding patchedAt linesText
-  patched-lines = sym (ap linesText (set-split ls k (replacedLine ls k instruction) h) ∙ lines-append (take k ls) (replacedLine ls k instruction ∷ drop (suc k) ls) ∙ simp append-assoc) ∙ simp append-assoc
-
--- lines that are ended, by their texts
-ended-lines : {ls : List Line} → Every (λ l. l .ended ≡ true) ls → map (λ l. endedLine (l .text)) ls ≡ ls
-ended-lines none = refl
-ended-lines (more {x = l} e es) = ap₂ (λ b ms. record { text = l .text; ended = b } ∷ ms) (sym e) (ended-lines es)
+  unfolding patchedAt
+  patched-lines = sym (text-set ls (replacedLine ls k instruction .text) k h ∙ simp append-assoc)
 
 -- the address, a space and the instruction have no line feed
 at-free : (line : List ℕ) → CodeLine line → Free 10 line → Free 10 (at line)
@@ -79,8 +68,7 @@ module _ (text : List ℕ) (p : Passes (lines text)) (k : ℕ) (h : InCode (line
       let own = every-getD (lines-free text) none k in
       let new : Free 10 (replacedLine ls k instruction .text) = every-append (every-append (at-free (getD ls k noLine .text) c own) (text-free 10 (bytes " ") refl)) (text-free 10 instruction f) in
       ap lines (patched-lines ls k instruction t)
-      ∙ lines-of-text (every-set (lines-free text) new k)
-      ∙ ended-lines (every-set (lines-ended ls (p .layout)) refl k)
+      ∙ lines-set text (replacedLine ls k instruction .text) k (lines-ended ls (p .layout)) new
 
 -- ---- the routine of the copy
 

@@ -1,15 +1,24 @@
 -- What is promised of the answers to a text. Assumes nothing.
-use mathlib.Core.Path.{_≡_, refl}
+use mathlib.Core.Path.{_≡_, refl, sym, ap, _∙_}
 use mathlib.Core.Logic.{_⊎_, inl, inr}
 use mathlib.Core.Option.{some, none}
+use mathlib.Core.List.{map}
 use Rattle.text.specs.Text.{bytes}
+use Rattle.cells.specs.Cells.{number}
 use Rattle.routine.specs.Routine.{Routine, readBound}
+use Rattle.routine.specs.Routine as readings
+use Rattle.routine.proofs.RowLaws.{read-passes}
 use Rattle.answers.specs.Answers.{reported, memoryLimit}
 use Rattle.answers.proofs.AnswerLaws.{never, from-reading}
+use Rattle.changes.specs.Places.{replaceAt, positions}
+use Rattle.changes.specs.Changes.{numberAt, applied}
 use Rattle.searches.specs.Search.{Searched, found, refused-by, search}
 use Rattle.searches.proofs.Theorems.{found-moves, none-moves}
-use Rattle.sensitivity.specs.Answers.{lineOf, changeText, ofSearched, nearestRoutine, nearestAnswer}
-use Rattle.sensitivity.specs.Promises.{NamesFirst, SaysNone, NearestKept}
+use Rattle.sensitivity.specs.Answers.{nameOf, lineOf, changeText, ofSearched, nearestRoutine, nearestAnswer}
+use Rattle.sensitivity.specs.Promises.{NamesFirst, SaysNone, NearestKept, NamedInOrder, ChangedNamed, TriedReads}
+use Rattle.sensitivity.specs.Replaced.{tried}
+use Rattle.sensitivity.proofs.NameLaws.{places-named}
+use Rattle.sensitivity.proofs.ReplacedLaws.{withStart, place-read, place-named}
 
 pub nearest-kept : NearestKept
 unfolding nearestAnswer nearestRoutine ofSearched changeText
@@ -22,3 +31,22 @@ nearest-kept text n bs e =
     go x (found (some c)) q e = let m = found-moves (x .code) (x .budget) (x .start) c q in let f : bs ≡ lineOf c = cc in inl (m .0, c, m .1, f)
     go x (found none) q e = let m = none-moves (x .code) (x .budget) (x .start) .0 q in let f : bs ≡ bytes "NONE\n" = cc in inr (m .0, m .1, f)
     go x (refused-by r) q e = never r bs e
+
+-- ---- the names, and the text that is tried
+
+pub named-in-order : NamedInOrder
+named-in-order text x e =
+    let r = read-passes text x e in
+    ap (λ (y : Routine). map nameOf (positions (y .start))) (r .1) ∙ places-named (r .0)
+
+pub changed-named : ChangedNamed
+changed-named text x n d c e b =
+    let r = read-passes text x e in
+    place-named (r .0) (c .place) (b .old) (ap (λ (y : Routine). numberAt (c .place) (y .start)) (sym (r .1)) ∙ b .holds)
+
+pub tried-reads : TriedReads
+unfolding tried applied
+tried-reads text x n d c i e b u short =
+    let r = read-passes text x e in
+    place-read text (r .0) (c .place) i (c .value) (b .fits) u short
+    ∙ ap (λ (y : Routine). readings.routine (withStart (replaceAt (c .place) (number (c .value)) (y .start)) y)) (sym (r .1))

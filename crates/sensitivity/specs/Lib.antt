@@ -1,3 +1,4 @@
 pub mod Answers
+pub mod Replaced
 pub mod Promises
 pub mod Held
