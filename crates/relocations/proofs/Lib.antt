@@ -1,0 +1,5 @@
+pub mod StepLaws
+pub mod TreeLaws
+pub mod SweepLaws
+pub mod RunLaws
+pub mod Theorems
