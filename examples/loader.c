@@ -1,5 +1,5 @@
 /* A loader: reads a routine file, asks `tickbound_decide` whether the routine fits in its tick, and goes by that alone.
- * Of a routine that fits it prints what to set aside for it, once, when the card starts; of any other why it is not
+ * Of a routine that fits it prints what to reserve for it, once, when the card starts; of any other why it is not
  * loaded.
  *
  *   ./tickbound install PREFIX
@@ -50,7 +50,7 @@ static int loaded(const struct tickbound_figures *figures) {
     const char *bound = figures->bound == TICKBOUND_FIRST ? "first" : "merging";
     printf("fits: at most %" PRIu64 " of the %" PRIu64 " cycles of a tick, by the %s bound\n", figures->cycles,
            figures->tick, bound);
-    printf("set aside once, when the card starts: words %" PRIu64 ", stack entries %" PRIu64 "\n", figures->words,
+    printf("reserve once, when the card starts: words %" PRIu64 ", stack entries %" PRIu64 "\n", figures->words,
            figures->depth);
     return LOADED;
 }

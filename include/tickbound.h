@@ -457,7 +457,7 @@ static inline void tickbound_decide_figures(tickbound_answer answer, const uint8
 }
 
 /* Reads the report of a bound, of either. False, with `report` unchanged, where the bytes are not exactly a report: its
- * line of names, then five numbers and a path, parted by one space, and a line feed. */
+ * line of names, then five numbers and a path, separated by one space, and a line feed. */
 static inline bool tickbound_read_report(const uint8_t *bytes, size_t length, struct tickbound_report *report) {
     struct tickbound_bytes left = tickbound_report_bytes(bytes, length);
     struct tickbound_report read;
@@ -473,7 +473,7 @@ static inline bool tickbound_read_report(const uint8_t *bytes, size_t length, st
 }
 
 /* Reads the report of a run. False, with `report` unchanged, where the bytes are not exactly a run's report: its line
- * of names, then four numbers, parted by one space, and a line feed. */
+ * of names, then four numbers, separated by one space, and a line feed. */
 static inline bool tickbound_read_run_report(const uint8_t *bytes, size_t length, struct tickbound_run_report *report) {
     struct tickbound_bytes left = tickbound_report_bytes(bytes, length);
     struct tickbound_run_report read;

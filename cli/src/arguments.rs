@@ -74,10 +74,10 @@ fn take_option<'a>(
         return Ok(());
     }
     let Some(option) = options.valued.iter().find(|option| **option == name) else {
-        return wrong(format!("unknown option {}; a name that begins with - stands after --", shown(name)));
+        return wrong(format!("unknown option {}; a name that begins with - must come after --", shown(name)));
     };
     let Some(value) = value.or_else(|| left.next().cloned()) else {
-        return wrong(format!("{name} wants a value after it"));
+        return wrong(format!("{name} needs a value after it"));
     };
     given.values.push((option, value));
     Ok(())
@@ -88,7 +88,7 @@ pub fn one_file<'a>(command: &str, given: &'a Given) -> Result<&'a str, Failure>
     match given.words.as_slice() {
         [] => Ok("-"),
         [file] => Ok(file),
-        [_, second, ..] => Err(wrong_call(command, &format!("one file is wanted, and {} is another", shown(second)))),
+        [_, second, ..] => Err(wrong_call(command, &format!("give one file; {} is a second one", shown(second)))),
     }
 }
 
@@ -96,7 +96,7 @@ pub fn one_file<'a>(command: &str, given: &'a Given) -> Result<&'a str, Failure>
 pub fn check_input_once(command: &str, files: &[String]) -> Result<(), Failure> {
     match files.iter().filter(|file| *file == "-").count() {
         0 | 1 => Ok(()),
-        _ => Err(wrong_call(command, "- stands there twice, and standard input can be read once only")),
+        _ => Err(wrong_call(command, "- is given twice, and standard input can be read only once")),
     }
 }
 
@@ -200,7 +200,7 @@ mod tests {
             (vec!["-x"], "unknown option -x"),
             (vec!["--why", "--why"], "given twice"),
             (vec!["--why=1"], "takes no value"),
-            (vec!["--seeds"], "wants a value"),
+            (vec!["--seeds"], "needs a value"),
             (vec!["--seeds=1", "--seeds", "2"], "given twice"),
             (vec!["--\u{1b}[2J"], "unknown option --\\u{1b}[2J"),
         ] {

@@ -15,17 +15,17 @@ const COUNT: usize = 4;
 pub fn command(arguments: &[String]) -> Result<u8, Failure> {
     let given = arguments::read("batch", arguments, &OPTIONS)?;
     let Some((name, files)) = given.words.split_first() else {
-        return Err(wrong_call("batch", "a COMMAND is wanted: bound, merge, run or decide"));
+        return Err(wrong_call("batch", "give a COMMAND: bound, merge, run or decide"));
     };
     let Some(question) = QUESTIONS[..COUNT].iter().find(|question| question.name == name) else {
-        let what = format!("{} is no command for a batch, which are bound, merge, run and decide", shown(name));
+        let what = format!("{} is not one of the commands of a batch: bound, merge, run and decide", shown(name));
         return Err(wrong_call("batch", &what));
     };
     let mut batch = Batch { question, asks_why: given.has("--why"), statuses: [false; 5], progress: Progress::new() };
     match seeds(&given)? {
-        Some(_) if !files.is_empty() => return Err(wrong_call("batch", "files or --seeds are wanted, and not both")),
+        Some(_) if !files.is_empty() => return Err(wrong_call("batch", "give files or --seeds, and not both")),
         Some((first, last)) => batch.answer_seeds(first, last)?,
-        None if files.is_empty() => return Err(wrong_call("batch", "files or --seeds A-B are wanted")),
+        None if files.is_empty() => return Err(wrong_call("batch", "give files or --seeds A-B")),
         None => batch.answer_files(files)?,
     }
     batch.progress.end();
@@ -41,7 +41,7 @@ fn seeds(given: &Given) -> Result<Option<(u32, u32)>, Failure> {
     match ends {
         Some((first, last)) if first <= last => Ok(Some((first, last))),
         _ => {
-            let what = format!("--seeds is {}, and two seeds as 1-2000 are wanted, the lower first", shown(value));
+            let what = format!("--seeds is {}, and must be two seeds as 1-2000, the lower first", shown(value));
             Err(wrong_call("batch", &what))
         }
     }
@@ -115,7 +115,7 @@ fn of_name(name: &str, line: &str) -> String {
     }
 }
 
-/// The name, `REPORT` or `REFUSED`, and the values, parted by tabs.
+/// The name, `REPORT` or `REFUSED`, and the values, separated by tabs.
 fn line(name: &str, answer: &Answer) -> String {
     match answer {
         Answer::Refused { number, place } => format!("{name}\tREFUSED\t{number}\t{place}\n"),

@@ -62,7 +62,7 @@ pub fn ask(question: &Question, arguments: &[String]) -> Result<u8, Failure> {
 pub fn import(arguments: &[String]) -> Result<u8, Failure> {
     let given = arguments::read("import", arguments, &OPTIONS)?;
     let [file, primitives] = given.words.as_slice() else {
-        return Err(wrong_call("import", "WORDS and PRIMITIVES are wanted, the primitives as one word or - for none"));
+        return Err(wrong_call("import", "give WORDS and PRIMITIVES, the primitives as one argument, or - for none"));
     };
     let primitives = bytes_of(primitives);
     if primitives.len() > PRIMITIVES_LIMIT {
@@ -79,7 +79,7 @@ pub fn import(arguments: &[String]) -> Result<u8, Failure> {
 pub fn replay(arguments: &[String]) -> Result<u8, Failure> {
     let given = arguments::read("replay", arguments, &OPTIONS)?;
     let [routine, trace] = given.words.as_slice() else {
-        return Err(wrong_call("replay", "two files are wanted, ROUTINE and TRACE"));
+        return Err(wrong_call("replay", "give two files, ROUTINE and TRACE"));
     };
     arguments::check_input_once("replay", &given.words)?;
     let text = input::read(routine, ROUTINE_LIMIT)?;
@@ -96,10 +96,10 @@ pub fn replay(arguments: &[String]) -> Result<u8, Failure> {
 pub fn preview(arguments: &[String]) -> Result<u8, Failure> {
     let given = arguments::read("preview", arguments, &OPTIONS)?;
     let [routine, word, instruction] = given.words.as_slice() else {
-        return Err(wrong_call("preview", "ROUTINE, ADDRESS and INSTRUCTION are wanted, the instruction as one word"));
+        return Err(wrong_call("preview", "give ROUTINE, ADDRESS and INSTRUCTION, the instruction as one argument"));
     };
     let Some(address) = number_of_32_bits(word) else {
-        let what = format!("ADDRESS is {}, and a number of 32 bits without leading zeros is wanted", shown(word));
+        let what = format!("ADDRESS is {}, and must be a number of 32 bits without leading zeros", shown(word));
         return Err(wrong_call("preview", &what));
     };
     let instruction = bytes_of(instruction);
@@ -116,10 +116,10 @@ pub fn preview(arguments: &[String]) -> Result<u8, Failure> {
 pub fn generate(arguments: &[String]) -> Result<u8, Failure> {
     let given = arguments::read("generate", arguments, &OPTIONS)?;
     let [word] = given.words.as_slice() else {
-        return Err(wrong_call("generate", "one SEED is wanted"));
+        return Err(wrong_call("generate", "give one SEED"));
     };
     let Some(seed) = number_of_32_bits(word) else {
-        let what = format!("SEED is {}, and a number of 32 bits without leading zeros is wanted", shown(word));
+        let what = format!("SEED is {}, and must be a number of 32 bits without leading zeros", shown(word));
         return Err(wrong_call("generate", &what));
     };
     let answer = library::generate(seed);

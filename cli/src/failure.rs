@@ -6,5 +6,5 @@ pub struct Failure(pub String);
 
 /// A wrong call of a command: what is wrong, and how to get help.
 pub fn wrong_call(command: &str, what: &str) -> Failure {
-    Failure(format!("{command}: {what} (tickbound {command} --help tells how it is called)"))
+    Failure(format!("{command}: {what} (tickbound {command} --help shows how to call it)"))
 }

@@ -22,7 +22,7 @@ Libs: -L${libdir} -ltickbound
 pub fn command(arguments: &[String]) -> Result<u8, Failure> {
     let given = arguments::read("install", arguments, &Options { flags: &[], valued: &[] })?;
     let [prefix] = given.words.as_slice() else {
-        return Err(wrong_call("install", "one PREFIX is wanted, the folder to install into"));
+        return Err(wrong_call("install", "give one PREFIX, the folder to install into"));
     };
     if prefix.is_empty() {
         return Err(wrong_call("install", "PREFIX is empty; name the folder to install into"));

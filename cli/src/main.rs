@@ -53,7 +53,7 @@ fn dispatch(command: &str, arguments: &[String]) -> Result<u8, Failure> {
 /// What the command says of itself.
 fn about(option: &str, arguments: &[String]) -> Result<u8, Failure> {
     match option {
-        _ if !arguments.is_empty() => Err(wrong(&format!("{option} stands alone"))),
+        _ if !arguments.is_empty() => Err(wrong(&format!("{option} takes no arguments"))),
         "--version" => {
             let toolchain = env!("TICKBOUND_TOOLCHAIN");
             print(&format!("tickbound {}\ntoolchain: {toolchain}\n", env!("CARGO_PKG_VERSION")))

@@ -27,7 +27,7 @@ fn documents_folder() -> Option<PathBuf> {
 /// The documents that are there, for the help.
 pub fn documents() -> String {
     let Some(folder) = documents_folder() else {
-        return "none are installed beside this command".into();
+        return "none are installed with this command".into();
     };
     let is_there = |name: &&str| Path::new(&folder).join(name).is_file();
     let names: Vec<&str> = DOCUMENTS.into_iter().filter(is_there).collect();

@@ -115,7 +115,7 @@ fn cell_lines(cells: &[(Cell, String)]) -> [String; 4] {
 pub fn command(arguments: &[String]) -> Result<u8, Failure> {
     let given = arguments::read("price", arguments, &Options { flags: &[], valued: &["--cells"] })?;
     let [card, file] = given.words.as_slice() else {
-        return Err(wrong_call("price", "CARD and FILE are wanted, in this order"));
+        return Err(wrong_call("price", "give CARD and FILE, in this order"));
     };
     let mut files = given.words.clone();
     files.extend(given.value("--cells").map(str::to_string));

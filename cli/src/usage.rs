@@ -9,7 +9,7 @@ pub struct Usage {
     pub text: &'static str,
 }
 
-const WHY: &str = "--why adds to standard error why it is so, where it is refused";
+const WHY: &str = "--why explains a refusal on standard error";
 
 pub const COMMANDS: [Usage; 17] = [
     Usage {
@@ -66,11 +66,12 @@ Exit status: 0 a report, 1 refused, 2 anything else.",
         call: "sheet [--why] [--html] [--nearest] [--card CARD] [--cells CELLS] FILE",
         summary: "the field sheet of a routine, as text or as a page",
         text: "\
-Prints the field sheet of a routine, to be signed: the decision of `decide` first (FITS, OVER, NOT DECIDED or REFUSED),
-then the lines of FIELD-SHEET.md with its figures, for which inputs they hold and which numbers they assume, and the worst
-path or the code. The file's name, its SHA-256, the version and the page number stand on every page. --html prints it as a
-page for a browser and for paper, A4 or Letter. --card names the card on it, whose nine lines the file must have; --cells
-prints the labels of a cells file. --nearest adds the nearest number that moves the bound, which can take minutes.
+Prints the field sheet of a routine, to be signed. The decision of `decide` comes first (FITS, OVER, NOT DECIDED or
+REFUSED), then the lines of FIELD-SHEET.md with the figures, the inputs for which they hold and the numbers that they
+assume, then the worst path or the code. The file's name, its SHA-256, the version and the page number are on every page.
+--html prints it as a page for a browser and for paper, A4 or Letter. --card names the card on it, whose nine lines the
+file must have; --cells prints the labels of a cells file. --nearest adds the nearest number that moves the bound, which
+can take minutes.
 Exit status: 0 FITS, 4 OVER or NOT DECIDED, 1 refused, 2 anything else.",
     },
     Usage {
@@ -80,10 +81,9 @@ Exit status: 0 FITS, 4 OVER or NOT DECIDED, 1 refused, 2 anything else.",
         text: "\
 Prints the nearest single change of a start or block cell that holds one number, of at least 1 and at most 64, that
 alters CYCLES of `bound` or makes the routine refused by 7, 8 or 9: the cell's name and its new value; or NONE. The
-smallest change comes first, then the cell earlier in the file, then downwards. It may try 20,608 changes, each a bound
-of its own under the file's BUDGET: with 161 numbers that no path reads it took 0.3 s where a bound has 766 steps, 68 s
-where it has 196,606, and can take six minutes; of the files that `generate` makes of the seeds 1 to 10,000 none took
-more than 3 ms. --why adds to standard error what CYCLES becomes, or the refusal.
+smallest change comes first, then the cell earlier in the file, then downwards. It may calculate 19,738 bounds, each
+under the file's BUDGET, so that a search takes milliseconds for most files and minutes for the largest.
+--why prints on standard error what CYCLES becomes, or the refusal.
 Exit status: 0 a change or NONE, 1 refused, 2 anything else.",
     },
     Usage {
@@ -92,9 +92,9 @@ Exit status: 0 a change or NONE, 1 refused, 2 anything else.",
         summary: "the report of a file as it would be with one instruction replaced",
         text: "\
 Prints what `bound` would print of a copy of the routine file ROUTINE in which INSTRUCTION stands after ADDRESS and a
-space, as preview FILE 4 'OFFSETINT 2'; the file stays as it is. An ADDRESS outside the code is refused by 4 with itself
-as the place. With a refusal it says on standard error where the place is: in the routine file, in the copy, or that it
-is the address. ADDRESS is a number of 32 bits without leading zeros.
+space, as preview FILE 4 'OFFSETINT 2'; the file stays as it is. An ADDRESS outside the code is refused by 4, with the
+address as the place. If it is refused, standard error says whether the place is in the routine file, in the copy, or is
+the address. ADDRESS is a number of 32 bits without leading zeros.
 Exit status: 0 a report, 1 refused, 2 anything else.",
     },
     Usage {
@@ -112,9 +112,9 @@ Exit status: 0 a trace, 1 refused, 2 anything else.",
         call: "replay [--why] ROUTINE TRACE",
         summary: "whether a card's trace agrees with the run of a file",
         text: "\
-Holds a card's trace (the file TRACE, lines under `AT CYCLES`) against the run of the routine file ROUTINE (as for run)
-and prints AGREES, or DIFFERS and the number of the first line of the trace that differs. With a refusal it says on
-standard error which of the two files the place is in. --why adds the run's step beside the trace's.
+Compares a card's trace (the file TRACE, lines under `AT CYCLES`) with the run of the routine file ROUTINE (as for run)
+and prints AGREES, or DIFFERS and the number of the first line of the trace that differs. If it is refused, standard
+error says which of the two files the place is in. --why prints the run's step and the trace's.
 Exit status: 0 agrees, 3 differs, 1 refused, 2 anything else.",
     },
     Usage {
@@ -164,14 +164,14 @@ Lists the functions of an object file of `ocamlc -c` (OCaml 4.13, one unit) unde
 ARGUMENTS PRIMITIVES KINDS. KINDS is `yes` where a function is extracted as it stands, `lowered` where --lower does it,
 or else how many faults it has. FUNCTION is a NUMBER or a NAME of that list. It is written into the working folder, as
 FILE-FUNCTION.words and FILE-FUNCTION.primitives for `import`, and FILE-FUNCTION.txt, a routine file with the imported
-code, in which TICK, the prices and the cells are to be filled in: they are `_` until then, and the file is refused by 2.
+code. TICK, the prices and the cells are `_` in it until they are filled in, and until then the file is refused by 2.
 FILE-FUNCTION.cells is a cells file with every cell of the function. --card CARD and --cells CELLS fill the routine file
-in, as `price` does. What no card has is told on standard error, every fault at once, with what to do; then nothing is
-written.
+in, as `price` does. If the function uses what no card has, all faults are reported on standard error, with what to do,
+and nothing is written.
 --lower writes the function in the 61 kinds: comparisons that are joined with a branch, a match over constants, constants
-of the module, and branches onto branches (EXTRACTION.md). What it did is told on standard error. --unroll does that too,
-and writes a `for` between constants out. --names takes names and lines from the same unit compiled with -g.
-It is not proved: the bound holds of the routine file; that the file is the function is tested.
+of the module, and branches onto branches (EXTRACTION.md). It reports on standard error what it did. --unroll does that
+too, and writes out a `for` between constants. --names takes names and lines from the same unit compiled with -g.
+The extraction is tested and not proved: the bound holds for the routine file.
 Exit status: 0 done, 2 not done.",
     },
     Usage {
@@ -180,9 +180,9 @@ Exit status: 0 done, 2 not done.",
         summary: "bound, merge, run or decide of many files, or of many seeds",
         text: "\
 Answers COMMAND (bound, merge, run or decide) for each file, or for the file of each seed from A to B, in one line:
-the name or the seed, REPORT or REFUSED, and the values, parted by tabs. A file that cannot be read has a message on
-standard error and no line. Control characters in a name are written as escapes. On a terminal standard error shows how
-far it has come.
+the name or the seed, REPORT or REFUSED, and the values, separated by tabs. A file that cannot be read has a message on
+standard error and no line. Control characters in a name are written as escapes. On a terminal standard error shows the
+progress.
 Exit status: 2 a file could not be read, else 1 any was refused, else 4 any is OVER or UNDECIDED, else 0.",
     },
     Usage {
@@ -231,8 +231,7 @@ usage: tickbound COMMAND [ARGUMENTS]
 
 {commands}
 Most commands read one routine file, FILE; without it, or with -, they read standard input. Options stand anywhere before
---, after which every word is a name. What is refused prints `REFUSED`, a number and a place instead; no figure is to be
-read from that. {WHY}.
+--, after which every word is a name. A refusal prints `REFUSED`, a number and a place, and no figure. {WHY}.
 
 exit status: 0 what was asked for, 1 a refusal, 3 a trace that differs, 4 a routine that does not fit in its tick (decide,
 sheet, batch), 2 anything else

@@ -70,7 +70,7 @@ pub enum Callee {
 
 /// The functions at the first fields of Stdlib, and what to write instead.
 const STANDARD: [(usize, &str, &str); 5] = [
-    (1, "failwith", "tell by a result of type int"),
+    (1, "failwith", "return a result of type int instead"),
     (15, "min", "write `if a < b then a else b`"),
     (16, "max", "write `if a > b then a else b`"),
     (17, "abs", "write `if a < 0 then -a else a`"),
@@ -127,7 +127,7 @@ impl fmt::Display for Fault {
             }
             Fault::Float(name) => write!(to, "a float ({name}) has no kind: use an int of a smaller unit"),
             Fault::Boxed(name) => write!(to, "an int32, int64 or nativeint ({name}) has no kind: use int"),
-            Fault::Exception(name) => write!(to, "an exception ({name}) has no kind: tell by a result of type int"),
+            Fault::Exception(name) => write!(to, "an exception ({name}) has no kind: return a result of type int instead"),
             Fault::Untyped(name) => {
                 write!(to, "a comparison at no known type ({name}) has no kind: annotate int, as in `(x : int)`")
             }
@@ -201,10 +201,10 @@ impl Fault {
             Fault::Accumulator => write!(to, "the accumulator is read before it is set: compile the source again"),
             Fault::Odd(name) => write!(to, "{name} is no instruction of a function: compile the source again"),
             Fault::Many(what, count, most) => {
-                write!(to, "{count} {what}, and a routine file has at most {most}: part the function in two")
+                write!(to, "{count} {what}, and a routine file has at most {most}: split the function in two")
             }
             Fault::LongFile(most) => {
-                write!(to, "its routine file is longer than {most} bytes: part the function in two")
+                write!(to, "its routine file is longer than {most} bytes: split the function in two")
             }
             _ => Ok(()),
         }

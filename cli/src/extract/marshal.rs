@@ -62,7 +62,7 @@ impl Input<'_> {
 }
 
 fn damaged(what: &str) -> Failure {
-    Failure(format!("damaged: of a description in it, {what}"))
+    Failure(format!("damaged: in a description in it, {what}"))
 }
 
 impl Marshalled {

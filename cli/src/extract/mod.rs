@@ -272,7 +272,7 @@ pub fn command(arguments: &[String]) -> Result<u8, Failure> {
     let (file, word) = match given.words.as_slice() {
         [file] => (file, None),
         [file, word] => (file, Some(word)),
-        _ => return Err(wrong_call("extract", "FILE.cmo and at most one NUMBER or NAME are wanted")),
+        _ => return Err(wrong_call("extract", "give FILE.cmo and at most one NUMBER or NAME")),
     };
     let text = extract(&given, file, word)?;
     output::print(text.as_bytes()).map_err(of_file(file))?;

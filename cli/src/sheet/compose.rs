@@ -110,7 +110,7 @@ fn reserved_block(figures: &Figures) -> Line {
     let Figures { words, depth, .. } = figures;
     let [words_told, entries] = [counted(words, "word", "words"), counted(depth, "stack entry", "stack entries")];
     let text =
-        format!("WORDS {words}, DEPTH {depth}: set aside {words_told} and {entries} once, when the card starts.");
+        format!("WORDS {words}, DEPTH {depth}: reserve {words_told} and {entries} once, when the card starts.");
     Line::prose("Reserved block", text)
 }
 

@@ -32,14 +32,14 @@ pub fn of_figures(figures: &Figures, remedy: Option<String>) -> Result<Decision,
         Verdict::Over => (
             "OVER",
             format!(
-                "The bound is above TICK: CYCLES {cycles} is {above} above TICK {tick}. The bound may count a path that no run takes."
+                "The bound is {above} over: CYCLES {cycles} is above TICK {tick}. The bound may count a path that no run takes."
             ),
         ),
         Verdict::Undecided => (
             "NOT DECIDED",
             format!(
-                "The first bound is refused, and the merging bound, which can lie above it, has CYCLES {cycles}, which is {above} \
-                 above TICK {tick}. {}",
+                "The first bound is refused. The merging bound, which can be higher, is {above} over: CYCLES {cycles} is above \
+                 TICK {tick}. {}",
                 remedy.unwrap_or_default()
             ),
         ),
@@ -85,9 +85,9 @@ pub fn twice_refused_lines(first: Refusal, merging: Refusal, routine: &RoutineTe
 pub fn which_bound(figures: &Figures, first: Option<Refusal>) -> Line {
     let text = match (figures.bound, first) {
         (Bound::Merging, Some(first)) => {
-            format!("The merging bound, which can lie above the first. The first bound is refused: {}.", first.told())
+            format!("The merging bound, which can be higher than the first. The first bound is refused: {}.", first.told())
         }
-        (Bound::Merging, None) => "The merging bound, which can lie above the first.".into(),
+        (Bound::Merging, None) => "The merging bound, which can be higher than the first.".into(),
         (Bound::First, _) => "The first bound, which walks every path.".into(),
     };
     Line::prose("Which bound", text)
@@ -119,7 +119,7 @@ mod tests {
         let figures = Figures::of(&first(&decided, EXPLAINED)).unwrap().unwrap();
         let decision = of_figures(&figures, None).unwrap();
         assert_eq!((decision.word, decision.fits, decision.status), ("OVER", false, 4));
-        assert!(decision.sentences.starts_with("The bound is above TICK: CYCLES 65 is 1 cycle above TICK 64."));
+        assert!(decision.sentences.starts_with("The bound is 1 cycle over: CYCLES 65 is above TICK 64."));
         assert!(!decision.sentences.contains("overrun") && !decision.sentences.contains("routine"));
     }
 
@@ -128,7 +128,7 @@ mod tests {
         let figures = Figures::of(&merged(UNDECIDED, MERGED)).unwrap().unwrap();
         let decision = of_figures(&figures, Some("Do this.".into())).unwrap();
         assert_eq!((decision.word, decision.fits, decision.status), ("NOT DECIDED", false, 4));
-        assert!(decision.sentences.ends_with("1 cycle above TICK 149979. Do this."), "{}", decision.sentences);
+        assert!(decision.sentences.ends_with("is 1 cycle over: CYCLES 149980 is above TICK 149979. Do this."), "{}", decision.sentences);
     }
 
     #[test]

@@ -27,7 +27,7 @@ const OPTIONS: Options = Options { flags: &["--html", "--nearest", "--why"], val
 pub fn command(arguments: &[String]) -> Result<u8, Failure> {
     let given = arguments::read("sheet", arguments, &OPTIONS)?;
     let [file] = given.words.as_slice() else {
-        return Err(wrong_call("sheet", "one FILE is wanted, or - for standard input"));
+        return Err(wrong_call("sheet", "give one FILE, or - for standard input"));
     };
     let [card, cells] = ["--card", "--cells"].map(|option| given.value(option));
     let files: Vec<String> = [Some(file.as_str()), card, cells].into_iter().flatten().map(str::to_string).collect();

@@ -51,7 +51,7 @@ pub fn jumps(routine: &RoutineText) -> Line {
     let used: Vec<String> = used.map(|(kind, cycles)| format!("{kind} {cycles}")).collect();
     let text = match used.is_empty() {
         true => "The code has no conditional branch.".to_string(),
-        false => format!("Extra cycles when it jumps: {}.", used.join(", ")),
+        false => format!("Extra cycles of a branch that jumps: {}.", used.join(", ")),
     };
     Line::prose("Taken jumps", text)
 }
@@ -80,7 +80,7 @@ mod tests {
         let routine = RoutineText::read("f", text.as_bytes()).unwrap();
         assert!(check("f", &routine, &card).is_ok());
         assert_eq!(told(&line(&routine, Some(&card))), ["Lines 1 to 9 are those of the card my card."]);
-        assert_eq!(told(&jumps(&routine)), ["Extra cycles when it jumps: BRANCHIF 3."]);
+        assert_eq!(told(&jumps(&routine)), ["Extra cycles of a branch that jumps: BRANCHIF 3."]);
     }
 
     #[test]

@@ -29,7 +29,7 @@ pub fn lines(text: &[u8]) -> Vec<Line<'_>> {
 }
 
 impl<'a> Line<'a> {
-    /// The words, parted by one space each; one of them is empty where a space is too many.
+    /// The words, separated by one space each; one of them is empty where a space is too many.
     pub fn words(&self) -> Vec<Word<'a>> {
         let mut start = 0;
         let word = |bytes: &'a [u8]| {

@@ -11,7 +11,7 @@ pub fn primitives(primitives: &[u8]) -> String {
     let spelling = || words.iter().enumerate().find_map(|(index, word)| names::primitive(word, &words[..index]));
     let too_many = || words.get(32).map(|word| Fault::at(word, "at most 32 primitives"));
     let fault = layout::spacing(&line).or_else(too_many).or_else(spelling);
-    let whole = || Fault::of(0..line.bytes.len(), "one line of names, parted by one space", "more than one line");
+    let whole = || Fault::of(0..line.bytes.len(), "one line of names, separated by one space", "more than one line");
     fault.unwrap_or_else(whole).printed("PRIMITIVES", &line)
 }
 
