@@ -127,7 +127,9 @@ impl fmt::Display for Fault {
             }
             Fault::Float(name) => write!(to, "a float ({name}) has no kind: use an int of a smaller unit"),
             Fault::Boxed(name) => write!(to, "an int32, int64 or nativeint ({name}) has no kind: use int"),
-            Fault::Exception(name) => write!(to, "an exception ({name}) has no kind: return a result of type int instead"),
+            Fault::Exception(name) => {
+                write!(to, "an exception ({name}) has no kind: return a result of type int instead")
+            }
             Fault::Untyped(name) => {
                 write!(to, "a comparison at no known type ({name}) has no kind: annotate int, as in `(x : int)`")
             }

@@ -109,8 +109,7 @@ fn pulse_margin(figures: &Figures) -> Result<Line, Failure> {
 fn reserved_block(figures: &Figures) -> Line {
     let Figures { words, depth, .. } = figures;
     let [words_told, entries] = [counted(words, "word", "words"), counted(depth, "stack entry", "stack entries")];
-    let text =
-        format!("WORDS {words}, DEPTH {depth}: reserve {words_told} and {entries} once, when the card starts.");
+    let text = format!("WORDS {words}, DEPTH {depth}: reserve {words_told} and {entries} once, when the card starts.");
     Line::prose("Reserved block", text)
 }
 

@@ -85,7 +85,10 @@ pub fn twice_refused_lines(first: Refusal, merging: Refusal, routine: &RoutineTe
 pub fn which_bound(figures: &Figures, first: Option<Refusal>) -> Line {
     let text = match (figures.bound, first) {
         (Bound::Merging, Some(first)) => {
-            format!("The merging bound, which can be higher than the first. The first bound is refused: {}.", first.told())
+            format!(
+                "The merging bound, which can be higher than the first. The first bound is refused: {}.",
+                first.told()
+            )
         }
         (Bound::Merging, None) => "The merging bound, which can be higher than the first.".into(),
         (Bound::First, _) => "The first bound, which walks every path.".into(),
@@ -128,7 +131,11 @@ mod tests {
         let figures = Figures::of(&merged(UNDECIDED, MERGED)).unwrap().unwrap();
         let decision = of_figures(&figures, Some("Do this.".into())).unwrap();
         assert_eq!((decision.word, decision.fits, decision.status), ("NOT DECIDED", false, 4));
-        assert!(decision.sentences.ends_with("is 1 cycle over: CYCLES 149980 is above TICK 149979. Do this."), "{}", decision.sentences);
+        assert!(
+            decision.sentences.ends_with("is 1 cycle over: CYCLES 149980 is above TICK 149979. Do this."),
+            "{}",
+            decision.sentences
+        );
     }
 
     #[test]
