@@ -231,10 +231,11 @@ usage: tickbound COMMAND [ARGUMENTS]
 
 {commands}
 Most commands read one routine file, FILE; without it, or with -, they read standard input. Options stand anywhere before
---, after which every word is a name. A refusal prints `REFUSED`, a number and a place, and no figure. {WHY}.
+--, after which every word is a name. A refusal prints `REFUSED`, a number and a place, and no figure.
+{WHY}.
 
-exit status: 0 what was asked for, 1 a refusal, 3 a trace that differs, 4 a routine that does not fit in its tick (decide,
-sheet, batch), 2 anything else
+exit status: 0 what was asked for, 1 a refusal, 3 a trace that differs, 4 OVER or UNDECIDED (decide, sheet, batch),
+2 anything else
 
 documents: {documents}
 "

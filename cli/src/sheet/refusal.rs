@@ -18,7 +18,7 @@ fn words(number: u16) -> (&'static str, &'static str) {
         ),
         3 => ("a number is outside its range", "correct the number, or ask the buyer for a file in the right form"),
         4 => (
-            "a name is unknown, stands there twice or is out of sequence, a handle leads to a block that is not there, or an address does not follow",
+            "a name is unknown, repeated or out of sequence, a handle leads to a block that is not there, or an address does not follow",
             "ask the buyer for a file in the right form",
         ),
         5 => ("an instruction has no price", "add its price to lines 3 to 6, or price the file by a card that has it"),

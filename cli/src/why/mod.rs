@@ -30,7 +30,7 @@ fn meaning(number: u16) -> &'static str {
         7 => "stuck: some input leads to a step that cannot be made",
         8 => "one path has more than 32 unknown branches",
         9 => "there are more than BUDGET steps",
-        11 => "a run needs one number in every cell",
+        11 => "a run needs one number or a handle in every cell",
         12 => "the words are no code of the 61 kinds",
         13 => "a branch leads to its own address or a lower one",
         14 => "ways that meet cannot be merged",

@@ -3,7 +3,7 @@ use super::lines::{shown, told};
 use super::routine::{number, Routine};
 
 const OPENINGS: &str = "this branch would be the thirty-third unknown one on one path; narrow the inputs, \
-    or ask merge, which has no such limit";
+    or use merge, which has no such limit";
 
 /// The line of code at an address, and the cause.
 pub fn reason(routine: &Routine, refusal: u16, address: u32) -> String {
@@ -37,7 +37,7 @@ fn after_the_end(routine: &Routine, address: u32) -> String {
 
 fn spent(routine: &Routine) -> String {
     let budget = routine.names(2).first().map_or(String::new(), |word| told(word.bytes));
-    format!("BUDGET is {budget}, and this is the first step beyond it; raise BUDGET, narrow the inputs, or ask merge")
+    format!("BUDGET is {budget}, and this is the first step beyond it; raise BUDGET, narrow the inputs, or use merge")
 }
 
 /// What can make a step of a kind stuck.
@@ -85,9 +85,11 @@ fn field(routine: &Routine, index: &str) -> Vec<String> {
 /// Why ways cannot be merged: without a block there is no handle.
 fn meeting(routine: &Routine, address: u32) -> Vec<String> {
     let ways = ways(routine, address);
-    let mut causes = vec![format!("the stacks have unlike heights on the ways that come here, from {ways}")];
+    let mut causes = vec![format!("the stack has different heights on the ways that meet here, from {ways}")];
     if !routine.blocks().is_empty() {
-        causes.push(format!("a cell is a handle on one of the ways and anything else on another, from {ways}"));
+        causes.push(format!(
+            "a cell is a handle on one of the ways that meet here and something else on another, from {ways}"
+        ));
     }
     causes
 }
