@@ -43,7 +43,7 @@
 
 /* The functions return the 64 bits of an answer in one register, as System V's convention for x86-64 returns a struct
  * of 64 bits. Elsewhere a struct may be returned in another place, and an answer would be whatever stands there. No
- * macro tells of gcc's options -fpcc-struct-return and -mabi=ms, which change the convention: compile without them. */
+ * macro shows gcc's options -fpcc-struct-return and -mabi=ms, which change the convention: compile without them. */
 #if !defined __x86_64__ || defined __ILP32__ || defined _WIN32 || defined __CYGWIN__
 #error "tickbound.h: the library is for x86-64 with System V's calling convention, as on Linux; not for x32 or Windows"
 #endif
@@ -312,7 +312,7 @@ struct tickbound_figures {
 };
 
 /* The figures of a bound, of either. `share` is the cycles in thousandths of TICK, to the nearest whole number, at an
- * exact half the even one; so it does not tell whether the routine fits in TICK, which `tickbound_decide` decides.
+ * exact half the even one; so it does not say whether the routine fits in TICK, which `tickbound_decide` decides.
  * `path` is the letters of the decisions, N or T, ended by a 0; where there is none, it is
  * empty (the report has `-` there). */
 struct tickbound_report {
