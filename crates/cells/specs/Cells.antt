@@ -51,7 +51,7 @@ handle k = cell (Handle k)
 
 -- ---- operations on numbers
 
--- "OFFSETINT i adds i. NEGINT negates. BOOLNOT gives 1 minus the accumulator."
+-- "OFFSETINT i adds i. .. NEGINT negates. BOOLNOT gives 1 minus the accumulator."
 unfoldable pub calculate₁ : Unary → ℤ → ℤ → ℤ
 calculate₁ Offset i n = n +ℤ i
 calculate₁ Negate i n = negℤ n
@@ -113,7 +113,7 @@ range₂ b low more low′ more′ = cond (eqb (more + more′) 0) (number (calc
 
 -- ---- operations on cells
 
--- "Stuck: a handle in arithmetic, comparison or branch condition" (but for the comparison of two handles, below)
+-- "Stuck: .. a handle in arithmetic, comparison or branch condition" (but for the comparison of two handles, below)
 unfoldable pub map₁ : Unary → ℤ → Value → Try Cell
 map₁ u i (Range low more) = done (range₁ u i low more)
 map₁ u i (Handle k) = stuck
@@ -157,7 +157,7 @@ conditionIn (Handle k) = stuck
 unfoldable pub condition : Cell → Try Condition
 condition a = conditionIn (a .value)
 
--- "Stuck: a field access through a non-handle"
+-- "Stuck: .. a field access through a non-handle"
 unfoldable pub handled : Value → Try ℕ
 handled (Range low more) = stuck
 handled (Handle k) = done k

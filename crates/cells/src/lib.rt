@@ -22,7 +22,7 @@ pub struct Cell {
     pub value: Value,
 }
 
-// "OFFSETINT i adds i. NEGINT negates. BOOLNOT gives 1 minus the accumulator."
+// "OFFSETINT i adds i. .. NEGINT negates. BOOLNOT gives 1 minus the accumulator."
 pub enum Unary {
     Offset,
     Negate,

@@ -2,7 +2,7 @@
 use Prim.Native.Nat.{ℕ, zero, suc, _*_, _/_, _%_, _^_}
 use lib.Bits.{bitXor}
 
--- "shift left .., followed by exclusive or with the state before that shift, keeping 32 bits"
+-- "shift left", "followed by exclusive or with the state before that shift, keeping 32 bits"
 abbrev pub left : ℕ → ℕ → ℕ
 left k s = bitXor s (s * 2 ^ k % 2 ^ 32)
 

@@ -33,7 +33,7 @@ use Rattle.imports.specs.Lines.{ShortNames}
 use Rattle.imports.proofs.IntegerLaws.{integer-length}
 use Rattle.imports.proofs.LineLaws.{parts-length}
 
--- ---- "1023 PUSHCONSTINT -2147483648" and a line feed are 30 bytes
+-- ---- `1023 PUSHCONSTINT -2147483648` and a line feed are 30 bytes
 
 -- no name of a kind has more than 12 characters: computed for the whole table
 name-short : (k : ℕ) → k < 61 → length (kindAt k .name) ≤ 12

@@ -55,7 +55,7 @@ pub record Kind : Type 0 where
 abbrev pub kind : ℕ → String → Argument → Bool → Operation → ℕ → Kind
 kind c s a p o n = record { opcode = c; name = bytes s; argument = a; pushes = p; operation = o; fixed = pos n }
 
--- the column "whether it pushes first"
+-- whether a kind pushes first: a column of the table
 abbrev pub pushes : Bool
 pushes = true
 

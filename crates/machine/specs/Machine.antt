@@ -104,19 +104,19 @@ restack cs s = record { at = s .at; accu = s .accu; stack = cs; blocks = s .bloc
 unfoldable pub reblock : List (List Cell) → State → State
 reblock bs s = record { at = s .at; accu = s .accu; stack = s .stack; blocks = bs }
 
--- "PUSH: push accumulator"; "Stuck: a push on 64 entries"
+-- "PUSH: push accumulator"; "Stuck: .. a push on 64 entries"
 unfoldable pub push : State → Try State
 push s = cond (ltb (height s) stackLimit) (done (restack (s .accu ∷ s .stack) s)) stuck
 
--- "POP n (0 to 64): drop n."; "Stuck: an entry popped that is not there"
+-- "POP n (0 to 64): drop n."; "Stuck: .. an entry read, assigned or popped that is not there"
 unfoldable pub pop : ℕ → State → Try State
 pop n s = without n (s .stack) >>= λ cs. done (restack cs s)
 
--- "ASSIGN n (0 to 63): entry n becomes the accumulator, which becomes 0."; "Stuck: an entry assigned that is not there"
+-- "ASSIGN n (0 to 63): entry n becomes the accumulator, which becomes 0."; "Stuck: .. an entry read, assigned or popped that is not there"
 unfoldable pub store : ℕ → State → Try State
 store n s = put n (s .accu) (s .stack) >>= λ cs. done (load (number (pos 0)) (restack cs s))
 
--- "field n of the handled block"; "Stuck: a field access through a non-handle; a field the block lacks"
+-- "field n of the handled block"; "Stuck: .. a field access through a non-handle; a field the block lacks"
 unfoldable pub getField : ℕ → State → Try Cell
 getField n s =
     block (s .accu) >>= λ k.

@@ -48,7 +48,7 @@ constants one other =
 pub examples :
     -- case 1 of document 01: ADDINT has popped on one way to 4 only
     (merged case-1.code case-1.bounded ≡ refused (NoMeeting 4))
-    -- case 2: both ways of the branch meet at 1, "and costs the larger": with an extra of 3, the taken way
+    -- case 2: both ways of the branch meet at 1, and the larger sum stays: with an extra of 3, that of the taken way
     × (merged (code (line (bytes "BRANCHIF") 1 5 0 0 ∷ line (bytes "STOP") 0 1 0 0 ∷ [])) (begins unknown []) ≡ figures 6 0 0 2)
     × (merged (code (line (bytes "BRANCHIF") 1 5 0 3 ∷ line (bytes "STOP") 0 1 0 0 ∷ [])) (begins unknown []) ≡ figures 9 0 0 2)
     -- case 3

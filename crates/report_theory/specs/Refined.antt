@@ -56,8 +56,8 @@ KnownMerge text bytes =
 
 -- ---- of all texts
 
--- "a `?` on line 10, then 12", "A run refuses a range of more than one number as it does `?`." (document 02 §12): what the run reads is what the
--- bound reads with a single number or a handle in every cell, and nothing else
+-- "a `?` on line 10, then 12", which are lines 11 and 13 since §1 of document 02; "A run refuses a range of more than one number as it
+-- does `?`." (document 02 §12): what the run reads is what the bound reads with a single number or a handle in every cell, and nothing else
 abbrev pub RunsKnown : Type 0
 RunsKnown = (text : List ℕ) (x : Routine) → (readRun text ≡ readings.routine x) ↔ ((readBound text ≡ readings.routine x) × Plain (x .start))
 

@@ -27,7 +27,7 @@ layout =
     ++ section fields (cell ∷ [])
     ++ section instructions []
 
--- "last, optional · ANSWER": a line of that word alone, after at least one code line
+-- "last, optional", ANSWER: a line of that word alone, after at least one code line
 unfoldable pub isAnswer : Line → Bool
 isAnswer l = equals (l .text) (bytes "ANSWER")
 

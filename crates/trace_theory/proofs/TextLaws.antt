@@ -26,7 +26,7 @@ use Rattle.traces.proofs.TraceLaws.{check-accepted}
 use Rattle.trace_theory.specs.Trace.{entryText, entriesText, traceNames, traceText}
 use Rattle.trace_theory.proofs.RecordingLaws.{Within}
 
--- "at most 5 and 6 digits": an address, and what a step costs at the prices of a routine file
+-- at most 5 and 6 digits: an address, and what a step costs at the prices of a routine file
 abbrev pub Ranged : Entry → Type 0
 Ranged = Within 62000 196605
 

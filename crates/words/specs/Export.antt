@@ -68,6 +68,6 @@ wordsIn (x ∷ xs) = itemWords x ++ wordsIn xs
 unfoldable pub exportOps : List Op → List ℕ
 exportOps xs = allBytes (wordsIn (itemsFrom (positions 0 xs) 0 xs))
 
--- "ANSWER, prices and cells" play no part: what an export makes of the lines of a file that passes 1 to 6 and 13
+-- ANSWER, prices and cells play no part: what an export makes of the lines of a file that passes 1 to 6 and 13
 unfoldable pub exportBytes : List Line → List ℕ
 exportBytes ls = exportOps (map (λ l. opOf (listed (names primitives) ls) (firstAddress (body ls)) (l .text)) (codeLines (body ls)))
