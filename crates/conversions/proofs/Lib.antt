@@ -1,4 +1,5 @@
 pub mod FunctionLaws
 pub mod FaultLaws
 pub mod MeantLaws
+pub mod LoweredLaws
 pub mod Theorems

@@ -35,7 +35,7 @@ use Rattle.inverses.proofs.RestoredLaws.{said-again, begins, same-ops}
 use Rattle.conversions.specs.Meant.{argumentMeant, pricedAs, codeMeant}
 
 -- addresses that begin at 0 are numbers of lines
-relative-zero : (z : ℤ) (a : Argument) → relative 0 z a ≡ z
+pub relative-zero : (z : ℤ) (a : Argument) → relative 0 z a ≡ z
 unfolding relative
 relative-zero z Absent = refl
 relative-zero z Target = +ℤ-idr z
@@ -43,7 +43,7 @@ relative-zero z Primitive = refl
 relative-zero z (Within r) = refl
 
 -- the second word of a line that says o
-said-op : {ps : List (List ℕ)} {n k : ℕ} {text : List ℕ} {o : Op} → Says ps n k text o → op text ≡ kindAt (o .kind) .name
+pub said-op : {ps : List (List ℕ)} {n k : ℕ} {text : List ℕ} {o : Op} → Says ps n k text o → op text ≡ kindAt (o .kind) .name
 unfolding words
 said-op {k = k} {o = o} s =
     let name = kindAt (o .kind) .name in
@@ -66,7 +66,7 @@ module _ (ks : PriceList) (es : List (List ℕ)) (pl : PriceList) where
       let v : o .value ≡ argumentValue (pl .names) (arg text) a = ap (λ (p : Op). p .value) e ∙ relative-zero (argumentValue (pl .names) (arg text) a) a in
       ap (λ w. priced w k (argumentValue (pl .names) (arg text) a)) q ∙ ap₂ (priced (kindAt (o .kind) .name)) (sym h) (sym v)
 
-  by-ops : {n k : ℕ} {ls : List Line} {os : List Op} → Said (pl .names) n k ls os → map (λ l. opOf (pl .names) 0 (l .text)) ls ≡ os →
+  pub by-ops : {n k : ℕ} {ls : List Line} {os : List Op} → Said (pl .names) n k ls os → map (λ l. opOf (pl .names) 0 (l .text)) ls ≡ os →
       map (λ l. instructionOf ks es pl (l .text)) ls ≡ map (λ o. pricedAs ks es pl (o .kind) (o .value)) os
   by-ops end e = refl
   by-ops (next {l = l} {o = o} {ls = ls} {os = os} s ss) e =

@@ -1,6 +1,6 @@
 -- The statements of `specs/Promises`, each proved by its name. Assumes nothing.
 use Prim.Native.Nat.{ℕ, _≤_}
-use mathlib.Core.Path.{_≡_, refl, sym, ap, _∙_}
+use mathlib.Core.Path.{_≡_, refl, sym, ap, subst, _∙_}
 use mathlib.Core.Bool.{Bool, true, false, cond}
 use mathlib.Core.List.{List, [], _∷_}
 use native.Mathlib.Omega.{arith}
@@ -18,7 +18,7 @@ use Rattle.text.proofs.TextLaws.{every-map, all-every}
 use Rattle.routine.specs.declared.Section.the-variants.{Primitives as primitives}
 use Rattle.routine.specs.Layout.{body, list}
 use Rattle.routine.specs.Rows.{wellNamed, firstAt, Passes}
-use Rattle.routine.specs.Routine.{Routine, routineOf, readBound}
+use Rattle.routine.specs.Routine.{Routine, firstAddress, codeIn, routineOf, readBound}
 use Rattle.routine.proofs.RowLaws.{read-passes}
 use Rattle.routine.proofs.PassingLaws.{first-natural}
 use Rattle.words.specs.Words.{wordsOf}
@@ -26,16 +26,20 @@ use Rattle.words.specs.Decoding.{codeFault}
 use Rattle.words.specs.Import.{lineLaidOut, lineVerdict, oneLine, primitivesVerdict, primitivesOf, faultVerdict, both, importVerdict, importText}
 use Rattle.imports.proofs.ImportLaws.{import-next, import-line, import-sound}
 use Rattle.words.specs.Export.{exportBytes}
-use Rattle.inverses.specs.Sections.{replaced, primitivesLine}
+use Rattle.inverses.specs.Sections.{linesText, replaced, primitivesLine}
 use Rattle.inverses.proofs.FileLaws.{replaced-whole}
-use Rattle.inverses.proofs.ExportedLaws.{export-imported, export-text}
+use Rattle.inverses.proofs.ExportedLaws.{export-imported, export-text, words-imported, words-text}
 use Rattle.inverses.proofs.RestoredLaws.{import-exported}
 use Rattle.answers.specs.Answers.{reported, refused, ofVerdict}
 use Rattle.answers.proofs.AnswerLaws.{never, lent-reported, from-reading}
 use Rattle.conversions.specs.Answers.{conversionLimit, importAnswer, exportAnswer}
-use Rattle.conversions.specs.Promises.{BeginsAtZero, ExportsImport, ImportsReplace, ImportsExport, ImportRefusedWhere, ImportedWhere, ImportsMean}
+use Rattle.conversions.specs.Promises.{BeginsAtZero, ExportsImport, ImportsReplace, ImportsExport, ImportRefusedWhere, ImportedWhere, ImportsMean, ExportsTaken, SameWords, LowerBy, ImportsLower}
+use Rattle.relocations.specs.Raised.{raiseCode, raiseState}
+use Rattle.relocations.proofs.Theorems.{bound-raised, merged-raised, run-raised}
 use Rattle.conversions.proofs.FunctionLaws.{import-refused, import-made, import-reported}
 use Rattle.conversions.proofs.MeantLaws.{code-meant}
+use Rattle.conversions.proofs.LoweredLaws.{said, whole, whole-text, whole-lines, begins-zero, same-words, code-raised, start-raised, budget-kept, answers-kept}
+use Rattle.conversions.proofs.LoweredLaws as lowered
 use Rattle.conversions.proofs.FaultLaws.{fault-decides, decides-fault, fault-nowhere, nowhere-fault}
 
 same-bytes : (bs cs : List ℕ) → reported bs ≡ reported cs → bs ≡ cs
@@ -149,3 +153,55 @@ imports-mean words line made text n x small e s l g =
     let r = read-passes text x g in
     ap (λ (z : Routine). z .code) (r .1)
     ∙ code-meant words line text (every-map (λ b k. ltb-true b 256 k) (all-every (λ b. ltb b 256) words small)) (y .0) (r .0) l (s ∙ y .1)
+
+-- ---- a file that begins at another address
+
+-- what is made of exported words
+made-of : (text words made : List ℕ) (n m : ℕ) → (p : Passes (lines text)) → exportAnswer text n ≡ reported words → importAnswer words (primitivesLine (lines text)) m ≡ reported made →
+    replaced (lines text) made ≡ linesText (whole text p)
+made-of text words made n m p e g =
+    let x = exported text words n e in
+    let y = imported words (primitivesLine (lines text)) made m g in
+    ap (replaced (lines text)) (y .1 ∙ ap (λ ws. importText ws (primitivesLine (lines text))) (x .1) ∙ words-text text p (lowered.made text p) (said text p)) ∙ sym (whole-text text p)
+
+-- its lines
+made-lines : (text words made : List ℕ) (n m : ℕ) → (p : Passes (lines text)) → exportAnswer text n ≡ reported words → importAnswer words (primitivesLine (lines text)) m ≡ reported made →
+    lines (replaced (lines text) made) ≡ whole text p
+made-lines text words made n m p e g = ap lines (made-of text words made n m p e g) ∙ whole-lines text p
+
+pub exports-taken : ExportsTaken
+exports-taken text words n m e h =
+    let x = exported text words n e in
+    let line = primitivesLine (lines text) in
+    (importText (exportBytes (lines text)) line, ap (λ ws. importAnswer ws line m) (x .1) ∙ import-made (exportBytes (lines text)) line m h (words-imported text (x .0) (lowered.made text (x .0)) (said text (x .0))))
+
+pub same-words-again : SameWords
+same-words-again text words made out n m k e g o =
+    let x = exported text words n e in
+    let l = made-lines text words made n m (x .0) e g in (
+      ap (λ ls. firstAddress (body ls)) l ∙ begins-zero text (x .0),
+      exported (replaced (lines text) made) out k o .1 ∙ ap exportBytes l ∙ same-words text (x .0) ∙ sym (x .1),
+    )
+
+lower-by : (f : ℕ) (x y : Routine) → x .code ≡ raiseCode f (y .code) → x .start ≡ raiseState f (y .start) → x .budget ≡ y .budget → x .answers ≡ y .answers → LowerBy f x y
+lower-by f x y c s t u = record {
+  bounds = rw (c, s, t) (bound-raised f (y .code) (y .budget) (y .start));
+  merges = rw (c, s) (merged-raised f (y .code) (y .start));
+  runs = rw (c, s, t, u) (run-raised f (y .code) (y .budget) (y .start) (y .answers));
+}
+
+pub imports-lower : ImportsLower
+unfolding routineOf codeIn
+imports-lower text words made n m x y r e g q =
+    let a = read-passes text x r in
+    let b = read-passes (replaced (lines text) made) y q in
+    let p = a .0 in
+    let w = whole text p in
+    let f = firstAddress (body (lines text)) in
+    let is : y ≡ routineOf w = b .1 ∙ ap routineOf (made-lines text words made n m p e g) in
+    let c : x .code ≡ raiseCode f (y .code) = ap (λ (z : Routine). z .code) (a .1) ∙ code-raised text p ∙ ap (λ (z : Routine). raiseCode f (z .code)) (sym is) in
+    let s : x .start ≡ raiseState f (y .start) = ap (λ (z : Routine). z .start) (a .1) ∙ start-raised text p ∙ ap (λ (z : Routine). raiseState f (z .start)) (sym is) in
+    let t : x .budget ≡ y .budget = ap (λ (z : Routine). z .budget) (a .1) ∙ budget-kept text p ∙ ap (λ (z : Routine). z .budget) (sym is) in
+    let u : x .answers ≡ y .answers = ap (λ (z : Routine). z .answers) (a .1) ∙ answers-kept text p ∙ ap (λ (z : Routine). z .answers) (sym is) in
+    let v : x .code .first ≡ f = ap (λ (z : Routine). z .code .first) (a .1) in
+    subst (λ i. LowerBy i x y) (sym v) (lower-by f x y c s t u)

@@ -17,6 +17,10 @@ use Rattle.words.specs.Words.{wordsOf}
 use Rattle.words.specs.Import.{primitivesVerdict, primitivesOf}
 use Rattle.inverses.specs.Sections.{codeSection, replaced, primitivesLine}
 use Rattle.answers.specs.Answers.{reported, refused}
+use Rattle.bounds.specs.Tree.{bound}
+use Rattle.bounds.specs.Run.{run}
+use Rattle.merges.specs.Merge.{merged}
+use Rattle.relocations.specs.Raised.{raiseVerdict}
 use Rattle.conversions.specs.Answers.{conversionLimit, importAnswer, exportAnswer}
 use Rattle.conversions.specs.Faults.{AtFault, WrongOffset, Decides}
 use Rattle.conversions.specs.Meant.{codeMeant}
@@ -65,3 +69,30 @@ ImportsMean =
     (words line made text : List ℕ) (n : ℕ) (x : Routine) → all (λ b. ltb b 256) words ≡ true → importAnswer words line n ≡ reported made →
     codeSection (lines text) ≡ made → listed (names primitives) (lines text) ≡ primitivesOf line → readBound text ≡ routine x →
     x .code ≡ codeMeant (lines text) words
+
+-- ---- a file that begins at another address
+
+-- an import takes the words of a file, with its primitives line, wherever the file begins
+abbrev pub ExportsTaken : Type 0
+ExportsTaken =
+    (text words : List ℕ) (n m : ℕ) → exportAnswer text n ≡ reported words → conversionLimit ≤ m →
+    (made : List ℕ) × (importAnswer words (primitivesLine (lines text)) m ≡ reported made)
+
+-- the file with the lines made in their place begins at address 0 and has the same words
+abbrev pub SameWords : Type 0
+SameWords =
+    (text words made out : List ℕ) (n m k : ℕ) → exportAnswer text n ≡ reported words → importAnswer words (primitivesLine (lines text)) m ≡ reported made →
+    exportAnswer (replaced (lines text) made) k ≡ reported out → BeginsAtZero (replaced (lines text) made) × (out ≡ words)
+
+-- the routines x and y have the same reports of both bounds and of the run, and the places of refusals 7, 8, 9 and 14 of y are lower by f
+pub record LowerBy (f : ℕ) (x y : Routine) : Type 0 where
+  pub bounds : bound (x .code) (x .budget) (x .start) ≡ raiseVerdict f (bound (y .code) (y .budget) (y .start))
+  pub merges : merged (x .code) (x .start) ≡ raiseVerdict f (merged (y .code) (y .start))
+  pub runs : run (x .code) (x .budget) (x .start) (x .answers) ≡ raiseVerdict f (run (y .code) (y .budget) (y .start) (y .answers))
+
+-- "An import followed by a bound gives what the written file gives", of a file that begins at any address: with the lines made in their
+-- place, where that file passes, the places are lower by its first address, and all else is the same
+abbrev pub ImportsLower : Type 0
+ImportsLower =
+    (text words made : List ℕ) (n m : ℕ) (x y : Routine) → readBound text ≡ routine x → exportAnswer text n ≡ reported words →
+    importAnswer words (primitivesLine (lines text)) m ≡ reported made → readBound (replaced (lines text) made) ≡ routine y → LowerBy (x .code .first) x y

@@ -1,29 +1,22 @@
--- Laws of a number that is written as a cell: it is read back as that number, and no byte of it parts words or lines. Assumes nothing.
+-- Laws of a number that is written as a cell: it is read back as that number. Assumes nothing.
 use mathlib.Core.Path.{_≡_, refl, ap, subst, _∙_}
 use mathlib.Core.Bool.{Bool, true, false, cond, _&&_}
 use mathlib.Core.List.{List, [], _∷_}
-use Prim.Native.Nat.{ℕ, suc, _+_, _<_}
+use Prim.Native.Nat.{ℕ, _+_}
 use native.Mathlib.Omega.{arith}
 use lib.Dec.{eqb}
-use lib.IntN.{ℤ, pos, negsuc}
+use lib.IntN.{ℤ}
 use lib.ListN.{length, getD, take, drop}
 use borrow.Author.Tests.{eqb-true}
 use Rattle.text.specs.Text.{equals}
 use Rattle.text.specs.declared.Numeral.the-variants.{Misspelt as misspelt, Number as number}
 use Rattle.text.specs.Decimal.{digitsFrom, natural, numeral}
-use Rattle.text.proofs.TextLaws.{more}
 use Rattle.routine.specs.declared.CellWord.the-variants.{Unknown as unknown, Known as known}
 use Rattle.routine.specs.Rows.{knownOf, blockOf, spanOf, stop, spanned, hashed, cellWord}
 use Rattle.words.specs.Lines.{integer}
 use Rattle.inverses.proofs.JoinLaws.{Free, split-alone}
 use Rattle.inverses.proofs.SpellingLaws.{integer-read}
-use Rattle.inverses.proofs.LineLaws.{decimal-free}
-
--- a byte that is neither a minus nor a digit
-pub integer-free : (c : ℕ) → (45 ≡ c → ⊥) → c < 48 → (z : ℤ) → Free c (integer z)
-unfolding integer
-integer-free c m h (pos n) = decimal-free c h n
-integer-free c m h (negsuc n) = more m (decimal-free c h (suc n))
+use Rattle.inverses.proofs.LineLaws.{integer-free}
 
 not-spelt : {X : Type 0} (z : ℤ) → misspelt ≡ number z → X
 not-spelt z e = let q : _≡_ {A = ℕ} 0 1 = cc in absurd (omega arith)

@@ -1,5 +1,5 @@
--- Laws of an export that is imported: of a passing file that begins at address 0 the words are accepted with its primitives line, and
--- the lines made are those of the file. Assumes nothing.
+-- Laws of an export that is imported: of a passing file the words are accepted with its primitives line, and the lines made are those of
+-- the file, from address 0 on. Assumes nothing.
 use mathlib.Core.Path.{_≡_, refl, sym, ap, subst, _∙_}
 use mathlib.Core.Bool.{Bool, true, false, cond, not, false≢true}
 use mathlib.Core.List.{List, [], _∷_, _++_, map}
@@ -14,7 +14,7 @@ use Rattle.text.specs.Text.{bytes, isEmpty, equals, split, words, Line, linesOf
 use Rattle.text.specs.declared.Place.{Place}
 use Rattle.text.specs.declared.Place.the-variants.{At as at, Missing as missing}
 use Rattle.text.proofs.TextLaws.{Every, none, more, place-below}
-use Rattle.text.proofs.LineLaws.{unendedLine}
+use Rattle.text.proofs.LineLaws.{endedLine, unendedLine}
 use Rattle.numbers.specs.Numbers.{IsNumber, numbers}
 use Rattle.instructions.specs.Kinds.{addresses, kindNames}
 use Rattle.instructions.specs.Columns.{kindAt}
@@ -29,7 +29,7 @@ use Rattle.routine.specs.Rows.{value, op, arg, namesLaidOut, laidOut, named, fi
 use Rattle.routine.specs.Routine.{inside, argumentValue, firstAddress}
 use Rattle.routine.proofs.RowLaws.{passes-laid-out, passes-spaced, passes-named}
 use Rattle.routine.proofs.RangeLaws.{natural-inside, inside-keeps, every-mapped}
-use Rattle.routine.proofs.PassingLaws.{Coded, code-passed, code-some, code-few, first-small}
+use Rattle.routine.proofs.PassingLaws.{Coded, code-passed, code-some, code-few, first-natural, first-small}
 use Rattle.routine.proofs.PassingLaws as coded
 use Rattle.words.specs.Words.{wordsOf, allBytes}
 use Rattle.words.specs.Decoding.{decoded, items, faultFrom, wordFault, offsetFault, codeFault}
@@ -39,10 +39,10 @@ use Rattle.words.specs.Export.{Op, relative, opOf, wordsIn, exportOps, exportBy
 use Rattle.words.proofs.FaultLaws.{fault-starts}
 use Rattle.words.proofs.OffsetLaws.{fault-then}
 use Rattle.words.proofs.ExportLaws.{Placed, export-fits, bytes-entries, bytes-decoded}
-use Rattle.inverses.specs.Sections.{codeSection, primitivesLine}
+use Rattle.inverses.specs.Sections.{linesText, codeSection, primitivesLine}
 use Rattle.inverses.proofs.JoinLaws.{Free, pieces-every, split-alone, lines-free}
 use Rattle.inverses.proofs.FileLaws.{section-text}
-use Rattle.inverses.proofs.LineLaws.{argument-number, code-said}
+use Rattle.inverses.proofs.LineLaws.{argument-number, code-said, LowerLine, code-lower}
 use Rattle.inverses.proofs.ImportedLaws.{Said, end, next, exported, all-placed, lines-made, no-fault, no-offset-fault}
 
 -- ---- the value of an argument is a number
@@ -81,6 +81,25 @@ all-said : (ls : List Line) → firstAt (body ls) ≡ pos 0 → {k : ℕ} (ms : 
 all-said ls b [] coded.none coded.none coded.none coded.none = end
 all-said ls b {k} (l ∷ ms) (coded.next p₂ c₂) (coded.next p₃ c₃) (coded.next p₄ c₄) (coded.next p₆ c₆) =
     next (code-said ls b k l p₂ p₃ p₄ p₆) (all-said ls b ms c₂ c₃ c₄ c₆)
+
+-- lines, and how an import writes them, where the file begins at `first`
+pub data Lower (ps : List (List ℕ)) (n first : ℕ) : ℕ → List Line → List Line → Type 0 where
+  ends : {k : ℕ} → Lower ps n first k [] []
+  follows : {k : ℕ} {l : Line} {ls ms : List Line} (x : LowerLine ps n k first (l .text)) → Lower ps n first (suc k) ls ms → Lower ps n first k (l ∷ ls) (endedLine (x .line) ∷ ms)
+
+all-lower : (ls : List Line) → pos (firstAddress (body ls)) ≡ firstAt (body ls) → {k : ℕ} (ms : List Line)
+    → Coded (test layout-row ls) k ms → Coded (test range-row ls) k ms → Coded (test name-row ls) k ms → Coded (test target-row ls) k ms
+    → (ns : List Line) × Lower (listed (names primitives) ls) (length (codeLines (body ls))) (firstAddress (body ls)) k ms ns
+all-lower ls b [] coded.none coded.none coded.none coded.none = ([], ends)
+all-lower ls b {k} (l ∷ ms) (coded.next p₂ c₂) (coded.next p₃ c₃) (coded.next p₄ c₄) (coded.next p₆ c₆) =
+    let x = code-lower ls b k l p₂ p₃ p₄ p₆ in
+    let r = all-lower ls b ms c₂ c₃ c₄ c₆ in
+    (endedLine (x .line) ∷ r .0, follows x (r .1))
+
+-- the lines written say what is exported
+pub lower-said : {ps : List (List ℕ)} {n first k : ℕ} {ls ms : List Line} → Lower ps n first k ls ms → Said ps n k ms (map (λ l. opOf ps first (l .text)) ls)
+lower-said ends = end
+lower-said (follows x r) = next (x .says) (lower-said r)
 
 -- what holds of every line holds of the one that has a role
 pub role-every : (P : List ℕ → Type 0) → P [] → (r : Role) (rs : List Role) {ls : List Line} → Every (λ l. P (l .text)) ls → P (textAt r rs ls)
@@ -131,36 +150,35 @@ module _ (text : List ℕ) (p : Passes (lines text)) where
   unfolding laidOut namesLaidOut listed
   primitives-few = leb-true (length (listed (names primitives) ls)) 32 (passes-laid-out p (names primitives) refl)
 
-  module _ (begins : firstAt (body ls) ≡ pos 0) where
-    abbrev ps : List (List ℕ)
-    ps = listed (names primitives) ls
+  abbrev ps : List (List ℕ)
+  ps = listed (names primitives) ls
 
-    abbrev pub ops : List Op
-    ops = map (λ l. opOf ps (firstAddress (body ls)) (l .text)) (codeLines (body ls))
+  abbrev pub ops : List Op
+  ops = map (λ l. opOf ps (firstAddress (body ls)) (l .text)) (codeLines (body ls))
 
-    pub counted : length ops ≡ length (codeLines (body ls))
-    counted = length-map (codeLines (body ls)) (λ l. opOf ps (firstAddress (body ls)) (l .text))
+  pub counted : length ops ≡ length (codeLines (body ls))
+  counted = length-map (codeLines (body ls)) (λ l. opOf ps (firstAddress (body ls)) (l .text))
 
-    few : length ops ≤ 1024
-    few = rw counted (code-few ls (p .layout))
+  few : length ops ≤ 1024
+  few = rw counted (code-few ls (p .layout))
 
-    room : 0 + length ops ≤ 1024
-    room = let h = few in omega arith
+  room : 0 + length ops ≤ 1024
+  room = let h = few in omega arith
 
-    some : 1 ≤ length ops
-    some = rw counted (code-some ls (p .layout))
+  some : 1 ≤ length ops
+  some = rw counted (code-some ls (p .layout))
 
-    pub file-said : Said ps (length ops) 0 (codeLines (body ls)) ops
-    file-said =
-        subst (λ n. Said ps n 0 (codeLines (body ls)) ops) (sym counted)
-        (all-said ls begins (codeLines (body ls)) (code-passed layout-row ls (p .layout)) (code-passed range-row ls (p .range)) (code-passed name-row ls (p .names)) (code-passed target-row ls (p .targets)))
+  op-number : (l : Line) → IsNumber (opOf ps (firstAddress (body ls)) (l .text) .value)
+  unfolding opOf
+  op-number l = value-number ps primitives-few (firstAddress (body ls)) (first-small (firstAt (body ls))) (arg (l .text)) (kindAt (find (op (l .text)) kindNames) .argument)
 
-    op-number : (l : Line) → IsNumber (opOf ps (firstAddress (body ls)) (l .text) .value)
-    unfolding opOf
-    op-number l = value-number ps primitives-few (firstAddress (body ls)) (first-small (firstAt (body ls))) (arg (l .text)) (kindAt (find (op (l .text)) kindNames) .argument)
+  pub ops-numbers : Every (λ o. IsNumber (o .value)) ops
+  ops-numbers = every-mapped (λ l. opOf ps (firstAddress (body ls)) (l .text)) op-number (codeLines (body ls))
 
+  -- lines from number 0 on that say what is exported
+  module _ (ms : List Line) (said : Said ps (length ops) 0 ms ops) where
     file-placed : Placed 0 (exported ps ops few)
-    file-placed = all-placed ps ops few 0 file-said (omega arith) room (every-mapped (λ l. opOf ps (firstAddress (body ls)) (l .text)) op-number (codeLines (body ls)))
+    file-placed = all-placed ps ops few 0 said (omega arith) room ops-numbers
 
     export-items : exportBytes ls ≡ allBytes (wordsIn (exported ps ops few))
     unfolding exportBytes exportOps
@@ -180,24 +198,42 @@ module _ (text : List ℕ) (p : Passes (lines text)) where
         fault-starts (length ps) (exportBytes ls) export-some
         ∙ ap (λ bs. faultFrom (length ps) 0 (decoded (wordsOf bs))) export-items
         ∙ ap (faultFrom (length ps) 0) (bytes-entries file-placed)
-        ∙ no-fault ps ops few 0 file-said (omega arith) room
+        ∙ no-fault ps ops few 0 said (omega arith) room
 
     export-sound : codeFault (length ps) (wordsOf (exportBytes ls)) ≡ missing
     export-sound =
         fault-then (length ps) (wordsOf (exportBytes ls)) words-sound
         ∙ ap (λ xs. offsetFault xs xs) decoded-items
-        ∙ no-offset-fault ps ops few 0 file-said (omega arith) room
+        ∙ no-offset-fault ps ops few 0 said (omega arith) room
 
     -- the words are accepted with the file's own primitives line
-    pub export-imported : importVerdict (exportBytes ls) (primitivesLine ls) ≡ accepted
+    pub words-imported : importVerdict (exportBytes ls) (primitivesLine ls) ≡ accepted
     unfolding importVerdict both faultVerdict
-    export-imported = rw (primitives-accepted, primitives-same, export-sound) refl
+    words-imported = rw (primitives-accepted, primitives-same, export-sound) refl
 
-    -- and the lines made are those of the file
-    pub export-text : importText (exportBytes ls) (primitivesLine ls) ≡ codeSection ls
+    -- and these lines are made
+    pub words-text : importText (exportBytes ls) (primitivesLine ls) ≡ bytes "AT OP ARG\n" ++ linesText ms
     unfolding importText codeText
-    export-text =
+    words-text =
         ap (λ qs. codeText qs (items (decoded (wordsOf (exportBytes ls))))) primitives-same
         ∙ ap (codeText ps) decoded-items
-        ∙ ap (λ t. bytes "AT OP ARG\n" ++ t) (lines-made ps ops few 0 file-said (omega arith) room)
-        ∙ sym (section-text p)
+        ∙ ap (λ t. bytes "AT OP ARG\n" ++ t) (lines-made ps ops few 0 said (omega arith) room)
+
+  -- of a file that begins at address 0 they are its own
+  module _ (begins : firstAt (body ls) ≡ pos 0) where
+    pub file-said : Said ps (length ops) 0 (codeLines (body ls)) ops
+    file-said =
+        subst (λ n. Said ps n 0 (codeLines (body ls)) ops) (sym counted)
+        (all-said ls begins (codeLines (body ls)) (code-passed layout-row ls (p .layout)) (code-passed range-row ls (p .range)) (code-passed name-row ls (p .names)) (code-passed target-row ls (p .targets)))
+
+    pub export-imported : importVerdict (exportBytes ls) (primitivesLine ls) ≡ accepted
+    export-imported = words-imported (codeLines (body ls)) file-said
+
+    pub export-text : importText (exportBytes ls) (primitivesLine ls) ≡ codeSection ls
+    export-text = words-text (codeLines (body ls)) file-said ∙ sym (section-text p)
+
+  -- of any file they are its own, each with its number and with the number of its target's line
+  pub file-lower : (ms : List Line) × Lower ps (length ops) (firstAddress (body ls)) 0 (codeLines (body ls)) ms
+  file-lower =
+      subst (λ n. (ms : List Line) × Lower ps n (firstAddress (body ls)) 0 (codeLines (body ls)) ms) (sym counted)
+      (all-lower ls (first-natural ls (p .range)) (codeLines (body ls)) (code-passed layout-row ls (p .layout)) (code-passed range-row ls (p .range)) (code-passed name-row ls (p .names)) (code-passed target-row ls (p .targets)))

@@ -152,7 +152,7 @@ lines-of-text (more {x = l} {xs = ls} h hs) =
     ∙ ap (λ ms. endedLine (l .text) ∷ ms) (lines-of-text hs)
 
 -- lines that are ended, by their texts
-ended-lines : {ls : List Line} → Every (λ l. l .ended ≡ true) ls → map (λ l. endedLine (l .text)) ls ≡ ls
+pub ended-lines : {ls : List Line} → Every (λ l. l .ended ≡ true) ls → map (λ l. endedLine (l .text)) ls ≡ ls
 ended-lines none = refl
 ended-lines (more {x = l} e es) = ap₂ (λ b ms. record { text = l .text; ended = b } ∷ ms) (sym e) (ended-lines es)
 

@@ -1,21 +1,21 @@
 -- Laws of a code line: of a passing file that begins at address 0 it is its number, its kind's name and its argument as an import
 -- writes them, and it is known by them what it says. Assumes nothing.
 use mathlib.Core.Path.{_≡_, refl, sym, ap, ap₂, subst, _∙_}
-use mathlib.Core.Bool.{Bool, true, _&&_, false≢true}
+use mathlib.Core.Bool.{Bool, true, false, cond, _&&_, false≢true}
 use mathlib.Core.List.{List, [], _∷_, _++_, append-assoc}
-use Prim.Native.Nat.{ℕ, _+_, _-_, _<_}
+use Prim.Native.Nat.{ℕ, zero, suc, _+_, _-_, _<_, _≤_}
 use native.Mathlib.Omega.{arith}
-use lib.Dec.{leb, ltb}
+use lib.Dec.{eqb, leb, ltb}
 use lib.IntN.{ℤ, pos, negsuc, _+ℤ_, _-ℤ_}
 use lib.Signed.{mag, leZ, ltZ}
 use lib.ListN.{length, getD}
 use borrow.Author.Tests.{eqb-true, leb-true, le-leb, ltb-true}
-use Rattle.text.specs.Text.{bytes, Line, place, indexOf, find, among, all, distinct}
+use Rattle.text.specs.Text.{bytes, equals, Line, place, indexOf, find, among, all, distinct}
 use Rattle.text.specs.declared.Place.the-variants.{At}
 use Rattle.text.specs.declared.Numeral.{Numeral}
 use Rattle.text.specs.declared.Numeral.the-variants.{Misspelt as misspelt, Number as number}
-use Rattle.text.specs.Decimal.{numeral, decimal}
-use Rattle.text.proofs.TextLaws.{every-map, every-getD, all-every, and-left, and-right, cond-left, equals-path}
+use Rattle.text.specs.Decimal.{digitsFrom, natural, numeral, decimal}
+use Rattle.text.proofs.TextLaws.{Every, none, more, every-map, every-getD, all-every, and-left, and-right, cond-left, equals-path}
 use Rattle.text.proofs.DecimalLaws.{decimal-digits, decimal-read}
 use Rattle.numbers.specs.declared.Range.{Range}
 use Rattle.numbers.specs.Numbers.{bits, half, IsNumber, within, numbers, same}
@@ -27,7 +27,7 @@ use Rattle.routine.specs.declared.Section.the-variants.{Primitives as primitive
 use Rattle.routine.specs.declared.Role.the-variants.{Names as names, Code as code}
 use Rattle.routine.specs.declared.Row.the-variants.{Layout as layout-row, Range as range-row, Name as name-row, Target as target-row}
 use Rattle.routine.specs.Layout.{body, codeLines, listed}
-use Rattle.routine.specs.Rows.{isNumeral, valueOf, value, at, op, arg, onArgument, argumentLaidOut, argumentInRange, argumentNamed, argumentReaches, atRange, codeInRange, inRange, codeNamed, named, firstAt, onCode, reaches, test}
+use Rattle.routine.specs.Rows.{isNumeral, valueOf, value, at, op, arg, isTarget, onArgument, argumentLaidOut, argumentInRange, argumentNamed, argumentReaches, atRange, codeInRange, inRange, codeNamed, named, firstAt, onCode, reaches, test}
 use Rattle.routine.specs.Routine.{inside, argumentValue, firstAddress}
 use Rattle.routine.proofs.RowLaws.{laid-out}
 use Rattle.routine.proofs.CodeLaws.{code-laid-out, code-named, kind-there, on-kind}
@@ -56,7 +56,7 @@ pub record Says (ps : List (List ℕ)) (n k : ℕ) (text : List ℕ) (o : Op) : 
 
 -- ---- numbers
 
-number-within : (z : ℤ) → IsNumber z → within numbers z ≡ true
+pub number-within : (z : ℤ) → IsNumber z → within numbers z ≡ true
 number-within (pos n) h = let k = h .fits in le-leb n (half bits - 1) (omega arith)
 number-within (negsuc n) h = let k = h .fits in rw (le-leb n (half bits - 1) (omega arith)) refl
 
@@ -180,11 +180,123 @@ module _ (ls : List Line) (begins : firstAt (body ls) ≡ pos 0) (k : ℕ) (l : 
             (on-kind (argumentReaches (pos 0) n w) text i e aimed));
       }
 
+-- ---- a line of a file that begins at another address
+
+-- an address as the number of its line
+difference : (u f : ℕ) → f ≤ u → pos u -ℤ pos f ≡ pos (u - f)
+difference u zero h = ap pos (omega arith)
+difference u (suc b) h = go (ltb u (suc b)) refl
+  where
+    go : (t : Bool) → ltb u (suc b) ≡ t → cond t (negsuc (suc b - suc u)) (pos (u - suc b)) ≡ pos (u - suc b)
+    go true e = absurd (let l = ltb-true u (suc b) e in omega arith)
+    go false e = refl
+
+-- the argument w as an import writes it, where the file begins at `first`, and the target that it has there
+record LowerArgument (ps : List (List ℕ)) (n first : ℕ) (w : List ℕ) (a : Argument) : Type 0 where
+  pub word : List ℕ
+  pub argued : Argued ps n a word (relative first (argumentValue ps w a) a)
+  pub back : a ≡ Target → (u : ℕ) × (relative first (argumentValue ps w a) a ≡ pos u) × (argumentValue ps w a ≡ pos (u + first))
+
+-- the line `text` as an import writes it
+pub record LowerLine (ps : List (List ℕ)) (n k first : ℕ) (text : List ℕ) : Type 0 where
+  pub line : List ℕ
+  pub says : Says ps n k line (opOf ps first text)
+  pub name : kindAt (opOf ps first text .kind) .name ≡ op text
+  pub back : kindAt (opOf ps first text .kind) .argument ≡ Target → (u : ℕ) × (opOf ps first text .value ≡ pos u) × (argumentValue ps (arg text) Target ≡ pos (u + first))
+
+other : {X : Type 0} (a : Argument) → isTarget a ≡ false → a ≡ Target → X
+other a f e = absurd (false≢true (sym f ∙ ap isTarget e))
+
+module _ (ps : List (List ℕ)) (n first : ℕ) (w : List ℕ) where
+  target-lower : (z : ℤ) → inside addresses (value w) ≡ z → within addresses z ≡ true → (leZ (pos first) z && ltZ z (pos first +ℤ pos n)) ≡ true → LowerArgument ps n first w Target
+  unfolding relative argumentValue
+  target-lower (pos u) i q h =
+      let a = leb-true first u (and-left (leb first u) (ltb u (first + n)) h) in
+      let b = ltb-true u (first + n) (and-right (leb first u) (ltb u (first + n)) h) in
+      let e : inside addresses (value w) -ℤ pos first ≡ pos (u - first) = ap (λ z. z -ℤ pos first) i ∙ difference u first a in
+      let j : u - first < n = omega arith in
+      record {
+        word = decimal (u - first);
+        argued = subst (λ z. Argued ps n Target (decimal (u - first)) z) (sym e) (target j);
+        back = λ t. (u - first, e, i ∙ ap pos (omega arith));
+      }
+  target-lower (negsuc u) i q h = absurd (false≢true (within-low addresses (negsuc u) q))
+
+  argument-lower : (a : Argument) → bounded a ≡ true → argumentLaidOut w a ≡ true → argumentInRange w a ≡ true → argumentNamed ps w a ≡ true → argumentReaches (pos first) n w a ≡ true
+      → LowerArgument ps n first w a
+  unfolding argumentLaidOut argumentInRange argumentNamed argumentReaches relative argumentValue
+  argument-lower Absent b l r m t = record { word = bytes "-"; argued = absent; back = λ e. other Absent refl e }
+  argument-lower Target b l r m t = target-lower (value w) (inside-is addresses (value w) r) r t
+  argument-lower Primitive b l r m t =
+      let f = found-there w ps m in
+      record { word = w; argued = subst (λ v. Argued ps n Primitive v (pos (find w ps))) (f .1) (primitive (f .0)); back = λ e. other Primitive refl e }
+  argument-lower (Within s) b l r m t =
+      let e = spelt-back w (value w) (spelt w l) in
+      let i : inside numbers (value w) ≡ value w = inside-is numbers (value w) (number-within (value w) (argument-number s (value w) b r)) in
+      record {
+        word = w;
+        argued = rw i (subst (λ v. Argued ps n (Within s) v (value w)) (sym e) within-range);
+        back = λ q. other (Within s) refl q;
+      }
+
+module _ (ls : List Line) (begins : pos (firstAddress (body ls)) ≡ firstAt (body ls)) (k : ℕ) (l : Line) where
+  pub code-lower : test layout-row ls (code k) l ≡ true → test range-row ls (code k) l ≡ true → test name-row ls (code k) l ≡ true → test target-row ls (code k) l ≡ true
+      → LowerLine (listed (names primitives) ls) (length (codeLines (body ls))) k (firstAddress (body ls)) (l .text)
+  unfolding test inRange codeInRange reaches onCode opOf
+  code-lower a b c d =
+      let text = l .text in
+      let ps = listed (names primitives) ls in
+      let n = length (codeLines (body ls)) in
+      let first = firstAddress (body ls) in
+      let w = arg text in
+      let i = find (op text) kindNames in
+      let laid = code-laid-out ls k text (laid-out ls (code k) l a) in
+      let called = code-named ls k text c in
+      let e = kind-place (op text) (called .kind) in
+      let there = kind-name (op text) (called .kind) in
+      let ranged : onArgument (argumentInRange w) text ≡ true = and-right (within (atRange k) (value (at text))) (onArgument (argumentInRange w) text) b in
+      let aimed : onArgument (argumentReaches (pos first) n w) text ≡ true = subst (λ z. onArgument (argumentReaches z n w) text ≡ true) (sym begins) d in
+      let x : LowerArgument ps n first w (kindAt i .argument) =
+      argument-lower ps n first w (kindAt i .argument) (kind-bounded i)
+      (on-kind (argumentLaidOut w) text i e (laid .argument))
+      (on-kind (argumentInRange w) text i e ranged)
+      (on-kind (argumentNamed ps w) text i e (called .argument))
+      (on-kind (argumentReaches (pos first) n w) text i e aimed) in
+      record {
+        line = decimal k ++ bytes " " ++ kindAt i .name ++ bytes " " ++ x .word;
+        says = record { known = there .0; word = x .word; line = refl; argued = x .argued };
+        name = there .1;
+        back = λ t. let r = x .back t in (r .0, r .1, ap (argumentValue ps w) (sym t) ∙ r .2);
+      }
+
+-- a text that begins with a number is not ANSWER
+pub number-first : (w : List ℕ) (r : List ℕ) → isNumeral (numeral w) ≡ true → equals (w ++ r) (bytes "ANSWER") ≡ false
+unfolding isNumeral numeral natural digitsFrom equals
+number-first [] r e = absurd (false≢true e)
+number-first (d ∷ ds) r e = go (eqb d 65) refl
+  where
+    go : (b : Bool) → eqb d 65 ≡ b → cond b (equals (ds ++ r) (bytes "NSWER")) false ≡ false
+    go true q = absurd (false≢true (subst (λ x. isNumeral (numeral (x ∷ ds)) ≡ true) (eqb-true d 65 q) e))
+    go false q = refl
+
 -- ---- a line is known by what it says
 
 -- no digit is a space or a line feed
 pub decimal-free : (c : ℕ) → c < 48 → (n : ℕ) → Free c (decimal n)
 decimal-free c k n = every-map (λ d e q. let h = leb-true 48 d (cond-left (leb 48 d) (leb d 57) e) in omega arith) (decimal-digits n)
+
+-- a byte that is neither a minus nor a digit
+pub integer-free : (c : ℕ) → (45 ≡ c → ⊥) → c < 48 → (z : ℤ) → Free c (integer z)
+unfolding integer
+integer-free c m h (pos n) = decimal-free c h n
+integer-free c m h (negsuc n) = more m (decimal-free c h (suc n))
+
+-- nor in a primitive's name
+pub argued-free : (c : ℕ) → (45 ≡ c → ⊥) → c < 48 → {ps : List (List ℕ)} {n : ℕ} {a : Argument} {w : List ℕ} {z : ℤ} → Every (Free c) ps → Argued ps n a w z → Free c w
+argued-free c m h f absent = more m none
+argued-free c m h f (target {t} k) = decimal-free c h t
+argued-free c m h f (primitive {i} k) = every-getD f none i
+argued-free c m h f (within-range {z}) = integer-free c m h z
 
 numbers-same : (x y : ℤ) → number x ≡ number y → x ≡ y
 numbers-same x y e = cc

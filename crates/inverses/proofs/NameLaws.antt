@@ -98,6 +98,17 @@ pub name-known : (k j : ℕ) → k < 61 → j < 61 → kindAt k .name ≡ kindAt
 unfolding kinds kindNames
 name-known k j h i e = distinct-places kindNames names-distinct k j h i (name-at k h ∙ e ∙ sym (name-at j i))
 
+-- the place of a kind's name
+pub kind-found : (k : ℕ) → k < 61 → find (kindAt k .name) kindNames ≡ k
+unfolding kinds kindNames
+kind-found k h =
+    let f = kind-name (kindAt k .name) (subst (λ w. among w kindNames ≡ true) (name-at k h) (among-there kindNames k h)) in
+    name-known (find (kindAt k .name) kindNames) k (f .0) h (f .1)
+
+-- the place of a name among names that do not repeat
+pub name-found : (ws : List (List ℕ)) → distinct ws ≡ true → (i : ℕ) → i < length ws → find (getD ws i []) ws ≡ i
+name-found ws d i h = let f = found-there (getD ws i []) ws (among-there ws i h) in distinct-places ws d (find (getD ws i []) ws) i (f .0) h (f .1)
+
 -- no name holds a space or another byte below it: computed for the whole table
 visible : Kind → Bool
 visible k = all (λ b. ltb 32 b) (k .name)

@@ -80,12 +80,12 @@ all-sound xs ps (plain h t p) (more c cs) (more l ls) = more (record { known = h
 -- ---- lines
 
 module _ {A : Type 0} {P : A → Type 0} where
-  every-take : (n : ℕ) {xs : List A} → Every P xs → Every P (take n xs)
+  pub every-take : (n : ℕ) {xs : List A} → Every P xs → Every P (take n xs)
   every-take ℕ.zero h = none
   every-take (suc n) none = none
   every-take (suc n) (more p ps) = more p (every-take n ps)
 
-  every-drop : (n : ℕ) {xs : List A} → Every P xs → Every P (drop n xs)
+  pub every-drop : (n : ℕ) {xs : List A} → Every P xs → Every P (drop n xs)
   every-drop ℕ.zero h = h
   every-drop (suc n) none = none
   every-drop (suc n) (more p ps) = every-drop n ps
@@ -95,12 +95,12 @@ said-one : (ps : List (List ℕ)) → distinct ps ≡ true → (n : ℕ) {k : �
 said-one ps u n end end = refl
 said-one ps u n (next {k} {l} {o} s ss) (next {o = q} t ts) = ap₂ _∷_ (says-one ps u n k (l .text) o q s t) (said-one ps u n ss ts)
 
-said-length : {ps : List (List ℕ)} {n k : ℕ} {ls : List Line} {os : List Op} → Said ps n k ls os → length ls ≡ length os
+pub said-length : {ps : List (List ℕ)} {n k : ℕ} {ls : List Line} {os : List Op} → Said ps n k ls os → length ls ≡ length os
 said-length end = refl
 said-length (next s ss) = ap suc (said-length ss)
 
 -- its first line is line 0
-first-said : {ps : List (List ℕ)} {n : ℕ} {ls : List Line} {os : List Op} → Said ps n 0 ls os → 1 ≤ length ls → firstAt ls ≡ pos 0
+pub first-said : {ps : List (List ℕ)} {n : ℕ} {ls : List Line} {os : List Op} → Said ps n 0 ls os → 1 ≤ length ls → firstAt ls ≡ pos 0
 unfolding firstAt words value valueOf
 first-said end h = absurd (omega arith)
 first-said (next {o} s ss) h =
@@ -170,11 +170,11 @@ module _ (bs line text : List ℕ) (small : Every (λ b. b < 256) bs) (ok : impo
   unfolding named wellNamed listed
   unlike = and-right (all isName ps) (distinct ps) (passes-named p (names primitives) refl)
 
-  same-count : length (ops text p begins) ≡ length xs
-  same-count = counted text p begins ∙ said-length said-again ∙ length-map xs (opSaid xs)
+  same-count : length (ops text p) ≡ length xs
+  same-count = counted text p ∙ said-length said-again ∙ length-map xs (opSaid xs)
 
-  pub same-ops : ops text p begins ≡ map (opSaid xs) xs
-  same-ops = said-one ps unlike (length xs) (subst (λ n. Said ps n 0 (codeLines (body ls)) (ops text p begins)) same-count (file-said text p begins)) said-again
+  pub same-ops : ops text p ≡ map (opSaid xs) xs
+  same-ops = said-one ps unlike (length xs) (subst (λ n. Said ps n 0 (codeLines (body ls)) (ops text p)) same-count (file-said text p begins)) said-again
 
   pub import-exported : exportBytes ls ≡ bs
   unfolding exportBytes exportOps decoded

@@ -11,21 +11,21 @@ use Rattle.text.specs.Text.{bytes, Line, indexOf, all}
 use Rattle.text.specs.declared.Place.{Place}
 use Rattle.text.specs.declared.Place.the-variants.{At as at, Missing as missing}
 use Rattle.text.specs.Decimal.{decimal}
-use Rattle.text.proofs.TextLaws.{Every, none, more, every-append, every-getD}
+use Rattle.text.proofs.TextLaws.{Every, none, more, every-append}
 use Rattle.text.proofs.LineLaws.{endedLine}
 use Rattle.instructions.specs.Columns.{kindAt}
 use Rattle.instructions.specs.declared.Argument.{Argument}
 use Rattle.instructions.specs.declared.Argument.the-variants.{Absent, Target, Primitive, Within}
 use Rattle.instructions.proofs.OpcodeLaws.{place-found}
 use Rattle.words.specs.Decoding.{Item, itemOf, hasArgument, isPlace, callListed, landing, numberAt, isFound, lands}
-use Rattle.words.specs.Lines.{integer, argumentText, lineText, linesFrom, codeText}
+use Rattle.words.specs.Lines.{argumentText, lineText, linesFrom, codeText}
 use Rattle.words.specs.Export.{Op, positions, argumentWord, itemsFrom}
 use Rattle.words.proofs.ExportLaws.{Placed, with-word, plain}
 use Rattle.words.proofs.ExportLaws as placed
 use Rattle.inverses.specs.Sections.{linesText}
 use Rattle.inverses.proofs.JoinLaws.{Free, text-free}
 use Rattle.inverses.proofs.NameLaws.{name-free}
-use Rattle.inverses.proofs.LineLaws.{Argued, absent, target, primitive, within-range, Says, decimal-free}
+use Rattle.inverses.proofs.LineLaws.{Argued, absent, target, primitive, within-range, Says, decimal-free, argued-free}
 use Rattle.inverses.proofs.ImportedLaws.{Said, end, next}
 
 module _ (xs : List Item) where
@@ -113,26 +113,14 @@ module _ (xs : List Item) where
         next (subst (λ t. Says ps (length xs) k t (opSaid y)) (sym (ap (λ m. m .text) f)) (row-says k y s)) (rows-said ls ys ss g)
 
     -- no row holds a line feed
-    integer-free : (z : ℤ) → Free 10 (integer z)
-    unfolding integer all
-    integer-free (pos n) = decimal-free 10 (omega arith) n
-    integer-free (negsuc n) = every-append (text-free 10 (bytes "-") refl) (decimal-free 10 (omega arith) (suc n))
-
     module _ (free : Every (Free 10) ps) where
-      argument-free : {a : Argument} {w : List ℕ} {z : ℤ} → Argued ps (length xs) a w z → Free 10 w
-      unfolding all
-      argument-free absent = text-free 10 (bytes "-") refl
-      argument-free (target {t} h) = decimal-free 10 (omega arith) t
-      argument-free (primitive {i} h) = every-getD free none i
-      argument-free (within-range {z}) = integer-free z
-
       pub rows-free : (k : ℕ) {ys : List Item} → Every Sound ys → Every (λ l. Free 10 (l .text)) (rows k ys)
       unfolding rows all
       rows-free k none = none
       rows-free k (more {x = y} s ss) =
           more
           (every-append (every-append (every-append (every-append (decimal-free 10 (omega arith) k) (text-free 10 (bytes " ") refl)) (name-free 10 (omega arith) (y .kind))) (text-free 10 (bytes " ") refl))
-          (argument-free (argument-written y (kindAt (y .kind) .argument) (s .listed) (s .lands))))
+          (argued-free 10 (λ e. omega arith) (omega arith) free (argument-written y (kindAt (y .kind) .argument) (s .listed) (s .lands))))
           (rows-free (suc k) ss)
 
   -- ---- the instructions again

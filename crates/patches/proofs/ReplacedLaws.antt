@@ -1,16 +1,14 @@
 -- Laws of a copy whose new instruction has no line feed: its lines are those of the file with another one in one place, and so is its
 -- routine. Assumes nothing.
 use mathlib.Core.Path.{_≡_, refl, sym, ap, subst, _∙_}
-use mathlib.Core.Bool.{Bool, true, false, cond, not, false≢true}
+use mathlib.Core.Bool.{Bool, true, false, cond, not}
 use mathlib.Core.List.{List, [], _∷_, _++_, append-assoc, map}
 use Prim.Native.Nat.{ℕ, zero, suc, _+_, _<_, _≤_}
 use native.Mathlib.Omega.{arith}
 use lib.Dec.{eqb}
 use lib.ListN.{length, getD, set, length-set, length-map}
 use lib.Seq.{drop-set-add, getD-drop}
-use borrow.Author.Tests.{eqb-true}
 use Rattle.text.specs.Text.{bytes, equals, split, words, Line, noLine, lines, all}
-use Rattle.text.specs.Decimal.{digitsFrom, natural, numeral}
 use Rattle.text.proofs.TextLaws.{none, every-append, every-left, every-getD}
 use Rattle.text.proofs.LineLaws.{endedLine}
 use Rattle.routine.specs.declared.Section.{Section}
@@ -19,11 +17,11 @@ use Rattle.routine.specs.declared.Column.the-variants.{Extra as extra}
 use Rattle.routine.specs.declared.Role.{Role}
 use Rattle.routine.specs.declared.Role.the-variants.{Values as values}
 use Rattle.routine.specs.Layout.{layout, isAnswer, body, upToAnswer, pastAnswer, codeLines, answerLines, list, isRole, textAt, listed}
-use Rattle.routine.specs.Rows.{isNumeral, at, op, arg, firstAt, value, Passes}
+use Rattle.routine.specs.Rows.{at, op, arg, firstAt, value, Passes}
 use Rattle.routine.specs.Routine.{PriceList, priceList, instructionOf, codeIn, routineOf}
 use Rattle.routine.proofs.RowLaws.{lines-ended}
 use Rattle.inverses.specs.Sections.{linesText}
-use Rattle.inverses.proofs.LineLaws.{decimal-free}
+use Rattle.inverses.proofs.LineLaws.{number-first, decimal-free}
 use Rattle.inverses.proofs.JoinLaws.{Free, text-free, split-free, lines-free, lines-set, text-set, split-first}
 use Rattle.patches.specs.Patch.{patchedAt}
 use Rattle.patches.specs.Promises.{newInstruction, OneReplaced}
@@ -72,17 +70,7 @@ module _ (text : List ℕ) (p : Passes (lines text)) (k : ℕ) (h : InCode (line
 
 -- ---- the routine of the copy
 
--- a line that begins with a number is not ANSWER
-number-first : (w : List ℕ) (r : List ℕ) → isNumeral (numeral w) ≡ true → equals (w ++ r) (bytes "ANSWER") ≡ false
-unfolding isNumeral numeral natural digitsFrom equals
-number-first [] r e = absurd (false≢true e)
-number-first (d ∷ ds) r e = go (eqb d 65) refl
-  where
-    go : (b : Bool) → eqb d 65 ≡ b → cond b (equals (ds ++ r) (bytes "NSWER")) false ≡ false
-    go true q = absurd (false≢true (subst (λ x. isNumeral (numeral (x ∷ ds)) ≡ true) (eqb-true d 65 q) e))
-    go false q = refl
-
--- and its first word is that number
+-- the first word of a line that begins with a number is that number
 at-number : (line r : List ℕ) → CodeLine line → at (at line ++ bytes " " ++ r) ≡ at line
 unfolding words
 at-number line r c = ap (λ t. getD (split 32 t) 0 []) (append-assoc (at line) (bytes " ") r) ∙ ap (λ (ws : List (List ℕ)). getD ws 0 []) (split-first 32 r (every-getD (split-free 32 line) none 0))

@@ -38,7 +38,8 @@ use Rattle.words.specs.Lines.{integer}
 use Rattle.inverses.specs.Sections.{linesText, joined}
 use Rattle.inverses.proofs.JoinLaws.{Free, split-free, pieces-every, split-joined, joined-every, every-set, lines-free, lines-set, text-set}
 use Rattle.inverses.proofs.ExportedLaws.{role-every}
-use Rattle.inverses.proofs.CellLaws.{integer-free, integer-cell}
+use Rattle.inverses.proofs.LineLaws.{integer-free}
+use Rattle.inverses.proofs.CellLaws.{integer-cell}
 use Rattle.changes.specs.declared.Position.{Position}
 use Rattle.changes.specs.declared.Position.the-variants.{Accu, Entry, Field}
 use Rattle.changes.specs.Places.{replaceAt, from, fieldsFrom}
