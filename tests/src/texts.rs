@@ -11,7 +11,7 @@ use crate::routine::KINDS;
 use crate::tagged::LOWEST;
 
 /// How many there are.
-pub const TEXTS: usize = 340;
+pub const TEXTS: usize = 349;
 
 const PUBLISHED: Base = File(published);
 /// Two blocks, two primitives, answers, and numbers at the ends of their ranges; stuck at 60001, its second line.
@@ -196,6 +196,7 @@ pub fn texts() -> Vec<Text> {
             prices_and_targets(),
             extras(),
             taken_jumps(),
+            calls(),
             jumps_backwards(),
             unknowns(),
             rows_in_order(),
@@ -618,6 +619,27 @@ fn taken_jumps() -> Vec<Entry> {
         ),
         ("jump_over_a_line", BRANCHES, code("0 BRANCHIF 2\n1 STOP -\n2 STOP -"), unknown("4 2 0 3 4 T")),
         ("no_jump_over_a_line", Named("jump_over_a_line"), known("0"), [Report("2 2 0 2 2 -"), Report("2 2 0 2")]),
+    ]
+}
+
+/// "C_CALL1 to C_CALL5 with a primitive: arguments are the accumulator and the top entries, one fewer popped than the digit": as many
+/// entries as each pops, and one fewer.
+fn calls() -> Vec<Entry> {
+    let call = |digit: usize, entries: usize| {
+        let start = if entries == 0 { "ACCU\n0".to_string() } else { cells(entries) };
+        let prices = format!("1000 1000\nC_CALL{digit} STOP\n1 1\n0 0\n0 0\nREAD\n40\n4");
+        lines(2, 19, format!("{prices}\n{start}\n-\n-\nAT OP ARG\n0 C_CALL{digit} READ\n1 STOP -"))
+    };
+    vec![
+        ("call_1_on_no_entry", PUBLISHED, call(1, 0), [Report("42 4 0 2 42 -"), Report("42 4 0 2")]),
+        ("call_2_on_1_entry", PUBLISHED, call(2, 1), [Report("42 4 1 2 42 -"), Report("42 4 1 2")]),
+        ("call_2_on_no_entry", PUBLISHED, call(2, 0), refused(7, 0)),
+        ("call_3_on_2_entries", PUBLISHED, call(3, 2), [Report("42 4 2 2 42 -"), Report("42 4 2 2")]),
+        ("call_3_on_1_entry", PUBLISHED, call(3, 1), refused(7, 0)),
+        ("call_4_on_3_entries", PUBLISHED, call(4, 3), [Report("42 4 3 2 42 -"), Report("42 4 3 2")]),
+        ("call_4_on_2_entries", PUBLISHED, call(4, 2), refused(7, 0)),
+        ("call_5_on_4_entries", PUBLISHED, call(5, 4), [Report("42 4 4 2 42 -"), Report("42 4 4 2")]),
+        ("call_5_on_3_entries", PUBLISHED, call(5, 3), refused(7, 0)),
     ]
 }
 
