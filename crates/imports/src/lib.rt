@@ -104,12 +104,13 @@ fn put_lines(out: &mut [u8], at: usize, primitives: &[u8], numbers: &[u16], word
     ensures { λ r. ⌜ r ≡ at + length (linesFrom (list (now (primitives .entry))) (items (decoded (wordsOf (now (words .entry))))) 0 (items (decoded (wordsOf (now (words .entry)))))) ⌝ }
     ensures { λ _. ⌜ now (out .exit) ≡ over (now (out .entry)) at (linesFrom (list (now (primitives .entry))) (items (decoded (wordsOf (now (words .entry))))) 0 (items (decoded (wordsOf (now (words .entry)))))) ⌝ }
 {
+    let coded = instructions::coded_kinds();
     let mut e = at;
     let mut rest = words;
     let mut index: usize = 0;
     let mut count: usize = 0;
     while 0 < rest.len() {
-        let Head::Instruction(k, argument) = words::read_head(rest) else {
+        let Head::Instruction(k, argument) = words::read_head(&coded, rest) else {
             return e;
         };
         e = put_line(out, e, primitives, numbers, count, index, k, argument);

@@ -25,7 +25,7 @@ abbrev pub allBelow : (ℕ → Bool) → ℕ → Bool
 allBelow t zero = true
 allBelow t (suc n) = t n && allBelow t n
 
-below-at : (t : ℕ → Bool) (n : ℕ) → allBelow t n ≡ true → (k : ℕ) → k < n → t k ≡ true
+pub below-at : (t : ℕ → Bool) (n : ℕ) → allBelow t n ≡ true → (k : ℕ) → k < n → t k ≡ true
 below-at t zero e k h = absurd (not-suc-le-zero h)
 below-at t (suc n) e k h =
     ⊎-elim

@@ -6,30 +6,17 @@ use mathlib.Core.List.{List, [], _∷_, map}
 use Prim.Native.Nat.{ℕ, zero, suc, _+_, _<_, _≤_}
 use native.Mathlib.Omega.{arith}
 use native.Mathlib.Nat.{le-of-suc-le-suc, not-suc-le-zero}
-use lib.Dec.{eqb}
-use lib.ListN.{length, getD, drop, drop-of-length-le, List·getD-map}
-use lib.Seq.{drop-cons}
-use borrow.Author.Tests.{eq-eqb, ne-eqb, eqb-true}
+use lib.Dec.{eqb, ltb}
+use lib.ListN.{length, getD, List·getD-map}
+use borrow.Author.Tests.{eqb-true, ltb-true}
+use Rattle.text.specs.declared.Place.{Place}
 use Rattle.text.specs.declared.Place.the-variants.{At as at, Missing as missing}
 use Rattle.instructions.specs.Kinds.{kinds, opcodes}
 use Rattle.instructions.specs.Columns.{kindAt}
-use Rattle.instructions.specs.Opcodes.{placeFrom, kindCoded}
-use Rattle.instructions.proofs.ColumnLaws.{natural-at}
+use Rattle.instructions.specs.Opcodes.{placeFrom, kindCoded, codedPlace, ByOpcode}
+use Rattle.instructions.proofs.ColumnLaws.{column-at, natural-at}
 
--- ---- a search along a list: found here, not here, at its end
-
-module _ (k n : ℕ) (l : List ℕ) (i : ℕ) where
-  pub place-here : i < length l → n ≡ getD l i 0 → placeFrom k n (drop i l) ≡ at k
-  unfolding placeFrom
-  place-here h e = rw (drop-cons l i 0, eq-eqb n (getD l i 0) e) refl
-
-  pub place-next : i < length l → (n ≡ getD l i 0 → ⊥) → placeFrom k n (drop i l) ≡ placeFrom (suc k) n (drop (suc i) l)
-  unfolding placeFrom
-  place-next h e = rw (drop-cons l i 0, ne-eqb n (getD l i 0) e) refl
-
-  pub place-end : length l ≤ i → placeFrom k n (drop i l) ≡ missing
-  unfolding placeFrom
-  place-end h = rw (drop-of-length-le l h) refl
+-- ---- a search along a list
 
 -- what is found stands there
 pub place-found : (j n k : ℕ) (l : List ℕ) → placeFrom j n l ≡ at k → (j ≤ k) × (k < j + length l) × ((i : ℕ) → k ≡ j + i → getD l i 0 ≡ n)
@@ -54,19 +41,18 @@ place-found j n k (m ∷ ms) e = go (eqb n m) refl e (place-found (suc j) n k ms
 -- ---- the table
 
 -- the numbers from j on, n of them
-count : ℕ → ℕ → List ℕ
+abbrev pub count : ℕ → ℕ → List ℕ
 count j zero = []
 count j (suc n) = j ∷ count (suc j) n
 
 count-at : (j n k : ℕ) → k < n → getD (count j n) k 0 ≡ j + k
-unfolding count
 count-at j zero k h = absurd (not-suc-le-zero h)
 count-at j (suc n) zero h = omega arith
 count-at j (suc n) (suc k) h = count-at (suc j) n k (le-of-suc-le-suc h) ∙ omega arith
 
 -- each opcode is found at its own kind: computed for the whole table
 all-found : map kindCoded opcodes ≡ map at (count 0 61)
-unfolding kinds opcodes kindCoded placeFrom count
+unfolding kinds opcodes kindCoded placeFrom
 all-found = refl
 
 first-found : kindCoded 0 ≡ at 0
@@ -95,3 +81,46 @@ opcode-of-kind n k e =
     let f = place-found 0 n k opcodes e in
     let h : k < 61 = f .1 in
     (h, sym (opcode-of k h) ∙ f .2 k (omega arith))
+
+-- ---- by opcode
+
+-- the kinds by their opcodes, up to 143
+abbrev pub byOpcode : List ℕ
+byOpcode = map (λ n. codedPlace (kindCoded n)) (count 0 144)
+
+pub by-opcode : ByOpcode byOpcode
+unfolding codedPlace
+by-opcode = record { at-opcode = λ n h. ap (λ d. getD byOpcode n d) (sym (ap codedPlace first-found)) ∙ List·getD-map (λ i. codedPlace (kindCoded i)) (count 0 144) n 0 ∙ ap (λ i. codedPlace (kindCoded i)) (count-at 0 144 n h ∙ omega arith) }
+
+-- no opcode is above 143
+opcode-low : (k : ℕ) → k < 61 → kindAt k .opcode < 144
+unfolding kinds
+opcode-low k h =
+    let t = ltb-true (getD (map (λ r. r .opcode) kinds) k 0) 144 (column-at (λ r. r .opcode) (λ x. ltb x 144) (λ r. true) 0 refl k h) in
+    omega (arith, natural-at (λ r. r .opcode) k h)
+
+module _ (n : ℕ) where
+  pub coded-high : 143 < n → kindCoded n ≡ missing
+  coded-high h = go (kindCoded n) refl
+    where
+      go : (p : Place) → kindCoded n ≡ p → kindCoded n ≡ missing
+      go (at k) e = let o = opcode-of-kind n k e in absurd (omega (arith, o .1, opcode-low k (o .0)))
+      go missing e = e
+
+  -- the kind that is held for an opcode is its kind, and 61 says that it has none
+  module _ (v : ℕ) (held : v ≡ codedPlace (kindCoded n)) where
+    pub coded-found : v < 61 → at v ≡ kindCoded n
+    unfolding codedPlace
+    coded-found h = go (kindCoded n) refl held
+      where
+        go : (p : Place) → kindCoded n ≡ p → v ≡ codedPlace p → at v ≡ p
+        go (at k) e q = ap at q
+        go missing e q = absurd (omega arith)
+
+    pub coded-missing : 61 ≤ v → missing ≡ kindCoded n
+    unfolding codedPlace
+    coded-missing h = go (kindCoded n) refl held
+      where
+        go : (p : Place) → kindCoded n ≡ p → v ≡ codedPlace p → missing ≡ p
+        go (at k) e q = absurd (omega (arith, opcode-of-kind n k e .0))
+        go missing e q = refl

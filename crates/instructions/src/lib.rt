@@ -1,12 +1,13 @@
 // The 61 instruction kinds, and their table by columns. The meaning is in specs/.
 ghost use mathlib.Core.Path.{_≡_};
 ghost use Prim.Native.Nat.{ℕ, _+_, _≤_, _<_};
+ghost use lib.Dec.{ltb};
 ghost use lib.ListN.{length};
 ghost use Rattle.text.specs.Text.{equals, place, among};
 ghost use Rattle.text.specs.Memory.{over};
 ghost use Rattle.instructions.specs.Kinds.{kindNames, calls};
 ghost use Rattle.instructions.specs.Columns.{kindAt, nameStart, nameKey, argumentCode, rangeOf, operationCode};
-ghost use Rattle.instructions.specs.Opcodes.{kindCoded};
+ghost use Rattle.instructions.specs.Opcodes.{kindCoded, ByOpcode};
 use cells::Binary;
 use cells::Unary;
 use numbers::Range;
@@ -78,11 +79,22 @@ pub fn range_at(k: usize) -> Range
     }
 }
 
+// Whether a kind takes an argument.
+pub fn takes_at(k: usize) -> bool
+    requires { ⌜ k < 61 ⌝ }
+    ensures { λ r. ⌜ r ≡ ltb 0 (argumentCode (kindAt k .argument)) ⌝ }
+{
+    slots::TAKING >> k & 1 == 1
+}
+
 // What a kind takes.
 pub fn argument_at(k: usize) -> Argument
     requires { ⌜ k < 61 ⌝ }
     ensures { λ r. ⌜ r ≡ kindAt k .argument ⌝ }
 {
+    if !takes_at(k) {
+        return Argument::Absent;
+    }
     match argument_code_at(k) {
         arguments::ABSENT => Argument::Absent,
         arguments::WITHIN => Argument::Within(range_at(k)),
@@ -205,18 +217,23 @@ pub fn opcode_at(k: usize) -> u32
     columns::OPCODES[k] as u32
 }
 
+// The kinds by their opcodes, to be lent to `kind_coded`.
+pub fn coded_kinds() -> [u8; 144]
+    ensures { λ r. ⌜ ByOpcode r ⌝ }
+{
+    slots::CODED
+}
+
 // The kind with an opcode, by its place in the table.
-pub fn kind_coded(opcode: u32) -> Place
+pub fn kind_coded(coded: &[u8; 144], opcode: u32) -> Place
+    requires { ⌜ ByOpcode (now coded) ⌝ }
     ensures { λ r. ⌜ r ≡ kindCoded opcode ⌝ }
 {
-    let mut k = 0;
-    while k < 61 {
-        if opcode == opcode_at(k) {
-            return Place::At(k);
-        }
-        k += 1;
+    if 143 < opcode {
+        return Place::Missing;
     }
-    Place::Missing
+    let k = wide(coded[opcode as usize]);
+    if k < 61 { Place::At(k) } else { Place::Missing }
 }
 
 // Puts the name of a kind over out from `at` on, and answers where it ends.
@@ -225,5 +242,7 @@ pub fn put_name(out: &mut [u8], at: usize, k: usize) -> usize
     ensures { λ r. ⌜ r ≡ at + length (kindAt k .name) ⌝ }
     ensures { λ _. ⌜ now (out .exit) ≡ over (now (out .entry)) at (kindAt k .name) ⌝ }
 {
-    text::put(out, at, text::word_at(&columns::NAMES, k))
+    let start = name_start(k);
+    let next = name_start(k + 1);
+    text::put(out, at, &columns::NAMES[start..next - 1])
 }

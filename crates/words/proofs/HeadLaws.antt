@@ -12,7 +12,9 @@ use borrow.Author.Tests.{ltb-true, ltb-false}
 use Rattle.numbers.specs.Numbers.{signed}
 use Rattle.text.specs.declared.Place.{Place}
 use Rattle.text.specs.declared.Place.the-variants.{At as at, Missing as missing}
-use Rattle.instructions.specs.Columns.{kindAt}
+use Rattle.instructions.specs.declared.Argument.{Argument}
+use Rattle.instructions.specs.declared.Argument.the-variants.{Absent, Target, Primitive, Within}
+use Rattle.instructions.specs.Columns.{kindAt, argumentCode}
 use Rattle.instructions.specs.Opcodes.{kindCoded}
 use Rattle.instructions.proofs.OpcodeLaws.{opcode-of-kind}
 use Rattle.words.specs.declared.Head.the-variants as heads
@@ -20,6 +22,15 @@ use Rattle.words.specs.Words.{wordBits, Word, whole, cut, wordsOf}
 use Rattle.words.specs.Decoding.{itemOf, hasArgument, item, unreadable, opcode, argument, coded, entries}
 use Rattle.words.specs.Held.{sizeOf, withArgument, headCoded, headOf}
 use Rattle.words.proofs.WordLaws.{words-none, firstOf, words-first, part-is}
+
+-- ---- whether a kind has an argument word, by the code of what it takes
+
+pub takes-argument : (a : Argument) → ltb 0 (argumentCode a) ≡ hasArgument a
+unfolding argumentCode hasArgument
+takes-argument Absent = refl
+takes-argument Target = refl
+takes-argument Primitive = refl
+takes-argument (Within r) = refl
 
 -- ---- the head by the bytes
 

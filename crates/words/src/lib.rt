@@ -7,6 +7,7 @@ ghost use lib.IntN.{pos, _+ℤ_};
 ghost use lib.ListN.{length, getD, drop};
 ghost use Rattle.text.specs.Memory.{over};
 ghost use Rattle.instructions.specs.Columns.{kindAt};
+ghost use Rattle.instructions.specs.Opcodes.{ByOpcode};
 ghost use Rattle.words.specs.Words.{wordBits, littleEndian, wordsOf, bytesOf};
 ghost use Rattle.words.specs.Decoding.{decoded, items, hasArgument, isPlace, callListed, wordFault, isFound, offsetFault, codeFault};
 ghost use Rattle.words.specs.Held.{sizeOf, withArgument, headOf, Readable, numberIn, Numbered, landsIn};
@@ -36,12 +37,7 @@ pub fn has_argument(k: usize) -> bool
     requires { ⌜ k < 61 ⌝ }
     ensures { λ r. ⌜ r ≡ hasArgument (kindAt k .argument) ⌝ }
 {
-    match instructions::argument_at(k) {
-        Argument::Absent => false,
-        Argument::Target => true,
-        Argument::Primitive => true,
-        Argument::Within(_) => true,
-    }
+    instructions::takes_at(k)
 }
 
 // How many words a kind takes.
@@ -62,14 +58,15 @@ fn with_argument(k: usize, words: &[u8]) -> Head
     Head::Instruction(k, numbers::signed(first_word(words)))
 }
 
-// The instruction at the head of words.
-pub fn read_head(words: &[u8]) -> Head
+// The instruction at the head of words, where `coded` has the kinds by their opcodes.
+pub fn read_head(coded: &[u8; 144], words: &[u8]) -> Head
+    requires { ⌜ ByOpcode (now coded) ⌝ }
     ensures { λ r. ⌜ r ≡ headOf (wordsOf (now (words .entry))) ⌝ }
 {
     if words.len() < 4 {
         return Head::Unreadable;
     }
-    let Place::At(k) = instructions::kind_coded(first_word(words)) else {
+    let Place::At(k) = instructions::kind_coded(coded, first_word(words)) else {
         return Head::Unreadable;
     };
     if has_argument(k) {
@@ -120,11 +117,12 @@ pub fn word_fault(listed: usize, words: &[u8]) -> Place
     if words.len() == 0 {
         return Place::At(0);
     }
+    let coded = instructions::coded_kinds();
     let mut rest = words;
     let mut index: usize = 0;
     let mut count: usize = 0;
     while 0 < rest.len() {
-        let Head::Instruction(k, argument) = read_head(rest) else {
+        let Head::Instruction(k, argument) = read_head(&coded, rest) else {
             return Place::At(index);
         };
         if 1024 <= count {
@@ -147,11 +145,12 @@ pub fn numbers_of(words: &[u8]) -> [u16; 2048]
     ensures { λ r. ⌜ Numbered (items (decoded (wordsOf (now (words .entry))))) r ⌝ }
 {
     let mut numbers = [1024u16; 2048];
+    let coded = instructions::coded_kinds();
     let mut rest = words;
     let mut index: usize = 0;
     let mut count: u16 = 0;
     while 0 < rest.len() {
-        let Head::Instruction(k, _) = read_head(rest) else {
+        let Head::Instruction(k, _) = read_head(&coded, rest) else {
             return numbers;
         };
         numbers[index] = count;
@@ -223,10 +222,11 @@ pub fn offset_fault(words: &[u8], numbers: &[u16]) -> Place
     requires { ⌜ Readable (wordsOf (now words)) × Numbered (items (decoded (wordsOf (now words)))) (now numbers) ⌝ }
     ensures { λ r. ⌜ r ≡ offsetFault (items (decoded (wordsOf (now (words .entry))))) (items (decoded (wordsOf (now (words .entry))))) ⌝ }
 {
+    let coded = instructions::coded_kinds();
     let mut rest = words;
     let mut index: usize = 0;
     while 0 < rest.len() {
-        let Head::Instruction(k, argument) = read_head(rest) else {
+        let Head::Instruction(k, argument) = read_head(&coded, rest) else {
             return Place::Missing;
         };
         if !lands(numbers, k, index, argument) {

@@ -20,18 +20,18 @@ use Rattle.imports.proofs.put_lines.Statement.{statement}
 use Rattle.imports.proofs.put_lines.Tie as tie
 
 abbrev Inv-loop : tie.InvT-loop
-Inv-loop out₀ at primitives numbers words e₀ rest₀ index₀ count₀ out e rest index count = Writing (list primitives) out₀ at (wordsOf words) out e index count (wordsOf rest)
+Inv-loop out₀ at primitives numbers words coded e₀ rest₀ index₀ count₀ out e rest index count = Writing (list primitives) out₀ at (wordsOf words) out e index count (wordsOf rest)
 
 abbrev μ-loop : tie.MeasureT-loop
-μ-loop out₀ at primitives numbers words e₀ rest₀ index₀ count₀ out e rest index count = length rest
+μ-loop out₀ at primitives numbers words coded e₀ rest₀ index₀ count₀ out e rest index count = length rest
 
 -- the places of a turn: from the loop's test back to the start, from where the instruction is known to the test, from the end of the turn
 -- to where the instruction is known
 abbrev start : tie.At-loop Inv-loop μ-loop → tie.Start Inv-loop μ-loop
-start c = c .before .before .before .before .before
+start c = c .before .before .before .before .before .before
 
 abbrev test : tie.After-known-told Inv-loop μ-loop → tie.At-loop Inv-loop μ-loop
-test c = c .before .before .before .before .before
+test c = c .before .before .before .before .before .before
 
 abbrev known : tie.After-size-of Inv-loop μ-loop → tie.After-known-told Inv-loop μ-loop
 known c = c .before .before .before .before .before .before
@@ -58,14 +58,14 @@ passed c = ap (line c) (sym (toZ-ofZ w32 (argument c) (argument-fits c)))
 
 loop-holds : tie.Need-loop-holds Inv-loop μ-loop
 loop-holds c =
-    let s = c .before .before .before .before in
+    let s = c .before .before .before .before .before in
     writing-starts (list (s .args .primitives .now)) (s .args .out .now) (s .args .at) _ (s .pre .0) (omega (arith, s .pre .3))
 
 returns : tie.Need-returns Inv-loop μ-loop
 returns c =
     let h = c .before .before in
-    let l = h .before .before in
-    writing-reads (l .loop .inv) (words-some (l .loop .rest .now) (h .before .loop-test .taken)) (sym (h .read-head .ensures) ∙ c .enum-told .given .1)
+    let l = h .before .before .before in
+    writing-reads (l .loop .inv) (words-some (l .loop .rest .now) (h .before .before .loop-test .taken)) (sym (h .read-head .ensures) ∙ c .enum-told .given .1)
 
 put-line-requires : tie.Need-put-line-requires Inv-loop μ-loop
 put-line-requires c κs =
@@ -114,11 +114,12 @@ put-lines-spec =
     (tie.spec
     Inv-loop
     μ-loop
-    loop-holds
     (λ c κs. search needs)
+    loop-holds
+    (λ c κs. c .before .before .before .coded-kinds .ensures)
     (λ c. search needs)
     (λ c. search needs)
-    (λ c. c .before .before .before .before .loop .inv .long)
+    (λ c. c .before .before .before .before .before .loop .inv .long)
     returns
     put-line-requires
     after-requires

@@ -1,35 +1,65 @@
--- `instructions::put_name` meets its contract: word k of NAMES is the name of kind k, by computation. Assumes nothing.
-use Prim.Native.Nat.{_+_}
-use mathlib.Core.Path.{_≡_, refl, ap, _∙_}
-use mathlib.Core.List.{[]}
+-- `instructions::put_name` meets its contract: a name stands in NAMES from its start to the space before the next. Assumes nothing.
+use Prim.Native.Nat.{_+_, _-_, _≤_}
+use mathlib.Core.Path.{_≡_, sym, ap, ap₂, subst, _∙_}
 use native.Mathlib.Omega.{arith}
-use lib.ListN.{length}
-use Rattle.text.specs.Text.{split, words}
+use lib.ListN.{length, take, drop}
 use Rattle.text.specs.Memory.{over}
 use Rattle.instructions.specs.Kinds.{kinds, kindNames}
 use Rattle.instructions.specs.Columns.{kindAt}
-use Rattle.instructions.proofs.ColumnLaws.{column-at}
+use Rattle.instructions.proofs.NameLaws.{start-less, start-low, joined, slice-is}
 use borrow.Author.Needs.{needs}
 use Rattle.instructions.proofs.put_name.Statement.{statement}
 use Rattle.instructions.proofs.put_name.Tie as tie
 
--- the word is the name
-named : (c : tie.After-word-at) → c .word-at .result .now ≡ kindAt (c .before .before .before .before .args .k) .name
-unfolding split words kinds kindNames
-named c =
+starts-apart : (c : tie.After-put-arg) → c .before .before .name-start .result ≤ c .before .name-start2 .result - 1
+starts-apart c =
     let s = c .before .before .before .before in
-    c .word-at .ensures ∙ column-at (λ r. r .name) (λ x. x) (λ r. r .name) [] refl (s .args .k) (s .pre .0)
+    omega (arith, c .before .before .name-start .ensures, c .before .name-start2 .ensures, start-less (s .args .k) (s .pre .0))
+
+next-within : (c : tie.After-put-arg) → c .before .name-start2 .result - 1 ≤ 474
+next-within c =
+    let s = c .before .before .before .before in
+    omega (arith, c .before .name-start2 .ensures, start-low (s .args .k) (s .pre .0))
+
+-- what is put is the name
+named : (c : tie.After-put-arg3)
+    → let n = c .before .before .before in
+    take (n .name-start2 .result - 1 - n .before .name-start .result) (drop (n .before .name-start .result) (joined kindNames)) ≡ kindAt (n .before .before .before .args .k) .name
+named c =
+    let n = c .before .before .before in
+    let s = n .before .before .before in
+    ap₂ (λ i j. take (j - 1 - i) (drop i (joined kindNames))) (n .before .name-start .ensures) (n .name-start2 .ensures) ∙ slice-is (s .args .k) (s .pre .0)
+
+sub-next : tie.Need-sub-put
+sub-next c =
+    let s = c .before .before .before .before in
+    omega (arith, c .before .name-start2 .ensures, start-less (s .args .k) (s .pre .0))
 
 put-requires : tie.Need-put-requires
-put-requires c κs = omega (arith, c .before .before .before .before .pre .1, ap length (named c))
+unfolding kinds kindNames
+put-requires c κs =
+    let s = c .before .before .before .before .before .before in
+    subst (λ t. s .args .at + length t ≤ length (s .args .out .now)) (sym (named c)) (s .pre .1)
 
 returns : tie.Need-returns
+unfolding kinds kindNames
 returns c =
     let p = c .before .before in
     let e = named (p .before) in
-    let a = p .before .before .before .before .before .args in
+    let a = p .before .before .before .before .before .before .before .args in
     (p .put .ensures .0 ∙ ap (λ t. a .at + length t) e, p .put .ensures .1 ∙ ap (over (a .out .now) (a .at)) e)
 
 pub put-name-spec : {M : Type 1} → statement M
 put-name-spec =
-    tie.close (tie.spec (λ c. search needs) (λ c κs. search needs) put-requires (λ c. search needs) returns)
+    tie.close
+    (tie.spec
+    (λ c κs. search needs)
+    (λ c. search needs)
+    (λ c κs. search needs)
+    sub-next
+    (λ c. starts-apart c)
+    (λ c. starts-apart (c .before))
+    (λ c. next-within (c .before))
+    put-requires
+    (λ c. search needs)
+    returns)

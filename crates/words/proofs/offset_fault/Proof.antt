@@ -20,19 +20,19 @@ use Rattle.words.proofs.offset_fault.Statement.{statement}
 use Rattle.words.proofs.offset_fault.Tie as tie
 
 abbrev Inv-loop : tie.InvT-loop
-Inv-loop words numbers rest₀ index₀ rest index =
+Inv-loop words numbers coded rest₀ index₀ rest index =
     Ahead index (wordsOf rest)
     × (offsetFault (items (decoded (wordsOf words))) (items (decoded (wordsOf words))) ≡ offsetFault (items (decoded (wordsOf words))) (items (entries opcode index (wordsOf rest))))
 
 abbrev μ-loop : tie.MeasureT-loop
-μ-loop words numbers rest₀ index₀ rest index = length rest
+μ-loop words numbers coded rest₀ index₀ rest index = length rest
 
 -- the places of a turn: from where the instruction is known back to the loop's test, and from there to the start
 abbrev test : tie.After-known-told Inv-loop μ-loop → tie.At-loop Inv-loop μ-loop
-test c = c .before .before .before .before .before
+test c = c .before .before .before .before .before .before
 
 abbrev start : tie.At-loop Inv-loop μ-loop → tie.Start Inv-loop μ-loop
-start c = c .before .before .before
+start c = c .before .before .before .before
 
 -- the instruction that is read: its kind and its argument
 abbrev kind : tie.After-known-told Inv-loop μ-loop → ℕ
@@ -59,21 +59,21 @@ tested c =
 
 loop-holds : tie.Need-loop-holds Inv-loop μ-loop
 unfolding decoded
-loop-holds c = (ahead-starts (c .before .before .pre .0), refl)
+loop-holds c = (ahead-starts (c .before .before .before .pre .0), refl)
 
 enum-told : tie.Need-enum-told Inv-loop μ-loop
 enum-told c = search needs
 
 returns : tie.Need-returns Inv-loop μ-loop
 returns c =
-    let l = c .before .before .before .before in
-    ahead-reads (l .loop .inv .0) (words-some (l .loop .rest .now) (c .before .before .before .loop-test .taken)) (sym (c .before .before .read-head .ensures) ∙ c .enum-told .given .1)
+    let l = c .before .before .before .before .before in
+    ahead-reads (l .loop .inv .0) (words-some (l .loop .rest .now) (c .before .before .before .before .loop-test .taken)) (sym (c .before .before .read-head .ensures) ∙ c .enum-told .given .1)
 
 lands-requires : tie.Need-lands-requires Inv-loop μ-loop
 lands-requires c κs = (instruction c .known, ahead-room (test c .loop .inv .0) (instruction c))
 
-add-t12 : tie.Need-add-t12 Inv-loop μ-loop
-add-t12 c = let i = c .before .before in let r = ahead-room (test i .loop .inv .0) (instruction i) in omega arith
+add-t15 : tie.Need-add-t15 Inv-loop μ-loop
+add-t15 c = let i = c .before .before in let r = ahead-room (test i .loop .inv .0) (instruction i) in omega arith
 
 returns-2 : tie.Need-returns-2 Inv-loop μ-loop
 returns-2 c =
@@ -115,13 +115,14 @@ offset-fault-spec =
     (tie.spec
     Inv-loop
     μ-loop
-    loop-holds
     (λ c κs. search needs)
+    loop-holds
+    (λ c κs. c .before .before .before .coded-kinds .ensures)
     (λ c. search needs)
     enum-told
     returns
     lands-requires
-    add-t12
+    add-t15
     returns-2
     after-requires
     size-of-requires

@@ -49,7 +49,7 @@ read-head-spec =
     (tie.spec
     returns
     (λ c κs. search needs)
-    (λ c κs. search needs)
+    (λ c κs. c .before .before .before .pre)
     (λ c. search needs)
     enum-told
     returns-2

@@ -20,21 +20,21 @@ use Rattle.words.proofs.word_fault.Statement.{statement}
 use Rattle.words.proofs.word_fault.Tie as tie
 
 abbrev Inv-loop : tie.InvT-loop
-Inv-loop listed words rest₀ index₀ count₀ rest index count =
+Inv-loop listed words coded rest₀ index₀ count₀ rest index count =
     (wordFault listed (wordsOf words) ≡ faultFrom listed count (entries opcode index (wordsOf rest))) × (4 * index + length rest ≡ length words) × (count ≤ 1024)
 
 abbrev μ-loop : tie.MeasureT-loop
-μ-loop listed words rest₀ index₀ count₀ rest index count = length rest
+μ-loop listed words coded rest₀ index₀ count₀ rest index count = length rest
 
 returns : tie.Need-returns Inv-loop μ-loop
 returns c = let a = c .before .before .args in sym (fault-empty (a .listed) (a .words .now) (c .if1 .taken))
 
 -- the places of a turn: from where the instruction is known back to the loop's test, and from there to the start
 abbrev test : tie.After-known-told Inv-loop μ-loop → tie.At-loop Inv-loop μ-loop
-test c = c .before .before .before .before .before
+test c = c .before .before .before .before .before .before
 
 abbrev start : tie.At-loop Inv-loop μ-loop → tie.Start Inv-loop μ-loop
-start c = c .before .before .before
+start c = c .before .before .before .before
 
 -- the instruction that is read: its kind and its argument
 abbrev kind : tie.After-known-told Inv-loop μ-loop → ℕ
@@ -57,17 +57,17 @@ listed c =
     sym (c .call-listed .ensures ∙ ap (λ z. callListed (start (test i) .args .listed) z (kindAt (kind i) .argument)) (toZ-ofZ w32 (argument i) (search needs)))
 
 loop-holds : tie.Need-loop-holds Inv-loop μ-loop
-loop-holds c = let a = c .before .before .args in (fault-starts (a .listed) (a .words .now) (omega arith), omega arith, omega arith)
+loop-holds c = let a = c .before .before .before .args in (fault-starts (a .listed) (a .words .now) (omega arith), omega arith, omega arith)
 
 enum-told : tie.Need-enum-told Inv-loop μ-loop
 enum-told c = search needs
 
 returns-2 : tie.Need-returns-2 Inv-loop μ-loop
 returns-2 c =
-    let l = c .before .before .before .before in
+    let l = c .before .before .before .before .before in
     let rest = l .loop .rest .now in
     let h = sym (c .before .before .read-head .ensures) ∙ c .enum-told .given .1 in
-    sym (l .loop .inv .0 ∙ fault-unread _ _ _ (wordsOf rest) (words-some rest (c .before .before .before .loop-test .taken)) h)
+    sym (l .loop .inv .0 ∙ fault-unread _ _ _ (wordsOf rest) (words-some rest (c .before .before .before .before .loop-test .taken)) h)
 
 returns-3 : tie.Need-returns-3 Inv-loop μ-loop
 returns-3 c =
@@ -126,8 +126,9 @@ word-fault-spec =
     Inv-loop
     μ-loop
     returns
-    loop-holds
     (λ c κs. search needs)
+    loop-holds
+    (λ c κs. c .before .before .before .coded-kinds .ensures)
     (λ c. search needs)
     enum-told
     returns-2
