@@ -157,7 +157,7 @@ pub fn count_code(body: &[u8]) -> usize
         if text::same(line, b"ANSWER") {
             return n;
         }
-        let next = text::next_lines(rest);
+        let next = text::after_line(rest, line.len());
         rest = next;
         n += 1;
     }

@@ -82,11 +82,20 @@ cut-more c l n q h = rw (rest-is, add-one, q) (split-more c l (rw q at h))
 pub cut-last : (c : ℕ) (l : List ℕ) (n : ℕ) → n ≡ firstLength c l → length l ≤ n → split c l ≡ l ∷ []
 cut-last c l n q h = split-last c l (rw q at h)
 
--- a comparison at i: b is at its end, the bytes differ, they agree, a is at its end
+-- texts of two lengths differ
 
-pub equals-short : (a b : List ℕ) (i : ℕ) → i < length a → length b ≤ i → equals (drop i a) (drop i b) ≡ false
+pub equals-lengths : (a b : List ℕ) → (length a ≡ length b → ⊥) → equals a b ≡ false
 unfolding equals
-equals-short a b i h k = rw (drop-cons a i 0, drop-of-length-le b k) refl
+equals-lengths [] [] n = absurd (n refl)
+equals-lengths [] (y ∷ ys) n = refl
+equals-lengths (x ∷ xs) [] n = refl
+equals-lengths (x ∷ xs) (y ∷ ys) n = go (eqb x y) (equals-lengths xs ys (λ e. n (ap suc e)))
+  where
+    go : (t : Bool) → equals xs ys ≡ false → cond t (equals xs ys) false ≡ false
+    go true e = e
+    go false e = refl
+
+-- a comparison at i: the bytes differ, they agree, a is at its end
 
 pub equals-differ : (a b : List ℕ) (i : ℕ) → i < length a → i < length b → (getD a i 0 ≡ getD b i 0 → ⊥) → equals (drop i a) (drop i b) ≡ false
 unfolding equals

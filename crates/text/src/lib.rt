@@ -38,17 +38,17 @@ const MOST: u64 = 10_000_000_000;
 pub fn same(a: &[u8], b: &[u8]) -> bool
     ensures { λ r. ⌜ r ≡ equals (now (a .entry)) (now (b .entry)) ⌝ }
 {
+    if a.len() != b.len() {
+        return false;
+    }
     let mut i = 0;
     while i < a.len() {
-        if b.len() <= i {
-            return false;
-        }
         if a[i] != b[i] {
             return false;
         }
         i += 1;
     }
-    i == b.len()
+    true
 }
 
 // The length of the first piece of s that the byte c parts.

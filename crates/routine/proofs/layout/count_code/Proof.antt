@@ -1,7 +1,7 @@
 -- `routine::layout::count_code` meets its contract. The loop's invariant: the code lines of the body are the n lines passed and those of what is
 -- left up to a line ANSWER. The measure is the length of what is left. Assumes nothing.
 use Prim.Native.Nat.{_+_, _<_, _≤_}
-use mathlib.Core.Path.{_≡_, refl, sym, _∙_}
+use mathlib.Core.Path.{_≡_, refl, sym, ap, _∙_}
 use native.Mathlib.Omega.{arith}
 use lib.ListN.{length}
 use borrow.Author.Needs.{needs}
@@ -36,13 +36,16 @@ returns-2 c =
     let e = code-answer (l .loop .rest .now) (c .before .before .before .first-line .result .now) (c .before .before .before .before .loop-test .taken) (c .before .before .before .first-line .ensures) (sym (c .before .same .ensures) ∙ c .if2 .taken) in
     omega arith
 
+after-line-requires : tie.Need-after-line-requires Inv-loop μ-loop
+after-line-requires c κs = ap length (c .before .before .before .first-line .ensures)
+
 loop-again : tie.Need-loop-again Inv-loop μ-loop
 loop-again c =
     let l = c .before .before .before .before .before .before in
     let f = c .before .before .before .before .first-line in
     let e =
     code-next (l .loop .rest .now) (f .result .now) (c .before .before .before .before .before .loop-test .taken) (f .ensures)
-    (lines (c .next-lines2 .result .now)) (c .next-lines2 .ensures .0) (sym (c .before .before .same .ensures) ∙ c .before .if2 .left) in
+    (lines (c .after-line .result .now)) (c .after-line .ensures .0) (sym (c .before .before .same .ensures) ∙ c .before .if2 .left) in
     (omega arith, omega arith)
 
 returns-3 : tie.Need-returns-3 Inv-loop μ-loop
@@ -65,7 +68,7 @@ count-code-spec =
     slice-aggregate-same
     (λ c κs. search needs)
     returns-2
-    (λ c κs. search needs)
+    after-line-requires
     (λ c. search needs)
     (λ c. search needs)
     loop-again
