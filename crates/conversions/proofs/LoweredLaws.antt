@@ -324,9 +324,9 @@ module _ (text : List ℕ) (p : Passes (lines text)) where
   begins-zero = rw begins-first refl
 
   -- the words are the same
-  pub same-words : exportBytes whole ≡ exportBytes ls
+  pub whole-words : exportBytes whole ≡ exportBytes ls
   unfolding exportBytes
-  same-words =
+  whole-words =
       ap₂ (λ f ms. exportOps (map (λ l. opOf (listed (names primitives) whole) f (l .text)) ms)) begins-zero (codes .0)
       ∙ ap (λ qs. exportOps (map (λ l. opOf qs 0 (l .text)) made)) (kept (names primitives) refl)
       ∙ ap exportOps made-ops

@@ -38,7 +38,7 @@ use Rattle.relocations.specs.Raised.{raiseCode, raiseState}
 use Rattle.relocations.proofs.Theorems.{bound-raised, merged-raised, run-raised}
 use Rattle.conversions.proofs.FunctionLaws.{import-refused, import-made, import-reported}
 use Rattle.conversions.proofs.MeantLaws.{code-meant}
-use Rattle.conversions.proofs.LoweredLaws.{said, whole, whole-text, whole-lines, begins-zero, same-words, code-raised, start-raised, budget-kept, answers-kept}
+use Rattle.conversions.proofs.LoweredLaws.{said, whole, whole-text, whole-lines, begins-zero, whole-words, code-raised, start-raised, budget-kept, answers-kept}
 use Rattle.conversions.proofs.LoweredLaws as lowered
 use Rattle.conversions.proofs.FaultLaws.{fault-decides, decides-fault, fault-nowhere, nowhere-fault}
 
@@ -175,12 +175,12 @@ exports-taken text words n m e h =
     let line = primitivesLine (lines text) in
     (importText (exportBytes (lines text)) line, ap (λ ws. importAnswer ws line m) (x .1) ∙ import-made (exportBytes (lines text)) line m h (words-imported text (x .0) (lowered.made text (x .0)) (said text (x .0))))
 
-pub same-words-again : SameWords
-same-words-again text words made out n m k e g o =
+pub same-words : SameWords
+same-words text words made out n m k e g o =
     let x = exported text words n e in
     let l = made-lines text words made n m (x .0) e g in (
       ap (λ ls. firstAddress (body ls)) l ∙ begins-zero text (x .0),
-      exported (replaced (lines text) made) out k o .1 ∙ ap exportBytes l ∙ same-words text (x .0) ∙ sym (x .1),
+      exported (replaced (lines text) made) out k o .1 ∙ ap exportBytes l ∙ whole-words text (x .0) ∙ sym (x .1),
     )
 
 lower-by : (f : ℕ) (x y : Routine) → x .code ≡ raiseCode f (y .code) → x .start ≡ raiseState f (y .start) → x .budget ≡ y .budget → x .answers ≡ y .answers → LowerBy f x y
