@@ -33,7 +33,8 @@ use Rattle.answers.specs.Answers as answers
 use Rattle.answers.proofs.AnswerLaws.{lent-short, reading-refused, reading-passed}
 use Rattle.entry.specs.Held.{routineIn}
 use Rattle.entry.proofs.EntryLaws.{passes-not, same-refused}
-use Rattle.interrupts.specs.Interrupts.{numbersOfRun, numbersOfVerdict, numbersOf, stepsOf, interrupted, interruptAnswer, numberOf, Numbered}
+use Rattle.interrupts.specs.Interrupts.{numbersOfRun, numbersOfVerdict, numbersOf, stepsOf, interrupted, interruptAnswer, numberOf, numbersTold, Tells, Numbered}
+use Rattle.interrupts.specs.declared.Told.{Told}
 
 -- ---- bounded afresh
 
@@ -61,16 +62,21 @@ accepted-numbers f = 0 ∷ 0 ∷ f .cycles ∷ f .words ∷ f .depth ∷ f .used
 abbrev pub refused-numbers : ℕ → ℕ → List ℕ
 refused-numbers n p = n ∷ p ∷ 0 ∷ 0 ∷ 0 ∷ 0 ∷ 0 ∷ []
 
-module _ (r : Progress) (f : Found) (stopped : ℕ) (e : stopped ≡ cond (r .stopped) 1 0) where
-  pub numbered-accepted : f .verdict ≡ Accepted → Numbered r f (first-numbers stopped r (accepted-numbers f))
-  unfolding numbersOfRun numbersOfVerdict ofProgress acceptedAs whole reblock
-  numbered-accepted a ns xs (accepted q) s = ap (λ d. first-numbers d r (accepted-numbers f)) e ∙ ap (λ g. first-numbers (cond (r .stopped) 1 0) r (accepted-numbers g)) s
-  numbered-accepted a ns xs (refused x) s = passes-not x (sym a ∙ s)
+-- what was found, as numbers
+pub tells-accepted : (f : Found) → f .verdict ≡ Accepted → (v : Verdict) → Shows f v → accepted-numbers f ≡ numbersOfVerdict v
+unfolding numbersOfVerdict acceptedAs
+tells-accepted f a (accepted q) s = ap accepted-numbers s
+tells-accepted f a (refused x) s = passes-not x (sym a ∙ s)
 
-  pub numbered-refused : (x : Refusal) → f .verdict ≡ Refused x → (n p : ℕ) → n ≡ number x → p ≡ place x → Numbered r f (first-numbers stopped r (refused-numbers n p))
-  unfolding numbersOfRun numbersOfVerdict ofProgress acceptedAs whole reblock
-  numbered-refused x a n p h k ns xs (accepted q) s = passes-not x (sym (ap (λ g. g .verdict) s) ∙ a)
-  numbered-refused x a n p h k ns xs (refused y) s = let z = same-refused x y (sym a ∙ s) in rw (e, h, k, z) refl
+pub tells-refused : (f : Found) (x : Refusal) → f .verdict ≡ Refused x → (n p : ℕ) → n ≡ number x → p ≡ place x → (v : Verdict) → Shows f v → refused-numbers n p ≡ numbersOfVerdict v
+unfolding numbersOfVerdict acceptedAs
+tells-refused f x a n p h k (accepted q) s = passes-not x (sym (ap (λ g. g .verdict) s) ∙ a)
+tells-refused f x a n p h k (refused y) s = let z = same-refused x y (sym a ∙ s) in rw (h, k, z) refl
+
+-- those of a run before them
+pub numbered : (r : Progress) (f : Found) (t : Told) (stopped : ℕ) → stopped ≡ cond (r .stopped) 1 0 → Tells f t → Numbered r f (first-numbers stopped r (numbersTold t))
+unfolding numbersOfRun ofProgress whole reblock
+numbered r f t stopped e h ns xs v s = ap (λ d. first-numbers d r (numbersTold t)) e ∙ ap (first-numbers (cond (r .stopped) 1 0) r) (h v s)
 
 -- of the run that r stands for
 pub numbers-are : (c : Code) (budget : ℕ) (ns : List ℕ) (xs : List ℤ) (r : Progress) (f : Found) (numbers : List ℕ) → Numbered r f numbers →

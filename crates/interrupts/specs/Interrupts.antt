@@ -15,6 +15,7 @@ use Rattle.runs.specs.declared.Progress.{Progress}
 use Rattle.runs.specs.Progress.{ofProgress}
 use Rattle.routine.specs.Routine.{Routine, readRun}
 use Rattle.answers.specs.Answers.{Answer, reported, lending, ofReading}
+use Rattle.interrupts.specs.declared.Told.{Told}
 use Rattle.answers.specs.Answers as answers
 
 -- of a run: 1 if STOP was made, its address, the cycles and the words spent, its largest height, its steps
@@ -46,6 +47,14 @@ interruptAnswer text n lent = lending 13 lent (ofReading (λ x. reported (interr
 unfoldable pub numberOf : Answer → ℕ
 numberOf (reported ns) = 0
 numberOf (answers.refused r) = number r
+
+-- the numbers that are told
+abbrev pub numbersTold : Told → List ℕ
+numbersTold t = t .number ∷ t .place ∷ t .cycles ∷ t .words ∷ t .depth ∷ t .used ∷ t .path ∷ []
+
+-- they are those of the verdict that is found
+abbrev pub Tells : Found → Told → Type 0
+Tells found t = (v : Verdict) → Shows found v → numbersTold t ≡ numbersOfVerdict v
 
 -- the numbers ns are those of the run that r stands for and of the verdict that is found
 abbrev pub Numbered : Progress → Found → List ℕ → Type 0

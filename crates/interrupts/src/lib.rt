@@ -22,7 +22,7 @@ ghost use Rattle.explore.specs.Contract.{Explorable};
 ghost use Rattle.reader.specs.Reader.{Limited};
 ghost use Rattle.answers.specs.Answers.{memory};
 ghost use Rattle.entry.specs.Held.{routineIn};
-ghost use Rattle.interrupts.specs.Interrupts.{Numbered, numbersOf, stepsOf, interrupted, interruptAnswer, numberOf};
+ghost use Rattle.interrupts.specs.Interrupts.{Tells, Numbered, numbersOf, stepsOf, interrupted, interruptAnswer, numberOf};
 
 // The state that a run has reached, bounded afresh.
 fn afresh(
@@ -47,55 +47,66 @@ fn afresh(
     explore::explore(code, state, blocks, 32, budget)
 }
 
+// What was found, as numbers: 0 and 0, and its figures; or the number and the place of its refusal, and 0 for each figure.
+pub struct Told {
+    pub number: u64,
+    pub place: u64,
+    pub cycles: u64,
+    pub words: u64,
+    pub depth: u64,
+    pub used: u64,
+    pub path: u64,
+}
+
+// The numbers of what was found.
+fn told_of(found: Found) -> Told
+    ensures { λ t. ⌜ Tells found t ⌝ }
+{
+    let verdict = found.verdict;
+    let Verdict::Refused(x) = verdict else {
+        return Told {
+            number: 0,
+            place: 0,
+            cycles: found.cycles,
+            words: found.words,
+            depth: found.depth,
+            used: found.used as u64,
+            path: found.path,
+        };
+    };
+    Told {
+        number: refusals::number(x),
+        place: refusals::place(x),
+        cycles: 0,
+        words: 0,
+        depth: 0,
+        used: 0,
+        path: 0,
+    }
+}
+
 // The numbers of a run so far and of what it was found to come to.
 fn numbers_of(r: Progress, found: Found) -> [u64; 13]
     ensures { λ ns. ⌜ Numbered r found ns ⌝ }
 {
     let state = r.state;
-    let at = state.at as u64;
-    let depth = r.depth as u64;
-    let steps = r.steps as u64;
-    let used = found.used as u64;
     let stopped = if r.stopped { 1 } else { 0 };
-    let verdict = found.verdict;
-    match verdict {
-        Verdict::Accepted => {
-            return [
-                stopped,
-                at,
-                r.cycles,
-                r.words,
-                depth,
-                steps,
-                0,
-                0,
-                found.cycles,
-                found.words,
-                found.depth,
-                used,
-                found.path,
-            ];
-        }
-        Verdict::Refused(x) => {
-            let number = refusals::number(x);
-            let place = refusals::place(x);
-            return [
-                stopped,
-                at,
-                r.cycles,
-                r.words,
-                depth,
-                steps,
-                number,
-                place,
-                0,
-                0,
-                0,
-                0,
-                0,
-            ];
-        }
-    }
+    let told = told_of(found);
+    [
+        stopped,
+        state.at as u64,
+        r.cycles,
+        r.words,
+        r.depth as u64,
+        r.steps as u64,
+        told.number,
+        told.place,
+        told.cycles,
+        told.words,
+        told.depth,
+        told.used,
+        told.path,
+    ]
 }
 
 // The run of `n` steps, and its state bounded afresh.
