@@ -292,7 +292,7 @@ fn within_a_range() -> Vec<Entry> {
     ]
 }
 
-/// The other starred cases, 2 to 6, and those of change requests 1 and 7, which `analyser` proves: the independent implementation must
+/// The other starred cases, 2 to 6, and those of change requests 1 and 7, which `theorems` proves: the independent implementation must
 /// give these too.
 pub fn starred() -> Vec<Text> {
     let two_calls: Base = File(|| {

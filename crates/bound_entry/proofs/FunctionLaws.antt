@@ -1,16 +1,13 @@
 -- What the bound answers to a routine and to a text. Assumes nothing.
-use Prim.Native.Nat.{ℕ, _≤_, _<_}
+use Prim.Native.Nat.{ℕ, _≤_}
 use mathlib.Core.Path.{_≡_, _∙_}
 use mathlib.Core.List.{List}
-use Rattle.refusals.specs.declared.Refusal.{Refusal}
-use Rattle.refusals.specs.declared.Refusal.the-variants.{ReportMemory}
 use Rattle.routine.specs.Routine.{readBound}
 use Rattle.routine.specs.Routine as readings
 use Rattle.routine.proofs.RowLaws.{read-passes}
 use Rattle.answers.specs.Answers.{memoryLimit, memory, answerOf, reportLength, Delivers}
-use Rattle.answers.specs.Answers as answers
 use Rattle.answers.specs.declared.Answer as code
-use Rattle.answers.proofs.AnswerLaws.{lent-short, reading-refused, reading-passed, delivers}
+use Rattle.answers.proofs.AnswerLaws.{reading-passed, delivers}
 use Rattle.report_theory.specs.Answers.{boundRoutine, boundAnswer}
 use Rattle.report_theory.specs.Promises.{SafeReport, ExactReport}
 use Rattle.report_theory.specs.Listed.{BoundRefused, Refuses, ListedAlone}
@@ -18,20 +15,32 @@ use Rattle.report_theory.specs.Refined.{MonotoneReport, KnownReport}
 use Rattle.report_theory.proofs.AnswerLaws.{reports-kept, bound-reported}
 use Rattle.report_theory.proofs.RefinedLaws.{bounds-refined}
 use Rattle.report_theory.proofs.ListedLaws.{bound-listed, listed-alone}
-use Rattle.entry.specs.Held.{Printable}
-use Rattle.entry.proofs.EntryLaws.{printable}
+use native.Mathlib.Omega.{arith}
+use Rattle.bounds.specs.Tree.{bound}
+use Rattle.findings.specs.declared.Found.{Found}
+use Rattle.findings.specs.Found.{Shows}
+use Rattle.explore.specs.Contract.{Explores, Bounded}
+use Rattle.states.specs.Program.{sizesOf}
+use Rattle.reader.specs.declared.Routine.{Routine}
+use Rattle.reader.specs.Reader.{Limited}
+use Rattle.entry.specs.Held.{routineIn}
+use Rattle.report.specs.Held.{Shareable, Printable}
+use Rattle.report_theory.proofs.FoundLaws.{printable}
+
+-- ---- a routine
+
+module _ (x : Routine) (l : Limited x) where
+  pub explored-shows : (r : Found) → Explores (routineIn x .code) (sizesOf (x .code)) (x .fields) (x .start) 32 (x .budget) r
+      → Shows r (bound (routineIn x .code) (routineIn x .budget) (routineIn x .start))
+  unfolding bound
+  explored-shows r e = e .shows
+
+  pub explored-shareable : (r : Found) → Bounded 32 (x .budget) r → Shareable r
+  explored-shareable r m = record { cycles = let a = m .cycles in let b = m .used in let d = l .budget in omega arith }
 
 -- ---- a text
 
 module _ (text : List ℕ) (n : ℕ) where
-  pub bound-short : n < 128 → boundAnswer text n ≡ answers.refused ReportMemory
-  unfolding boundAnswer
-  bound-short = lent-short memoryLimit n _
-
-  pub bound-refused : 128 ≤ n → (x : Refusal) → readBound text ≡ readings.refused x → boundAnswer text n ≡ answers.refused x
-  unfolding boundAnswer
-  bound-refused = reading-refused boundRoutine (readBound text) memoryLimit n
-
   pub bound-passed : 128 ≤ n → (x : readings.Routine) → readBound text ≡ readings.routine x → boundAnswer text n ≡ boundRoutine x
   unfolding boundAnswer
   bound-passed = reading-passed boundRoutine (readBound text) memoryLimit n

@@ -1,18 +1,33 @@
 // The bound of a routine file, on texts and lent memory. The meaning is in the specs/ of `report_theory`.
 use answers::Answer;
+use findings::Found;
 use reader::Routine;
-use refusals::Refusal;
 use refusals::Verdict;
 use rows::Reader;
 ghost use mathlib.Core.Path.{_≡_};
 ghost use lib.ListN.{length};
+ghost use Rattle.bounds.specs.Tree.{bound};
+ghost use Rattle.findings.specs.Found.{Shows};
 ghost use Rattle.reader.specs.Reader.{Limited};
 ghost use Rattle.answers.specs.Answers.{memory, answerOf, reportLength, Delivers};
-ghost use Rattle.entry.specs.Held.{routineIn, Printable};
+ghost use Rattle.entry.specs.Held.{routineIn};
+ghost use Rattle.report.specs.Held.{Shareable, Printable};
 ghost use Rattle.report_theory.specs.Answers.{boundRoutine, boundAnswer};
 ghost use Rattle.report_theory.specs.Promises.{SafeReport, ExactReport};
 ghost use Rattle.report_theory.specs.Listed.{BoundRefused, Refuses, ListedAlone};
 ghost use Rattle.report_theory.specs.Refined.{MonotoneReport, KnownReport};
+
+// The routine's bound.
+pub fn explored(routine: Routine) -> Found
+    requires { ⌜ Limited routine ⌝ }
+    ensures { λ r. ⌜ Shows r (bound (routineIn routine .code) (routineIn routine .budget) (routineIn routine .start)) ⌝ }
+    ensures { λ r. ⌜ Shareable r ⌝ }
+{
+    let code = routine.code;
+    let fields = routine.fields;
+    let start = routine.start;
+    explore::explore(&code, start, fields, 32, routine.budget)
+}
 
 // The answer of the bound to a routine.
 fn bound_routine(routine: Routine, out: &mut [u8]) -> Answer
@@ -22,8 +37,8 @@ fn bound_routine(routine: Routine, out: &mut [u8]) -> Answer
     ensures { λ _. ⌜ now (out .exit) ≡ memory (boundRoutine (routineIn routine)) (now (out .entry)) ⌝ }
 {
     let tick = routine.tick;
-    let found = evaluations::explored(routine);
-    entry::put_found(found, tick, out)
+    let found = explored(routine);
+    report::put_found(found, tick, out)
 }
 
 // The bound of a routine file: the report in the lent memory, or a refusal.
@@ -36,11 +51,7 @@ pub fn bound(text: &[u8], out: &mut [u8]) -> Answer
     ensures known { λ r. ⌜ Delivers (reportLength r) (now (out .exit)) (KnownReport (now (text .entry))) ⌝ }
     ensures listed { λ r. ⌜ ListedAlone (Refuses r) (BoundRefused (now (text .entry)) (length (now (out .entry)))) ⌝ }
 {
-    let lent = out.len();
-    if lent < 128 {
-        return Answer::Refused(Refusal::ReportMemory); // the first row, before the text is read
-    }
-    let verdict = rows::check(Reader::Bound, text);
+    let verdict = entry::check(Reader::Bound, 128, out.len(), text);
     match verdict {
         Verdict::Accepted => {
             let routine = reader::routine_of(text);

@@ -6,7 +6,6 @@ use native.Mathlib.Omega.{arith}
 use lib.IntN.{ℤ}
 use lib.ListN.{length, length-append, length-map, length-drop}
 use Rattle.refusals.specs.declared.Refusal.{Refusal}
-use Rattle.refusals.specs.declared.Refusal.the-variants.{ReportMemory}
 use Rattle.refusals.specs.Refusals.{place}
 use Rattle.refusals.specs.declared.Verdict.{Verdict}
 use Rattle.refusals.specs.declared.Verdict.the-variants.{Accepted, Refused}
@@ -18,7 +17,6 @@ use Rattle.routine.specs.Routine.{readRun}
 use Rattle.routine.specs.Routine as readings
 use Rattle.routine.proofs.PlaceLaws.{read-run-place}
 use Rattle.reader.specs.declared.Routine.{Routine}
-use Rattle.reader.specs.Reader.{Holds}
 use Rattle.traces.specs.Traces.{traceVerdict, entries}
 use Rattle.traces.proofs.TraceLaws.{entries-few, trace-place}
 use Rattle.replays.specs.declared.Replayed.{Replayed}
@@ -27,7 +25,7 @@ use Rattle.replays.specs.Replay.{Outcome, agreed, differed, replay}
 use Rattle.replays.specs.Held.{ofReplayed}
 use Rattle.replays.proofs.Theorems.{differs-where}
 use Rattle.answers.specs.Answers.{reported, refused, memoryLimit, ofVerdict}
-use Rattle.answers.proofs.AnswerLaws.{never, lent-short, from-reading, place-from, reading-refused, reading-passed}
+use Rattle.answers.proofs.AnswerLaws.{never, from-reading, place-from, reading-passed}
 use Rattle.conformance.specs.Answers.{outcomeText, replayRoutine, replayAnswer}
 use Rattle.conformance.specs.Held.{outcomeIn}
 
@@ -80,22 +78,9 @@ pub said-refused : (trace made : List ℕ) (r : Refusal) → traceVerdict trace 
 unfolding ofVerdict
 said-refused trace made r e = rw e refl
 
--- what is said of the routine that is held is said of the routine
-pub held-answer : (x : readings.Routine) (h : Routine) → Holds x h → (trace : List ℕ) → replayRoutine trace x ≡ ofVerdict (outcomeText (outcomeIn h trace)) (traceVerdict trace)
-unfolding replayRoutine
-held-answer x h p trace = rw (← p .code, ← p .start, ← p .answered) refl
-
 -- ---- a text
 
 module _ (text trace : List ℕ) (n : ℕ) where
-  pub replay-short : n < 128 → replayAnswer text trace n ≡ refused ReportMemory
-  unfolding replayAnswer
-  replay-short = lent-short memoryLimit n _
-
-  pub replay-refused : 128 ≤ n → (x : Refusal) → readRun text ≡ readings.refused x → replayAnswer text trace n ≡ refused x
-  unfolding replayAnswer
-  replay-refused = reading-refused (replayRoutine trace) (readRun text) memoryLimit n
-
   pub replay-passed : 128 ≤ n → (x : readings.Routine) → readRun text ≡ readings.routine x → replayAnswer text trace n ≡ replayRoutine trace x
   unfolding replayAnswer
   replay-passed = reading-passed (replayRoutine trace) (readRun text) memoryLimit n

@@ -1,7 +1,6 @@
 // The replay on texts and lent memory. The meaning is in specs/.
 use answers::Answer;
 use reader::Routine;
-use refusals::Refusal;
 use refusals::Verdict;
 use replays::Replayed;
 use rows::Reader;
@@ -71,10 +70,7 @@ pub fn replay(text: &[u8], trace: &[u8], out: &mut [u8]) -> Answer
     ensures { λ _. ⌜ now (out .exit) ≡ memory (replayAnswer (now (text .entry)) (now (trace .entry)) (length (now (out .entry)))) (now (out .entry)) ⌝ }
     ensures kept { λ r. ⌜ Delivers (reportLength r) (now (out .exit)) (ReplayKept (now (text .entry)) (now (trace .entry))) ⌝ }
 {
-    if out.len() < 128 {
-        return Answer::Refused(Refusal::ReportMemory);
-    }
-    let verdict = rows::check(Reader::Run, text);
+    let verdict = entry::check(Reader::Run, 128, out.len(), text);
     match verdict {
         Verdict::Accepted => {
             let routine = reader::routine_of(text);

@@ -23,7 +23,7 @@ use Rattle.words.specs.Export.{exportBytes}
 use Rattle.words.proofs.ExportLaws.{export-fits}
 use Rattle.imports.proofs.ImportLaws as imports
 use Rattle.answers.specs.Answers.{reported, refused, ofVerdict}
-use Rattle.answers.proofs.AnswerLaws.{never, lent-short, lent-enough, lent-reported, lent-place, from-reading, place-from, reading-refused, reading-passed}
+use Rattle.answers.proofs.AnswerLaws.{never, lent-short, lent-enough, lent-reported, lent-place, from-reading, place-from, reading-passed}
 use Rattle.conversions.specs.Answers.{conversionLimit, importAnswer, exportAnswer}
 
 -- ---- an import
@@ -70,14 +70,6 @@ unfolding exportBytes
 export-length ls e = export-fits _ (simp length-map (code-some ls e)) (simp length-map (code-few ls e))
 
 module _ (text : List ℕ) (n : ℕ) where
-  pub export-short : n < 32768 → exportAnswer text n ≡ refused ReportMemory
-  unfolding exportAnswer
-  export-short = lent-short conversionLimit n _
-
-  pub export-refused : 32768 ≤ n → (x : Refusal) → readBound text ≡ readings.refused x → exportAnswer text n ≡ refused x
-  unfolding exportAnswer
-  export-refused = reading-refused (λ x. reported (exportBytes (lines text))) (readBound text) conversionLimit n
-
   pub export-made : 32768 ≤ n → (x : Routine) → readBound text ≡ readings.routine x → exportAnswer text n ≡ reported (exportBytes (lines text))
   unfolding exportAnswer
   export-made = reading-passed (λ x. reported (exportBytes (lines text))) (readBound text) conversionLimit n

@@ -31,11 +31,7 @@ pub fn export(text: &[u8], out: &mut [u8]) -> Answer
     ensures { λ r. ⌜ r ≡ answerOf (exportAnswer (now (text .entry)) (length (now (out .entry)))) ⌝ }
     ensures { λ _. ⌜ now (out .exit) ≡ memory (exportAnswer (now (text .entry)) (length (now (out .entry)))) (now (out .entry)) ⌝ }
 {
-    let lent = out.len();
-    if lent < 32768 {
-        return Answer::Refused(Refusal::ReportMemory); // before the text is read
-    }
-    let verdict = rows::check(Reader::Bound, text);
+    let verdict = entry::check(Reader::Bound, 32768, out.len(), text);
     match verdict {
         Verdict::Accepted => {
             let length = exports::put_export(text, out);

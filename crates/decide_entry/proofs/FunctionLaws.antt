@@ -1,5 +1,5 @@
 -- The decision in code is that of the definition. Assumes nothing.
-use Prim.Native.Nat.{ℕ, _≤_, _<_}
+use Prim.Native.Nat.{ℕ, _≤_}
 use mathlib.Core.Path.{_≡_, refl, sym, ap, _∙_}
 use mathlib.Core.Bool.{true, false, cond}
 use mathlib.Core.List.{List}
@@ -7,7 +7,6 @@ use native.Mathlib.Omega.{arith}
 use lib.Dec.{eqb}
 use borrow.Author.Tests.{ne-eqb}
 use Rattle.refusals.specs.declared.Refusal.{Refusal}
-use Rattle.refusals.specs.declared.Refusal.the-variants.{ReportMemory}
 use Rattle.refusals.specs.Refusals.{number}
 use Rattle.refusals.specs.declared.Verdict.the-variants as verdicts
 use Rattle.refusals.specs.declared.Verdict.the-variants.{Accepted}
@@ -21,7 +20,7 @@ use Rattle.routine.specs.Routine as readings
 use Rattle.report.proofs.DecodeLaws.{report-of}
 use Rattle.answers.specs.Answers.{Answer, reported, refused, memoryLimit, memory, answerOf, reportLength, Delivers}
 use Rattle.answers.specs.declared.Answer as code
-use Rattle.answers.proofs.AnswerLaws.{lent-short, reading-refused, reading-passed, delivers}
+use Rattle.answers.proofs.AnswerLaws.{reading-passed, delivers}
 use Rattle.decide_entry.specs.declared.Source.the-variants.{First, Merging}
 use Rattle.decide_entry.specs.Decision.{decisionText}
 use Rattle.decide_entry.specs.Answers.{forSize, byMerging, decided, decideRoutine, decideAnswer}
@@ -81,14 +80,6 @@ module _ (x : Routine) where
 -- ---- a text
 
 module _ (text : List ℕ) (n : ℕ) where
-  pub decide-short : n < 128 → decideAnswer text n ≡ refused ReportMemory
-  unfolding decideAnswer
-  decide-short = lent-short memoryLimit n _
-
-  pub decide-refused : 128 ≤ n → (y : Refusal) → readBound text ≡ readings.refused y → decideAnswer text n ≡ refused y
-  unfolding decideAnswer
-  decide-refused = reading-refused decideRoutine (readBound text) memoryLimit n
-
   pub decide-passed : 128 ≤ n → (x : Routine) → readBound text ≡ readings.routine x → decideAnswer text n ≡ decideRoutine x
   unfolding decideAnswer
   decide-passed = reading-passed decideRoutine (readBound text) memoryLimit n

@@ -88,7 +88,7 @@ fn decide_by_merging(refusal: Refusal, routine: Routine, out: &mut [u8]) -> Answ
     ensures { λ _. ⌜ now (out .exit) ≡ memory (decideRoutine (routineIn routine)) (now (out .entry)) ⌝ }
 {
     let tick = routine.tick;
-    let found = evaluations::swept(routine);
+    let found = merge_entry::swept(routine);
     let verdict = found.verdict;
     match verdict {
         Verdict::Accepted => {
@@ -106,7 +106,7 @@ fn decide_routine(routine: Routine, out: &mut [u8]) -> Answer
     ensures { λ _. ⌜ now (out .exit) ≡ memory (decideRoutine (routineIn routine)) (now (out .entry)) ⌝ }
 {
     let tick = routine.tick;
-    let found = evaluations::explored(routine);
+    let found = bound_entry::explored(routine);
     let verdict = found.verdict;
     match verdict {
         Verdict::Accepted => {
@@ -131,10 +131,7 @@ pub fn decide(text: &[u8], out: &mut [u8]) -> Answer
     ensures over { λ r. ⌜ Delivers (reportLength r) (now (out .exit)) (OverTick (now (text .entry))) ⌝ }
     ensures undecided { λ r. ⌜ Delivers (reportLength r) (now (out .exit)) (UndecidedTick (now (text .entry))) ⌝ }
 {
-    if out.len() < 128 {
-        return Answer::Refused(Refusal::ReportMemory);
-    }
-    let verdict = rows::check(Reader::Bound, text);
+    let verdict = entry::check(Reader::Bound, 128, out.len(), text);
     match verdict {
         Verdict::Accepted => {
             let routine = reader::routine_of(text);

@@ -1,81 +1,102 @@
--- The routine that the code's arrays hold is the routine of the text, and what is answered of the figures found is the answer of their verdict.
--- Assumes nothing.
+-- What an entry point answers, by what it read of the text. Assumes nothing.
 use Prim.Native.Nat.{ℕ, _≤_}
-use mathlib.Core.Path.{_≡_, sym, ap, _∙_}
+use mathlib.Core.Path.{_≡_, refl, sym, ap, _∙_}
+use mathlib.Core.Bool.{Bool, true, false, cond}
 use mathlib.Core.List.{List}
 use native.Mathlib.Omega.{arith}
-use lib.ListN.{length}
+use lib.Dec.{ltb}
+use borrow.Author.Tests.{ltb-false}
 use Rattle.refusals.specs.declared.Refusal.{Refusal}
-use Rattle.refusals.specs.declared.Verdict.the-variants as verdicts
-use Rattle.refusals.specs.declared.Verdict.the-variants.{Accepted}
+use Rattle.refusals.specs.declared.Refusal.the-variants.{ReportMemory}
+use Rattle.refusals.specs.declared.Verdict.the-variants.{Accepted, Refused}
 use Rattle.text.specs.Text.{lines}
-use Rattle.bounds.specs.Tree.{accepted, refused}
-use Rattle.bounds.specs.Tree as bounds
-use Rattle.findings.specs.declared.Found.{Found}
-use Rattle.findings.specs.Found.{Shows, acceptedAs}
 use Rattle.routine.specs.Rows.{Passes}
 use Rattle.routine.specs.Routine.{routineOf}
 use Rattle.routine.specs.Routine as readings
-use Rattle.routine.proofs.RangeLaws.{tick-positive, tick-small}
+use Rattle.rows.specs.declared.Reader.{Reader}
+use Rattle.rows.specs.Checks.{readBy, checkOf}
+use Rattle.rows.proofs.CheckLaws.{refused-reading, accepted-reading}
 use Rattle.reader.specs.declared.Routine.{Routine}
 use Rattle.reader.specs.Reader.{Holds}
-use Rattle.report.specs.Report.{boundText}
-use Rattle.report.specs.Decode.{reportOf}
-use Rattle.report.proofs.DecodeLaws.{report-of}
-use Rattle.answers.specs.Answers.{Answer, reported, memoryLimit, memory, answerOf}
+use Rattle.answers.specs.Answers.{Answer, lending, ofReading, memory, answerOf}
 use Rattle.answers.specs.Answers as answers
 use Rattle.answers.specs.declared.Answer as code
-use Rattle.report_theory.specs.Answers.{ofVerdict}
-use Rattle.entry.specs.Held.{routineIn, Printable, judgedAs, foundAnswer}
+use Rattle.answers.specs.declared.Answer.the-variants as told
+use Rattle.answers.proofs.AnswerLaws.{gives-refusal, reading-passed}
+use Rattle.entry.specs.Held.{routineIn, admitted}
 
--- ---- the routine of a text
+-- ---- what is read
+
+-- a verdict is of one case
+pub passes-not : {A : Type 0} (x : Refusal) → Accepted ≡ Refused x → A
+passes-not x e = let z : _≡_ {A = ℕ} 0 1 = cc in absurd (omega arith)
+
+pub same-refused : (x y : Refusal) → Refused x ≡ Refused y → x ≡ y
+same-refused x y e = cc
 
 -- the routine that is held is the routine
 holds-is : (x : readings.Routine) (r : Routine) → Holds x r → routineIn r ≡ x
 holds-is x r h = λ i. record { budget = h .budget i; tick = h .tick i; code = h .code i; start = h .start i; answers = h .answered i }
 
-pub held-routine : (x : readings.Routine) (r : Routine) → Holds x r → (m : readings.Reading) → m ≡ readings.routine x → m ≡ readings.routine (routineIn r)
-held-routine x r h m e = e ∙ ap readings.routine (sym (holds-is x r h))
+module _ (reader : Reader) (limit lent : ℕ) (text : List ℕ) where
+  pub check-short : (ltb lent limit ≡ true) → Refused ReportMemory ≡ checkOf (admitted limit lent (readBy reader text))
+  unfolding admitted checkOf
+  check-short h = rw h refl
 
--- ---- a verdict is of one case
+  pub check-enough : (ltb lent limit ≡ false) → checkOf (readBy reader text) ≡ checkOf (admitted limit lent (readBy reader text))
+  unfolding admitted
+  check-enough h = rw h refl
 
-pub passes-not : {A : Type 0} (x : Refusal) → Accepted ≡ verdicts.Refused x → A
-passes-not x e = let z : _≡_ {A = ℕ} 0 1 = cc in absurd (omega arith)
+  -- enough is lent where the text is accepted
+  accepted-lent : checkOf (admitted limit lent (readBy reader text)) ≡ Accepted → (limit ≤ lent) × (checkOf (readBy reader text) ≡ Accepted)
+  unfolding admitted checkOf
+  accepted-lent = go (ltb lent limit) refl
+    where
+      go : (b : Bool) → ltb lent limit ≡ b → checkOf (cond b (readings.refused ReportMemory) (readBy reader text)) ≡ Accepted → (limit ≤ lent) × (checkOf (readBy reader text) ≡ Accepted)
+      go true h e = passes-not ReportMemory (sym e)
+      go false h e = (ltb-false lent limit h, e)
 
-pub same-refused : (x y : Refusal) → verdicts.Refused x ≡ verdicts.Refused y → x ≡ y
-same-refused x y e = cc
+  pub accepted-passes : checkOf (admitted limit lent (readBy reader text)) ≡ Accepted → Passes (lines text)
+  accepted-passes e = accepted-reading text reader (accepted-lent e .1) .0
 
--- ---- what was found
+  pub accepted-enough : checkOf (admitted limit lent (readBy reader text)) ≡ Accepted → limit ≤ lent
+  accepted-enough e = accepted-lent e .0
 
-pub judged-accepted : (tick : ℕ) (f : Found) → f .verdict ≡ Accepted
-    → foundAnswer tick f ≡ reported (boundText tick (reportOf (f .cycles) (f .words) (f .depth) (f .used) (f .path)))
-unfolding judgedAs
-judged-accepted tick f e = ap (judgedAs tick f) e
+  pub accepted-read : checkOf (admitted limit lent (readBy reader text)) ≡ Accepted → readBy reader text ≡ readings.routine (routineOf (lines text))
+  accepted-read e = accepted-reading text reader (accepted-lent e .1) .1
 
-pub judged-refused : (tick : ℕ) (f : Found) (x : Refusal) → f .verdict ≡ verdicts.Refused x → foundAnswer tick f ≡ answers.refused x
-unfolding judgedAs
-judged-refused tick f x e = ap (judgedAs tick f) e
+-- ---- what is answered
 
--- it is the answer of the verdict that it shows
-pub found-answer : (tick : ℕ) (f : Found) (v : bounds.Verdict) → Shows f v → foundAnswer tick f ≡ ofVerdict (boundText tick) v
-unfolding ofVerdict acceptedAs judgedAs
-found-answer tick f (accepted q) s = ap (foundAnswer tick) s ∙ ap (λ z. reported (boundText tick z)) (report-of q)
-found-answer tick f (refused x) s = ap (judgedAs tick f) s
+module _ (f : readings.Routine → Answer) (m : readings.Reading) (limit n : ℕ) where
+  -- the answer to a text and to n lent bytes
+  abbrev answered : Answer
+  answered = lending limit n (ofReading f m)
 
-module _ (tick n : ℕ) (f : Found) (v : bounds.Verdict) (s : Shows f v) where
-  pub found-printable : Printable (ofVerdict (boundText tick) v) tick n → Printable (foundAnswer tick f) tick n
-  found-printable p = rw (found-answer tick f v s) p
+  of-admitted : answered ≡ ofReading f (admitted limit n m)
+  unfolding admitted ofReading
+  of-admitted = go (ltb n limit)
+    where
+      go : (b : Bool) → cond b (answers.refused ReportMemory) (ofReading f m) ≡ ofReading f (cond b (readings.refused ReportMemory) m)
+      go true = refl
+      go false = refl
 
-  pub found-gives : (r : code.Answer) (former out : List ℕ) → (r ≡ answerOf (foundAnswer tick f)) × (out ≡ memory (foundAnswer tick f) former)
-      → (r ≡ answerOf (ofVerdict (boundText tick) v)) × (out ≡ memory (ofVerdict (boundText tick) v) former)
-  found-gives r former out h = rw (← found-answer tick f v s) h
+  pub check-refused : (x : Refusal) → checkOf (admitted limit n m) ≡ Refused x → answered ≡ answers.refused x
+  unfolding ofReading
+  check-refused x e = of-admitted ∙ ap (ofReading f) (refused-reading (admitted limit n m) x e)
 
--- ---- a report of a text that passes can be printed
+  -- what a refusal keeps: every lent byte
+  pub check-refuses : (x : Refusal) → checkOf (admitted limit n m) ≡ Refused x → (former : List ℕ) → (told.Refused x ≡ answerOf answered) × (former ≡ memory answered former)
+  check-refuses x e former = gives-refusal answered x (check-refused x e) former
 
-pub printable : (text : List ℕ) (x : readings.Routine) → Passes (lines text) → x ≡ routineOf (lines text) → (n : ℕ) → memoryLimit ≤ n → (a : Answer) →
-    ((bs : List ℕ) → a ≡ reported bs → (1 ≤ length bs) × (length bs ≤ memoryLimit) × (memoryLimit ≤ n)) → Printable a (x .tick) n
-printable text x passes is n h a sized = record {
-  positive = rw is (tick-positive passes);
-  small = rw is (tick-small passes);
-  fits = λ bs e. let (least, fits, lent) = sized bs e in omega arith;
-}
+-- of a text that is accepted: enough is lent, the text has the routine that was made, and that is what is answered of
+module _ (reader : Reader) (limit n : ℕ) (text : List ℕ) (f : readings.Routine → Answer) (accepts : checkOf (admitted limit n (readBy reader text)) ≡ Accepted)
+    (r : Routine) (holds : Holds (routineOf (lines text)) r) where
+  pub read-holds : (limit ≤ n) × (readBy reader text ≡ readings.routine (routineIn r))
+  read-holds = (accepted-enough reader limit n text accepts, accepted-read reader limit n text accepts ∙ ap readings.routine (sym (holds-is (routineOf (lines text)) r holds)))
+
+  pub read-answers : lending limit n (ofReading f (readBy reader text)) ≡ f (routineIn r)
+  read-answers = reading-passed f (readBy reader text) limit n (read-holds .0) (routineIn r) (read-holds .1)
+
+  pub read-gives : (a : code.Answer) (former out : List ℕ) → (a ≡ answerOf (f (routineIn r))) × (out ≡ memory (f (routineIn r)) former)
+      → (a ≡ answerOf (lending limit n (ofReading f (readBy reader text)))) × (out ≡ memory (lending limit n (ofReading f (readBy reader text))) former)
+  read-gives a former out h = rw (← read-answers) at h

@@ -1,20 +1,13 @@
--- What the code's values stand for: the routine that its arrays hold, how large CYCLES can be, what is asked of a report, and what is answered of
--- the figures found.
-use Prim.Native.Nat.{ℕ, _≤_}
-use mathlib.Core.Path.{_≡_}
-use mathlib.Core.List.{List}
-use lib.ListN.{length}
-use Rattle.refusals.specs.declared.Verdict as code
-use Rattle.refusals.specs.declared.Verdict.the-variants.{Accepted, Refused}
+-- What an entry point reads of a text, where so many bytes are lent, and the routine that the code's arrays hold.
+use Prim.Native.Nat.{ℕ}
+use mathlib.Core.Bool.{cond}
+use lib.Dec.{ltb}
+use Rattle.refusals.specs.declared.Refusal.the-variants.{ReportMemory}
 use Rattle.states.specs.Program.{programOf, sizesOf}
 use Rattle.states.specs.View.{whole}
 use Rattle.routine.specs.Routine as readings
 use Rattle.reader.specs.declared.Routine.{Routine}
 use Rattle.reader.specs.Reader.{answers}
-use Rattle.findings.specs.declared.Found.{Found}
-use Rattle.answers.specs.Answers.{Answer, reported, refused}
-use Rattle.report.specs.Report.{boundText}
-use Rattle.report.specs.Decode.{reportOf}
 
 -- the routine that the code's arrays hold
 abbrev pub routineIn : Routine → readings.Routine
@@ -26,21 +19,6 @@ routineIn x = record {
   answers = answers x;
 }
 
--- CYCLES is small enough for the numbers that SHARE is computed with
-pub record Shareable (found : Found) : Type 0 where
-  pub cycles : found .cycles ≤ 8589934592000000
-
--- a report, if it is one, can be printed into n bytes
-pub record Printable (a : Answer) (tick n : ℕ) : Type 0 where
-  pub positive : 1 ≤ tick
-  pub small : tick ≤ 4000000000
-  pub fits : (bs : List ℕ) → a ≡ reported bs → length bs ≤ n
-
--- the figures found with a verdict: their report, or the refusal
-unfoldable pub judgedAs : ℕ → Found → code.Verdict → Answer
-judgedAs tick f Accepted = reported (boundText tick (reportOf (f .cycles) (f .words) (f .depth) (f .used) (f .path)))
-judgedAs tick f (Refused x) = refused x
-
--- with their own
-abbrev pub foundAnswer : ℕ → Found → Answer
-foundAnswer tick f = judgedAs tick f (f .verdict)
+-- refusal 10 where fewer bytes are lent than the limit, "checked first"; else the reading of the text
+unfoldable pub admitted : ℕ → ℕ → readings.Reading → readings.Reading
+admitted limit lent m = cond (ltb lent limit) (readings.refused ReportMemory) m

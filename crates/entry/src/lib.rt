@@ -1,34 +1,18 @@
-// What the entry points share: the report of the figures found, put into lent memory. The meaning is in specs/.
-use answers::Answer;
-use findings::Found;
+// The one way in: whether a text is read by an entry point, where so many bytes are lent. The meaning is in specs/.
+use refusals::Refusal;
 use refusals::Verdict;
+use rows::Reader;
 ghost use mathlib.Core.Path.{_≡_};
-ghost use lib.ListN.{length};
-ghost use Rattle.answers.specs.Answers.{memory, answerOf};
-ghost use Rattle.entry.specs.Held.{Shareable, Printable, foundAnswer};
+ghost use Rattle.rows.specs.Checks.{readBy, checkOf};
+ghost use Rattle.entry.specs.Held.{admitted};
 
-// What was found of a routine with this TICK: its report, or its refusal.
-pub fn put_found(found: Found, tick: u64, out: &mut [u8]) -> Answer
-    requires { ⌜ Shareable found ⌝ }
-    requires { ⌜ Printable (foundAnswer tick found) tick (length (now out)) ⌝ }
-    ensures { λ r. ⌜ r ≡ answerOf (foundAnswer tick found) ⌝ }
-    ensures { λ _. ⌜ now (out .exit) ≡ memory (foundAnswer tick found) (now (out .entry)) ⌝ }
+// Whether a text is read: refusal 10 where fewer bytes are lent than the limit, then 1 to 6, 13 and, for a run, 11. Where it is accepted,
+// `reader::routine_of` makes its routine.
+pub fn check(reader: Reader, limit: usize, lent: usize, text: &[u8]) -> Verdict
+    ensures { λ r. ⌜ r ≡ checkOf (admitted limit lent (readBy reader (now (text .entry)))) ⌝ }
 {
-    let steps = found.used as u64;
-    let verdict = found.verdict;
-    match verdict {
-        Verdict::Accepted => {
-            let n = report::put_bound(
-                out,
-                tick,
-                found.cycles,
-                found.words,
-                found.depth,
-                steps,
-                found.path,
-            );
-            Answer::Reported(n)
-        }
-        Verdict::Refused(refusal) => Answer::Refused(refusal),
+    if lent < limit {
+        return Verdict::Refused(Refusal::ReportMemory); // before the text is read
     }
+    rows::check(reader, text)
 }

@@ -1,11 +1,10 @@
 -- The explanation in code is that of the definition. Assumes nothing.
-use Prim.Native.Nat.{ℕ, _+_, _≤_, _<_, zero-le}
+use Prim.Native.Nat.{ℕ, _+_, _≤_, zero-le}
 use mathlib.Core.Path.{_≡_, sym, ap, _∙_}
 use mathlib.Core.List.{List, _++_}
 use native.Mathlib.Omega.{arith}
 use lib.ListN.{length, drop, length-append}
 use Rattle.refusals.specs.declared.Refusal.{Refusal}
-use Rattle.refusals.specs.declared.Refusal.the-variants.{ReportMemory}
 use Rattle.refusals.specs.declared.Verdict.the-variants as verdicts
 use Rattle.refusals.specs.declared.Verdict.the-variants.{Accepted}
 use Rattle.text.specs.Text.{Line, lines}
@@ -31,7 +30,7 @@ use Rattle.report.proofs.DecodeLaws.{report-of}
 use Rattle.walks.specs.Walk.{follow}
 use Rattle.listings.specs.Listing.{entries, listing}
 use Rattle.answers.specs.Answers.{reported, refused}
-use Rattle.answers.proofs.AnswerLaws.{lent-short, reading-refused, reading-passed}
+use Rattle.answers.proofs.AnswerLaws.{reading-passed}
 use Rattle.explanations.specs.Answers.{explanationLimit, worstMoves, entryNames, explanationText, explained, explainRoutine, explainAnswer}
 use Rattle.explanations.specs.Held.{walkIn, reportIn, textIn, Printable}
 use Rattle.explanations.proofs.Theorems.{explanations-fit}
@@ -81,14 +80,6 @@ module _ (ls : List Line) (x : readings.Routine) (r : Found) where
 -- ---- a text
 
 module _ (text : List ℕ) (n : ℕ) where
-  pub explain-short : n < 65536 → explainAnswer text n ≡ refused ReportMemory
-  unfolding explainAnswer
-  explain-short = lent-short explanationLimit n _
-
-  pub explain-refused : 65536 ≤ n → (y : Refusal) → readBound text ≡ readings.refused y → explainAnswer text n ≡ refused y
-  unfolding explainAnswer
-  explain-refused = reading-refused (explainRoutine (body (lines text))) (readBound text) explanationLimit n
-
   pub explain-passed : 65536 ≤ n → (ls : List Line) → ls ≡ body (lines text) → (x : readings.Routine) → readBound text ≡ readings.routine x → explainAnswer text n ≡ explainRoutine ls x
   unfolding explainAnswer
   explain-passed h ls q x e = reading-passed (explainRoutine (body (lines text))) (readBound text) explanationLimit n h x e ∙ ap (λ l. explainRoutine l x) (sym q)

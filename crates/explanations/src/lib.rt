@@ -2,7 +2,6 @@
 use answers::Answer;
 use findings::Found;
 use reader::Routine;
-use refusals::Refusal;
 use refusals::Verdict;
 use routine::layout;
 use rows::Reader;
@@ -57,7 +56,7 @@ fn explain_routine(body: &[u8], routine: Routine, out: &mut [u8]) -> Answer
     ensures { λ r. ⌜ r ≡ answerOf (explainRoutine (lines (now (body .entry))) (routineIn routine)) ⌝ }
     ensures { λ _. ⌜ now (out .exit) ≡ memory (explainRoutine (lines (now (body .entry))) (routineIn routine)) (now (out .entry)) ⌝ }
 {
-    let found = evaluations::explored(routine);
+    let found = bound_entry::explored(routine);
     let verdict = found.verdict;
     match verdict {
         Verdict::Accepted => {
@@ -73,10 +72,7 @@ pub fn explain(text: &[u8], out: &mut [u8]) -> Answer
     ensures { λ r. ⌜ r ≡ answerOf (explainAnswer (now (text .entry)) (length (now (out .entry)))) ⌝ }
     ensures { λ _. ⌜ now (out .exit) ≡ memory (explainAnswer (now (text .entry)) (length (now (out .entry)))) (now (out .entry)) ⌝ }
 {
-    if out.len() < 65536 {
-        return Answer::Refused(Refusal::ReportMemory);
-    }
-    let verdict = rows::check(Reader::Bound, text);
+    let verdict = entry::check(Reader::Bound, 65536, out.len(), text);
     match verdict {
         Verdict::Accepted => {
             let routine = reader::routine_of(text);

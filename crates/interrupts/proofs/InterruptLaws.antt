@@ -9,7 +9,6 @@ use lib.ListN.{length, getD, take, drop, set}
 use lib.Seq.{take-length}
 use borrow.Author.Tests.{lt-ltb, le-ltb}
 use Rattle.refusals.specs.declared.Refusal.{Refusal}
-use Rattle.refusals.specs.declared.Refusal.the-variants.{ReportMemory}
 use Rattle.refusals.specs.declared.Verdict.the-variants.{Accepted, Refused}
 use Rattle.refusals.specs.Refusals.{number, place}
 use Rattle.text.specs.Memory.{over}
@@ -25,15 +24,12 @@ use Rattle.findings.specs.Found.{encode, Shows, acceptedAs, finishedOf}
 use Rattle.runs.specs.declared.Progress.{Progress}
 use Rattle.runs.specs.Progress.{ofProgress}
 use Rattle.explore.specs.Contract.{Explores}
-use Rattle.routine.specs.Routine.{readRun}
-use Rattle.routine.specs.Routine as readings
 use Rattle.reader.specs.declared.Routine.{Routine}
 use Rattle.answers.specs.Answers.{Answer, reported, memory}
 use Rattle.answers.specs.Answers as answers
-use Rattle.answers.proofs.AnswerLaws.{lent-short, reading-refused, reading-passed}
 use Rattle.entry.specs.Held.{routineIn}
 use Rattle.entry.proofs.EntryLaws.{passes-not, same-refused}
-use Rattle.interrupts.specs.Interrupts.{numbersOfRun, numbersOfVerdict, numbersOf, stepsOf, interrupted, interruptAnswer, numberOf, numbersTold, Tells, Numbered}
+use Rattle.interrupts.specs.Interrupts.{numbersOfRun, numbersOfVerdict, numbersOf, stepsOf, interrupted, numberOf, numbersTold, Tells, Numbered}
 use Rattle.interrupts.specs.declared.Told.{Told}
 
 -- ---- bounded afresh
@@ -114,19 +110,6 @@ module _ (n : ℕ) where
   pub steps-most : 1000000 ≤ n → 1000000 ≡ stepsOf n
   unfolding stepsOf
   steps-most h = rw (le-ltb n 1000000 h) refl
-
-module _ (text : List ℕ) (n lent : ℕ) where
-  pub answer-short : lent < 13 → interruptAnswer text n lent ≡ answers.refused ReportMemory
-  unfolding interruptAnswer
-  answer-short = lent-short 13 lent _
-
-  pub answer-refused : 13 ≤ lent → (x : Refusal) → readRun text ≡ readings.refused x → interruptAnswer text n lent ≡ answers.refused x
-  unfolding interruptAnswer
-  answer-refused = reading-refused (λ x. reported (interrupted x n)) (readRun text) 13 lent
-
-  pub answer-passed : 13 ≤ lent → (x : readings.Routine) → readRun text ≡ readings.routine x → interruptAnswer text n lent ≡ reported (interrupted x n)
-  unfolding interruptAnswer
-  answer-passed = reading-passed (λ x. reported (interrupted x n)) (readRun text) 13 lent
 
 -- the number told and the memory, of a refusal and of numbers
 module _ (a : Answer) (former : List ℕ) where

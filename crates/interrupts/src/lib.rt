@@ -3,7 +3,6 @@ use cells::Cell;
 use findings::Found;
 use findings::Tally;
 use reader::Routine;
-use refusals::Refusal;
 use refusals::Verdict;
 use rows::Reader;
 use runs::Progress;
@@ -173,10 +172,7 @@ pub extern "C" fn tickbound_test_after(text: &[u8], n: u64, out: &mut [u64]) -> 
     ensures { λ r. ⌜ r ≡ numberOf (interruptAnswer (now (text .entry)) n (length (now (out .entry)))) ⌝ }
     ensures { λ _. ⌜ now (out .exit) ≡ memory (interruptAnswer (now (text .entry)) n (length (now (out .entry)))) (now (out .entry)) ⌝ }
 {
-    if out.len() < 13 {
-        return refusals::number(Refusal::ReportMemory);
-    }
-    let verdict = rows::check(Reader::Run, text);
+    let verdict = entry::check(Reader::Run, 13, out.len(), text);
     match verdict {
         Verdict::Accepted => {
             let x = reader::routine_of(text);

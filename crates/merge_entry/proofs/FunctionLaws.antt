@@ -1,16 +1,13 @@
 -- What the merging bound answers to a routine and to a text. Assumes nothing.
-use Prim.Native.Nat.{ℕ, _≤_, _<_}
+use Prim.Native.Nat.{ℕ, _≤_}
 use mathlib.Core.Path.{_≡_, _∙_}
 use mathlib.Core.List.{List}
-use Rattle.refusals.specs.declared.Refusal.{Refusal}
-use Rattle.refusals.specs.declared.Refusal.the-variants.{ReportMemory}
 use Rattle.routine.specs.Routine.{readBound}
 use Rattle.routine.specs.Routine as readings
 use Rattle.routine.proofs.RowLaws.{read-passes}
 use Rattle.answers.specs.Answers.{memoryLimit, memory, answerOf, reportLength, Delivers}
-use Rattle.answers.specs.Answers as answers
 use Rattle.answers.specs.declared.Answer as code
-use Rattle.answers.proofs.AnswerLaws.{lent-short, reading-refused, reading-passed, delivers}
+use Rattle.answers.proofs.AnswerLaws.{reading-passed, delivers}
 use Rattle.report_theory.specs.Answers.{mergeRoutine, mergeAnswer}
 use Rattle.report_theory.specs.Promises.{SafeMerge, ExactMerge, AboveMerge}
 use Rattle.report_theory.specs.Listed.{MergeRefused, Refuses, ListedAlone}
@@ -18,20 +15,21 @@ use Rattle.report_theory.specs.Refined.{MonotoneMerge, KnownMerge}
 use Rattle.report_theory.proofs.AnswerLaws.{merges-kept, merge-reported}
 use Rattle.report_theory.proofs.RefinedLaws.{merges-refined}
 use Rattle.report_theory.proofs.ListedLaws.{merge-listed, listed-alone}
-use Rattle.entry.specs.Held.{Printable}
-use Rattle.entry.proofs.EntryLaws.{printable}
+use native.Mathlib.Omega.{arith}
+use Rattle.findings.specs.declared.Found.{Found}
+use Rattle.merging.specs.Pass.{Figures}
+use Rattle.reader.specs.declared.Routine.{Routine}
+use Rattle.report.specs.Held.{Shareable, Printable}
+use Rattle.report_theory.proofs.FoundLaws.{printable}
+
+-- ---- a routine
+
+pub swept-shareable : (r : Found) → Figures 1025 r → Shareable r
+swept-shareable r f = record { cycles = omega (arith, f .cycles) }
 
 -- ---- a text
 
 module _ (text : List ℕ) (n : ℕ) where
-  pub merge-short : n < 128 → mergeAnswer text n ≡ answers.refused ReportMemory
-  unfolding mergeAnswer
-  merge-short = lent-short memoryLimit n _
-
-  pub merge-refused : 128 ≤ n → (x : Refusal) → readBound text ≡ readings.refused x → mergeAnswer text n ≡ answers.refused x
-  unfolding mergeAnswer
-  merge-refused = reading-refused mergeRoutine (readBound text) memoryLimit n
-
   pub merge-passed : 128 ≤ n → (x : readings.Routine) → readBound text ≡ readings.routine x → mergeAnswer text n ≡ mergeRoutine x
   unfolding mergeAnswer
   merge-passed = reading-passed mergeRoutine (readBound text) memoryLimit n

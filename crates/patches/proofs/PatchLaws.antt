@@ -19,8 +19,7 @@ use Rattle.routine.specs.declared.Role.the-variants.{Code as code}
 use Rattle.routine.specs.declared.Row.the-variants.{Layout as layout-row}
 use Rattle.routine.specs.Layout.{layout, body, codeLines}
 use Rattle.routine.specs.Rows.{isNumeral, at, op, arg, test, Passes}
-use Rattle.routine.specs.Routine.{firstAddress, codeIn, routineOf, textLimit, readBound}
-use Rattle.routine.specs.Routine as readings
+use Rattle.routine.specs.Routine.{firstAddress, codeIn, routineOf, textLimit}
 use Rattle.routine.proofs.RowLaws.{laid-out, lines-ended, passes-read}
 use Rattle.routine.proofs.CodeLaws.{CodeLaidOut, code-laid-out}
 use Rattle.routine.proofs.CodeLineLaws.{code-take}
@@ -195,11 +194,6 @@ module _ (text : List ℕ) (p : Passes (lines text)) (short : length text ≤ 32
       (omega arith, omega (arith, ap (λ xs. length (codeLines xs)) e)),
       copy-read ∙ rw (inside-is, le-leb first address h, lt-ltb (address - first) count k, is-first) refl,
     )
-
--- of a file that is refused
-pub copy-refused : (text : List ℕ) (address : ℕ) (instruction : List ℕ) (x : Refusal) → readBound text ≡ readings.refused x → copyAnswer text address instruction ≡ refused x
-unfolding copyAnswer ofReading
-copy-refused text address instruction x e = rw e refl
 
 -- ---- what is told of the copy
 

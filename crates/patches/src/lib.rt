@@ -1,9 +1,7 @@
 // A routine file with one instruction replaced. The meaning is in specs/.
 use answers::Answer;
 use refusals::Refusal;
-use refusals::Verdict;
 use routine::layout;
-use rows::Reader;
 ghost use mathlib.Core.Path.{_≡_};
 ghost use mathlib.Core.List.{_++_};
 ghost use Prim.Native.Nat.{_+_, _≤_, _<_};
@@ -48,8 +46,9 @@ fn put_copy(text: &[u8], k: usize, instruction: &[u8], out: &mut [u8]) -> Answer
     Answer::Reported(n)
 }
 
-// Puts the copy of a file that passes at the start of out, or refuses the address.
-fn copy_at(text: &[u8], address: u32, instruction: &[u8], out: &mut [u8]) -> Answer
+// The copy of a file that passes, with another instruction at an address, at the start of out; or the refusal that comes before those of the
+// copy's lines.
+pub fn copy(text: &[u8], address: u32, instruction: &[u8], out: &mut [u8]) -> Answer
     requires { ⌜ Passes (lines (now text)) × (length (now text) ≤ 32768) × (32768 ≤ length (now out)) ⌝ }
     ensures { λ r. ⌜ r ≡ answerOf (copyAnswer (now (text .entry)) address (now (instruction .entry))) ⌝ }
     ensures { λ _. ⌜ now (out .exit) ≡ memory (copyAnswer (now (text .entry)) address (now (instruction .entry))) (now (out .entry)) ⌝ }
@@ -65,18 +64,4 @@ fn copy_at(text: &[u8], address: u32, instruction: &[u8], out: &mut [u8]) -> Ans
         return Answer::Refused(Refusal::BadName(address));
     }
     put_copy(text, layout::LINES + (place - first), instruction, out)
-}
-
-// The copy of a file with another instruction at an address, at the start of out; or the refusal that comes before those of the copy's
-// lines.
-pub fn copy(text: &[u8], address: u32, instruction: &[u8], out: &mut [u8]) -> Answer
-    requires { ⌜ 32768 ≤ length (now out) ⌝ }
-    ensures { λ r. ⌜ r ≡ answerOf (copyAnswer (now (text .entry)) address (now (instruction .entry))) ⌝ }
-    ensures { λ _. ⌜ now (out .exit) ≡ memory (copyAnswer (now (text .entry)) address (now (instruction .entry))) (now (out .entry)) ⌝ }
-{
-    let verdict = rows::check(Reader::Bound, text);
-    match verdict {
-        Verdict::Accepted => copy_at(text, address, instruction, out),
-        Verdict::Refused(refusal) => Answer::Refused(refusal),
-    }
 }

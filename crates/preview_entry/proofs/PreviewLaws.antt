@@ -1,5 +1,5 @@
 -- What a preview answers is what the first bound answers of the copy. Assumes nothing.
-use Prim.Native.Nat.{ℕ, _≤_, _<_}
+use Prim.Native.Nat.{ℕ, _≤_}
 use mathlib.Core.Path.{_≡_, refl, sym, ap, _∙_}
 use mathlib.Core.Bool.{Bool, true, false, cond}
 use mathlib.Core.List.{List}
@@ -17,7 +17,7 @@ use Rattle.routine.specs.Routine as readings
 use Rattle.routine.proofs.RowLaws.{too-long}
 use Rattle.routine.proofs.PlaceLaws.{read-bound-place}
 use Rattle.answers.specs.Answers.{Answer, reported, refused, memoryLimit, ofReading}
-use Rattle.answers.proofs.AnswerLaws.{never, from-reading, reading-refused, lent-short, lent-enough}
+use Rattle.answers.proofs.AnswerLaws.{never, from-reading, reading-refused, lent-enough}
 use Rattle.patches.specs.Patch.{inCode, patched}
 use Rattle.patches.specs.Held.{within, copyAnswer}
 use Rattle.report_theory.specs.Answers.{boundRoutine, boundAnswer}
@@ -77,10 +77,6 @@ bounded n (reported bs) = boundAnswer bs n
 bounded n (refused x) = refused x
 
 module _ (text : List ℕ) (address : ℕ) (instruction : List ℕ) (n : ℕ) where
-  pub preview-short : n < 128 → previewAnswer text address instruction n ≡ refused ReportMemory
-  unfolding previewAnswer
-  preview-short = lent-short memoryLimit n _
-
   module _ (h : 128 ≤ n) where
     -- "text over 32,768 bytes" is refused by the bound too
     copy-bounded : (copy : List ℕ) → boundAnswer copy n ≡ bounded n (within copy)

@@ -3,3 +3,4 @@ pub mod ReportLaws
 pub mod DecodeLaws
 pub mod PathLaws
 pub mod PutLaws
+pub mod FoundLaws

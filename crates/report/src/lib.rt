@@ -1,11 +1,16 @@
 // The printed report and the line of a refusal, written into lent memory. The meaning is in specs/.
+use answers::Answer;
+use findings::Found;
+use refusals::Verdict;
 ghost use mathlib.Core.Path.{_≡_};
 ghost use mathlib.Core.List.{_++_};
 ghost use Prim.Native.Nat.{_+_, _≤_};
 ghost use lib.ListN.{length, drop};
 ghost use Rattle.text.specs.Memory.{over};
+ghost use Rattle.answers.specs.Answers.{memory, answerOf};
 ghost use Rattle.report.specs.Report.{share, letter, pathText, figures, boundText, runText, refusalLine};
 ghost use Rattle.report.specs.Decode.{decision, decode, reportOf};
+ghost use Rattle.report.specs.Held.{Shareable, Printable, foundAnswer};
 
 // SHARE: the cycles in thousandths of a tick, to the nearest whole number, and at an exact half to the even one.
 pub fn share(tick: u64, cycles: u64) -> u64
@@ -111,4 +116,30 @@ pub fn put_refusal(out: &mut [u8], number: u64, place: u64) -> usize
     let c = text::put(out, b, b" ");
     let d = text::put_decimal(out, c, place);
     text::put(out, d, b"\n")
+}
+
+// What was found of a routine with this TICK: its report, or its refusal.
+pub fn put_found(found: Found, tick: u64, out: &mut [u8]) -> Answer
+    requires { ⌜ Shareable found ⌝ }
+    requires { ⌜ Printable (foundAnswer tick found) tick (length (now out)) ⌝ }
+    ensures { λ r. ⌜ r ≡ answerOf (foundAnswer tick found) ⌝ }
+    ensures { λ _. ⌜ now (out .exit) ≡ memory (foundAnswer tick found) (now (out .entry)) ⌝ }
+{
+    let steps = found.used as u64;
+    let verdict = found.verdict;
+    match verdict {
+        Verdict::Accepted => {
+            let n = put_bound(
+                out,
+                tick,
+                found.cycles,
+                found.words,
+                found.depth,
+                steps,
+                found.path,
+            );
+            Answer::Reported(n)
+        }
+        Verdict::Refused(refusal) => Answer::Refused(refusal),
+    }
 }

@@ -3,3 +3,4 @@ pub mod AnswerLaws
 pub mod KnownLaws
 pub mod RefinedLaws
 pub mod ListedLaws
+pub mod FoundLaws

@@ -1,9 +1,8 @@
 -- What the run answers to a routine and to a text. Assumes nothing.
-use Prim.Native.Nat.{ℕ, _≤_, _<_}
+use Prim.Native.Nat.{ℕ, _≤_}
 use mathlib.Core.Path.{_≡_, sym, ap, _∙_}
 use mathlib.Core.List.{List}
 use Rattle.refusals.specs.declared.Refusal.{Refusal}
-use Rattle.refusals.specs.declared.Refusal.the-variants.{ReportMemory}
 use Rattle.refusals.specs.declared.Verdict.the-variants as verdicts
 use Rattle.refusals.specs.declared.Verdict.the-variants.{Accepted}
 use Rattle.bounds.specs.Tree.{Report}
@@ -18,14 +17,14 @@ use Rattle.report.proofs.DecodeLaws.{report-of-run}
 use Rattle.answers.specs.Answers.{reported, memoryLimit, memory, answerOf, reportLength, Delivers}
 use Rattle.answers.specs.Answers as answers
 use Rattle.answers.specs.declared.Answer as code
-use Rattle.answers.proofs.AnswerLaws.{lent-short, reading-refused, reading-passed, delivers}
+use Rattle.answers.proofs.AnswerLaws.{reading-passed, delivers}
 use Rattle.report_theory.specs.Answers.{ofVerdict, runRoutine, runAnswer}
 use Rattle.report_theory.specs.Promises.{WithinReport, RunAccepted}
 use Rattle.report_theory.specs.Listed.{RunRefused, Refuses, ListedAlone}
 use Rattle.report_theory.proofs.AnswerLaws.{runs-kept, run-reported}
 use Rattle.report_theory.proofs.ListedLaws.{run-listed, listed-alone}
-use Rattle.entry.specs.Held.{Printable}
-use Rattle.entry.proofs.EntryLaws.{printable}
+use Rattle.report.specs.Held.{Printable}
+use Rattle.report_theory.proofs.FoundLaws.{printable}
 
 -- ---- what the run's answer gives
 
@@ -42,14 +41,6 @@ module _ (text : Report → List ℕ) (r : Ran) (v : bounds.Verdict) (e : verdic
 -- ---- a text
 
 module _ (text : List ℕ) (n : ℕ) where
-  pub run-short : n < 128 → runAnswer text n ≡ answers.refused ReportMemory
-  unfolding runAnswer
-  run-short = lent-short memoryLimit n _
-
-  pub run-refused : 128 ≤ n → (x : Refusal) → readRun text ≡ readings.refused x → runAnswer text n ≡ answers.refused x
-  unfolding runAnswer
-  run-refused = reading-refused runRoutine (readRun text) memoryLimit n
-
   pub run-passed : 128 ≤ n → (x : readings.Routine) → readRun text ≡ readings.routine x → runAnswer text n ≡ runRoutine x
   unfolding runAnswer
   run-passed = reading-passed runRoutine (readRun text) memoryLimit n

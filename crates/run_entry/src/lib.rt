@@ -1,17 +1,34 @@
 // The run of a routine file, on texts and lent memory. The meaning is in the specs/ of `report_theory`.
 use answers::Answer;
 use reader::Routine;
-use refusals::Refusal;
 use refusals::Verdict;
 use rows::Reader;
+use runs::Ran;
 ghost use mathlib.Core.Path.{_≡_};
 ghost use lib.ListN.{length};
+ghost use Rattle.bounds.specs.Run.{run};
+ghost use Rattle.runs.specs.Contract.{verdictOf};
 ghost use Rattle.reader.specs.Reader.{Limited};
 ghost use Rattle.answers.specs.Answers.{memory, answerOf, reportLength, Delivers};
-ghost use Rattle.entry.specs.Held.{routineIn, Printable};
+ghost use Rattle.entry.specs.Held.{routineIn};
+ghost use Rattle.report.specs.Held.{Printable};
 ghost use Rattle.report_theory.specs.Answers.{runRoutine, runAnswer};
 ghost use Rattle.report_theory.specs.Promises.{WithinReport, RunAccepted};
 ghost use Rattle.report_theory.specs.Listed.{RunRefused, Refuses, ListedAlone};
+
+// The routine's run.
+pub fn ran(routine: Routine) -> Ran
+    requires { ⌜ Limited routine ⌝ }
+    ensures { λ r. ⌜ verdictOf r ≡ run (routineIn routine .code) (routineIn routine .budget) (routineIn routine .start) (routineIn routine .answers) ⌝ }
+{
+    let code = routine.code;
+    let fields = routine.fields;
+    let start = routine.start;
+    let answers = routine.answers;
+    let values = answers.values;
+    let given = answers.count;
+    runs::run(&code, start, fields, &values[..given], routine.budget)
+}
 
 // The answer of the run to a routine.
 fn run_routine(routine: Routine, out: &mut [u8]) -> Answer
@@ -20,7 +37,7 @@ fn run_routine(routine: Routine, out: &mut [u8]) -> Answer
     ensures { λ r. ⌜ r ≡ answerOf (runRoutine (routineIn routine)) ⌝ }
     ensures { λ _. ⌜ now (out .exit) ≡ memory (runRoutine (routineIn routine)) (now (out .entry)) ⌝ }
 {
-    let ran = evaluations::ran(routine);
+    let ran = ran(routine);
     let steps = ran.steps as u64;
     let depth = ran.depth as u64;
     let verdict = ran.verdict;
@@ -41,10 +58,7 @@ pub fn run(text: &[u8], out: &mut [u8]) -> Answer
     ensures accepts { λ r. ⌜ RunAccepted (now (text .entry)) (length (now (out .entry))) (reportLength r) ⌝ }
     ensures listed { λ r. ⌜ ListedAlone (Refuses r) (RunRefused (now (text .entry)) (length (now (out .entry)))) ⌝ }
 {
-    if out.len() < 128 {
-        return Answer::Refused(Refusal::ReportMemory);
-    }
-    let verdict = rows::check(Reader::Run, text);
+    let verdict = entry::check(Reader::Run, 128, out.len(), text);
     match verdict {
         Verdict::Accepted => {
             let routine = reader::routine_of(text);

@@ -1,5 +1,5 @@
 -- Laws of the answers of the search: in each case of the code, how large they are, and where they refuse. Assumes nothing.
-use Prim.Native.Nat.{ℕ, _+_, _<_, _≤_}
+use Prim.Native.Nat.{ℕ, _+_, _≤_}
 use mathlib.Core.Path.{_≡_, refl, sym, ap}
 use mathlib.Core.List.{List, _++_}
 use mathlib.Core.Option.{some, none}
@@ -7,25 +7,22 @@ use native.Mathlib.Omega.{arith}
 use lib.IntN.{ℤ}
 use lib.ListN.{length, length-append}
 use Rattle.refusals.specs.declared.Refusal.{Refusal}
-use Rattle.refusals.specs.declared.Refusal.the-variants.{ReportMemory}
 use Rattle.refusals.specs.Refusals.{place}
 use Rattle.text.specs.Text.{bytes, lines}
 use Rattle.text.specs.Decimal.{decimal}
 use Rattle.text.proofs.DecimalLaws.{decimal-length}
 use Rattle.numbers.proofs.SignedLaws.{number-fits}
 use Rattle.machine.specs.Machine.{State, Code}
-use Rattle.bounds.specs.Tree as verdicts
 use Rattle.bounds.proofs.PlaceLaws.{bound-place}
 use Rattle.words.specs.Lines.{integer}
 use Rattle.imports.proofs.IntegerLaws.{integer-length}
 use Rattle.routine.specs.Routine.{readBound}
-use Rattle.routine.specs.Routine as readings
 use Rattle.routine.proofs.RowLaws.{read-passes}
 use Rattle.routine.proofs.PlaceLaws.{read-bound-place, confined, start-small}
 use Rattle.reader.specs.declared.Routine.{Routine}
-use Rattle.reader.specs.Reader.{Holds, Limited}
+use Rattle.reader.specs.Reader.{Limited}
 use Rattle.answers.specs.Answers.{reported, refused, memoryLimit}
-use Rattle.answers.proofs.AnswerLaws.{never, lent-short, from-reading, place-from, reading-refused, reading-passed}
+use Rattle.answers.proofs.AnswerLaws.{never, from-reading, place-from}
 use Rattle.changes.specs.declared.Position.{Position}
 use Rattle.changes.specs.declared.Position.the-variants.{Accu, Entry, Field}
 use Rattle.changes.specs.declared.Change.{Change}
@@ -129,25 +126,9 @@ from-refused (refused-by x) r e = let h : x ≡ r = cc in ap refused-by h
 pub held-length : (x : Routine) → Limited x → (y : Change) → searchIn x ≡ found (some y) → length (lineOf y) ≤ 19
 held-length x l y e = found-length _ _ _ (whole-limited (sizesOf (x .code)) (x .fields) (x .start) (l .formed) (l .program .sizes) (omega (arith, sizes-count (x .code) (l .program), l .program .blocks))) y e .1
 
-pub held-answer : (x : readings.Routine) (h : Routine) → Holds x h → nearestRoutine x ≡ ofSearched (searchIn h)
-unfolding nearestRoutine
-held-answer x h p = rw (← p .code, ← p .start, ← p .budget) refl
-
 -- ---- a text
 
 module _ (text : List ℕ) (n : ℕ) where
-  pub nearest-short : n < 128 → nearestAnswer text n ≡ refused ReportMemory
-  unfolding nearestAnswer
-  nearest-short = lent-short memoryLimit n _
-
-  pub nearest-refused : 128 ≤ n → (x : Refusal) → readBound text ≡ readings.refused x → nearestAnswer text n ≡ refused x
-  unfolding nearestAnswer
-  nearest-refused = reading-refused nearestRoutine (readBound text) memoryLimit n
-
-  pub nearest-passed : 128 ≤ n → (x : readings.Routine) → readBound text ≡ readings.routine x → nearestAnswer text n ≡ nearestRoutine x
-  unfolding nearestAnswer
-  nearest-passed = reading-passed nearestRoutine (readBound text) memoryLimit n
-
   -- a report
   pub nearest-reported : (bs : List ℕ) → nearestAnswer text n ≡ reported bs → (1 ≤ length bs) × (length bs ≤ 128) × (128 ≤ n)
   unfolding nearestAnswer nearestRoutine

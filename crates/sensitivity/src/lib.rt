@@ -3,7 +3,6 @@ use answers::Answer;
 use changes::Change;
 use changes::Position;
 use reader::Routine;
-use refusals::Refusal;
 use refusals::Verdict;
 use rows::Reader;
 use searches::Sought;
@@ -88,10 +87,7 @@ pub fn nearest(text: &[u8], out: &mut [u8]) -> Answer
     ensures { λ r. ⌜ r ≡ answerOf (nearestAnswer (now (text .entry)) (length (now (out .entry)))) ⌝ }
     ensures { λ _. ⌜ now (out .exit) ≡ memory (nearestAnswer (now (text .entry)) (length (now (out .entry)))) (now (out .entry)) ⌝ }
 {
-    if out.len() < 128 {
-        return Answer::Refused(Refusal::ReportMemory);
-    }
-    let verdict = rows::check(Reader::Bound, text);
+    let verdict = entry::check(Reader::Bound, 128, out.len(), text);
     match verdict {
         Verdict::Accepted => {
             let routine = reader::routine_of(text);

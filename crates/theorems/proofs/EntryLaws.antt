@@ -3,7 +3,7 @@ use Prim.Native.Nat.{ℕ}
 use mathlib.Core.Path.{_≡_, refl, sym, ap, _∙_}
 use mathlib.Core.Bool.{Bool, true, false, cond}
 use mathlib.Core.List.{List, _++_, append-assoc}
-use mathlib.Core.Logic.{_↔_}
+use mathlib.Core.Logic.{_↔_, inl}
 use native.Mathlib.Omega.{arith}
 use lib.Dec.{ltb}
 use Rattle.refusals.specs.declared.Refusal.{Refusal}
@@ -27,6 +27,7 @@ use Rattle.conversions.proofs.FunctionLaws.{import-reported, import-place, expo
 use Rattle.conformance.proofs.FunctionLaws.{replay-reported, replay-place}
 use Rattle.listings.specs.Listing.{entries, listing}
 use Rattle.explanations.specs.Answers.{explanationLimit, worstMoves, entryNames, explanationText, explained, explainRoutine, explainAnswer}
+use Rattle.explanations.proofs.Theorems.{explanations-fit, explain-place}
 use Rattle.sensitivity.proofs.FunctionLaws.{nearest-reported, nearest-place}
 use Rattle.generating.specs.Answers.{generatorLimit}
 use Rattle.generating.proofs.FunctionLaws.{generate-reported, generate-place}
@@ -34,62 +35,55 @@ use Rattle.decide_entry.specs.Answers.{decideRoutine, decideAnswer}
 use Rattle.decide_entry.proofs.PromiseLaws.{decided-refused, decide-reported, decide-place}
 use Rattle.trace_theory.specs.Trace.{trace, traceText}
 use Rattle.trace_entry.specs.Answers.{traceMemory, ofRun, traceRoutine, traceAnswer}
+use Rattle.trace_entry.proofs.Theorems.{traces-fit, trace-place}
 use Rattle.c_interface.proofs.FunctionLaws.{told, bound-limits, merge-limits, run-limits, import-limits, export-limits, replay-limits, preview-limits, nearest-limits, generate-limits, decide-limits, explain-limits, trace-limits}
-use Rattle.theorems.specs.Promises.{ReportsFit, PlacesSmall, DecisionRefused, ExplainsBound, TraceRefused, AnswersTold, ExplanationsTold, TracesTold}
+use Rattle.theorems.specs.Promises.{bounding, merging, running, previewing, deciding, tracing, explaining, importing, exporting, replaying, seeking, generating, ReportsFit, PlacesSmall, AnswersTold, DecisionRefused, ExplainsBound, TraceRefused}
 
--- ---- the size of a report
+-- ---- every public function
 
 pub reports-fit : ReportsFit
-reports-fit = (
-  λ text n bs e. let r = bound-reported text n bs e in (r .1, r .2),
-  λ text n bs e. let r = run-reported text n bs e in (r .1, r .2),
-  λ words primitives n bs e. let r = import-reported words primitives n bs e in (r .1, r .2),
-  λ text n bs e. let r = export-reported text n bs e in (r .1, r .2),
-  λ text trace n bs e. let r = replay-reported text trace n bs e in (r .1, r .2),
-  λ text n bs e. let r = merge-reported text n bs e in (r .1, r .2),
-  λ text instruction address n bs e. let r = preview-reported text instruction address n bs e in (r .1, r .2),
-  λ text n bs e. let r = nearest-reported text n bs e in (r .1, r .2),
-  λ seed n bs e. let r = generate-reported seed n bs e in (r .1, r .2),
-  λ text n bs e. let r = decide-reported text n bs e in (r .1, r .2),
-)
-
--- ---- places
+reports-fit bounding text n bs e = bound-reported text n bs e
+reports-fit merging text n bs e = merge-reported text n bs e
+reports-fit running text n bs e = run-reported text n bs e
+reports-fit previewing (text, address, instruction) n bs e = preview-reported text instruction address n bs e
+reports-fit deciding text n bs e = decide-reported text n bs e
+reports-fit tracing text n bs e = traces-fit text n bs e
+reports-fit explaining text n bs e = explanations-fit text n bs e
+reports-fit importing (words, primitives) n bs e = import-reported words primitives n bs e
+reports-fit exporting text n bs e = export-reported text n bs e
+reports-fit replaying (text, trace) n bs e = replay-reported text trace n bs e
+reports-fit seeking text n bs e = nearest-reported text n bs e
+reports-fit generating seed n bs e = generate-reported seed n bs e
 
 pub places-small : PlacesSmall
-places-small = (
-  bound-refusal-place,
-  run-refusal-place,
-  λ words primitives n r e. omega (arith, import-place words primitives n r e),
-  λ text n r e. omega (arith, export-place text n r e),
-  λ text trace n r e. omega (arith, replay-place text trace n r e),
-  merge-refusal-place,
-  preview-place,
-  nearest-place,
-  λ seed n r e. omega (arith, generate-place seed n r e),
-  decide-place,
-)
+places-small bounding text n r e = inl (bound-refusal-place text n r e)
+places-small merging text n r e = inl (merge-refusal-place text n r e)
+places-small running text n r e = inl (run-refusal-place text n r e)
+places-small previewing (text, address, instruction) n r e = preview-place text instruction address n r e
+places-small deciding text n r e = inl (decide-place text n r e)
+places-small tracing text n r e = inl (trace-place text n r e)
+places-small explaining text n r e = inl (explain-place text n r e)
+places-small importing (words, primitives) n r e = inl (omega (arith, import-place words primitives n r e))
+places-small exporting text n r e = inl (omega (arith, export-place text n r e))
+places-small replaying (text, trace) n r e = inl (omega (arith, replay-place text trace n r e))
+places-small seeking text n r e = inl (nearest-place text n r e)
+places-small generating seed n r e = inl (omega (arith, generate-place seed n r e))
 
--- ---- the number that C gets
-
+-- the number that C gets
 pub answers-told : AnswersTold
-answers-told = (
-  λ text text′ n n′. told memoryLimit _ _ (bound-limits text n) (bound-limits text′ n′),
-  λ text text′ n n′. told memoryLimit _ _ (run-limits text n) (run-limits text′ n′),
-  λ words words′ primitives primitives′ n n′. told conversionLimit _ _ (import-limits words primitives n) (import-limits words′ primitives′ n′),
-  λ text text′ n n′. told conversionLimit _ _ (export-limits text n) (export-limits text′ n′),
-  λ text text′ trace trace′ n n′. told memoryLimit _ _ (replay-limits text trace n) (replay-limits text′ trace′ n′),
-  λ text text′ n n′. told memoryLimit _ _ (merge-limits text n) (merge-limits text′ n′),
-  λ text text′ instruction instruction′ address address′ n n′ h h′. told memoryLimit _ _ (preview-limits text instruction address n h) (preview-limits text′ instruction′ address′ n′ h′),
-  λ text text′ n n′. told memoryLimit _ _ (nearest-limits text n) (nearest-limits text′ n′),
-  λ seed seed′ n n′. told generatorLimit _ _ (generate-limits seed n) (generate-limits seed′ n′),
-  λ text text′ n n′. told memoryLimit _ _ (decide-limits text n) (decide-limits text′ n′),
-)
-
-pub explanations-told : ExplanationsTold
-explanations-told text text′ n n′ = told explanationLimit _ _ (explain-limits text n) (explain-limits text′ n′)
-
-pub traces-told : TracesTold
-traces-told text text′ n n′ = told traceMemory _ _ (trace-limits text n) (trace-limits text′ n′)
+answers-told bounding text text′ n n′ h h′ = told memoryLimit _ _ (bound-limits text n) (bound-limits text′ n′)
+answers-told merging text text′ n n′ h h′ = told memoryLimit _ _ (merge-limits text n) (merge-limits text′ n′)
+answers-told running text text′ n n′ h h′ = told memoryLimit _ _ (run-limits text n) (run-limits text′ n′)
+answers-told previewing (text, address, instruction) (text′, address′, instruction′) n n′ h h′ =
+    told memoryLimit _ _ (preview-limits text instruction address n h) (preview-limits text′ instruction′ address′ n′ h′)
+answers-told deciding text text′ n n′ h h′ = told memoryLimit _ _ (decide-limits text n) (decide-limits text′ n′)
+answers-told tracing text text′ n n′ h h′ = told traceMemory _ _ (trace-limits text n) (trace-limits text′ n′)
+answers-told explaining text text′ n n′ h h′ = told explanationLimit _ _ (explain-limits text n) (explain-limits text′ n′)
+answers-told importing (words, primitives) (words′, primitives′) n n′ h h′ = told conversionLimit _ _ (import-limits words primitives n) (import-limits words′ primitives′ n′)
+answers-told exporting text text′ n n′ h h′ = told conversionLimit _ _ (export-limits text n) (export-limits text′ n′)
+answers-told replaying (text, trace) (text′, trace′) n n′ h h′ = told memoryLimit _ _ (replay-limits text trace n) (replay-limits text′ trace′ n′)
+answers-told seeking text text′ n n′ h h′ = told memoryLimit _ _ (nearest-limits text n) (nearest-limits text′ n′)
+answers-told generating seed seed′ n n′ h h′ = told generatorLimit _ _ (generate-limits seed n) (generate-limits seed′ n′)
 
 -- ---- the decision beside the first bound
 

@@ -1,248 +1,339 @@
--- What is proved of texts and bytes, by the names of the statements in specs/. docs/PROOFS.md names these and those of the other crates.
--- Assumes nothing.
-use Prim.Native.Nat.{ℕ}
+-- What is promised to users, proved, by the names of `specs/Promises` and in its order. Assumes nothing.
 use mathlib.Core.Path.{ap}
 use Rattle.text.proofs.DecimalLaws.{decimal-read}
-use Rattle.cells.specs.Order.{Refines, same}
-use Rattle.cells.specs.Covering as covering
-use Rattle.cells.specs.Promises as cells
+use Rattle.cells.specs.Order.{same}
 use Rattle.cells.proofs.CellLaws.{refines-trans}
 use Rattle.cells.proofs.Theorems as cell-theorems
-use Rattle.machine.specs.Machine.{State, Code}
-use Rattle.machine.specs.Order.{Cellwise}
-use Rattle.machine.specs.Promises as machine
 use Rattle.machine.proofs.StateLaws.{cellwise-refl, cellwise-trans}
 use Rattle.machine.proofs.Theorems as machine-theorems
 use Rattle.bounds.specs.Tree.{openingLimit, bound}
-use Rattle.bounds.specs.Promises as bounds
 use Rattle.bounds.proofs.PromiseLaws as promise-laws
 use Rattle.bounds.proofs.RunLaws as run-laws
 use Rattle.bounds.proofs.TraceLaws as trace-laws
 use Rattle.bounds.proofs.RunVerdictLaws as run-verdict-laws
 use Rattle.bounds.proofs.ForwardLaws as forward-laws
-use Rattle.report.proofs.ReportLaws.{share-nearest, share-unique}
-use Rattle.conversions.specs.Promises as conversions
-use Rattle.conversions.proofs.Theorems as conversion-theorems
-use Rattle.explanations.specs.Promises as explanations
-use Rattle.explanations.proofs.Theorems as explanation-theorems
-use Rattle.patches.specs.Promises as patches
-use Rattle.patches.proofs.Theorems as patch-theorems
-use Rattle.sensitivity.specs.Promises as sensitivity
-use Rattle.sensitivity.proofs.Theorems as sensitivity-theorems
-use Rattle.generator.specs.Promises as generator
-use Rattle.generator.proofs.Theorems as generator-theorems
-use Rattle.decide_entry.specs.Promises as decisions
-use Rattle.decide_entry.proofs.PromiseLaws as decision-laws
-use Rattle.trace_entry.specs.Promises as traces
-use Rattle.trace_entry.proofs.Theorems as trace-theorems
+use Rattle.merges.proofs.Theorems as merge-theorems
+use Rattle.refinements.proofs.Theorems as refinement-theorems
+use Rattle.ranges.proofs.Theorems as range-theorems
+use Rattle.report.proofs.ReportLaws as report-laws
 use Rattle.report_theory.specs.Answers.{boundAnswer, mergeAnswer, runAnswer}
-use Rattle.report_theory.specs.Promises as answers
-use Rattle.report_theory.specs.Refined as refined
-use Rattle.report_theory.specs.Listed as listed
-use Rattle.preview_entry.specs.Promises as previews
-use Rattle.preview_entry.proofs.PreviewLaws as preview-laws
-use Rattle.theorems.specs.Promises as entries
 use Rattle.report_theory.proofs.AnswerLaws as answer-laws
-use Rattle.report_theory.proofs.RefinedLaws as refined-laws
 use Rattle.report_theory.proofs.ListedLaws as listed-laws
+use Rattle.report_theory.proofs.RefinedLaws as refined-laws
+use Rattle.conversions.proofs.Theorems as conversion-theorems
+use Rattle.replays.proofs.Theorems as replay-theorems
+use Rattle.conformance.proofs.Theorems as conformance-theorems
+use Rattle.patches.proofs.Theorems as patch-theorems
+use Rattle.preview_entry.proofs.PreviewLaws as preview-laws
+use Rattle.generator.proofs.Theorems as generator-theorems
+use Rattle.searches.proofs.Theorems as search-theorems
+use Rattle.sensitivity.proofs.Theorems as sensitivity-theorems
+use Rattle.decide_entry.proofs.PromiseLaws as decision-laws
+use Rattle.walks.proofs.Theorems as walk-theorems
+use Rattle.explanations.proofs.Theorems as explanation-theorems
+use Rattle.trace_theory.proofs.Theorems as trace-theory-theorems
+use Rattle.trace_entry.proofs.Theorems as trace-theorems
 use Rattle.theorems.proofs.EntryLaws as entry-laws
 use Rattle.theorems.proofs.NearestLaws as nearest-laws
+use Rattle.theorems.specs.Promises as page
 
--- ---- the erasure order and the step
+-- ---- demand 1
 
-pub order-reflexive : (s : State) → Cellwise Refines s s
-order-reflexive s = cellwise-refl (λ a. same) s
-
-pub order-transitive : {s t u : State} → Cellwise Refines s t → Cellwise Refines t u → Cellwise Refines s u
-order-transitive e f = cellwise-trans (λ a b c h k. refines-trans h k) e f
-
--- results agree where cells agree (document 02 §3), of the operations and of the step
-pub results-agree : covering.ResultsAgree
-results-agree = cell-theorems.results-agree
-
-pub step-refines : machine.StepRefines
-step-refines = machine-theorems.step-refines
-
-pub step-plain : machine.StepPlain
-step-plain = machine-theorems.step-plain
-
--- a condition that opens no second way (document 02 §12)
-pub every-condition : cells.EveryCondition
-every-condition = cell-theorems.every-condition
-
-pub opens-where : machine.OpensWhere
-opens-where = machine-theorems.opens-where
-
--- ---- the bound and the run of a code
-
--- demand 3; `published-interrupted` in Cases is its instance at a file
-pub interruptible : (c : Code) (budget : ℕ) → bounds.Interruptible c (bound c budget)
-unfolding bound
-interruptible c budget = promise-laws.interruptible c openingLimit budget
-
-pub nothing-follows : bounds.NothingFollows
-nothing-follows = run-laws.nothing-follows
-
--- Definition 2 of document 000, and its Theorem 14
-pub runs-trace : bounds.RunsTrace
-runs-trace = trace-laws.runs-trace
-
-pub theorem14 : bounds.Theorem14
-theorem14 = trace-laws.theorem14
-
-pub run-within-bound : bounds.RunWithinBound
-run-within-bound = promise-laws.run-within-bound
-
--- demand 2
-pub bound-exact : bounds.BoundExact
-bound-exact = promise-laws.bound-exact
-
-pub steps-listed : bounds.StepsListed
-steps-listed = promise-laws.steps-listed
-
-pub one-maximum : bounds.OneMaximum
-one-maximum = promise-laws.one-maximum
-
-pub accepted-where : bounds.AcceptedWhere
-accepted-where = promise-laws.accepted-where
-
-pub refused-where : bounds.RefusedWhere
-refused-where = promise-laws.refused-where
-
-pub run-refused-where : bounds.RunRefusedWhere
-run-refused-where = run-verdict-laws.run-refused-where
-
-pub fuel-irrelevant : bounds.FuelIrrelevant
-fuel-irrelevant = promise-laws.fuel-irrelevant
-
--- code without jumps backwards
-pub forward-once : bounds.ForwardOnce
-forward-once = forward-laws.forward-once
-
--- ---- the answers to a text
-
--- demands 2 and 3, of the file
-pub reports-kept : answers.ReportsKept
-reports-kept = answer-laws.reports-kept
-
--- the same of the merging bound; what holds of it at code that passes is in `merges/proofs/Theorems`
-pub merges-kept : answers.MergesKept
-merges-kept = answer-laws.merges-kept
-
-pub runs-kept : answers.RunsKept
-runs-kept = answer-laws.runs-kept
-
--- a call is refused in the listed cases and in no other
-pub answers-listed : listed.AnswersListed
-answers-listed = listed-laws.answers-listed
-
--- knowing more never costs more, and knowing all is the run (document 02 §14); of states: `refinements/proofs/Theorems`
-pub bounds-refined : refined.BoundsRefined
-bounds-refined = refined-laws.bounds-refined
-
-pub merges-refined : refined.MergesRefined
-merges-refined = refined-laws.merges-refined
-
-pub runs-known : refined.RunsKnown
-runs-known = refined-laws.runs-known
-
-pub answers-irrelevant : answers.AnswersIrrelevant
-answers-irrelevant = answer-laws.answers-irrelevant
-
-pub passing-is-ascii : answers.PassingIsAscii
-passing-is-ascii = answer-laws.passing-is-ascii
-
--- no jump backwards, of the file (document 02 §8)
-pub passing-is-single-pass : answers.PassingIsSinglePass
-passing-is-single-pass = answer-laws.passing-is-single-pass
-
-pub reports-fit : entries.ReportsFit
+pub reports-fit : page.ReportsFit
 reports-fit = entry-laws.reports-fit
 
-pub places-small : entries.PlacesSmall
-places-small = entry-laws.places-small
-
--- the number that C gets tells the answer
-pub answers-told : entries.AnswersTold
+pub answers-told : page.AnswersTold
 answers-told = entry-laws.answers-told
 
--- ---- the explanation: what it lists (`explanations/specs/Promises`), that it fits, and the bound beside it
+pub places-small : page.PlacesSmall
+places-small = entry-laws.places-small
 
-pub explanations-kept : explanations.ExplanationsKept
-explanations-kept = explanation-theorems.explanations-kept
+-- ---- demand 2
 
-pub explanations-fit : explanations.ExplanationsFit
-explanations-fit = explanation-theorems.explanations-fit
+pub reports-exact : page.ReportsExact
+reports-exact text n bytes e = answer-laws.reports-kept text n bytes e .1
 
-pub explains-bound : entries.ExplainsBound
-explains-bound = entry-laws.explains-bound
+pub bound-exact : page.BoundExact
+bound-exact = promise-laws.bound-exact
 
-pub explanations-told : entries.ExplanationsTold
-explanations-told = entry-laws.explanations-told
+pub one-maximum : page.OneMaximum
+one-maximum = promise-laws.one-maximum
 
--- ---- the decision: what FITS, OVER and UNDECIDED say of the file (`decide_entry/specs/Promises`), and the first bound beside it
+pub steps-listed : page.StepsListed
+steps-listed = promise-laws.steps-listed
 
-pub decisions-kept : decisions.DecisionsKept
-decisions-kept = decision-laws.decisions-kept
+pub fuel-irrelevant : page.FuelIrrelevant
+fuel-irrelevant = promise-laws.fuel-irrelevant
 
-pub decision-refused : entries.DecisionRefused
-decision-refused = entry-laws.decision-refused
+pub answers-listed : page.AnswersListed
+answers-listed = listed-laws.answers-listed
 
--- ---- the trace of a run: it replays, adds up and fits (`trace_entry/specs/Promises`), and the run beside it
+pub accepted-where : page.AcceptedWhere
+accepted-where = promise-laws.accepted-where
 
-pub traces-kept : traces.TracesKept
-traces-kept = trace-theorems.traces-kept
+pub refused-where : page.RefusedWhere
+refused-where = promise-laws.refused-where
 
-pub traces-fit : traces.TracesFit
-traces-fit = trace-theorems.traces-fit
+pub run-refused-where : page.RunRefusedWhere
+run-refused-where = run-verdict-laws.run-refused-where
 
-pub trace-refused : entries.TraceRefused
-trace-refused = entry-laws.trace-refused
+pub passing-is-ascii : page.PassingIsAscii
+passing-is-ascii = answer-laws.passing-is-ascii
 
-pub traces-told : entries.TracesTold
-traces-told = entry-laws.traces-told
+pub answers-irrelevant : page.AnswersIrrelevant
+answers-irrelevant = answer-laws.answers-irrelevant
 
--- exporting and importing bring back the file's lines, and the words (`conversions/specs/Promises`)
-pub exports-import : conversions.ExportsImport
-exports-import = conversion-theorems.exports-import
-
-pub imports-replace : conversions.ImportsReplace
-imports-replace = conversion-theorems.imports-replace
-
-pub imports-export : conversions.ImportsExport
-imports-export = conversion-theorems.imports-export
-
-pub imports-bound : entries.ImportsBound
-imports-bound text words made n m k b e g =
-    let f = imports-replace text words made n m b e g in
-    (ap (λ t. boundAnswer t k) f, ap (λ t. runAnswer t k) f, ap (λ t. mergeAnswer t k) f)
-
--- a preview (document 02 §10): its report is the bound's of the copy, and a copy has one instruction replaced (`patches/specs/Promises`)
-pub previews-kept : previews.PreviewsKept
-previews-kept = preview-laws.previews-kept
-
-pub copy-replaces-one : patches.CopyReplacesOne
-copy-replaces-one = patch-theorems.copy-replaces-one
-
-pub same-instruction-keeps : patches.SameInstructionKeeps
-same-instruction-keeps = patch-theorems.same-instruction-keeps
-
--- the nearest number that moves the bound (document 02 §13; `searches/specs/Promises`, `sensitivity/specs/Promises`)
-pub nearest-kept : sensitivity.NearestKept
-nearest-kept = sensitivity-theorems.nearest-kept
-
-pub refused-alike : entries.RefusedAlike
-refused-alike = nearest-laws.refused-alike
-
--- a test load from a seed (document 02 §11; `generator/specs/Promises`): no file made is refused, and all fit
-pub file-read : generator.FilePasses
-file-read = generator-theorems.file-read
-
-pub file-fits : generator.FileFits
-file-fits = generator-theorems.file-fits
-
-pub written-reads-back : entries.WrittenReadsBack
+pub written-reads-back : page.WrittenReadsBack
 written-reads-back = decimal-read
 
-pub share-is-nearest : entries.ShareNearest
-share-is-nearest tick cycles h = (share-nearest tick cycles h, λ n. share-unique tick cycles n h)
+-- ---- demand 3
+
+pub reports-safe : page.ReportsSafe
+reports-safe text n bytes e = answer-laws.reports-kept text n bytes e .0
+
+pub bound-interruptible : page.BoundInterruptible
+unfolding bound
+bound-interruptible c budget = promise-laws.interruptible c openingLimit budget
+
+pub nothing-follows : page.NothingFollows
+nothing-follows = run-laws.nothing-follows
+
+pub runs-trace : page.RunsTrace
+runs-trace = trace-laws.runs-trace
+
+pub theorem14 : page.Theorem14
+theorem14 = trace-laws.theorem14
+
+pub runs-within : page.RunsWithin
+runs-within = answer-laws.runs-kept .0
+
+pub runs-accepted : page.RunsAccepted
+runs-accepted = answer-laws.runs-kept .1
+
+pub run-within-bound : page.RunWithinBound
+run-within-bound = promise-laws.run-within-bound
+
+-- ---- document 02
+
+pub imports-bound : page.ImportsBound
+imports-bound text words made n m k b e g =
+    let f = conversion-theorems.imports-replace text words made n m b e g in
+    (ap (λ t. boundAnswer t k) f, ap (λ t. runAnswer t k) f, ap (λ t. mergeAnswer t k) f)
+
+pub exports-import : page.ExportsImport
+exports-import = conversion-theorems.exports-import
+
+pub imports-replace : page.ImportsReplace
+imports-replace = conversion-theorems.imports-replace
+
+pub imports-export : page.ImportsExport
+imports-export = conversion-theorems.imports-export
+
+pub import-refused-where : page.ImportRefusedWhere
+import-refused-where = conversion-theorems.import-refused-where
+
+pub imported-where : page.ImportedWhere
+imported-where = conversion-theorems.imported-where
+
+pub imports-mean : page.ImportsMean
+imports-mean = conversion-theorems.imports-mean
+
+pub order-reflexive : page.OrderReflexive
+order-reflexive s = cellwise-refl (λ a. same) s
+
+pub order-transitive : page.OrderTransitive
+order-transitive s t u e f = cellwise-trans (λ a b c h k. refines-trans h k) e f
+
+pub results-agree : page.ResultsAgree
+results-agree = cell-theorems.results-agree
+
+pub step-refines : page.StepRefines
+step-refines = machine-theorems.step-refines
+
+pub step-plain : page.StepPlain
+step-plain = machine-theorems.step-plain
+
+pub agrees-where : page.AgreesWhere
+agrees-where = replay-theorems.agrees-where
+
+pub differs-where : page.DiffersWhere
+differs-where = replay-theorems.differs-where
+
+pub replays-kept : page.ReplaysKept
+replays-kept = conformance-theorems.replays-kept
+
+pub spent-within : page.SpentWithin
+spent-within = replay-theorems.spent-within-run
+
+pub spent-within-bound : page.SpentWithinBound
+spent-within-bound = replay-theorems.spent-within-bound
+
+pub share-nearest : page.ShareNearest
+share-nearest tick cycles h = (report-laws.share-nearest tick cycles h, λ n. report-laws.share-unique tick cycles n h)
+
+pub passing-is-single-pass : page.PassingIsSinglePass
+passing-is-single-pass = answer-laws.passing-is-single-pass
+
+pub forward-once : page.ForwardOnce
+forward-once = forward-laws.forward-once
+
+pub merges-exact : page.MergesExact
+merges-exact text n bytes e = answer-laws.merges-kept text n bytes e .1
+
+pub merged-exact : page.MergedExact
+merged-exact = merge-theorems.merged-exact
+
+pub table-gathered : page.TableGathered
+table-gathered = merge-theorems.table-gathered
+
+pub one-table : page.OneTable
+one-table = merge-theorems.one-table
+
+pub merged-refused-where : page.MergedRefusedWhere
+merged-refused-where = merge-theorems.merged-refused-where
+
+pub merged-accepted-where : page.MergedAcceptedWhere
+merged-accepted-where = merge-theorems.merged-accepted-where
+
+pub merges-safe : page.MergesSafe
+merges-safe text n bytes e = answer-laws.merges-kept text n bytes e .0
+
+pub merged-interruptible : page.MergedInterruptible
+merged-interruptible = merge-theorems.merged-interruptible
+
+pub merges-above : page.MergesAbove
+merges-above text n bytes e = answer-laws.merges-kept text n bytes e .2
+
+pub merged-covers-paths : page.MergedCoversPaths
+merged-covers-paths = merge-theorems.merged-covers-paths
+
+pub merged-not-smaller : page.MergedNotSmaller
+merged-not-smaller = merge-theorems.merged-not-smaller
+
+pub refused-for-size : page.RefusedForSize
+refused-for-size = merge-theorems.refused-for-size
+
+pub run-within-merged : page.RunWithinMerged
+run-within-merged = merge-theorems.run-within-merged
+
+pub previews-kept : page.PreviewsKept
+previews-kept = preview-laws.previews-kept
+
+pub copy-replaces-one : page.CopyReplacesOne
+copy-replaces-one = patch-theorems.copy-replaces-one
+
+pub in-code-where : page.InCodeWhere
+in-code-where = patch-theorems.in-code-where
+
+pub same-instruction-keeps : page.SameInstructionKeeps
+same-instruction-keeps = patch-theorems.same-instruction-keeps
+
+pub file-passes : page.FilePasses
+file-passes = generator-theorems.file-read
+
+pub file-fits : page.FileFits
+file-fits = generator-theorems.file-fits
+
+pub file-runs : page.FileRuns
+file-runs = generator-theorems.file-runs
+
+pub every-unary : page.EveryUnary
+every-unary = cell-theorems.everyUnary
+
+pub every-binary : page.EveryBinary
+every-binary = cell-theorems.everyBinary
+
+pub every-comparison : page.EveryComparison
+every-comparison = cell-theorems.everyComparison
+
+pub every-condition : page.EveryCondition
+every-condition = cell-theorems.every-condition
+
+pub opens-where : page.OpensWhere
+opens-where = machine-theorems.opens-where
+
+pub bound-never-above : page.BoundNeverAbove
+bound-never-above = range-theorems.boundNeverAbove
+
+pub merged-never-above : page.MergedNeverAbove
+merged-never-above = range-theorems.mergedNeverAbove
+
+pub bound-not-above-former : page.BoundNotAboveFormer
+bound-not-above-former = range-theorems.bound-not-above-former
+
+pub merged-not-above-former : page.MergedNotAboveFormer
+merged-not-above-former = range-theorems.merged-not-above-former
+
+pub runs-known : page.RunsKnown
+runs-known = refined-laws.runs-known
+
+pub nearest-kept : page.NearestKept
+nearest-kept = sensitivity-theorems.nearest-kept
+
+pub found-moves : page.FoundMoves
+found-moves = search-theorems.found-moves
+
+pub none-moves : page.NoneMoves
+none-moves = search-theorems.none-moves
+
+pub refused-alike : page.RefusedAlike
+refused-alike = nearest-laws.refused-alike
+
+pub reports-monotone : page.ReportsMonotone
+reports-monotone text n bytes e = refined-laws.bounds-refined text n bytes e .0
+
+pub merges-monotone : page.MergesMonotone
+merges-monotone text n bytes e = refined-laws.merges-refined text n bytes e .0
+
+pub bound-monotone : page.BoundMonotone
+bound-monotone = refinement-theorems.bound-monotone
+
+pub merged-monotone : page.MergedMonotone
+merged-monotone = merge-theorems.merged-monotone
+
+pub refines-where : page.RefinesWhere
+refines-where = refinement-theorems.refines-where
+
+pub larger-budget : page.LargerBudget
+larger-budget = refinement-theorems.larger-budget
+
+pub reports-known : page.ReportsKnown
+reports-known text n bytes e = refined-laws.bounds-refined text n bytes e .1
+
+pub merges-known : page.MergesKnown
+merges-known text n bytes e = refined-laws.merges-refined text n bytes e .1
+
+pub bound-is-run : page.BoundIsRun
+bound-is-run = refinement-theorems.bound-is-run
+
+pub merged-is-run : page.MergedIsRun
+merged-is-run = refinement-theorems.merged-is-run
+
+-- ---- beyond the documents
+
+pub decisions-kept : page.DecisionsKept
+decisions-kept = decision-laws.decisions-kept
+
+pub decision-refused : page.DecisionRefused
+decision-refused = entry-laws.decision-refused
+
+pub explanations-kept : page.ExplanationsKept
+explanations-kept = explanation-theorems.explanations-kept
+
+pub walks-worst : page.WalksWorst
+walks-worst = walk-theorems.walks-worst
+
+pub explains-bound : page.ExplainsBound
+explains-bound = entry-laws.explains-bound
+
+pub traces-kept : page.TracesKept
+traces-kept = trace-theorems.traces-kept
+
+pub trace-agrees : page.TraceAgrees
+trace-agrees = trace-theory-theorems.trace-agrees
+
+pub trace-adds : page.TraceAdds
+trace-adds = trace-theory-theorems.trace-adds
+
+pub trace-refused : page.TraceRefused
+trace-refused = entry-laws.trace-refused

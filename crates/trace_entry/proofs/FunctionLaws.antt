@@ -1,11 +1,10 @@
 -- The trace in code is that of the definition. Assumes nothing.
-use Prim.Native.Nat.{ℕ, _+_, _≤_, _<_}
+use Prim.Native.Nat.{ℕ, _+_, _≤_}
 use mathlib.Core.Path.{_≡_, sym, ap, _∙_}
 use mathlib.Core.List.{List}
 use native.Mathlib.Omega.{arith}
 use lib.ListN.{length, length-append}
 use Rattle.refusals.specs.declared.Refusal.{Refusal}
-use Rattle.refusals.specs.declared.Refusal.the-variants.{ReportMemory}
 use Rattle.refusals.specs.declared.Verdict.the-variants.{Accepted, Refused}
 use Rattle.bounds.specs.Run.{run}
 use Rattle.runs.specs.declared.Ran.{Ran}
@@ -15,7 +14,7 @@ use Rattle.routine.specs.Routine as readings
 use Rattle.traces.specs.Traces.{Entry}
 use Rattle.answers.specs.Answers.{reported, refused, memory, answerOf, reportLength, Delivers}
 use Rattle.answers.specs.declared.Answer as code
-use Rattle.answers.proofs.AnswerLaws.{lent-short, reading-refused, reading-passed, delivers}
+use Rattle.answers.proofs.AnswerLaws.{reading-passed, delivers}
 use Rattle.trace_theory.specs.Trace.{trace, entriesText, traceNames, traceText}
 use Rattle.trace_entry.specs.Answers.{traceMemory, ofRun, traceRoutine, traceAnswer}
 use Rattle.trace_entry.specs.Promises.{TracesRun}
@@ -47,14 +46,6 @@ module _ (x : Routine) (r : Ran) (e : verdictOf r ≡ run (x .code) (x .budget) 
 -- ---- a text
 
 module _ (text : List ℕ) (n : ℕ) where
-  pub trace-short : n < 32768 → traceAnswer text n ≡ refused ReportMemory
-  unfolding traceAnswer
-  trace-short = lent-short traceMemory n _
-
-  pub trace-refused : 32768 ≤ n → (y : Refusal) → readRun text ≡ readings.refused y → traceAnswer text n ≡ refused y
-  unfolding traceAnswer
-  trace-refused = reading-refused traceRoutine (readRun text) traceMemory n
-
   pub trace-passed : 32768 ≤ n → (x : Routine) → readRun text ≡ readings.routine x → traceAnswer text n ≡ traceRoutine x
   unfolding traceAnswer
   trace-passed = reading-passed traceRoutine (readRun text) traceMemory n

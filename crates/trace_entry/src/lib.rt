@@ -2,7 +2,6 @@
 use answers::Answer;
 use cells::Cell;
 use reader::Routine;
-use refusals::Refusal;
 use refusals::Verdict;
 use rows::Reader;
 use states::State;
@@ -161,7 +160,7 @@ fn trace_routine(routine: Routine, out: &mut [u8]) -> Answer
     ensures { λ r. ⌜ r ≡ answerOf (traceRoutine (routineIn routine)) ⌝ }
     ensures { λ _. ⌜ now (out .exit) ≡ memory (traceRoutine (routineIn routine)) (now (out .entry)) ⌝ }
 {
-    let ran = evaluations::ran(routine);
+    let ran = run_entry::ran(routine);
     let verdict = ran.verdict;
     match verdict {
         Verdict::Accepted => {
@@ -178,10 +177,7 @@ pub fn trace(text: &[u8], out: &mut [u8]) -> Answer
     ensures { λ _. ⌜ now (out .exit) ≡ memory (traceAnswer (now (text .entry)) (length (now (out .entry)))) (now (out .entry)) ⌝ }
     ensures traces { λ r. ⌜ Delivers (reportLength r) (now (out .exit)) (TracesRun (now (text .entry))) ⌝ }
 {
-    if out.len() < 32768 {
-        return Answer::Refused(Refusal::ReportMemory);
-    }
-    let verdict = rows::check(Reader::Run, text);
+    let verdict = entry::check(Reader::Run, 32768, out.len(), text);
     match verdict {
         Verdict::Accepted => {
             let routine = reader::routine_of(text);

@@ -1,6 +1,6 @@
 -- `bound_entry::bound_routine` meets its contract. Assumes nothing.
 use Rattle.report_theory.specs.Answers.{boundRoutine}
-use Rattle.entry.proofs.EntryLaws.{found-printable, found-gives}
+use Rattle.report_theory.proofs.FoundLaws.{found-printable, found-gives}
 use borrow.Author.Needs.{needs}
 use Rattle.bound_entry.proofs.bound_routine.Statement.{statement}
 use Rattle.bound_entry.proofs.bound_routine.Tie as tie

@@ -1,6 +1,6 @@
 -- `merge_entry::merge_routine` meets its contract. Assumes nothing.
 use Rattle.report_theory.specs.Answers.{mergeRoutine}
-use Rattle.entry.proofs.EntryLaws.{found-printable, found-gives}
+use Rattle.report_theory.proofs.FoundLaws.{found-printable, found-gives}
 use borrow.Author.Needs.{needs}
 use Rattle.merge_entry.proofs.merge_routine.Statement.{statement}
 use Rattle.merge_entry.proofs.merge_routine.Tie as tie

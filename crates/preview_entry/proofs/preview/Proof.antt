@@ -1,61 +1,56 @@
 -- `preview_entry::preview` meets its contract. Assumes nothing.
-use mathlib.Core.Path.{sym, ap, _∙_}
-use native.Mathlib.Omega.{arith}
+use mathlib.Core.Path.{sym, _∙_}
+use mathlib.Core.Bool.{cond}
 use lib.ListN.{length}
-use lib.Seq.{length-take-le}
-use Rattle.answers.specs.Answers.{memory, answerOf}
-use Rattle.answers.proofs.AnswerLaws.{gives-refusal}
-use Rattle.patches.proofs.PatchLaws.{told-copy, told-refusal}
-use Rattle.preview_entry.proofs.PreviewLaws.{preview-short, preview-copied, preview-refused}
+use Rattle.refusals.specs.declared.Refusal.the-variants.{BadName}
+use Rattle.text.specs.Text.{lines}
+use Rattle.routine.specs.Routine.{readBound}
+use Rattle.routine.proofs.RowLaws.{read-passes}
+use Rattle.rows.specs.Checks.{readBy}
+use Rattle.rows.specs.declared.Reader.the-variants.{Bound}
+use Rattle.answers.specs.Answers.{refused}
+use Rattle.entry.proofs.EntryLaws.{check-refuses, accepted-enough, accepted-read}
+use Rattle.patches.specs.Patch.{inCode, patched}
+use Rattle.report_theory.specs.Answers.{boundAnswer}
+use Rattle.preview_entry.specs.Answers.{previewAnswer}
 use borrow.Author.Needs.{needs}
 use Rattle.preview_entry.proofs.preview.Statement.{statement}
 use Rattle.preview_entry.proofs.preview.Tie as tie
 
+enum-told : tie.Need-enum-told
+enum-told c = search needs
+
+bound-copy-requires : tie.Need-bound-copy-requires
+unfolding readBy
+bound-copy-requires c κs =
+    let k = c .before .before .before in
+    let s = k .before .before .before .before in
+    let text = s .args .text .now in
+    let accepts = sym (k .check .ensures) ∙ c .before .enum-told .given .1 in
+    let r = read-passes text _ (accepted-read Bound 128 _ text accepts) in
+    (r .0, r .2, accepted-enough Bound 128 _ text accepts)
+
 returns : tie.Need-returns
-returns c =
-    let a = c .before .before .before .before .args in
-    gives-refusal _ _ (preview-short (a .text .now) (a .address) (a .instruction .now) (length (a .out .now)) (c .if1 .taken)) _
-
-array-share-prefix-patched : tie.Need-array-share-prefix-patched
-array-share-prefix-patched c =
-    let p = c .before .before .before .before in
-    let t = told-copy _ _ (sym (c .before .copied .given .1) ∙ p .copy .ensures .0) _ _ (p .copy .ensures .1) in
-    omega (arith, t .1)
-
-slice-aggregate-bound : tie.Need-slice-aggregate-bound
-slice-aggregate-bound c =
-    let p = c .before .before .before .before .before in
-    let t = told-copy _ _ (sym (c .before .before .copied .given .1) ∙ p .copy .ensures .0) _ _ (p .copy .ensures .1) in
-    sym (length-take-le _ _ (t .1))
+returns c = c .before .before .bound-copy .ensures
 
 returns-2 : tie.Need-returns-2
+unfolding previewAnswer readBy
 returns-2 c =
-    let b = c .before .before in
-    let p = b .before .before .before .before .before .before .before in
-    let a = p .before .before .before .before .before .before .args in
-    let t = told-copy _ _ (sym (b .before .before .before .before .copied .given .1) ∙ p .copy .ensures .0) _ _ (p .copy .ensures .1) in
-    let e = sym (preview-copied (a .text .now) (a .address) (a .instruction .now) (length (a .out .now)) (p .before .before .if1 .left) _ (t .0)) in
-    (b .bound .ensures .0 ∙ ap answerOf e, b .bound .ensures .1 .0 ∙ ap (λ z. memory z (a .out .now)) e)
-
-returns-3 : tie.Need-returns-3
-returns-3 c =
-    let p = c .before .before .before .before in
-    let a = p .before .before .before .before .before .before .args in
-    let t = told-refusal _ _ (sym (c .before .copied2 .given .1) ∙ p .copy .ensures .0) in
-    gives-refusal _ _ (preview-refused (a .text .now) (a .address) (a .instruction .now) (length (a .out .now)) (p .before .before .if1 .left) _ t) _
+    let k = c .before .before .before in
+    let s = k .before .before .before .before in
+    let text = s .args .text .now in
+    let n = length (s .args .out .now) in
+    check-refuses (λ x. cond (inCode (x .code) (s .args .address)) (boundAnswer (patched (lines text) (s .args .address) (s .args .instruction .now)) n) (refused (BadName (s .args .address))))
+    (readBound text) 128 n _ (sym (k .check .ensures) ∙ c .before .verdict .given .1) _
 
 pub preview-spec : {M : Type 1} → statement M
 preview-spec =
     tie.close
     (tie.spec
+    (λ c κs. search needs)
+    enum-told
+    bound-copy-requires
+    (λ c. search needs)
+    (λ c. search needs)
     returns
-    (λ c. search needs)
-    (λ c κs. search needs)
-    (λ c. search needs)
-    array-share-prefix-patched
-    slice-aggregate-bound
-    (λ c κs. search needs)
-    (λ c. search needs)
-    (λ c. search needs)
-    returns-2
-    returns-3)
+    returns-2)

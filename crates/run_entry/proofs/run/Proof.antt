@@ -1,69 +1,60 @@
 -- `run_entry::run` meets its contract. Assumes nothing.
-use mathlib.Core.Path.{sym, ap, _∙_}
+use mathlib.Core.Path.{sym, _∙_}
 use lib.ListN.{length}
-use Rattle.text.specs.Text.{lines}
-use Rattle.routine.specs.Routine.{routineOf, readRun}
+use Rattle.routine.specs.Routine.{readRun}
 use Rattle.rows.specs.Checks.{readBy}
 use Rattle.rows.specs.declared.Reader.the-variants.{Run}
-use Rattle.rows.proofs.CheckLaws.{refused-reading, accepted-reading}
-use Rattle.answers.specs.Answers.{memory, answerOf}
-use Rattle.answers.proofs.AnswerLaws.{gives-refusal}
-use Rattle.entry.proofs.EntryLaws.{held-routine}
-use Rattle.run_entry.proofs.FunctionLaws.{run-short, run-refused, run-passed, run-printable, run-keeps}
+use Rattle.entry.proofs.EntryLaws.{accepted-passes, check-refuses, read-holds, read-gives}
+use Rattle.report_theory.specs.Answers.{runRoutine, runAnswer}
+use Rattle.run_entry.proofs.FunctionLaws.{run-printable, run-keeps}
 use borrow.Author.Needs.{needs}
 use Rattle.run_entry.proofs.run.Statement.{statement}
 use Rattle.run_entry.proofs.run.Tie as tie
-
-returns : tie.Need-returns
-returns c =
-    let start = c .before .before .before in
-    run-keeps _ _ _ _ _ (gives-refusal _ _ (run-short (start .args .text .now) (length (start .args .out .now)) (c .if1 .taken)) _)
 
 enum-told : tie.Need-enum-told
 enum-told c = search needs
 
 routine-of-requires : tie.Need-routine-of-requires
-routine-of-requires c κs = accepted-reading _ Run (sym (c .before .before .check .ensures) ∙ c .enum-told .given .1) .0
+routine-of-requires c κs =
+    let k = c .before .before in
+    accepted-passes Run 128 _ (k .before .before .before .args .text .now) (sym (k .check .ensures) ∙ c .enum-told .given .1)
 
 run-routine-requires : tie.Need-run-routine-requires
 unfolding readBy
 run-routine-requires c κs =
-    let start = c .before .before .before .before .before .before .before .before in
-    let text = start .args .text .now in
-    let a = accepted-reading text Run (sym (c .before .before .before .before .check .ensures) ∙ c .before .before .enum-told .given .1) in
-    let e = held-routine (routineOf (lines text)) (c .before .routine-of .result) (c .before .routine-of .ensures .0) (readRun text) (a .1) in
-    (c .before .routine-of .ensures .1, run-printable text (length (start .args .out .now)) (c .before .before .before .before .before .if1 .left) _ e)
+    let k = c .before .before .before .before in
+    let s = k .before .before .before in
+    let held = c .before .routine-of in
+    let accepts = sym (k .check .ensures) ∙ c .before .before .enum-told .given .1 in
+    let h = read-holds Run 128 (length (s .args .out .now)) (s .args .text .now) runRoutine accepts (held .result) (held .ensures .0) in
+    (held .ensures .1, run-printable (s .args .text .now) _ (h .0) _ (h .1))
+
+returns : tie.Need-returns
+unfolding runAnswer readBy
+returns c =
+    let b = c .before .before in
+    let held = b .before .before .routine-of in
+    let k = b .before .before .before .before .before in
+    let s = k .before .before .before in
+    let accepts = sym (k .check .ensures) ∙ b .before .before .before .enum-told .given .1 in
+    run-keeps (s .args .text .now) (length (s .args .out .now)) (s .args .out .now) _ _ (read-gives Run 128 (length (s .args .out .now)) (s .args .text .now) runRoutine accepts (held .result) (held .ensures .0) _ _ _ (b .run-routine .ensures))
 
 returns-2 : tie.Need-returns-2
-unfolding readBy
+unfolding runAnswer readBy
 returns-2 c =
-    let start = c .before .before .before .before .before .before .before .before .before .before .before in
-    let text = start .args .text .now in
-    let out = start .args .out .now in
-    let held = c .before .before .before .before .routine-of in
-    let a = accepted-reading text Run (sym (c .before .before .before .before .before .before .before .check .ensures) ∙ c .before .before .before .before .before .enum-told .given .1) in
-    let e = held-routine (routineOf (lines text)) (held .result) (held .ensures .0) (readRun text) (a .1) in
-    let q = sym (run-passed text (length out) (c .before .before .before .before .before .before .before .before .if1 .left) _ e) in
-    run-keeps _ _ _ _ _ (c .before .before .run-routine .ensures .0 ∙ ap answerOf q, c .before .before .run-routine .ensures .1 ∙ ap (λ a. memory a out) q)
-
-returns-3 : tie.Need-returns-3
-unfolding readBy
-returns-3 c =
-    let start = c .before .before .before .before .before .before .before in
-    let text = start .args .text .now in
-    let e = refused-reading (readRun text) _ (sym (c .before .before .before .check .ensures) ∙ c .before .verdict .given .1) in
-    run-keeps _ _ _ _ _ (gives-refusal _ _ (run-refused text (length (start .args .out .now)) (c .before .before .before .before .if1 .left) _ e) _)
+    let k = c .before .before .before in
+    let s = k .before .before .before in
+    run-keeps (s .args .text .now) (length (s .args .out .now)) (s .args .out .now) _ _ (check-refuses runRoutine (readRun (s .args .text .now)) 128 (length (s .args .out .now)) _ (sym (k .check .ensures) ∙ c .before .verdict .given .1) _)
 
 pub run-spec : {M : Type 1} → statement M
 run-spec =
     tie.close
     (tie.spec
-    returns
     (λ c κs. search needs)
     enum-told
     routine-of-requires
     run-routine-requires
     (λ c. search needs)
     (λ c. search needs)
-    returns-2
-    returns-3)
+    returns
+    returns-2)

@@ -1,12 +1,12 @@
--- `evaluations::swept` meets its contract. Assumes nothing.
+-- `merge_entry::swept` meets its contract. Assumes nothing.
 use native.Mathlib.Omega.{arith}
 use mathlib.Core.Path.{_≡_}
 use lib.ListN.{length}
 use Rattle.states.proofs.Stack.{length-images}
-use Rattle.evaluations.proofs.EvaluationLaws.{swept-shareable}
+use Rattle.merge_entry.proofs.FunctionLaws.{swept-shareable}
 use borrow.Author.Needs.{needs}
-use Rattle.evaluations.proofs.swept.Statement.{statement}
-use Rattle.evaluations.proofs.swept.Tie as tie
+use Rattle.merge_entry.proofs.swept.Statement.{statement}
+use Rattle.merge_entry.proofs.swept.Tie as tie
 
 places : (s : tie.Start) → length (s .args .routine .fields) ≡ 128
 places s = search (needs, length-images)
@@ -18,7 +18,7 @@ merge-requires c κs =
     ((s .pre .program, s .pre .formed, places s, s .pre .numeric), (omega arith, omega arith))
 
 returns : tie.Need-returns
-returns c = let s = c .before .before .before .before .before in (c .merge .ensures .0, swept-shareable (s .args .routine) (s .pre) _ (c .merge .ensures .1))
+returns c = let s = c .before .before .before .before .before in (c .merge .ensures .0, swept-shareable _ (c .merge .ensures .1))
 
 pub swept-spec : {M : Type 1} → statement M
 swept-spec = tie.close (tie.spec merge-requires returns)

@@ -1,9 +1,9 @@
--- `entry::put_found` meets its contract. Assumes nothing.
+-- `report::put_found` meets its contract. Assumes nothing.
 use Rattle.answers.proofs.AnswerLaws.{gives-report, gives-refusal}
-use Rattle.entry.proofs.EntryLaws.{judged-accepted, judged-refused}
+use Rattle.report.proofs.FoundLaws.{judged-accepted, judged-refused}
 use borrow.Author.Needs.{needs}
-use Rattle.entry.proofs.put_found.Statement.{statement}
-use Rattle.entry.proofs.put_found.Tie as tie
+use Rattle.report.proofs.put_found.Statement.{statement}
+use Rattle.report.proofs.put_found.Tie as tie
 
 enum-told : tie.Need-enum-told
 enum-told c = search needs

@@ -1,8 +1,8 @@
--- `evaluations::explored` meets its contract. Assumes nothing.
+-- `bound_entry::explored` meets its contract. Assumes nothing.
 use borrow.Author.Needs.{needs}
-use Rattle.evaluations.proofs.EvaluationLaws.{explored-shows, explored-shareable}
-use Rattle.evaluations.proofs.explored.Statement.{statement}
-use Rattle.evaluations.proofs.explored.Tie as tie
+use Rattle.bound_entry.proofs.FunctionLaws.{explored-shows, explored-shareable}
+use Rattle.bound_entry.proofs.explored.Statement.{statement}
+use Rattle.bound_entry.proofs.explored.Tie as tie
 
 returns : tie.Need-returns
 returns c =
