@@ -196,6 +196,17 @@ TICKBOUND_USED tickbound_answer tickbound_merge(const uint8_t *text, size_t text
 TICKBOUND_USED tickbound_answer tickbound_explain(const uint8_t *text, size_t text_length, uint8_t *lines,
                                                   size_t lines_length);
 
+/* The report of the merging bound, its two lines, and then a costliest way through its merged states, one line for each
+ * address, under the same line of names. CYCLES and WORDS are the sums on this way, this step included, DEPTH is the
+ * height of the merged state, and WAY is `N` or `T` where the merged state's step opens two ways and `-` elsewhere. The
+ * addresses rise, CYCLES of the last line is the report's, and before each line no way to its address has cost more. A
+ * run need not take this way as a whole. The answer's length is 1 to TICKBOUND_EXPLAIN_MEMORY, and that much must be
+ * lent.
+ *
+ * Refused as the merging bound is. */
+TICKBOUND_USED tickbound_answer tickbound_explain_merge(const uint8_t *text, size_t text_length, uint8_t *lines,
+                                                        size_t lines_length);
+
 /* The report of the one run that the file gives: `CYCLES WORDS DEPTH STEPS` and their values. Refused by 11 where a cell
  * is `?` or a range of more than one number. */
 TICKBOUND_USED tickbound_answer tickbound_run(const uint8_t *text, size_t text_length, uint8_t *report,
@@ -221,6 +232,19 @@ TICKBOUND_USED tickbound_answer tickbound_trace(const uint8_t *text, size_t text
  * is that of as many calls of `tickbound_bound`, and can be minutes. */
 TICKBOUND_USED tickbound_answer tickbound_nearest(const uint8_t *text, size_t text_length, uint8_t *report,
                                                   size_t report_length);
+
+/* The bound by cases. The cuts are a text of their own: the line `CELL FROM`, which alone means no cuts, then at most 16
+ * lines of a cell's name, as on lines 10 and 12 of the file, and a number. A cut at n of a cell whose range has numbers
+ * below n and numbers from n on gives two starts, the cell below n and the cell from n on; each case is bounded as
+ * `tickbound_merge` does it, and each figure is the largest over the cases. The report has the same six names, PATH `-`.
+ * A handle, and a number that does not divide its cell, is passed over. No figure is above that of `tickbound_merge`, and
+ * more cuts never give more; this is proved.
+ *
+ * Refused by 10; then by 1 to 6 and 13, as the bound is; then by 1 (at place 0), 2, 3 and 4 (at a line of the cuts) for
+ * the cuts; then by 14 or 7, for the first case that `tickbound_merge` would refuse so. There are at most 65,536 cases:
+ * its time is that of as many calls of `tickbound_merge`. */
+TICKBOUND_USED tickbound_answer tickbound_split(const uint8_t *text, size_t text_length, const uint8_t *cuts,
+                                                size_t cuts_length, uint8_t *report, size_t report_length);
 
 /* A card's trace, lines under `AT CYCLES`, held against the run that the file gives. The report is one line: `AGREES`,
  * or `DIFFERS` and the number of the first line of the trace that differs, its line of names being line 1. A trace may

@@ -25,8 +25,12 @@ use Rattle.conversions.specs.Answers.{conversionLimit, importAnswer, exportAnsw
 use Rattle.conversions.proofs.FunctionLaws.{import-reported, import-place, export-reported, export-place}
 use Rattle.conformance.specs.Answers.{replayAnswer}
 use Rattle.conformance.proofs.FunctionLaws.{replay-reported, replay-place}
+use Rattle.split_entry.specs.Answers.{splitAnswer}
+use Rattle.split_entry.proofs.Theorems.{splits-fit, split-places}
 use Rattle.explanations.specs.Answers.{explanationLimit, explainAnswer}
 use Rattle.explanations.proofs.Theorems.{explanations-fit, explain-place}
+use Rattle.explain_merge_entry.specs.Answers.{explainMergeAnswer}
+use Rattle.explain_merge_entry.proofs.Theorems.{merge-explanations-fit, explain-merge-place}
 use Rattle.sensitivity.specs.Answers.{nearestAnswer}
 use Rattle.sensitivity.proofs.FunctionLaws.{nearest-reported, nearest-place}
 use Rattle.generating.specs.Answers.{generatorLimit, generateAnswer}
@@ -130,6 +134,13 @@ export-limits text n = record {
   refusal = λ r e. omega (arith, export-place text n r e);
 }
 
+pub split-limits : (text cuts : List ℕ) (n : ℕ) → WithinLimits memoryLimit (splitAnswer text cuts n)
+split-limits text cuts n = record {
+  small = omega arith;
+  report = λ bs e. let r = splits-fit text cuts n bs e in (r .0, r .1);
+  refusal = λ r e. omega (arith, split-places text cuts n r e);
+}
+
 pub replay-limits : (text trace : List ℕ) (n : ℕ) → WithinLimits memoryLimit (replayAnswer text trace n)
 replay-limits text trace n = record {
   small = omega arith;
@@ -176,6 +187,13 @@ explain-limits text n = record {
   small = omega arith;
   report = λ bs e. let r = explanations-fit text n bs e in (r .0, r .1);
   refusal = λ r e. omega (arith, explain-place text n r e);
+}
+
+pub explain-merge-limits : (text : List ℕ) (n : ℕ) → WithinLimits explanationLimit (explainMergeAnswer text n)
+explain-merge-limits text n = record {
+  small = omega arith;
+  report = λ bs e. let r = merge-explanations-fit text n bs e in (r .0, r .1);
+  refusal = λ r e. omega (arith, explain-merge-place text n r e);
 }
 
 pub trace-limits : (text : List ℕ) (n : ℕ) → WithinLimits traceMemory (traceAnswer text n)
@@ -278,6 +296,15 @@ import-tells words primitives n = tells (import-limits words primitives n)
 
 pub explain-tells : (text : List ℕ) (n w : ℕ) → w ≡ wordOf (answerOf (explainAnswer text n)) → Tells explanationLimit (explainAnswer text n) w
 explain-tells text n = tells (explain-limits text n)
+
+pub explain-merge-tells : (text : List ℕ) (n w : ℕ) → w ≡ wordOf (answerOf (explainMergeAnswer text n)) → Tells explanationLimit (explainMergeAnswer text n) w
+explain-merge-tells text n = tells (explain-merge-limits text n)
+
+pub split-tells : (text cuts : List ℕ) (n w : ℕ) → w ≡ wordOf (answerOf (splitAnswer text cuts n)) → Tells memoryLimit (splitAnswer text cuts n) w
+split-tells text cuts n = tells (split-limits text cuts n)
+
+pub split-length : (text cuts : List ℕ) (n : ℕ) (r : code.Answer) → r ≡ answerOf (splitAnswer text cuts n) → (w : ℕ) → w ≡ wordOf r → reportLength r ≡ toldLength w
+split-length text cuts n r e w f = rw (f, e) (sym (told-length memoryLimit (splitAnswer text cuts n) (split-limits text cuts n)))
 
 pub replay-tells : (text trace : List ℕ) (n w : ℕ) → w ≡ wordOf (answerOf (replayAnswer text trace n)) → Tells memoryLimit (replayAnswer text trace n) w
 replay-tells text trace n = tells (replay-limits text trace n)

@@ -13,7 +13,10 @@ ghost use Rattle.preview_entry.specs.Answers.{previewAnswer};
 ghost use Rattle.conversions.specs.Answers.{conversionLimit, importAnswer, exportAnswer};
 ghost use Rattle.conformance.specs.Answers.{replayAnswer};
 ghost use Rattle.conformance.specs.Promises.{ReplayKept};
+ghost use Rattle.split_entry.specs.Answers.{splitAnswer};
+ghost use Rattle.split_entry.specs.Promises.{SafeSplit, ExactSplit, BelowMerge, MoreCuts, MonotoneSplit};
 ghost use Rattle.explanations.specs.Answers.{explanationLimit, explainAnswer};
+ghost use Rattle.explain_merge_entry.specs.Answers.{explainMergeAnswer};
 ghost use Rattle.decide_entry.specs.Answers.{decideAnswer};
 ghost use Rattle.decide_entry.specs.Promises.{KeepsTick, OverTick, UndecidedTick};
 ghost use Rattle.trace_entry.specs.Answers.{traceMemory, traceAnswer};
@@ -122,6 +125,22 @@ pub extern "C" fn tickbound_replay(text: &[u8], trace: &[u8], out: &mut [u8]) ->
     word_of(replayed)
 }
 
+// `split_entry::split` for C.
+#[no_mangle]
+pub extern "C" fn tickbound_split(text: &[u8], cuts: &[u8], out: &mut [u8]) -> u64
+    ensures { λ r. ⌜ r ≡ wordOf (answerOf (splitAnswer (now (text .entry)) (now (cuts .entry)) (length (now (out .entry))))) ⌝ }
+    ensures { λ _. ⌜ now (out .exit) ≡ memory (splitAnswer (now (text .entry)) (now (cuts .entry)) (length (now (out .entry)))) (now (out .entry)) ⌝ }
+    ensures tells { λ r. ⌜ Tells memoryLimit (splitAnswer (now (text .entry)) (now (cuts .entry)) (length (now (out .entry)))) r ⌝ }
+    ensures safe { λ r. ⌜ Delivers (toldLength r) (now (out .exit)) (SafeSplit (now (text .entry)) (now (cuts .entry))) ⌝ }
+    ensures exact { λ r. ⌜ Delivers (toldLength r) (now (out .exit)) (ExactSplit (now (text .entry)) (now (cuts .entry))) ⌝ }
+    ensures below { λ r. ⌜ Delivers (toldLength r) (now (out .exit)) (BelowMerge (now (text .entry)) (now (cuts .entry))) ⌝ }
+    ensures more { λ r. ⌜ Delivers (toldLength r) (now (out .exit)) (MoreCuts (now (text .entry)) (now (cuts .entry))) ⌝ }
+    ensures monotone { λ r. ⌜ Delivers (toldLength r) (now (out .exit)) (MonotoneSplit (now (text .entry)) (now (cuts .entry))) ⌝ }
+{
+    let bounded = split_entry::split(text, cuts, out);
+    word_of(bounded)
+}
+
 // `preview_entry::preview` for C.
 #[no_mangle]
 pub extern "C" fn tickbound_preview(
@@ -168,6 +187,17 @@ pub extern "C" fn tickbound_explain(text: &[u8], out: &mut [u8]) -> u64
     ensures tells { λ r. ⌜ Tells explanationLimit (explainAnswer (now (text .entry)) (length (now (out .entry)))) r ⌝ }
 {
     let explained = explanations::explain(text, out);
+    word_of(explained)
+}
+
+// `explain_merge_entry::explain_merge` for C.
+#[no_mangle]
+pub extern "C" fn tickbound_explain_merge(text: &[u8], out: &mut [u8]) -> u64
+    ensures { λ r. ⌜ r ≡ wordOf (answerOf (explainMergeAnswer (now (text .entry)) (length (now (out .entry))))) ⌝ }
+    ensures { λ _. ⌜ now (out .exit) ≡ memory (explainMergeAnswer (now (text .entry)) (length (now (out .entry)))) (now (out .entry)) ⌝ }
+    ensures tells { λ r. ⌜ Tells explanationLimit (explainMergeAnswer (now (text .entry)) (length (now (out .entry)))) r ⌝ }
+{
+    let explained = explain_merge_entry::explain_merge(text, out);
     word_of(explained)
 }
 

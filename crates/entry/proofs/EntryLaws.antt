@@ -35,7 +35,7 @@ pub same-refused : (x y : Refusal) → Refused x ≡ Refused y → x ≡ y
 same-refused x y e = cc
 
 -- the routine that is held is the routine
-holds-is : (x : readings.Routine) (r : Routine) → Holds x r → routineIn r ≡ x
+pub holds-is : (x : readings.Routine) (r : Routine) → Holds x r → routineIn r ≡ x
 holds-is x r h = λ i. record { budget = h .budget i; tick = h .tick i; code = h .code i; start = h .start i; answers = h .answered i }
 
 module _ (reader : Reader) (limit lent : ℕ) (text : List ℕ) where

@@ -91,11 +91,11 @@ entry-short line cycles words depth way c w d p =
 -- ---- a walk through code without jumps backwards, at a price of at most 196,605 cycles and 510 words a step
 
 module _ (c : Code) (forward : Forward c) (cheap : (a : ℕ) (i : Instruction) → fetch c a ≡ done i → Both (AtMost 196605 510) (i .price) (i .extra)) (ls : List Line) where
-  abbrev Room : ℕ → ℕ → ℕ → Type 0
+  abbrev pub Room : ℕ → ℕ → ℕ → Type 0
   Room n cycles words = (cycles + 196605 * n < 10 ^ 9) × (words + 510 * n < 10 ^ 6)
 
   -- a line, and then no line before the next
-  one-more : (n cycles words : ℕ) (s : State) (p : Price) (way : List Decision) (others : List ℕ) → Low s → AtMost 196605 510 p → Room (suc n) cycles words → length (pathText way) ≡ 1
+  pub one-more : (n cycles words : ℕ) (s : State) (p : Price) (way : List Decision) (others : List ℕ) → Low s → AtMost 196605 510 p → Room (suc n) cycles words → length (pathText way) ≡ 1
       → length others ≤ 23 * n + total (drop (suc (s .at - c .first)) ls)
       → length (entryText (codeText ls (c .first) (s .at)) (cycles + p .cycles) (words + p .words) (height s) way ++ others) ≤ 23 * suc n + total (drop (s .at - c .first) ls)
   unfolding codeText
@@ -106,7 +106,7 @@ module _ (c : Code) (forward : Forward c) (cheap : (a : ℕ) (i : Instruction) �
       let k = length-append (entryText line (cycles + p .cycles) (words + p .words) (height s) way) others in
       omega arith
 
-  later : (s t : State) (n : Next) → step c unknown s ≡ done n → s .at < t .at → total (drop (t .at - c .first) ls) ≤ total (drop (suc (s .at - c .first)) ls)
+  pub later : (s t : State) (n : Next) → step c unknown s ≡ done n → s .at < t .at → total (drop (t .at - c .first) ls) ≤ total (drop (suc (s .at - c .first)) ls)
   later s t n e h = let i = step-inside c unknown s n e in total-later ls (suc (s .at - c .first)) (t .at - c .first) (omega (arith, i .0))
 
   abbrev Fits : ℕ → Type 0

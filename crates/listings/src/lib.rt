@@ -16,9 +16,9 @@ ghost use Rattle.listings.specs.Listing.{entries, entryText, listing};
 ghost use Rattle.listings.specs.Held.{Stands};
 
 // A place in a text: the byte at which a line begins, and the line's number, counted from 0.
-struct Cursor {
-    byte: usize,
-    line: usize,
+pub struct Cursor {
+    pub byte: usize,
+    pub line: usize,
 }
 
 // The number of the code line of an address; the first address has line 0.
@@ -45,7 +45,7 @@ fn line_after(body: &[u8], byte: usize) -> usize
 }
 
 // The cursor of line k: it goes on from a cursor of the same body, or from the start where that one is past the line.
-fn seek(body: &[u8], from: Cursor, k: usize) -> Cursor
+pub fn seek(body: &[u8], from: Cursor, k: usize) -> Cursor
     requires { ⌜ Stands (now body) from ⌝ }
     ensures { λ r. ⌜ Stands (now (body .entry)) r × (r .line ≡ k) ⌝ }
 {
@@ -66,7 +66,7 @@ fn seek(body: &[u8], from: Cursor, k: usize) -> Cursor
 }
 
 // The line at a cursor.
-fn line_under(body: &[u8], cursor: Cursor) -> &[u8]
+pub fn line_under(body: &[u8], cursor: Cursor) -> &[u8]
     requires { ⌜ Stands (now body) cursor ⌝ }
     ensures { λ r. ⌜ now r ≡ getD (lines (now (body .entry))) (cursor .line) noLine .text ⌝ }
 {
@@ -75,7 +75,7 @@ fn line_under(body: &[u8], cursor: Cursor) -> &[u8]
 }
 
 // Puts a line over out from `at` on, and answers where it ends.
-fn put_entry(
+pub fn put_entry(
     out: &mut [u8],
     at: usize,
     line: &[u8],

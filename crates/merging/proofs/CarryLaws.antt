@@ -31,10 +31,14 @@ use Rattle.steps.specs.declared.Change.the-variants as change
 use Rattle.steps.specs.Step.{ofPrice, SmallPrice, ofNext, Differs}
 use Rattle.findings.specs.declared.Found.{Found}
 use Rattle.findings.specs.Found.{acceptedAs, encode, refusedAs}
+use Rattle.merges.specs.Ways.{sent}
+use Rattle.merge_way.specs.Way.{Origins, marked}
+use Rattle.merge_origins.specs.Kept.{Keeps}
 use Rattle.merges.specs.Merge.{Arrival, arrival, Table, slot, arrive, send, reach, finish, carry}
 use Rattle.arrivals.specs.declared.Way.{Way}
 use Rattle.arrivals.specs.Rows.{Formed, Numeric, Rows, arrivalOf, slotAt, joinAt, waiting}
-use Rattle.merging.specs.Pass.{Comes, Spent, most, Figures, Ready, Agrees, spentOf}
+use Rattle.merging.specs.declared.Pass.{Pass}
+use Rattle.merging.specs.Pass.{Comes, Spent, most, Figures, Ready, Agrees, Moved, moved, spentOf}
 use Rattle.merging.proofs.PassLaws.{alone, arrived, spent-more, spent-at}
 
 -- ---- the figures
@@ -240,3 +244,38 @@ pub carried-opens : (rest : Table → Report → Verdict) (a : ℕ) (tab : Table
 unfolding carry send finish
 carried-opens rest a tab q s u v p r r′ x y t e g h =
     ap (carry rest a tab q s p) (sym e) ∙ ap₂ (λ (z z′ : Arrival). rest (arrive z (arrive z′ tab)) (reach s q)) g h
+
+-- ---- the table of the definition, with the ways of the step
+
+pub stops-sent : (p r : Price) (t : Try Next) (tab : Table) → done (stops r) ≡ t → tab ≡ sent p t tab
+unfolding sent send
+stops-sent p r t tab e = ap (λ (x : Try Next). sent p x tab) e
+
+pub goes-sent : (p r : Price) (u : State) (x : Arrival) (t : Try Next) (tab : Table) → done (goes r u) ≡ t → arrival u (sum p r) ≡ x → arrive x tab ≡ sent p t tab
+unfolding sent send
+goes-sent p r u x t tab e g = ap (λ (z : Arrival). arrive z tab) (sym g) ∙ ap (λ (y : Try Next). sent p y tab) e
+
+pub opens-sent : (p r r′ : Price) (u v : State) (x y : Arrival) (t : Try Next) (tab : Table) → done (opens r u r′ v) ≡ t → arrival u (sum p r) ≡ x → arrival v (sum p r′) ≡ y
+    → arrive x (arrive y tab) ≡ sent p t tab
+unfolding sent send
+opens-sent p r r′ u v x y t tab e g h = ap₂ (λ (z z′ : Arrival). arrive z (arrive z′ tab)) (sym g) (sym h) ∙ ap (λ (y : Try Next). sent p y tab) e
+
+-- a pass that moved onto a table, by another name of it
+pub moved-onto : {ns : List ℕ} {first n j : ℕ} {v : (Table → Report → Verdict) → Verdict} {onto tab : Table} {rs : List ℕ} {r : Pass} → tab ≡ onto → (q : Report) → r .found ≡ acceptedAs q
+    → ((rest : Table → Report → Verdict) → v rest ≡ rest tab q) → Agrees ns first n j tab rs (r .here) (r .way) → Moved ns first n j v onto rs r
+moved-onto {ns} {first} {n} {j} {v} {rs = rs} {r = r} e q f k a = subst (λ (t : Table). Moved ns first n j v t rs r) e (moved q f k a)
+
+-- ---- what is kept beside it
+
+pub whole-at : (ns : List ℕ) (bl : List Cell) (s : code.State) → whole ns bl s .at ≡ s .at
+unfolding whole reblock
+whole-at ns bl s = refl
+
+-- the ways of the step are marked, by the code's answer x
+pub carried-kept : (first j : ℕ) (ks ks′ : List ℕ) (ns : List ℕ) (w : Way) (at h : ℕ) (x : leads-to.Next) (bl : List Cell) (s : code.State) (f : Cell → Try Next) (u : Cell)
+    → ((o : Origins) (p : Price) (s t : State) → p .cycles ≡ w .cycles → s .at ≡ first + j → height s ≡ h → t .at ≡ at → Keeps first ks o → Keeps first ks′ (marked p s (ofNext x t) o))
+    → w .state .at ≡ first + j → h ≡ height (whole ns (w .blocks) (w .state)) → s .at ≡ at → u ≡ unknown → ofNext x (whole ns bl s) ≡ f u
+    → (o : Origins) → Keeps first ks o → Keeps first ks′ (marked (spentOf w) (whole ns (w .blocks) (w .state)) (f unknown) o)
+carried-kept first j ks ks′ ns w at h x bl s f u m a d q g e o k =
+    subst (λ (y : Try Next). Keeps first ks′ (marked (spentOf w) (whole ns (w .blocks) (w .state)) y o)) (e ∙ ap f g)
+    (m o (spentOf w) (whole ns (w .blocks) (w .state)) (whole ns bl s) refl (whole-at ns (w .blocks) (w .state) ∙ a) (sym d) (whole-at ns bl s ∙ q) k)

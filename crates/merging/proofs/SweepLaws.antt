@@ -1,23 +1,28 @@
 -- Laws of the pass over all addresses: where it begins, one address more, and where it ends. Assumes nothing.
-use Prim.Native.Nat.{ℕ, zero, suc, _+_, _*_, _-_, _<_, _≤_}
+use Prim.Native.Nat.{ℕ, suc, _+_, _*_, _-_, _<_, _≤_}
 use mathlib.Core.Path.{_≡_, refl, sym, ap, ap₂, subst, _∙_}
 use mathlib.Core.Bool.{Bool, true, false, cond}
 use mathlib.Core.List.{List}
 use native.Mathlib.Omega.{arith}
 use lib.Dec.{eqb}
-use lib.ListN.{length, getD, drop, replicate, length-replicate}
+use lib.ListN.{length, drop, replicate, length-replicate}
 use lib.Seq.{getD-take, getD-drop}
 use Rattle.refusals.specs.declared.Refusal.{Refusal}
+use Rattle.refusals.specs.declared.Verdict as code-verdict
 use Rattle.refusals.specs.declared.Verdict.the-variants.{Accepted, Refused}
 use Rattle.cells.specs.declared.Cell.{Cell}
 use Rattle.cells.specs.Cells.{unknown}
 use Rattle.machine.specs.Machine.{State, Code, step, reblock}
 use Rattle.states.specs.declared.State as code
 use Rattle.states.specs.View.{WellFormed, whole}
-use Rattle.bounds.specs.Tree.{Report, Verdict}
+use Rattle.bounds.specs.Tree.{Report, Verdict, accepted}
 use Rattle.findings.specs.declared.Found.{Found}
 use Rattle.findings.specs.Found.{acceptedAs, encode, Shows}
-use Rattle.merges.specs.Merge.{Slot, empty, join, Table, slot, nowhere, only, none, visit, sweep, merged}
+use Rattle.merges.specs.Merge.{Slot, empty, join, Table, slot, nowhere, span, only, none, visit, sweep, merged}
+use Rattle.merges.specs.Ways.{sends}
+use Rattle.merge_way.specs.Way.{Origins, departs, beside, nowhence}
+use Rattle.merge_origins.specs.Kept.{Goals, Keeps}
+use Rattle.merge_origins.proofs.KeptLaws.{zeros}
 use Rattle.arrivals.specs.declared.Way.{Way}
 use Rattle.merging.specs.declared.Pass.{Pass}
 use Rattle.arrivals.specs.Rows.{Numeric, arrivalOf, part, slotAt, joinAt, with, waiting}
@@ -26,8 +31,8 @@ use Rattle.arrivals.proofs.RowLaws.{slot-empty}
 use Rattle.merging.proofs.PassLaws.{arrived, same-test}
 use Rattle.arrivals.proofs.PartLaws.{comes-to}
 
--- the pass before the address of row j: what is left of it gives the verdict v
-pub record Going (c : Code) (ns : List ℕ) (first n : ℕ) (v : Verdict) (rs : List ℕ) (j : ℕ) (p : Pass) : Type 0 where
+-- the pass before the address of row j: what is left of it gives the verdict v, and leaves o kept
+pub record Going (c : Code) (ns : List ℕ) (first n : ℕ) (v : Verdict) (o : Origins) (rs ks : List ℕ) (j : ℕ) (p : Pass) : Type 0 where
   pub ready : Ready ns first n j rs p
   pub within : j ≤ n
   pub tab : Table
@@ -35,13 +40,12 @@ pub record Going (c : Code) (ns : List ℕ) (first n : ℕ) (v : Verdict) (rs : 
   pub found : p .found ≡ acceptedAs report
   pub agrees : Agrees ns first n j tab rs (p .here) (p .way)
   pub rest : sweep (step c unknown) (n - j) (first + j) tab report ≡ v
+  pub goals : Goals ks
+  pub kept : Origins
+  pub keeps : Keeps first ks kept
+  pub marks : beside (step c unknown) (n - j) (first + j) tab kept ≡ o
 
 -- ---- an empty table
-
-zeros : (n i : ℕ) → _≡_ {A = ℕ} (getD (replicate n 0) i 0) 0
-zeros zero i = refl
-zeros (suc n) zero = refl
-zeros (suc n) (suc i) = zeros n i
 
 nothing-at : (ns : List ℕ) (first n b : ℕ) → slotAt ns first (replicate n 0) b ≡ empty
 unfolding slotAt
@@ -100,8 +104,19 @@ module _ (c : Code) (ns : List ℕ) (first l m : ℕ) (s : code.State) (bl : Lis
       let at : first + j ≡ s .at = omega arith in
       ap₂ (λ (n a : ℕ). sweep (step c unknown) n a (only (whole ns bl s)) none) many at
 
-  pub begins : m ≡ 201925 → WellFormed s → length bl ≡ 128 → Numeric ns w → Going c ns first (l + 1) (merged c (whole ns bl s)) rs j (begun s bl)
-  begins long formed fields numeric = record {
+  -- what it leaves kept
+  abbrev leaves : Origins
+  leaves = beside (step c unknown) (span c (whole ns bl s)) (s .at) (only (whole ns bl s)) nowhence
+
+  begun-marks : beside (step c unknown) (l + 1 - j) (first + j) (only (whole ns bl s)) nowhence ≡ leaves
+  unfolding whole reblock
+  begun-marks =
+      let many : l + 1 - j ≡ suc (c .first + length (c .instructions) - s .at) = omega arith in
+      let at : first + j ≡ s .at = omega arith in
+      ap₂ (λ (n a : ℕ). beside (step c unknown) n a (only (whole ns bl s)) nowhence) many at
+
+  pub begins : m ≡ 201925 → WellFormed s → length bl ≡ 128 → Numeric ns w → (ks : List ℕ) → Goals ks → Keeps first ks nowhence → Going c ns first (l + 1) (merged c (whole ns bl s)) leaves rs ks j (begun s bl)
+  begins long formed fields numeric ks goals nothing = record {
     ready = record {
       rows = length-replicate m 0 ∙ long;
       figures = record { used = omega arith; cycles = omega arith; words = omega arith; depth = omega arith };
@@ -114,14 +129,31 @@ module _ (c : Code) (ns : List ℕ) (first l m : ℕ) (s : code.State) (bl : Lis
     found = begun-found;
     agrees = begun-agrees;
     rest = begun-rest;
+    goals = goals;
+    kept = nowhence;
+    keeps = nothing;
+    marks = begun-marks;
   }
 
 -- ---- one address more
 
-module _ {c : Code} {ns : List ℕ} {first n : ℕ} {v : Verdict} {rs : List ℕ} {j : ℕ} {p : Pass} (g : Going c ns first n v rs j p) (inside : j < n) (rs′ : List ℕ) (r : Pass) where
+module _ {c : Code} {ns : List ℕ} {first n : ℕ} {v : Verdict} {o : Origins} {rs ks : List ℕ} {j : ℕ} {p : Pass} (g : Going c ns first n v o rs ks j p) (inside : j < n) (rs′ : List ℕ) (r : Pass) where
   -- how the definition goes on there
   abbrev there : (Table → Report → Verdict) → Verdict
   there rest = visit (step c unknown) rest (first + j) (g .tab) (g .report) (slot (g .tab (first + j)))
+
+  -- its table there, and what is kept
+  abbrev onto : Table
+  onto = sends (step c unknown) (first + j) (slot (g .tab (first + j))) (g .tab)
+
+  abbrev left : Origins
+  left = departs (step c unknown) (first + j) (slot (g .tab (first + j))) (g .kept)
+
+  marks-ahead : beside (step c unknown) (n - (j + 1)) (suc (first + j)) onto left ≡ o
+  unfolding beside
+  marks-ahead =
+      let m : n - j ≡ suc (n - (j + 1)) = omega arith in
+      sym (ap (λ (i : ℕ). beside (step c unknown) i (first + j) (g .tab) (g .kept)) m) ∙ g .marks
 
   ahead : there (sweep (step c unknown) (n - (j + 1)) (suc (first + j))) ≡ v
   unfolding sweep
@@ -132,31 +164,52 @@ module _ {c : Code} {ns : List ℕ} {first n : ℕ} {v : Verdict} {rs : List ℕ
   never : {A : Type 0} (x : Refusal) → r .found .verdict ≡ Accepted → r .found .verdict ≡ Refused x → A
   never x e h = let z : _≡_ {A = ℕ} 0 1 = cc in absurd (omega arith)
 
-  pub goes-on : Ready ns first n (j + 1) rs′ r → r .found .verdict ≡ Accepted → Moved ns first n (j + 1) there rs′ r → Going c ns first n v rs′ (j + 1) r
-  goes-on ready e (stopped x h k) = never x e h
-  goes-on ready e (moved tab q f k a) = record {
+  pub goes-on : (ks′ : List ℕ) → Ready ns first n (j + 1) rs′ r → r .found .verdict ≡ Accepted → Moved ns first n (j + 1) there onto rs′ r → Goals ks′ → Keeps first ks′ left → Going c ns first n v o rs′ ks′ (j + 1) r
+  goes-on ks′ ready e (stopped x h k) goals keeps = never x e h
+  goes-on ks′ ready e (moved q f k a) goals keeps = record {
     ready = ready;
     within = omega arith;
-    tab = tab;
+    tab = onto;
     report = q;
     found = f;
     agrees = a;
     rest =
         let at : first + (j + 1) ≡ suc (first + j) = omega arith in
-        ap (λ (i : ℕ). sweep (step c unknown) (n - (j + 1)) i tab q) at ∙ sym (k _) ∙ ahead;
+        ap (λ (i : ℕ). sweep (step c unknown) (n - (j + 1)) i onto q) at ∙ sym (k _) ∙ ahead;
+    goals = goals;
+    kept = left;
+    keeps = keeps;
+    marks =
+        let at : first + (j + 1) ≡ suc (first + j) = omega arith in
+        ap (λ (i : ℕ). beside (step c unknown) (n - (j + 1)) i onto left) at ∙ marks-ahead;
   }
 
   accepted-verdict : (q : Report) → r .found ≡ acceptedAs q → r .found .verdict ≡ Accepted
   unfolding acceptedAs
   accepted-verdict q e = ap (λ (f : Found). f .verdict) e
 
-  pub ends : (x : Refusal) → r .found .verdict ≡ Refused x → Moved ns first n (j + 1) there rs′ r → Shows (r .found) v
+  pub ends : (x : Refusal) → r .found .verdict ≡ Refused x → Moved ns first n (j + 1) there onto rs′ r → Shows (r .found) v
   ends y e (stopped x h k) = subst (Shows (r .found)) (sym (k _) ∙ ahead) h
-  ends y e (moved tab q f k a) = never y (accepted-verdict q f) e
+  ends y e (moved q f k a) = never y (accepted-verdict q f) e
 
 -- ---- where it ends
 
-pub finishes : {c : Code} {ns : List ℕ} {first n : ℕ} {v : Verdict} {rs : List ℕ} {j : ℕ} {p : Pass} → Going c ns first n v rs j p → n ≤ j → Shows (p .found) v
+-- an answer that shows a refusal shows no report
+pub not-accepted : {A : Type 0} (f : Found) (x : Refusal) (v : Verdict) (q : Report) → f .verdict ≡ Refused x → Shows f v → v ≡ accepted q → A
+unfolding acceptedAs
+not-accepted f x v q e s h =
+    let k : f ≡ acceptedAs q = subst (Shows f) h s in
+    let z : _≡_ {A = code-verdict.Verdict} Accepted (Refused x) = sym (ap (λ (f : Found). f .verdict) k) ∙ e in
+    let y : _≡_ {A = ℕ} 0 1 = cc in
+    absurd (omega arith)
+
+pub finishes-kept : {c : Code} {ns : List ℕ} {first n : ℕ} {v : Verdict} {o : Origins} {rs ks : List ℕ} {j : ℕ} {p : Pass} → Going c ns first n v o rs ks j p → n ≤ j → Keeps first ks o
+unfolding beside
+finishes-kept {c} {first = first} {n = n} {ks = ks} {j = j} g h =
+    let m : n - j ≡ 0 = omega arith in
+    subst (Keeps first ks) (sym (ap (λ (i : ℕ). beside (step c unknown) i (first + j) (g .tab) (g .kept)) m) ∙ g .marks) (g .keeps)
+
+pub finishes : {c : Code} {ns : List ℕ} {first n : ℕ} {v : Verdict} {o : Origins} {rs ks : List ℕ} {j : ℕ} {p : Pass} → Going c ns first n v o rs ks j p → n ≤ j → Shows (p .found) v
 unfolding sweep
 finishes {c} {first = first} {n = n} {j = j} {p = p} g h =
     let m : n - j ≡ 0 = omega arith in

@@ -1,17 +1,19 @@
 -- Laws of the address of a row: what has come to it decides how the definition goes on, and no other row changes. Assumes nothing.
 use Prim.Native.Nat.{ℕ, _+_, _*_, _-_, _<_, _≤_}
-use mathlib.Core.Path.{_≡_, refl, sym, ap, subst, _∙_}
+use mathlib.Core.Path.{_≡_, sym, ap, subst, _∙_}
 use mathlib.Core.List.{List}
 use native.Mathlib.Omega.{arith}
 use lib.ListN.{length}
 use borrow.Rule.Slice.PartMut.{putMid, same-len-mid}
 use Rattle.refusals.specs.declared.Refusal.the-variants.{NoMeeting}
 use Rattle.cells.specs.Try.{Try}
-use Rattle.machine.specs.Machine.{State, Next, jump, reblock}
+use Rattle.machine.specs.Machine.{State, Next, jump}
 use Rattle.states.specs.View.{whole}
 use Rattle.bounds.specs.Tree.{Report, Verdict, refused}
 use Rattle.findings.specs.declared.Found.{Found}
 use Rattle.merges.specs.Merge.{Slot, Table, slot, carry, visit}
+use Rattle.merges.specs.Ways.{sent, sends}
+use Rattle.merge_way.specs.Way.{Origins, marked, departs}
 use Rattle.arrivals.specs.declared.Way.{Way}
 use Rattle.merging.specs.declared.Mark.{Mark}
 use Rattle.merging.specs.declared.Mark.the-variants.{Nothing, Unlike, Is}
@@ -20,16 +22,16 @@ use Rattle.arrivals.specs.Rows.{Rows, arrivalOf, part, slotIn, slotAt, with, wa
 use Rattle.merging.specs.Pass.{cameAs, Spent, most, Figures, Ready, Agrees, Moved, stopped, moved, spentOf}
 use Rattle.merging.proofs.PassLaws.{waiting-here, waiting-other}
 use Rattle.arrivals.proofs.PartLaws.{row-length, slot-other}
-use Rattle.merging.proofs.CarryLaws.{Under}
+use Rattle.merging.proofs.CarryLaws.{Under, moved-onto, whole-at}
 
 pub figures-more : (j : ℕ) (f : Found) → Figures j f → Figures (j + 1) f
 figures-more j f i = record { used = omega (arith, i .used); cycles = omega (arith, i .cycles); words = omega (arith, i .words); depth = i .depth }
 
 -- the same way of going on, said in another way
-pub moved-as : {ns : List ℕ} {first n j : ℕ} {v v′ : (Table → Report → Verdict) → Verdict} {rs : List ℕ} {r : Pass}
-    → ((rest : Table → Report → Verdict) → v′ rest ≡ v rest) → Moved ns first n j v rs r → Moved ns first n j v′ rs r
-moved-as e (stopped x h k) = stopped x h (λ rest. e rest ∙ k rest)
-moved-as e (moved tab q h k a) = moved tab q h (λ rest. e rest ∙ k rest) a
+pub moved-as : {ns : List ℕ} {first n j : ℕ} {v v′ : (Table → Report → Verdict) → Verdict} {onto onto′ : Table} {rs : List ℕ} {r : Pass}
+    → ((rest : Table → Report → Verdict) → v′ rest ≡ v rest) → onto ≡ onto′ → Moved ns first n j v onto rs r → Moved ns first n j v′ onto′ rs r
+moved-as e g (stopped x h k) = stopped x h (λ rest. e rest ∙ k rest)
+moved-as e g (moved q h k a) = moved-onto g q h (λ rest. e rest ∙ k rest) a
 
 -- row k comes back as r
 module _ (ns : List ℕ) (first n k : ℕ) (rs r : List ℕ) (p : Pass) (few : k < 1025) (ready : Ready ns first n k rs p) (l : length r ≡ length (part (197 * k) (197 * k + 197) rs)) where
@@ -79,10 +81,6 @@ pub visit-unlike : (act : State → Try Next) (rest : Table → Report → Verdi
 unfolding visit cameAs
 visit-unlike act rest a tab q ns m v s e g = ap (visit act rest a tab q) (e ∙ ap (λ (x : Mark). cameAs ns x v) g)
 
-whole-at : (ns : List ℕ) (v : Way) → whole ns (v .blocks) (v .state) .at ≡ v .state .at
-unfolding whole reblock
-whole-at ns v = refl
-
 jump-same : (a : ℕ) (s : State) → s .at ≡ a → jump a s ≡ s
 unfolding jump
 jump-same a s e = ap (λ (i : ℕ). record { at = i; accu = s .accu; stack = s .stack; blocks = s .blocks }) (sym e)
@@ -92,7 +90,40 @@ pub visit-way : (act : State → Try Next) (rest : Table → Report → Verdict)
 unfolding visit cameAs arrivalOf
 visit-way act rest a tab q ns m v s e g h =
     ap (visit act rest a tab q) (e ∙ ap (λ (x : Mark). cameAs ns x v) g)
-    ∙ ap (λ (t : State). carry rest a tab q (whole ns (v .blocks) (v .state)) (spentOf v) (act t)) (jump-same a (whole ns (v .blocks) (v .state)) (whole-at ns v ∙ h))
+    ∙ ap (λ (t : State). carry rest a tab q (whole ns (v .blocks) (v .state)) (spentOf v) (act t)) (jump-same a (whole ns (v .blocks) (v .state)) (whole-at ns (v .blocks) (v .state) ∙ h))
+
+-- ---- where its table and what is kept go on
+
+-- the address is not carried out
+module _ (act : State → Try Next) (a : ℕ) (ns : List ℕ) (m : Mark) (v : Way) (s : Slot) (e : s ≡ cameAs ns m v) where
+  pub sends-nothing : (tab : Table) → m ≡ Nothing → tab ≡ sends act a s tab
+  unfolding sends cameAs
+  sends-nothing tab g = ap (λ (x : Slot). sends act a x tab) (sym (e ∙ ap (λ (x : Mark). cameAs ns x v) g))
+
+  pub departs-nothing : (o : Origins) → m ≡ Nothing → o ≡ departs act a s o
+  unfolding departs cameAs
+  departs-nothing o g = ap (λ (x : Slot). departs act a x o) (sym (e ∙ ap (λ (x : Mark). cameAs ns x v) g))
+
+  pub departs-unlike : (o : Origins) → m ≡ Unlike → o ≡ departs act a s o
+  unfolding departs cameAs
+  departs-unlike o g = ap (λ (x : Slot). departs act a x o) (sym (e ∙ ap (λ (x : Mark). cameAs ns x v) g))
+
+  -- or it is
+  module _ (g : m ≡ Is) (h : v .state .at ≡ a) where
+    there : jump a (whole ns (v .blocks) (v .state)) ≡ whole ns (v .blocks) (v .state)
+    there = jump-same a (whole ns (v .blocks) (v .state)) (whole-at ns (v .blocks) (v .state) ∙ h)
+
+    pub sends-way : (tab : Table) → sent (spentOf v) (act (whole ns (v .blocks) (v .state))) tab ≡ sends act a s tab
+    unfolding sends cameAs arrivalOf
+    sends-way tab =
+        ap (λ (t : State). sent (spentOf v) (act t) tab) (sym there)
+        ∙ ap (λ (x : Slot). sends act a x tab) (sym (e ∙ ap (λ (x : Mark). cameAs ns x v) g))
+
+    pub departs-way : (o : Origins) → marked (spentOf v) (whole ns (v .blocks) (v .state)) (act (whole ns (v .blocks) (v .state))) o ≡ departs act a s o
+    unfolding departs cameAs arrivalOf
+    departs-way o =
+        ap (λ (t : State). marked (spentOf v) t (act t) o) (sym there)
+        ∙ ap (λ (x : Slot). departs act a x o) (sym (e ∙ ap (λ (x : Mark). cameAs ns x v) g))
 
 -- the sums of a way that has come
 pub way-spent : (ns : List ℕ) (m : Mark) (v : Way) (k : ℕ) → m ≡ Is → Spent k (cameAs ns m v) → (v .cycles ≤ k) × (v .words ≤ k)

@@ -63,11 +63,11 @@ abbrev pub Agrees : List ℕ → ℕ → ℕ → ℕ → Table → List ℕ → 
 Agrees ns first n j tab rs here w = (b : ℕ) → j ≤ b → b < n → slot (tab (first + b)) ≡ waiting ns here w j b (slotAt ns first rs b)
 
 -- the address before that of row j was gone through, and v says how the definition goes on there: it is refused, or goes on with the same
--- figures and a table that has what the rows from j on hold
-pub data Moved (ns : List ℕ) (first n j : ℕ) (v : (Table → Report → Verdict) → Verdict) (rs : List ℕ) (r : Pass) : Type 0 where
-  stopped : (x : Refusal) → r .found .verdict ≡ Refused x → ((rest : Table → Report → Verdict) → v rest ≡ refused x) → Moved ns first n j v rs r
-  moved : (tab : Table) (q : Report) → r .found ≡ acceptedAs q → ((rest : Table → Report → Verdict) → v rest ≡ rest tab q)
-      → Agrees ns first n j tab rs (r .here) (r .way) → Moved ns first n j v rs r
+-- figures and the table `onto`, which has what the rows from j on hold
+pub data Moved (ns : List ℕ) (first n j : ℕ) (v : (Table → Report → Verdict) → Verdict) (onto : Table) (rs : List ℕ) (r : Pass) : Type 0 where
+  stopped : (x : Refusal) → r .found .verdict ≡ Refused x → ((rest : Table → Report → Verdict) → v rest ≡ refused x) → Moved ns first n j v onto rs r
+  moved : (q : Report) → r .found ≡ acceptedAs q → ((rest : Table → Report → Verdict) → v rest ≡ rest onto q) → Agrees ns first n j onto rs (r .here) (r .way)
+      → Moved ns first n j v onto rs r
 
 -- a way after a step at the price p
 abbrev pub spentOf : Way → Price

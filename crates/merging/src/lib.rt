@@ -18,11 +18,14 @@ ghost use Rattle.machine.specs.Machine.{step};
 ghost use Rattle.machine.specs.Order.{Cellwise};
 ghost use Rattle.states.specs.Program.{firstOf, linesIn, programOf, sizesOf, IsProgram};
 ghost use Rattle.states.specs.View.{WellFormed, whole};
-ghost use Rattle.bounds.specs.Tree.{Report};
+ghost use Rattle.bounds.specs.Tree.{Report, accepted};
 ghost use Rattle.steps.specs.Step.{SmallPrice};
 ghost use Rattle.findings.specs.Found.{acceptedAs, Shows};
 ghost use Rattle.refusals.specs.declared.Verdict.the-variants.{Accepted};
-ghost use Rattle.merges.specs.Merge.{Table, slot, carry, visit, merged};
+ghost use Rattle.merges.specs.Merge.{Table, slot, carry, visit, span, only, merged};
+ghost use Rattle.merges.specs.Ways.{sent, sends};
+ghost use Rattle.merge_way.specs.Way.{Origins, marked, departs, beside, nowhence};
+ghost use Rattle.merge_origins.specs.Kept.{Goals, Keeps};
 ghost use Rattle.arrivals.specs.Rows.{Formed, Numeric, Row, Rows, arrivalOf, slotIn, slotAt, joinAt, with, waiting, rowsOf};
 ghost use Rattle.merging.specs.Pass.{cameAs, Held, Comes, Spent, most, Figures, Ready, Agrees, Moved, spentOf};
 
@@ -153,22 +156,23 @@ pub struct Pass {
     pub way: Way,
 }
 
-// The way `w`, which is all that has come to the address of row `j`, is carried out there.
-fn carry(code: &[u32; 5131], rows: &mut [u64], j: usize, f: Found, w: Way) -> Pass
+// The way `w`, which is all that has come to the address of row `j`, is carried out there, and the ways of its step are marked in `kept`.
+fn carry(code: &[u32; 5131], rows: &mut [u64], kept: &mut [u64], j: usize, f: Found, w: Way) -> Pass
     requires { ⌜ IsProgram (now code) ⌝ }
-    requires { ⌜ Rows (now rows) × (j < rowsOf (now code)) ⌝ }
+    requires { ⌜ Rows (now rows) × Goals (now kept) × (j < rowsOf (now code)) ⌝ }
     requires { ⌜ (Formed w × Numeric (sizesOf (now code)) w) × (w .state .at ≡ firstOf (now code) + j) × (w .cycles ≤ most j) × (w .words ≤ most j) × Figures j f ⌝ }
     requires { ⌜ ((b : ℕ) → j < b → b < rowsOf (now code) → Spent (most j) (slotAt (sizesOf (now code)) (firstOf (now code)) (now rows) b)) ⌝ }
     ensures { λ r. ⌜ Ready (sizesOf (now (code .entry))) (firstOf (now (code .entry))) (rowsOf (now (code .entry))) (j + 1) (now (rows .exit)) r ⌝ }
-    ensures { λ r. ⌜ ((tab : Table) (q : Report) → f ≡ acceptedAs q → ((b : ℕ) → j < b → b < rowsOf (now (code .entry)) → slot (tab (firstOf (now (code .entry)) + b)) ≡ slotAt (sizesOf (now (code .entry))) (firstOf (now (code .entry))) (now (rows .entry)) b) → Moved (sizesOf (now (code .entry))) (firstOf (now (code .entry))) (rowsOf (now (code .entry))) (j + 1) (λ rest. carry rest (firstOf (now (code .entry)) + j) tab q (whole (sizesOf (now (code .entry))) (w .blocks) (w .state)) (spentOf w) (step (programOf (now (code .entry))) unknown (whole (sizesOf (now (code .entry))) (w .blocks) (w .state)))) (now (rows .exit)) r) ⌝ }
+    ensures { λ r. ⌜ ((tab : Table) (q : Report) → f ≡ acceptedAs q → ((b : ℕ) → j < b → b < rowsOf (now (code .entry)) → slot (tab (firstOf (now (code .entry)) + b)) ≡ slotAt (sizesOf (now (code .entry))) (firstOf (now (code .entry))) (now (rows .entry)) b) → Moved (sizesOf (now (code .entry))) (firstOf (now (code .entry))) (rowsOf (now (code .entry))) (j + 1) (λ rest. carry rest (firstOf (now (code .entry)) + j) tab q (whole (sizesOf (now (code .entry))) (w .blocks) (w .state)) (spentOf w) (step (programOf (now (code .entry))) unknown (whole (sizesOf (now (code .entry))) (w .blocks) (w .state)))) (sent (spentOf w) (step (programOf (now (code .entry))) unknown (whole (sizesOf (now (code .entry))) (w .blocks) (w .state))) tab) (now (rows .exit)) r) ⌝ }
+    ensures { λ _. ⌜ ((o : Origins) → Keeps (firstOf (now (code .entry))) (now (kept .entry)) o → Keeps (firstOf (now (code .entry))) (now (kept .exit)) (marked (spentOf w) (whole (sizesOf (now (code .entry))) (w .blocks) (w .state)) (step (programOf (now (code .entry))) unknown (whole (sizesOf (now (code .entry))) (w .blocks) (w .state))) o)) ⌝ }
 {
     let s = w.state;
     let b = w.blocks;
-    let answer = cells::unknown();
-    let stepped = steps::step(code, answer, s, b);
+    let stepped = steps::step(code, cells::unknown(), s, b);
     let next = stepped.next;
     let state = stepped.state;
     let blocks = stepped.blocks;
+    merge_origins::depart(kept, code, j, w.cycles, 64 - s.free, next, state.at);
     let g = reached(f, 64 - s.free);
     match next {
         Next::Stuck => Pass {
@@ -205,11 +209,12 @@ fn carry(code: &[u32; 5131], rows: &mut [u64], j: usize, f: Found, w: Way) -> Pa
 }
 
 // The address of row `j`.
-fn visit(code: &[u32; 5131], rows: &mut [u64], j: usize, p: Pass) -> Pass
-    requires { ⌜ IsProgram (now code) × (j < rowsOf (now code)) ⌝ }
+fn visit(code: &[u32; 5131], rows: &mut [u64], kept: &mut [u64], j: usize, p: Pass) -> Pass
+    requires { ⌜ IsProgram (now code) × Goals (now kept) × (j < rowsOf (now code)) ⌝ }
     requires { ⌜ Ready (sizesOf (now code)) (firstOf (now code)) (rowsOf (now code)) j (now rows) p ⌝ }
     ensures { λ r. ⌜ Ready (sizesOf (now (code .entry))) (firstOf (now (code .entry))) (rowsOf (now (code .entry))) (j + 1) (now (rows .exit)) r ⌝ }
-    ensures { λ r. ⌜ ((tab : Table) (q : Report) → p .found ≡ acceptedAs q → Agrees (sizesOf (now (code .entry))) (firstOf (now (code .entry))) (rowsOf (now (code .entry))) j tab (now (rows .entry)) (p .here) (p .way) → Moved (sizesOf (now (code .entry))) (firstOf (now (code .entry))) (rowsOf (now (code .entry))) (j + 1) (λ rest. visit (step (programOf (now (code .entry))) unknown) rest (firstOf (now (code .entry)) + j) tab q (slot (tab (firstOf (now (code .entry)) + j)))) (now (rows .exit)) r) ⌝ }
+    ensures { λ r. ⌜ ((tab : Table) (q : Report) → p .found ≡ acceptedAs q → Agrees (sizesOf (now (code .entry))) (firstOf (now (code .entry))) (rowsOf (now (code .entry))) j tab (now (rows .entry)) (p .here) (p .way) → Moved (sizesOf (now (code .entry))) (firstOf (now (code .entry))) (rowsOf (now (code .entry))) (j + 1) (λ rest. visit (step (programOf (now (code .entry))) unknown) rest (firstOf (now (code .entry)) + j) tab q (slot (tab (firstOf (now (code .entry)) + j)))) (sends (step (programOf (now (code .entry))) unknown) (firstOf (now (code .entry)) + j) (slot (tab (firstOf (now (code .entry)) + j))) tab) (now (rows .exit)) r) ⌝ }
+    ensures { λ _. ⌜ ((tab : Table) (o : Origins) → Agrees (sizesOf (now (code .entry))) (firstOf (now (code .entry))) (rowsOf (now (code .entry))) j tab (now (rows .entry)) (p .here) (p .way) → Keeps (firstOf (now (code .entry))) (now (kept .entry)) o → Keeps (firstOf (now (code .entry))) (now (kept .exit)) (departs (step (programOf (now (code .entry))) unknown) (firstOf (now (code .entry)) + j) (slot (tab (firstOf (now (code .entry)) + j))) o)) ⌝ }
 {
     let at = code[0] as usize + j;
     let low = 197 * j;
@@ -230,17 +235,19 @@ fn visit(code: &[u32; 5131], rows: &mut [u64], j: usize, p: Pass) -> Pass
             here: false,
             way: v,
         },
-        Mark::Is => carry(code, rows, j, f, v),
+        Mark::Is => carry(code, rows, kept, j, f, v),
     }
 }
 
-// The merging bound from `start` with `blocks`. Ways over jumps wait in the rows of one array, one row for each address up to that after the
-// last; the way from the address before is at hand.
-pub fn merge(code: &[u32; 5131], start: State, blocks: [Cell; 128]) -> Found
+// The merging bound from `start` with `blocks`, and in `kept`, where nothing is kept yet, the last moves of the costliest ways. Ways over
+// jumps wait in the rows of one array, one row for each address up to that after the last; the way from the address before is at hand.
+pub fn sweep(code: &[u32; 5131], start: State, blocks: [Cell; 128], kept: &mut [u64]) -> Found
     requires { ⌜ IsProgram (now code) × WellFormed start × (length blocks ≡ 128) × Cellwise Kept (whole (sizesOf (now code)) blocks start) (whole (sizesOf (now code)) blocks start) ⌝ }
     requires { ⌜ (firstOf (now code) ≤ start .at) × (start .at ≤ firstOf (now code) + linesIn (now code)) ⌝ }
+    requires { ⌜ Goals (now kept) × Keeps (firstOf (now code)) (now kept) nowhence ⌝ }
     ensures { λ r. ⌜ Shows r (merged (programOf (now (code .entry))) (whole (sizesOf (now (code .entry))) blocks start)) ⌝ }
     ensures { λ r. ⌜ Figures 1025 r ⌝ }
+    ensures { λ _. ⌜ ((q : Report) → merged (programOf (now (code .entry))) (whole (sizesOf (now (code .entry))) blocks start) ≡ accepted q → Keeps (firstOf (now (code .entry))) (now (kept .exit)) (beside (step (programOf (now (code .entry))) unknown) (span (programOf (now (code .entry))) (whole (sizesOf (now (code .entry))) blocks start)) (start .at) (only (whole (sizesOf (now (code .entry))) blocks start)) nowhence)) ⌝ }
 {
     let mut rows = [0; 201925];
     let n = code[1] as usize + 1;
@@ -265,7 +272,7 @@ pub fn merge(code: &[u32; 5131], start: State, blocks: [Cell; 128]) -> Found
         way: way,
     };
     while j < n {
-        p = visit(code, &mut rows, j, p);
+        p = visit(code, &mut rows, kept, j, p);
         let f = p.found;
         let verdict = f.verdict;
         let Verdict::Accepted = verdict else {
@@ -274,4 +281,15 @@ pub fn merge(code: &[u32; 5131], start: State, blocks: [Cell; 128]) -> Found
         j += 1;
     }
     p.found
+}
+
+// The merging bound from `start` with `blocks`.
+pub fn merge(code: &[u32; 5131], start: State, blocks: [Cell; 128]) -> Found
+    requires { ⌜ IsProgram (now code) × WellFormed start × (length blocks ≡ 128) × Cellwise Kept (whole (sizesOf (now code)) blocks start) (whole (sizesOf (now code)) blocks start) ⌝ }
+    requires { ⌜ (firstOf (now code) ≤ start .at) × (start .at ≤ firstOf (now code) + linesIn (now code)) ⌝ }
+    ensures { λ r. ⌜ Shows r (merged (programOf (now (code .entry))) (whole (sizesOf (now (code .entry))) blocks start)) ⌝ }
+    ensures { λ r. ⌜ Figures 1025 r ⌝ }
+{
+    let mut kept = [0; 6156];
+    sweep(code, start, blocks, &mut kept)
 }

@@ -28,6 +28,8 @@ use Rattle.conformance.proofs.FunctionLaws.{replay-reported, replay-place}
 use Rattle.listings.specs.Listing.{entries, listing}
 use Rattle.explanations.specs.Answers.{explanationLimit, worstMoves, entryNames, explanationText, explained, explainRoutine, explainAnswer}
 use Rattle.explanations.proofs.Theorems.{explanations-fit, explain-place}
+use Rattle.explain_merge_entry.proofs.Theorems.{merge-explanations-fit, explain-merge-place}
+use Rattle.split_entry.proofs.Theorems.{splits-fit, split-places}
 use Rattle.sensitivity.proofs.FunctionLaws.{nearest-reported, nearest-place}
 use Rattle.generating.specs.Answers.{generatorLimit}
 use Rattle.generating.proofs.FunctionLaws.{generate-reported, generate-place}
@@ -36,8 +38,8 @@ use Rattle.decide_entry.proofs.PromiseLaws.{decided-refused, decide-reported, d
 use Rattle.trace_theory.specs.Trace.{trace, traceText}
 use Rattle.trace_entry.specs.Answers.{traceMemory, ofRun, traceRoutine, traceAnswer}
 use Rattle.trace_entry.proofs.Theorems.{traces-fit, trace-place}
-use Rattle.c_interface.proofs.FunctionLaws.{told, bound-limits, merge-limits, run-limits, import-limits, export-limits, replay-limits, preview-limits, nearest-limits, generate-limits, decide-limits, explain-limits, trace-limits}
-use Rattle.theorems.specs.Promises.{bounding, merging, running, previewing, deciding, tracing, explaining, importing, exporting, replaying, seeking, generating, ReportsFit, PlacesSmall, AnswersTold, DecisionRefused, ExplainsBound, TraceRefused}
+use Rattle.c_interface.proofs.FunctionLaws.{told, bound-limits, merge-limits, run-limits, import-limits, export-limits, replay-limits, preview-limits, nearest-limits, generate-limits, decide-limits, explain-limits, explain-merge-limits, split-limits, trace-limits}
+use Rattle.theorems.specs.Promises.{bounding, merging, running, previewing, deciding, tracing, explaining, explaining-merge, splitting, importing, exporting, replaying, seeking, generating, ReportsFit, PlacesSmall, AnswersTold, DecisionRefused, ExplainsBound, TraceRefused}
 
 -- ---- every public function
 
@@ -49,6 +51,8 @@ reports-fit previewing (text, address, instruction) n bs e = preview-reported te
 reports-fit deciding text n bs e = decide-reported text n bs e
 reports-fit tracing text n bs e = traces-fit text n bs e
 reports-fit explaining text n bs e = explanations-fit text n bs e
+reports-fit explaining-merge text n bs e = merge-explanations-fit text n bs e
+reports-fit splitting (text, cuts) n bs e = splits-fit text cuts n bs e
 reports-fit importing (words, primitives) n bs e = import-reported words primitives n bs e
 reports-fit exporting text n bs e = export-reported text n bs e
 reports-fit replaying (text, trace) n bs e = replay-reported text trace n bs e
@@ -63,6 +67,8 @@ places-small previewing (text, address, instruction) n r e = preview-place text 
 places-small deciding text n r e = inl (decide-place text n r e)
 places-small tracing text n r e = inl (trace-place text n r e)
 places-small explaining text n r e = inl (explain-place text n r e)
+places-small explaining-merge text n r e = inl (explain-merge-place text n r e)
+places-small splitting (text, cuts) n r e = inl (split-places text cuts n r e)
 places-small importing (words, primitives) n r e = inl (omega (arith, import-place words primitives n r e))
 places-small exporting text n r e = inl (omega (arith, export-place text n r e))
 places-small replaying (text, trace) n r e = inl (omega (arith, replay-place text trace n r e))
@@ -79,6 +85,8 @@ answers-told previewing (text, address, instruction) (text′, address′, instr
 answers-told deciding text text′ n n′ h h′ = told memoryLimit _ _ (decide-limits text n) (decide-limits text′ n′)
 answers-told tracing text text′ n n′ h h′ = told traceMemory _ _ (trace-limits text n) (trace-limits text′ n′)
 answers-told explaining text text′ n n′ h h′ = told explanationLimit _ _ (explain-limits text n) (explain-limits text′ n′)
+answers-told explaining-merge text text′ n n′ h h′ = told explanationLimit _ _ (explain-merge-limits text n) (explain-merge-limits text′ n′)
+answers-told splitting (text, cuts) (text′, cuts′) n n′ h h′ = told memoryLimit _ _ (split-limits text cuts n) (split-limits text′ cuts′ n′)
 answers-told importing (words, primitives) (words′, primitives′) n n′ h h′ = told conversionLimit _ _ (import-limits words primitives n) (import-limits words′ primitives′ n′)
 answers-told exporting text text′ n n′ h h′ = told conversionLimit _ _ (export-limits text n) (export-limits text′ n′)
 answers-told replaying (text, trace) (text′, trace′) n n′ h h′ = told memoryLimit _ _ (replay-limits text trace n) (replay-limits text′ trace′ n′)

@@ -14,6 +14,9 @@ use Rattle.bounds.proofs.RunVerdictLaws as run-verdict-laws
 use Rattle.bounds.proofs.ForwardLaws as forward-laws
 use Rattle.merges.proofs.Theorems as merge-theorems
 use Rattle.refinements.proofs.Theorems as refinement-theorems
+use Rattle.relocations.proofs.Theorems as relocation-theorems
+use Rattle.merge_way.proofs.Theorems as way-theorems
+use Rattle.split_theory.proofs.Theorems as split-theory-theorems
 use Rattle.ranges.proofs.Theorems as range-theorems
 use Rattle.report.proofs.ReportLaws as report-laws
 use Rattle.report_theory.specs.Answers.{boundAnswer, mergeAnswer, runAnswer}
@@ -31,6 +34,8 @@ use Rattle.sensitivity.proofs.Theorems as sensitivity-theorems
 use Rattle.decide_entry.proofs.PromiseLaws as decision-laws
 use Rattle.walks.proofs.Theorems as walk-theorems
 use Rattle.explanations.proofs.Theorems as explanation-theorems
+use Rattle.explain_merge_entry.proofs.Theorems as merge-explanation-theorems
+use Rattle.split_entry.proofs.Theorems as split-theorems
 use Rattle.trace_theory.proofs.Theorems as trace-theory-theorems
 use Rattle.trace_entry.proofs.Theorems as trace-theorems
 use Rattle.theorems.proofs.EntryLaws as entry-laws
@@ -137,6 +142,24 @@ imported-where = conversion-theorems.imported-where
 
 pub imports-mean : page.ImportsMean
 imports-mean = conversion-theorems.imports-mean
+
+pub exports-taken : page.ExportsTaken
+exports-taken = conversion-theorems.exports-taken
+
+pub same-words : page.SameWords
+same-words = conversion-theorems.same-words
+
+pub imports-lower : page.ImportsLower
+imports-lower = conversion-theorems.imports-lower
+
+pub bound-raised : page.BoundRaised
+bound-raised = relocation-theorems.bound-raised
+
+pub merged-raised : page.MergedRaised
+merged-raised = relocation-theorems.merged-raised
+
+pub run-raised : page.RunRaised
+run-raised = relocation-theorems.run-raised
 
 pub order-reflexive : page.OrderReflexive
 order-reflexive s = cellwise-refl (λ a. same) s
@@ -276,6 +299,15 @@ found-moves = search-theorems.found-moves
 pub none-moves : page.NoneMoves
 none-moves = search-theorems.none-moves
 
+pub named-in-order : page.NamedInOrder
+named-in-order = sensitivity-theorems.named-in-order
+
+pub changed-named : page.ChangedNamed
+changed-named = sensitivity-theorems.changed-named
+
+pub tried-reads : page.TriedReads
+tried-reads = sensitivity-theorems.tried-reads
+
 pub refused-alike : page.RefusedAlike
 refused-alike = nearest-laws.refused-alike
 
@@ -325,6 +357,51 @@ walks-worst = walk-theorems.walks-worst
 
 pub explains-bound : page.ExplainsBound
 explains-bound = entry-laws.explains-bound
+
+pub merge-explanations-kept : page.MergeExplanationsKept
+merge-explanations-kept = merge-explanation-theorems.merge-explanations-kept
+
+pub way-costliest : page.WayCostliest
+way-costliest = way-theorems.way-costliest
+
+pub spent-largest : page.SpentLargest
+spent-largest = way-theorems.spent-largest
+
+pub origins-recorded : page.OriginsRecorded
+origins-recorded = way-theorems.origins-recorded
+
+pub explains-merging-bound : page.ExplainsMergingBound
+explains-merging-bound = merge-explanation-theorems.explains-merging-bound
+
+pub splits-kept : page.SplitsKept
+splits-kept = split-theorems.splits-kept
+
+pub split-interruptible : page.SplitInterruptible
+split-interruptible = split-theory-theorems.split-interruptible
+
+pub split-cases : page.SplitCases
+split-cases = split-theory-theorems.split-cases
+
+pub split-exact : page.SplitExact
+split-exact = split-theory-theorems.split-exact
+
+pub split-accepted : page.SplitAccepted
+split-accepted = split-theorems.split-accepted
+
+pub split-not-above : page.SplitNotAbove
+split-not-above = split-theory-theorems.split-not-above
+
+pub split-among : page.SplitAmong
+split-among = split-theory-theorems.split-among
+
+pub split-monotone : page.SplitMonotone
+split-monotone = split-theory-theorems.split-monotone
+
+pub splits-refused : page.SplitsRefused
+splits-refused = split-theorems.splits-refused
+
+pub split-refused : page.SplitRefused
+split-refused = split-theory-theorems.split-refused
 
 pub traces-kept : page.TracesKept
 traces-kept = trace-theorems.traces-kept

@@ -23,6 +23,7 @@ use Rattle.bounds.specs.Tree.{bound}
 use Rattle.bounds.specs.Promises as bounds
 use Rattle.merges.specs.Promises as merges
 use Rattle.refinements.specs.Promises as refinements
+use Rattle.relocations.specs.Promises as relocations
 use Rattle.ranges.specs.Ranges as ranges
 use Rattle.ranges.specs.Former as former
 use Rattle.report.specs.Report.{share, Nearest}
@@ -53,6 +54,12 @@ use Rattle.decide_entry.specs.Promises as decisions
 use Rattle.walks.specs.Promises as walks
 use Rattle.explanations.specs.Answers.{explanationLimit, explainAnswer}
 use Rattle.explanations.specs.Promises as explanations
+use Rattle.merge_way.specs.Promises as ways
+use Rattle.explain_merge_entry.specs.Answers.{explainMergeAnswer}
+use Rattle.explain_merge_entry.specs.Promises as merge-explanations
+use Rattle.split_theory.specs.Promises as split-theory
+use Rattle.split_entry.specs.Answers.{splitAnswer}
+use Rattle.split_entry.specs.Promises as splits
 use Rattle.trace_theory.specs.Promises as trace-theory
 use Rattle.trace_entry.specs.Answers.{traceMemory, traceAnswer}
 use Rattle.trace_entry.specs.Promises as traces
@@ -61,9 +68,9 @@ use Rattle.c_interface.specs.Functions.{AnswerTold}
 -- ---- the public functions
 
 pub data Function : Type 0 where
-  bounding merging running previewing deciding tracing explaining importing exporting replaying seeking generating : Function
+  bounding merging running previewing deciding tracing explaining explaining-merge splitting importing exporting replaying seeking generating : Function
 
--- what each is given: a text; a text, an address and an instruction; words and the line of primitives; a text and a trace; a seed
+-- what each is given: a text; a text, an address and an instruction; a text and its cuts; words and the line of primitives; a text and a trace; a seed
 abbrev pub Given : Function → Type 0
 Given bounding = List ℕ
 Given merging = List ℕ
@@ -72,6 +79,8 @@ Given previewing = List ℕ × ℕ × List ℕ
 Given deciding = List ℕ
 Given tracing = List ℕ
 Given explaining = List ℕ
+Given explaining-merge = List ℕ
+Given splitting = List ℕ × List ℕ
 Given importing = List ℕ × List ℕ
 Given exporting = List ℕ
 Given replaying = List ℕ × List ℕ
@@ -87,6 +96,8 @@ answer previewing (text, address, instruction) n = previewAnswer text address in
 answer deciding text n = decideAnswer text n
 answer tracing text n = traceAnswer text n
 answer explaining text n = explainAnswer text n
+answer explaining-merge text n = explainMergeAnswer text n
+answer splitting (text, cuts) n = splitAnswer text cuts n
 answer importing (words, primitives) n = importAnswer words primitives n
 answer exporting text n = exportAnswer text n
 answer replaying (text, trace) n = replayAnswer text trace n
@@ -102,6 +113,8 @@ enough previewing = memoryLimit
 enough deciding = memoryLimit
 enough tracing = traceMemory
 enough explaining = explanationLimit
+enough explaining-merge = explanationLimit
+enough splitting = memoryLimit
 enough importing = conversionLimit
 enough exporting = conversionLimit
 enough replaying = memoryLimit
@@ -117,6 +130,8 @@ addressed running text = 0
 addressed deciding text = 0
 addressed tracing text = 0
 addressed explaining text = 0
+addressed explaining-merge text = 0
+addressed splitting (text, cuts) = 0
 addressed importing (words, primitives) = 0
 addressed exporting text = 0
 addressed replaying (text, trace) = 0
@@ -246,6 +261,26 @@ ImportedWhere = conversions.ImportedWhere
 
 abbrev pub ImportsMean : Type 0
 ImportsMean = conversions.ImportsMean
+
+-- wherever a file begins, its words are taken, and the file made of them has the same words; where it passes, the same reports, with the places
+-- of 7, 8, 9 and 14 lower by the first address. Below: code at higher addresses
+abbrev pub ExportsTaken : Type 0
+ExportsTaken = conversions.ExportsTaken
+
+abbrev pub SameWords : Type 0
+SameWords = conversions.SameWords
+
+abbrev pub ImportsLower : Type 0
+ImportsLower = conversions.ImportsLower
+
+abbrev pub BoundRaised : Type 0
+BoundRaised = relocations.BoundRaised
+
+abbrev pub MergedRaised : Type 0
+MergedRaised = relocations.MergedRaised
+
+abbrev pub RunRaised : Type 0
+RunRaised = relocations.RunRaised
 
 -- §3: results agree where cells agree, of the operations and of the step; a state that knows all never opens two ways
 abbrev pub OrderReflexive : Type 0
@@ -398,6 +433,17 @@ FoundMoves = searches.FoundMoves
 abbrev pub NoneMoves : Type 0
 NoneMoves = searches.NoneMoves
 
+-- "The cell's name and its new value are printed.": the names are the file's own, in its order, and the text with that value reads as the routine
+-- that was tried
+abbrev pub NamedInOrder : Type 0
+NamedInOrder = sensitivity.NamedInOrder
+
+abbrev pub ChangedNamed : Type 0
+ChangedNamed = sensitivity.ChangedNamed
+
+abbrev pub TriedReads : Type 0
+TriedReads = sensitivity.TriedReads
+
 -- "A file that is refused to begin with is refused the same way here.": the search refuses what the first bound refuses
 abbrev pub RefusedAlike : Type 0
 RefusedAlike = (text : List ℕ) (n : ℕ) (r : Refusal) → (nearestAnswer text n ≡ refused r → boundAnswer text n ≡ refused r) × (boundAnswer text n ≡ refused r → nearestAnswer text n ≡ refused r)
@@ -456,6 +502,57 @@ ExplainsBound =
     (text : List ℕ) (n : ℕ) → explanationLimit ≤ n →
     ((r : Refusal) → (explainAnswer text n ≡ refused r) ↔ (boundAnswer text n ≡ refused r))
     × ((bs : List ℕ) → explainAnswer text n ≡ reported bs → (report : List ℕ) × (rest : List ℕ) × (boundAnswer text n ≡ reported report) × (bs ≡ report ++ rest))
+
+-- the lines of an explanation of the merging bound are a costliest way through its merged states. Below: that way, of code
+abbrev pub MergeExplanationsKept : Type 0
+MergeExplanationsKept = merge-explanations.MergeExplanationsKept
+
+abbrev pub WayCostliest : Type 0
+WayCostliest = ways.WayCostliest
+
+abbrev pub SpentLargest : Type 0
+SpentLargest = ways.SpentLargest
+
+abbrev pub OriginsRecorded : Type 0
+OriginsRecorded = ways.OriginsRecorded
+
+-- where enough is lent, it is refused as the merging bound is, and begins with its report
+abbrev pub ExplainsMergingBound : Type 0
+ExplainsMergingBound = merge-explanations.ExplainsMergingBound
+
+-- the bound by cases: demand 3 with the afresh bound being this one under the same cuts; each figure is the largest over the cases, and every
+-- plain start is in one of them; never above the merging bound; more cuts never give more, and knowing more never costs more
+abbrev pub SplitsKept : Type 0
+SplitsKept = splits.SplitsKept
+
+abbrev pub SplitInterruptible : Type 0
+SplitInterruptible = split-theory.SplitInterruptible
+
+abbrev pub SplitCases : Type 0
+SplitCases = split-theory.SplitCases
+
+abbrev pub SplitExact : Type 0
+SplitExact = split-theory.SplitExact
+
+-- accepted wherever the merging bound is
+abbrev pub SplitAccepted : Type 0
+SplitAccepted = splits.SplitAccepted
+
+abbrev pub SplitNotAbove : Type 0
+SplitNotAbove = split-theory.SplitNotAbove
+
+abbrev pub SplitAmong : Type 0
+SplitAmong = split-theory.SplitAmong
+
+abbrev pub SplitMonotone : Type 0
+SplitMonotone = split-theory.SplitMonotone
+
+-- refused where the memory, the file, the cuts or a case is, and as that is
+abbrev pub SplitsRefused : Type 0
+SplitsRefused = splits.SplitsRefused
+
+abbrev pub SplitRefused : Type 0
+SplitRefused = split-theory.SplitRefused
 
 -- the trace of a run, replayed with its file, says AGREES, and adds up to the run's figures
 abbrev pub TracesKept : Type 0

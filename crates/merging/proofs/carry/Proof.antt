@@ -1,6 +1,6 @@
 -- `merging::carry` meets its contract. Assumes nothing.
 use Prim.Native.Nat.{ℕ, _+_, _-_, _<_, _≤_}
-use mathlib.Core.Path.{_≡_, sym, ap, subst, _∙_}
+use mathlib.Core.Path.{_≡_, refl, sym, ap, subst, _∙_}
 use mathlib.Core.List.{List}
 use native.Mathlib.Omega.{arith}
 use lib.ListN.{length}
@@ -19,21 +19,29 @@ use Rattle.steps.specs.declared.Next as leads-to
 use Rattle.steps.specs.declared.Next.the-variants as leads
 use Rattle.steps.specs.Step.{ofPrice, Small}
 use Rattle.merges.specs.Merge.{arrive, reach, finish}
+use Rattle.merge_way.specs.Way.{Origins, marked}
+use Rattle.merge_origins.specs.Kept.{Keeps}
 use Rattle.arrivals.specs.declared.Way.{Way}
 use Rattle.arrivals.specs.Rows.{Rows, Formed, Numeric, arrivalOf, rowsOf}
-use Rattle.merging.specs.Pass.{most, Figures, stopped, moved, spentOf}
-use Rattle.merging.proofs.CarryLaws.{Under, Paid, reached-as, ended-as, reached-figures, ended-figures, refused-figures, refused-verdict, paid-as, paid-formed, paid-numeric, goes-numeric, opens-numeric, jump-numeric, paid-cycles, paid-words, raised, stays-ready, stays-agree, goes-ready, goes-agree, sent-sums, sent-agree, leads-stuck, leads-stops, leads-goes, leads-opens, same-fields, way-height, jumped-as, carried-stuck, carried-stops, carried-goes, carried-opens}
+use Rattle.merging.specs.Pass.{most, Figures, stopped, spentOf}
+use Rattle.merging.proofs.CarryLaws.{Under, Paid, reached-as, ended-as, reached-figures, ended-figures, refused-figures, refused-verdict, paid-as, paid-formed, paid-numeric, goes-numeric, opens-numeric, jump-numeric, paid-cycles, paid-words, raised, stays-ready, stays-agree, goes-ready, goes-agree, sent-sums, sent-agree, leads-stuck, leads-stops, leads-goes, leads-opens, same-fields, way-height, jumped-as, carried-stuck, carried-stops, carried-goes, carried-opens, stops-sent, goes-sent, opens-sent, moved-onto, carried-kept}
 use borrow.Author.Needs.{needs}
 use Rattle.merging.proofs.carry.Statement.{statement}
 use Rattle.merging.proofs.carry.Tie as tie
 
--- the step is made, and the address reached
+abbrev begun : tie.After-step → tie.Start
+begun c = c .before .before .before .before .before .before
+
+-- the step is made, its ways are marked, and the address is reached
 module _ (c : tie.After-reached) where
+  abbrev departed : tie.After-depart
+  departed = c .before .before .before .before
+
   abbrev stepped : tie.After-step
-  stepped = c .before .before .before .before
+  stepped = departed .before .before .before .before .before
 
   abbrev start : tie.Start
-  start = stepped .before .before .before .before .before
+  start = begun stepped
 
   abbrev w : Way
   w = start .args .w
@@ -64,7 +72,7 @@ module _ (c : tie.After-reached) where
   rows = start .pre .1 .0 .0
 
   few : j < n
-  few = start .pre .1 .0 .1
+  few = start .pre .1 .0 .2
 
   formed : Formed w
   formed = start .pre .1 .1 .0 .0 .0
@@ -105,6 +113,12 @@ module _ (c : tie.After-reached) where
 
   high : 64 - w .state .free ≡ height s
   high = way-height ns w (formed .state)
+
+  -- what is kept
+  keeps : (o : Origins) → Keeps first (start .args .kept .now) o → Keeps first (departed .depart .last .0) (marked (spentOf w) s (to unknown) o)
+  keeps =
+      carried-kept first j (start .args .kept .now) (departed .depart .last .0) ns w (stepped .step .result .state .at) (64 - w .state .free) (stepped .step .result .next) (stepped .step .result .blocks) (stepped .step .result .state) to _
+      (departed .depart .ensures) at high refl told (stepped .step .ensures .0)
 
   -- a way after the step
   module _ (v : Way) (p : code.Price) (paid : Paid w (stepped .step .result .state) (stepped .step .result .blocks) p v) where
@@ -152,6 +166,17 @@ module _ (c : tie.After-next3) where
   both-numeric : Cellwise Kept after after × Cellwise Kept (jump place after) (jump place after)
   both-numeric = opens-numeric (programOf (start to-two .args .code .now)) (s to-two) _ _ _ _ (numeric to-two) opens-to
 
+depart-requires : tie.Need-depart-requires
+depart-requires c κs =
+    let p = c .before .before .before .before in
+    let b = begun p in
+    (b .pre .1 .0 .1, omega (arith, b .pre .1 .0 .2, b .pre .0 .lines), omega (arith, b .pre .1 .1 .0 .2, b .pre .1 .0 .2, b .pre .0 .lines), p .step .ensures .1 .1 .0 .1, b .pre .0)
+
+reached-requires : tie.Need-reached-requires
+reached-requires c κs =
+    let b = begun (c .before .before .before .before .before .before .before .before) in
+    (omega (arith, b .pre .1 .1 .0 .4 .used, b .pre .1 .0 .2, b .pre .0 .lines), omega arith)
+
 paid-requires : tie.Need-paid-requires
 paid-requires c κs = let r = c .before .before .before in (cycles-few r, words-few r, small r _ (c .before .next .given .1))
 
@@ -164,6 +189,9 @@ onward-requires c κs =
     let g = v .before .before in
     let r = to-one g in
     (rows r, few r, (left-formed r (v .paid2 .result) (price g) (v .paid2 .ensures), left-numeric r (v .paid2 .result) (price g) (v .paid2 .ensures) (goes-to g)), start r .pre .0)
+
+jump-requires : tie.Need-jump-requires
+jump-requires c κs = stepped (to-two (c .before)) .step .ensures .1 .1 .0 .0
 
 paid-requires-3 : tie.Need-paid-requires-3
 paid-requires-3 c κs = let g = c .before .before in let r = to-two g in (cycles-few r, words-few r, small r _ (g .next3 .given .1) .1)
@@ -201,7 +229,10 @@ returns c =
     let r = c .before .before .before in
     let lead = leads-stuck (stepped r .step .result .next) _ (to r) _ (c .before .enum-told .given .1) (told r) (stepped r .step .ensures .0) in (
       stays-ready (ns r) (first r) (n r) (j r) (rs r) (sums r) (rows r) (c .refused .result) (w r) (refused-figures (j r + 1) _ _ (c .refused .ensures)),
-      λ tab q e agree. stopped (Stuck (w r .state .at)) (refused-verdict _ _ (c .refused .ensures)) (λ rest. carried-stuck rest (first r + j r) tab q (s r) (spentOf (w r)) _ lead ∙ ap (λ i. refused (Stuck i)) (sym (at r))),
+      (
+        λ tab q e agree. stopped (Stuck (w r .state .at)) (refused-verdict _ _ (c .refused .ensures)) (λ rest. carried-stuck rest (first r + j r) tab q (s r) (spentOf (w r)) _ lead ∙ ap (λ i. refused (Stuck i)) (sym (at r))),
+        keeps r,
+      ),
     )
 
 returns-2 : tie.Need-returns-2
@@ -215,11 +246,14 @@ returns-2 c =
     let k = paid-cycles (j r) (w r) (v .result) _ _ p (v .ensures) (cycles r) fits in
     let l = paid-words (j r) (w r) (v .result) _ _ p (v .ensures) (words r) fits in (
       stays-ready (ns r) (first r) (n r) (j r) (rs r) (sums r) (rows r) (c .ended .result) (w r) (ended-figures (j r + 1) (g .result) (c .ended .result) _ _ (c .ended .ensures) k l (figures r)),
-      λ tab q e agree.
-          moved tab (finish (spentOf (w r)) (stops (ofPrice p)) (reach (s r) q))
-          (ended-as (g .result) (c .ended .result) (reach (s r) q) (spentOf (w r)) (ofPrice p) _ _ (c .ended .ensures) (v .ensures .2) (v .ensures .3) (reached-as (start r .args .f) (g .result) q (s r) _ (g .ensures) (high r) e))
-          (λ rest. carried-stops rest (first r + j r) tab q (s r) (spentOf (w r)) (ofPrice p) _ (stops-to known))
-          (stays-agree (ns r) (first r) (n r) (j r) (rs r) (sums r) tab (w r) agree),
+      (
+        λ tab q e agree.
+            moved-onto (stops-sent (spentOf (w r)) (ofPrice p) _ tab (stops-to known)) (finish (spentOf (w r)) (stops (ofPrice p)) (reach (s r) q))
+            (ended-as (g .result) (c .ended .result) (reach (s r) q) (spentOf (w r)) (ofPrice p) _ _ (c .ended .ensures) (v .ensures .2) (v .ensures .3) (reached-as (start r .args .f) (g .result) q (s r) _ (g .ensures) (high r) e))
+            (λ rest. carried-stops rest (first r + j r) tab q (s r) (spentOf (w r)) (ofPrice p) _ (stops-to known))
+            (stays-agree (ns r) (first r) (n r) (j r) (rs r) (sums r) tab (w r) agree),
+        keeps r,
+      ),
     )
 
 returns-3 : tie.Need-returns-3
@@ -235,11 +269,17 @@ returns-3 c =
     let k = paid-cycles (j r) (w r) (v .result) _ _ p (v .ensures) (cycles r) fits in
     let l = paid-words (j r) (w r) (v .result) _ _ p (v .ensures) (words r) fits in (
       goes-ready (ns r) (first r) (n r) (j r) (rs r) (sums r) (o .last .0) (v .result) (o .result) (o .ensures .0) (c .before .rows .given ∙ rows r) (g .result) (figures r) (o .ensures .1) k l,
-      λ tab q e agree.
-          moved (arrive (arrivalOf (ns r) (v .result)) tab) (reach (s r) q) (reached-as (start r .args .f) (g .result) q (s r) _ (g .ensures) (high r) e)
-          (λ rest. carried-goes rest (first r + j r) tab q (s r) _ (spentOf (w r)) (ofPrice p) _ _ (goes-to known) (paid-as (ns r) (w r) (v .result) _ _ p (v .ensures)))
-          (goes-agree (ns r) (first r) (n r) (j r) (rs r) (sums r) (o .last .0) (v .result) (o .result) (o .ensures .0) tab agree),
+      (
+        λ tab q e agree.
+            moved-onto (goes-sent (spentOf (w r)) (ofPrice p) _ _ _ tab (goes-to known) (paid-as (ns r) (w r) (v .result) _ _ p (v .ensures))) (reach (s r) q) (reached-as (start r .args .f) (g .result) q (s r) _ (g .ensures) (high r) e)
+            (λ rest. carried-goes rest (first r + j r) tab q (s r) _ (spentOf (w r)) (ofPrice p) _ _ (goes-to known) (paid-as (ns r) (w r) (v .result) _ _ p (v .ensures)))
+            (goes-agree (ns r) (first r) (n r) (j r) (rs r) (sums r) (o .last .0) (v .result) (o .result) (o .ensures .0) tab agree),
+        keeps r,
+      ),
     )
+
+same-length-6 : tie.Need-same-length-6
+same-length-6 c = to-two (opened (c .before .before .before .before .before .before .before .before .before)) .before .before .before .kept .given
 
 returns-4 : tie.Need-returns-4
 returns-4 c =
@@ -259,15 +299,19 @@ returns-4 c =
     let l = paid-words (j r) (w r) (v .result) _ _ (left known) (v .ensures) (words r) (fits .0) in
     let k′ = paid-cycles (j r) (w r) (y .result) _ _ (extra known) (y .ensures) (cycles r) (fits .1) in
     let l′ = paid-words (j r) (w r) (y .result) _ _ (extra known) (y .ensures) (words r) (fits .1) in
+    let left-as = paid-as (ns r) (w r) (v .result) _ _ (left known) (v .ensures) in
+    let taken-as = jumped-as (ns r) (w r) (y .result) _ _ _ (extra known) (place known) (at-taken .before .jump .ensures .0) (y .ensures) in
     let sums′ = sent-sums (ns r) (first r) (n r) (j r) (rs r) (sums r) (t .last .0) (y .result) (t .ensures) k′ l′ in (
       goes-ready (ns r) (first r) (n r) (j r) (t .last .0) sums′ (o .last .0) (v .result) (o .result) (o .ensures .0) (c .before .rows3 .given ∙ at-paid .before .before .rows2 .given ∙ rows r) (g .result) (figures r) (o .ensures .1) k l,
-      λ tab q e agree.
-          moved (arrive (arrivalOf (ns r) (v .result)) (arrive (arrivalOf (ns r) (y .result)) tab)) (reach (s r) q) (reached-as (start r .args .f) (g .result) q (s r) _ (g .ensures) (high r) e)
-          (λ rest.
-          carried-opens rest (first r + j r) tab q (s r) _ _ (spentOf (w r)) (ofPrice (left known)) (ofPrice (extra known)) _ _ _ (opens-to known) (paid-as (ns r) (w r) (v .result) _ _ (left known) (v .ensures))
-          (jumped-as (ns r) (w r) (y .result) _ _ _ (extra known) (place known) (at-taken .before .jump .ensures .0) (y .ensures)))
-          (goes-agree (ns r) (first r) (n r) (j r) (t .last .0) sums′ (o .last .0) (v .result) (o .result) (o .ensures .0) (arrive (arrivalOf (ns r) (y .result)) tab)
-          (sent-agree (ns r) (first r) (n r) (j r) (rs r) (sums r) (t .last .0) (y .result) (t .ensures) tab agree)),
+      (
+        λ tab q e agree.
+            moved-onto (opens-sent (spentOf (w r)) (ofPrice (left known)) (ofPrice (extra known)) _ _ _ _ _ tab (opens-to known) left-as taken-as) (reach (s r) q) (reached-as (start r .args .f) (g .result) q (s r) _ (g .ensures) (high r) e)
+            (λ rest.
+            carried-opens rest (first r + j r) tab q (s r) _ _ (spentOf (w r)) (ofPrice (left known)) (ofPrice (extra known)) _ _ _ (opens-to known) left-as taken-as)
+            (goes-agree (ns r) (first r) (n r) (j r) (t .last .0) sums′ (o .last .0) (v .result) (o .result) (o .ensures .0) (arrive (arrivalOf (ns r) (y .result)) tab)
+            (sent-agree (ns r) (first r) (n r) (j r) (rs r) (sums r) (t .last .0) (y .result) (t .ensures) tab agree)),
+        keeps r,
+      ),
     )
 
 pub carry-spec : {M : Type 1} → statement M
@@ -276,8 +320,10 @@ carry-spec =
     (tie.spec
     (λ c κs. search needs)
     (λ c κs. search needs)
-    (λ c. search needs)
-    (λ c κs. search needs)
+    (λ c. omega (arith, begun (c .before .before .before .before) .pre .1 .1 .0 .0 .0 .state .free))
+    depart-requires
+    (λ c. omega (arith, begun (c .before .before .before .before .before .before .before .before) .pre .1 .1 .0 .0 .0 .state .free))
+    reached-requires
     (λ c. search needs)
     (λ c κs. search needs)
     (λ c. search needs)
@@ -287,14 +333,18 @@ carry-spec =
     paid-requires-2
     onward-requires
     (λ c. search needs)
-    (λ c κs. search needs)
+    jump-requires
     paid-requires-3
     send-requires
     paid-requires-4
     onward-requires-2
+    (λ c. search needs)
     returns
+    (λ c. search needs)
     returns-2
+    (λ c. search needs)
     (λ c. search needs)
     returns-3
     (λ c. search needs)
+    same-length-6
     returns-4)

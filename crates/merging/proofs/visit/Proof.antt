@@ -7,16 +7,18 @@ use lib.ListN.{length}
 use borrow.Rule.Slice.PartMut.{putMid}
 use Rattle.refusals.specs.declared.Refusal.the-variants.{NoMeeting}
 use Rattle.cells.specs.Cells.{unknown}
-use Rattle.machine.specs.Machine.{step}
+use Rattle.machine.specs.Machine.{State, Next, step}
+use Rattle.cells.specs.Try.{Try}
 use Rattle.states.specs.Program.{firstOf, programOf, sizesOf}
 use Rattle.merges.specs.Merge.{Table, slot}
+use Rattle.merge_origins.specs.Kept.{Keeps}
 use Rattle.arrivals.specs.declared.Way.{Way}
 use Rattle.arrivals.specs.Rows.{part, rowsOf, slotAt}
 use Rattle.merging.specs.declared.Mark.{Mark}
 use Rattle.merging.specs.declared.Mark.the-variants.{Is}
-use Rattle.merging.specs.Pass.{Held, Agrees, Ready, cameAs, most, stopped, moved}
-use Rattle.merging.proofs.CarryLaws.{Under, raised, stays-ready, stays-agree, refused-figures, refused-verdict}
-use Rattle.merging.proofs.VisitLaws.{figures-more, moved-as, rows-back, back-under, back-agree, here-slot, here-spent, visit-nothing, visit-unlike, visit-way, way-spent}
+use Rattle.merging.specs.Pass.{Held, Agrees, Ready, cameAs, most, stopped}
+use Rattle.merging.proofs.CarryLaws.{Under, raised, stays-ready, stays-agree, refused-figures, refused-verdict, moved-onto}
+use Rattle.merging.proofs.VisitLaws.{figures-more, moved-as, rows-back, back-under, back-agree, here-slot, here-spent, visit-nothing, visit-unlike, visit-way, way-spent, sends-nothing, departs-nothing, departs-unlike, sends-way, departs-way}
 use borrow.Author.Needs.{needs}
 use Rattle.merging.proofs.visit.Statement.{statement}
 use Rattle.merging.proofs.visit.Tie as tie
@@ -27,7 +29,7 @@ module _ (c : tie.After-rows) where
   came = c .before
 
   abbrev start : tie.Start
-  start = came .before .before .before .before .before
+  start = came .before .before .before .before .before .before
 
   abbrev k : ℕ
   k = start .args .j
@@ -47,6 +49,9 @@ module _ (c : tie.After-rows) where
   abbrev n : ℕ
   n = rowsOf (start .args .code .now)
 
+  abbrev act : State → Try Next
+  act = step (programOf (start .args .code .now)) unknown
+
   abbrev mark : Mark
   mark = came .reach .result .mark
 
@@ -57,7 +62,7 @@ module _ (c : tie.After-rows) where
   back = putMid (197 * k) (197 * k + 197 - 197 * k) rs r
 
   few : k < 1025
-  few = omega (arith, start .pre .0 .0 .lines, start .pre .0 .1)
+  few = omega (arith, start .pre .0 .0 .lines, start .pre .0 .2)
 
   ready : Ready ns first n k rs (start .args .p)
   ready = start .pre .1
@@ -73,32 +78,35 @@ module _ (c : tie.After-rows) where
     agrees = back-agree ns first n k rs r (start .args .p) few ready l
 
     slots : (tab : Table) → Agrees ns first n k tab rs (start .args .p .here) (start .args .p .way) → slot (tab (first + k)) ≡ cameAs ns mark way
-    slots = here-slot ns first n k rs r (start .args .p) few ready l mark way (came .reach .ensures .0) (start .pre .0 .1)
+    slots = here-slot ns first n k rs r (start .args .p) few ready l mark way (came .reach .ensures .0) (start .pre .0 .2)
 
     spent : mark ≡ Is → (way .cycles ≤ most k) × (way .words ≤ most k)
-    spent told = way-spent ns mark way (most k) told (here-spent ns first n k rs r (start .args .p) few ready l mark way (came .reach .ensures .0) (start .pre .0 .1))
+    spent told = way-spent ns mark way (most k) told (here-spent ns first n k rs r (start .args .p) few ready l mark way (came .reach .ensures .0) (start .pre .0 .2))
 
   held : mark ≡ Is → Held ns Is way (first + k)
   held told = subst (λ (x : Mark). Held ns x way (first + k)) told (came .reach .ensures .1)
 
 carry-requires : tie.Need-carry-requires
 carry-requires c κs =
-    let b = c .before .before .before .before .before .before in
+    let b = c .before .before .before .before .before .before .before in
     let l : length (r b) ≡ length (part (197 * k b) (197 * k b + 197) (rs b)) = search needs in
-    let told = c .before .enum-told3 .given .1 in
+    let told = c .before .before .enum-told3 .given .1 in
     let h = held b told in
     let m = spent b l told in
-    (start b .pre .0 .0, ((rows-back (ns b) (first b) (n b) (k b) (rs b) (r b) (start b .args .p) (few b) (ready b) l, start b .pre .0 .1), ((h .1, h .0, m .0, m .1, ready b .figures), under b l)))
+    (start b .pre .0 .0, ((rows-back (ns b) (first b) (n b) (k b) (rs b) (r b) (start b .args .p) (few b) (ready b) l, start b .pre .0 .1, start b .pre .0 .2), ((h .1, h .0, m .0, m .1, ready b .figures), under b l)))
 
 returns : tie.Need-returns
 returns c =
     let b = c .before .before .before .before .before in
     let l : length (r b) ≡ length (part (197 * k b) (197 * k b + 197) (rs b)) = search needs in (
       stays-ready (ns b) (first b) (n b) (k b) (back b) (sums b l) (rows-back (ns b) (first b) (n b) (k b) (rs b) (r b) (start b .args .p) (few b) (ready b) l) (start b .args .p .found) (way b) (figures-more (k b) (start b .args .p .found) (ready b .figures)),
-      λ tab q g agree.
-          moved tab q g
-          (λ rest. visit-nothing (step (programOf (start b .args .code .now)) unknown) rest (first b + k b) tab q (ns b) (mark b) (way b) _ (slots b l tab agree) (c .enum-told .given .1))
-          (stays-agree (ns b) (first b) (n b) (k b) (back b) (sums b l) tab (way b) (agrees b l tab agree)),
+      (
+        λ tab q g agree.
+            moved-onto (sends-nothing (act b) (first b + k b) (ns b) (mark b) (way b) _ (slots b l tab agree) tab (c .enum-told .given .1)) q g
+            (λ rest. visit-nothing (act b) rest (first b + k b) tab q (ns b) (mark b) (way b) _ (slots b l tab agree) (c .enum-told .given .1))
+            (stays-agree (ns b) (first b) (n b) (k b) (back b) (sums b l) tab (way b) (agrees b l tab agree)),
+        λ tab o agree keeps. subst (Keeps (first b) (start b .args .kept .now)) (departs-nothing (act b) (first b + k b) (ns b) (mark b) (way b) _ (slots b l tab agree) o (c .enum-told .given .1)) keeps,
+      ),
     )
 
 returns-2 : tie.Need-returns-2
@@ -106,23 +114,30 @@ returns-2 c =
     let b = c .before .before .before .before .before .before in
     let l : length (r b) ≡ length (part (197 * k b) (197 * k b + 197) (rs b)) = search needs in (
       stays-ready (ns b) (first b) (n b) (k b) (back b) (sums b l) (rows-back (ns b) (first b) (n b) (k b) (rs b) (r b) (start b .args .p) (few b) (ready b) l) (c .refused .result) (way b) (refused-figures (k b + 1) _ _ (c .refused .ensures)),
-      λ tab q g agree.
-          stopped (NoMeeting (first b + k b)) (refused-verdict _ _ (c .refused .ensures))
-          (λ rest. visit-unlike (step (programOf (start b .args .code .now)) unknown) rest (first b + k b) tab q (ns b) (mark b) (way b) _ (slots b l tab agree) (c .before .enum-told2 .given .1)),
+      (
+        λ tab q g agree.
+            stopped (NoMeeting (first b + k b)) (refused-verdict _ _ (c .refused .ensures))
+            (λ rest. visit-unlike (act b) rest (first b + k b) tab q (ns b) (mark b) (way b) _ (slots b l tab agree) (c .before .enum-told2 .given .1)),
+        λ tab o agree keeps. subst (Keeps (first b) (start b .args .kept .now)) (departs-unlike (act b) (first b + k b) (ns b) (mark b) (way b) _ (slots b l tab agree) o (c .before .enum-told2 .given .1)) keeps,
+      ),
     )
 
 returns-3 : tie.Need-returns-3
 returns-3 c =
-    let m = c .before .before in
-    let t = m .before .before in
+    let m = c .before .before .before .before in
+    let t = m .before .before .before in
     let b = t .before .before .before .before .before in
     let l : length (r b) ≡ length (part (197 * k b) (197 * k b + 197) (rs b)) = search needs in
     let told = t .enum-told3 .given .1 in (
       m .carry .ensures .0,
-      λ tab q g agree.
-          moved-as
-          (λ rest. visit-way (step (programOf (start b .args .code .now)) unknown) rest (first b + k b) tab q (ns b) (mark b) (way b) _ (slots b l tab agree) told (held b told .0))
-          (m .carry .ensures .1 tab q g (agrees b l tab agree)),
+      (
+        λ tab q g agree.
+            moved-as
+            (λ rest. visit-way (act b) rest (first b + k b) tab q (ns b) (mark b) (way b) _ (slots b l tab agree) told (held b told .0))
+            (sends-way (act b) (first b + k b) (ns b) (mark b) (way b) _ (slots b l tab agree) told (held b told .0) tab)
+            (m .carry .ensures .1 .0 tab q g (agrees b l tab agree)),
+        λ tab o agree keeps. subst (Keeps (first b) _) (departs-way (act b) (first b + k b) (ns b) (mark b) (way b) _ (slots b l tab agree) told (held b told .0) o) (m .carry .ensures .1 .1 o keeps),
+      ),
     )
 
 pub visit-spec : {M : Type 1} → statement M
@@ -148,5 +163,6 @@ visit-spec =
     returns
     (λ c. search needs)
     returns-2
+    (λ c. search needs)
     (λ c. search needs)
     returns-3)

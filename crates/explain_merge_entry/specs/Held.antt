@@ -1,0 +1,37 @@
+-- What the internal functions are handed.
+use Prim.Native.Nat.{ℕ, _≤_}
+use mathlib.Core.Path.{_≡_}
+use mathlib.Core.List.{List}
+use lib.ListN.{length}
+use Rattle.text.specs.Text.{Line}
+use Rattle.machine.specs.Forward.{Forward}
+use Rattle.machine.specs.Targets.{Closed}
+use Rattle.states.specs.Program.{firstOf}
+use Rattle.findings.specs.declared.Found.{Found}
+use Rattle.merge_way.specs.Way.{Origins, origins, costliestWay}
+use Rattle.reader.specs.declared.Routine.{Routine}
+use Rattle.entry.specs.Held.{routineIn}
+use Rattle.listings.specs.Listing.{entries, listing}
+use Rattle.answers.specs.Answers.{reported}
+use Rattle.explanations.specs.Held.{reportIn}
+use Rattle.explain_merge_entry.specs.Answers.{mergeExplanationText, explainMergeRoutine}
+
+-- what is kept for each goal, of the routine that the code's arrays hold
+abbrev pub originsIn : Routine → Origins
+originsIn x = origins (routineIn x .code) (routineIn x .start)
+
+-- the lines of its costliest way
+abbrev pub wayIn : List Line → Routine → List ℕ
+wayIn ls x = listing ls (firstOf (x .code)) (entries (costliestWay (routineIn x .code) (routineIn x .start)))
+
+-- what is explained of that routine, by the figures of the pass
+abbrev pub mergeTextIn : List Line → Routine → Found → List ℕ
+mergeTextIn ls x f = mergeExplanationText ls (routineIn x) (reportIn f)
+
+-- what is explained, if anything is, can be printed into n bytes; and the code passes refusals 6 and 13
+pub record MergePrintable (ls : List Line) (x : Routine) (n : ℕ) : Type 0 where
+  pub positive : 1 ≤ x .tick
+  pub small : x .tick ≤ 4000000000
+  pub fits : (bs : List ℕ) → explainMergeRoutine ls (routineIn x) ≡ reported bs → length bs ≤ n
+  pub forward : Forward (routineIn x .code)
+  pub closed : Closed (routineIn x .code)

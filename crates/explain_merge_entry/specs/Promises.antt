@@ -1,0 +1,50 @@
+-- What an explanation of the merging bound says, as statements. `proofs/Theorems` proves each by its name.
+use Prim.Native.Nat.{ℕ, _≤_}
+use mathlib.Core.Path.{_≡_}
+use mathlib.Core.List.{List, _++_}
+use mathlib.Core.Logic.{_↔_}
+use lib.ListN.{length}
+use Rattle.refusals.specs.declared.Refusal.{Refusal}
+use Rattle.text.specs.Text.{lines}
+use Rattle.bounds.specs.Tree.{Report, accepted}
+use Rattle.bounds.specs.Traces.{Move, wordSum}
+use Rattle.merges.specs.Merge.{merged}
+use Rattle.merge_way.specs.Promises.{Costliest}
+use Rattle.routine.specs.Layout.{body}
+use Rattle.routine.specs.Routine.{Routine, routine, readBound}
+use Rattle.report.specs.Report.{boundText}
+use Rattle.listings.specs.Listing.{entries, listing}
+use Rattle.answers.specs.Answers.{reported, refused}
+use Rattle.report_theory.specs.Answers.{mergeAnswer}
+use Rattle.explanations.specs.Answers.{explanationLimit, entryNames}
+use Rattle.explanations.specs.Promises.{lastCycles, lastWords}
+use Rattle.explain_merge_entry.specs.Answers.{explainMergeAnswer}
+
+-- the bytes that explain the merging bound of a text: of the routine x, which it accepts with the report q
+pub record ExplainsMerge (text bs : List ℕ) (x : Routine) (q : Report) (moves : List Move) : Type 0 where
+  pub reads : readBound text ≡ routine x
+  pub accepts : merged (x .code) (x .start) ≡ accepted q
+  -- the moves are a costliest way through the merged states: its cost is CYCLES, before each move the sum so far is the largest of all
+  -- ways to its address, and the addresses rise
+  pub way : Costliest (x .code) (x .start) q moves
+  -- and the bytes list them after the report, one line for each
+  pub prints : bs ≡ boundText (x .tick) q ++ entryNames ++ listing (body (lines text)) (x .code .first) (entries moves)
+  -- the last line's CYCLES is the report's
+  pub last : lastCycles (entries moves) ≡ q .cycles
+  -- the last line's WORDS is the sum of the words of all moves
+  pub words : lastWords (entries moves) ≡ wordSum moves
+
+-- so of every explanation of the merging bound
+abbrev pub MergeExplanationsKept : Type 0
+MergeExplanationsKept = (text : List ℕ) (n : ℕ) (bs : List ℕ) → explainMergeAnswer text n ≡ reported bs → (x : Routine) × (q : Report) × (moves : List Move) × ExplainsMerge text bs x q moves
+
+-- whatever the text, what is explained fits, and the memory was lent
+abbrev pub MergeExplanationsFit : Type 0
+MergeExplanationsFit = (text : List ℕ) (n : ℕ) (bs : List ℕ) → explainMergeAnswer text n ≡ reported bs → (1 ≤ length bs) × (length bs ≤ explanationLimit) × (explanationLimit ≤ n)
+
+-- where enough is lent, an explanation of the merging bound is refused as that bound is, and begins with its report
+abbrev pub ExplainsMergingBound : Type 0
+ExplainsMergingBound =
+    (text : List ℕ) (n : ℕ) → explanationLimit ≤ n →
+    ((r : Refusal) → (explainMergeAnswer text n ≡ refused r) ↔ (mergeAnswer text n ≡ refused r))
+    × ((bs : List ℕ) → explainMergeAnswer text n ≡ reported bs → (report : List ℕ) × (rest : List ℕ) × (mergeAnswer text n ≡ reported report) × (bs ≡ report ++ rest))

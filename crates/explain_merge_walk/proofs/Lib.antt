@@ -1,0 +1,3 @@
+pub mod BackLaws
+pub mod LineLaws
+pub mod Theorems

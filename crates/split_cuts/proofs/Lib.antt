@@ -1,0 +1,3 @@
+pub mod CutsLaws
+pub mod PlaceLaws
+pub mod ReadLaws

@@ -1,0 +1,4 @@
+pub mod SizeLaws
+pub mod FunctionLaws
+pub mod Theorems
+pub mod KeepLaws

@@ -1,0 +1,32 @@
+-- `split_entry::bounded` meets its contract. Assumes nothing.
+use mathlib.Core.Path.{_≡_, ap, subst}
+use native.Mathlib.Omega.{arith}
+use lib.ListN.{length}
+use Rattle.states.specs.Program.{programOf, sizesOf}
+use Rattle.states.specs.View.{whole}
+use Rattle.states.proofs.Stack.{length-images}
+use Rattle.findings.specs.Found.{Shows}
+use Rattle.split_theory.specs.Split.{split}
+use borrow.Author.Needs.{needs}
+use Rattle.split_entry.proofs.bounded.Statement.{statement}
+use Rattle.split_entry.proofs.bounded.Tie as tie
+
+places : (s : tie.Start) → length (s .args .routine .fields) ≡ 128
+places s = search (needs, length-images)
+
+split-requires : tie.Need-split-requires
+split-requires c κs =
+    let s = c .before .before .before .before .before .before in
+    let l = s .pre .0 in
+    let at = l .placed in
+    (record { program = l .program; formed = l .formed; room = places s; numeric = l .numeric; placed = (omega arith, omega arith) }, c .before .cuts-of .ensures .1, omega arith)
+
+returns : tie.Need-returns
+returns c =
+    let r = c .before .before .before .before .before .before .before .args .routine in (
+      subst (Shows (c .split .result)) (ap (λ xs. split (programOf (r .code)) xs (whole (sizesOf (r .code)) (r .fields) (r .start))) (c .before .before .cuts-of .ensures .0)) (c .split .ensures .0),
+      record { cycles = omega (arith, c .split .ensures .1 .cycles) },
+    )
+
+pub bounded-spec : {M : Type 1} → statement M
+bounded-spec = tie.close (tie.spec (λ c κs. search needs) split-requires returns)

@@ -1,0 +1,41 @@
+-- The answer of the bound by cases to a routine file, to the text of its cuts and to a length of lent memory.
+-- (docs/DECISIONS.md, The bound by cases)
+use Prim.Native.Nat.{ℕ}
+use mathlib.Core.List.{List, _++_}
+use Rattle.refusals.specs.declared.Verdict.{Verdict}
+use Rattle.refusals.specs.declared.Verdict.the-variants.{Accepted, Refused}
+use Rattle.text.specs.Text.{Line, lines}
+use Rattle.routine.specs.declared.Section.the-variants.{Cells as cells, Fields as fields}
+use Rattle.routine.specs.declared.Role.the-variants.{Names as names}
+use Rattle.routine.specs.Layout.{listed}
+use Rattle.routine.specs.Routine.{Routine, readBound}
+use Rattle.report.specs.Report.{boundText}
+use Rattle.answers.specs.Answers.{Answer, refused, memoryLimit, lending, ofReading}
+use Rattle.report_theory.specs.Answers.{ofVerdict}
+use Rattle.split_theory.specs.Split.{split}
+use Rattle.split_cuts.specs.Cuts.{cutsVerdict, cutsOf}
+
+-- the names of the cells of a routine file: those on its lines 10 and 12
+unfoldable pub cellsNamed : List Line → List (List ℕ)
+cellsNamed ls = listed (names cells) ls ++ listed (names fields) ls
+
+-- whether the cuts pass, beside those names
+unfoldable pub cutsChecked : List ℕ → List ℕ → Verdict
+cutsChecked text cuts = cutsVerdict (cellsNamed (lines text)) cuts
+
+-- the refusal of a check, or the answer after it
+unfoldable pub checked : Verdict → Answer → Answer
+checked Accepted a = a
+checked (Refused r) a = refused r
+
+-- the answer for a routine under the cuts of a text: the report of the bound by cases, PATH `-`, or the first case's 14 or 7
+unfoldable pub casesRoutine : List ℕ → Routine → Answer
+casesRoutine cuts x = ofVerdict (boundText (x .tick)) (split (x .code) (cutsOf cuts) (x .start))
+
+-- the refusals of the cuts come before it
+unfoldable pub splitRoutine : List ℕ → List ℕ → Routine → Answer
+splitRoutine text cuts x = checked (cutsChecked text cuts) (casesRoutine cuts x)
+
+-- and those of the routine file, 10 first, before them
+unfoldable pub splitAnswer : List ℕ → List ℕ → ℕ → Answer
+splitAnswer text cuts n = lending memoryLimit n (ofReading (splitRoutine text cuts) (readBound text))

@@ -1,0 +1,13 @@
+-- What the internal functions are handed.
+use mathlib.Core.Path.{_≡_}
+use mathlib.Core.List.{List}
+use Prim.Native.Nat.{ℕ}
+use Rattle.text.specs.Text.{lines}
+use Rattle.routine.specs.Rows.{Passes}
+use Rattle.routine.specs.Routine.{routineOf, readBound}
+use Rattle.routine.specs.Routine as readings
+
+-- a text that passes, and its routine
+pub record Read (text : List ℕ) : Type 0 where
+  pub passes : Passes (lines text)
+  pub reads : readBound text ≡ readings.routine (routineOf (lines text))

@@ -1,0 +1,104 @@
+-- What is promised of the bytes of the bound by cases, in terms of both texts. `proofs/Theorems` proves each by its name.
+use Prim.Native.Nat.{ℕ, _≤_, _<_}
+use mathlib.Core.Path.{_≡_}
+use mathlib.Core.List.{List}
+use lib.IntN.{ℤ}
+use lib.ListN.{length}
+use Rattle.refusals.specs.declared.Refusal.{Refusal}
+use Rattle.refusals.specs.declared.Refusal.the-variants.{ReportMemory}
+use Rattle.refusals.specs.declared.Verdict.the-variants.{Accepted, Refused}
+use Rattle.refusals.specs.Refusals.{place}
+use Rattle.cells.specs.Order.{Allowed}
+use Rattle.machine.specs.Machine.{State}
+use Rattle.machine.specs.Order.{Cellwise}
+use Rattle.bounds.specs.Tree.{Report, accepted}
+use Rattle.bounds.specs.Tree as verdicts
+use Rattle.bounds.specs.Run.{begin, after}
+use Rattle.bounds.specs.Promises.{Safe, NoGreater}
+use Rattle.merges.specs.Merge.{merged}
+use Rattle.routine.specs.Routine.{Routine, readBound}
+use Rattle.routine.specs.Routine as readings
+use Rattle.report.specs.Report.{boundText}
+use Rattle.answers.specs.Answers.{reported, refused, memoryLimit}
+use Rattle.report_theory.specs.Answers.{mergeAnswer}
+use Rattle.report_theory.specs.Promises.{MergeReported, NearestShare}
+use Rattle.report_theory.specs.Refined.{Narrows}
+use Rattle.split_theory.specs.Split.{Cut, split, Case}
+use Rattle.split_theory.specs.Promises.{Among, SplitFigures}
+use Rattle.split_cuts.specs.Cuts.{cutsOf}
+use Rattle.split_entry.specs.Answers.{cutsChecked, splitAnswer}
+
+-- the bytes are the report, with the figures q, of the routine x that the text holds, under the cuts of the second text
+pub record SplitReported (text cuts bytes : List ℕ) (x : Routine) (q : Report) : Type 0 where
+  pub reads : readBound text ≡ readings.routine x
+  pub passes : cutsChecked text cuts ≡ Accepted
+  pub accepts : split (x .code) (cutsOf cuts) (x .start) ≡ accepted q
+  pub prints : bytes ≡ boundText (x .tick) q
+
+-- demand 3, with the afresh bound being this one under the same cuts
+abbrev pub SafeSplit : List ℕ → List ℕ → List ℕ → Type 0
+SafeSplit text cuts bytes =
+    (x : Routine) × (q : Report) × SplitReported text cuts bytes x q
+    × ((s : State) → Cellwise Allowed s (x .start) → (answers : List ℤ) (n : ℕ) →
+    Safe (x .code) (split (x .code) (cutsOf cuts)) q (begin s answers) n (after (x .code) n (begin s answers)))
+
+-- every plain start that the file allows is in one case, and in no other; each figure is the largest over the cases, and attained
+abbrev pub ExactSplit : List ℕ → List ℕ → List ℕ → Type 0
+ExactSplit text cuts bytes =
+    (x : Routine) × (q : Report) × SplitReported text cuts bytes x q
+    × SplitFigures (x .code) (cutsOf cuts) (x .start) q
+    × ((t : State) → Cellwise Allowed t (x .start) →
+    (u : State) × Case (cutsOf cuts) (x .start) u × Cellwise Allowed t u × ((w : State) → Case (cutsOf cuts) (x .start) w → Cellwise Allowed t w → w ≡ u))
+    × NearestShare x q
+
+-- never above the merging bound of the same text in any figure
+abbrev pub BelowMerge : List ℕ → List ℕ → List ℕ → Type 0
+BelowMerge text cuts bytes =
+    (x : Routine) × (q : Report) × SplitReported text cuts bytes x q
+    × ((n : ℕ) (other : List ℕ) → mergeAnswer text n ≡ reported other → (r : Report) × MergeReported text other x r × NoGreater q r)
+
+-- more cuts never give more, in any order: with these among them, another text of cuts that passes has a report, and no figure is greater
+abbrev pub MoreCuts : List ℕ → List ℕ → List ℕ → Type 0
+MoreCuts text cuts bytes =
+    (x : Routine) × (q : Report) × SplitReported text cuts bytes x q
+    × ((more : List ℕ) → cutsChecked text more ≡ Accepted → ((c : Cut) → Among c (cutsOf cuts) → Among c (cutsOf more)) → (n : ℕ) → memoryLimit ≤ n →
+    (other : List ℕ) × (r : Report) × (splitAnswer text more n ≡ reported other) × SplitReported text more other x r × NoGreater r q)
+
+-- knowing more never costs more under the same cuts: a text that narrows this one, and that the cuts fit, has a report, and no figure is greater
+abbrev pub MonotoneSplit : List ℕ → List ℕ → List ℕ → Type 0
+MonotoneSplit text cuts bytes =
+    (x : Routine) × (q : Report) × SplitReported text cuts bytes x q
+    × ((narrower : List ℕ) (y : Routine) → readBound narrower ≡ readings.routine y → Narrows y x → cutsChecked narrower cuts ≡ Accepted → (n : ℕ) → memoryLimit ≤ n →
+    (other : List ℕ) × (r : Report) × (splitAnswer narrower cuts n ≡ reported other) × SplitReported narrower cuts other y r × NoGreater r q)
+
+-- why a call is refused: the memory, the routine file, the cuts, or a case, which the merging bound refuses so
+pub data SplitRefusal (text cuts : List ℕ) (n : ℕ) (r : Refusal) : Type 0 where
+  by-memory : n < memoryLimit → r ≡ ReportMemory → SplitRefusal text cuts n r
+  by-file : memoryLimit ≤ n → readBound text ≡ readings.refused r → SplitRefusal text cuts n r
+  by-cuts : memoryLimit ≤ n → (x : Routine) → readBound text ≡ readings.routine x → cutsChecked text cuts ≡ Refused r → SplitRefusal text cuts n r
+  by-case : memoryLimit ≤ n → (x : Routine) → readBound text ≡ readings.routine x → cutsChecked text cuts ≡ Accepted →
+      (u : State) → Case (cutsOf cuts) (x .start) u → merged (x .code) u ≡ verdicts.refused r → SplitRefusal text cuts n r
+
+-- ---- of all texts
+
+abbrev pub SplitsKept : Type 0
+SplitsKept =
+    (text cuts : List ℕ) (n : ℕ) (bytes : List ℕ) → splitAnswer text cuts n ≡ reported bytes →
+    SafeSplit text cuts bytes × ExactSplit text cuts bytes × BelowMerge text cuts bytes × MoreCuts text cuts bytes × MonotoneSplit text cuts bytes
+
+-- accepted wherever the merging bound is
+abbrev pub SplitAccepted : Type 0
+SplitAccepted =
+    (text cuts : List ℕ) (n : ℕ) (other : List ℕ) → mergeAnswer text n ≡ reported other → cutsChecked text cuts ≡ Accepted →
+    (bytes : List ℕ) × (splitAnswer text cuts n ≡ reported bytes)
+
+-- refused where a case is, and as it is
+abbrev pub SplitsRefused : Type 0
+SplitsRefused = (text cuts : List ℕ) (n : ℕ) (r : Refusal) → splitAnswer text cuts n ≡ refused r → SplitRefusal text cuts n r
+
+-- a report has from 1 to 128 bytes, and no place is above 62,000
+abbrev pub SplitsFit : Type 0
+SplitsFit = (text cuts : List ℕ) (n : ℕ) (bytes : List ℕ) → splitAnswer text cuts n ≡ reported bytes → (1 ≤ length bytes) × (length bytes ≤ memoryLimit) × (memoryLimit ≤ n)
+
+abbrev pub SplitPlaces : Type 0
+SplitPlaces = (text cuts : List ℕ) (n : ℕ) (r : Refusal) → splitAnswer text cuts n ≡ refused r → place r ≤ 62000

@@ -1,0 +1,91 @@
+// The bound by cases on texts and lent memory. The meaning is in specs/.
+use answers::Answer;
+use findings::Found;
+use reader::Routine;
+use refusals::Verdict;
+use routine::Role;
+use routine::Section;
+use routine::layout;
+use rows::Reader;
+ghost use mathlib.Core.Path.{_≡_};
+ghost use Prim.Native.Nat.{_≤_};
+ghost use lib.ListN.{length};
+ghost use Rattle.text.specs.Text.{lines};
+ghost use Rattle.findings.specs.Found.{Shows};
+ghost use Rattle.routine.specs.Routine.{routineOf};
+ghost use Rattle.reader.specs.Reader.{Limited};
+ghost use Rattle.answers.specs.Answers.{memory, answerOf, reportLength, Delivers};
+ghost use Rattle.entry.specs.Held.{routineIn};
+ghost use Rattle.report.specs.Held.{Shareable, Printable};
+ghost use Rattle.split_theory.specs.Split.{split};
+ghost use Rattle.split_cuts.specs.Cuts.{cutsOf};
+ghost use Rattle.split_entry.specs.Answers.{cutsChecked, casesRoutine, splitRoutine, splitAnswer};
+ghost use Rattle.split_entry.specs.Promises.{SafeSplit, ExactSplit, BelowMerge, MoreCuts, MonotoneSplit};
+ghost use Rattle.split_entry.specs.Held.{Read};
+
+// The refusal of the cuts, beside the names of the cells of a routine file.
+fn check(text: &[u8], cuts: &[u8]) -> Verdict
+    ensures { λ r. ⌜ r ≡ cutsChecked (now (text .entry)) (now (cuts .entry)) ⌝ }
+{
+    let cells = layout::text_of(text, Role::Names(Section::Cells));
+    let fields = layout::text_of(text, Role::Names(Section::Fields));
+    split_cuts::check_cuts(cuts, cells, fields)
+}
+
+// The routine's bound by the cases of an accepted text of cuts.
+fn bounded(routine: Routine, cuts: &[u8]) -> Found
+    requires { ⌜ Limited routine × (length (lines (now cuts)) ≤ 17) ⌝ }
+    ensures { λ r. ⌜ Shows r (split (routineIn routine .code) (cutsOf (now (cuts .entry))) (routineIn routine .start)) ⌝ }
+    ensures { λ r. ⌜ Shareable r ⌝ }
+{
+    let code = routine.code;
+    let fields = routine.fields;
+    let start = routine.start;
+    let held = split_cuts::cuts_of(cuts);
+    split_bound::split(&code, held, 0, start, fields)
+}
+
+// The answer to a routine and to an accepted text of cuts.
+fn split_routine(routine: Routine, cuts: &[u8], out: &mut [u8]) -> Answer
+    requires { ⌜ Limited routine × (length (lines (now cuts)) ≤ 17) ⌝ }
+    requires { ⌜ Printable (casesRoutine (now cuts) (routineIn routine)) (routine .tick) (length (now out)) ⌝ }
+    ensures { λ r. ⌜ r ≡ answerOf (casesRoutine (now (cuts .entry)) (routineIn routine)) ⌝ }
+    ensures { λ _. ⌜ now (out .exit) ≡ memory (casesRoutine (now (cuts .entry)) (routineIn routine)) (now (out .entry)) ⌝ }
+{
+    let tick = routine.tick;
+    let found = bounded(routine, cuts);
+    report::put_found(found, tick, out)
+}
+
+// The answer to a routine file that passes and to the text of its cuts.
+fn split_passing(text: &[u8], cuts: &[u8], out: &mut [u8]) -> Answer
+    requires { ⌜ Read (now text) × (128 ≤ length (now out)) ⌝ }
+    ensures { λ r. ⌜ r ≡ answerOf (splitRoutine (now (text .entry)) (now (cuts .entry)) (routineOf (lines (now (text .entry))))) ⌝ }
+    ensures { λ _. ⌜ now (out .exit) ≡ memory (splitRoutine (now (text .entry)) (now (cuts .entry)) (routineOf (lines (now (text .entry))))) (now (out .entry)) ⌝ }
+{
+    let verdict = check(text, cuts);
+    match verdict {
+        Verdict::Accepted => {
+            let routine = reader::routine_of(text);
+            split_routine(routine, cuts, out)
+        }
+        Verdict::Refused(refusal) => Answer::Refused(refusal),
+    }
+}
+
+// The bound by cases of a routine file: the report in the lent memory, or a refusal.
+pub fn split(text: &[u8], cuts: &[u8], out: &mut [u8]) -> Answer
+    ensures { λ r. ⌜ r ≡ answerOf (splitAnswer (now (text .entry)) (now (cuts .entry)) (length (now (out .entry)))) ⌝ }
+    ensures { λ _. ⌜ now (out .exit) ≡ memory (splitAnswer (now (text .entry)) (now (cuts .entry)) (length (now (out .entry)))) (now (out .entry)) ⌝ }
+    ensures safe { λ r. ⌜ Delivers (reportLength r) (now (out .exit)) (SafeSplit (now (text .entry)) (now (cuts .entry))) ⌝ }
+    ensures exact { λ r. ⌜ Delivers (reportLength r) (now (out .exit)) (ExactSplit (now (text .entry)) (now (cuts .entry))) ⌝ }
+    ensures below { λ r. ⌜ Delivers (reportLength r) (now (out .exit)) (BelowMerge (now (text .entry)) (now (cuts .entry))) ⌝ }
+    ensures more { λ r. ⌜ Delivers (reportLength r) (now (out .exit)) (MoreCuts (now (text .entry)) (now (cuts .entry))) ⌝ }
+    ensures monotone { λ r. ⌜ Delivers (reportLength r) (now (out .exit)) (MonotoneSplit (now (text .entry)) (now (cuts .entry))) ⌝ }
+{
+    let verdict = entry::check(Reader::Bound, 128, out.len(), text);
+    match verdict {
+        Verdict::Accepted => split_passing(text, cuts, out),
+        Verdict::Refused(refusal) => Answer::Refused(refusal),
+    }
+}

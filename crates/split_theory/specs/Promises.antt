@@ -1,0 +1,106 @@
+-- What is promised of the bound by cases, as statements. `proofs/Theorems` proves each by its name.
+use mathlib.Core.Path.{_≡_}
+use mathlib.Core.Bool.{true}
+use mathlib.Core.List.{List, _∷_, _++_}
+use Prim.Native.Nat.{ℕ, _≤_}
+use mathlib.Core.Logic.{_⊎_, _↔_}
+use lib.IntN.{ℤ}
+use Rattle.cells.specs.Order.{Refines, Allowed}
+use Rattle.cells.specs.Codes.{Kept}
+use Rattle.machine.specs.Machine.{State, Code}
+use Rattle.machine.specs.Order.{Cellwise}
+use Rattle.refusals.specs.declared.Refusal.{Refusal}
+use Rattle.bounds.specs.Tree.{Report, accepted, refused}
+use Rattle.bounds.specs.Run.{run}
+use Rattle.bounds.specs.Promises.{NoGreater, Interruptible, Monotone}
+use Rattle.merges.specs.Merge.{merged}
+use Rattle.merges.specs.Promises.{OfSinglePass}
+use Rattle.changes.specs.declared.Position.{Position}
+use Rattle.split_theory.specs.Split.{divides, below, from, Cut, split, Case}
+
+-- the two cases of a cut have, together, all starts and no others, and none is in both
+pub record Cases (p : Position) (n : ℤ) (s : State) : Type 0 where
+  pub covers : (t : State) → Cellwise Allowed t s → Cellwise Allowed t (below p n s) ⊎ Cellwise Allowed t (from p n s)
+  pub lower : Cellwise Refines (below p n s) s
+  pub upper : Cellwise Refines (from p n s) s
+  pub apart : (t : State) → Cellwise Allowed t (below p n s) → Cellwise Allowed t (from p n s) → ⊥
+
+abbrev pub SplitCovers : Type 0
+SplitCovers = (p : Position) (n : ℤ) (s : State) → divides p n s ≡ true → Cases p n s
+
+-- the numbers of both cases are of 31 bits where those of the start are
+abbrev pub SplitKept : Type 0
+SplitKept = (p : Position) (n : ℤ) (s : State) → divides p n s ≡ true → Cellwise Kept s s → Cellwise Kept (below p n s) (below p n s) × Cellwise Kept (from p n s) (from p n s)
+
+-- of a plain start every cut leaves the merging bound
+abbrev pub SplitPlain : Type 0
+SplitPlain = (c : Code) (cuts : List Cut) (s : State) → Cellwise Allowed s s → split c cuts s ≡ merged c s
+
+-- Demand 3, with the afresh bound being this one, by the same cuts
+abbrev pub SplitInterruptible : Type 0
+SplitInterruptible = OfSinglePass (λ c. (cuts : List Cut) → Interruptible c (split c cuts))
+
+-- the same of cuts that are chosen by the start, in any way
+abbrev pub ChosenInterruptible : Type 0
+ChosenInterruptible = OfSinglePass (λ c. (choose : State → List Cut) → Interruptible c (λ s. split c (choose s) s))
+
+-- where merging accepts, cases accept, and no figure is greater
+abbrev pub SplitNotAbove : Type 0
+SplitNotAbove = (c : Code) (cuts : List Cut) (s : State) (q : Report) → merged c s ≡ accepted q → (r : Report) × (split c cuts s ≡ accepted r) × NoGreater r q
+
+-- knowing more never costs more, by the same cuts
+abbrev pub SplitMonotone : Type 0
+SplitMonotone = (c : Code) (cuts : List Cut) → Monotone (split c cuts)
+
+-- further cuts never cost more
+abbrev pub SplitMore : Type 0
+SplitMore =
+    (c : Code) (cuts more : List Cut) (s : State) (q : Report) → split c cuts s ≡ accepted q →
+    (r : Report) × (split c (cuts ++ more) s ≡ accepted r) × NoGreater r q
+
+-- x is one of the cuts
+pub data Among (x : Cut) : List Cut → Type 0 where
+  first : {xs : List Cut} → Among x (x ∷ xs)
+  later : {y : Cut} {xs : List Cut} → Among x xs → Among x (y ∷ xs)
+
+-- the same of any cuts that have these among them, in any order and however often: so the figures depend on which cuts there are alone
+abbrev pub SplitAmong : Type 0
+SplitAmong =
+    (c : Code) (cuts all : List Cut) → ((x : Cut) → Among x cuts → Among x all) → (s : State) (q : Report) → split c cuts s ≡ accepted q →
+    (r : Report) × (split c all s ≡ accepted r) × NoGreater r q
+
+-- a run of a start that t allows is, under a BUDGET of at least STEPS, refused by neither 7 nor 9 and within the report's four figures
+abbrev pub RunWithinSplit : Type 0
+RunWithinSplit =
+    OfSinglePass (λ c. (cuts : List Cut) (t : State) (q : Report) → split c cuts t ≡ accepted q → (budget : ℕ) → q .steps ≤ budget →
+    (s : State) → Cellwise Allowed s t → (answers : List ℤ) → (r : Report) × (run c budget s answers ≡ accepted r) × NoGreater r q)
+
+-- every plain start is in one case, and in no other
+abbrev pub SplitCases : Type 0
+SplitCases =
+    (cuts : List Cut) (s t : State) → Cellwise Allowed t s →
+    (u : State) × Case cuts s u × Cellwise Allowed t u × ((w : State) → Case cuts s w → Cellwise Allowed t w → w ≡ u)
+
+-- a figure f of the report is that of the merging bound of some case
+abbrev pub Attained : Code → List Cut → State → (Report → ℕ) → ℕ → Type 0
+Attained c cuts s f n = (u : State) × Case cuts s u × ((r : Report) × (merged c u ≡ accepted r) × (f r ≡ n))
+
+-- what is reported: the largest figures of the cases
+pub record SplitFigures (c : Code) (cuts : List Cut) (s : State) (reported : Report) : Type 0 where
+  pub within : (u : State) → Case cuts s u → (r : Report) × (merged c u ≡ accepted r) × NoGreater r reported
+  pub cycles : Attained c cuts s (λ r. r .cycles) (reported .cycles)
+  pub words : Attained c cuts s (λ r. r .words) (reported .words)
+  pub depth : Attained c cuts s (λ r. r .depth) (reported .depth)
+  pub steps : Attained c cuts s (λ r. r .steps) (reported .steps)
+
+abbrev pub SplitExact : Type 0
+SplitExact = (c : Code) (cuts : List Cut) (s : State) (q : Report) → split c cuts s ≡ accepted q → SplitFigures c cuts s q
+
+-- refused where a case is, and as it is
+abbrev pub SplitRefused : Type 0
+SplitRefused = (c : Code) (cuts : List Cut) (s : State) (x : Refusal) → split c cuts s ≡ refused x → (u : State) × Case cuts s u × (merged c u ≡ refused x)
+
+abbrev pub SplitAcceptedWhere : Type 0
+SplitAcceptedWhere =
+    (c : Code) (cuts : List Cut) (s : State) →
+    ((q : Report) × (split c cuts s ≡ accepted q)) ↔ ((u : State) → Case cuts s u → (r : Report) × (merged c u ≡ accepted r))
