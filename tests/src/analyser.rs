@@ -17,6 +17,7 @@ extern "C" {
     fn tickbound_export(text: *const u8, text_length: usize, words: *mut u8, words_length: usize) -> u64;
     fn tickbound_trace(text: *const u8, text_length: usize, lines: *mut u8, lines_length: usize) -> u64;
     fn tickbound_explain(text: *const u8, text_length: usize, lines: *mut u8, lines_length: usize) -> u64;
+    fn tickbound_explain_merge(text: *const u8, text_length: usize, lines: *mut u8, lines_length: usize) -> u64;
     fn tickbound_generate(seed: u32, file: *mut u8, file_length: usize) -> u64;
     fn tickbound_replay(
         text: *const u8,
@@ -92,6 +93,11 @@ pub fn trace(text: &[u8], lines: &mut [u8]) -> u64 {
 pub fn explain(text: &[u8], lines: &mut [u8]) -> u64 {
     // SAFETY: as above.
     unsafe { tickbound_explain(start(text), text.len(), start_mut(lines), lines.len()) }
+}
+
+pub fn explain_merge(text: &[u8], lines: &mut [u8]) -> u64 {
+    // SAFETY: as above.
+    unsafe { tickbound_explain_merge(start(text), text.len(), start_mut(lines), lines.len()) }
 }
 
 pub fn generate(seed: u32, file: &mut [u8]) -> u64 {

@@ -20,6 +20,7 @@ mod replays;
 mod seeds;
 mod shares;
 mod traces;
+mod ways;
 mod wraps;
 
 use causes::Causes;
@@ -51,6 +52,8 @@ use independent::routine::{line, read, KINDS};
 use independent::seeded;
 use independent::texts::{texts, TEXTS};
 use independent::trace;
+use independent::way::explain_merge_answer;
+use independent::way_cases;
 use independent::word_cases::{self, CASES};
 use independent::word_draft;
 use jumps::Jumps;
@@ -59,7 +62,7 @@ use narrowed::Narrowed;
 use nearests::{compare_nearest, nearest_by_program, Nearests};
 use pinned::{
     pinned, pinned_decision, pinned_export, pinned_import, pinned_merge, pinned_nearest, pinned_preview, pinned_range,
-    pinned_replay,
+    pinned_replay, pinned_way,
 };
 use previews::{compare_preview, preview_by_program, Previews};
 use ranges::Ranges;
@@ -70,6 +73,7 @@ use shares::Shares;
 use std::collections::{BTreeMap, BTreeSet};
 use std::path::Path;
 use traces::Traces;
+use ways::Ways;
 use wraps::Wraps;
 
 /// Disagreements shown in full; all are counted.
@@ -101,6 +105,7 @@ struct Tally {
     previews: Previews,
     nearests: Nearests,
     explanations: Explanations,
+    ways: Ways,
     decisions: Decisions,
     seeds: Seeds,
 }
@@ -162,6 +167,12 @@ impl Tally {
         self.given_to_programs += 1;
         by_programs(programs, text, &answers)?;
         export_by_program(programs, text, &exported)
+    }
+
+    /// The merging bound of a file explained.
+    fn merged(&mut self, random: &mut Random, text: &[u8]) -> Result<(), String> {
+        let [bound, merge] = [bound_answer(text, MEMORY), merge_answer(text, MEMORY)];
+        self.ways.compare(random, text, [&bound, &merge])
     }
 
     /// All comparisons on words and a primitives line.
@@ -300,6 +311,26 @@ fn compare_explanations(tally: &mut Tally, programs: &Path, random: &mut Random)
     }
 }
 
+/// The explanations of the merging bound: those that are pinned, and those of the examples, of the cases and of the texts of both bounds.
+fn compare_ways(tally: &mut Tally, random: &mut Random) {
+    let pinned = way_cases::explanations();
+    let (found, wanted) = (pinned.len(), way_cases::CASES);
+    let count = if found == wanted { Ok(()) } else { Err(format!("{found}, not {wanted}")) };
+    tally.count("the count of the explanations of the merging bound", &[], count);
+    for case in &pinned {
+        let found = pinned_way(random, case);
+        tally.count(&format!("the merged way {}", case.name), &case.text, found);
+    }
+    let mut texts = examples();
+    texts.extend(cases().into_iter().chain(starred()).map(|text| (text.name.to_string(), text.bytes)));
+    texts.extend(merges().into_iter().map(|text| (text.name.to_string(), text.bytes)));
+    for (name, text) in &texts {
+        let [bound, merge] = [bound_answer(text, MEMORY), merge_answer(text, MEMORY)];
+        let found = Ways::default().compare(random, text, [&bound, &merge]);
+        tally.count(&format!("the merged way of {name}"), text, found);
+    }
+}
+
 /// The replays with pinned answers.
 fn compare_replays(tally: &mut Tally, programs: &Path, random: &mut Random) {
     let cases = replay_cases::replays();
@@ -418,7 +449,7 @@ fn covers(tally: &Tally, count: u64) -> Result<(), String> {
     let of_words = tally.causes.counts().into_iter().chain(tally.traces.counts()).chain(tally.recordings.counts());
     let of_others = of_words.chain(tally.previews.counts()).chain(tally.nearests.counts());
     let counts = tally.counts().chain(of_others);
-    let counts = counts.chain(tally.explanations.counts());
+    let counts = counts.chain(tally.explanations.counts()).chain(tally.ways.counts());
     let too_few = counts.filter(|(_, count)| *count < MANY / 200);
     let rare: Vec<_> = too_few
         .chain(tally.traces.rare().into_iter().chain(tally.previews.rare()).filter(|(_, count)| *count < MANY / 1000))
@@ -477,10 +508,13 @@ fn small_stack(tally: &mut Tally) {
     ];
     let explained = explain::explain_answer(&deepest, explain::MEMORY);
     let explanation = ("an explanation on a stack of 256 KB", 256, deepest, analyser::explain as Function, explained);
+    let way = explain_merge_answer(&longest, explain::MEMORY);
+    let name = "an explanation of the merge of 1,024 lines on a stack of 2 MB";
+    let merged = (name, 2048, longest, analyser::explain_merge as Function, way);
     let of_a_seed: Function = |_, memory| analyser::generate(1, memory);
     let made = seeded::generate_answer(1, seeded::MEMORY);
     let seed = ("the file of a seed on a stack of 64 KB", 64, Vec::new(), of_a_seed, made);
-    for (name, kilobytes, text, function, wanted) in calls.into_iter().chain([explanation, seed]) {
+    for (name, kilobytes, text, function, wanted) in calls.into_iter().chain([explanation, merged, seed]) {
         let copy = text.clone();
         let call = move || function(&copy, &mut vec![0; explain::MEMORY]);
         let answer = std::thread::Builder::new().stack_size(kilobytes * 1024).spawn(call).unwrap().join().unwrap();
@@ -512,6 +546,7 @@ fn main() {
     compare_decisions(&mut tally, programs, &mut Random::new(seed));
     compare_nearests(&mut tally, programs, &mut Random::new(seed));
     compare_explanations(&mut tally, programs, &mut Random::new(seed));
+    compare_ways(&mut tally, &mut Random::new(seed));
     compare_seeds(&mut tally, programs, &mut Random::new(seed));
     for number in 0..count {
         let mut random = Random::new(seed.wrapping_mul(1_000_003).wrapping_add(number));
@@ -528,9 +563,11 @@ fn main() {
         tally.count(&format!("preview {number} of seed {seed}"), &[], found);
         let found = tally.nearest(&mut random, &text, given);
         tally.count(&format!("the search on file {number} of seed {seed}"), &text, found);
-        let text = nearest_draft::file(&mut random);
-        let found = tally.nearest(&mut random, &text, given);
-        tally.count(&format!("search {number} of seed {seed}"), &text, found);
+        let searched = nearest_draft::file(&mut random);
+        let found = tally.nearest(&mut random, &searched, given);
+        tally.count(&format!("search {number} of seed {seed}"), &searched, found);
+        let found = tally.merged(&mut random, &text);
+        tally.count(&format!("merged file {number} of seed {seed}"), &text, found);
     }
 
     if count >= MANY {
@@ -548,7 +585,8 @@ fn main() {
         println!("files with {what}: {count}");
     }
     println!("kinds in the words of accepted imports: {}", tally.causes.kinds());
-    for (what, count) in tally.explanations.counts().into_iter().chain(tally.decisions.counts()) {
+    let explanations = tally.explanations.counts().into_iter().chain(tally.ways.counts());
+    for (what, count) in explanations.chain(tally.decisions.counts()) {
         println!("{what}: {count}");
     }
     let traces = tally.traces.counts().into_iter().chain(tally.traces.rare()).chain(tally.recordings.counts());

@@ -23,12 +23,14 @@ pub enum Event<'a> {
     Opens { at: u32 },
 }
 
-/// An address that is reached, by its line, and the places in the code where its ways go on; STOP has none.
-struct Reached<'a> {
-    line: &'a Line,
-    next: Option<usize>,
+/// An address that is reached: its line, the height of its merged state, and the places in the code where its ways go on, of which STOP
+/// has none and a branch that opens has both.
+pub struct Reached<'a> {
+    pub line: &'a Line,
+    pub height: usize,
+    pub next: Option<usize>,
     /// after a conditional branch that has jumped
-    jump: Option<usize>,
+    pub jump: Option<usize>,
 }
 
 /// "equal cells stay"; of numbers and ranges "A merge takes the smallest range that covers both"; "a cell is a handle on one way and anything
@@ -79,13 +81,26 @@ pub fn merge(routine: &Routine, start: State) -> Result<Figures, Refusal> {
 }
 
 /// The same; `note` is told of each event.
-pub fn passed(routine: &Routine, start: State, mut note: impl FnMut(Event<'_>)) -> Result<Figures, Refusal> {
+pub fn passed(routine: &Routine, start: State, note: impl FnMut(Event<'_>)) -> Result<Figures, Refusal> {
+    let begin = (start.at - routine.first) as usize;
+    let reached = reached(routine, start, note)?;
+    let [cycles, words] = spent(&reached)[begin];
+    let depth = reached.iter().flatten().map(|ways| ways.height).max().unwrap();
+    let steps = reached.iter().flatten().count() as u64;
+    Ok(Figures { cycles, words, depth, steps, path: Path { taken: 0, length: 0 } })
+}
+
+/// What is reached at each place of the code, and after it, from a state.
+pub fn reached<'a>(
+    routine: &'a Routine,
+    start: State,
+    mut note: impl FnMut(Event<'_>),
+) -> Result<Vec<Option<Reached<'a>>>, Refusal> {
     let place = |at: u32| (at - routine.first) as usize;
     // one place more than there is code: after the last address
     let mut coming: Vec<Vec<State>> = vec![Vec::new(); routine.code.len() + 1];
     let mut reached: Vec<Option<Reached>> = Vec::new();
-    let (begin, mut depth) = (place(start.at), 0);
-    coming[begin].push(start);
+    coming[place(start.at)].push(start);
     for n in 0..coming.len() {
         reached.push(None);
         let at = routine.first + n as u32;
@@ -97,14 +112,14 @@ pub fn passed(routine: &Routine, start: State, mut note: impl FnMut(Event<'_>)) 
         let Ok(mut state) = merged(states) else {
             return refused(14, at as usize);
         };
-        depth = depth.max(state.height);
+        let height = state.height;
         let Some(line) = routine.code.get(n) else {
             return refused(7, at as usize);
         };
         let Some(next) = state.step(line, || Cell::UNKNOWN) else {
             return refused(7, at as usize);
         };
-        let mut ways = Reached { line, next: None, jump: None };
+        let mut ways = Reached { line, height, next: None, jump: None };
         match next {
             Next::Stops => {}
             Next::Goes => ways.next = Some(place(state.at)),
@@ -120,16 +135,14 @@ pub fn passed(routine: &Routine, start: State, mut note: impl FnMut(Event<'_>)) 
         }
         reached[n] = Some(ways);
     }
-    let [cycles, words] = spent(&reached)[begin];
-    let steps = reached.iter().flatten().count() as u64;
-    Ok(Figures { cycles, words, depth, steps, path: Path { taken: 0, length: 0 } })
+    Ok(reached)
 }
 
 /// The most cycles and the most words from each place to any STOP; 0 where nothing comes.
-fn spent(reached: &[Option<Reached>]) -> Vec<[u64; 2]> {
+pub fn spent(reached: &[Option<Reached>]) -> Vec<[u64; 2]> {
     let mut most = vec![[0, 0]; reached.len()];
     for (n, ways) in reached.iter().enumerate().rev() {
-        let Some(Reached { line, next, jump }) = ways else {
+        let Some(Reached { line, next, jump, .. }) = ways else {
             continue;
         };
         let next = next.map_or([0, 0], |to| most[to]);

@@ -65,7 +65,7 @@ pub fn printed(text: &Text) -> Option<String> {
 }
 
 /// Code over cells, of which the first is the accumulator, and two blocks of one field each that holds 5; each kind costs 1 cycle.
-fn meeting(cells: &str, code: &[&str]) -> String {
+pub(crate) fn meeting(cells: &str, code: &[&str]) -> String {
     let kinds = "BRANCHIF BRANCHIFNOT BRANCH PUSH PUSHACC0 PUSHACC1 POP ACC0 ACC1 ASSIGN CONST0 CONST1 CONSTINT NEGINT SETFIELD0 \
                  SETFIELD C_CALL1 STOP GETFIELD0";
     let ones = vec!["1"; kinds.split(' ').count()].join(" ");
@@ -79,7 +79,7 @@ fn meeting(cells: &str, code: &[&str]) -> String {
 }
 
 /// As many tests of three lines each, then STOP: 57 cycles and 4 words each, and 1.
-fn tests(count: usize) -> String {
+pub(crate) fn tests(count: usize) -> String {
     let test = |at: usize| format!("{at} C_CALL1 READ\n{} BRANCHIF {}\n{} CONST0 -\n", at + 1, at + 3, at + 2);
     let code: String = (0..count).map(|n| test(3 * n)).collect();
     let code = format!("{code}{} STOP -\n", 3 * count);

@@ -6,6 +6,7 @@ use crate::imports::{export_by_program, exported, import_by_program, imported};
 use crate::nearests::{compare_search, nearest_by_program};
 use crate::previews::{compare_preview, preview_by_program};
 use crate::replays::{compare_replay, replay_by_program};
+use crate::ways::compare_way;
 use independent::analyser::{self, Function};
 use independent::change::{Bounds, Text, Three};
 use independent::decide::decide_answer;
@@ -18,6 +19,8 @@ use independent::random::Random;
 use independent::replay::replay_answer;
 use independent::report::{bound_answer, merge_answer, printed, run_answer, Answer};
 use independent::trace_draft::Replay;
+use independent::way::explain_merge_answer;
+use independent::way_cases::Case as WayCase;
 use independent::word_cases::Case;
 use independent::word_draft::Import;
 use independent::words::{export_answer, import_answer, MEMORY};
@@ -96,6 +99,14 @@ pub fn pinned_decision(programs: &Path, random: &mut Random, case: &DecisionCase
     both("decide", &|memory| analyser::decide(&case.text, memory), case.lent, &own, case.printed.as_bytes())?;
     let answer = compare_decision(random, &case.text)?;
     decision_by_program(programs, &case.text, &answer)
+}
+
+/// A text with the explanation of its merging bound.
+pub fn pinned_way(random: &mut Random, case: &WayCase) -> Result<(), String> {
+    let own = explain_merge_answer(&case.text, case.lent);
+    let call = |memory: &mut [u8]| analyser::explain_merge(&case.text, memory);
+    both("explain_merge", &call, case.lent, &own, case.printed.as_bytes())?;
+    compare_way(random, &case.text).map(drop)
 }
 
 /// Whether a function and the independent implementation say what is wanted.
