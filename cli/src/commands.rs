@@ -11,18 +11,18 @@ pub struct Question {
     pub ask: fn(&[u8]) -> Answer,
 }
 
-pub const QUESTIONS: [Question; 8] = [
+pub const QUESTIONS: [Question; 7] = [
     Question { name: "bound", ask: library::bound },
     Question { name: "merge", ask: library::merge },
     Question { name: "run", ask: library::run },
     Question { name: "decide", ask: library::decide },
     Question { name: "trace", ask: library::trace },
-    Question { name: "explain", ask: library::explain },
     Question { name: "nearest", ask: library::nearest },
     Question { name: "export", ask: library::export },
 ];
 
 const OPTIONS: Options = Options { flags: &["--why"], valued: &[] };
+const EXPLAIN_OPTIONS: Options = Options { flags: &["--why", "--merge"], valued: &[] };
 /// The longest list of primitives that an import takes.
 const PRIMITIVES_LIMIT: usize = 4095;
 
@@ -42,7 +42,7 @@ fn is_undecided_or_over(report: &[u8]) -> bool {
 }
 
 /// Prints an answer, and with `--why` the reason, which is made only then.
-fn finish(answer: &Answer, given: &Given, reason: impl FnOnce() -> String) -> Result<u8, Failure> {
+pub fn finish(answer: &Answer, given: &Given, reason: impl FnOnce() -> String) -> Result<u8, Failure> {
     output::print(&answer.printed())?;
     if given.has("--why") {
         output::say_lines(&reason());
@@ -56,6 +56,14 @@ pub fn ask(question: &Question, arguments: &[String]) -> Result<u8, Failure> {
     let text = input::read(arguments::one_file(question.name, &given)?, ROUTINE_LIMIT)?;
     let answer = (question.ask)(&text);
     finish(&answer, &given, || why::of_question(question.name, &text, &answer))
+}
+
+/// `explain [--merge] [FILE]`
+pub fn explain(arguments: &[String]) -> Result<u8, Failure> {
+    let given = arguments::read("explain", arguments, &EXPLAIN_OPTIONS)?;
+    let text = input::read(arguments::one_file("explain", &given)?, ROUTINE_LIMIT)?;
+    let answer = if given.has("--merge") { library::explain_merge(&text) } else { library::explain(&text) };
+    finish(&answer, &given, || why::of_question("explain", &text, &answer))
 }
 
 /// `import WORDS PRIMITIVES`

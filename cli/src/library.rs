@@ -7,7 +7,9 @@ mod calls;
 #[path = "programs.rs"]
 mod calls;
 
-pub use calls::{bound, decide, explain, export, generate, import, merge, nearest, preview, replay, run, trace};
+pub use calls::{
+    bound, decide, explain, explain_merge, export, generate, import, merge, nearest, preview, replay, run, trace,
+};
 
 /// What the analyser answers.
 #[derive(Clone, Debug, PartialEq)]

@@ -8,6 +8,7 @@ extern "C" {
     fn tickbound_run(text: *const u8, text_length: usize, report: *mut u8, report_length: usize) -> u64;
     fn tickbound_trace(text: *const u8, text_length: usize, lines: *mut u8, lines_length: usize) -> u64;
     fn tickbound_explain(text: *const u8, text_length: usize, lines: *mut u8, lines_length: usize) -> u64;
+    fn tickbound_explain_merge(text: *const u8, text_length: usize, lines: *mut u8, lines_length: usize) -> u64;
     fn tickbound_decide(text: *const u8, text_length: usize, report: *mut u8, report_length: usize) -> u64;
     fn tickbound_nearest(text: *const u8, text_length: usize, report: *mut u8, report_length: usize) -> u64;
     fn tickbound_export(text: *const u8, text_length: usize, words: *mut u8, words_length: usize) -> u64;
@@ -80,6 +81,10 @@ pub fn trace(text: &[u8]) -> Answer {
 
 pub fn explain(text: &[u8]) -> Answer {
     of_text(tickbound_explain, text, EXPLANATION)
+}
+
+pub fn explain_merge(text: &[u8]) -> Answer {
+    of_text(tickbound_explain_merge, text, EXPLANATION)
 }
 
 pub fn decide(text: &[u8]) -> Answer {

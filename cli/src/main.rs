@@ -36,6 +36,7 @@ fn dispatch(command: &str, arguments: &[String]) -> Result<u8, Failure> {
         return commands::ask(question, arguments);
     }
     match command {
+        "explain" => commands::explain(arguments),
         "import" => commands::import(arguments),
         "replay" => commands::replay(arguments),
         "preview" => commands::preview(arguments),

@@ -89,6 +89,11 @@ pub fn explain(text: &[u8]) -> Answer {
     of_text("explain", text)
 }
 
+/// No program answers this: the launcher builds the library for it.
+pub fn explain_merge(_text: &[u8]) -> Answer {
+    without_program("explain --merge")
+}
+
 pub fn decide(text: &[u8]) -> Answer {
     of_text("decide", text)
 }
@@ -113,6 +118,10 @@ pub fn import(words: &[u8], primitives: &[u8]) -> Answer {
 pub fn replay(routine: &[u8], trace: &[u8]) -> Answer {
     let (routine, trace) = (kept(routine), kept(trace));
     answer("replay", Stdio::null(), &[&name_of(&routine), &name_of(&trace)])
+}
+
+fn without_program(what: &str) -> ! {
+    panic!("{what} needs the library, which is not built")
 }
 
 pub fn preview(routine: &[u8], address: u32, instruction: &[u8]) -> Answer {

@@ -53,12 +53,16 @@ Exit status: 0 a report, 1 refused, 2 anything else.",
     },
     Usage {
         name: "explain",
-        call: "explain [--why] [FILE]",
+        call: "explain [--why] [--merge] [FILE]",
         summary: "the report, and the steps of the worst path",
         text: "\
 Prints the report of `bound`, and then the steps of the worst path, one to a line, under AT OP ARG CYCLES WORDS DEPTH
 WAY: CYCLES and WORDS are the sums so far, DEPTH is the height before the step, and WAY is N or T at an unknown branch
 and - elsewhere.
+--merge prints the report of `merge`, and then a costliest way through the merged states under the same names: CYCLES and
+WORDS are the sums on this way, DEPTH is the height of the merged state, and WAY is N or T where its step opens two ways.
+Ways meet there, so a run need not take this way as a whole. Of several costliest ways it is the one whose STOP is lowest;
+back from there the lowest origin counts, and T at a branch of which both ways lead to the same address.
 Exit status: 0 a report, 1 refused, 2 anything else.",
     },
     Usage {

@@ -6,7 +6,7 @@ pub struct Answers {
     pub decide: Answer,
     /// the first bound's report with the steps of its worst path, or its refusal
     pub explain: Answer,
-    /// what the merging bound answers where the first refuses by 8 or 9
+    /// the merging bound's report with a costliest way, or its refusal, where the first refuses by 8 or 9
     pub merge: Option<Answer>,
     /// the nearest number that moves the bound, where it is asked for; the first bound's refusal where that has none
     pub nearest: Option<Answer>,
@@ -20,7 +20,7 @@ impl Answers {
         let nearest = || if is_report { library::nearest(text) } else { explain.clone() };
         Answers {
             decide: library::decide(text),
-            merge: is_wide.then(|| library::merge(text)),
+            merge: is_wide.then(|| library::explain_merge(text)),
             nearest: asks_nearest.then(nearest),
             explain,
         }
@@ -54,7 +54,7 @@ pub struct Figures {
     pub path: String,
     /// the lines of the decision
     pub decided: Vec<String>,
-    /// the lines of the report, with those of the worst path where the first bound gave it
+    /// the lines of the report, with those of the worst path or of a costliest way
     pub report: Vec<String>,
 }
 
@@ -130,6 +130,12 @@ pub mod tests {
     pub const EXPLAINED: &str =
         "CYCLES WORDS DEPTH STEPS SHARE PATH\n65 4 1 6 65 N\nAT OP ARG CYCLES WORDS DEPTH WAY\n\
         0 C_CALL1 READ 50 4 1 -\n1 BRANCHIF 4 55 4 1 N\n2 CONST2 - 57 4 1 -\n3 ADDINT - 64 4 1 -\n4 STOP - 65 4 0 -\n";
+
+    pub const MERGED: &str =
+        "CYCLES WORDS DEPTH STEPS SHARE PATH\n149980 151 6 814 1000 -\nAT OP ARG CYCLES WORDS DEPTH WAY\n\
+        0 C_CALL1 ALARM 149000 151 6 -\n1 BRANCHIF 3 149970 151 6 T\n3 STOP - 149980 151 6 -\n";
+    pub const UNDECIDED: &str =
+        "DECISION BOUND CYCLES TICK WORDS DEPTH STEPS\nUNDECIDED MERGING 149980 149979 151 6 814\n";
 
     pub fn first(decided: &str, explained: &str) -> Answers {
         Answers { decide: report(decided), explain: report(explained), merge: None, nearest: None }

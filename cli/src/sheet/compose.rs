@@ -88,7 +88,7 @@ fn with_figures(sources: &Sources, answers: &Answers, figures: &Figures) -> Resu
         printed: figures.decided.iter().chain(&figures.report[..2]).cloned().collect(),
         lines,
         intro: intro(figures),
-        path: listing::path(figures),
+        path: Some(listing::path(figures)),
         code: Some(listing::code(figures, &routine)),
     })
 }
@@ -134,13 +134,16 @@ fn nearest(answer: Option<&Answer>) -> Option<Line> {
 
 fn intro(figures: &Figures) -> String {
     let Figures { path, steps, report, .. } = figures;
+    let length = report.len() - 3;
     if figures.bound == Bound::Merging {
-        return "The code. The merging bound has no single worst path, and none is shown.".into();
+        return format!(
+            "Where the cycles go: a way through merged states, which a run need not take as a whole; WAY is N or T where \
+             such a state opens two ways. It has {length} of the {steps} addresses reached."
+        );
     }
     let branches = match path.as_str() {
         "-" => "it meets no unknown branch".to_string(),
         path => format!("{path} at its unknown branches in order, N not taken and T taken"),
     };
-    let length = report.len() - 3;
     format!("The worst path: {branches}. It has {length} of the {steps} steps on all paths.")
 }

@@ -76,7 +76,7 @@ pub struct Decision {
 #[derive(Clone, Debug, PartialEq)]
 pub struct Step {
     pub text: String,
-    /// whether it is on the worst path
+    /// whether it is on the worst path, or on the costliest way that is shown
     pub is_worst: bool,
 }
 
@@ -105,7 +105,7 @@ pub struct Sheet {
     pub lines: Vec<Line>,
     /// what is said of the listings
     pub intro: String,
-    /// the steps of the worst path, for plain text; none where none is known
+    /// the steps of the worst path or of a costliest way, for plain text; none where none is known
     pub path: Option<Listing>,
     /// all of the code, with the worst path marked where one is known
     pub code: Option<Listing>,

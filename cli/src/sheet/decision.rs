@@ -98,11 +98,8 @@ pub fn which_bound(figures: &Figures, first: Option<Refusal>) -> Line {
 
 #[cfg(test)]
 mod tests {
-    use super::super::answers::tests::{first, merged, DECIDED, EXPLAINED};
+    use super::super::answers::tests::{first, merged, DECIDED, EXPLAINED, MERGED, UNDECIDED};
     use super::*;
-
-    const MERGED: &str = "CYCLES WORDS DEPTH STEPS SHARE PATH\n149980 151 6 814 1000 -\n";
-    const UNDECIDED: &str = "DECISION BOUND CYCLES TICK WORDS DEPTH STEPS\nUNDECIDED MERGING 149980 149979 151 6 814\n";
 
     fn routine(budget: &str, cell: &str) -> String {
         format!("BUDGET TICK\n{budget} 10\nSTOP\n1\n0\n0\n-\n-\n-\nACCU\n{cell}\n-\n-\nAT OP ARG\n0 STOP -\n")

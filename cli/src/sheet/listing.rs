@@ -1,5 +1,5 @@
-//! The code and the steps of the worst path, in aligned columns.
-use super::answers::{Bound, Figures};
+//! The code and the steps of the worst path or of a costliest way, in aligned columns.
+use super::answers::Figures;
 use super::content::{Listing, Step};
 use crate::routine_text::RoutineText;
 use std::collections::HashMap;
@@ -25,16 +25,13 @@ fn listing(rows: &[Vec<&str>], right: &[usize], is_worst: impl Fn(usize) -> bool
     Listing { names, steps: steps.collect() }
 }
 
-/// The steps of the worst path with what was spent, as the explanation printed them; none of the merging bound.
-pub fn path(figures: &Figures) -> Option<Listing> {
-    if figures.bound == Bound::Merging {
-        return None;
-    }
+/// The steps of the worst path, or of a costliest way through merged states, with what was spent, as the explanation printed them.
+pub fn path(figures: &Figures) -> Listing {
     let rows: Vec<Vec<&str>> = figures.report[2..].iter().map(|line| line.split(' ').collect()).collect();
-    Some(listing(&rows, &[0, 3, 4, 5], |_| true))
+    listing(&rows, &[0, 3, 4, 5], |_| true)
 }
 
-/// The code, with the cycles and the decision on each step of the worst path where one is known.
+/// The code, with the cycles and the decision on each of these steps.
 pub fn code(figures: &Figures, routine: &RoutineText) -> Listing {
     let mut spent: HashMap<&str, [&str; 2]> = HashMap::new();
     for line in figures.report.iter().skip(3) {
@@ -42,10 +39,7 @@ pub fn code(figures: &Figures, routine: &RoutineText) -> Listing {
             spent.insert(at, [cycles, if way == "-" { "" } else { way }]);
         }
     }
-    let mut rows = vec![vec!["AT", "OP", "ARG"]];
-    if figures.bound == Bound::First {
-        rows[0].extend(["CYCLES", "WAY"]);
-    }
+    let mut rows = vec![vec!["AT", "OP", "ARG", "CYCLES", "WAY"]];
     for line in &routine.code {
         let mut row = vec![line.at, line.op, line.arg];
         row.extend(spent.get(line.at).into_iter().flatten());
@@ -56,7 +50,7 @@ pub fn code(figures: &Figures, routine: &RoutineText) -> Listing {
 
 #[cfg(test)]
 mod tests {
-    use super::super::answers::tests::{first, DECIDED, EXPLAINED};
+    use super::super::answers::tests::{first, merged, DECIDED, EXPLAINED, MERGED, UNDECIDED};
     use super::*;
 
     const ROUTINE: &str =
@@ -66,10 +60,19 @@ mod tests {
     #[test]
     fn the_steps_of_the_worst_path() {
         let figures = Figures::of(&first(DECIDED, EXPLAINED)).unwrap().unwrap();
-        let path = path(&figures).unwrap();
+        let path = path(&figures);
         assert_eq!(path.names, "AT OP       ARG  CYCLES WORDS DEPTH WAY");
         assert_eq!(path.steps[1].text, " 1 BRANCHIF 4        55     4     1 N");
         assert_eq!(path.steps.len(), 5);
+    }
+
+    #[test]
+    fn the_steps_of_a_costliest_way() {
+        let figures = Figures::of(&merged(UNDECIDED, MERGED)).unwrap().unwrap();
+        let path = path(&figures);
+        assert_eq!(path.names, "AT OP       ARG   CYCLES WORDS DEPTH WAY");
+        assert_eq!(path.steps[1].text, " 1 BRANCHIF 3     149970   151     6 T");
+        assert_eq!(path.steps.len(), 3);
     }
 
     #[test]
