@@ -1,7 +1,7 @@
 /* The decision whether a routine fits in its tick, its two bounds, its run, that run as a card would record it, the
- * steps of its worst path, its code from and to the compiler's words, a card's trace held against its run, the bound of
- * a routine with one instruction replaced, the nearest number that moves the bound and a routine file of a seed, for a
- * loader in C.
+ * steps of its worst path and of a costliest way through merged states, its code from and to the compiler's words, a
+ * card's trace held against its run, the bound of a routine with one instruction replaced, the nearest number that moves
+ * the bound and a routine file of a seed, for a loader in C.
  *
  * `tickbound install PREFIX` puts this header into PREFIX/include and the library to link with into PREFIX/lib:
  * `cc -I PREFIX/include .. -L PREFIX/lib -ltickbound`, on x86-64 Linux. In the repository `rt staticlib c_interface`
@@ -92,18 +92,19 @@ typedef struct {
  * that a call wrote to, of those tried (32 openings, 1,024 lines of code, as many instructions of words, the examples,
  * files of seeds). Each call was made on no more stack than the macro says. This is measured (tests/stack.c), not
  * proved. */
-#define TICKBOUND_DECIDE_STACK (2048 * 1024)  /* 1,666 */
-#define TICKBOUND_MERGE_STACK (2048 * 1024)   /* 1,643 */
-#define TICKBOUND_PREVIEW_STACK (256 * 1024)  /* 186 */
-#define TICKBOUND_EXPLAIN_STACK (256 * 1024)  /* 164 */
-#define TICKBOUND_NEAREST_STACK (256 * 1024)  /* 166 */
-#define TICKBOUND_BOUND_STACK (256 * 1024)    /* 154 */
-#define TICKBOUND_REPLAY_STACK (128 * 1024)   /* 77 */
-#define TICKBOUND_TRACE_STACK (128 * 1024)    /* 79 */
-#define TICKBOUND_RUN_STACK (128 * 1024)      /* 69 */
-#define TICKBOUND_IMPORT_STACK (64 * 1024)    /* 10 */
-#define TICKBOUND_EXPORT_STACK (64 * 1024)    /* 6 */
-#define TICKBOUND_GENERATE_STACK (64 * 1024)  /* 1 */
+#define TICKBOUND_DECIDE_STACK (2048 * 1024)        /* 1,666 */
+#define TICKBOUND_MERGE_STACK (2048 * 1024)         /* 1,643 */
+#define TICKBOUND_EXPLAIN_MERGE_STACK (2048 * 1024) /* 0 */
+#define TICKBOUND_PREVIEW_STACK (256 * 1024)        /* 186 */
+#define TICKBOUND_EXPLAIN_STACK (256 * 1024)        /* 164 */
+#define TICKBOUND_NEAREST_STACK (256 * 1024)        /* 166 */
+#define TICKBOUND_BOUND_STACK (256 * 1024)          /* 154 */
+#define TICKBOUND_REPLAY_STACK (128 * 1024)         /* 77 */
+#define TICKBOUND_TRACE_STACK (128 * 1024)          /* 79 */
+#define TICKBOUND_RUN_STACK (128 * 1024)            /* 69 */
+#define TICKBOUND_IMPORT_STACK (64 * 1024)          /* 10 */
+#define TICKBOUND_EXPORT_STACK (64 * 1024)          /* 6 */
+#define TICKBOUND_GENERATE_STACK (64 * 1024)        /* 1 */
 
 /* Report memory that is enough for every report; with less a call is refused by 10. */
 #define TICKBOUND_REPORT_MEMORY 128
@@ -196,14 +197,15 @@ TICKBOUND_USED tickbound_answer tickbound_merge(const uint8_t *text, size_t text
 TICKBOUND_USED tickbound_answer tickbound_explain(const uint8_t *text, size_t text_length, uint8_t *lines,
                                                   size_t lines_length);
 
-/* The report of the merging bound, its two lines, and then a costliest way through its merged states, one line for each
+/* The report of the merging bound, its two lines, and then a costliest way through the merged states, one line for each
  * address, under the same line of names. CYCLES and WORDS are the sums on this way, this step included, DEPTH is the
- * height of the merged state, and WAY is `N` or `T` where the merged state's step opens two ways and `-` elsewhere. The
- * addresses rise, CYCLES of the last line is the report's, and before each line no way to its address has cost more. A
- * run need not take this way as a whole. The answer's length is 1 to TICKBOUND_EXPLAIN_MEMORY, and that much must be
+ * height of the merged state, and WAY is `N` or `T` where its step opens two ways and `-` elsewhere. CYCLES of the last
+ * line is the report's; its WORDS can be below. Ways meet in merged states, so a run need not take this way as a whole. Of
+ * several costliest ways it is the one whose STOP is the lowest; back from there the origin of each address is the lowest
+ * one, and T where both ways of one branch lead there at the same cost. At least TICKBOUND_EXPLAIN_MEMORY bytes must be
  * lent.
  *
- * Refused as the merging bound is. */
+ * Refused by 10; then as the merging bound is: by 1 to 6, 13, 14 and 7. */
 TICKBOUND_USED tickbound_answer tickbound_explain_merge(const uint8_t *text, size_t text_length, uint8_t *lines,
                                                         size_t lines_length);
 

@@ -36,6 +36,10 @@ static tickbound_answer call_merge(void) {
     return tickbound_merge(text, text_length, lent, sizeof lent);
 }
 
+static tickbound_answer call_explain_merge(void) {
+    return tickbound_explain_merge(text, text_length, lent, sizeof lent);
+}
+
 static tickbound_answer call_preview(void) {
     return tickbound_preview(text, text_length, address, instruction, instruction_length, lent, sizeof lent);
 }
@@ -86,6 +90,7 @@ static struct {
 } functions[] = {
     {"decide", call_decide, TICKBOUND_DECIDE_STACK, 0, 0, 0},
     {"merge", call_merge, TICKBOUND_MERGE_STACK, 0, 0, 0},
+    {"explain_merge", call_explain_merge, TICKBOUND_EXPLAIN_MERGE_STACK, 0, 0, 0},
     {"preview", call_preview, TICKBOUND_PREVIEW_STACK, 0, 0, 0},
     {"explain", call_explain, TICKBOUND_EXPLAIN_STACK, 0, 0, 0},
     {"nearest", call_nearest, TICKBOUND_NEAREST_STACK, 0, 0, 0},
