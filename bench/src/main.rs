@@ -1,4 +1,4 @@
-//! The speed of the analyser's bound, merging bound, run, import, export, replay, explanation and search for the nearest number, as a ratio
+//! The speed of the analyser's bound, merging bound, run, import, export, replay, explanations and search for the nearest number, as a ratio
 //! against the independent implementation in the same run.
 mod clock;
 mod files;
@@ -10,6 +10,7 @@ use independent::nearest::nearest_answer;
 use independent::replay::replay_answer;
 use independent::report::{bound_answer, merge_answer, printed, run_answer, told, Answer, MEMORY};
 use independent::routine::TEXT_LIMIT;
+use independent::way::explain_merge_answer;
 use independent::words::{self, export_answer, import_answer};
 use std::hint::black_box;
 use std::time::Duration;
@@ -41,6 +42,8 @@ const REPLAY: Pair = Pair {
     lent: MEMORY,
 };
 const EXPLAIN: Pair = Pair { proved: analyser::explain, independent: explain_answer, lent: explain::MEMORY };
+const EXPLAIN_MERGE: Pair =
+    Pair { proved: analyser::explain_merge, independent: explain_merge_answer, lent: explain::MEMORY };
 const NEAREST: Pair = Pair { proved: analyser::nearest, independent: nearest_answer, lent: MEMORY };
 
 /// A file, and the best times of one call of both.
@@ -185,6 +188,7 @@ fn main() {
         Measured::new("the export of 1,024 instructions", files::instructions(TEXT_LIMIT), EXPORT),
         Measured::new("the replay of that path", files::trace(TEXT_LIMIT), REPLAY),
         Measured::new("the explanation of that path", files::straight_path(), EXPLAIN),
+        Measured::new("the merging bound explained, 1,024 lines", files::tests(1024, false), EXPLAIN_MERGE),
         Measured::new("the nearest of 160 numbers, 45 lines", files::numbers(), NEAREST),
     ];
     let of_length = |bytes| scanned.map(|(name, text, pair)| Measured::new(name, text(bytes), pair));
