@@ -60,9 +60,9 @@ extern "C" {
 /* The version of this header and of the library installed with it. The first number rises where a caller must be
  * changed. */
 #define TICKBOUND_VERSION_MAJOR 2
-#define TICKBOUND_VERSION_MINOR 0
+#define TICKBOUND_VERSION_MINOR 1
 #define TICKBOUND_VERSION_PATCH 0
-#define TICKBOUND_VERSION "2.0.0"
+#define TICKBOUND_VERSION "2.1.0"
 
 /* What a function answers. `word` is for `tickbound_is_refused`, `tickbound_length`, `tickbound_refusal_number` and
  * `tickbound_refusal_place` and not for a caller:
