@@ -3,6 +3,7 @@ use Prim.Native.Nat.{ℕ, _+_, _≤_, _<_}
 use mathlib.Core.Path.{_≡_, refl, sym, ap, _∙_}
 use mathlib.Core.Bool.{Bool, true, false}
 use mathlib.Core.List.{List, _++_}
+use mathlib.Core.Logic.{_⊎_, inl, inr}
 use native.Mathlib.Omega.{arith}
 use lib.Dec.{ltb}
 use lib.ListN.{length, getD, length-append}
@@ -13,7 +14,7 @@ use Rattle.bounds.specs.Tree.{Report}
 use Rattle.report.specs.Report.{space}
 use Rattle.report.proofs.ReportLaws.{Small}
 use Rattle.decide_entry.specs.declared.Source.{Source}
-use Rattle.decide_entry.specs.declared.Source.the-variants.{First, Merging}
+use Rattle.decide_entry.specs.declared.Source.the-variants.{First, Merging, Split}
 use Rattle.decide_entry.specs.Decision.{Ruling, fits, over, undecided, ruling, rulingWord, sourceWord, decisionNames, decisionWords, decisionText}
 use Rattle.decide_entry.specs.Promises.{Says}
 
@@ -27,6 +28,7 @@ ruled-fits s tick cycles = go s (ltb tick cycles) refl
     go s false e h = ltb-false tick cycles e
     go First true e h = let z : over ≡ fits = rw e at h in let k : _≡_ {A = ℕ} 0 1 = cc in absurd (omega arith)
     go Merging true e h = let z : undecided ≡ fits = rw e at h in let k : _≡_ {A = ℕ} 0 1 = cc in absurd (omega arith)
+    go Split true e h = let z : undecided ≡ fits = rw e at h in let k : _≡_ {A = ℕ} 0 1 = cc in absurd (omega arith)
 
 pub ruled-over : (s : Source) (tick cycles : ℕ) → ruling s tick cycles ≡ over → (s ≡ First) × (tick < cycles)
 unfolding ruling
@@ -37,14 +39,18 @@ ruled-over s tick cycles = go s (ltb tick cycles) refl
     go First false e h = let z : fits ≡ over = rw e at h in let k : _≡_ {A = ℕ} 0 1 = cc in absurd (omega arith)
     go Merging true e h = let z : undecided ≡ over = rw e at h in let k : _≡_ {A = ℕ} 0 1 = cc in absurd (omega arith)
     go Merging false e h = let z : fits ≡ over = rw e at h in let k : _≡_ {A = ℕ} 0 1 = cc in absurd (omega arith)
+    go Split true e h = let z : undecided ≡ over = rw e at h in let k : _≡_ {A = ℕ} 0 1 = cc in absurd (omega arith)
+    go Split false e h = let z : fits ≡ over = rw e at h in let k : _≡_ {A = ℕ} 0 1 = cc in absurd (omega arith)
 
-pub ruled-undecided : (s : Source) (tick cycles : ℕ) → ruling s tick cycles ≡ undecided → (s ≡ Merging) × (tick < cycles)
+pub ruled-undecided : (s : Source) (tick cycles : ℕ) → ruling s tick cycles ≡ undecided → ((s ≡ Merging) ⊎ (s ≡ Split)) × (tick < cycles)
 unfolding ruling
 ruled-undecided s tick cycles = go s (ltb tick cycles) refl
   where
-    go : (s : Source) (b : Bool) → ltb tick cycles ≡ b → ruling s tick cycles ≡ undecided → (s ≡ Merging) × (tick < cycles)
-    go Merging true e h = (refl, ltb-true tick cycles e)
+    go : (s : Source) (b : Bool) → ltb tick cycles ≡ b → ruling s tick cycles ≡ undecided → ((s ≡ Merging) ⊎ (s ≡ Split)) × (tick < cycles)
+    go Merging true e h = (inl refl, ltb-true tick cycles e)
     go Merging false e h = let z : fits ≡ undecided = rw e at h in let k : _≡_ {A = ℕ} 0 1 = cc in absurd (omega arith)
+    go Split true e h = (inr refl, ltb-true tick cycles e)
+    go Split false e h = let z : fits ≡ undecided = rw e at h in let k : _≡_ {A = ℕ} 0 1 = cc in absurd (omega arith)
     go First true e h = let z : over ≡ undecided = rw e at h in let k : _≡_ {A = ℕ} 0 1 = cc in absurd (omega arith)
     go First false e h = let z : fits ≡ undecided = rw e at h in let k : _≡_ {A = ℕ} 0 1 = cc in absurd (omega arith)
 
@@ -104,6 +110,14 @@ module _ (s : Source) (tick cycles : ℕ) where
   unfolding decisionWords ruling rulingWord sourceWord
   words-fit-merging e h = rw (e, le-ltb tick cycles h) refl
 
+  pub words-undecided-split : s ≡ Split → tick < cycles → decisionWords s tick cycles ≡ bytes "UNDECIDED SPLIT"
+  unfolding decisionWords ruling rulingWord sourceWord
+  words-undecided-split e h = rw (e, lt-ltb tick cycles h) refl
+
+  pub words-fit-split : s ≡ Split → cycles ≤ tick → decisionWords s tick cycles ≡ bytes "FITS SPLIT"
+  unfolding decisionWords ruling rulingWord sourceWord
+  words-fit-split e h = rw (e, le-ltb tick cycles h) refl
+
 -- ---- its length
 
 ruling-length : (d : Ruling) → length (rulingWord d) ≤ 9
@@ -116,6 +130,7 @@ source-length : (s : Source) → length (sourceWord s) ≤ 7
 unfolding sourceWord
 source-length First = omega arith
 source-length Merging = omega arith
+source-length Split = omega arith
 
 pub decision-fits : (s : Source) (tick : ℕ) (q : Report) → tick ≤ 4000000000 → Small tick q → length (decisionText s tick q) ≤ 128
 unfolding decisionText decisionWords

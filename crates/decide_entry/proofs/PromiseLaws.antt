@@ -3,6 +3,7 @@ use Prim.Native.Nat.{ℕ, _≤_}
 use mathlib.Core.Path.{_≡_, refl, sym, ap}
 use mathlib.Core.Bool.{Bool, true, false, cond}
 use mathlib.Core.List.{List}
+use mathlib.Core.Logic.{_⊎_, inl, inr}
 use native.Mathlib.Omega.{arith}
 use lib.ListN.{length}
 use Rattle.refusals.specs.declared.Refusal.{Refusal}
@@ -24,7 +25,7 @@ use Rattle.report.proofs.ReportLaws.{bound-small}
 use Rattle.answers.specs.Answers.{reported, refused, memoryLimit}
 use Rattle.answers.proofs.AnswerLaws.{never, from-reading, place-from}
 use Rattle.decide_entry.specs.declared.Source.{Source}
-use Rattle.decide_entry.specs.declared.Source.the-variants.{First, Merging}
+use Rattle.decide_entry.specs.declared.Source.the-variants.{First, Merging, Split}
 use Rattle.decide_entry.specs.Decision.{fits, over, undecided, decisionText}
 use Rattle.decide_entry.specs.Answers.{forSize, byMerging, decided, decideRoutine, decideAnswer}
 use Rattle.decide_entry.specs.Promises.{Gives, Decided, KeptRuns, KeepsTick, OverTick, UndecidedTick, DecisionsKept}
@@ -109,6 +110,7 @@ module _ (text : List ℕ) (n : ℕ) (bs : List ℕ) (e : decideAnswer text n �
       let closed = rw (← p .1) at (passing-closed (lines text) (p .0)) in
       let k = merged-interruptible (x .code) forward closed (x .start) q (is .gives .3) s g answers m in
       record { moves = k .moves; cycles = omega (arith, k .cycles); words = omega (arith, k .words); depth = k .depth; heights = k .heights; steps = k .steps; stops = k .stops }
+  safe x Split q is h s g answers m = absurd (is .gives)
 
   pub keeps : KeepsTick text bs
   keeps says =
@@ -124,12 +126,18 @@ module _ (text : List ℕ) (n : ℕ) (bs : List ℕ) (e : decideAnswer text n �
       let is : Decided text bs (d .x) First (d .q) = rw (h .0) at (d .is) in
       (d .x, d .q, d .q .cycles, is, bound-exact (d .x .code) (d .x .budget) (d .x .start) (d .q) (is .gives) .cycles, h .1)
 
+  -- it is never decided by cases
+  by-merging : (x : Routine) (source : Source) (q : Report) → Decided text bs x source q → (source ≡ Merging) ⊎ (source ≡ Split) → source ≡ Merging
+  unfolding Gives
+  by-merging x source q is (inl e) = e
+  by-merging x source q is (inr e) = let k : Decided text bs x Split q = rw e at is in absurd (k .gives)
+
   pub undecided-tick : UndecidedTick text bs
   unfolding Gives
   undecided-tick says =
       let d = of in
       let h = ruled-undecided (d .source) (d .x .tick) (d .q .cycles) (says-ruling (d .source) (d .x .tick) (d .q) undecided bs (d .is .prints) says) in
-      let is : Decided text bs (d .x) Merging (d .q) = rw (h .0) at (d .is) in
+      let is : Decided text bs (d .x) Merging (d .q) = rw (by-merging (d .x) (d .source) (d .q) (d .is) (h .0)) at (d .is) in
       let p = read-passes text (d .x) (is .reads) in
       let forward = rw (← p .1) at (passing-forward (lines text) (p .0)) in
       let closed = rw (← p .1) at (passing-closed (lines text) (p .0)) in
@@ -145,6 +153,7 @@ module _ (text : List ℕ) (n : ℕ) (bs : List ℕ) (e : decideAnswer text n �
   sized x Merging q is =
       let p = read-passes text x (is .reads) in
       decision-fits Merging (x .tick) q (rw (p .1) (tick-small (p .0))) (bound-small (x .tick) q (ticks text x (p .0) (p .1)) (merged-limited text x (p .0) (p .1) q (is .gives .3)))
+  sized x Split q is = absurd (is .gives)
 
   pub decide-reported : (1 ≤ length bs) × (length bs ≤ memoryLimit) × (memoryLimit ≤ n)
   decide-reported =

@@ -8,17 +8,18 @@ use Rattle.text.specs.Decimal.{decimal}
 use Rattle.bounds.specs.Tree.{Report}
 use Rattle.report.specs.Report.{space, feed}
 use Rattle.decide_entry.specs.declared.Source.{Source}
-use Rattle.decide_entry.specs.declared.Source.the-variants.{First, Merging}
+use Rattle.decide_entry.specs.declared.Source.the-variants.{First, Merging, Split}
 
 -- column DECISION
 pub data Ruling : Type 0 where
   fits over undecided : Ruling
 
--- CYCLES at most TICK: FITS, by either bound; CYCLES above TICK: OVER by the first bound, UNDECIDED by the merging bound, whose cycles
--- may be above the maximum cost
+-- CYCLES at most TICK: FITS, by each bound; CYCLES above TICK: OVER by the first bound, UNDECIDED by the merging bound and by the bound
+-- by cases, whose cycles may be above the maximum cost
 unfoldable pub ruling : Source → ℕ → ℕ → Ruling
 ruling First tick cycles = cond (ltb tick cycles) over fits
 ruling Merging tick cycles = cond (ltb tick cycles) undecided fits
+ruling Split tick cycles = cond (ltb tick cycles) undecided fits
 
 -- the word of a decision
 unfoldable pub rulingWord : Ruling → List ℕ
@@ -30,6 +31,7 @@ rulingWord undecided = bytes "UNDECIDED"
 unfoldable pub sourceWord : Source → List ℕ
 sourceWord First = bytes "FIRST"
 sourceWord Merging = bytes "MERGING"
+sourceWord Split = bytes "SPLIT"
 
 -- the line of names
 abbrev pub decisionNames : List ℕ

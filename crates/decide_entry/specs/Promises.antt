@@ -18,7 +18,7 @@ use Rattle.merges.specs.Ways.{table, MergedPath}
 use Rattle.routine.specs.Routine.{Routine, routine, readBound}
 use Rattle.report.specs.Report.{space}
 use Rattle.decide_entry.specs.declared.Source.{Source}
-use Rattle.decide_entry.specs.declared.Source.the-variants.{First, Merging}
+use Rattle.decide_entry.specs.declared.Source.the-variants.{First, Merging, Split}
 use Rattle.decide_entry.specs.Decision.{Ruling, fits, over, undecided, rulingWord, decisionNames, decisionText}
 use Rattle.answers.specs.Answers.{reported}
 use Rattle.decide_entry.specs.Answers.{forSize, decideAnswer}
@@ -27,10 +27,11 @@ use Rattle.decide_entry.specs.Answers.{forSize, decideAnswer}
 abbrev pub Says : Ruling → List ℕ → Type 0
 Says d bytes = (rest : List ℕ) × (bytes ≡ decisionNames ++ rulingWord d ++ space ++ rest)
 
--- the figures q are those of the bound that is named; the merging bound is asked only where the first refuses by 8 or 9
+-- the figures q are those of the bound that is named; the merging bound is asked only where the first refuses by 8 or 9, and the bound by cases never
 unfoldable pub Gives : Routine → Source → Report → Type 0
 Gives x First q = bound (x .code) (x .budget) (x .start) ≡ accepted q
 Gives x Merging q = (r : Refusal) × (bound (x .code) (x .budget) (x .start) ≡ refused r) × (forSize r ≡ true) × (merged (x .code) (x .start) ≡ accepted q)
+Gives x Split q = ⊥
 
 -- the bytes are the decision on the routine x that the text holds, by the bound that is named and with its figures q
 pub record Decided (text bytes : List ℕ) (x : Routine) (s : Source) (q : Report) : Type 0 where

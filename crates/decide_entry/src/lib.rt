@@ -24,6 +24,7 @@ ghost use Rattle.decide_entry.specs.Held.{reportIn, Roomy};
 pub enum Source {
     First,
     Merging,
+    Split,
 }
 
 // Whether the first bound has too much to walk.
@@ -55,11 +56,18 @@ fn put_ruling(out: &mut [u8], at: usize, source: Source, tick: u64, cycles: u64)
                 text::put(out, at, b"FITS MERGING")
             }
         }
+        Source::Split => {
+            if tick < cycles {
+                text::put(out, at, b"UNDECIDED SPLIT")
+            } else {
+                text::put(out, at, b"FITS SPLIT")
+            }
+        }
     }
 }
 
 // Puts the decision by the figures found at the start of out, and answers its length.
-fn put_decision(out: &mut [u8], source: Source, tick: u64, found: Found) -> usize
+pub fn put_decision(out: &mut [u8], source: Source, tick: u64, found: Found) -> usize
     requires { ⌜ length (decisionText source tick (reportIn found)) ≤ length (now out) ⌝ }
     ensures { λ r. ⌜ r ≡ length (decisionText source tick (reportIn found)) ⌝ }
     ensures { λ _. ⌜ now (out .exit) ≡ decisionText source tick (reportIn found) ++ drop (length (decisionText source tick (reportIn found))) (now (out .entry)) ⌝ }

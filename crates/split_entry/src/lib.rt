@@ -24,7 +24,7 @@ ghost use Rattle.split_entry.specs.Promises.{SafeSplit, ExactSplit, Belo
 ghost use Rattle.split_entry.specs.Held.{Read};
 
 // The refusal of the cuts, beside the names of the cells of a routine file.
-fn check(text: &[u8], cuts: &[u8]) -> Verdict
+pub fn check(text: &[u8], cuts: &[u8]) -> Verdict
     ensures { λ r. ⌜ r ≡ cutsChecked (now (text .entry)) (now (cuts .entry)) ⌝ }
 {
     let cells = layout::text_of(text, Role::Names(Section::Cells));
@@ -33,7 +33,7 @@ fn check(text: &[u8], cuts: &[u8]) -> Verdict
 }
 
 // The routine's bound by the cases of an accepted text of cuts.
-fn bounded(routine: Routine, cuts: &[u8]) -> Found
+pub fn bounded(routine: Routine, cuts: &[u8]) -> Found
     requires { ⌜ Limited routine × (length (lines (now cuts)) ≤ 17) ⌝ }
     ensures { λ r. ⌜ Shows r (split (routineIn routine .code) (cutsOf (now (cuts .entry))) (routineIn routine .start)) ⌝ }
     ensures { λ r. ⌜ Shareable r ⌝ }

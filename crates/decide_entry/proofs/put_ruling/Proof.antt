@@ -2,7 +2,7 @@
 use mathlib.Core.Path.{ap}
 use native.Mathlib.Omega.{arith}
 use lib.ListN.{length}
-use Rattle.decide_entry.proofs.DecisionLaws.{words-over, words-fit-first, words-undecided, words-fit-merging}
+use Rattle.decide_entry.proofs.DecisionLaws.{words-over, words-fit-first, words-undecided, words-fit-merging, words-undecided-split, words-fit-split}
 use borrow.Author.Needs.{needs}
 use Rattle.decide_entry.proofs.put_ruling.Statement.{statement}
 use Rattle.decide_entry.proofs.put_ruling.Tie as tie
@@ -31,6 +31,18 @@ put-requires-4 c κs =
     let e = words-fit-merging (s .args .source) (s .args .tick) (s .args .cycles) (c .before .before .before .enum-told2 .given .1) (c .before .before .if2 .left) in
     omega (arith, s .pre, ap length e)
 
+put-requires-5 : tie.Need-put-requires-5
+put-requires-5 c κs =
+    let s = c .before .before .before .before .before .before in
+    let e = words-undecided-split (s .args .source) (s .args .tick) (s .args .cycles) (c .before .before .before .enum-told3 .given .1) (c .before .before .if3 .taken) in
+    omega (arith, s .pre, ap length e)
+
+put-requires-6 : tie.Need-put-requires-6
+put-requires-6 c κs =
+    let s = c .before .before .before .before .before .before in
+    let e = words-fit-split (s .args .source) (s .args .tick) (s .args .cycles) (c .before .before .before .enum-told3 .given .1) (c .before .before .if3 .left) in
+    omega (arith, s .pre, ap length e)
+
 returns : tie.Need-returns
 returns c =
     let s = c .before .before .before .before .before .before .before .before .before in
@@ -51,6 +63,16 @@ returns-4 c =
     let s = c .before .before .before .before .before .before .before .before .before in
     rw (words-fit-merging (s .args .source) (s .args .tick) (s .args .cycles) (c .before .before .before .before .before .before .enum-told2 .given .1) (c .before .before .before .before .before .if2 .left)) (c .before .before .put4 .ensures)
 
+returns-5 : tie.Need-returns-5
+returns-5 c =
+    let s = c .before .before .before .before .before .before .before .before .before in
+    rw (words-undecided-split (s .args .source) (s .args .tick) (s .args .cycles) (c .before .before .before .before .before .before .enum-told3 .given .1) (c .before .before .before .before .before .if3 .taken)) (c .before .before .put5 .ensures)
+
+returns-6 : tie.Need-returns-6
+returns-6 c =
+    let s = c .before .before .before .before .before .before .before .before .before in
+    rw (words-fit-split (s .args .source) (s .args .tick) (s .args .cycles) (c .before .before .before .before .before .before .enum-told3 .given .1) (c .before .before .before .before .before .if3 .left)) (c .before .before .put6 .ensures)
+
 pub put-ruling-spec : {M : Type 1} → statement M
 put-ruling-spec =
     tie.close
@@ -66,10 +88,19 @@ put-ruling-spec =
     (λ c. search needs)
     put-requires-4
     (λ c. search needs)
+    (λ c. search needs)
+    put-requires-5
+    (λ c. search needs)
+    put-requires-6
+    (λ c. search needs)
     returns
     (λ c. search needs)
     returns-2
     (λ c. search needs)
     returns-3
     (λ c. search needs)
-    returns-4)
+    returns-4
+    (λ c. search needs)
+    returns-5
+    (λ c. search needs)
+    returns-6)
