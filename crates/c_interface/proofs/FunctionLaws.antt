@@ -37,6 +37,9 @@ use Rattle.generating.specs.Answers.{generatorLimit, generateAnswer}
 use Rattle.generating.proofs.FunctionLaws.{generate-reported, generate-place}
 use Rattle.decide_entry.specs.Answers.{decideAnswer}
 use Rattle.decide_entry.proofs.PromiseLaws.{decide-reported, decide-place}
+use Rattle.decide_split_entry.specs.Answers.{decideSplitAnswer}
+use Rattle.decide_split_entry.proofs.FunctionLaws.{decide-split-reported}
+use Rattle.decide_split_entry.proofs.Theorems.{decide-split-place}
 use Rattle.trace_entry.specs.Answers.{traceMemory, traceAnswer}
 use Rattle.trace_entry.proofs.Theorems.{traces-fit, trace-place}
 use Rattle.c_interface.specs.Functions.{toldLength, wordOf, Tells, AnswerTold, RefusesWord}
@@ -182,6 +185,13 @@ decide-limits text n = record {
   refusal = λ r e. omega (arith, decide-place text n r e);
 }
 
+pub decide-split-limits : (text cuts : List ℕ) (n : ℕ) → WithinLimits memoryLimit (decideSplitAnswer text cuts n)
+decide-split-limits text cuts n = record {
+  small = omega arith;
+  report = λ bs e. let r = decide-split-reported text cuts n bs e in (r .0, r .1);
+  refusal = λ r e. omega (arith, decide-split-place text cuts n r e);
+}
+
 pub explain-limits : (text : List ℕ) (n : ℕ) → WithinLimits explanationLimit (explainAnswer text n)
 explain-limits text n = record {
   small = omega arith;
@@ -305,6 +315,12 @@ split-tells text cuts n = tells (split-limits text cuts n)
 
 pub split-length : (text cuts : List ℕ) (n : ℕ) (r : code.Answer) → r ≡ answerOf (splitAnswer text cuts n) → (w : ℕ) → w ≡ wordOf r → reportLength r ≡ toldLength w
 split-length text cuts n r e w f = rw (f, e) (sym (told-length memoryLimit (splitAnswer text cuts n) (split-limits text cuts n)))
+
+pub decide-split-tells : (text cuts : List ℕ) (n w : ℕ) → w ≡ wordOf (answerOf (decideSplitAnswer text cuts n)) → Tells memoryLimit (decideSplitAnswer text cuts n) w
+decide-split-tells text cuts n = tells (decide-split-limits text cuts n)
+
+pub decide-split-length : (text cuts : List ℕ) (n : ℕ) (r : code.Answer) → r ≡ answerOf (decideSplitAnswer text cuts n) → (w : ℕ) → w ≡ wordOf r → reportLength r ≡ toldLength w
+decide-split-length text cuts n r e w f = rw (f, e) (sym (told-length memoryLimit (decideSplitAnswer text cuts n) (decide-split-limits text cuts n)))
 
 pub replay-tells : (text trace : List ℕ) (n w : ℕ) → w ≡ wordOf (answerOf (replayAnswer text trace n)) → Tells memoryLimit (replayAnswer text trace n) w
 replay-tells text trace n = tells (replay-limits text trace n)

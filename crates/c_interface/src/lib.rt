@@ -19,6 +19,8 @@ ghost use Rattle.explanations.specs.Answers.{explanationLimit, explainAnswer};
 ghost use Rattle.explain_merge_entry.specs.Answers.{explainMergeAnswer};
 ghost use Rattle.decide_entry.specs.Answers.{decideAnswer};
 ghost use Rattle.decide_entry.specs.Promises.{KeepsTick, OverTick, UndecidedTick};
+ghost use Rattle.decide_split_entry.specs.Answers.{decideSplitAnswer};
+ghost use Rattle.decide_split_entry.specs.Promises.{KeepsTickByCases, UndecidedByCases};
 ghost use Rattle.trace_entry.specs.Answers.{traceMemory, traceAnswer};
 ghost use Rattle.trace_entry.specs.Promises.{TracesRun};
 ghost use Rattle.sensitivity.specs.Answers.{nearestAnswer};
@@ -212,6 +214,19 @@ pub extern "C" fn tickbound_decide(text: &[u8], out: &mut [u8]) -> u64
     ensures undecided { λ r. ⌜ Delivers (toldLength r) (now (out .exit)) (UndecidedTick (now (text .entry))) ⌝ }
 {
     let decided = decide_entry::decide(text, out);
+    word_of(decided)
+}
+
+// `decide_split_entry::decide_split` for C.
+#[no_mangle]
+pub extern "C" fn tickbound_decide_split(text: &[u8], cuts: &[u8], out: &mut [u8]) -> u64
+    ensures { λ r. ⌜ r ≡ wordOf (answerOf (decideSplitAnswer (now (text .entry)) (now (cuts .entry)) (length (now (out .entry))))) ⌝ }
+    ensures { λ _. ⌜ now (out .exit) ≡ memory (decideSplitAnswer (now (text .entry)) (now (cuts .entry)) (length (now (out .entry)))) (now (out .entry)) ⌝ }
+    ensures tells { λ r. ⌜ Tells memoryLimit (decideSplitAnswer (now (text .entry)) (now (cuts .entry)) (length (now (out .entry)))) r ⌝ }
+    ensures keeps { λ r. ⌜ Delivers (toldLength r) (now (out .exit)) (KeepsTickByCases (now (text .entry)) (now (cuts .entry))) ⌝ }
+    ensures undecided { λ r. ⌜ Delivers (toldLength r) (now (out .exit)) (UndecidedByCases (now (text .entry)) (now (cuts .entry))) ⌝ }
+{
+    let decided = decide_split_entry::decide_split(text, cuts, out);
     word_of(decided)
 }
 
