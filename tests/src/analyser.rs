@@ -27,6 +27,22 @@ extern "C" {
         report: *mut u8,
         report_length: usize,
     ) -> u64;
+    fn tickbound_split(
+        text: *const u8,
+        text_length: usize,
+        cuts: *const u8,
+        cuts_length: usize,
+        report: *mut u8,
+        report_length: usize,
+    ) -> u64;
+    fn tickbound_decide_split(
+        text: *const u8,
+        text_length: usize,
+        cuts: *const u8,
+        cuts_length: usize,
+        report: *mut u8,
+        report_length: usize,
+    ) -> u64;
     fn tickbound_preview(
         text: *const u8,
         text_length: usize,
@@ -109,6 +125,18 @@ pub fn replay(text: &[u8], trace: &[u8], report: &mut [u8]) -> u64 {
     let (length, lent) = (trace.len(), report.len());
     // SAFETY: as above, of three memories.
     unsafe { tickbound_replay(start(text), text.len(), start(trace), length, start_mut(report), lent) }
+}
+
+pub fn split(text: &[u8], cuts: &[u8], report: &mut [u8]) -> u64 {
+    let (length, lent) = (cuts.len(), report.len());
+    // SAFETY: as above, of three memories.
+    unsafe { tickbound_split(start(text), text.len(), start(cuts), length, start_mut(report), lent) }
+}
+
+pub fn decide_split(text: &[u8], cuts: &[u8], report: &mut [u8]) -> u64 {
+    let (length, lent) = (cuts.len(), report.len());
+    // SAFETY: as above, of three memories.
+    unsafe { tickbound_decide_split(start(text), text.len(), start(cuts), length, start_mut(report), lent) }
 }
 
 pub fn preview(text: &[u8], address: u32, instruction: &[u8], report: &mut [u8]) -> u64 {

@@ -326,6 +326,11 @@ fn interrupted(random: &mut Random, text: &[u8]) -> Result<u64, String> {
 fn interrupted_and_merged(random: &mut Random, text: &[u8]) -> Result<(), String> {
     let routine = read(text, false).unwrap();
     let most = merge(&routine, routine.start.clone()).unwrap();
+    interrupted_within(random, text, &most)
+}
+
+/// The same within figures of the merging bound or of the bound by cases.
+pub fn interrupted_within(random: &mut Random, text: &[u8], most: &Figures) -> Result<(), String> {
     for _ in 0..3 {
         let filled = read(&filled(random, text), true);
         let Ok(filled) = filled else {
@@ -333,8 +338,8 @@ fn interrupted_and_merged(random: &mut Random, text: &[u8]) -> Result<(), String
         };
         let n = random.below(most.steps as usize + 2);
         let (run, afresh) = interrupt(merge, &filled, filled.start.clone(), &filled.answers, n)?;
-        if !within(&run, &afresh, &most) || run.steps + afresh.steps > most.steps {
-            return Err(format!("a run interrupted after {n} steps is not within the report of the merging bound"));
+        if !within(&run, &afresh, most) || run.steps + afresh.steps > most.steps {
+            return Err(format!("a run interrupted after {n} steps is not within the figures {most:?}"));
         }
     }
     Ok(())

@@ -19,6 +19,7 @@ mod recordings;
 mod replays;
 mod seeds;
 mod shares;
+mod splits;
 mod traces;
 mod ways;
 mod wraps;
@@ -50,6 +51,7 @@ use independent::replay_cases;
 use independent::report::{bound_answer, merge_answer, printed, told, Answer, MEMORY};
 use independent::routine::{line, read, KINDS};
 use independent::seeded;
+use independent::split_cases;
 use independent::texts::{texts, TEXTS};
 use independent::trace;
 use independent::way::explain_merge_answer;
@@ -62,7 +64,7 @@ use narrowed::Narrowed;
 use nearests::{compare_nearest, nearest_by_program, Nearests};
 use pinned::{
     pinned, pinned_decision, pinned_export, pinned_import, pinned_merge, pinned_nearest, pinned_preview, pinned_range,
-    pinned_replay, pinned_way,
+    pinned_replay, pinned_split, pinned_way,
 };
 use previews::{compare_preview, preview_by_program, Previews};
 use ranges::Ranges;
@@ -70,6 +72,7 @@ use recordings::{traced, Recordings};
 use replays::{replay_by_program, replayed};
 use seeds::{pinned_seeds, seeds, Seeds};
 use shares::Shares;
+use splits::Splits;
 use std::collections::{BTreeMap, BTreeSet};
 use std::path::Path;
 use traces::Traces;
@@ -106,6 +109,7 @@ struct Tally {
     nearests: Nearests,
     explanations: Explanations,
     ways: Ways,
+    splits: Splits,
     decisions: Decisions,
     seeds: Seeds,
 }
@@ -169,10 +173,12 @@ impl Tally {
         export_by_program(programs, text, &exported)
     }
 
-    /// The merging bound of a file explained.
-    fn merged(&mut self, random: &mut Random, text: &[u8]) -> Result<(), String> {
+    /// The merging bound of a file explained, its bound by cases, and that of a file drawn for it.
+    fn merged(&mut self, random: &mut Random, text: &[u8], programs: Option<&Path>) -> Result<(), String> {
         let [bound, merge] = [bound_answer(text, MEMORY), merge_answer(text, MEMORY)];
-        self.ways.compare(random, text, [&bound, &merge])
+        self.ways.compare(random, text, [&bound, &merge])?;
+        self.splits.compare(random, text, [&bound, &merge], programs)?;
+        self.splits.tested(random, programs)
     }
 
     /// All comparisons on words and a primitives line.
@@ -331,6 +337,25 @@ fn compare_ways(tally: &mut Tally, random: &mut Random) {
     }
 }
 
+/// The bounds by cases and their decisions that are pinned; and those of the examples and of the texts of both bounds, with drawn cuts.
+fn compare_splits(tally: &mut Tally, programs: &Path, random: &mut Random) {
+    let pinned = split_cases::splits();
+    let (found, wanted) = (pinned.len(), split_cases::CASES);
+    let count = if found == wanted { Ok(()) } else { Err(format!("{found}, not {wanted}")) };
+    tally.count("the count of the bounds by cases", &[], count);
+    for case in &pinned {
+        let found = pinned_split(programs, random, case);
+        tally.count(&format!("the bound by cases {}", case.name), &case.text, found);
+    }
+    let mut texts = examples();
+    texts.extend(merges().into_iter().map(|text| (text.name.to_string(), text.bytes)));
+    for (name, text) in &texts {
+        let [bound, merge] = [bound_answer(text, MEMORY), merge_answer(text, MEMORY)];
+        let found = Splits::default().compare(random, text, [&bound, &merge], Some(programs));
+        tally.count(&format!("the bound by cases of {name}"), text, found);
+    }
+}
+
 /// The replays with pinned answers.
 fn compare_replays(tally: &mut Tally, programs: &Path, random: &mut Random) {
     let cases = replay_cases::replays();
@@ -441,7 +466,8 @@ const MANY: u64 = 5_000;
 /// Whether what was compared had all kinds in accepted code and in accepted words, reports, each refusal of a text, extras wherever they
 /// count, handles in operations on two cells, numbers that wrap and numbers just outside their range, SHARE at a half and next to it,
 /// jumps forward and backward, ways that meet and ways that do not, ranges in cells, operations and conditions, figures that fall where
-/// more is known, files that know all, each cause by which words are refused, traces that agree, differ and are refused by each cause,
+/// more is known, files that know all, merged ways with each kind of tie, cuts that lower a report in each figure and are refused by each
+/// cause, each cause by which words are refused, traces that agree, differ and are refused by each cause,
 /// previews with a report or a refusal of each kind, changes of a number that move the bound in each way, and none that do, and decisions
 /// of each row and with each refusal, 25 of each in 20,000 files.
 fn covers(tally: &Tally, count: u64) -> Result<(), String> {
@@ -449,7 +475,7 @@ fn covers(tally: &Tally, count: u64) -> Result<(), String> {
     let of_words = tally.causes.counts().into_iter().chain(tally.traces.counts()).chain(tally.recordings.counts());
     let of_others = of_words.chain(tally.previews.counts()).chain(tally.nearests.counts());
     let counts = tally.counts().chain(of_others);
-    let counts = counts.chain(tally.explanations.counts()).chain(tally.ways.counts());
+    let counts = counts.chain(tally.explanations.counts()).chain(tally.ways.counts()).chain(tally.splits.counts());
     let too_few = counts.filter(|(_, count)| *count < MANY / 200);
     let rare: Vec<_> = too_few
         .chain(tally.traces.rare().into_iter().chain(tally.previews.rare()).filter(|(_, count)| *count < MANY / 1000))
@@ -547,6 +573,7 @@ fn main() {
     compare_nearests(&mut tally, programs, &mut Random::new(seed));
     compare_explanations(&mut tally, programs, &mut Random::new(seed));
     compare_ways(&mut tally, &mut Random::new(seed));
+    compare_splits(&mut tally, programs, &mut Random::new(seed));
     compare_seeds(&mut tally, programs, &mut Random::new(seed));
     for number in 0..count {
         let mut random = Random::new(seed.wrapping_mul(1_000_003).wrapping_add(number));
@@ -566,7 +593,7 @@ fn main() {
         let searched = nearest_draft::file(&mut random);
         let found = tally.nearest(&mut random, &searched, given);
         tally.count(&format!("search {number} of seed {seed}"), &searched, found);
-        let found = tally.merged(&mut random, &text);
+        let found = tally.merged(&mut random, &text, given);
         tally.count(&format!("merged file {number} of seed {seed}"), &text, found);
     }
 
@@ -586,7 +613,7 @@ fn main() {
     }
     println!("kinds in the words of accepted imports: {}", tally.causes.kinds());
     let explanations = tally.explanations.counts().into_iter().chain(tally.ways.counts());
-    for (what, count) in explanations.chain(tally.decisions.counts()) {
+    for (what, count) in explanations.chain(tally.splits.counts()).chain(tally.decisions.counts()) {
         println!("{what}: {count}");
     }
     let traces = tally.traces.counts().into_iter().chain(tally.traces.rare()).chain(tally.recordings.counts());

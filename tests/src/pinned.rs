@@ -6,6 +6,7 @@ use crate::imports::{export_by_program, exported, import_by_program, imported};
 use crate::nearests::{compare_search, nearest_by_program};
 use crate::previews::{compare_preview, preview_by_program};
 use crate::replays::{compare_replay, replay_by_program};
+use crate::splits::{compare_split, split_by_program};
 use crate::ways::compare_way;
 use independent::analyser::{self, Function};
 use independent::change::{Bounds, Text, Three};
@@ -18,6 +19,8 @@ use independent::preview::{preview_answer, Preview};
 use independent::random::Random;
 use independent::replay::replay_answer;
 use independent::report::{bound_answer, merge_answer, printed, run_answer, Answer};
+use independent::split::{decide_split_answer, split_answer};
+use independent::split_cases::Case as SplitCase;
 use independent::trace_draft::Replay;
 use independent::way::explain_merge_answer;
 use independent::way_cases::Case as WayCase;
@@ -107,6 +110,17 @@ pub fn pinned_way(random: &mut Random, case: &WayCase) -> Result<(), String> {
     let call = |memory: &mut [u8]| analyser::explain_merge(&case.text, memory);
     both("explain_merge", &call, case.lent, &own, case.printed.as_bytes())?;
     compare_way(random, &case.text).map(drop)
+}
+
+/// A text and its cuts with the bound by cases and its decision.
+pub fn pinned_split(programs: &Path, random: &mut Random, case: &SplitCase) -> Result<(), String> {
+    let SplitCase { text, cuts, lent, printed: [report, decision], .. } = case;
+    let own = split_answer(text, cuts, *lent);
+    both("split", &|memory| analyser::split(text, cuts, memory), *lent, &own, report.as_bytes())?;
+    let own = decide_split_answer(text, cuts, *lent);
+    both("decide_split", &|memory| analyser::decide_split(text, cuts, memory), *lent, &own, decision.as_bytes())?;
+    let [answer, _] = compare_split(random, text, cuts)?;
+    split_by_program(programs, text, cuts, &answer)
 }
 
 /// Whether a function and the independent implementation say what is wanted.
