@@ -3,7 +3,7 @@ use crate::arguments::{self, bytes_of, number_of_32_bits, shown, Given, Options}
 use crate::failure::{wrong_call, Failure};
 use crate::input::{self, ROUTINE_LIMIT, TRACE_LIMIT};
 use crate::library::{self, Answer};
-use crate::{output, why};
+use crate::{cuts, output, why};
 
 /// What a routine file by itself can be asked.
 pub struct Question {
@@ -22,6 +22,7 @@ pub const QUESTIONS: [Question; 7] = [
 ];
 
 const OPTIONS: Options = Options { flags: &["--why"], valued: &[] };
+const SPLIT_OPTIONS: Options = Options { flags: &["--why"], valued: &["--cuts"] };
 const EXPLAIN_OPTIONS: Options = Options { flags: &["--why", "--merge"], valued: &[] };
 /// The longest list of primitives that an import takes.
 const PRIMITIVES_LIMIT: usize = 4095;
@@ -98,6 +99,24 @@ pub fn replay(arguments: &[String]) -> Result<u8, Failure> {
         output::say(&format!("tickbound: the place is {place}"));
     }
     finish(&answer, &given, || why::of_replay(&text, &trace, &answer))
+}
+
+/// `split [--cuts CUTS] FILE [CELL:N,N..]..`
+pub fn split(arguments: &[String]) -> Result<u8, Failure> {
+    let given = arguments::read("split", arguments, &SPLIT_OPTIONS)?;
+    let Some((file, words)) = given.words.split_first() else {
+        return Err(wrong_call("split", "give FILE, and then cuts, as S2:500,900"));
+    };
+    let files: Vec<String> =
+        [Some(file.as_str()), given.value("--cuts")].into_iter().flatten().map(str::to_string).collect();
+    arguments::check_input_once("split", &files)?;
+    let text = input::read(file, ROUTINE_LIMIT)?;
+    let cuts = cuts::given("split", given.value("--cuts"), words)?;
+    let answer = library::split(&text, &cuts);
+    if let Answer::Refused { number, .. } = answer {
+        output::say(&format!("tickbound: the place is {}", cuts::place_of(&text, number).told()));
+    }
+    finish(&answer, &given, || why::of_split(&text, &cuts, &answer))
 }
 
 /// `preview ROUTINE ADDRESS INSTRUCTION`

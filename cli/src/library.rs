@@ -8,7 +8,8 @@ mod calls;
 mod calls;
 
 pub use calls::{
-    bound, decide, explain, explain_merge, export, generate, import, merge, nearest, preview, replay, run, trace,
+    bound, decide, decide_split, explain, explain_merge, export, generate, import, merge, nearest, preview, replay,
+    run, split, trace,
 };
 
 /// What the analyser answers.

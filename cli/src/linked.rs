@@ -29,6 +29,22 @@ extern "C" {
         report: *mut u8,
         report_length: usize,
     ) -> u64;
+    fn tickbound_split(
+        text: *const u8,
+        text_length: usize,
+        cuts: *const u8,
+        cuts_length: usize,
+        report: *mut u8,
+        report_length: usize,
+    ) -> u64;
+    fn tickbound_decide_split(
+        text: *const u8,
+        text_length: usize,
+        cuts: *const u8,
+        cuts_length: usize,
+        report: *mut u8,
+        report_length: usize,
+    ) -> u64;
     fn tickbound_preview(
         text: *const u8,
         text_length: usize,
@@ -115,13 +131,26 @@ pub fn import(words: &[u8], primitives: &[u8]) -> Answer {
     answer(number, lines)
 }
 
-pub fn replay(routine: &[u8], trace: &[u8]) -> Answer {
+type OfTwo = unsafe extern "C" fn(*const u8, usize, *const u8, usize, *mut u8, usize) -> u64;
+
+fn of_two(call: OfTwo, routine: &[u8], other: &[u8]) -> Answer {
     let mut report = vec![0; REPORT];
     // SAFETY: as above.
-    let number = unsafe {
-        tickbound_replay(routine.as_ptr(), routine.len(), trace.as_ptr(), trace.len(), report.as_mut_ptr(), REPORT)
-    };
+    let number =
+        unsafe { call(routine.as_ptr(), routine.len(), other.as_ptr(), other.len(), report.as_mut_ptr(), REPORT) };
     answer(number, report)
+}
+
+pub fn replay(routine: &[u8], trace: &[u8]) -> Answer {
+    of_two(tickbound_replay, routine, trace)
+}
+
+pub fn split(routine: &[u8], cuts: &[u8]) -> Answer {
+    of_two(tickbound_split, routine, cuts)
+}
+
+pub fn decide_split(routine: &[u8], cuts: &[u8]) -> Answer {
+    of_two(tickbound_decide_split, routine, cuts)
 }
 
 pub fn preview(routine: &[u8], address: u32, instruction: &[u8]) -> Answer {

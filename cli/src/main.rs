@@ -4,6 +4,7 @@ mod batch;
 mod card;
 mod cells;
 mod commands;
+mod cuts;
 mod extract;
 mod failure;
 mod input;
@@ -18,6 +19,7 @@ mod routine_text;
 mod sha256;
 mod sheet;
 mod streams;
+mod tighten;
 mod usage;
 mod why;
 
@@ -39,6 +41,8 @@ fn dispatch(command: &str, arguments: &[String]) -> Result<u8, Failure> {
         "explain" => commands::explain(arguments),
         "import" => commands::import(arguments),
         "replay" => commands::replay(arguments),
+        "split" => commands::split(arguments),
+        "tighten" => tighten::command(arguments),
         "preview" => commands::preview(arguments),
         "generate" => commands::generate(arguments),
         "sheet" => sheet::command(arguments),

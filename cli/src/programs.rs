@@ -120,6 +120,16 @@ pub fn replay(routine: &[u8], trace: &[u8]) -> Answer {
     answer("replay", Stdio::null(), &[&name_of(&routine), &name_of(&trace)])
 }
 
+pub fn split(routine: &[u8], cuts: &[u8]) -> Answer {
+    let (routine, cuts) = (kept(routine), kept(cuts));
+    answer("split", Stdio::null(), &[&name_of(&routine), &name_of(&cuts)])
+}
+
+/// No program answers this: the launcher builds the library for it.
+pub fn decide_split(_routine: &[u8], _cuts: &[u8]) -> Answer {
+    without_program("the decision by cases")
+}
+
 fn without_program(what: &str) -> ! {
     panic!("{what} needs the library, which is not built")
 }

@@ -11,7 +11,7 @@ pub struct Usage {
 
 const WHY: &str = "--why explains a refusal on standard error";
 
-pub const COMMANDS: [Usage; 17] = [
+pub const COMMANDS: [Usage; 19] = [
     Usage {
         name: "decide",
         call: "decide [--why] [FILE]",
@@ -66,8 +66,37 @@ back from there the lowest origin counts, and T at a branch of which both ways l
 Exit status: 0 a report, 1 refused, 2 anything else.",
     },
     Usage {
+        name: "split",
+        call: "split [--why] FILE CELL:N,N.. .. | split [--why] --cuts CUTS FILE",
+        summary: "the report of the merging bound by cases, made by cutting cells at numbers",
+        text: "\
+Prints the report of the bound by cases. Each cell that is named is cut at its numbers, as S2:500,900 into the numbers
+below 500, those from 500 to 899 and those from 900 on; each choice of one part of each cell is a case. The merging bound is
+made of each case, and the largest of each figure is printed, under the names of `bound`, with PATH `-`. No figure is above
+that of `merge`, and more cuts never give more. A handle, and a number that does not divide its cell, is passed over.
+--cuts takes the cuts from a file: the line CELL FROM, and then at most 16 lines of a cell and a number.
+K cuts make at most 2^K cases, so 65,536 at most, and each takes as long as `merge` does.
+With a refusal it says on standard error where the place is: in the routine file, in the cuts, where CELL FROM is line 1
+also if they were given as words, or an address of a case.
+Exit status: 0 a report, 1 refused, 2 anything else.",
+    },
+    Usage {
+        name: "tighten",
+        call: "tighten [--why] [--passes N] FILE",
+        summary: "chooses cuts that lower the merging bound, and prints `split` with them",
+        text: "\
+Chooses cuts for `split`, and prints its report and then the cuts, as a file for --cuts has them (tail -n +3 takes them
+out). It tries the numbers that the code compares with and one more than each, in each cell with more than one number, and
+takes the cut that lowers CYCLES most; if none does, one that leaves fewer cases with as many CYCLES, or the two that
+separate one number from the others of its cell. It ends when none helps, when 16 are used, or after N merging bounds
+(20,000 without --passes). The report of `split` is proved for all cuts; so how they are chosen is not proved, and need not
+be. Other cuts may give less. --why adds to standard error how many cases and merging bounds there were, or explains a
+refusal.
+Exit status: 0 a report, 1 refused, 2 anything else.",
+    },
+    Usage {
         name: "sheet",
-        call: "sheet [--why] [--html] [--nearest] [--card CARD] [--cells CELLS] FILE",
+        call: "sheet [--why] [--html] [--nearest] [--card CARD] [--cells CELLS] [--cuts CUTS] FILE",
         summary: "the field sheet of a routine, as text or as a page",
         text: "\
 Prints the field sheet of a routine, to be signed. The decision of `decide` comes first (FITS, OVER, NOT DECIDED or
@@ -75,7 +104,7 @@ REFUSED), then the lines of FIELD-SHEET.md with the figures, the inputs for whic
 assume, then the worst path or the code. The file's name, its SHA-256, the version and the page number are on every page.
 --html prints it as a page for a browser and for paper, A4 or Letter. --card names the card on it, whose nine lines the
 file must have; --cells prints the labels of a cells file. --nearest adds the nearest number that moves the bound, which
-can take minutes.
+can take minutes. With --cuts the bound by cases (`split`) decides, FITS or NOT DECIDED, and the cuts stand on the sheet.
 Exit status: 0 FITS, 4 OVER or NOT DECIDED, 1 refused, 2 anything else.",
     },
     Usage {

@@ -5,9 +5,11 @@ use crate::library::{self, Answer};
 pub struct Answers {
     pub decide: Answer,
     /// the first bound's report with the steps of its worst path, or its refusal
-    pub explain: Answer,
+    pub explain: Option<Answer>,
     /// the merging bound's report with a costliest way, or its refusal, where the first refuses by 8 or 9
     pub merge: Option<Answer>,
+    /// what the bound by cases answers, where cuts are given: then it alone decides, and `explain` and `merge` are not asked
+    pub split: Option<Answer>,
     /// the nearest number that moves the bound, where it is asked for; the first bound's refusal where that has none
     pub nearest: Option<Answer>,
 }
@@ -22,8 +24,14 @@ impl Answers {
             decide: library::decide(text),
             merge: is_wide.then(|| library::explain_merge(text)),
             nearest: asks_nearest.then(nearest),
-            explain,
+            split: None,
+            explain: Some(explain),
         }
+    }
+
+    pub fn ask_by_cases(text: &[u8], cuts: &[u8]) -> Answers {
+        let split = Some(library::split(text, cuts));
+        Answers { decide: library::decide_split(text, cuts), explain: None, merge: None, split, nearest: None }
     }
 }
 
@@ -38,6 +46,7 @@ pub enum Verdict {
 pub enum Bound {
     First,
     Merging,
+    Split,
 }
 
 /// The figures as the analyser printed them.
@@ -93,15 +102,18 @@ impl Figures {
     /// The figures of a routine that is decided; none where it is refused.
     pub fn of(answers: &Answers) -> Result<Option<Figures>, Failure> {
         if let Answer::Refused { .. } = answers.decide {
-            return if answers.explain == answers.decide { Ok(None) } else { Err(unread()) };
+            let other = answers.split.as_ref().or(answers.explain.as_ref());
+            return if other == Some(&answers.decide) { Ok(None) } else { Err(unread()) };
         }
         let decided = lines(&answers.decide)?;
         let [verdict_word, bound, cycles, tick, words, depth, steps] = values(&decided)?;
-        let (bound, report) = match (bound.as_str(), &answers.merge) {
-            ("FIRST", _) => (Bound::First, lines(&answers.explain)?),
-            ("MERGING", Some(merge)) => (Bound::Merging, lines(merge)?),
+        let (bound, report) = match bound.as_str() {
+            "FIRST" => (Bound::First, &answers.explain),
+            "MERGING" => (Bound::Merging, &answers.merge),
+            "SPLIT" => (Bound::Split, &answers.split),
             _ => return Err(unread()),
         };
+        let report = lines(report.as_ref().ok_or_else(unread)?)?;
         let [same_cycles, same_words, same_depth, same_steps, share, path] = values(&report)?;
         if [&cycles, &words, &depth, &steps] != [&same_cycles, &same_words, &same_depth, &same_steps] {
             return Err(unread());
@@ -137,18 +149,25 @@ pub mod tests {
     pub const UNDECIDED: &str =
         "DECISION BOUND CYCLES TICK WORDS DEPTH STEPS\nUNDECIDED MERGING 149980 149979 151 6 814\n";
 
+    pub const CASES_DECIDED: &str = "DECISION BOUND CYCLES TICK WORDS DEPTH STEPS\nUNDECIDED SPLIT 16 15 1 1 6\n";
+    pub const CASES: &str = "CYCLES WORDS DEPTH STEPS SHARE PATH\n16 1 1 6 1067 -\n";
+
     pub fn first(decided: &str, explained: &str) -> Answers {
-        Answers { decide: report(decided), explain: report(explained), merge: None, nearest: None }
+        Answers { decide: report(decided), explain: Some(report(explained)), merge: None, split: None, nearest: None }
     }
 
     pub fn merged(decided: &str, merged: &str) -> Answers {
-        let explain = Answer::Refused { number: 8, place: 234 };
-        Answers { decide: report(decided), explain, merge: Some(report(merged)), nearest: None }
+        let explain = Some(Answer::Refused { number: 8, place: 234 });
+        Answers { decide: report(decided), explain, merge: Some(report(merged)), split: None, nearest: None }
+    }
+
+    pub fn by_cases(decided: &str, split: &str) -> Answers {
+        Answers { decide: report(decided), explain: None, merge: None, split: Some(report(split)), nearest: None }
     }
 
     pub fn refused(number: u16, place: u32, merge: Option<Answer>) -> Answers {
         let refusal = Answer::Refused { number, place };
-        Answers { decide: refusal.clone(), explain: refusal, merge, nearest: None }
+        Answers { decide: refusal.clone(), explain: Some(refusal), merge, split: None, nearest: None }
     }
 
     #[test]
@@ -157,6 +176,9 @@ pub mod tests {
         assert_eq!((figures.verdict, figures.bound), (Verdict::Fits, Bound::First));
         assert_eq!([figures.cycles, figures.tick, figures.share, figures.path], ["65", "1000", "65", "N"]);
         assert!(Figures::of(&refused(13, 21, None)).unwrap().is_none());
+        let figures = Figures::of(&by_cases(CASES_DECIDED, CASES)).unwrap().unwrap();
+        assert_eq!((figures.verdict, figures.bound), (Verdict::Undecided, Bound::Split));
+        assert!(said(Figures::of(&by_cases(UNDECIDED, MERGED))).contains("use no figure"));
     }
 
     #[test]
@@ -170,7 +192,7 @@ pub mod tests {
             assert!(said(Figures::of(&answers)).contains("use no figure"));
         }
         let mut answers = refused(13, 21, None);
-        answers.explain = report(EXPLAINED);
+        answers.explain = Some(report(EXPLAINED));
         assert!(said(Figures::of(&answers)).contains("use no figure"));
     }
 }

@@ -2,7 +2,7 @@
 use super::answers::{apart, Answers, Bound, Figures, Verdict};
 use super::content::{counted, last_name, Heading, Line, Sheet};
 use super::refusal::Refusal;
-use super::{clients, decision, listing, prices};
+use super::{cases, clients, decision, listing, prices};
 use crate::card::Card;
 use crate::cells::Cells;
 use crate::failure::Failure;
@@ -18,6 +18,8 @@ pub struct Sources<'a> {
     pub bytes: &'a [u8],
     pub card: Option<&'a Card>,
     pub cells: Option<&'a Cells>,
+    /// the text of the cuts, which are without a fault
+    pub cuts: Option<&'a [u8]>,
 }
 
 fn heading(sources: &Sources) -> Heading {
@@ -52,7 +54,7 @@ pub fn sheet(sources: &Sources, answers: &Answers) -> Result<Sheet, Failure> {
 
 /// A sheet without a figure, and without a number of the file that could be taken for one.
 fn refused(sources: &Sources, answers: &Answers) -> Result<Sheet, Failure> {
-    let both = refusal(Some(&answers.explain)).zip(refusal(answers.merge.as_ref()));
+    let both = refusal(answers.explain.as_ref()).zip(refusal(answers.merge.as_ref()));
     let lines = match (both, refusal(Some(&answers.decide))) {
         (Some((first, merging)), _) => {
             let routine = RoutineText::read(sources.file, sources.bytes)?;
@@ -69,8 +71,11 @@ fn refused(sources: &Sources, answers: &Answers) -> Result<Sheet, Failure> {
 fn with_figures(sources: &Sources, answers: &Answers, figures: &Figures) -> Result<Sheet, Failure> {
     let routine = RoutineText::read(sources.file, sources.bytes)?;
     check(sources, &routine)?;
-    let first = refusal(Some(&answers.explain));
-    let remedy = first.map(|first| decision::first_remedy(first, &routine));
+    let first = refusal(answers.explain.as_ref());
+    let remedy = match figures.bound {
+        Bound::Split => Some(decision::cases_remedy(&routine)),
+        _ => first.map(|first| decision::first_remedy(first, &routine)),
+    };
     let mut lines = vec![
         pulse_margin(figures)?,
         reserved_block(figures),
@@ -80,6 +85,7 @@ fn with_figures(sources: &Sources, answers: &Answers, figures: &Figures) -> Resu
         decision::which_bound(figures, first),
         prices::line(&routine, sources.card),
     ];
+    lines.extend(sources.cuts.map(|cuts| cases::line(&routine, cuts)));
     lines.extend(clients::blocks(&routine, sources.cells));
     lines.extend(nearest(answers.nearest.as_ref()));
     Ok(Sheet {
@@ -88,7 +94,7 @@ fn with_figures(sources: &Sources, answers: &Answers, figures: &Figures) -> Resu
         printed: figures.decided.iter().chain(&figures.report[..2]).cloned().collect(),
         lines,
         intro: intro(figures),
-        path: Some(listing::path(figures)),
+        path: listing::path(figures),
         code: Some(listing::code(figures, &routine)),
     })
 }
@@ -117,6 +123,7 @@ fn not_refused(figures: &Figures) -> Line {
     let text = match figures.bound {
         Bound::First => "It is not refused: the first bound answers.",
         Bound::Merging => "The first bound is refused, and the merging bound answers.",
+        Bound::Split => "It is not refused: the bound by cases answers.",
     };
     Line::prose("Refused routine", text)
 }
@@ -134,6 +141,9 @@ fn nearest(answer: Option<&Answer>) -> Option<Line> {
 
 fn intro(figures: &Figures) -> String {
     let Figures { path, steps, report, .. } = figures;
+    if figures.bound == Bound::Split {
+        return "The code. The bound by cases has no single worst path, and none is shown.".into();
+    }
     let length = report.len() - 3;
     if figures.bound == Bound::Merging {
         return format!(

@@ -22,6 +22,17 @@ pub fn first_remedy(first: Refusal, routine: &RoutineText) -> String {
     }
 }
 
+/// The remedy that applies first where the bound by cases is above TICK.
+pub fn cases_remedy(routine: &RoutineText) -> String {
+    match clients::open_names(routine).is_empty() {
+        true => "No cell is open: no cut can lower it.".into(),
+        false => {
+            "Choose other cuts (tickbound tighten), or write a number or a narrower range into a cell that is open."
+                .into()
+        }
+    }
+}
+
 /// The decision on a routine with figures; the remedy is that of one which is not decided.
 pub fn of_figures(figures: &Figures, remedy: Option<String>) -> Result<Decision, Failure> {
     let Figures { cycles, tick, .. } = figures;
@@ -33,6 +44,13 @@ pub fn of_figures(figures: &Figures, remedy: Option<String>) -> Result<Decision,
             "OVER",
             format!(
                 "The bound is {above} over: CYCLES {cycles} is above TICK {tick}. The bound may count a path that no run takes."
+            ),
+        ),
+        Verdict::Undecided if figures.bound == Bound::Split => (
+            "NOT DECIDED",
+            format!(
+                "The bound by cases has CYCLES {cycles}, which is {above} above TICK {tick}. {}",
+                remedy.unwrap_or_default()
             ),
         ),
         Verdict::Undecided => (
@@ -92,13 +110,18 @@ pub fn which_bound(figures: &Figures, first: Option<Refusal>) -> Line {
         }
         (Bound::Merging, None) => "The merging bound, which can be higher than the first.".into(),
         (Bound::First, _) => "The first bound, which walks every path.".into(),
+        (Bound::Split, _) => {
+            "The bound by cases: the merging bound of each case. It is never above the merging bound.".into()
+        }
     };
     Line::prose("Which bound", text)
 }
 
 #[cfg(test)]
 mod tests {
-    use super::super::answers::tests::{first, merged, DECIDED, EXPLAINED, MERGED, UNDECIDED};
+    use super::super::answers::tests::{
+        by_cases, first, merged, CASES, CASES_DECIDED, DECIDED, EXPLAINED, MERGED, UNDECIDED,
+    };
     use super::*;
 
     fn routine(budget: &str, cell: &str) -> String {
@@ -133,6 +156,21 @@ mod tests {
             "{}",
             decision.sentences
         );
+    }
+
+    #[test]
+    fn not_decided_by_cases() {
+        let figures = Figures::of(&by_cases(CASES_DECIDED, CASES)).unwrap().unwrap();
+        let text = routine("1000", "?");
+        let routine = RoutineText::read("f", text.as_bytes()).unwrap();
+        let decision = of_figures(&figures, Some(cases_remedy(&routine))).unwrap();
+        assert_eq!((decision.word, decision.fits, decision.status), ("NOT DECIDED", false, 4));
+        assert!(
+            decision.sentences.starts_with("The bound by cases has CYCLES 16, which is 1 cycle above TICK 15. Choose"),
+            "{}",
+            decision.sentences
+        );
+        assert!(which_bound(&figures, None).parts[0].items.join(" ").starts_with("The bound by cases"));
     }
 
     #[test]

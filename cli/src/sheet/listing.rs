@@ -1,5 +1,5 @@
 //! The code and the steps of the worst path or of a costliest way, in aligned columns.
-use super::answers::Figures;
+use super::answers::{Bound, Figures};
 use super::content::{Listing, Step};
 use crate::routine_text::RoutineText;
 use std::collections::HashMap;
@@ -25,10 +25,14 @@ fn listing(rows: &[Vec<&str>], right: &[usize], is_worst: impl Fn(usize) -> bool
     Listing { names, steps: steps.collect() }
 }
 
-/// The steps of the worst path, or of a costliest way through merged states, with what was spent, as the explanation printed them.
-pub fn path(figures: &Figures) -> Listing {
+/// The steps of the worst path, or of a costliest way through merged states, with what was spent, as the explanation printed them;
+/// none of the bound by cases.
+pub fn path(figures: &Figures) -> Option<Listing> {
+    if figures.bound == Bound::Split {
+        return None;
+    }
     let rows: Vec<Vec<&str>> = figures.report[2..].iter().map(|line| line.split(' ').collect()).collect();
-    listing(&rows, &[0, 3, 4, 5], |_| true)
+    Some(listing(&rows, &[0, 3, 4, 5], |_| true))
 }
 
 /// The code, with the cycles and the decision on each of these steps.
@@ -39,7 +43,10 @@ pub fn code(figures: &Figures, routine: &RoutineText) -> Listing {
             spent.insert(at, [cycles, if way == "-" { "" } else { way }]);
         }
     }
-    let mut rows = vec![vec!["AT", "OP", "ARG", "CYCLES", "WAY"]];
+    let mut rows = vec![vec!["AT", "OP", "ARG"]];
+    if figures.bound != Bound::Split {
+        rows[0].extend(["CYCLES", "WAY"]);
+    }
     for line in &routine.code {
         let mut row = vec![line.at, line.op, line.arg];
         row.extend(spent.get(line.at).into_iter().flatten());
@@ -60,7 +67,7 @@ mod tests {
     #[test]
     fn the_steps_of_the_worst_path() {
         let figures = Figures::of(&first(DECIDED, EXPLAINED)).unwrap().unwrap();
-        let path = path(&figures);
+        let path = path(&figures).unwrap();
         assert_eq!(path.names, "AT OP       ARG  CYCLES WORDS DEPTH WAY");
         assert_eq!(path.steps[1].text, " 1 BRANCHIF 4        55     4     1 N");
         assert_eq!(path.steps.len(), 5);
@@ -69,7 +76,7 @@ mod tests {
     #[test]
     fn the_steps_of_a_costliest_way() {
         let figures = Figures::of(&merged(UNDECIDED, MERGED)).unwrap().unwrap();
-        let path = path(&figures);
+        let path = path(&figures).unwrap();
         assert_eq!(path.names, "AT OP       ARG   CYCLES WORDS DEPTH WAY");
         assert_eq!(path.steps[1].text, " 1 BRANCHIF 3     149970   151     6 T");
         assert_eq!(path.steps.len(), 3);

@@ -1,5 +1,5 @@
 //! Damaged files: whatever is refused has a reason that names what is wanted.
-use super::{copy, of_import, of_refusal, of_replay, Routine};
+use super::{copy, of_import, of_refusal, of_replay, of_split, Routine};
 use crate::library::{self, Answer};
 
 const TEXTS: [&[u8]; 7] = [
@@ -67,6 +67,25 @@ fn every_trace_has_a_reason() {
         }
     }
     assert_eq!(seen.into_iter().collect::<Vec<_>>(), [2, 3]);
+}
+
+#[test]
+fn all_cuts_have_a_reason() {
+    let text = include_bytes!("../../../examples/alarm-panel-1008.txt");
+    let cuts = b"CELL FROM\nS2 500\nB0.0 1\nB1.0 -3\nACCU 1073741823\n";
+    let mut seen = std::collections::BTreeSet::new();
+    for damaged in damaged(cuts) {
+        let answer = library::split(text, &damaged);
+        let reason = of_split(text, &damaged, &answer);
+        match answer {
+            Answer::Report(_) => assert_eq!(reason, ""),
+            Answer::Refused { number, .. } => {
+                seen.insert(number);
+                assert!(reason.contains("\n  wanted: ") && reason.contains("of the cuts"), "{reason}");
+            }
+        }
+    }
+    assert_eq!(seen.into_iter().collect::<Vec<_>>(), [2, 3, 4]);
 }
 
 #[test]

@@ -1,5 +1,6 @@
 //! `--why`: the reason of a refusal, of a trace that differs and of a search, in words. It is not proved; that a text is refused, by which
 //! number and at which place, is the proved answer, and a reason is looked for at that place alone.
+mod cuts;
 #[cfg(test)]
 mod damaged;
 mod fault;
@@ -14,6 +15,7 @@ mod steps;
 mod trace;
 mod words;
 
+use crate::cuts::{place_of, refused_case, Place};
 use crate::library::{self, Answer};
 use fault::Fault;
 use routine::Routine;
@@ -131,6 +133,21 @@ pub fn of_replay(text: &[u8], trace: &[u8], answer: &Answer) -> String {
 
 fn differing_line(report: &[u8]) -> Option<usize> {
     std::str::from_utf8(report).ok()?.strip_prefix("DIFFERS ")?.trim_end().parse().ok()
+}
+
+/// The reason of a refused bound by cases.
+pub fn of_split(text: &[u8], cuts: &[u8], answer: &Answer) -> String {
+    let Answer::Refused { number, place } = *answer else {
+        return String::new();
+    };
+    match place_of(text, number) {
+        Place::Routine => of_refusal(text, number, place),
+        Place::Cuts => title(number, place) + &cuts::refusal(&Routine::of(text), cuts, number, place as usize),
+        Place::Case => {
+            let case = refused_case(text, cuts, answer).map_or(String::new(), |case| format!("  case: {case}\n"));
+            of_refusal(text, number, place) + &case
+        }
+    }
 }
 
 /// Where the place of a refused preview is.
