@@ -1,7 +1,7 @@
-/* The decision whether a routine fits in its tick, its two bounds, its run, that run as a card would record it, the
- * steps of its worst path and of a costliest way through merged states, its code from and to the compiler's words, a
- * card's trace held against its run, the bound of a routine with one instruction replaced, the nearest number that moves
- * the bound and a routine file of a seed, for a loader in C.
+/* The decision whether a routine fits in its tick, its two bounds, the merging bound by cases and the decision by it,
+ * its run, that run as a card would record it, the steps of its worst path and of a costliest way through merged states,
+ * its code from and to the compiler's words, a card's trace held against its run, the bound of a routine with one
+ * instruction replaced, the nearest number that moves the bound and a routine file of a seed, for a loader in C.
  *
  * `tickbound install PREFIX` puts this header into PREFIX/include and the library to link with into PREFIX/lib:
  * `cc -I PREFIX/include .. -L PREFIX/lib -ltickbound`, on x86-64 Linux. In the repository `rt staticlib c_interface`
@@ -95,6 +95,8 @@ typedef struct {
 #define TICKBOUND_DECIDE_STACK (2048 * 1024)        /* 1,666 */
 #define TICKBOUND_MERGE_STACK (2048 * 1024)         /* 1,643 */
 #define TICKBOUND_EXPLAIN_MERGE_STACK (2048 * 1024) /* 0 */
+#define TICKBOUND_SPLIT_STACK (2048 * 1024)         /* 0 */
+#define TICKBOUND_DECIDE_SPLIT_STACK (2048 * 1024)  /* 0 */
 #define TICKBOUND_PREVIEW_STACK (256 * 1024)        /* 186 */
 #define TICKBOUND_EXPLAIN_STACK (256 * 1024)        /* 164 */
 #define TICKBOUND_NEAREST_STACK (256 * 1024)        /* 166 */
@@ -128,13 +130,18 @@ typedef struct {
 /* The longest trace that is not refused by 1. */
 #define TICKBOUND_TRACE_LIMIT 131072
 
+/* The longest text of cuts that is not refused by 1, and the most cuts that it has. */
+#define TICKBOUND_CUTS_LIMIT 4096
+#define TICKBOUND_CUTS 16
+
 /* The most letters that a path has. */
 #define TICKBOUND_PATH_LIMIT 32
 
 /* The numbers of the refusals. The place is 0 for 10 and 1, a line of the text for 2 to 6, 13 and 11, an address of
  * the code for 7, 8, 9 and 14, and for 12 the index of a word, from 0. An import refuses its primitives line by 2 or 4
- * at place 1. A replay refuses its trace by 1, 2 or 3, after its routine file: a line is then one of the trace. A preview
- * refuses an address outside the code by 4 at that address. The seed 0 is refused by 3 at place 0. */
+ * at place 1. A replay refuses its trace by 1, 2 or 3, after its routine file: a line is then one of the trace. The bound
+ * by cases refuses its cuts by 1, 2, 3 or 4, after its routine file: a line is then one of the cuts. A preview refuses an
+ * address outside the code by 4 at that address. The seed 0 is refused by 3 at place 0. */
 enum {
     TICKBOUND_TEXT_TOO_LONG = 1,
     TICKBOUND_LAYOUT = 2,
@@ -208,6 +215,33 @@ TICKBOUND_USED tickbound_answer tickbound_explain(const uint8_t *text, size_t te
  * Refused by 10; then as the merging bound is: by 1 to 6, 13, 14 and 7. */
 TICKBOUND_USED tickbound_answer tickbound_explain_merge(const uint8_t *text, size_t text_length, uint8_t *lines,
                                                         size_t lines_length);
+
+/* The report of the merging bound by cases, under the names of a bound and read by `tickbound_read_report`. The cuts are a
+ * text of their own: the line `CELL FROM`, which alone means no cuts, and then at most TICKBOUND_CUTS lines of a cell's
+ * name, as the file has it on line 10 or 12, one space and a number. A cut at n parts a cell that may hold numbers below n
+ * and numbers from n on; a handle, and a number that does not part its cell, is passed over. Each choice of one part of
+ * each cell is a case. The merging bound is taken of each case, and the largest of each figure is reported: none is above
+ * that of `tickbound_merge`, more cuts never give more, and every run is within this report too. With no cut it is the
+ * merging bound.
+ *
+ * Refused by 10; then by 1 to 6 and 13, as the bound is; then for the cuts by 1 (at place 0), 2, 3 and 4 (at a line of the
+ * cuts); then by 14 or 7 at an address, as the first case is that is refused, the part below a cut before the other. So of
+ * a refusal by 1 to 4 the place is in the routine file where `tickbound_merge` refuses that file by any of 1 to 6 or by
+ * 13, and else in the cuts.
+ *
+ * A call takes as many merging bounds as there are cases, 65,536 at most. */
+TICKBOUND_USED tickbound_answer tickbound_split(const uint8_t *text, size_t text_length, const uint8_t *cuts,
+                                                size_t cuts_length, uint8_t *report, size_t report_length);
+
+/* The decision by the bound by cases: `DECISION BOUND CYCLES TICK WORDS DEPTH STEPS` and their values, which
+ * `tickbound_decide_figures` reads.
+ *
+ *   FITS SPLIT          CYCLES of `tickbound_split` with these cuts are at most TICK
+ *   UNDECIDED SPLIT     they are above TICK
+ *
+ * What is said of FITS at `tickbound_decide` holds of this one too. Refused as `tickbound_split` is. */
+TICKBOUND_USED tickbound_answer tickbound_decide_split(const uint8_t *text, size_t text_length, const uint8_t *cuts,
+                                                       size_t cuts_length, uint8_t *report, size_t report_length);
 
 /* The report of the one run that the file gives: `CYCLES WORDS DEPTH STEPS` and their values. Refused by 11 where a cell
  * is `?` or a range of more than one number. */
@@ -316,12 +350,13 @@ enum tickbound_decision {
     TICKBOUND_UNDECIDED = 3
 };
 
-/* The bound that gave the figures of a decision: none of a refusal, the first, which walks every path, or the merging
- * one. */
+/* The bound that gave the figures of a decision: none of a refusal, the first, which walks every path, the merging one, or
+ * the merging one by cases. */
 enum tickbound_which_bound {
     TICKBOUND_NO_BOUND = 0,
     TICKBOUND_FIRST = 1,
-    TICKBOUND_MERGING = 2
+    TICKBOUND_MERGING = 2,
+    TICKBOUND_SPLIT = 3
 };
 
 /* The decision on a routine. Load it where `decision` is TICKBOUND_FITS, and nowhere else. Set aside `words` words and
@@ -337,7 +372,7 @@ struct tickbound_figures {
     uint64_t cycles, tick, words, depth, steps;
 };
 
-/* The figures of a bound, of either. `share` is the cycles in thousandths of TICK, to the nearest whole number, at an
+/* The figures of a bound, of any. `share` is the cycles in thousandths of TICK, to the nearest whole number, at an
  * exact half the even one; so it does not say whether the routine fits in TICK, which `tickbound_decide` decides.
  * `path` is the letters of the decisions, N or T, ended by a 0; where there is none, it is
  * empty (the report has `-` there). */
@@ -442,6 +477,12 @@ static inline bool tickbound_take_decision(struct tickbound_bytes *bytes, struct
     } else if (tickbound_take_string(bytes, "UNDECIDED MERGING ")) {
         figures->decision = TICKBOUND_UNDECIDED;
         figures->bound = TICKBOUND_MERGING;
+    } else if (tickbound_take_string(bytes, "FITS SPLIT ")) {
+        figures->decision = TICKBOUND_FITS;
+        figures->bound = TICKBOUND_SPLIT;
+    } else if (tickbound_take_string(bytes, "UNDECIDED SPLIT ")) {
+        figures->decision = TICKBOUND_UNDECIDED;
+        figures->bound = TICKBOUND_SPLIT;
     } else {
         return false;
     }
@@ -457,10 +498,10 @@ static inline bool tickbound_is_consistent(const struct tickbound_figures *figur
            figures->depth != UINT64_MAX && figures->steps != UINT64_MAX;
 }
 
-/* Reads the decision that `tickbound_decide` answered and wrote to `report`, and writes all of `figures`, whatever they
- * held. They say TICKBOUND_REFUSED where the answer is a refusal, and where the bytes are not exactly the two lines of a
- * decision or contradict themselves, as FITS with CYCLES above TICK. Of an answer that is no report's length nothing is
- * read: `report` may then be null. */
+/* Reads the decision that `tickbound_decide` or `tickbound_decide_split` answered and wrote to `report`, and writes all
+ * of `figures`, whatever they held. They say TICKBOUND_REFUSED where the answer is a refusal, and where the bytes are not
+ * exactly the two lines of a decision or contradict themselves, as FITS with CYCLES above TICK. Of an answer that is no
+ * report's length nothing is read: `report` may then be null. */
 static inline void tickbound_decide_figures(tickbound_answer answer, const uint8_t *report,
                                             struct tickbound_figures *figures) {
     struct tickbound_bytes left = tickbound_report_bytes(report, tickbound_length(answer));
@@ -482,7 +523,7 @@ static inline void tickbound_decide_figures(tickbound_answer answer, const uint8
     *figures = read;
 }
 
-/* Reads the report of a bound, of either. False, with `report` unchanged, where the bytes are not exactly a report: its
+/* Reads the report of a bound, of any. False, with `report` unchanged, where the bytes are not exactly a report: its
  * line of names, then five numbers and a path, separated by one space, and a line feed. */
 static inline bool tickbound_read_report(const uint8_t *bytes, size_t length, struct tickbound_report *report) {
     struct tickbound_bytes left = tickbound_report_bytes(bytes, length);

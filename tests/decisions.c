@@ -79,6 +79,8 @@ static void lines_as_they_are(void) {
     reads(NAMES "OVER FIRST 8 7 0 0 1\n", decided(TICKBOUND_OVER, TICKBOUND_FIRST, one));
     reads(NAMES "FITS MERGING 7 7 0 0 1\n", decided(TICKBOUND_FITS, TICKBOUND_MERGING, equal));
     reads(NAMES "UNDECIDED MERGING 8 7 0 0 1\n", decided(TICKBOUND_UNDECIDED, TICKBOUND_MERGING, one));
+    reads(NAMES "FITS SPLIT 7 7 0 0 1\n", decided(TICKBOUND_FITS, TICKBOUND_SPLIT, equal));
+    reads(NAMES "UNDECIDED SPLIT 8 7 0 0 1\n", decided(TICKBOUND_UNDECIDED, TICKBOUND_SPLIT, one));
     const uint64_t most[] = {1, UINT64_MAX - 1, UINT64_MAX - 1, 1, 1};
     reads(NAMES "FITS FIRST 1 18446744073709551614 18446744073709551614 1 1\n", decided(TICKBOUND_FITS, TICKBOUND_FIRST, most));
 }
@@ -134,6 +136,7 @@ static const char *const damaged[] = {
     /* the words of two rows */
     NAMES "OVER MERGING 2121 2120 0 6 27\n",
     NAMES "UNDECIDED FIRST 1929 1500 9 0 9\n",
+    NAMES "OVER SPLIT 2121 2120 0 6 27\n",
     /* what is decided is not what the figures say */
     NAMES "FITS FIRST 101 100 4 1 6\n",
     NAMES "FITS MERGING 101 100 4 1 6\n",
@@ -141,6 +144,8 @@ static const char *const damaged[] = {
     NAMES "OVER FIRST 99 100 4 1 6\n",
     NAMES "UNDECIDED MERGING 100 100 4 1 6\n",
     NAMES "UNDECIDED MERGING 99 100 4 1 6\n",
+    NAMES "FITS SPLIT 101 100 4 1 6\n",
+    NAMES "UNDECIDED SPLIT 100 100 4 1 6\n",
     /* no routine has these: TICK is at least 1, and STOP is a step */
     NAMES "FITS FIRST 0 0 0 0 0\n",
     NAMES "FITS FIRST 0 0 0 0 1\n",
@@ -172,7 +177,7 @@ static void cut_off(const char *report) {
 }
 
 static const char *const decisions[] = {"REFUSED", "FITS", "OVER", "UNDECIDED"};
-static const char *const bounds[] = {"NONE", "FIRST", "MERGING"};
+static const char *const bounds[] = {"NONE", "FIRST", "MERGING", "SPLIT"};
 
 /* Whether figures are printed as these bytes and say what they show. */
 static bool prints(const struct tickbound_figures *read, const uint8_t *bytes, size_t length) {
@@ -217,6 +222,7 @@ static void lines_damaged(void) {
     cut_off(NAMES "OVER FIRST 2121 2120 0 6 27\n");
     cut_off(NAMES "FITS MERGING 149980 400000 151 6 814\n");
     cut_off(NAMES "UNDECIDED MERGING 1929 1500 9 0 9\n");
+    cut_off(NAMES "FITS SPLIT 97180 120000 210 1 421\n");
     /* 45 bytes of names, 11 of words and 5 parting ones stay. Of 65 each digit can be any but a first 0; of 100 the first
      * digit 1 to 9 and the others any; WORDS and DEPTH any, STEPS any but 0. */
     changed_bytes(NAMES "FITS FIRST 65 100 4 1 6\n", 45 + 11 + 5 + 9 + 10 + 9 + 10 + 10 + 10 + 10 + 9);

@@ -1,5 +1,5 @@
-/* How much stack a call of each function writes to, on the inputs that take most: 32 openings, 1,024 lines, words and a trace
- * of as many instructions, the files of seeds and the files that are named. Each is held against the stack that the header
+/* How much stack a call of each function writes to, on the inputs that take most: 32 openings, 1,024 lines, sixteen cuts, words
+ * and a trace of as many instructions, the files of seeds and the files that are named. Each is held against the stack that the header
  * asks for, and made once more with no more stack than that.
  *
  *   cc -I PREFIX/include -o stack tests/stack.c -L PREFIX/lib -ltickbound -lpthread
@@ -27,6 +27,9 @@ static uint8_t text[TICKBOUND_TEXT_LIMIT + 1], lent[TICKBOUND_EXPLAIN_MEMORY], w
 static uint8_t trace[TICKBOUND_TRACE_LIMIT], instruction[TICKBOUND_TEXT_LIMIT];
 static size_t text_length, words_length, trace_length, instruction_length;
 static uint32_t address, seed;
+/* as many cuts as there can be, of a cell that every text here has */
+static const char cuts[] = "CELL FROM\nACCU -7\nACCU -6\nACCU -5\nACCU -4\nACCU -3\nACCU -2\nACCU -1\nACCU 0\nACCU 1\nACCU 2\n"
+                           "ACCU 3\nACCU 4\nACCU 5\nACCU 6\nACCU 7\nACCU 8\n";
 
 static tickbound_answer call_decide(void) {
     return tickbound_decide(text, text_length, lent, sizeof lent);
@@ -38,6 +41,14 @@ static tickbound_answer call_merge(void) {
 
 static tickbound_answer call_explain_merge(void) {
     return tickbound_explain_merge(text, text_length, lent, sizeof lent);
+}
+
+static tickbound_answer call_split(void) {
+    return tickbound_split(text, text_length, (const uint8_t *)cuts, strlen(cuts), lent, sizeof lent);
+}
+
+static tickbound_answer call_decide_split(void) {
+    return tickbound_decide_split(text, text_length, (const uint8_t *)cuts, strlen(cuts), lent, sizeof lent);
 }
 
 static tickbound_answer call_preview(void) {
@@ -91,6 +102,8 @@ static struct {
     {"decide", call_decide, TICKBOUND_DECIDE_STACK, 0, 0, 0},
     {"merge", call_merge, TICKBOUND_MERGE_STACK, 0, 0, 0},
     {"explain_merge", call_explain_merge, TICKBOUND_EXPLAIN_MERGE_STACK, 0, 0, 0},
+    {"split", call_split, TICKBOUND_SPLIT_STACK, 0, 0, 0},
+    {"decide_split", call_decide_split, TICKBOUND_DECIDE_SPLIT_STACK, 0, 0, 0},
     {"preview", call_preview, TICKBOUND_PREVIEW_STACK, 0, 0, 0},
     {"explain", call_explain, TICKBOUND_EXPLAIN_STACK, 0, 0, 0},
     {"nearest", call_nearest, TICKBOUND_NEAREST_STACK, 0, 0, 0},
