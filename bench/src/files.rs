@@ -159,6 +159,23 @@ pub fn tests(lines: usize, ends_at_once: bool) -> Vec<u8> {
     draft(&["?"; 17], blocks(8), code).text().into_bytes()
 }
 
+/// A cut of each of the sixteen entries of that file: 65,536 cases.
+pub fn entry_cuts() -> Vec<u8> {
+    let cuts: String = (0..16).map(|entry| format!("S{entry} 0\n")).collect();
+    format!("CELL FROM\n{cuts}").into_bytes()
+}
+
+/// The alarm panel, whose client count and three fields are open.
+pub fn panel() -> Vec<u8> {
+    include_bytes!("../../examples/alarm-panel.txt").to_vec()
+}
+
+/// Four cuts of each of these cells, sixteen in all: 5 × 5 × 5 × 5 cases.
+pub fn panel_cuts() -> &'static [u8] {
+    b"CELL FROM\nS2 0\nS2 1\nS2 1008\nS2 1009\nB0.0 -1\nB0.0 0\nB0.0 1\nB0.0 2\nB0.2 -1\nB0.2 0\nB0.2 1\nB0.2 2\n\
+      B1.0 -1\nB1.0 0\nB1.0 1\nB1.0 2\n"
+}
+
 /// Unknown branches to the next line.
 fn openings_to_the_next(count: usize) -> Code {
     let mut code: Code = Vec::new();

@@ -1,5 +1,5 @@
-//! The speed of the analyser's bound, merging bound, run, import, export, replay, explanations and search for the nearest number, as a ratio
-//! against the independent implementation in the same run.
+//! The speed of the analyser's bound, merging bound, run, import, export, replay, explanations, bound by cases and search for the nearest number, as
+//! a ratio against the independent implementation in the same run; with the word `worst`, the time of the longest bound by cases alone.
 mod clock;
 mod files;
 
@@ -10,6 +10,7 @@ use independent::nearest::nearest_answer;
 use independent::replay::replay_answer;
 use independent::report::{bound_answer, merge_answer, printed, run_answer, told, Answer, MEMORY};
 use independent::routine::TEXT_LIMIT;
+use independent::split::split_answer;
 use independent::way::explain_merge_answer;
 use independent::words::{self, export_answer, import_answer};
 use std::hint::black_box;
@@ -44,6 +45,12 @@ const REPLAY: Pair = Pair {
 const EXPLAIN: Pair = Pair { proved: analyser::explain, independent: explain_answer, lent: explain::MEMORY };
 const EXPLAIN_MERGE: Pair =
     Pair { proved: analyser::explain_merge, independent: explain_merge_answer, lent: explain::MEMORY };
+/// Of the alarm panel, by as many cuts of its four open cells as there can be.
+const SPLIT: Pair = Pair {
+    proved: |text, report| analyser::split(text, files::panel_cuts(), report),
+    independent: |text, lent| split_answer(text, files::panel_cuts(), lent),
+    lent: MEMORY,
+};
 const NEAREST: Pair = Pair { proved: analyser::nearest, independent: nearest_answer, lent: MEMORY };
 
 /// A file, and the best times of one call of both.
@@ -160,7 +167,20 @@ impl Merged {
     }
 }
 
+/// As many cases as there can be, of as many lines: the time of one call, in seconds.
+fn worst() {
+    let (text, cuts) = (files::tests(1024, false), files::entry_cuts());
+    let mut report = [0; MEMORY];
+    let mut answer = 0;
+    let spent = time(|| answer = analyser::split(&text, &cuts, &mut report));
+    let report = String::from_utf8_lossy(&report[..answer as usize]).into_owned();
+    println!("65,536 cases of 1,024 lines: {:.1} s  {}", spent.as_secs_f64(), report.lines().last().unwrap());
+}
+
 fn main() {
+    if std::env::args().nth(1).is_some_and(|word| word == "worst") {
+        return worst();
+    }
     let scanned: [(&str, fn(usize) -> Vec<u8>, Pair); 12] = [
         ("names on line 3", files::names, BOUND),
         ("spaces on line 3", files::spaces, BOUND),
@@ -189,6 +209,7 @@ fn main() {
         Measured::new("the replay of that path", files::trace(TEXT_LIMIT), REPLAY),
         Measured::new("the explanation of that path", files::straight_path(), EXPLAIN),
         Measured::new("the merging bound explained, 1,024 lines", files::tests(1024, false), EXPLAIN_MERGE),
+        Measured::new("625 cases of the alarm panel", files::panel(), SPLIT),
         Measured::new("the nearest of 160 numbers, 45 lines", files::numbers(), NEAREST),
     ];
     let of_length = |bytes| scanned.map(|(name, text, pair)| Measured::new(name, text(bytes), pair));
