@@ -1,4 +1,4 @@
--- What is promised of the bound and of the run, as statements. The file Theorems of the crate `analyser` proves each by its name.
+-- What is promised of the bound and of the run, as statements. The file Theorems of the crate `theorems` proves each by its name.
 use mathlib.Core.Path.{_≡_}
 use mathlib.Core.Bool.{true, false}
 use mathlib.Core.List.{List}
