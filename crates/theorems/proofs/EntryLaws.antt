@@ -35,11 +35,13 @@ use Rattle.generating.specs.Answers.{generatorLimit}
 use Rattle.generating.proofs.FunctionLaws.{generate-reported, generate-place}
 use Rattle.decide_entry.specs.Answers.{decideRoutine, decideAnswer}
 use Rattle.decide_entry.proofs.PromiseLaws.{decided-refused, decide-reported, decide-place}
+use Rattle.decide_split_entry.proofs.FunctionLaws.{decide-split-reported}
+use Rattle.decide_split_entry.proofs.Theorems.{decide-split-place}
 use Rattle.trace_theory.specs.Trace.{trace, traceText}
 use Rattle.trace_entry.specs.Answers.{traceMemory, ofRun, traceRoutine, traceAnswer}
 use Rattle.trace_entry.proofs.Theorems.{traces-fit, trace-place}
-use Rattle.c_interface.proofs.FunctionLaws.{told, bound-limits, merge-limits, run-limits, import-limits, export-limits, replay-limits, preview-limits, nearest-limits, generate-limits, decide-limits, explain-limits, explain-merge-limits, split-limits, trace-limits}
-use Rattle.theorems.specs.Promises.{bounding, merging, running, previewing, deciding, tracing, explaining, explaining-merge, splitting, importing, exporting, replaying, seeking, generating, ReportsFit, PlacesSmall, AnswersTold, DecisionRefused, ExplainsBound, TraceRefused}
+use Rattle.c_interface.proofs.FunctionLaws.{told, bound-limits, merge-limits, run-limits, import-limits, export-limits, replay-limits, preview-limits, nearest-limits, generate-limits, decide-limits, explain-limits, explain-merge-limits, split-limits, decide-split-limits, trace-limits}
+use Rattle.theorems.specs.Promises.{bounding, merging, running, previewing, deciding, tracing, explaining, explaining-merge, splitting, deciding-split, importing, exporting, replaying, seeking, generating, ReportsFit, PlacesSmall, AnswersTold, DecisionRefused, ExplainsBound, TraceRefused}
 
 -- ---- every public function
 
@@ -53,6 +55,7 @@ reports-fit tracing text n bs e = traces-fit text n bs e
 reports-fit explaining text n bs e = explanations-fit text n bs e
 reports-fit explaining-merge text n bs e = merge-explanations-fit text n bs e
 reports-fit splitting (text, cuts) n bs e = splits-fit text cuts n bs e
+reports-fit deciding-split (text, cuts) n bs e = decide-split-reported text cuts n bs e
 reports-fit importing (words, primitives) n bs e = import-reported words primitives n bs e
 reports-fit exporting text n bs e = export-reported text n bs e
 reports-fit replaying (text, trace) n bs e = replay-reported text trace n bs e
@@ -69,6 +72,7 @@ places-small tracing text n r e = inl (trace-place text n r e)
 places-small explaining text n r e = inl (explain-place text n r e)
 places-small explaining-merge text n r e = inl (explain-merge-place text n r e)
 places-small splitting (text, cuts) n r e = inl (split-places text cuts n r e)
+places-small deciding-split (text, cuts) n r e = inl (decide-split-place text cuts n r e)
 places-small importing (words, primitives) n r e = inl (omega (arith, import-place words primitives n r e))
 places-small exporting text n r e = inl (omega (arith, export-place text n r e))
 places-small replaying (text, trace) n r e = inl (omega (arith, replay-place text trace n r e))
@@ -87,6 +91,7 @@ answers-told tracing text text′ n n′ h h′ = told traceMemory _ _ (trace-li
 answers-told explaining text text′ n n′ h h′ = told explanationLimit _ _ (explain-limits text n) (explain-limits text′ n′)
 answers-told explaining-merge text text′ n n′ h h′ = told explanationLimit _ _ (explain-merge-limits text n) (explain-merge-limits text′ n′)
 answers-told splitting (text, cuts) (text′, cuts′) n n′ h h′ = told memoryLimit _ _ (split-limits text cuts n) (split-limits text′ cuts′ n′)
+answers-told deciding-split (text, cuts) (text′, cuts′) n n′ h h′ = told memoryLimit _ _ (decide-split-limits text cuts n) (decide-split-limits text′ cuts′ n′)
 answers-told importing (words, primitives) (words′, primitives′) n n′ h h′ = told conversionLimit _ _ (import-limits words primitives n) (import-limits words′ primitives′ n′)
 answers-told exporting text text′ n n′ h h′ = told conversionLimit _ _ (export-limits text n) (export-limits text′ n′)
 answers-told replaying (text, trace) (text′, trace′) n n′ h h′ = told memoryLimit _ _ (replay-limits text trace n) (replay-limits text′ trace′ n′)

@@ -36,6 +36,7 @@ use Rattle.walks.proofs.Theorems as walk-theorems
 use Rattle.explanations.proofs.Theorems as explanation-theorems
 use Rattle.explain_merge_entry.proofs.Theorems as merge-explanation-theorems
 use Rattle.split_entry.proofs.Theorems as split-theorems
+use Rattle.decide_split_entry.proofs.Theorems as split-decision-theorems
 use Rattle.trace_theory.proofs.Theorems as trace-theory-theorems
 use Rattle.trace_entry.proofs.Theorems as trace-theorems
 use Rattle.theorems.proofs.EntryLaws as entry-laws
@@ -402,6 +403,12 @@ splits-refused = split-theorems.splits-refused
 
 pub split-refused : page.SplitRefused
 split-refused = split-theory-theorems.split-refused
+
+pub split-decisions-kept : page.SplitDecisionsKept
+split-decisions-kept = split-decision-theorems.split-decisions-kept
+
+pub split-decision-refused : page.SplitDecisionRefused
+split-decision-refused = split-decision-theorems.split-decision-refused
 
 pub traces-kept : page.TracesKept
 traces-kept = trace-theorems.traces-kept

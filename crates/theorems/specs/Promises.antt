@@ -60,6 +60,8 @@ use Rattle.explain_merge_entry.specs.Promises as merge-explanations
 use Rattle.split_theory.specs.Promises as split-theory
 use Rattle.split_entry.specs.Answers.{splitAnswer}
 use Rattle.split_entry.specs.Promises as splits
+use Rattle.decide_split_entry.specs.Answers.{decideSplitAnswer}
+use Rattle.decide_split_entry.specs.Promises as split-decisions
 use Rattle.trace_theory.specs.Promises as trace-theory
 use Rattle.trace_entry.specs.Answers.{traceMemory, traceAnswer}
 use Rattle.trace_entry.specs.Promises as traces
@@ -68,7 +70,7 @@ use Rattle.c_interface.specs.Functions.{AnswerTold}
 -- ---- the public functions
 
 pub data Function : Type 0 where
-  bounding merging running previewing deciding tracing explaining explaining-merge splitting importing exporting replaying seeking generating : Function
+  bounding merging running previewing deciding tracing explaining explaining-merge splitting deciding-split importing exporting replaying seeking generating : Function
 
 -- what each is given: a text; a text, an address and an instruction; a text and its cuts; words and the line of primitives; a text and a trace; a seed
 abbrev pub Given : Function → Type 0
@@ -81,6 +83,7 @@ Given tracing = List ℕ
 Given explaining = List ℕ
 Given explaining-merge = List ℕ
 Given splitting = List ℕ × List ℕ
+Given deciding-split = List ℕ × List ℕ
 Given importing = List ℕ × List ℕ
 Given exporting = List ℕ
 Given replaying = List ℕ × List ℕ
@@ -98,6 +101,7 @@ answer tracing text n = traceAnswer text n
 answer explaining text n = explainAnswer text n
 answer explaining-merge text n = explainMergeAnswer text n
 answer splitting (text, cuts) n = splitAnswer text cuts n
+answer deciding-split (text, cuts) n = decideSplitAnswer text cuts n
 answer importing (words, primitives) n = importAnswer words primitives n
 answer exporting text n = exportAnswer text n
 answer replaying (text, trace) n = replayAnswer text trace n
@@ -115,6 +119,7 @@ enough tracing = traceMemory
 enough explaining = explanationLimit
 enough explaining-merge = explanationLimit
 enough splitting = memoryLimit
+enough deciding-split = memoryLimit
 enough importing = conversionLimit
 enough exporting = conversionLimit
 enough replaying = memoryLimit
@@ -132,6 +137,7 @@ addressed tracing text = 0
 addressed explaining text = 0
 addressed explaining-merge text = 0
 addressed splitting (text, cuts) = 0
+addressed deciding-split (text, cuts) = 0
 addressed importing (words, primitives) = 0
 addressed exporting text = 0
 addressed replaying (text, trace) = 0
@@ -553,6 +559,13 @@ SplitsRefused = splits.SplitsRefused
 
 abbrev pub SplitRefused : Type 0
 SplitRefused = split-theory.SplitRefused
+
+-- what FITS and UNDECIDED say of the file and its cuts; a decision by cases is refused exactly where the bound by cases is, and as it is
+abbrev pub SplitDecisionsKept : Type 0
+SplitDecisionsKept = split-decisions.SplitDecisionsKept
+
+abbrev pub SplitDecisionRefused : Type 0
+SplitDecisionRefused = split-decisions.SplitDecisionRefused
 
 -- the trace of a run, replayed with its file, says AGREES, and adds up to the run's figures
 abbrev pub TracesKept : Type 0
