@@ -147,7 +147,7 @@ module _ (ks : PriceList) (es : List (List ℕ)) (pl : PriceList) where
 -- ---- the lines of the file with others in the place of its code
 
 -- the roles before the names line of the code
-abbrev front : List Role
+abbrev pub front : List Role
 front =
     section limits (limit ∷ []) ++ section kinds-of (cycles ∷ words-column ∷ extra ∷ []) ++ section primitives (cycles ∷ words-column ∷ []) ++ section cells (cell ∷ []) ++ section fields (cell ∷ [])
 
@@ -190,7 +190,7 @@ code-other [] (m ∷ ms) s h e = absurd (omega arith)
 code-other (b ∷ bs) (m ∷ ms) s h (more p ps) = let r = up-to-other bs ms (omega arith) ps in (ap (λ ls. m ∷ ls) (r .0), r .1)
 
 -- the lines that are made are code
-said-code : {ps : List (List ℕ)} {n k : ℕ} {ms : List Line} {os : List Op} → Said ps n k ms os → Every (λ l. isAnswer l ≡ false) ms
+pub said-code : {ps : List (List ℕ)} {n k : ℕ} {ms : List Line} {os : List Op} → Said ps n k ms os → Every (λ l. isAnswer l ≡ false) ms
 unfolding isAnswer isNumeral
 said-code end = none
 said-code (next {k} {o = o} s ss) =
@@ -223,17 +223,17 @@ module _ (text : List ℕ) (p : Passes (lines text)) where
   pub made : List Line
   made = file-lower text p .0
 
-  lower : Lower ps (length (ops text p)) first 0 (codeLines (body ls)) made
+  pub lower : Lower ps (length (ops text p)) first 0 (codeLines (body ls)) made
   unfolding made
   lower = file-lower text p .1
 
   pub said : Said ps (length (ops text p)) 0 made (ops text p)
   said = lower-said lower
 
-  made-counted : length made ≡ length (codeLines (body ls))
+  pub made-counted : length made ≡ length (codeLines (body ls))
   made-counted = said-length said ∙ counted text p
 
-  made-some : 1 ≤ length made
+  pub made-some : 1 ≤ length made
   made-some = let h = code-some ls (p .layout) in let e = made-counted in omega arith
 
   made-few : length (ops text p) ≤ 1024
@@ -243,7 +243,7 @@ module _ (text : List ℕ) (p : Passes (lines text)) where
   unfolding named wellNamed listed
   unlike = and-right (all isName ps) (distinct ps) (passes-named p (names primitives) refl)
 
-  parted : Every (Free 32) ps
+  pub parted : Every (Free 32) ps
   unfolding listed
   parted = names-parted (textAt (names primitives) layout ls)
 
@@ -251,7 +251,7 @@ module _ (text : List ℕ) (p : Passes (lines text)) where
   made-ops = said-ops ps unlike parted (length (ops text p)) made-few (ops-numbers text p) said
 
   -- all lines
-  abbrev rest : List Line
+  abbrev pub rest : List Line
   rest = drop (sectionLength ls) (drop linesBefore ls)
 
   abbrev pub whole : List Line
@@ -288,35 +288,35 @@ module _ (text : List ℕ) (p : Passes (lines text)) where
       let d = length-drop (length layout) ls in
       omega arith
 
-  head-length : length (take linesBefore ls) ≡ linesBefore
+  pub head-length : length (take linesBefore ls) ≡ linesBefore
   head-length = let l = long in length-take-le linesBefore ls (omega arith)
 
   -- what stands before the code
-  kept : (r : Role) → isRole r (names instructions) ≡ false → listed r whole ≡ listed r ls
+  pub kept : (r : Role) → isRole r (names instructions) ≡ false → listed r whole ≡ listed r ls
   unfolding listed
   kept r e =
       let h : take linesBefore whole ≡ take linesBefore ls = take-at (take linesBefore ls) (endedLine (bytes "AT OP ARG") ∷ (made ++ rest)) linesBefore head-length in
       ap list (front-text r front (names instructions) e whole ls h)
 
   -- and after it
-  rest-is : rest ≡ drop (length (codeLines (body ls))) (body ls)
+  pub rest-is : rest ≡ drop (length (codeLines (body ls))) (body ls)
   unfolding body
   rest-is =
       let c = length (codeLines (body ls)) in
       let e : linesBefore + suc c ≡ length layout + c = omega arith in
       drop-drop (suc c) linesBefore ls ∙ ap (λ n. drop n ls) e ∙ sym (drop-drop c (length layout) ls)
 
-  body-is : body whole ≡ made ++ drop (length (codeLines (body ls))) (body ls)
+  pub body-is : body whole ≡ made ++ drop (length (codeLines (body ls))) (body ls)
   unfolding body
   body-is =
       let l = head-length in
       let e : length layout ≡ length (take linesBefore ls) + 1 = omega arith in
       ap (λ n. drop n whole) e ∙ drop-append-add (take linesBefore ls) (endedLine (bytes "AT OP ARG") ∷ (made ++ rest)) 1 ∙ ap (λ ms. made ++ ms) rest-is
 
-  codes : (codeLines (body whole) ≡ made) × (answerLines (body whole) ≡ answerLines (body ls))
+  pub codes : (codeLines (body whole) ≡ made) × (answerLines (body whole) ≡ answerLines (body ls))
   codes = let r = code-other (body ls) made made-some made-counted (said-code said) in (ap codeLines body-is ∙ r .0, ap answerLines body-is ∙ r .1)
 
-  begins-first : firstAt (body whole) ≡ pos 0
+  pub begins-first : firstAt (body whole) ≡ pos 0
   begins-first = sym (first-code (body whole)) ∙ ap firstAt (codes .0) ∙ first-said said made-some
 
   pub begins-zero : firstAddress (body whole) ≡ 0

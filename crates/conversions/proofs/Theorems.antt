@@ -7,7 +7,7 @@ use native.Mathlib.Omega.{arith}
 use lib.Dec.{ltb}
 use lib.IntN.{pos}
 use lib.ListN.{length}
-use borrow.Author.Tests.{ltb-true, ltb-false}
+use borrow.Author.Tests.{ltb-true, ltb-false, le-ltb}
 use Rattle.refusals.specs.declared.Refusal.the-variants.{ReportMemory, Layout, BadName, BadWord}
 use Rattle.refusals.specs.declared.Verdict.{Verdict}
 use Rattle.refusals.specs.declared.Verdict.the-variants.{Accepted, Refused}
@@ -16,10 +16,12 @@ use Rattle.text.specs.declared.Place.{Place}
 use Rattle.text.specs.declared.Place.the-variants.{At, Missing}
 use Rattle.text.proofs.TextLaws.{every-map, all-every}
 use Rattle.routine.specs.declared.Section.the-variants.{Primitives as primitives}
+use Rattle.routine.specs.declared.Row.the-variants.{Known as known-row}
+use Rattle.routine.specs.declared.RefusedLine.the-variants.{Nowhere as nowhere}
 use Rattle.routine.specs.Layout.{body, list}
-use Rattle.routine.specs.Rows.{wellNamed, firstAt, Passes}
-use Rattle.routine.specs.Routine.{Routine, firstAddress, codeIn, routineOf, readBound}
-use Rattle.routine.proofs.RowLaws.{read-passes}
+use Rattle.routine.specs.Rows.{wellNamed, firstAt, refusedLine, Passes}
+use Rattle.routine.specs.Routine.{Routine, firstAddress, codeIn, routineOf, routine, orElse, checked, textLimit, limited, readBound, readRun}
+use Rattle.routine.proofs.RowLaws.{read-passes, passes-read, run-passes}
 use Rattle.routine.proofs.PassingLaws.{first-natural}
 use Rattle.words.specs.Words.{wordsOf}
 use Rattle.words.specs.Decoding.{codeFault}
@@ -36,10 +38,11 @@ use Rattle.conversions.specs.Answers.{conversionLimit, importAnswer, exp
 use Rattle.conversions.specs.Promises.{BeginsAtZero, ExportsImport, ImportsReplace, ImportsExport, ImportRefusedWhere, ImportedWhere, ImportsMean, ExportsTaken, SameWords, LowerBy, ImportsLower}
 use Rattle.relocations.specs.Raised.{raiseCode, raiseState}
 use Rattle.relocations.proofs.Theorems.{bound-raised, merged-raised, run-raised}
-use Rattle.conversions.proofs.FunctionLaws.{import-refused, import-made, import-reported}
+use Rattle.conversions.proofs.FunctionLaws.{import-refused, import-made, import-reported, export-made}
 use Rattle.conversions.proofs.MeantLaws.{code-meant}
 use Rattle.conversions.proofs.LoweredLaws.{said, whole, whole-text, whole-lines, begins-zero, whole-words, code-raised, start-raised, budget-kept, answers-kept}
 use Rattle.conversions.proofs.LoweredLaws as lowered
+use Rattle.conversions.proofs.PassedLaws.{row-kept, whole-passes, whole-short}
 use Rattle.conversions.proofs.FaultLaws.{fault-decides, decides-fault, fault-nowhere, nowhere-fault}
 
 same-bytes : (bs cs : List ℕ) → reported bs ≡ reported cs → bs ≡ cs
@@ -47,12 +50,13 @@ same-bytes bs cs e = cc
 
 -- ---- what an answer says
 
--- words that are exported are those of a file that passes
-exported : (text words : List ℕ) (n : ℕ) → exportAnswer text n ≡ reported words → Passes (lines text) × (words ≡ exportBytes (lines text))
+-- words that are exported are those of a file that passes and is not too long
+exported : (text words : List ℕ) (n : ℕ) → exportAnswer text n ≡ reported words → Passes (lines text) × (words ≡ exportBytes (lines text)) × (length text ≤ textLimit)
 unfolding exportAnswer
 exported text words n e =
     let a = from-reading (λ x. reported (exportBytes (lines text))) (readBound text) conversionLimit n words e in
-    (read-passes text (a .routine) (a .reads) .0, sym (same-bytes (exportBytes (lines text)) words (a .gives)))
+    let r = read-passes text (a .routine) (a .reads) in
+    (r .0, sym (same-bytes (exportBytes (lines text)) words (a .gives)), r .2)
 
 -- lines that are made are those of words that are accepted
 imported : (words line made : List ℕ) (n : ℕ) → importAnswer words line n ≡ reported made → (importVerdict words line ≡ Accepted) × (made ≡ importText words line)
@@ -175,12 +179,39 @@ exports-taken text words n m e h =
     let line = primitivesLine (lines text) in
     (importText (exportBytes (lines text)) line, ap (λ ws. importAnswer ws line m) (x .1) ∙ import-made (exportBytes (lines text)) line m h (words-imported text (x .0) (lowered.made text (x .0)) (said text (x .0))))
 
+-- it passes, and is no longer than the file
+module _ (text words made : List ℕ) (n m : ℕ) (p : Passes (lines text)) (short : length text ≤ textLimit) (e : exportAnswer text n ≡ reported words)
+    (g : importAnswer words (primitivesLine (lines text)) m ≡ reported made) where
+  abbrev low : List ℕ
+  low = replaced (lines text) made
+
+  low-passes : Passes (lines low)
+  low-passes = subst Passes (sym (made-lines text words made n m p e g)) (whole-passes text p)
+
+  low-short : length low ≤ textLimit
+  low-short =
+      let a = ap length (made-of text words made n m p e g) in
+      let b = whole-short text p in
+      omega arith
+
+  low-read : readBound low ≡ routine (routineOf (whole text p))
+  low-read = passes-read low low-passes low-short ∙ ap (λ ls. routine (routineOf ls)) (made-lines text words made n m p e g)
+
+  -- as the run reads it
+  low-run : (x : Routine) → readRun text ≡ routine x → readRun low ≡ routine (routineOf (whole text p))
+  unfolding readRun limited checked orElse
+  low-run x r =
+      let q = low-passes in
+      let k : refusedLine known-row (lines low) ≡ nowhere = subst (λ ls. refusedLine known-row ls ≡ nowhere) (sym (made-lines text words made n m p e g)) (row-kept text p known-row (run-passes text x r .1)) in
+      rw (le-ltb textLimit (length low) low-short, q .layout, q .range, q .names, q .prices, q .targets, q .forward, k) (ap (λ ls. routine (routineOf ls)) (made-lines text words made n m p e g))
+
 pub same-words : SameWords
-same-words text words made out n m k e g o =
+same-words text words made n m k e g h =
     let x = exported text words n e in
     let l = made-lines text words made n m (x .0) e g in (
       ap (λ ls. firstAddress (body ls)) l ∙ begins-zero text (x .0),
-      exported (replaced (lines text) made) out k o .1 ∙ ap exportBytes l ∙ whole-words text (x .0) ∙ sym (x .1),
+      export-made (replaced (lines text) made) k h (routineOf (whole text (x .0))) (low-read text words made n m (x .0) (x .2) e g)
+          ∙ ap reported (ap exportBytes l ∙ whole-words text (x .0) ∙ sym (x .1)),
     )
 
 lower-by : (f : ℕ) (x y : Routine) → x .code ≡ raiseCode f (y .code) → x .start ≡ raiseState f (y .start) → x .budget ≡ y .budget → x .answers ≡ y .answers → LowerBy f x y
@@ -192,16 +223,14 @@ lower-by f x y c s t u = record {
 
 pub imports-lower : ImportsLower
 unfolding routineOf codeIn
-imports-lower text words made n m x y r e g q =
+imports-lower text words made n m x r e g =
     let a = read-passes text x r in
-    let b = read-passes (replaced (lines text) made) y q in
     let p = a .0 in
-    let w = whole text p in
+    let y = routineOf (whole text p) in
     let f = firstAddress (body (lines text)) in
-    let is : y ≡ routineOf w = b .1 ∙ ap routineOf (made-lines text words made n m p e g) in
-    let c : x .code ≡ raiseCode f (y .code) = ap (λ (z : Routine). z .code) (a .1) ∙ code-raised text p ∙ ap (λ (z : Routine). raiseCode f (z .code)) (sym is) in
-    let s : x .start ≡ raiseState f (y .start) = ap (λ (z : Routine). z .start) (a .1) ∙ start-raised text p ∙ ap (λ (z : Routine). raiseState f (z .start)) (sym is) in
-    let t : x .budget ≡ y .budget = ap (λ (z : Routine). z .budget) (a .1) ∙ budget-kept text p ∙ ap (λ (z : Routine). z .budget) (sym is) in
-    let u : x .answers ≡ y .answers = ap (λ (z : Routine). z .answers) (a .1) ∙ answers-kept text p ∙ ap (λ (z : Routine). z .answers) (sym is) in
+    let c : x .code ≡ raiseCode f (y .code) = ap (λ (z : Routine). z .code) (a .1) ∙ code-raised text p in
+    let s : x .start ≡ raiseState f (y .start) = ap (λ (z : Routine). z .start) (a .1) ∙ start-raised text p in
+    let t : x .budget ≡ y .budget = ap (λ (z : Routine). z .budget) (a .1) ∙ budget-kept text p in
+    let u : x .answers ≡ y .answers = ap (λ (z : Routine). z .answers) (a .1) ∙ answers-kept text p in
     let v : x .code .first ≡ f = ap (λ (z : Routine). z .code .first) (a .1) in
-    subst (λ i. LowerBy i x y) (sym v) (lower-by f x y c s t u)
+    (y, low-read text words made n m p (a .2) e g, low-run text words made n m p (a .2) e g x, subst (λ i. LowerBy i x y) (sym v) (lower-by f x y c s t u))

@@ -12,7 +12,7 @@ use Rattle.text.specs.Text.{lines, all}
 use Rattle.routine.specs.declared.Section.the-variants.{Primitives as primitives}
 use Rattle.routine.specs.declared.Role.the-variants.{Names as names}
 use Rattle.routine.specs.Layout.{body, listed}
-use Rattle.routine.specs.Routine.{Routine, routine, firstAddress, readBound}
+use Rattle.routine.specs.Routine.{Routine, routine, firstAddress, readBound, readRun}
 use Rattle.words.specs.Words.{wordsOf}
 use Rattle.words.specs.Import.{primitivesVerdict, primitivesOf}
 use Rattle.inverses.specs.Sections.{codeSection, replaced, primitivesLine}
@@ -78,11 +78,11 @@ ExportsTaken =
     (text words : List ℕ) (n m : ℕ) → exportAnswer text n ≡ reported words → conversionLimit ≤ m →
     (made : List ℕ) × (importAnswer words (primitivesLine (lines text)) m ≡ reported made)
 
--- the file with the lines made in their place begins at address 0 and has the same words
+-- the file with the lines made in their place begins at address 0, and an export of it makes the same words
 abbrev pub SameWords : Type 0
 SameWords =
-    (text words made out : List ℕ) (n m k : ℕ) → exportAnswer text n ≡ reported words → importAnswer words (primitivesLine (lines text)) m ≡ reported made →
-    exportAnswer (replaced (lines text) made) k ≡ reported out → BeginsAtZero (replaced (lines text) made) × (out ≡ words)
+    (text words made : List ℕ) (n m k : ℕ) → exportAnswer text n ≡ reported words → importAnswer words (primitivesLine (lines text)) m ≡ reported made → conversionLimit ≤ k →
+    BeginsAtZero (replaced (lines text) made) × (exportAnswer (replaced (lines text) made) k ≡ reported words)
 
 -- the routines x and y have the same reports of both bounds and of the run, and the places of refusals 7, 8, 9 and 14 of y are lower by f
 pub record LowerBy (f : ℕ) (x y : Routine) : Type 0 where
@@ -90,9 +90,10 @@ pub record LowerBy (f : ℕ) (x y : Routine) : Type 0 where
   pub merges : merged (x .code) (x .start) ≡ raiseVerdict f (merged (y .code) (y .start))
   pub runs : run (x .code) (x .budget) (x .start) (x .answers) ≡ raiseVerdict f (run (y .code) (y .budget) (y .start) (y .answers))
 
--- "An import followed by a bound gives what the written file gives", of a file that begins at any address: with the lines made in their
--- place, where that file passes, the places are lower by its first address, and all else is the same
+-- "An import followed by a bound gives what the written file gives", of a file that begins at any address: the file with the lines made in
+-- their place is read too, as the bounds read and as the run reads; the places are lower by the first address, and all else is the same
 abbrev pub ImportsLower : Type 0
 ImportsLower =
-    (text words made : List ℕ) (n m : ℕ) (x y : Routine) → readBound text ≡ routine x → exportAnswer text n ≡ reported words →
-    importAnswer words (primitivesLine (lines text)) m ≡ reported made → readBound (replaced (lines text) made) ≡ routine y → LowerBy (x .code .first) x y
+    (text words made : List ℕ) (n m : ℕ) (x : Routine) → readBound text ≡ routine x → exportAnswer text n ≡ reported words →
+    importAnswer words (primitivesLine (lines text)) m ≡ reported made →
+    (y : Routine) × (readBound (replaced (lines text) made) ≡ routine y) × (readRun text ≡ routine x → readRun (replaced (lines text) made) ≡ routine y) × LowerBy (x .code .first) x y

@@ -22,13 +22,13 @@ use Rattle.routine.specs.declared.Role.{Role}
 use Rattle.routine.specs.declared.Role.the-variants as roles-of
 use Rattle.routine.specs.declared.Row.{Row}
 use Rattle.routine.specs.declared.Row.the-variants as rows-of
-use Rattle.routine.specs.declared.RefusedLine.the-variants.{Nowhere as nowhere}
 use Rattle.routine.specs.Layout.{layout, body, upToAnswer, codeLines, codeRoles, bodyRoles, roles, list, holdsCells, textAt, listed}
 use Rattle.routine.specs.Rows as rows
-use Rattle.routine.specs.Rows.{firstAt, value, blockSizes, valuesLaidOut, columnLaidOut, columnInRange, laidOut, inRange, test, earliest, refusedLine, Passes}
+use Rattle.routine.specs.Rows.{firstAt, value, blockSizes, valuesLaidOut, columnLaidOut, columnInRange, laidOut, inRange, test, Passes}
 use Rattle.routine.proofs.RowLaws.{Covered, rest, passed}
 use Rattle.inverses.specs.Sections.{linesText}
 use Rattle.inverses.proofs.JoinLaws.{Free, text-free, lines-of-text}
+use Rattle.inverses.proofs.RowLaws.{covered-row}
 use Rattle.generator.specs.declared.Column.{Column}
 use Rattle.generator.specs.declared.Column.the-variants.{Names, Limits, Cycles, Words, Extras, Handles}
 use Rattle.generator.specs.Words.{rowFrom, row}
@@ -115,16 +115,6 @@ body-covered : (t : Role → Line → Bool) (seed : ℕ) → ((k : ℕ) → k < 
     → (m : ℕ) → m < 200 → Covered t (bodyRoles (map endedLine (codeTexts seed 0 (suc m)))) (map endedLine (codeTexts seed 0 (suc m)))
 unfolding bodyRoles codeTexts
 body-covered t seed f m h = passed (f 0 (omega arith)) (codes-covered t seed f 1 m (omega arith))
-
--- a covered row refuses nothing
-covered-earliest : (t : Role → Line → Bool) (n : ℕ) {rs : List Role} {ls : List Line} → Covered t rs ls → earliest t n rs ls ≡ nowhere
-unfolding earliest
-covered-earliest t n rest = refl
-covered-earliest t n (passed p c) = rw p (covered-earliest t (suc n) c)
-
-covered-row : (row : Row) (ls : List Line) → Covered (test row ls) (roles ls) ls → refusedLine row ls ≡ nowhere
-unfolding refusedLine
-covered-row row ls c = covered-earliest (test row ls) 1 c
 
 -- ---- lines of values
 

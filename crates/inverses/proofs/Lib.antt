@@ -2,6 +2,7 @@ pub mod SpellingLaws
 pub mod JoinLaws
 pub mod FileLaws
 pub mod NameLaws
+pub mod RowLaws
 pub mod LineLaws
 pub mod CellLaws
 pub mod ImportedLaws

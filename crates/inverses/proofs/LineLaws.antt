@@ -8,7 +8,7 @@ use native.Mathlib.Omega.{arith}
 use lib.Dec.{eqb, leb, ltb}
 use lib.IntN.{ℤ, pos, negsuc, _+ℤ_, _-ℤ_}
 use lib.Signed.{mag, leZ, ltZ}
-use lib.ListN.{length, getD}
+use lib.ListN.{length, getD, length-append}
 use borrow.Author.Tests.{eqb-true, leb-true, le-leb, ltb-true}
 use Rattle.text.specs.Text.{bytes, equals, Line, place, indexOf, find, among, all, distinct}
 use Rattle.text.specs.declared.Place.the-variants.{At}
@@ -34,7 +34,7 @@ use Rattle.routine.proofs.CodeLaws.{code-laid-out, code-named, kind-there, on-k
 use Rattle.routine.proofs.RangeLaws.{within-low, within-high, inside-is}
 use Rattle.words.specs.Lines.{integer}
 use Rattle.words.specs.Export.{Op, relative, opOf}
-use Rattle.inverses.proofs.SpellingLaws.{spelt-back, integer-read}
+use Rattle.inverses.proofs.SpellingLaws.{spelt-back, integer-read, lower-short}
 use Rattle.inverses.proofs.JoinLaws.{Free, words-three, cut-same}
 use Rattle.inverses.proofs.NameLaws.{found-there, distinct-places, kind-name, name-known, name-free}
 
@@ -191,11 +191,22 @@ difference u (suc b) h = go (ltb u (suc b)) refl
     go true e = absurd (let l = ltb-true u (suc b) e in omega arith)
     go false e = refl
 
--- the argument w as an import writes it, where the file begins at `first`, and the target that it has there
+-- the argument w and the word that an import writes for it, where the file begins at `first`: only a target changes
+pub data LowerWord (first : ℕ) : Argument → List ℕ → List ℕ → Type 0 where
+  kept : {a : Argument} {w : List ℕ} → isTarget a ≡ false → LowerWord first a w w
+  moved : (u : ℕ) → LowerWord first Target (decimal (u + first)) (decimal u)
+
+-- it is no longer
+word-short : {first : ℕ} {a : Argument} {w v : List ℕ} → LowerWord first a w v → length v ≤ length w
+word-short (kept e) = omega arith
+word-short {first} (moved u) = lower-short u (u + first) (omega arith)
+
+-- the argument w as an import writes it, and the target that it has there
 record LowerArgument (ps : List (List ℕ)) (n first : ℕ) (w : List ℕ) (a : Argument) : Type 0 where
   pub word : List ℕ
   pub argued : Argued ps n a word (relative first (argumentValue ps w a) a)
   pub back : a ≡ Target → (u : ℕ) × (relative first (argumentValue ps w a) a ≡ pos u) × (argumentValue ps w a ≡ pos (u + first))
+  pub lowers : LowerWord first a w word
 
 -- the line `text` as an import writes it
 pub record LowerLine (ps : List (List ℕ)) (n k first : ℕ) (text : List ℕ) : Type 0 where
@@ -203,33 +214,49 @@ pub record LowerLine (ps : List (List ℕ)) (n k first : ℕ) (text : List ℕ) 
   pub says : Says ps n k line (opOf ps first text)
   pub name : kindAt (opOf ps first text .kind) .name ≡ op text
   pub back : kindAt (opOf ps first text .kind) .argument ≡ Target → (u : ℕ) × (opOf ps first text .value ≡ pos u) × (argumentValue ps (arg text) Target ≡ pos (u + first))
+  pub few : k < 1024
+  pub placed : place (op text) kindNames ≡ At (opOf ps first text .kind)
+  pub lowers : LowerWord first (kindAt (opOf ps first text .kind) .argument) (arg text) (says .word)
+  pub short : length line ≤ length text
+
+-- three words, each no longer
+line-short : (a b c d e : List ℕ) → length a ≤ length d → length c ≤ length e → length (a ++ bytes " " ++ b ++ bytes " " ++ c) ≤ length (d ++ bytes " " ++ b ++ bytes " " ++ e)
+line-short a b c d e h k = simp length-append (omega arith)
 
 other : {X : Type 0} (a : Argument) → isTarget a ≡ false → a ≡ Target → X
 other a f e = absurd (false≢true (sym f ∙ ap isTarget e))
 
 module _ (ps : List (List ℕ)) (n first : ℕ) (w : List ℕ) where
-  target-lower : (z : ℤ) → inside addresses (value w) ≡ z → within addresses z ≡ true → (leZ (pos first) z && ltZ z (pos first +ℤ pos n)) ≡ true → LowerArgument ps n first w Target
-  unfolding relative argumentValue
-  target-lower (pos u) i q h =
+  target-lower : (z : ℤ) → w ≡ integer z → inside addresses (value w) ≡ z → within addresses z ≡ true → (leZ (pos first) z && ltZ z (pos first +ℤ pos n)) ≡ true → LowerArgument ps n first w Target
+  unfolding relative argumentValue integer
+  target-lower (pos u) s i q h =
       let a = leb-true first u (and-left (leb first u) (ltb u (first + n)) h) in
       let b = ltb-true u (first + n) (and-right (leb first u) (ltb u (first + n)) h) in
       let e : inside addresses (value w) -ℤ pos first ≡ pos (u - first) = ap (λ z. z -ℤ pos first) i ∙ difference u first a in
       let j : u - first < n = omega arith in
+      let r : u ≡ u - first + first = omega arith in
       record {
         word = decimal (u - first);
         argued = subst (λ z. Argued ps n Target (decimal (u - first)) z) (sym e) (target j);
-        back = λ t. (u - first, e, i ∙ ap pos (omega arith));
+        back = λ t. (u - first, e, i ∙ ap pos r);
+        lowers = subst (λ v. LowerWord first Target v (decimal (u - first))) (sym (s ∙ ap decimal r)) (moved (u - first));
       }
-  target-lower (negsuc u) i q h = absurd (false≢true (within-low addresses (negsuc u) q))
+  target-lower (negsuc u) s i q h = absurd (false≢true (within-low addresses (negsuc u) q))
 
   argument-lower : (a : Argument) → bounded a ≡ true → argumentLaidOut w a ≡ true → argumentInRange w a ≡ true → argumentNamed ps w a ≡ true → argumentReaches (pos first) n w a ≡ true
       → LowerArgument ps n first w a
   unfolding argumentLaidOut argumentInRange argumentNamed argumentReaches relative argumentValue
-  argument-lower Absent b l r m t = record { word = bytes "-"; argued = absent; back = λ e. other Absent refl e }
-  argument-lower Target b l r m t = target-lower (value w) (inside-is addresses (value w) r) r t
+  argument-lower Absent b l r m t =
+      record { word = bytes "-"; argued = absent; back = λ e. other Absent refl e; lowers = subst (λ v. LowerWord first Absent v (bytes "-")) (sym (equals-path w (bytes "-") l)) (kept refl) }
+  argument-lower Target b l r m t = target-lower (value w) (spelt-back w (value w) (spelt w l)) (inside-is addresses (value w) r) r t
   argument-lower Primitive b l r m t =
       let f = found-there w ps m in
-      record { word = w; argued = subst (λ v. Argued ps n Primitive v (pos (find w ps))) (f .1) (primitive (f .0)); back = λ e. other Primitive refl e }
+      record {
+        word = w;
+        argued = subst (λ v. Argued ps n Primitive v (pos (find w ps))) (f .1) (primitive (f .0));
+        back = λ e. other Primitive refl e;
+        lowers = kept refl;
+      }
   argument-lower (Within s) b l r m t =
       let e = spelt-back w (value w) (spelt w l) in
       let i : inside numbers (value w) ≡ value w = inside-is numbers (value w) (number-within (value w) (argument-number s (value w) b r)) in
@@ -237,12 +264,21 @@ module _ (ps : List (List ℕ)) (n first : ℕ) (w : List ℕ) where
         word = w;
         argued = rw i (subst (λ v. Argued ps n (Within s) v (value w)) (sym e) within-range);
         back = λ q. other (Within s) refl q;
+        lowers = kept refl;
       }
 
 module _ (ls : List Line) (begins : pos (firstAddress (body ls)) ≡ firstAt (body ls)) (k : ℕ) (l : Line) where
+  -- AT is the address of the line
+  at-lower : isNumeral (numeral (at (l .text))) ≡ true → same (value (at (l .text))) (firstAt (body ls) +ℤ pos k) ≡ true → at (l .text) ≡ decimal (firstAddress (body ls) + k)
+  unfolding integer
+  at-lower s e =
+      let z = value (at (l .text)) in
+      let v : z ≡ pos (firstAddress (body ls) + k) = same-path z (firstAt (body ls) +ℤ pos k) e ∙ ap (λ f. f +ℤ pos k) (sym begins) in
+      spelt-back (at (l .text)) z (spelt (at (l .text)) s) ∙ ap integer v
+
   pub code-lower : test layout-row ls (code k) l ≡ true → test range-row ls (code k) l ≡ true → test name-row ls (code k) l ≡ true → test target-row ls (code k) l ≡ true
       → LowerLine (listed (names primitives) ls) (length (codeLines (body ls))) k (firstAddress (body ls)) (l .text)
-  unfolding test inRange codeInRange reaches onCode opOf
+  unfolding test inRange codeInRange named codeNamed reaches onCode opOf
   code-lower a b c d =
       let text = l .text in
       let ps = listed (names primitives) ls in
@@ -254,6 +290,9 @@ module _ (ls : List Line) (begins : pos (firstAddress (body ls)) ≡ firstAt (bo
       let called = code-named ls k text c in
       let e = kind-place (op text) (called .kind) in
       let there = kind-name (op text) (called .kind) in
+      let follows = same (value (at text)) (firstAt (body ls) +ℤ pos k) in
+      let kind = among (op text) kindNames in
+      let f : follows ≡ true = and-left follows kind (and-left (follows && kind) (onArgument (argumentNamed ps w) text) c) in
       let ranged : onArgument (argumentInRange w) text ≡ true = and-right (within (atRange k) (value (at text))) (onArgument (argumentInRange w) text) b in
       let aimed : onArgument (argumentReaches (pos first) n w) text ≡ true = subst (λ z. onArgument (argumentReaches z n w) text ≡ true) (sym begins) d in
       let x : LowerArgument ps n first w (kindAt i .argument) =
@@ -262,11 +301,19 @@ module _ (ls : List Line) (begins : pos (firstAddress (body ls)) ≡ firstAt (bo
       (on-kind (argumentInRange w) text i e ranged)
       (on-kind (argumentNamed ps w) text i e (called .argument))
       (on-kind (argumentReaches (pos first) n w) text i e aimed) in
+      let t : text ≡ decimal (first + k) ++ bytes " " ++ kindAt i .name ++ bytes " " ++ w =
+      words-three text (laid .three)
+      ∙ ap (λ v. v ++ bytes " " ++ op text ++ bytes " " ++ w) (at-lower (laid .spelt) f)
+      ∙ ap (λ v. decimal (first + k) ++ bytes " " ++ v ++ bytes " " ++ w) (sym (there .1)) in
       record {
         line = decimal k ++ bytes " " ++ kindAt i .name ++ bytes " " ++ x .word;
         says = record { known = there .0; word = x .word; line = refl; argued = x .argued };
         name = there .1;
         back = λ t. let r = x .back t in (r .0, r .1, ap (argumentValue ps w) (sym t) ∙ r .2);
+        few = laid .few;
+        placed = e;
+        lowers = x .lowers;
+        short = subst (λ v. length (decimal k ++ bytes " " ++ kindAt i .name ++ bytes " " ++ x .word) ≤ length v) (sym t) (line-short (decimal k) (kindAt i .name) (x .word) (decimal (first + k)) w (lower-short k (first + k) (omega arith)) (word-short (x .lowers)));
       }
 
 -- a text that begins with a number is not ANSWER

@@ -1,18 +1,20 @@
--- Laws of spelling: a rightly spelt number is its value in decimal, and an integer that was written is read back. Assumes nothing.
+-- Laws of spelling: a rightly spelt number is its value in decimal, an integer that was written is read back, and a lower number is written
+-- with no more digits. Assumes nothing.
 use mathlib.Core.Path.{_≡_, refl, sym, ap, _∙_}
 use mathlib.Core.Bool.{Bool, true, false, cond}
 use mathlib.Core.List.{List, [], _∷_, _++_, append-assoc, append-nil}
-use Prim.Native.Nat.{ℕ, zero, suc, _+_, _-_, _*_, _/_, _%_, _≤_}
+use Prim.Native.Nat.{ℕ, zero, suc, _+_, _-_, _*_, _/_, _%_, _<_, _≤_}
 use native.Mathlib.Omega.{arith}
-use lib.Dec.{eqb, leb}
+use lib.Dec.{eqb, leb, ltb}
 use lib.IntN.{ℤ, pos, negsuc}
-use borrow.Author.Tests.{leb-true, eqb-true, eqb-false, ne-eqb}
+use lib.ListN.{length}
+use borrow.Author.Tests.{leb-true, ltb-true, ltb-false, eqb-true, eqb-false, ne-eqb}
 use Rattle.text.specs.Text.{isEmpty}
 use Rattle.text.specs.declared.Numeral.{Numeral}
 use Rattle.text.specs.declared.Numeral.the-variants.{Misspelt as misspelt, Number as number}
 use Rattle.text.specs.Decimal.{isDigit, digitsFrom, natural, negative, numeral, decimal}
 use Rattle.text.proofs.TextLaws.{cond-left, cond-right, Every, none, more}
-use Rattle.text.proofs.DecimalLaws.{decimal-one, decimal-more, decimal-digits, decimal-read}
+use Rattle.text.proofs.DecimalLaws.{decimal-one, decimal-more, decimal-length-one, decimal-length-more, decimal-digits, decimal-read}
 use Rattle.words.specs.Lines.{integer}
 
 not-spelt : {X : Type 0} (z : ℤ) → misspelt ≡ number z → X
@@ -102,3 +104,30 @@ pub integer-read : (z : ℤ) → numeral (integer z) ≡ number z
 unfolding numeral integer
 integer-read (pos n) = decimal-read n
 integer-read (negsuc n) = ap negative (natural-read (suc n))
+
+-- ---- a lower number has no more digits
+
+lower-from : (fuel m n : ℕ) → n < fuel → m ≤ n → length (decimal m) ≤ length (decimal n)
+lower-from zero m n h l = absurd (omega arith)
+lower-from (suc fuel) m n h l = go (ltb m 10) refl (ltb n 10) refl (lower-from fuel (m / 10) (n / 10))
+  where
+    go : (a : Bool) → ltb m 10 ≡ a → (b : Bool) → ltb n 10 ≡ b → (n / 10 < fuel → m / 10 ≤ n / 10 → length (decimal (m / 10)) ≤ length (decimal (n / 10))) → length (decimal m) ≤ length (decimal n)
+    go a p true q ih =
+        let k = ltb-true n 10 q in
+        let i = decimal-length-one m (omega arith) in
+        let j = decimal-length-one n k in
+        omega arith
+    go true p false q ih =
+        let i = decimal-length-one m (ltb-true m 10 p) in
+        let j = decimal-length-more n (ltb-false n 10 q) in
+        omega arith
+    go false p false q ih =
+        let k = ltb-false m 10 p in
+        let r = ltb-false n 10 q in
+        let i = decimal-length-more m k in
+        let j = decimal-length-more n r in
+        let s = ih (omega arith) (omega arith) in
+        omega arith
+
+pub lower-short : (m n : ℕ) → m ≤ n → length (decimal m) ≤ length (decimal n)
+lower-short m n h = lower-from (suc n) m n (omega arith) h

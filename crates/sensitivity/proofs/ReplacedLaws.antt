@@ -28,7 +28,7 @@ use Rattle.routine.specs.declared.Row.{Row}
 use Rattle.routine.specs.declared.Row.the-variants.{Layout as layout-row, Range as range-row, Name as name-row, Price as price-row, Target as target-row, Forward as forward-row, Known as known-row}
 use Rattle.routine.specs.declared.RefusedLine.the-variants.{Nowhere as nowhere}
 use Rattle.routine.specs.Layout.{layout, body, bodyRoles, roles, list, sectionPlace, columnPlace, isRole, holdsCells, textAt, listed}
-use Rattle.routine.specs.Rows.{knownOf, spanOf, spanned, hashed, cellWord, isCell, cellInRange, cellPresent, blockSizes, total, columnLaidOut, columnInRange, onCells, onCode, valuesLaidOut, laidOut, inRange, named, priced, reaches, forward, test, earliest, refusedLine, Passes}
+use Rattle.routine.specs.Rows.{knownOf, spanOf, spanned, hashed, cellWord, isCell, cellInRange, cellPresent, blockSizes, total, columnLaidOut, columnInRange, onCells, onCode, valuesLaidOut, laidOut, inRange, named, priced, reaches, forward, test, refusedLine, Passes}
 use Rattle.routine.specs.Routine.{inside, priceList, codeIn, cellOf, cellsOf, blocksInLine, startOf, Routine, routineOf, routine, textLimit, readBound}
 use Rattle.routine.proofs.RowLaws.{Covered, rest, passed, row-covered, First, passes-laid-out, passes-spaced, passes-range, passes-named, lines-ended, passes-read}
 use Rattle.routine.proofs.RangeLaws.{inside-is, values-counted}
@@ -37,6 +37,7 @@ use Rattle.routine.proofs.LayoutLaws.{list-none, list-words}
 use Rattle.words.specs.Lines.{integer}
 use Rattle.inverses.specs.Sections.{linesText, joined}
 use Rattle.inverses.proofs.JoinLaws.{Free, split-free, pieces-every, split-joined, joined-every, every-set, lines-free, lines-set, text-set}
+use Rattle.inverses.proofs.RowLaws.{covered-row, test-other}
 use Rattle.inverses.proofs.ExportedLaws.{role-every}
 use Rattle.inverses.proofs.LineLaws.{integer-free}
 use Rattle.inverses.proofs.CellLaws.{integer-cell}
@@ -201,31 +202,16 @@ module _ {ls ms : List Line} (f : Framed ls ms) where
   -- the tests of all lines are the same
   test-framed : (row : Row) (r : Role) (l : Line) → test row ms r l ≡ test row ls r l
   unfolding test laidOut inRange named priced reaches forward onCode
-  test-framed layout-row (names s) l = refl
-  test-framed layout-row (values s c) l = rw (f .names s) refl
+  test-framed row (names s) l = test-other ls ms (f .names) row (names s) refl l
+  test-framed row (values s c) l = test-other ls ms (f .names) row (values s c) refl l
+  test-framed row (answer k) l = test-other ls ms (f .names) row (answer k) refl l
   test-framed layout-row (code k) l = refl
-  test-framed layout-row (answer k) l = refl
-  test-framed range-row (names s) l = refl
-  test-framed range-row (values s c) l = rw (f .names s) refl
   test-framed range-row (code k) l = refl
-  test-framed range-row (answer k) l = refl
-  test-framed name-row (names s) l = refl
-  test-framed name-row (values s c) l = rw (f .names fields) refl
   test-framed name-row (code k) l = rw (f .body, f .names primitives) refl
-  test-framed name-row (answer k) l = refl
-  test-framed price-row (names s) l = refl
-  test-framed price-row (values s c) l = refl
   test-framed price-row (code k) l = rw (f .names kinds) refl
-  test-framed price-row (answer k) l = refl
-  test-framed target-row (names s) l = refl
-  test-framed target-row (values s c) l = refl
   test-framed target-row (code k) l = rw (f .body) refl
-  test-framed target-row (answer k) l = refl
-  test-framed forward-row (names s) l = refl
-  test-framed forward-row (values s c) l = refl
   test-framed forward-row (code k) l = rw (f .body) refl
-  test-framed forward-row (answer k) l = refl
-  test-framed known-row r l = refl
+  test-framed known-row (code k) l = refl
 
   roles-framed : roles ms ≡ roles ls
   unfolding roles
@@ -256,18 +242,12 @@ module _ {t u : Role → Line → Bool} (same : (r : Role) (l : Line) → u r l 
   covered-set zero l e (passed p c) = passed e (covered-kept c)
   covered-set (suc k) l e (passed {r} {l = m} p c) = passed (same r m ∙ p) (covered-set k l e c)
 
-covered-earliest : (t : Role → Line → Bool) (n : ℕ) {rs : List Role} {ls : List Line} → Covered t rs ls → earliest t n rs ls ≡ nowhere
-unfolding earliest
-covered-earliest t n rest = refl
-covered-earliest t n (passed p c) = rw p (covered-earliest t (suc n) c)
-
 -- a row lets the lines through where it let them through before, and lets the new line through
 row-set : (row : Row) (ls : List Line) (k : ℕ) (l : Line) → Framed ls (set ls k l) → refusedLine row ls ≡ nowhere → test row (set ls k l) (getD (roles ls) k (code 0)) l ≡ true → refusedLine row (set ls k l) ≡ nowhere
-unfolding refusedLine
 row-set row ls k l f e t =
     let ms = set ls k l in
     let c : Covered (test row ms) (roles ls) ms = covered-set (test-framed f row) k l t (row-covered row ls e) in
-    covered-earliest (test row ms) 1 (subst (λ rs. Covered (test row ms) rs ms) (sym (roles-framed f)) c)
+    covered-row row ms (subst (λ rs. Covered (test row ms) rs ms) (sym (roles-framed f)) c)
 
 -- ---- the new line
 

@@ -268,8 +268,8 @@ ImportedWhere = conversions.ImportedWhere
 abbrev pub ImportsMean : Type 0
 ImportsMean = conversions.ImportsMean
 
--- wherever a file begins, its words are taken, and the file made of them has the same words; where it passes, the same reports, with the places
--- of 7, 8, 9 and 14 lower by the first address. Below: code at higher addresses
+-- wherever a file begins, its words are taken, and the file made of them passes as it does, and has the same words and the same reports, with
+-- the places of 7, 8, 9 and 14 lower by the first address. Below: code at higher addresses
 abbrev pub ExportsTaken : Type 0
 ExportsTaken = conversions.ExportsTaken
 
