@@ -9,7 +9,10 @@ use states::code::Fetched;
 use states::code::Line;
 use states::registers::Registers;
 use turns::Turn;
+ghost use mathlib.Core.Path.{_≡_};
 ghost use Prim.Native.Nat.{_<_};
+ghost use Rattle.refusals.specs.declared.Refusal.the-variants.{Stuck};
+ghost use Rattle.findings.specs.Found.{refusedAs};
 ghost use Rattle.states.specs.Registers.{withStack};
 ghost use Rattle.states.specs.View.{whole};
 ghost use Rattle.states.specs.Program.{programOf, sizesOf, IsProgram};
@@ -22,6 +25,13 @@ pub mod turns;
 pub struct Ways {
     pub untaken: Found,
     pub taken: Found,
+}
+
+// The step at the address of the registers is not made, as a push on a full stack: the last of those walked.
+fn stuck(registers: Registers, walked: usize) -> Found
+    ensures { λ r. ⌜ r ≡ refusedAs (Stuck (registers .at)) walked ⌝ }
+{
+    findings::refused(Refusal::Stuck(registers.at), walked)
 }
 
 // Both ways of the unknown branch `line`; none of them where no opening is left, and not the one taken where the other is refused.
@@ -88,7 +98,7 @@ pub fn explore(
     while 0 < left {
         left = left - 1;
         let Fetched::Is(line) = turns::reachable(code, registers) else {
-            return findings::refused(Refusal::Stuck(registers.at), budget - left);
+            return stuck(registers, budget - left);
         };
         tally = findings::more(tally, line.cycles, line.words, 64 - registers.free);
         if line.pushes {
@@ -117,7 +127,7 @@ pub fn explore(
                 return findings::both(tally, budget - left, ways.untaken, line.extra, ways.taken);
             }
             Turn::Halts => return findings::finished(tally, budget - left),
-            Turn::Stuck => return findings::refused(Refusal::Stuck(registers.at), budget - left),
+            Turn::Stuck => return stuck(registers, budget - left),
         }
     }
     findings::refused(Refusal::Spent(registers.at), budget)

@@ -9,6 +9,7 @@ use Rattle.explore.proofs.+branch+explore.Lts-branch as branch-lts
 use Rattle.explore.proofs.explore.Reads as explore
 use Rattle.explore.proofs.explore.Kinds as explore-kinds
 use Rattle.explore.proofs.+branch+explore.Lts-explore as explore-lts
+use Rattle.explore.proofs.stuck.Reads as stuck-reads
 use Rattle.cells.proofs.same.Reads as same-reads
 use Rattle.explore.proofs.turns.reachable.Reads as reachable-reads
 use Rattle.explore.proofs.turns.turn_of.Reads as turn-of-reads
@@ -109,8 +110,8 @@ explore-claims t = (
   nothing-reads.Learnt,
   reachable-reads.Asked,
   reachable-reads.Learnt,
-  refused-reads.Asked,
-  refused-reads.Learnt,
+  stuck-reads.Asked,
+  stuck-reads.Learnt,
   more-reads.Asked,
   more-reads.Learnt,
   push-reads.Asked,
@@ -139,6 +140,8 @@ explore-claims t = (
   both-reads.Learnt,
   finished-reads.Asked,
   finished-reads.Learnt,
+  refused-reads.Asked,
+  refused-reads.Learnt,
 )
 
 abbrev Inv-loop : explore-lts.InvT-loop
@@ -432,11 +435,11 @@ explore-enum-known-line t c = search needs
 explore-enum-told : (t : ℕ) → explore-lts.Need-enum-told (explore-claims t) (explore-at t) explore.Post Inv-loop μ-loop
 explore-enum-told t c = search needs
 
-explore-sub-refused : (t : ℕ) → explore-lts.Need-sub-refused (explore-claims t) (explore-at t) explore.Post Inv-loop μ-loop
-explore-sub-refused t c = left-fits t (c .before .before .before)
+explore-sub-stuck : (t : ℕ) → explore-lts.Need-sub-stuck (explore-claims t) (explore-at t) explore.Post Inv-loop μ-loop
+explore-sub-stuck t c = left-fits t (c .before .before .before)
 
-explore-refused-requires : (t : ℕ) → explore-lts.Need-refused-requires (explore-claims t) (explore-at t) explore.Post Inv-loop μ-loop
-explore-refused-requires t c κs = search needs
+explore-stuck-requires : (t : ℕ) → explore-lts.Need-stuck-requires (explore-claims t) (explore-at t) explore.Post Inv-loop μ-loop
+explore-stuck-requires t c κs = search needs
 
 explore-returns : (t : ℕ) → explore-lts.Need-returns (explore-claims t) (explore-at t) explore.Post Inv-loop μ-loop
 explore-returns t c =
@@ -445,7 +448,7 @@ explore-returns t c =
     kept t (begun b) _
     (stuck-out (b .before .loop .inv) (b .loop-test .taken)
     (unreached (x .args .code .now) (x .args .openings) (x .args .budget) (x .args .t3) (first t (begun b)) (b .before .loop .blocks) (now-at t b) (b .before .loop .inv .formed) (ap ofFetched (sym (c .before .enum-told .given .1)) ∙ c .before .before .before .reachable .ensures .0))
-    _ (c .refused .ensures))
+    _ (c .stuck .ensures))
 
 explore-sub-more : (t : ℕ) → explore-lts.Need-sub-more (explore-claims t) (explore-at t) explore.Post Inv-loop μ-loop
 explore-sub-more t c = body (c .before) .before .loop .inv .formed .free
@@ -670,24 +673,24 @@ explore-returns-3 t c =
 explore-enum-told-4 : (t : ℕ) → explore-lts.Need-enum-told-4 (explore-claims t) (explore-at t) explore.Post Inv-loop μ-loop
 explore-enum-told-4 t c = search needs
 
-explore-sub-refused-2 : (t : ℕ) → explore-lts.Need-sub-refused-2 (explore-claims t) (explore-at t) explore.Post Inv-loop μ-loop
-explore-sub-refused-2 t c =
+explore-sub-stuck-2 : (t : ℕ) → explore-lts.Need-sub-stuck-2 (explore-claims t) (explore-at t) explore.Post Inv-loop μ-loop
+explore-sub-stuck-2 t c =
     let a : Acted t = c .before .before in
     left-fits t (b t a)
 
-explore-refused-requires-2 : (t : ℕ) → explore-lts.Need-refused-requires-2 (explore-claims t) (explore-at t) explore.Post Inv-loop μ-loop
-explore-refused-requires-2 t c κs = search needs
+explore-stuck-requires-2 : (t : ℕ) → explore-lts.Need-stuck-requires-2 (explore-claims t) (explore-at t) explore.Post Inv-loop μ-loop
+explore-stuck-requires-2 t c κs = search needs
 
 explore-returns-4 : (t : ℕ) → explore-lts.Need-returns-4 (explore-claims t) (explore-at t) explore.Post Inv-loop μ-loop
 explore-returns-4 t c =
     let a : Acted t = c .before .before .before in
-    kept t (begun (b t a)) _ (stops-short (arm t a) (c .before .enum-told4 .given .1) _ (c .refused2 .ensures))
+    kept t (begun (b t a)) _ (stops-short (arm t a) (c .before .enum-told4 .given .1) _ (c .stuck2 .ensures))
 
-explore-refused-requires-3 : (t : ℕ) → explore-lts.Need-refused-requires-3 (explore-claims t) (explore-at t) explore.Post Inv-loop μ-loop
-explore-refused-requires-3 t c κs = search needs
+explore-refused-requires : (t : ℕ) → explore-lts.Need-refused-requires (explore-claims t) (explore-at t) explore.Post Inv-loop μ-loop
+explore-refused-requires t c κs = search needs
 
 explore-returns-5 : (t : ℕ) → explore-lts.Need-returns-5 (explore-claims t) (explore-at t) explore.Post Inv-loop μ-loop
-explore-returns-5 t c = kept t (c .before .before .before) _ (spent-out (c .before .before .loop .inv) (omega (arith, c .before .loop-test .left)) _ (c .refused3 .ensures))
+explore-returns-5 t c = kept t (c .before .before .before) _ (spent-out (c .before .before .loop .inv) (omega (arith, c .before .loop-test .left)) _ (c .refused .ensures))
 
 pub +branch+explore-spec : {M : Type 1} → statement M
 +branch+explore-spec =
@@ -717,8 +720,8 @@ pub +branch+explore-spec : {M : Type 1} → statement M
     (explore-reachable-requires t)
     (explore-enum-known-line t)
     (explore-enum-told t)
-    (explore-sub-refused t)
-    (explore-refused-requires t)
+    (explore-sub-stuck t)
+    (explore-stuck-requires t)
     (explore-returns t)
     (explore-sub-more t)
     (explore-more-requires t)
@@ -772,8 +775,8 @@ pub +branch+explore-spec : {M : Type 1} → statement M
     (explore-finished-requires t)
     (explore-returns-3 t)
     (explore-enum-told-4 t)
-    (explore-sub-refused-2 t)
-    (explore-refused-requires-2 t)
+    (explore-sub-stuck-2 t)
+    (explore-stuck-requires-2 t)
     (explore-returns-4 t)
-    (explore-refused-requires-3 t)
+    (explore-refused-requires t)
     (explore-returns-5 t)
