@@ -1,4 +1,4 @@
--- What the bound answers to a routine and to a text. Assumes nothing.
+-- What the bound answers to a text. Assumes nothing.
 use Prim.Native.Nat.{ℕ, _≤_}
 use mathlib.Core.Path.{_≡_, _∙_}
 use mathlib.Core.List.{List}
@@ -15,28 +15,8 @@ use Rattle.report_theory.specs.Refined.{MonotoneReport, KnownReport}
 use Rattle.report_theory.proofs.AnswerLaws.{reports-kept, bound-reported}
 use Rattle.report_theory.proofs.RefinedLaws.{bounds-refined}
 use Rattle.report_theory.proofs.ListedLaws.{bound-listed, listed-alone}
-use native.Mathlib.Omega.{arith}
-use Rattle.bounds.specs.Tree.{bound}
-use Rattle.findings.specs.declared.Found.{Found}
-use Rattle.findings.specs.Found.{Shows}
-use Rattle.explore.specs.Contract.{Explores, Bounded}
-use Rattle.states.specs.Program.{sizesOf}
-use Rattle.reader.specs.declared.Routine.{Routine}
-use Rattle.reader.specs.Reader.{Limited}
-use Rattle.entry.specs.Held.{routineIn}
-use Rattle.report.specs.Held.{Shareable, Printable}
+use Rattle.report.specs.Held.{Printable}
 use Rattle.report_theory.proofs.FoundLaws.{printable}
-
--- ---- a routine
-
-module _ (x : Routine) (l : Limited x) where
-  pub explored-shows : (r : Found) → Explores (routineIn x .code) (sizesOf (x .code)) (x .fields) (x .start) 32 (x .budget) r
-      → Shows r (bound (routineIn x .code) (routineIn x .budget) (routineIn x .start))
-  unfolding bound
-  explored-shows r e = e .shows
-
-  pub explored-shareable : (r : Found) → Bounded 32 (x .budget) r → Shareable r
-  explored-shareable r m = record { cycles = let a = m .cycles in let b = m .used in let d = l .budget in omega arith }
 
 -- ---- a text
 

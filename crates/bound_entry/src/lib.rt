@@ -1,33 +1,18 @@
 // The bound of a routine file, on texts and lent memory. The meaning is in the specs/ of `report_theory`.
 use answers::Answer;
-use findings::Found;
 use reader::Routine;
 use refusals::Verdict;
 use rows::Reader;
 ghost use mathlib.Core.Path.{_≡_};
 ghost use lib.ListN.{length};
-ghost use Rattle.bounds.specs.Tree.{bound};
-ghost use Rattle.findings.specs.Found.{Shows};
 ghost use Rattle.reader.specs.Reader.{Limited};
 ghost use Rattle.answers.specs.Answers.{memory, answerOf, reportLength, Delivers};
 ghost use Rattle.entry.specs.Held.{routineIn};
-ghost use Rattle.report.specs.Held.{Shareable, Printable};
+ghost use Rattle.report.specs.Held.{Printable};
 ghost use Rattle.report_theory.specs.Answers.{boundRoutine, boundAnswer};
 ghost use Rattle.report_theory.specs.Promises.{SafeReport, ExactReport};
 ghost use Rattle.report_theory.specs.Listed.{BoundRefused, Refuses, ListedAlone};
 ghost use Rattle.report_theory.specs.Refined.{MonotoneReport, KnownReport};
-
-// The routine's bound.
-pub fn explored(routine: Routine) -> Found
-    requires { ⌜ Limited routine ⌝ }
-    ensures { λ r. ⌜ Shows r (bound (routineIn routine .code) (routineIn routine .budget) (routineIn routine .start)) ⌝ }
-    ensures { λ r. ⌜ Shareable r ⌝ }
-{
-    let code = routine.code;
-    let fields = routine.fields;
-    let start = routine.start;
-    explore::explore(&code, start, fields, 32, routine.budget)
-}
 
 // The answer of the bound to a routine.
 fn bound_routine(routine: Routine, out: &mut [u8]) -> Answer
@@ -37,7 +22,7 @@ fn bound_routine(routine: Routine, out: &mut [u8]) -> Answer
     ensures { λ _. ⌜ now (out .exit) ≡ memory (boundRoutine (routineIn routine)) (now (out .entry)) ⌝ }
 {
     let tick = routine.tick;
-    let found = explored(routine);
+    let found = routine_figures::explored(routine);
     report::put_found(found, tick, out)
 }
 

@@ -96,7 +96,7 @@ fn decide_by_merging(refusal: Refusal, routine: Routine, out: &mut [u8]) -> Answ
     ensures { λ _. ⌜ now (out .exit) ≡ memory (decideRoutine (routineIn routine)) (now (out .entry)) ⌝ }
 {
     let tick = routine.tick;
-    let found = merge_entry::swept(routine);
+    let found = routine_figures::swept(routine);
     let verdict = found.verdict;
     match verdict {
         Verdict::Accepted => {
@@ -114,7 +114,7 @@ fn decide_routine(routine: Routine, out: &mut [u8]) -> Answer
     ensures { λ _. ⌜ now (out .exit) ≡ memory (decideRoutine (routineIn routine)) (now (out .entry)) ⌝ }
 {
     let tick = routine.tick;
-    let found = bound_entry::explored(routine);
+    let found = routine_figures::explored(routine);
     let verdict = found.verdict;
     match verdict {
         Verdict::Accepted => {

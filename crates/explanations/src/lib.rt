@@ -56,7 +56,7 @@ fn explain_routine(body: &[u8], routine: Routine, out: &mut [u8]) -> Answer
     ensures { λ r. ⌜ r ≡ answerOf (explainRoutine (lines (now (body .entry))) (routineIn routine)) ⌝ }
     ensures { λ _. ⌜ now (out .exit) ≡ memory (explainRoutine (lines (now (body .entry))) (routineIn routine)) (now (out .entry)) ⌝ }
 {
-    let found = bound_entry::explored(routine);
+    let found = routine_figures::explored(routine);
     let verdict = found.verdict;
     match verdict {
         Verdict::Accepted => {

@@ -1,4 +1,4 @@
--- What the merging bound answers to a routine and to a text. Assumes nothing.
+-- What the merging bound answers to a text. Assumes nothing.
 use Prim.Native.Nat.{ℕ, _≤_}
 use mathlib.Core.Path.{_≡_, _∙_}
 use mathlib.Core.List.{List}
@@ -15,17 +15,8 @@ use Rattle.report_theory.specs.Refined.{MonotoneMerge, KnownMerge}
 use Rattle.report_theory.proofs.AnswerLaws.{merges-kept, merge-reported}
 use Rattle.report_theory.proofs.RefinedLaws.{merges-refined}
 use Rattle.report_theory.proofs.ListedLaws.{merge-listed, listed-alone}
-use native.Mathlib.Omega.{arith}
-use Rattle.findings.specs.declared.Found.{Found}
-use Rattle.merging.specs.Pass.{Figures}
-use Rattle.reader.specs.declared.Routine.{Routine}
-use Rattle.report.specs.Held.{Shareable, Printable}
+use Rattle.report.specs.Held.{Printable}
 use Rattle.report_theory.proofs.FoundLaws.{printable}
-
--- ---- a routine
-
-pub swept-shareable : (r : Found) → Figures 1025 r → Shareable r
-swept-shareable r f = record { cycles = omega (arith, f .cycles) }
 
 -- ---- a text
 

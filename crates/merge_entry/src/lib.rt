@@ -1,33 +1,18 @@
 // The merging bound of a routine file, on texts and lent memory. The meaning is in the specs/ of `report_theory`.
 use answers::Answer;
-use findings::Found;
 use reader::Routine;
 use refusals::Verdict;
 use rows::Reader;
 ghost use mathlib.Core.Path.{_≡_};
 ghost use lib.ListN.{length};
-ghost use Rattle.merges.specs.Merge.{merged};
-ghost use Rattle.findings.specs.Found.{Shows};
 ghost use Rattle.reader.specs.Reader.{Limited};
 ghost use Rattle.answers.specs.Answers.{memory, answerOf, reportLength, Delivers};
 ghost use Rattle.entry.specs.Held.{routineIn};
-ghost use Rattle.report.specs.Held.{Shareable, Printable};
+ghost use Rattle.report.specs.Held.{Printable};
 ghost use Rattle.report_theory.specs.Answers.{mergeRoutine, mergeAnswer};
 ghost use Rattle.report_theory.specs.Promises.{SafeMerge, ExactMerge, AboveMerge};
 ghost use Rattle.report_theory.specs.Listed.{MergeRefused, Refuses, ListedAlone};
 ghost use Rattle.report_theory.specs.Refined.{MonotoneMerge, KnownMerge};
-
-// The routine's merging bound.
-pub fn swept(routine: Routine) -> Found
-    requires { ⌜ Limited routine ⌝ }
-    ensures { λ r. ⌜ Shows r (merged (routineIn routine .code) (routineIn routine .start)) ⌝ }
-    ensures { λ r. ⌜ Shareable r ⌝ }
-{
-    let code = routine.code;
-    let fields = routine.fields;
-    let start = routine.start;
-    merging::merge(&code, start, fields)
-}
 
 // The answer of the merging bound to a routine.
 fn merge_routine(routine: Routine, out: &mut [u8]) -> Answer
@@ -37,7 +22,7 @@ fn merge_routine(routine: Routine, out: &mut [u8]) -> Answer
     ensures { λ _. ⌜ now (out .exit) ≡ memory (mergeRoutine (routineIn routine)) (now (out .entry)) ⌝ }
 {
     let tick = routine.tick;
-    let found = swept(routine);
+    let found = routine_figures::swept(routine);
     report::put_found(found, tick, out)
 }
 

@@ -3,11 +3,8 @@ use answers::Answer;
 use reader::Routine;
 use refusals::Verdict;
 use rows::Reader;
-use runs::Ran;
 ghost use mathlib.Core.Path.{_≡_};
 ghost use lib.ListN.{length};
-ghost use Rattle.bounds.specs.Run.{run};
-ghost use Rattle.runs.specs.Contract.{verdictOf};
 ghost use Rattle.reader.specs.Reader.{Limited};
 ghost use Rattle.answers.specs.Answers.{memory, answerOf, reportLength, Delivers};
 ghost use Rattle.entry.specs.Held.{routineIn};
@@ -16,20 +13,6 @@ ghost use Rattle.report_theory.specs.Answers.{runRoutine, runAnswer};
 ghost use Rattle.report_theory.specs.Promises.{WithinReport, RunAccepted};
 ghost use Rattle.report_theory.specs.Listed.{RunRefused, Refuses, ListedAlone};
 
-// The routine's run.
-pub fn ran(routine: Routine) -> Ran
-    requires { ⌜ Limited routine ⌝ }
-    ensures { λ r. ⌜ verdictOf r ≡ run (routineIn routine .code) (routineIn routine .budget) (routineIn routine .start) (routineIn routine .answers) ⌝ }
-{
-    let code = routine.code;
-    let fields = routine.fields;
-    let start = routine.start;
-    let answers = routine.answers;
-    let values = answers.values;
-    let given = answers.count;
-    runs::run(&code, start, fields, &values[..given], routine.budget)
-}
-
 // The answer of the run to a routine.
 fn run_routine(routine: Routine, out: &mut [u8]) -> Answer
     requires { ⌜ Limited routine ⌝ }
@@ -37,7 +20,7 @@ fn run_routine(routine: Routine, out: &mut [u8]) -> Answer
     ensures { λ r. ⌜ r ≡ answerOf (runRoutine (routineIn routine)) ⌝ }
     ensures { λ _. ⌜ now (out .exit) ≡ memory (runRoutine (routineIn routine)) (now (out .entry)) ⌝ }
 {
-    let ran = ran(routine);
+    let ran = routine_figures::ran(routine);
     let steps = ran.steps as u64;
     let depth = ran.depth as u64;
     let verdict = ran.verdict;

@@ -160,7 +160,7 @@ fn trace_routine(routine: Routine, out: &mut [u8]) -> Answer
     ensures { λ r. ⌜ r ≡ answerOf (traceRoutine (routineIn routine)) ⌝ }
     ensures { λ _. ⌜ now (out .exit) ≡ memory (traceRoutine (routineIn routine)) (now (out .entry)) ⌝ }
 {
-    let ran = run_entry::ran(routine);
+    let ran = routine_figures::ran(routine);
     let verdict = ran.verdict;
     match verdict {
         Verdict::Accepted => {

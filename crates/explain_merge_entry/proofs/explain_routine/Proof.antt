@@ -9,7 +9,7 @@ use Rattle.merges.specs.Merge.{merged}
 use Rattle.merge_origins.proofs.KeptLaws.{nothing-kept}
 use Rattle.answers.proofs.AnswerLaws.{gives-report, gives-refusal}
 use Rattle.entry.specs.Held.{routineIn}
-use Rattle.merge_entry.proofs.FunctionLaws.{swept-shareable}
+use Rattle.routine_figures.proofs.FigureLaws.{swept-shareable}
 use Rattle.explain_merge_entry.proofs.FunctionLaws.{kept-origins, routine-explained, routine-refused, shown-accepted}
 use borrow.Author.Needs.{needs}
 use Rattle.explain_merge_entry.proofs.explain_routine.Statement.{statement}

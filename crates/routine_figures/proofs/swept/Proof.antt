@@ -1,12 +1,12 @@
--- `merge_entry::swept` meets its contract. Assumes nothing.
+-- `routine_figures::swept` meets its contract. Assumes nothing.
 use native.Mathlib.Omega.{arith}
 use mathlib.Core.Path.{_≡_}
 use lib.ListN.{length}
 use Rattle.states.proofs.Stack.{length-images}
-use Rattle.merge_entry.proofs.FunctionLaws.{swept-shareable}
+use Rattle.routine_figures.proofs.FigureLaws.{swept-shareable}
 use borrow.Author.Needs.{needs}
-use Rattle.merge_entry.proofs.swept.Statement.{statement}
-use Rattle.merge_entry.proofs.swept.Tie as tie
+use Rattle.routine_figures.proofs.swept.Statement.{statement}
+use Rattle.routine_figures.proofs.swept.Tie as tie
 
 places : (s : tie.Start) → length (s .args .routine .fields) ≡ 128
 places s = search (needs, length-images)

@@ -1,8 +1,8 @@
--- `bound_entry::explored` meets its contract. Assumes nothing.
+-- `routine_figures::explored` meets its contract. Assumes nothing.
 use borrow.Author.Needs.{needs}
-use Rattle.bound_entry.proofs.FunctionLaws.{explored-shows, explored-shareable}
-use Rattle.bound_entry.proofs.explored.Statement.{statement}
-use Rattle.bound_entry.proofs.explored.Tie as tie
+use Rattle.routine_figures.proofs.FigureLaws.{explored-shows, explored-shareable}
+use Rattle.routine_figures.proofs.explored.Statement.{statement}
+use Rattle.routine_figures.proofs.explored.Tie as tie
 
 returns : tie.Need-returns
 returns c =

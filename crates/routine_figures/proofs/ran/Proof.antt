@@ -1,10 +1,10 @@
--- `run_entry::ran` meets its contract. Assumes nothing.
+-- `routine_figures::ran` meets its contract. Assumes nothing.
 use native.Mathlib.Omega.{arith}
 use mathlib.Core.Path.{sym}
 use Rattle.reader.proofs.ReaderLaws.{taken}
 use borrow.Author.Needs.{needs}
-use Rattle.run_entry.proofs.ran.Statement.{statement}
-use Rattle.run_entry.proofs.ran.Tie as tie
+use Rattle.routine_figures.proofs.ran.Statement.{statement}
+use Rattle.routine_figures.proofs.ran.Tie as tie
 
 slice-aggregate-run : tie.Need-slice-aggregate-run
 slice-aggregate-run c = let s = c .before .before .before .before .before .before .before in sym (taken _ (s .args .routine .answers .values) (omega (arith, s .pre .places, s .pre .answered)))

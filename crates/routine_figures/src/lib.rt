@@ -1,0 +1,51 @@
+// The bound, the merging bound and the run of a routine that was read: its arrays lent to the loops. Entry points share them.
+use findings::Found;
+use reader::Routine;
+use runs::Ran;
+ghost use mathlib.Core.Path.{_≡_};
+ghost use Rattle.bounds.specs.Tree.{bound};
+ghost use Rattle.bounds.specs.Run.{run};
+ghost use Rattle.merges.specs.Merge.{merged};
+ghost use Rattle.runs.specs.Contract.{verdictOf};
+ghost use Rattle.findings.specs.Found.{Shows};
+ghost use Rattle.reader.specs.Reader.{Limited};
+ghost use Rattle.entry.specs.Held.{routineIn};
+ghost use Rattle.report.specs.Held.{Shareable};
+
+// The routine's bound.
+pub fn explored(routine: Routine) -> Found
+    requires { ⌜ Limited routine ⌝ }
+    ensures { λ r. ⌜ Shows r (bound (routineIn routine .code) (routineIn routine .budget) (routineIn routine .start)) ⌝ }
+    ensures { λ r. ⌜ Shareable r ⌝ }
+{
+    let code = routine.code;
+    let fields = routine.fields;
+    let start = routine.start;
+    explore::explore(&code, start, fields, 32, routine.budget)
+}
+
+// The routine's merging bound.
+pub fn swept(routine: Routine) -> Found
+    requires { ⌜ Limited routine ⌝ }
+    ensures { λ r. ⌜ Shows r (merged (routineIn routine .code) (routineIn routine .start)) ⌝ }
+    ensures { λ r. ⌜ Shareable r ⌝ }
+{
+    let code = routine.code;
+    let fields = routine.fields;
+    let start = routine.start;
+    merging::merge(&code, start, fields)
+}
+
+// The routine's run.
+pub fn ran(routine: Routine) -> Ran
+    requires { ⌜ Limited routine ⌝ }
+    ensures { λ r. ⌜ verdictOf r ≡ run (routineIn routine .code) (routineIn routine .budget) (routineIn routine .start) (routineIn routine .answers) ⌝ }
+{
+    let code = routine.code;
+    let fields = routine.fields;
+    let start = routine.start;
+    let answers = routine.answers;
+    let values = answers.values;
+    let given = answers.count;
+    runs::run(&code, start, fields, &values[..given], routine.budget)
+}
