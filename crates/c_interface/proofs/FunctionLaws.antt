@@ -26,6 +26,8 @@ use Rattle.conversions.proofs.FunctionLaws.{import-reported, import-place, expo
 use Rattle.conformance.specs.Answers.{replayAnswer}
 use Rattle.conformance.proofs.FunctionLaws.{replay-reported, replay-place}
 use Rattle.split_entry.specs.Answers.{splitAnswer}
+use Rattle.split_entry.specs.Listed.{CasesRefused}
+use Rattle.split_entry.proofs.ListedLaws.{splits-listed}
 use Rattle.split_entry.proofs.Theorems.{splits-fit, split-places}
 use Rattle.explanations.specs.Answers.{explanationLimit, explainAnswer}
 use Rattle.explanations.proofs.Theorems.{explanations-fit, explain-place}
@@ -266,6 +268,9 @@ module _ (text : List ℕ) (n w : ℕ) where
 
   pub run-listed-word : w ≡ wordOf (answerOf (runAnswer text n)) → ListedAlone (RefusesWord w) (RunRefused text n)
   run-listed-word e = listed-word (RunRefused text n) (runAnswer text n) (run-listed text n) memoryLimit w (omega arith) (tells (run-limits text n) w e)
+
+pub split-listed-word : (text cuts : List ℕ) (n w : ℕ) → w ≡ wordOf (answerOf (splitAnswer text cuts n)) → ListedAlone (RefusesWord w) (CasesRefused text cuts n)
+split-listed-word text cuts n w e = listed-word (CasesRefused text cuts n) (splitAnswer text cuts n) (splits-listed text cuts n) memoryLimit w (omega arith) (tells (split-limits text cuts n) w e)
 
 module _ (text : List ℕ) (n : ℕ) where
   pub bound-tells : (w : ℕ) → w ≡ wordOf (answerOf (boundAnswer text n)) → Tells memoryLimit (boundAnswer text n) w

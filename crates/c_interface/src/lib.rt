@@ -15,6 +15,7 @@ ghost use Rattle.conformance.specs.Answers.{replayAnswer};
 ghost use Rattle.conformance.specs.Promises.{ReplayKept};
 ghost use Rattle.split_entry.specs.Answers.{splitAnswer};
 ghost use Rattle.split_entry.specs.Promises.{SafeSplit, ExactSplit, BelowMerge, MoreCuts, MonotoneSplit};
+ghost use Rattle.split_entry.specs.Listed.{CasesRefused};
 ghost use Rattle.explanations.specs.Answers.{explanationLimit, explainAnswer};
 ghost use Rattle.explain_merge_entry.specs.Answers.{explainMergeAnswer};
 ghost use Rattle.decide_entry.specs.Answers.{decideAnswer};
@@ -138,6 +139,7 @@ pub extern "C" fn tickbound_split(text: &[u8], cuts: &[u8], out: &mut [u8]) -> u
     ensures below { λ r. ⌜ Delivers (toldLength r) (now (out .exit)) (BelowMerge (now (text .entry)) (now (cuts .entry))) ⌝ }
     ensures more { λ r. ⌜ Delivers (toldLength r) (now (out .exit)) (MoreCuts (now (text .entry)) (now (cuts .entry))) ⌝ }
     ensures monotone { λ r. ⌜ Delivers (toldLength r) (now (out .exit)) (MonotoneSplit (now (text .entry)) (now (cuts .entry))) ⌝ }
+    ensures listed { λ r. ⌜ ListedAlone (RefusesWord r) (CasesRefused (now (text .entry)) (now (cuts .entry)) (length (now (out .entry)))) ⌝ }
 {
     let bounded = split_entry::split(text, cuts, out);
     word_of(bounded)

@@ -107,7 +107,7 @@ module _ (rows : List Check) (Ends : Routine → Refusal → Type 0) (f : Routin
       let m = none-checked (lines text) rows k in
       rw (le-ltb lent memoryLimit h, le-ltb textLimit (length text) l, m) (settled (rw (le-ltb textLimit (length text) l) m) r .1 e)
 
-  refused-case : Settled → (r : Refusal) → (cond (ltb lent memoryLimit) (refused ReportMemory) (ofReading f reading) ≡ refused r) ↔ Case rows Ends text lent r
+  pub refused-case : Settled → (r : Refusal) → (cond (ltb lent memoryLimit) (refused ReportMemory) (ofReading f reading) ≡ refused r) ↔ Case rows Ends text lent r
   refused-case settled r = (by (ltb lent memoryLimit) refl, case-limited settled r)
     where
       by : (b : Bool) → ltb lent memoryLimit ≡ b → cond b (refused ReportMemory) (ofReading f reading) ≡ refused r → Case rows Ends text lent r

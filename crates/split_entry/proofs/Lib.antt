@@ -1,4 +1,6 @@
 pub mod SizeLaws
 pub mod FunctionLaws
+pub mod NameLaws
+pub mod ListedLaws
 pub mod Theorems
 pub mod KeepLaws

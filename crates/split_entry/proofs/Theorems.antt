@@ -29,6 +29,7 @@ use Rattle.split_cuts.specs.Cuts.{cutsOf}
 use Rattle.split_entry.specs.Answers.{cutsChecked, checked, casesRoutine, splitRoutine, splitAnswer}
 use Rattle.split_entry.specs.Promises.{SplitReported, by-memory, by-file, by-cuts, by-case, SplitRefusal, SplitsKept, SplitAccepted, SplitsRefused, SplitsFit, SplitPlaces}
 use Rattle.split_entry.proofs.FunctionLaws.{cuts-passed, split-passed, from-split, split-reported, split-refusal-place}
+use Rattle.split_entry.proofs.NameLaws.{cuts-alike}
 
 -- a report of a routine under cuts that pass
 answers : (text cuts : List ℕ) (x : Routine) → readBound text ≡ readings.routine x → cutsChecked text cuts ≡ Accepted → (r : Report) → split (x .code) (cutsOf cuts) (x .start) ≡ accepted r →
@@ -69,7 +70,8 @@ splits-kept text cuts n bytes e =
         x,
         q,
         is,
-        λ narrower y reads h passes m l.
+        λ narrower y reads h any m l.
+            let passes = cuts-alike narrower text y x reads (a .reads) h cuts ∙ a .passes in
             let a′ : split (y .code) (cutsOf cuts) (x .start) ≡ accepted q = rw (h .code) (g .accepts) in
             let (r, b, le) = split-monotone (y .code) (cutsOf cuts) (x .start) q a′ (y .start) (h .start) in
             (boundText (y .tick) r, r, answers narrower cuts y reads passes r b m l, record { reads = reads; passes = passes; accepts = b; prints = refl }, le),

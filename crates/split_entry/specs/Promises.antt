@@ -22,7 +22,7 @@ use Rattle.report.specs.Report.{boundText}
 use Rattle.answers.specs.Answers.{reported, refused, memoryLimit}
 use Rattle.report_theory.specs.Answers.{mergeAnswer}
 use Rattle.report_theory.specs.Promises.{MergeReported, NearestShare}
-use Rattle.report_theory.specs.Refined.{Narrows}
+use Rattle.report_theory.specs.Refined.{NarrowedTexts}
 use Rattle.split_theory.specs.Split.{Cut, split, Case}
 use Rattle.split_theory.specs.Promises.{Among, SplitFigures}
 use Rattle.split_cuts.specs.Cuts.{cutsOf}
@@ -64,12 +64,11 @@ MoreCuts text cuts bytes =
     × ((more : List ℕ) → cutsChecked text more ≡ Accepted → ((c : Cut) → Among c (cutsOf cuts) → Among c (cutsOf more)) → (n : ℕ) → memoryLimit ≤ n →
     (other : List ℕ) × (r : Report) × (splitAnswer text more n ≡ reported other) × SplitReported text more other x r × NoGreater r q)
 
--- knowing more never costs more under the same cuts: a text that narrows this one, and that the cuts fit, has a report, and no figure is greater
+-- knowing more never costs more under the same cuts: every other text that passes and narrows this one has a report, and no figure is greater
 abbrev pub MonotoneSplit : List ℕ → List ℕ → List ℕ → Type 0
 MonotoneSplit text cuts bytes =
     (x : Routine) × (q : Report) × SplitReported text cuts bytes x q
-    × ((narrower : List ℕ) (y : Routine) → readBound narrower ≡ readings.routine y → Narrows y x → cutsChecked narrower cuts ≡ Accepted → (n : ℕ) → memoryLimit ≤ n →
-    (other : List ℕ) × (r : Report) × (splitAnswer narrower cuts n ≡ reported other) × SplitReported narrower cuts other y r × NoGreater r q)
+    × NarrowedTexts (λ narrower. splitAnswer narrower cuts) (λ narrower. SplitReported narrower cuts) (λ budget. Unit {0}) x q
 
 -- why a call is refused: the memory, the routine file, the cuts, or a case, which the merging bound refuses so
 pub data SplitRefusal (text cuts : List ℕ) (n : ℕ) (r : Refusal) : Type 0 where

@@ -17,10 +17,12 @@ ghost use Rattle.reader.specs.Reader.{Limited};
 ghost use Rattle.answers.specs.Answers.{memory, answerOf, reportLength, Delivers};
 ghost use Rattle.entry.specs.Held.{routineIn};
 ghost use Rattle.report.specs.Held.{Shareable, Printable};
+ghost use Rattle.report_theory.specs.Listed.{Refuses, ListedAlone};
 ghost use Rattle.split_theory.specs.Split.{split};
 ghost use Rattle.split_cuts.specs.Cuts.{cutsOf};
 ghost use Rattle.split_entry.specs.Answers.{cutsChecked, casesRoutine, splitRoutine, splitAnswer};
 ghost use Rattle.split_entry.specs.Promises.{SafeSplit, ExactSplit, BelowMerge, MoreCuts, MonotoneSplit};
+ghost use Rattle.split_entry.specs.Listed.{CasesRefused};
 ghost use Rattle.split_entry.specs.Held.{Read};
 
 // The refusal of the cuts, beside the names of the cells of a routine file.
@@ -82,6 +84,7 @@ pub fn split(text: &[u8], cuts: &[u8], out: &mut [u8]) -> Answer
     ensures below { λ r. ⌜ Delivers (reportLength r) (now (out .exit)) (BelowMerge (now (text .entry)) (now (cuts .entry))) ⌝ }
     ensures more { λ r. ⌜ Delivers (reportLength r) (now (out .exit)) (MoreCuts (now (text .entry)) (now (cuts .entry))) ⌝ }
     ensures monotone { λ r. ⌜ Delivers (reportLength r) (now (out .exit)) (MonotoneSplit (now (text .entry)) (now (cuts .entry))) ⌝ }
+    ensures listed { λ r. ⌜ ListedAlone (Refuses r) (CasesRefused (now (text .entry)) (now (cuts .entry)) (length (now (out .entry)))) ⌝ }
 {
     let verdict = entry::check(Reader::Bound, 128, out.len(), text);
     match verdict {

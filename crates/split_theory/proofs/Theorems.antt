@@ -4,12 +4,12 @@ use native.Mathlib.Omega.{arith}
 use mathlib.Core.Path.{refl}
 use Rattle.bounds.specs.Run.{begin, after, run}
 use Rattle.bounds.proofs.RunLaws.{stopped-verdict}
-use Rattle.merges.proofs.Theorems.{merged-interruptible}
+use Rattle.merges.proofs.Theorems.{merged-interruptible, merged-refused-where}
 use Rattle.split_theory.specs.Split.{largest}
-use Rattle.split_theory.specs.Promises.{SplitCovers, SplitKept, SplitPlain, SplitInterruptible, ChosenInterruptible, SplitNotAbove, SplitMonotone, SplitMore, SplitAmong, RunWithinSplit, SplitCases, SplitExact, SplitRefused, SplitAcceptedWhere}
+use Rattle.split_theory.specs.Promises.{SplitCovers, SplitKept, SplitPlain, SplitInterruptible, ChosenInterruptible, SplitNotAbove, SplitMonotone, SplitMore, SplitAmong, RunWithinSplit, SplitCases, SplitExact, SplitRefused, SplitAcceptedWhere, SplitRefusedWhere}
 use Rattle.split_theory.proofs.CutLaws.{parts, apart, parts-kept}
 use Rattle.split_theory.proofs.SplitLaws.{monotone, not-above, more-cuts, plain, among-cuts, chosen}
-use Rattle.split_theory.proofs.CaseLaws.{covers, in-one, each-within, attained, refused-by, all-accepted}
+use Rattle.split_theory.proofs.CaseLaws.{covers, in-one, each-within, attained, refused-by, all-accepted, to-first, from-first}
 
 pub split-covers : SplitCovers
 split-covers p n s h = let (l, u) = parts p n s h in record { covers = covers p n s h; lower = l; upper = u; apart = apart p n s h }
@@ -66,3 +66,6 @@ split-refused c cuts s x e = refused-by c cuts s x e
 
 pub split-accepted-where : SplitAcceptedWhere
 split-accepted-where c cuts s = (λ (q, e) u k. let (r, a, l) = each-within c k q e in (r, a), all-accepted c cuts s)
+
+pub split-refused-where : SplitRefusedWhere
+split-refused-where c f g cuts s r = (to-first c (merged-refused-where c f g) cuts s r, from-first c (merged-refused-where c f g))

@@ -1,7 +1,7 @@
 -- What is promised of the bound by cases, as statements. `proofs/Theorems` proves each by its name.
 use mathlib.Core.Path.{_≡_}
-use mathlib.Core.Bool.{true}
-use mathlib.Core.List.{List, _∷_, _++_}
+use mathlib.Core.Bool.{true, false}
+use mathlib.Core.List.{List, [], _∷_, _++_}
 use Prim.Native.Nat.{ℕ, _≤_}
 use mathlib.Core.Logic.{_⊎_, _↔_}
 use lib.IntN.{ℤ}
@@ -14,7 +14,7 @@ use Rattle.bounds.specs.Tree.{Report, accepted, refused}
 use Rattle.bounds.specs.Run.{run}
 use Rattle.bounds.specs.Promises.{NoGreater, Interruptible, Monotone}
 use Rattle.merges.specs.Merge.{merged}
-use Rattle.merges.specs.Promises.{OfSinglePass}
+use Rattle.merges.specs.Promises.{OfSinglePass, Decides}
 use Rattle.changes.specs.declared.Position.{Position}
 use Rattle.split_theory.specs.Split.{divides, below, from, Cut, split, Case}
 
@@ -104,3 +104,16 @@ abbrev pub SplitAcceptedWhere : Type 0
 SplitAcceptedWhere =
     (c : Code) (cuts : List Cut) (s : State) →
     ((q : Report) × (split c cuts s ≡ accepted q)) ↔ ((u : State) → Case cuts s u → (r : Report) × (merged c u ≡ accepted r))
+
+-- "or the refusal of the first that is refused, the numbers below first": every case before has no address with a 14 or a 7
+pub data FirstRefused (c : Code) (r : Refusal) : List Cut → State → Type 0 where
+  no-cut : {s : State} → Decides c s r → FirstRefused c r [] s
+  not-divided : {x : Cut} {xs : List Cut} {s : State} → divides (x .place) (x .number) s ≡ false → FirstRefused c r xs s → FirstRefused c r (x ∷ xs) s
+  below-first : {x : Cut} {xs : List Cut} {s : State} → divides (x .place) (x .number) s ≡ true → FirstRefused c r xs (below (x .place) (x .number) s) → FirstRefused c r (x ∷ xs) s
+  then-from : {x : Cut} {xs : List Cut} {s : State} → divides (x .place) (x .number) s ≡ true →
+      ((u : State) → Case xs (below (x .place) (x .number) s) u → (y : Refusal) → Decides c u y → ⊥) →
+      FirstRefused c r xs (from (x .place) (x .number) s) → FirstRefused c r (x ∷ xs) s
+
+-- refused by the 14 or 7 of that case, and in no other case
+abbrev pub SplitRefusedWhere : Type 0
+SplitRefusedWhere = OfSinglePass (λ c. (cuts : List Cut) (s : State) (r : Refusal) → (split c cuts s ≡ refused r) ↔ FirstRefused c r cuts s)

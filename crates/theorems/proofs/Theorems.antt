@@ -36,6 +36,7 @@ use Rattle.walks.proofs.Theorems as walk-theorems
 use Rattle.explanations.proofs.Theorems as explanation-theorems
 use Rattle.explain_merge_entry.proofs.Theorems as merge-explanation-theorems
 use Rattle.split_entry.proofs.Theorems as split-theorems
+use Rattle.split_entry.proofs.ListedLaws as split-listed-laws
 use Rattle.decide_split_entry.proofs.Theorems as split-decision-theorems
 use Rattle.trace_theory.proofs.Theorems as trace-theory-theorems
 use Rattle.trace_entry.proofs.Theorems as trace-theorems
@@ -403,6 +404,12 @@ splits-refused = split-theorems.splits-refused
 
 pub split-refused : page.SplitRefused
 split-refused = split-theory-theorems.split-refused
+
+pub splits-listed : page.SplitsListed
+splits-listed = split-listed-laws.splits-listed
+
+pub split-refused-where : page.SplitRefusedWhere
+split-refused-where = split-theory-theorems.split-refused-where
 
 pub split-decisions-kept : page.SplitDecisionsKept
 split-decisions-kept = split-decision-theorems.split-decisions-kept

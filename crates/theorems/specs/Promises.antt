@@ -60,6 +60,7 @@ use Rattle.explain_merge_entry.specs.Promises as merge-explanations
 use Rattle.split_theory.specs.Promises as split-theory
 use Rattle.split_entry.specs.Answers.{splitAnswer}
 use Rattle.split_entry.specs.Promises as splits
+use Rattle.split_entry.specs.Listed as split-listed
 use Rattle.decide_split_entry.specs.Answers.{decideSplitAnswer}
 use Rattle.decide_split_entry.specs.Promises as split-decisions
 use Rattle.trace_theory.specs.Promises as trace-theory
@@ -559,6 +560,13 @@ SplitsRefused = splits.SplitsRefused
 
 abbrev pub SplitRefused : Type 0
 SplitRefused = split-theory.SplitRefused
+
+-- a call is refused in the listed cases and in no other: of several cases that are refused the first decides, the numbers below first
+abbrev pub SplitsListed : Type 0
+SplitsListed = split-listed.SplitsListed
+
+abbrev pub SplitRefusedWhere : Type 0
+SplitRefusedWhere = split-theory.SplitRefusedWhere
 
 -- what FITS and UNDECIDED say of the file and its cuts; a decision by cases is refused exactly where the bound by cases is, and as it is
 abbrev pub SplitDecisionsKept : Type 0
