@@ -1,16 +1,19 @@
 -- What a step by value stands for.
 use mathlib.Core.Path.{_≡_}
+use mathlib.Core.Bool.{Bool}
 use mathlib.Core.List.{List}
-use Prim.Native.Nat.{_<_}
+use Prim.Native.Nat.{ℕ, _<_}
 use lib.ListN.{set}
 use Rattle.cells.specs.Try.{Try, stuck, done}
 use Rattle.cells.specs.declared.Cell.{Cell}
+use Rattle.states.specs.declared.State as states
 use Rattle.machine.specs.Machine.{State, Price, Next, stops, goes, opens, jump}
 use Rattle.steps.specs.declared.Price as code
 use Rattle.steps.specs.declared.Next as code-next
 use Rattle.steps.specs.declared.Next.the-variants.{Stuck, Stops, Goes, Opens}
 use Rattle.steps.specs.declared.Change.{Change}
 use Rattle.steps.specs.declared.Change.the-variants.{Nothing, Field}
+use Rattle.steps.specs.declared.Stepped.{Stepped}
 
 -- a price by its cycles and its words
 abbrev pub ofPrice : code.Price → Price
@@ -39,3 +42,10 @@ ofNext (Opens p a q) s = done (opens (ofPrice p) s (ofPrice q) (jump a s))
 abbrev pub Differs : Change → List Cell → List Cell → Type 0
 Differs Nothing fs gs = gs ≡ fs
 Differs (Field j c) fs gs = (j < 128) × (gs ≡ set fs j c)
+
+-- a step that leaves the blocks as they were, and one that sets the field at place j
+abbrev pub keeping : code-next.Next → Bool → states.State → List Cell → Stepped
+keeping n b s fs = record { next = n; calls = b; change = Nothing; state = s; blocks = fs }
+
+abbrev pub settingField : code-next.Next → Bool → ℕ → Cell → states.State → List Cell → Stepped
+settingField n b j c s fs = record { next = n; calls = b; change = Field j c; state = s; blocks = set fs j c }

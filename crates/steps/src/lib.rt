@@ -1,15 +1,17 @@
 // One step of the machine, by value: "A step takes the machine's state and hands back the next one." The meaning is in specs/.
 use cells::Cell;
-use cells::Operand;
-use outcomes::Outcome;
-use states::Slot;
+use effects::Effect;
 use states::State;
 use states::code::Fetched;
+use states::code::Line;
 ghost use mathlib.Core.Path.{_≡_};
-ghost use Rattle.machine.specs.Machine.{step, takesAnswer};
-ghost use Rattle.states.specs.Program.{programOf, sizesOf, IsProgram};
+ghost use Prim.Native.Nat.{_<_};
+ghost use Rattle.machine.specs.Machine.{withExtra, step, takesAnswer};
+ghost use Rattle.states.specs.Program.{programOf, sizesOf, lineOf, IsProgram};
 ghost use Rattle.states.specs.View.{WellFormed, whole};
-ghost use Rattle.steps.specs.Step.{ofNext, Small, Differs};
+ghost use Rattle.steps.specs.Step.{ofPrice, ofNext, SmallPrice, Small, Differs, keeping, settingField};
+
+pub mod effects;
 
 // What a way costs.
 pub struct Price {
@@ -41,126 +43,105 @@ pub struct Stepped {
     pub blocks: [Cell; 128],
 }
 
+// What a line costs.
+fn price_of(line: Line) -> Price
+    ensures { λ r. ⌜ (ofPrice r ≡ lineOf line .price) × SmallPrice r ⌝ }
+{
+    Price {
+        cycles: line.cycles as u64,
+        words: line.words as u64,
+    }
+}
+
+// What a conditional branch costs where it jumps.
+fn jump_price(line: Line) -> Price
+    ensures { λ r. ⌜ (ofPrice r ≡ withExtra (line .extra) (lineOf line .price)) × SmallPrice r ⌝ }
+{
+    Price {
+        cycles: (line.cycles as u64) + (line.extra as u64),
+        words: line.words as u64,
+    }
+}
+
+// A step that leaves the blocks.
+fn keep(next: Next, calls: bool, state: State, blocks: [Cell; 128]) -> Stepped
+    ensures { λ r. ⌜ r ≡ keeping next calls state blocks ⌝ }
+{
+    Stepped {
+        next: next,
+        calls: calls,
+        change: Change::Nothing,
+        state: state,
+        blocks: blocks,
+    }
+}
+
+// A step that sets the field at the place `j` to `c`.
+fn set_field(
+    next: Next,
+    calls: bool,
+    j: usize,
+    c: Cell,
+    state: State,
+    mut blocks: [Cell; 128],
+) -> Stepped
+    requires { ⌜ j < 128 ⌝ }
+    ensures { λ r. ⌜ r ≡ settingField next calls j c state blocks ⌝ }
+{
+    blocks[j] = c;
+    Stepped {
+        next: next,
+        calls: calls,
+        change: Change::Field(j, c),
+        state: state,
+        blocks: blocks,
+    }
+}
+
 // One step from `state` with `blocks`, where a C_CALL gets `answer`.
-pub fn step(code: &[u32; 5131], answer: Cell, mut state: State, mut blocks: [Cell; 128]) -> Stepped
+pub fn step(code: &[u32; 5131], answer: Cell, mut state: State, blocks: [Cell; 128]) -> Stepped
     requires { ⌜ IsProgram (now code) × WellFormed state ⌝ }
     ensures { λ r. ⌜ ofNext (r .next) (whole (sizesOf (now (code .entry))) (r .blocks) (r .state)) ≡ step (programOf (now (code .entry))) answer (whole (sizesOf (now (code .entry))) blocks state) ⌝ }
     ensures { λ r. ⌜ r .calls ≡ takesAnswer (programOf (now (code .entry))) (whole (sizesOf (now (code .entry))) blocks state) ⌝ }
     ensures { λ r. ⌜ WellFormed (r .state) × Small (r .next) ⌝ }
     ensures { λ r. ⌜ Differs (r .change) blocks (r .blocks) ⌝ }
 {
-    let fetched = states::code::fetch(code, state.at);
-    let Fetched::Is(line) = fetched else {
-        return Stepped {
-            next: Next::Stuck,
-            calls: false,
-            change: Change::Nothing,
-            state: state,
-            blocks: blocks,
-        };
+    let Fetched::Is(line) = states::code::fetch(code, state.at) else {
+        return keep(Next::Stuck, false, state, blocks);
     };
     let calls = line.calls;
     if line.pushes {
         if state.free == 0 {
-            return Stepped {
-                next: Next::Stuck,
-                calls: calls,
-                change: Change::Nothing,
-                state: state,
-                blocks: blocks,
-            };
+            return keep(Next::Stuck, calls, state, blocks);
         }
         state = state.push();
     }
     let index = outcomes::index_of(line.operand);
-    let free = state.free;
-    let place = outcomes::entry_place(line.code, index, free);
-    let drops = outcomes::drops_of(line.code, index);
-    let price = Price {
-        cycles: line.cycles as u64,
-        words: line.words as u64,
-    };
-    let jumped = Price {
-        cycles: (line.cycles as u64) + (line.extra as u64),
-        words: line.words as u64,
-    };
-    let outcome = outcomes::outcome_of(
-        line.code,
-        line.operand,
-        answer,
-        64 - free,
-        state.accu,
-        state.stack[place],
-    );
+    let place = outcomes::entry_place(line.code, index, state.free);
+    let price = price_of(line);
+    let jumped = jump_price(line);
     let mut next = Next::Goes(price);
-    let mut change = Change::Nothing;
-    match outcome {
-        Outcome::Gives(c) => {
-            state = state.pop(drops).load(c).advance();
+    let entry = state.stack[place];
+    match effects::effect_of(code, line, answer, 64 - state.free, state.accu, entry) {
+        Effect::Gives(drops, c) => state = state.pop(drops).load(c).advance(),
+        Effect::Stores => state = state.store(index).advance(),
+        Effect::Sets(j, c) => {
+            let zero = cells::number(0);
+            state = state.pop(1).load(zero).advance();
+            return set_field(next, calls, j, c, state, blocks);
         }
-        Outcome::Operates => {
-            let given = outcomes::operated(line.code, line.operand, state.accu, state.stack[place]);
-            match given {
-                Operand::Is(c) => {
-                    state = state.pop(drops).load(c).advance();
-                }
-                Operand::Stuck => {
-                    next = Next::Stuck;
-                }
-            }
-        }
-        Outcome::Stores => {
-            state = state.store(index).advance();
-        }
-        Outcome::Sets(c) => {
-            let field = states::slot_of(code, state.accu, index);
-            match field {
-                Slot::At(j) => {
-                    blocks[j] = c;
-                    change = Change::Field(j, c);
-                    let zero = cells::number(0);
-                    state = state.pop(1).load(zero).advance();
-                }
-                Slot::Lacks => {
-                    next = Next::Stuck;
-                }
-            }
-        }
-        Outcome::Gets => {
-            let field = states::slot_of(code, state.accu, index);
-            match field {
-                Slot::At(j) => {
-                    let fields = blocks; // copied in this arm alone, and not at every step
-                    state = state.load(fields[j]).advance();
-                }
-                Slot::Lacks => {
-                    next = Next::Stuck;
-                }
-            }
-        }
-        Outcome::Goes => {
-            state = state.jump(index);
-        }
-        Outcome::Jumps => {
+        Effect::Gets(j) => state = state.load(blocks[j]).advance(),
+        Effect::Goes => state = state.jump(index),
+        Effect::Jumps => {
             state = state.jump(index);
             next = Next::Goes(jumped);
         }
-        Outcome::Opens => {
+        Effect::Opens => {
             state = state.advance();
             next = Next::Opens(price, index, jumped);
         }
-        Outcome::Halts => {
-            next = Next::Stops(price);
-        }
-        Outcome::Stuck => {
-            next = Next::Stuck;
-        }
+        Effect::Halts => next = Next::Stops(price),
+        Effect::Stuck => next = Next::Stuck,
     }
-    Stepped {
-        next: next,
-        calls: calls,
-        change: change,
-        state: state,
-        blocks: blocks,
-    }
+    keep(next, calls, state, blocks)
 }

@@ -1,34 +1,39 @@
--- `steps::step` meets its contract: each arm by the laws of the arms, with the state at the next address. Assumes nothing.
+-- `steps::step` meets its contract: each arm by the law of its effect, with the state at the next address. Assumes nothing.
 use mathlib.Core.Path.{_≡_, refl, sym, ap, subst, _∙_}
 use mathlib.Core.List.{List}
 use mathlib.Core.Logic.{⊎-elim}
-use Prim.Native.Nat.{ℕ, _+_, _-_, _≤_, _<_}
+use Prim.Native.Nat.{ℕ, _-_, _≤_, _<_}
 use native.Mathlib.Omega.{arith}
 use lib.IntN.{pos}
-use lib.ListN.{length, getD}
+use lib.ListN.{length, getD, set}
 use mir.Syntax.{w32}
 use mir.Val.{SFits}
 use mir.ValLaws.{toZ-ofZ}
 use borrow.Author.Needs.{needs}
-use Rattle.cells.specs.Try.{Try, done}
+use Rattle.cells.specs.Try.{stuck, done}
 use Rattle.cells.specs.declared.Cell.{Cell}
 use Rattle.cells.specs.Cells.{range}
-use Rattle.cells.specs.Answers.{ofOperand}
 use Rattle.instructions.specs.Columns.{operationOf}
-use Rattle.machine.specs.Machine.{Next, Code, fetch, withExtra, index, step, load, takesAnswer}
+use Rattle.machine.specs.Machine.{Code, fetch, goes, opens, stops, withExtra, index, step, load, jump, takesAnswer}
 use Rattle.machine.proofs.ApartLaws.{pop-at, store-at}
-use Rattle.outcomes.specs.Outcome.{outcome, operated}
+use Rattle.outcomes.specs.declared.Outcome.{Outcome}
+use Rattle.outcomes.specs.Outcome.{outcome}
 use Rattle.outcomes.proofs.ArmLaws.{Arm}
 use Rattle.outcomes.proofs.ArmLaws as arms
 use Rattle.states.specs.declared.State.{State}
 use Rattle.states.specs.declared.code.Line.{Line}
 use Rattle.states.specs.Program.{programOf, sizesOf, lineOf, ofFetched, Known}
-use Rattle.states.specs.View.{view, WellFormed, Fits, whole, ofSlot}
+use Rattle.states.specs.View.{view, WellFormed, Fits, whole}
 use Rattle.states.proofs.ProgramLaws.{fetch-within, fits-all}
 use Rattle.states.proofs.Stack.{length-images}
-use Rattle.steps.specs.declared.Change.{Change}
-use Rattle.steps.specs.declared.Change.the-variants.{Nothing, Field}
-use Rattle.steps.specs.Step.{ofNext, SmallPrice, Differs}
+use Rattle.steps.specs.declared.Next.{Next}
+use Rattle.steps.specs.declared.Next.the-variants.{Stuck, Stops, Goes, Opens}
+use Rattle.steps.specs.declared.Price.{Price}
+use Rattle.steps.specs.declared.effects.Effect.{Effect}
+use Rattle.steps.specs.declared.effects.Effect.the-variants as effects
+use Rattle.steps.specs.declared.Stepped.{Stepped}
+use Rattle.steps.specs.Step.{ofPrice, ofNext, Small, Differs, keeping, settingField}
+use Rattle.steps.proofs.EffectLaws.{Leads, leads}
 use Rattle.steps.proofs.StepLaws.{next, popped-next, stored-next, loaded-next, jumped-next, Ready, pushes, keeps, rises, outside, overflows, calls, opened}
 use Rattle.steps.proofs.step.Statement.{statement}
 use Rattle.steps.proofs.step.Tie as tie
@@ -39,16 +44,16 @@ abbrev start : tie.After-known-told → tie.Start
 start k = k .before .before .before .before
 
 abbrev line : tie.After-known-told → Line
-line k = k .before .fetched .given .0 .0
+line k = k .before .line .given .0 .0
 
 -- before the prices are made
-abbrev settled : tie.After-outcome-of → tie.After-drops-of
-settled a = a .before .before .before .before .before .before .before .before .before
+abbrev settled : tie.After-effect-of → tie.After-entry-place
+settled a = a .before .before .before .before .before
 
-abbrev joined : tie.After-outcome-of → tie.Joined1
-joined a = settled a .before .before .before .before
+abbrev joined : tie.After-effect-of → tie.Joined1
+joined a = settled a .before .before .before
 
-abbrev lined : tie.After-outcome-of → tie.After-known-told
+abbrev lined : tie.After-effect-of → tie.After-known-told
 lined a = joined a .before
 
 abbrev code : tie.Start → Code
@@ -57,11 +62,17 @@ code s = programOf (s .args .code .now)
 abbrev sizes : tie.Start → List ℕ
 sizes s = sizesOf (s .args .code .now)
 
+-- what is promised of the answer
+abbrev Meets : tie.Start → Stepped → Type 0
+Meets s r =
+    (ofNext (r .next) (whole (sizes s) (r .blocks) (r .state)) ≡ step (code s) (s .args .answer) (whole (sizes s) (s .args .t4) (s .args .t3)))
+    × ((r .calls ≡ takesAnswer (code s) (whole (sizes s) (s .args .t4) (s .args .t3))) × ((WellFormed (r .state) × Small (r .next)) × Differs (r .change) (s .args .t4) (r .blocks)))
+
 found : (k : tie.After-known-told) → done (lineOf (line k)) ≡ fetch (code (start k)) (start k .args .t3 .at)
-found k = ap ofFetched (sym (k .before .fetched .given .1)) ∙ k .before .before .before .fetch .ensures .0
+found k = ap ofFetched (sym (k .before .line .given .1)) ∙ k .before .before .before .fetch .ensures .0
 
 known : (k : tie.After-known-told) → line k .code ≤ 22
-known k = subst Known (k .before .fetched .given .1) (k .before .before .before .fetch .ensures .1)
+known k = subst Known (k .before .line .given .1) (k .before .before .before .fetch .ensures .1)
 
 -- the code's address is low
 low : (k : tie.After-known-told) → start k .args .t3 .at < 65536
@@ -81,21 +92,31 @@ ready j =
     (λ x. keeps (sizes s) (s .args .t4) (line (j .before)) (s .args .t3) (j .if1 .state) (x .0 .left) (s .pre .1) (x .1))
     (j .if1 .came)
 
-module _ (a : tie.After-outcome-of) where
+module _ (a : tie.After-effect-of) where
   abbrev s : tie.Start
   s = start (lined a)
 
   abbrev l : Line
   l = line (lined a)
 
+  -- the state after the push
   abbrev t : State
   t = joined a .if1 .state
 
   abbrev n : ℕ
-  n = settled a .before .before .index-of .result
+  n = settled a .before .index-of .result
 
   abbrev entry : Cell
-  entry = getD (t .stack) (settled a .before .entry-place .result) (range (pos 0) 0)
+  entry = getD (t .stack) (settled a .entry-place .result) (range (pos 0) 0)
+
+  abbrev price : Price
+  price = a .before .before .before .before .price-of .result
+
+  abbrev price-jumped : Price
+  price-jumped = a .before .before .before .jump-price .result
+
+  abbrev out : Outcome
+  out = outcome (operationOf (l .code)) (l .operand) (s .args .answer) (64 - t .free) (t .accu) entry
 
   fitting : SFits w32 (l .operand)
   fitting = search needs
@@ -103,259 +124,205 @@ module _ (a : tie.After-outcome-of) where
   prepared : Ready (sizes s) (s .args .t4) l (s .args .t3) t
   prepared = ready (joined a)
 
-  arm : Arm (step (code s) (s .args .answer) (whole (sizes s) (s .args .t4) (s .args .t3))) (sizes s) (s .args .t4) (lineOf l .price) (l .extra) (operationOf (l .code)) (l .operand) (s .args .answer) (next t) n entry (a .outcome-of .result)
+  arm : Arm (step (code s) (s .args .answer) (whole (sizes s) (s .args .t4) (s .args .t3))) (sizes s) (s .args .t4) (lineOf l .price) (l .extra) (operationOf (l .code)) (l .operand) (s .args .answer) (next t) n entry out
   arm =
       arms.arm (code s) (s .args .answer) (sizes s) (s .args .t4) (s .args .t3) (next t) l (sym (found (lined a))) (rises (sizes s) (s .args .t4) l (s .args .t3) t prepared)
-      (record { free = prepared .formed .free; places = prepared .formed .places }) (fits s) n (settled a .before .entry-place .result) entry (range (pos 0) 0) (a .outcome-of .result)
-      (settled a .before .before .index-of .ensures .0 ∙ ap index (toZ-ofZ w32 _ fitting)) (settled a .before .entry-place .ensures) refl
-      (a .outcome-of .ensures ∙ ap (λ z. outcome (operationOf (l .code)) z (s .args .answer) (64 - t .free) (t .accu) entry) (toZ-ofZ w32 _ fitting))
+      (record { free = prepared .formed .free; places = prepared .formed .places }) (fits s) n (settled a .entry-place .result) entry (range (pos 0) 0) out
+      (settled a .before .index-of .ensures .0 ∙ ap index (toZ-ofZ w32 _ fitting)) (settled a .entry-place .ensures) refl refl
 
-  -- the prices are of two numbers of 32 bits at most
-  fit : (l .cycles < 4294967296) × ((l .words < 4294967296) × (l .extra < 4294967296))
-  fit = search needs
-
-  plain : SmallPrice (record { cycles = l .cycles; words = l .words })
-  plain = record { cycles = omega (arith, fit); words = fit .1 .0 }
-
-  jumped : SmallPrice (record { cycles = l .cycles + l .extra; words = l .words })
-  jumped = record { cycles = omega (arith, fit); words = fit .1 .0 }
+  -- what the step leads to, once the effect is known
+  led : (f : Effect) → a .effect-of .result ≡ f → Leads arm f
+  led f g = leads arm f (sym g ∙ a .effect-of .ensures)
 
   -- an address after methods that keep it
   near : (v : ℕ) → v ≡ t .at → v < 65536
   near v e = omega (arith, e, prepared .stays, low (lined a))
 
-  -- what is promised of a step with the state w, once it is known what it leads to, and that its prices are cheap
-  module _ {Cheap : Type 0} (cheap : Cheap) (x : Try Next) (e : step (code s) (s .args .answer) (whole (sizes s) (s .args .t4) (s .args .t3)) ≡ x) (w : State) (formed : WellFormed w) where
-    -- with the fields fs, which differ by the change y
-    changed : (y : Change) (fs : List Cell) → Differs y (s .args .t4) fs → (x ≡ step (code s) (s .args .answer) (whole (sizes s) (s .args .t4) (s .args .t3)))
-        × ((l .calls ≡ takesAnswer (code s) (whole (sizes s) (s .args .t4) (s .args .t3))) × ((WellFormed w × Cheap) × Differs y (s .args .t4) fs))
-    changed y fs differs = (sym e, (calls (code s) (s .args .answer) (sizes s) (s .args .t4) (s .args .t3) l (found (lined a)), ((formed, cheap), differs)))
+  -- ---- a step that leaves the blocks, with what comes next and the state
 
-    -- with the fields as they were
-    kept : (x ≡ step (code s) (s .args .answer) (whole (sizes s) (s .args .t4) (s .args .t3)))
-        × ((l .calls ≡ takesAnswer (code s) (whole (sizes s) (s .args .t4) (s .args .t3))) × ((WellFormed w × Cheap) × Differs Nothing (s .args .t4) (s .args .t4)))
-    kept = changed Nothing (s .args .t4) refl
+  abbrev Keeps : Next → State → Type 0
+  Keeps x w = Meets s (keeping x (l .calls) w (s .args .t4))
 
-enum-told : tie.Need-enum-told
-enum-told c = search needs
+  keeps-at : (x x′ : Next) (w w′ : State) → w ≡ w′ → x ≡ x′ → Keeps x′ w′ → Keeps x w
+  keeps-at x x′ w w′ e g h = subst (λ v. Keeps x v) (sym e) (subst (λ z. Keeps z w′) (sym g) h)
 
-returns : tie.Need-returns
-unfolding ofNext
-returns c =
-    let s = c .before .before .before in
-    let o = outside (code s) (s .args .answer) (sizes s) (s .args .t4) (s .args .t3) (ap ofFetched (sym (c .enum-told .given .1)) ∙ c .before .before .fetch .ensures .0) in
-    (o .0, (o .1, ((s .pre .1, tt), refl)))
+  called : l .calls ≡ takesAnswer (code s) (whole (sizes s) (s .args .t4) (s .args .t3))
+  called = calls (code s) (s .args .answer) (sizes s) (s .args .t4) (s .args .t3) l (found (lined a))
 
-returns-2 : tie.Need-returns-2
-unfolding ofNext
-returns-2 c =
-    let k = c .before .before in
-    let s = start k in (
-      overflows (code s) (s .args .answer) (sizes s) (s .args .t4) (s .args .t3) (line k) (found k) (c .before .if1 .taken) (s .pre .1) (c .if2 .taken),
-      (calls (code s) (s .args .answer) (sizes s) (s .args .t4) (s .args .t3) (line k) (found k), ((s .pre .1, tt), refl)),
+  module _ (w : State) (formed : WellFormed w) where
+    went : step (code s) (s .args .answer) (whole (sizes s) (s .args .t4) (s .args .t3)) ≡ done (goes (lineOf l .price) (whole (sizes s) (s .args .t4) w)) → Keeps (Goes price) w
+    unfolding ofNext
+    went e = (ap (λ p. done (goes p (whole (sizes s) (s .args .t4) w))) (a .before .before .before .before .price-of .ensures .0) ∙ sym e, (called, ((formed, a .before .before .before .before .price-of .ensures .1), refl)))
+
+    jumps : step (code s) (s .args .answer) (whole (sizes s) (s .args .t4) (s .args .t3)) ≡ done (goes (withExtra (l .extra) (lineOf l .price)) (whole (sizes s) (s .args .t4) w)) → Keeps (Goes price-jumped) w
+    unfolding ofNext
+    jumps e = (ap (λ p. done (goes p (whole (sizes s) (s .args .t4) w))) (a .before .before .before .jump-price .ensures .0) ∙ sym e, (called, ((formed, a .before .before .before .jump-price .ensures .1), refl)))
+
+    forks : step (code s) (s .args .answer) (whole (sizes s) (s .args .t4) (s .args .t3)) ≡ done (opens (lineOf l .price) (whole (sizes s) (s .args .t4) w) (withExtra (l .extra) (lineOf l .price)) (jump n (whole (sizes s) (s .args .t4) w))) → Keeps (Opens price n price-jumped) w
+    unfolding ofNext
+    forks e = (
+      ap (λ p. done (opens p (whole (sizes s) (s .args .t4) w) (ofPrice price-jumped) (jump n (whole (sizes s) (s .args .t4) w)))) (a .before .before .before .before .price-of .ensures .0)
+          ∙ ap (λ p. done (opens (lineOf l .price) (whole (sizes s) (s .args .t4) w) p (jump n (whole (sizes s) (s .args .t4) w)))) (a .before .before .before .jump-price .ensures .0) ∙ sym e,
+      (called, ((formed, (a .before .before .before .before .price-of .ensures .1, a .before .before .before .jump-price .ensures .1)), refl)),
     )
 
-entry-place-requires : tie.Need-entry-place-requires
-entry-place-requires c κs = (omega (arith, c .index-of .ensures .1), ready (c .before .before) .formed .free)
+  halts : step (code s) (s .args .answer) (whole (sizes s) (s .args .t4) (s .args .t3)) ≡ done (stops (lineOf l .price)) → Keeps (Stops price) t
+  unfolding ofNext
+  halts e = (ap (λ p. done (stops p)) (a .before .before .before .before .price-of .ensures .0) ∙ sym e, (called, ((prepared .formed, a .before .before .before .before .price-of .ensures .1), refl)))
 
-drops-of-requires : tie.Need-drops-of-requires
-drops-of-requires c κs = known (c .before .before .before .before)
+  sticks : step (code s) (s .args .answer) (whole (sizes s) (s .args .t4) (s .args .t3)) ≡ stuck → Keeps Stuck t
+  unfolding ofNext
+  sticks e = (sym e, (called, ((prepared .formed, tt), refl)))
 
-sub-outcome-of : tie.Need-sub-outcome-of
-sub-outcome-of c = ready (c .before .before .before .before .before .before .before .before .before) .formed .free
+  -- ---- a step that sets a field
 
-outcome-of-requires : tie.Need-outcome-of-requires
-outcome-of-requires c κs = known (c .before .before .before .before .before .before .before .before .before .before .before .before .before)
-
--- ---- the accumulator becomes a cell
-
-pop-requires : tie.Need-pop-requires
-pop-requires c κs = let a = c .before .before .before in (prepared a .formed, arms.drop-room (arm a) _ _ (c .before .outcome .given .1) (settled a .drops-of .ensures))
+  set-at : (j : ℕ) (c : Cell) (w : State) → j < 128 → WellFormed w → step (code s) (s .args .answer) (whole (sizes s) (s .args .t4) (s .args .t3)) ≡ done (goes (lineOf l .price) (whole (sizes s) (set (s .args .t4) j c) w)) →
+      Meets s (settingField (Goes price) (l .calls) j c w (s .args .t4))
+  unfolding ofNext
+  set-at j c w within formed e =
+      (ap (λ p. done (goes p (whole (sizes s) (set (s .args .t4) j c) w))) (a .before .before .before .before .price-of .ensures .0) ∙ sym e, (called, ((formed, a .before .before .before .before .price-of .ensures .1), (within, refl))))
 
 -- an accumulator that is loaded leaves the address
 loaded-at : (s w : State) (c : Cell) → view w ≡ load c (view s) → w .at ≡ s .at
 unfolding load
 loaded-at s w c e = ap (λ v. v .at) e
 
+-- ---- before the effect is known
+
+returns : tie.Need-returns
+unfolding ofNext
+returns c =
+    let s = c .before .before .before .before in
+    let o = outside (code s) (s .args .answer) (sizes s) (s .args .t4) (s .args .t3) (ap ofFetched (sym (c .before .enum-told .given .1)) ∙ c .before .before .before .fetch .ensures .0) in
+    subst (Meets s) (sym (c .keep .ensures)) (o .0, (o .1, ((s .pre .1, tt), refl)))
+
+returns-2 : tie.Need-returns-2
+unfolding ofNext
+returns-2 c =
+    let k = c .before .before .before in
+    let s = start k in
+    subst (Meets s) (sym (c .keep2 .ensures)) (
+      overflows (code s) (s .args .answer) (sizes s) (s .args .t4) (s .args .t3) (line k) (found k) (c .before .before .if1 .taken) (s .pre .1) (c .before .if2 .taken),
+      (calls (code s) (s .args .answer) (sizes s) (s .args .t4) (s .args .t3) (line k) (found k), ((s .pre .1, tt), refl)),
+    )
+
+entry-place-requires : tie.Need-entry-place-requires
+entry-place-requires c κs = (omega (arith, c .index-of .ensures .1), ready (c .before .before) .formed .free)
+
+sub-effect-of : tie.Need-sub-effect-of
+sub-effect-of c = ready (c .before .before .before .before .before .before) .formed .free
+
+effect-of-requires : tie.Need-effect-of-requires
+effect-of-requires c κs = let k = c .before .before .before .before .before .before .before .before in (start k .pre .0, known k)
+
+-- ---- the accumulator becomes a cell
+
+given : (c : tie.After-drops) → Leads (arm (c .before .before)) (effects.Gives (c .drops .given .0 .0) (c .drops .given .0 .1 .0))
+given c = led (c .before .before) _ (c .drops .given .1)
+
+pop-requires : tie.Need-pop-requires
+pop-requires c κs = (prepared (c .before .before .before) .formed, given (c .before) .0)
+
 advance-requires : tie.Need-advance-requires
 advance-requires c κs =
     let a = c .before .before .before .before .before in
     (c .load .ensures .1, near a _ (loaded-at (c .before .pop .result) (c .load .result) _ (c .load .ensures .0) ∙ pop-at _ (view (t a)) (view (c .before .pop .result)) (c .before .pop .ensures .0)))
 
-returns-3 : tie.Need-returns-3
-unfolding ofNext
-returns-3 c =
-    let a = c .before .before .before .before .before .before in
-    let v = c .before .before .pop .result in
-    kept a (plain a) _
-    (arms.gives (arm a) (c .before .before .before .before .outcome .given .0 .0) (settled a .drops-of .result) (next v) (c .advance .result) (settled a .drops-of .ensures) (popped-next (t a) v _ (c .before .before .pop .ensures .0))
-    (loaded-next v (c .before .load .result) (c .advance .result) _ (c .before .load .ensures .0) (c .advance .ensures .0)) (c .before .before .before .before .outcome .given .1))
-    (c .advance .result) (c .advance .ensures .1)
-
--- ---- an operation on cells
-
-operated-requires : tie.Need-operated-requires
-operated-requires c κs = let a = c .before .before .before .before .before in (known (lined a), arms.on-cells (arm a) (c .before .before .before .enum-told2 .given .1))
-
--- what the operation gave
-given : (c : tie.After-operated) → ofOperand (c .operated .result) ≡ operated (operationOf (l (c .before .before .before .before .before .before) .code)) (l (c .before .before .before .before .before .before) .operand) (t (c .before .before .before .before .before .before) .accu) (entry (c .before .before .before .before .before .before))
-given c = let a = c .before .before .before .before .before .before in c .operated .ensures ∙ ap (λ z. operated (operationOf (l a .code)) z (t a .accu) (entry a)) (toZ-ofZ w32 _ (fitting a))
-
-pop-requires-2 : tie.Need-pop-requires-2
-pop-requires-2 c κs = let a = c .before .before .before .before .before .before .before .before .before in (prepared a .formed, arms.operate-room (arm a) _ (c .before .before .before .before .before .before .before .enum-told2 .given .1) (settled a .drops-of .ensures))
-
-advance-requires-2 : tie.Need-advance-requires-2
-advance-requires-2 c κs =
-    let a = c .before .before .before .before .before .before .before .before .before .before .before in
-    (c .load2 .ensures .1, near a _ (loaded-at (c .before .pop2 .result) (c .load2 .result) _ (c .load2 .ensures .0) ∙ pop-at _ (view (t a)) (view (c .before .pop2 .result)) (c .before .pop2 .ensures .0)))
-
-returns-4 : tie.Need-returns-4
-unfolding ofNext
-returns-4 c =
-    let a = c .before .before .before .before .before .before .before .before .before .before .before .before in
-    let v = c .before .before .pop2 .result in
-    kept a (plain a) _
-    (arms.operates (arm a) (c .before .before .before .before .given .given .0 .0) (settled a .drops-of .result) (next v) (c .advance2 .result) (settled a .drops-of .ensures) (popped-next (t a) v _ (c .before .before .pop2 .ensures .0))
-    (loaded-next v (c .before .load2 .result) (c .advance2 .result) _ (c .before .load2 .ensures .0) (c .advance2 .ensures .0)) (c .before .before .before .before .before .before .before .before .before .before .enum-told2 .given .1) (sym (given (c .before .before .before .before .before .before)) ∙ ap ofOperand (c .before .before .before .before .given .given .1)))
-    (c .advance2 .result) (c .advance2 .ensures .1)
-
-returns-5 : tie.Need-returns-5
-unfolding ofNext
-returns-5 c =
-    let a = c .before .before .before .before .before .before .before .before in
-    kept a tt _ (arms.operates-nothing (arm a) (c .before .before .before .before .before .before .enum-told2 .given .1) (sym (given (c .before .before)) ∙ ap ofOperand (c .enum-told3 .given .1))) (t a) (prepared a .formed)
-
 -- ---- an entry becomes the accumulator
 
 store-requires : tie.Need-store-requires
-store-requires c κs = let a = c .before .before in (prepared a .formed, arms.store-room (arm a) (c .enum-told4 .given .1))
+store-requires c κs = let a = c .before .before in (prepared a .formed, led a effects.Stores (c .enum-told2 .given .1) .0)
 
-advance-requires-3 : tie.Need-advance-requires-3
-advance-requires-3 c κs = let a = c .before .before .before in (c .store .ensures .1, near a _ (store-at _ (view (t a)) (view (c .store .result)) (c .store .ensures .0)))
-
-returns-6 : tie.Need-returns-6
-unfolding ofNext
-returns-6 c =
-    let a = c .before .before .before .before in
-    kept a (plain a) _ (arms.stores (arm a) (c .advance3 .result) (c .before .before .enum-told4 .given .1) (stored-next (t a) (c .before .store .result) (c .advance3 .result) _ (c .before .store .ensures .0) (c .advance3 .ensures .0)))
-    (c .advance3 .result) (c .advance3 .ensures .1)
+advance-requires-2 : tie.Need-advance-requires-2
+advance-requires-2 c κs = let a = c .before .before .before in (c .store .ensures .1, near a _ (store-at _ (view (t a)) (view (c .store .result)) (c .store .ensures .0)))
 
 -- ---- a field is set
 
-slot-of-requires : tie.Need-slot-of-requires
-slot-of-requires c κs = s (c .before .before .before .before) .pre .0
+set-known : (c : tie.After-j) → Leads (arm (c .before .before)) (effects.Sets (c .j .given .0 .0) (c .j .given .0 .1 .0))
+set-known c = led (c .before .before) _ (c .j .given .1)
 
--- the place that was found
-set-slot : (c : tie.After-known-told5) → done (c .before .field .given .0 .0) ≡ ofSlot (c .before .before .before .slot-of .result)
-set-slot c = ap ofSlot (sym (c .before .field .given .1))
+pop-requires-2 : tie.Need-pop-requires-2
+pop-requires-2 c κs = (prepared (c .before .before .before .before) .formed, set-known (c .before .before) .0 .0)
 
-set-within : (c : tie.After-known-told5) → c .before .field .given .0 .0 < 128
-set-within c = let a = c .before .before .before .before .before .before .before .before in omega (arith, arms.slot-in (arm a) _ (set-slot c ∙ c .before .before .before .slot-of .ensures), fields (s a))
+advance-requires-3 : tie.Need-advance-requires-3
+advance-requires-3 c κs =
+    let a = c .before .before .before .before .before .before in
+    (c .load2 .ensures .1, near a _ (loaded-at (c .before .pop2 .result) (c .load2 .result) _ (c .load2 .ensures .0) ∙ pop-at _ (view (t a)) (view (c .before .pop2 .result)) (c .before .pop2 .ensures .0)))
 
-mul-blocks : tie.Need-mul-blocks
-mul-blocks c = omega (arith, set-within c)
+set-within : (c : tie.After-j) → c .j .given .0 .0 < 128
+set-within c = omega (arith, set-known c .0 .1, fields (s (c .before .before)))
 
-array-set-from-blocks : tie.Need-array-set-from-blocks
-array-set-from-blocks c = set-within c
+set-field-requires : tie.Need-set-field-requires
+set-field-requires c κs = set-within (c .before .before .before .before .before)
 
-pop-requires-3 : tie.Need-pop-requires-3
-pop-requires-3 c κs = let a = c .before .before .before .before .before .before .before .before .before in (prepared a .formed, arms.set-room (arm a) _ (c .before .before .before .before .before .before .before .outcome2 .given .1))
-
-advance-requires-4 : tie.Need-advance-requires-4
-advance-requires-4 c κs =
-    let a = c .before .before .before .before .before .before .before .before .before .before .before in
-    (c .load3 .ensures .1, near a _ (loaded-at (c .before .pop3 .result) (c .load3 .result) _ (c .load3 .ensures .0) ∙ pop-at _ (view (t a)) (view (c .before .pop3 .result)) (c .before .pop3 .ensures .0)))
-
-returns-7 : tie.Need-returns-7
-unfolding ofNext
-returns-7 c =
-    let a = c .before .before .before .before .before .before .before .before .before .before .before .before in
-    let v = c .before .before .pop3 .result in
-    changed a (plain a) _
-    (arms.sets (arm a) (c .before .before .before .before .before .before .before .before .before .before .outcome2 .given .0 .0) (c .before .before .before .before .before .field .given .0 .0) (next v) (c .advance4 .result) (c .before .before .before .before .before .before .before .before .before .before .outcome2 .given .1) (set-slot (c .before .before .before .before) ∙ c .before .before .before .before .before .before .before .slot-of .ensures) (popped-next (t a) v _ (c .before .before .pop3 .ensures .0))
-    (loaded-next v (c .before .load3 .result) (c .advance4 .result) _ (c .before .load3 .ensures .0) (c .advance4 .ensures .0) ∙ ap (λ z. load z (view (next v))) (c .before .before .before .number .ensures)))
-    (c .advance4 .result) (c .advance4 .ensures .1) (Field (c .before .before .before .before .before .field .given .0 .0) _) _ (set-within (c .before .before .before .before), refl)
-
-returns-8 : tie.Need-returns-8
-unfolding ofNext
-returns-8 c =
-    let a = c .before .before .before .before .before .before .before in
-    kept a tt _ (arms.sets-nothing (arm a) _ (c .before .before .before .before .before .outcome2 .given .1) (ap ofSlot (sym (c .enum-told5 .given .1)) ∙ c .before .before .slot-of .ensures)) (t a) (prepared a .formed)
+returns-3 : tie.Need-returns-3
+returns-3 c =
+    let j = c .before .before .before .before .before .before in
+    let a = j .before .before in
+    let v = c .before .before .before .pop2 .result in
+    let w = c .before .advance3 .result in
+    subst (Meets (s a)) (sym (c .set-field .ensures))
+    (set-at a _ _ w (set-within j) (c .before .advance3 .ensures .1)
+    (set-known j .1 (next v) w (popped-next (t a) v _ (c .before .before .before .pop2 .ensures .0))
+    (loaded-next v (c .before .before .load2 .result) w _ (c .before .before .load2 .ensures .0) (c .before .advance3 .ensures .0) ∙ ap (λ z. load z (view (next v))) (c .before .before .before .before .number .ensures))))
 
 -- ---- the accumulator becomes a field
 
-slot-of-requires-2 : tie.Need-slot-of-requires-2
-slot-of-requires-2 c κs = s (c .before .before .before) .pre .0
+get-known : (c : tie.After-j2) → Leads (arm (c .before .before)) (effects.Gets (c .j2 .given .0 .0))
+get-known c = led (c .before .before) _ (c .j2 .given .1)
 
-get-slot : (c : tie.After-known-told6) → done (c .before .field2 .given .0 .0) ≡ ofSlot (c .before .before .before .slot-of2 .result)
-get-slot c = ap ofSlot (sym (c .before .field2 .given .1))
-
-get-within : (c : tie.After-known-told6) → c .before .field2 .given .0 .0 < 128
-get-within c = let a = c .before .before .before .before .before .before .before in omega (arith, arms.slot-in (arm a) _ (get-slot c ∙ c .before .before .before .slot-of2 .ensures), fields (s a))
+get-within : (c : tie.After-j2) → c .j2 .given .0 .0 < 128
+get-within c = omega (arith, get-known c .0, fields (s (c .before .before)))
 
 mul-load : tie.Need-mul-load
-mul-load c = omega (arith, get-within c)
+mul-load c = omega (arith, get-within (c .before))
 
 array-copy-out-load : tie.Need-array-copy-out-load
-array-copy-out-load c = get-within c
+array-copy-out-load c = get-within (c .before)
 
-load-requires-4 : tie.Need-load-requires-4
-load-requires-4 c κs = let a = c .before .before .before .before .before .before .before .before in prepared a .formed
+load-requires-3 : tie.Need-load-requires-3
+load-requires-3 c κs = prepared (c .before .before .before .before) .formed
 
-advance-requires-5 : tie.Need-advance-requires-5
-advance-requires-5 c κs = let a = c .before .before .before .before .before .before .before .before .before in (c .load4 .ensures .1, near a _ (loaded-at (t a) (c .load4 .result) _ (c .load4 .ensures .0)))
+advance-requires-4 : tie.Need-advance-requires-4
+advance-requires-4 c κs = let a = c .before .before .before .before .before in (c .load3 .ensures .1, near a _ (loaded-at (t a) (c .load3 .result) _ (c .load3 .ensures .0)))
 
-returns-9 : tie.Need-returns-9
-unfolding ofNext
-returns-9 c =
-    let a = c .before .before .before .before .before .before .before .before .before .before in
-    kept a (plain a) _
-    (arms.gets (arm a) (c .before .before .before .before .field2 .given .0 .0) _ (c .advance5 .result) (c .before .before .before .before .before .before .before .before .enum-told6 .given .1) (get-slot (c .before .before .before) ∙ c .before .before .before .before .before .before .slot-of2 .ensures)
-    (loaded-next (t a) (c .before .load4 .result) (c .advance5 .result) _ (c .before .load4 .ensures .0) (c .advance5 .ensures .0)))
-    (c .advance5 .result) (c .advance5 .ensures .1)
-
-returns-10 : tie.Need-returns-10
-unfolding ofNext
-returns-10 c =
-    let a = c .before .before .before .before .before .before in
-    kept a tt _ (arms.gets-nothing (arm a) (c .before .before .before .before .enum-told6 .given .1) (ap ofSlot (sym (c .enum-told7 .given .1)) ∙ c .before .before .slot-of2 .ensures)) (t a) (prepared a .formed)
-
--- ---- branches, STOP, stuck
+-- ---- branches
 
 jump-requires : tie.Need-jump-requires
-jump-requires c κs = let a = c .before .before in prepared a .formed
-
-returns-11 : tie.Need-returns-11
-unfolding ofNext
-returns-11 c =
-    let a = c .before .before .before in
-    kept a (plain a) _ (arms.branches (arm a) (c .jump .result) (jumped-next (t a) (c .jump .result) _ (c .jump .ensures .0)) (c .before .enum-told8 .given .1)) (c .jump .result) (c .jump .ensures .1)
+jump-requires c κs = prepared (c .before .before) .formed
 
 jump-requires-2 : tie.Need-jump-requires-2
-jump-requires-2 c κs = let a = c .before .before in prepared a .formed
+jump-requires-2 c κs = prepared (c .before .before) .formed
 
-returns-12 : tie.Need-returns-12
-unfolding ofNext withExtra
-returns-12 c =
-    let a = c .before .before .before in
-    kept a (jumped a) _ (arms.jumps (arm a) (c .jump2 .result) (jumped-next (t a) (c .jump2 .result) _ (c .jump2 .ensures .0)) (c .before .enum-told9 .given .1)) (c .jump2 .result) (c .jump2 .ensures .1)
+advance-requires-5 : tie.Need-advance-requires-5
+advance-requires-5 c κs = let a = c .before .before in (prepared a .formed, near a _ refl)
 
-advance-requires-6 : tie.Need-advance-requires-6
-advance-requires-6 c κs = let a = c .before .before in (prepared a .formed, near a _ refl)
+-- ---- the arms that leave the blocks
 
-returns-13 : tie.Need-returns-13
-unfolding ofNext withExtra
-returns-13 c =
-    let a = c .before .before .before in
-    kept a (plain a, jumped a) _ (opened (sizes (s a)) (s a .args .t4) (t a) (c .advance6 .result) (arm a) (c .before .enum-told10 .given .1) (c .advance6 .ensures .0)) (c .advance6 .result) (c .advance6 .ensures .1)
-
-returns-14 : tie.Need-returns-14
-unfolding ofNext
-returns-14 c = let a = c .before .before in kept a (plain a) _ (arms.halts (arm a) (c .enum-told11 .given .1)) (t a) (prepared a .formed)
-
-returns-15 : tie.Need-returns-15
-unfolding ofNext
-returns-15 c = let a = c .before .before in kept a tt _ (arms.is-stuck (arm a) (c .enum-told12 .given .1)) (t a) (prepared a .formed)
+returns-4 : tie.Need-returns-4
+returns-4 c =
+    let m = c .before in
+    let a = m .before in
+    subst (Meets (s a)) (sym (c .keep3 .ensures))
+    (⊎-elim
+    (λ x. keeps-at a _ _ _ _ (x .6) (x .7) (went a (x .5 .result) (x .5 .ensures .1)
+    (led a (effects.Gives _ _) (x .1 .given .1) .1 (next (x .3 .result)) (x .5 .result) (popped-next (t a) (x .3 .result) _ (x .3 .ensures .0)) (loaded-next (x .3 .result) (x .4 .result) (x .5 .result) _ (x .4 .ensures .0) (x .5 .ensures .0)))))
+    (⊎-elim
+    (λ x. keeps-at a _ _ _ _ (x .4) (x .5) (went a (x .3 .result) (x .3 .ensures .1)
+    (led a effects.Stores (x .1 .given .1) .1 (x .3 .result) (stored-next (t a) (x .2 .result) (x .3 .result) _ (x .2 .ensures .0) (x .3 .ensures .0)))))
+    (⊎-elim
+    (λ x. keeps-at a _ _ _ _ (x .6) (x .7) (went a (x .5 .result) (x .5 .ensures .1)
+    (led a (effects.Gets _) (x .1 .given .1) .1 _ (x .5 .result) (loaded-next (t a) (x .4 .result) (x .5 .result) _ (x .4 .ensures .0) (x .5 .ensures .0)))))
+    (⊎-elim
+    (λ x. keeps-at a _ _ _ _ (x .3) (x .4) (went a (x .2 .result) (x .2 .ensures .1) (led a effects.Goes (x .1 .given .1) (x .2 .result) (jumped-next (t a) (x .2 .result) _ (x .2 .ensures .0)))))
+    (⊎-elim
+    (λ x. keeps-at a _ _ _ _ (x .3) (x .4) (jumps a (x .2 .result) (x .2 .ensures .1) (led a effects.Jumps (x .1 .given .1) (x .2 .result) (jumped-next (t a) (x .2 .result) _ (x .2 .ensures .0)))))
+    (⊎-elim
+    (λ x. keeps-at a _ _ _ _ (x .3) (x .4) (forks a (x .2 .result) (x .2 .ensures .1) (opened (sizes (s a)) (s a .args .t4) (t a) (x .2 .result) (arm a) (led a effects.Opens (x .1 .given .1)) (x .2 .ensures .0))))
+    (⊎-elim
+    (λ x. keeps-at a _ _ _ _ (x .2) (x .3) (halts a (led a effects.Halts (x .1 .given .1))))
+    (λ x. keeps-at a _ _ _ _ (x .2) (x .3) (sticks a (led a effects.Stuck (x .1 .given .1))))))))))
+    (m .match2 .came))
 
 pub step-spec : {M : Type 1} → statement M
 step-spec =
@@ -363,75 +330,46 @@ step-spec =
     (tie.spec
     (λ c κs. search needs)
     (λ c. search needs)
-    enum-told
+    (λ c. search needs)
+    (λ c κs. search needs)
     returns
+    (λ c κs. search needs)
     returns-2
     (λ c κs. search needs)
     (λ c κs. search needs)
     entry-place-requires
-    drops-of-requires
+    (λ c κs. search needs)
+    (λ c κs. search needs)
     (λ c. search needs)
     (λ c. search needs)
-    (λ c. search needs)
-    (λ c. search needs)
-    (λ c. search needs)
-    (λ c. search needs)
-    sub-outcome-of
-    (λ c. search needs)
-    (λ c. search needs)
-    outcome-of-requires
+    sub-effect-of
+    effect-of-requires
     (λ c. search needs)
     pop-requires
     (λ c κs. search needs)
     advance-requires
     (λ c. search needs)
-    (λ c. search needs)
-    (λ c. search needs)
-    operated-requires
-    (λ c. search needs)
-    pop-requires-2
-    (λ c κs. search needs)
+    store-requires
     advance-requires-2
     (λ c. search needs)
-    (λ c. search needs)
-    store-requires
+    (λ c κs. search needs)
+    pop-requires-2
+    (λ c κs. search needs)
     advance-requires-3
-    (λ c. search needs)
-    slot-of-requires
-    (λ c. search needs)
-    mul-blocks
-    array-set-from-blocks
-    (λ c κs. search needs)
-    pop-requires-3
-    (λ c κs. search needs)
-    advance-requires-4
-    (λ c. search needs)
-    (λ c. search needs)
-    slot-of-requires-2
+    set-field-requires
+    returns-3
     (λ c. search needs)
     mul-load
     array-copy-out-load
-    load-requires-4
-    advance-requires-5
-    (λ c. search needs)
+    load-requires-3
+    advance-requires-4
     (λ c. search needs)
     jump-requires
     (λ c. search needs)
     jump-requires-2
     (λ c. search needs)
-    advance-requires-6
+    advance-requires-5
     (λ c. search needs)
     (λ c. search needs)
-    returns-3
-    returns-4
-    returns-5
-    returns-6
-    returns-7
-    returns-8
-    returns-9
-    returns-10
-    returns-11
-    returns-12
-    returns-13
-    returns-14
-    returns-15)
+    (λ c κs. search needs)
+    returns-4)
