@@ -4,9 +4,10 @@ use mathlib.Core.Path.{_≡_, refl, sym, ap, ap₂, subst, _∙_}
 use mathlib.Core.Bool.{Bool, true, false, cond}
 use mathlib.Core.List.{List}
 use native.Mathlib.Omega.{arith}
-use lib.Dec.{eqb}
-use lib.ListN.{length, drop, replicate, length-replicate}
-use lib.Seq.{getD-take, getD-drop}
+use lib.Dec.{eqb, ltb}
+use lib.ListN.{length, getD, drop, set, replicate, length-set}
+use lib.Seq.{getD-take, getD-drop, getD-set-same, getD-set-other}
+use borrow.Author.Tests.{ltb-true, ltb-false}
 use Rattle.refusals.specs.declared.Refusal.{Refusal}
 use Rattle.refusals.specs.declared.Verdict as code-verdict
 use Rattle.refusals.specs.declared.Verdict.the-variants.{Accepted, Refused}
@@ -25,8 +26,8 @@ use Rattle.merge_origins.specs.Kept.{Goals, Keeps}
 use Rattle.merge_origins.proofs.KeptLaws.{zeros}
 use Rattle.arrivals.specs.declared.Way.{Way}
 use Rattle.merging.specs.declared.Pass.{Pass}
-use Rattle.arrivals.specs.Rows.{Numeric, arrivalOf, part, slotAt, joinAt, with, waiting}
-use Rattle.merging.specs.Pass.{Spent, most, Figures, Ready, Agrees, Moved, stopped, moved}
+use Rattle.arrivals.specs.Rows.{Numeric, Rows, arrivalOf, part, slotAt, joinAt, with, waiting}
+use Rattle.merging.specs.Pass.{Empty, Spent, most, Figures, Ready, Agrees, Moved, stopped, moved}
 use Rattle.arrivals.proofs.RowLaws.{slot-empty}
 use Rattle.merging.proofs.PassLaws.{arrived, same-test}
 use Rattle.arrivals.proofs.PartLaws.{comes-to}
@@ -47,11 +48,36 @@ pub record Going (c : Code) (ns : List ℕ) (first n : ℕ) (v : Verdict) (o : O
 
 -- ---- an empty table
 
-nothing-at : (ns : List ℕ) (first n b : ℕ) → slotAt ns first (replicate n 0) b ≡ empty
+-- a row without a mark is empty
+unmarked : (ns : List ℕ) (first : ℕ) (rs : List ℕ) (b : ℕ) → getD rs (197 * b) 0 ≡ 0 → slotAt ns first rs b ≡ empty
 unfolding slotAt
-nothing-at ns first n b =
-    slot-empty ns (first + b) (part (197 * b) (197 * b + 197) (replicate n 0))
-    (getD-take (197 * b + 197 - 197 * b) (drop (197 * b) (replicate n 0)) 0 0 (omega arith) ∙ getD-drop (197 * b) (replicate n 0) 0 0 ∙ zeros n (197 * b + 0))
+unmarked ns first rs b e =
+    let at : 197 * b + 0 ≡ 197 * b = omega arith in
+    slot-empty ns (first + b) (part (197 * b) (197 * b + 197) rs)
+    (getD-take (197 * b + 197 - 197 * b) (drop (197 * b) rs) 0 0 (omega arith) ∙ getD-drop (197 * b) rs 0 0 ∙ ap (λ (i : ℕ). getD rs i 0) at ∙ e)
+
+pub all-empty : (ns : List ℕ) (first n m : ℕ) → Empty ns first n (replicate m 0)
+all-empty ns first n m b h = unmarked ns first (replicate m 0) b (zeros m (197 * b))
+
+-- ---- the rows emptied
+
+-- those below j have no mark
+pub record Clearing (rs : List ℕ) (j : ℕ) : Type 0 where
+  pub rows : Rows rs
+  pub marks : (b : ℕ) → b < j → getD rs (197 * b) 0 ≡ 0
+
+pub clears : {rs : List ℕ} {j : ℕ} → Clearing rs j → j < 1025 → Clearing (set rs (197 * j) 0) (j + 1)
+clears {rs} {j} c h = record { rows = length-set rs (197 * j) 0 ∙ c .rows; marks = λ b k. by b k (ltb b j) refl }
+  where
+    by : (b : ℕ) → b < j + 1 → (t : Bool) → ltb b j ≡ t → getD (set rs (197 * j) 0) (197 * b) 0 ≡ 0
+    by b k true e = let l = ltb-true b j e in getD-set-other rs (197 * j) (197 * b) 0 0 (λ f. omega arith) ∙ c .marks b l
+    by b k false e =
+        let l = ltb-false b j e in
+        let same : 197 * b ≡ 197 * j = omega arith in
+        ap (λ (i : ℕ). getD (set rs (197 * j) 0) i 0) same ∙ getD-set-same rs (197 * j) 0 0 (omega (arith, c .rows))
+
+pub cleared : {rs : List ℕ} {j n : ℕ} (ns : List ℕ) (first : ℕ) → Clearing rs j → n ≤ j → Empty ns first n rs
+cleared {rs} ns first c h b k = unmarked ns first rs b (c .marks b (omega arith))
 
 -- ---- where it begins
 
@@ -63,22 +89,19 @@ begun s bl = record {
   way = record { state = s; blocks = bl; cycles = 0; words = 0 };
 }
 
-module _ (c : Code) (ns : List ℕ) (first l m : ℕ) (s : code.State) (bl : List Cell)
-    (from : c .first ≡ first) (count : length (c .instructions) ≡ l) (low : first ≤ s .at) (high : s .at ≤ first + l) where
+module _ (c : Code) (ns : List ℕ) (first l : ℕ) (rs : List ℕ) (s : code.State) (bl : List Cell) (from : c .first ≡ first) (count : length (c .instructions) ≡ l)
+    (low : first ≤ s .at) (high : s .at ≤ first + l) (none-waits : Empty ns first (l + 1) rs) where
   abbrev w : Way
   w = begun s bl .way
 
   abbrev j : ℕ
   j = s .at - first
 
-  abbrev rs : List ℕ
-  rs = replicate m 0
-
-  begun-slot : (b : ℕ) → waiting ns true w j b (slotAt ns first rs b) ≡ joinAt (first + b) (arrivalOf ns w) empty
+  begun-slot : (b : ℕ) → b < l + 1 → waiting ns true w j b (slotAt ns first rs b) ≡ joinAt (first + b) (arrivalOf ns w) empty
   unfolding waiting with joinAt
-  begun-slot b =
+  begun-slot b h =
       let at : arrivalOf ns w .state .at ≡ s .at = comes-to ns w in
-      ap (λ (x : Slot). cond (eqb b j) (join x (arrivalOf ns w)) x) (nothing-at ns first m b)
+      ap (λ (x : Slot). cond (eqb b j) (join x (arrivalOf ns w)) x) (none-waits b h)
       ∙ ap (λ (t : Bool). cond t (join empty (arrivalOf ns w)) empty) (same-test b j (first + b) (arrivalOf ns w .state .at) (λ e. omega arith) (λ e. omega arith))
 
   begun-spent : (b : ℕ) → Spent (most j) (joinAt (first + b) (arrivalOf ns w) empty)
@@ -91,7 +114,7 @@ module _ (c : Code) (ns : List ℕ) (first l m : ℕ) (s : code.State) (bl : Lis
 
   begun-agrees : Agrees ns first (l + 1) j (only (whole ns bl s)) rs true w
   unfolding only nowhere arrivalOf slot
-  begun-agrees b h k = arrived (arrivalOf ns w) nowhere (first + b) ∙ sym (begun-slot b)
+  begun-agrees b h k = arrived (arrivalOf ns w) nowhere (first + b) ∙ sym (begun-slot b k)
 
   begun-found : begun s bl .found ≡ acceptedAs none
   unfolding acceptedAs encode
@@ -115,13 +138,13 @@ module _ (c : Code) (ns : List ℕ) (first l m : ℕ) (s : code.State) (bl : Lis
       let at : first + j ≡ s .at = omega arith in
       ap₂ (λ (n a : ℕ). beside (step c unknown) n a (only (whole ns bl s)) nowhence) many at
 
-  pub begins : m ≡ 201925 → WellFormed s → length bl ≡ 128 → Numeric ns w → (ks : List ℕ) → Goals ks → Keeps first ks nowhence → Going c ns first (l + 1) (merged c (whole ns bl s)) leaves rs ks j (begun s bl)
+  pub begins : Rows rs → WellFormed s → length bl ≡ 128 → Numeric ns w → (ks : List ℕ) → Goals ks → Keeps first ks nowhence → Going c ns first (l + 1) (merged c (whole ns bl s)) leaves rs ks j (begun s bl)
   begins long formed fields numeric ks goals nothing = record {
     ready = record {
-      rows = length-replicate m 0 ∙ long;
+      rows = long;
       figures = record { used = omega arith; cycles = omega arith; words = omega arith; depth = omega arith };
       comes = (omega arith, (record { state = formed; fields = fields }, numeric));
-      sums = λ b h k. rw (begun-slot b) (begun-spent b);
+      sums = λ b h k. rw (begun-slot b k) (begun-spent b);
     };
     within = omega arith;
     tab = only (whole ns bl s);

@@ -34,6 +34,10 @@ abbrev pub Comes : List ℕ → Bool → Way → ℕ → Type 0
 Comes ns true w a = (w .state .at ≡ a) × (Formed w × Numeric ns w)
 Comes ns false w a = Unit {0}
 
+-- the first n rows, of the addresses from `first` on, hold nothing
+abbrev pub Empty : List ℕ → ℕ → ℕ → List ℕ → Type 0
+Empty ns first n rs = (b : ℕ) → b < n → slotAt ns first rs b ≡ empty
+
 -- sums of at most m
 abbrev pub Spent : ℕ → Slot → Type 0
 Spent m empty = Unit {0}

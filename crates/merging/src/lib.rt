@@ -27,7 +27,7 @@ ghost use Rattle.merges.specs.Ways.{sent, sends};
 ghost use Rattle.merge_way.specs.Way.{Origins, marked, departs, beside, nowhence};
 ghost use Rattle.merge_origins.specs.Kept.{Goals, Keeps};
 ghost use Rattle.arrivals.specs.Rows.{Formed, Numeric, Row, Rows, arrivalOf, slotIn, slotAt, joinAt, with, waiting, rowsOf};
-ghost use Rattle.merging.specs.Pass.{cameAs, Held, Comes, Spent, most, Figures, Ready, Agrees, Moved, spentOf};
+ghost use Rattle.merging.specs.Pass.{cameAs, Held, Comes, Empty, Spent, most, Figures, Ready, Agrees, Moved, spentOf};
 
 // A way goes on from the address of row `j`: whether to the next. To any other it is sent.
 fn onward(rows: &mut [u64], code: &[u32; 5131], j: usize, w: Way) -> bool
@@ -239,17 +239,37 @@ fn visit(code: &[u32; 5131], rows: &mut [u64], kept: &mut [u64], j: usize, p: Pa
     }
 }
 
-// The merging bound from `start` with `blocks`, and in `kept`, where nothing is kept yet, the last moves of the costliest ways. Ways over
-// jumps wait in the rows of one array, one row for each address up to that after the last; the way from the address before is at hand.
-pub fn sweep(code: &[u32; 5131], start: State, blocks: [Cell; 128], kept: &mut [u64]) -> Found
+// The rows of the code's addresses are emptied: a row without a mark holds nothing.
+fn clear(rows: &mut [u64], code: &[u32; 5131])
+    requires { ⌜ Rows (now rows) × IsProgram (now code) ⌝ }
+    ensures { λ _. ⌜ Empty (sizesOf (now (code .entry))) (firstOf (now (code .entry))) (rowsOf (now (code .entry))) (now (rows .exit)) ⌝ }
+{
+    let count = code[1] as usize + 1;
+    let mut j = 0;
+    while j < count {
+        rows[197 * j] = 0;
+        j += 1;
+    }
+}
+
+// The merging bound from `start` with `blocks`, by `rows`, of which those of the code's addresses are empty, and in `kept`, where nothing is kept
+// yet, the last moves of the costliest ways. Ways over jumps wait in the rows, one for each address up to that after the last; the way from
+// the address before is at hand.
+fn sweep_by(
+    code: &[u32; 5131],
+    start: State,
+    blocks: [Cell; 128],
+    rows: &mut [u64],
+    kept: &mut [u64],
+) -> Found
     requires { ⌜ IsProgram (now code) × WellFormed start × (length blocks ≡ 128) × Cellwise Kept (whole (sizesOf (now code)) blocks start) (whole (sizesOf (now code)) blocks start) ⌝ }
     requires { ⌜ (firstOf (now code) ≤ start .at) × (start .at ≤ firstOf (now code) + linesIn (now code)) ⌝ }
+    requires { ⌜ Rows (now rows) × Empty (sizesOf (now code)) (firstOf (now code)) (rowsOf (now code)) (now rows) ⌝ }
     requires { ⌜ Goals (now kept) × Keeps (firstOf (now code)) (now kept) nowhence ⌝ }
     ensures { λ r. ⌜ Shows r (merged (programOf (now (code .entry))) (whole (sizesOf (now (code .entry))) blocks start)) ⌝ }
     ensures { λ r. ⌜ Figures 1025 r ⌝ }
     ensures { λ _. ⌜ ((q : Report) → merged (programOf (now (code .entry))) (whole (sizesOf (now (code .entry))) blocks start) ≡ accepted q → Keeps (firstOf (now (code .entry))) (now (kept .exit)) (beside (step (programOf (now (code .entry))) unknown) (span (programOf (now (code .entry))) (whole (sizesOf (now (code .entry))) blocks start)) (start .at) (only (whole (sizesOf (now (code .entry))) blocks start)) nowhence)) ⌝ }
 {
-    let mut rows = [0; 201925];
     let n = code[1] as usize + 1;
     let mut j = start.at - code[0] as usize;
     let way = Way {
@@ -272,7 +292,7 @@ pub fn sweep(code: &[u32; 5131], start: State, blocks: [Cell; 128], kept: &mut [
         way: way,
     };
     while j < n {
-        p = visit(code, &mut rows, kept, j, p);
+        p = visit(code, rows, kept, j, p);
         let f = p.found;
         let verdict = f.verdict;
         let Verdict::Accepted = verdict else {
@@ -281,6 +301,20 @@ pub fn sweep(code: &[u32; 5131], start: State, blocks: [Cell; 128], kept: &mut [
         j += 1;
     }
     p.found
+}
+
+// The merging bound from `start` with `blocks`, and in `kept`, where nothing is kept yet, the last moves of the costliest ways. The rows are
+// its own.
+pub fn sweep(code: &[u32; 5131], start: State, blocks: [Cell; 128], kept: &mut [u64]) -> Found
+    requires { ⌜ IsProgram (now code) × WellFormed start × (length blocks ≡ 128) × Cellwise Kept (whole (sizesOf (now code)) blocks start) (whole (sizesOf (now code)) blocks start) ⌝ }
+    requires { ⌜ (firstOf (now code) ≤ start .at) × (start .at ≤ firstOf (now code) + linesIn (now code)) ⌝ }
+    requires { ⌜ Goals (now kept) × Keeps (firstOf (now code)) (now kept) nowhence ⌝ }
+    ensures { λ r. ⌜ Shows r (merged (programOf (now (code .entry))) (whole (sizesOf (now (code .entry))) blocks start)) ⌝ }
+    ensures { λ r. ⌜ Figures 1025 r ⌝ }
+    ensures { λ _. ⌜ ((q : Report) → merged (programOf (now (code .entry))) (whole (sizesOf (now (code .entry))) blocks start) ≡ accepted q → Keeps (firstOf (now (code .entry))) (now (kept .exit)) (beside (step (programOf (now (code .entry))) unknown) (span (programOf (now (code .entry))) (whole (sizesOf (now (code .entry))) blocks start)) (start .at) (only (whole (sizesOf (now (code .entry))) blocks start)) nowhence)) ⌝ }
+{
+    let mut rows = [0; 201925];
+    sweep_by(code, start, blocks, &mut rows, kept)
 }
 
 // The merging bound from `start` with `blocks`.
@@ -292,4 +326,17 @@ pub fn merge(code: &[u32; 5131], start: State, blocks: [Cell; 128]) -> Found
 {
     let mut kept = [0; 6156];
     sweep(code, start, blocks, &mut kept)
+}
+
+// The same by lent rows, whatever they hold: for one bound after another, since only the rows of the code's addresses are emptied.
+pub fn merge_by(code: &[u32; 5131], start: State, blocks: [Cell; 128], rows: &mut [u64]) -> Found
+    requires { ⌜ IsProgram (now code) × WellFormed start × (length blocks ≡ 128) × Cellwise Kept (whole (sizesOf (now code)) blocks start) (whole (sizesOf (now code)) blocks start) ⌝ }
+    requires { ⌜ (firstOf (now code) ≤ start .at) × (start .at ≤ firstOf (now code) + linesIn (now code)) ⌝ }
+    requires { ⌜ Rows (now rows) ⌝ }
+    ensures { λ r. ⌜ Shows r (merged (programOf (now (code .entry))) (whole (sizesOf (now (code .entry))) blocks start)) ⌝ }
+    ensures { λ r. ⌜ Figures 1025 r ⌝ }
+{
+    let mut kept = [0; 6156];
+    clear(rows, code);
+    sweep_by(code, start, blocks, rows, &mut kept)
 }

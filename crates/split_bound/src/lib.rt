@@ -13,6 +13,7 @@ ghost use Prim.Native.Nat.{_≤_, _<_};
 ghost use Rattle.states.specs.Program.{programOf, sizesOf, IsProgram};
 ghost use Rattle.states.specs.View.{WellFormed, whole};
 ghost use Rattle.findings.specs.Found.{Shows};
+ghost use Rattle.arrivals.specs.Rows.{Rows};
 ghost use Rattle.merging.specs.Pass.{Figures};
 ghost use Rattle.changes.specs.Places.{cellAt};
 ghost use Rattle.changes.specs.Held.{Present};
@@ -137,23 +138,30 @@ fn case_at(
 }
 
 // The bound by the cuts from the one at i on: two cases where it divides its cell, the numbers below first. Where that case is refused, the
-// other is not looked at.
-pub fn split(code: &[u32; 5131], cuts: Cuts, i: usize, start: State, fields: [Cell; 128]) -> Found
-    requires { ⌜ Splittable (now code) start fields × Few cuts × (i ≤ cuts .count) ⌝ }
+// other is not looked at. All cases are passed through by the same rows, whatever these hold.
+pub fn split(
+    code: &[u32; 5131],
+    cuts: Cuts,
+    i: usize,
+    start: State,
+    fields: [Cell; 128],
+    rows: &mut [u64],
+) -> Found
+    requires { ⌜ Splittable (now code) start fields × Few cuts × (i ≤ cuts .count) × Rows (now rows) ⌝ }
     ensures { λ r. ⌜ Shows r (split (programOf (now (code .entry))) (cutsFrom cuts i) (whole (sizesOf (now (code .entry))) fields start)) ⌝ }
     ensures { λ r. ⌜ Figures 1025 r ⌝ }
 {
     if i == cuts.count {
-        return merging::merge(code, start, fields);
+        return merging::merge_by(code, start, fields, rows);
     }
     let parts = cut_at(code, cuts, i, start, fields);
     let Parts::Two(lower, upper) = parts else {
-        return split(code, cuts, i + 1, start, fields);
+        return split(code, cuts, i + 1, start, fields, rows);
     };
     let below = case_at(code, cuts, i, start, fields, lower);
     let state = below.start;
     let blocks = below.fields;
-    let first = split(code, cuts, i + 1, state, blocks);
+    let first = split(code, cuts, i + 1, state, blocks, rows);
     let verdict = first.verdict;
     let Verdict::Accepted = verdict else {
         return first;
@@ -161,6 +169,6 @@ pub fn split(code: &[u32; 5131], cuts: Cuts, i: usize, start: State, fields: [Ce
     let from = case_at(code, cuts, i, start, fields, upper);
     let state = from.start;
     let blocks = from.fields;
-    let second = split(code, cuts, i + 1, state, blocks);
+    let second = split(code, cuts, i + 1, state, blocks, rows);
     larger(first, second)
 }

@@ -44,7 +44,8 @@ pub fn bounded(routine: Routine, cuts: &[u8]) -> Found
     let fields = routine.fields;
     let start = routine.start;
     let held = split_cuts::cuts_of(cuts);
-    split_bound::split(&code, held, 0, start, fields)
+    let mut rows = [0; 201925];
+    split_bound::split(&code, held, 0, start, fields, &mut rows)
 }
 
 // The answer to a routine and to an accepted text of cuts.
