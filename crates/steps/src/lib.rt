@@ -6,6 +6,9 @@ use states::code::Fetched;
 use states::code::Line;
 ghost use mathlib.Core.Path.{_≡_};
 ghost use Prim.Native.Nat.{_<_};
+ghost use lib.IntN.{pos};
+ghost use lib.ListN.{getD};
+ghost use Rattle.cells.specs.Cells.{range};
 ghost use Rattle.machine.specs.Machine.{withExtra, step, takesAnswer};
 ghost use Rattle.states.specs.Program.{programOf, sizesOf, lineOf, IsProgram};
 ghost use Rattle.states.specs.View.{WellFormed, whole};
@@ -34,13 +37,14 @@ pub enum Change {
     Field(usize, Cell),
 }
 
-// What a step gives: what comes next, with the state and the blocks, whether an answer was taken, and how the blocks differ.
+// What a step gives: what comes next, with the state and the blocks, whether an answer was taken, and how the blocks differ. The blocks come
+// first: they are then copied once, where a part written before them would have the compiler copy them twice.
 pub struct Stepped {
+    pub blocks: [Cell; 128],
+    pub state: State,
     pub next: Next,
     pub calls: bool,
     pub change: Change,
-    pub state: State,
-    pub blocks: [Cell; 128],
 }
 
 // What a line costs.
@@ -63,16 +67,24 @@ fn jump_price(line: Line) -> Price
     }
 }
 
+// The field at the place `j`.
+fn field_of(blocks: [Cell; 128], j: usize) -> Cell
+    requires { ⌜ j < 128 ⌝ }
+    ensures { λ r. ⌜ r ≡ getD blocks j (range (pos 0) 0) ⌝ }
+{
+    blocks[j]
+}
+
 // A step that leaves the blocks.
 fn keep(next: Next, calls: bool, state: State, blocks: [Cell; 128]) -> Stepped
     ensures { λ r. ⌜ r ≡ keeping next calls state blocks ⌝ }
 {
     Stepped {
+        blocks: blocks,
+        state: state,
         next: next,
         calls: calls,
         change: Change::Nothing,
-        state: state,
-        blocks: blocks,
     }
 }
 
@@ -90,11 +102,11 @@ fn set_field(
 {
     blocks[j] = c;
     Stepped {
+        blocks: blocks,
+        state: state,
         next: next,
         calls: calls,
         change: Change::Field(j, c),
-        state: state,
-        blocks: blocks,
     }
 }
 
@@ -123,14 +135,16 @@ pub fn step(code: &[u32; 5131], answer: Cell, mut state: State, blocks: [Cell; 1
     let mut next = Next::Goes(price);
     let entry = state.stack[place];
     match effects::effect_of(code, line, answer, 64 - state.free, state.accu, entry) {
-        Effect::Gives(drops, c) => state = state.pop(drops).load(c).advance(),
+        Effect::Gives(drops, c) => {
+            state = state.pop(drops).load(c).advance();
+            return keep(next, calls, state, blocks);
+        }
         Effect::Stores => state = state.store(index).advance(),
         Effect::Sets(j, c) => {
-            let zero = cells::number(0);
-            state = state.pop(1).load(zero).advance();
+            state = state.pop(1).load(cells::number(0)).advance();
             return set_field(next, calls, j, c, state, blocks);
         }
-        Effect::Gets(j) => state = state.load(blocks[j]).advance(),
+        Effect::Gets(j) => state = state.load(field_of(blocks, j)).advance(),
         Effect::Goes => state = state.jump(index),
         Effect::Jumps => {
             state = state.jump(index);
