@@ -30,17 +30,31 @@ onto-first x (p ∷ ps) = refl
 
 -- the piece ends at the byte at i; it goes on there; the text is at its end
 
-pub first-here : (c : ℕ) (s : List ℕ) (i : ℕ) → i < length s → getD s i 0 ≡ c → firstLength c (drop i s) ≡ 0
+first-here : (c : ℕ) (s : List ℕ) (i : ℕ) → i < length s → getD s i 0 ≡ c → firstLength c (drop i s) ≡ 0
 unfolding split
 first-here c s i h e = rw (drop-cons s i 0, eq-eqb (getD s i 0) c e) refl
 
-pub first-next : (c : ℕ) (s : List ℕ) (i : ℕ) → i < length s → (getD s i 0 ≡ c → ⊥) → firstLength c (drop i s) ≡ suc (firstLength c (drop (suc i) s))
+first-next : (c : ℕ) (s : List ℕ) (i : ℕ) → i < length s → (getD s i 0 ≡ c → ⊥) → firstLength c (drop i s) ≡ suc (firstLength c (drop (suc i) s))
 unfolding split
 first-next c s i h n = rw (drop-cons s i 0, ne-eqb (getD s i 0) c n) (onto-first (getD s i 0) (split c (drop (suc i) s)))
 
-pub first-end : (c : ℕ) (s : List ℕ) (i : ℕ) → length s ≤ i → firstLength c (drop i s) ≡ 0
+first-end : (c : ℕ) (s : List ℕ) (i : ℕ) → length s ≤ i → firstLength c (drop i s) ≡ 0
 unfolding split
 first-end c s i h = rw (drop-of-length-le s h) refl
+
+-- i bytes of the first piece are passed: it ends at the byte at i, or goes on at the next, j
+
+abbrev pub Passed : ℕ → List ℕ → ℕ → Type 0
+Passed c s i = firstLength c s ≡ i + firstLength c (drop i s)
+
+pub passed-here : (c : ℕ) (s : List ℕ) (i : ℕ) → Passed c s i → i < length s → getD s i 0 ≡ c → i ≡ firstLength c s
+passed-here c s i p h e = omega (arith, first-here c s i h e)
+
+pub passed-next : (c : ℕ) (s : List ℕ) (i j : ℕ) → j ≡ i + 1 → Passed c s i → i < length s → (getD s i 0 ≡ c → ⊥) → Passed c s j
+passed-next c s i j q p h n = rw (q, add-one) (omega (arith, first-next c s i h n))
+
+pub passed-end : (c : ℕ) (s : List ℕ) (i : ℕ) → Passed c s i → length s ≤ i → i ≡ firstLength c s
+passed-end c s i p h = omega (arith, first-end c s i h)
 
 -- where the first piece is shorter than the text, a c ends it, and the other pieces are those of what follows
 split-more : (c : ℕ) (s : List ℕ) → firstLength c s < length s → split c s ≡ take (firstLength c s) s ∷ split c (drop (suc (firstLength c s)) s)

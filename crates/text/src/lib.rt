@@ -51,11 +51,26 @@ pub fn same(a: &[u8], b: &[u8]) -> bool
     true
 }
 
-// The length of the first piece of s that the byte c parts.
+// The length of the first piece of s that the byte c parts. Four bytes are looked at in a turn, which is faster than one.
 pub fn piece_length(s: &[u8], c: u8) -> usize
     ensures { λ r. ⌜ r ≡ length (getD (split c (now (s .entry))) 0 []) ⌝ }
 {
     let mut i = 0;
+    while 4 <= s.len() - i {
+        if s[i] == c {
+            return i;
+        }
+        if s[i + 1] == c {
+            return i + 1;
+        }
+        if s[i + 2] == c {
+            return i + 2;
+        }
+        if s[i + 3] == c {
+            return i + 3;
+        }
+        i += 4;
+    }
     while i < s.len() {
         if s[i] == c {
             return i;
