@@ -17,7 +17,7 @@ use Rattle.text.specs.declared.Place.{Place}
 use Rattle.text.specs.declared.Place.the-variants.{At, Missing}
 use Rattle.text.proofs.TextLaws.{and-left, and-right, every-getD, every-map, all-every, among-every, among-at, isFound, among-place, equals-path, equals-self, among-find}
 use Rattle.instructions.specs.Kinds.{kinds, kindNames}
-use Rattle.instructions.specs.Columns.{kindAt, nameStart, nameKey}
+use Rattle.instructions.specs.Columns.{kindAt, nameStart, nameKey, Keyed, Joined}
 use Rattle.instructions.proofs.ColumnLaws.{names-count, column-at, kind-small}
 
 -- a test that passes at each number below n
@@ -45,15 +45,18 @@ abbrev pub byKey : List ℕ
 byKey = keyedFrom 0 kindNames (replicate 256 0)
 
 -- no two names have one key
-pub keyed : (w : List ℕ) (k : ℕ) → k < 61 → w ≡ kindAt k .name → getD byKey (nameKey w) 0 ≡ k
+at-own-key : (k : ℕ) → k < 61 → getD byKey (nameKey (kindAt k .name)) 0 ≡ k
 unfolding kinds kindNames kindAt
-keyed w k h q =
+at-own-key k h =
     let own : ℕ → Bool = λ i. eqb (getD byKey (nameKey (kindAt i .name)) 0) i in
-    ap (λ x. getD byKey (nameKey x) 0) q ∙ eqb-true (getD byKey (nameKey (kindAt k .name)) 0) k (below-at own 61 refl k h)
+    eqb-true (getD byKey (nameKey (kindAt k .name)) 0) k (below-at own 61 refl k h)
 
-pub key-low : (i : ℕ) → getD byKey i 0 < 61
+key-low : (i : ℕ) → getD byKey i 0 < 61
 unfolding all kinds kindNames
 key-low i = every-getD (every-map (λ k q. ltb-true k 61 q) (all-every (λ k. ltb k 61) byKey refl)) (omega arith) i
+
+pub by-key : Keyed byKey
+by-key = record { at-key = at-own-key; low = key-low }
 
 -- a name has 2 to 12 characters
 pub name-length : (w : List ℕ) → among w kindNames ≡ true → (2 ≤ length w) × (length w ≤ 12)
@@ -126,6 +129,10 @@ joined (w ∷ x ∷ ws) = w ++ (32 ∷ joined (x ∷ ws))
 abbrev pub slice : ℕ → List ℕ
 slice k = take (nameStart (k + 1) - 1 - nameStart k) (drop (nameStart k) (joined kindNames))
 
-pub slice-is : (k : ℕ) → k < 61 → slice k ≡ kindAt k .name
+slice-is : (k : ℕ) → k < 61 → slice k ≡ kindAt k .name
 unfolding equals kinds kindNames kindAt
 slice-is k h = equals-path (slice k) (kindAt k .name) (below-at (λ i. equals (slice i) (kindAt i .name)) 61 refl k h)
+
+pub all-joined : Joined (joined kindNames)
+unfolding kinds kindNames
+all-joined = record { size = refl; at-start = slice-is }

@@ -1,7 +1,8 @@
 -- The table by columns of numbers, as the code has it: what stands in each column at a kind.
-use Prim.Native.Nat.{ℕ, _+_, _-_, _*_, _%_}
+use Prim.Native.Nat.{ℕ, _+_, _-_, _*_, _%_, _<_, _≤_}
+use mathlib.Core.Path.{_≡_}
 use mathlib.Core.List.{List, [], _∷_}
-use lib.ListN.{length, getD}
+use lib.ListN.{length, getD, take, drop}
 use Rattle.numbers.specs.declared.Range.{Range}
 use Rattle.numbers.specs.Numbers.{range}
 use Rattle.numbers.specs.declared.Comparison.{Comparison}
@@ -32,6 +33,20 @@ nameStart k = getD (startsFrom 0 kindNames) k 0
 -- a number by which the code tells the names of the kinds apart: from the first two bytes of a word, its last and its length
 abbrev pub nameKey : List ℕ → ℕ
 nameKey w = (getD w 0 0 + getD w 1 0 + 5 * getD w (length w - 1) 0 + 9 * length w) % 256
+
+-- t holds at the key of each name its kind, and everywhere a kind
+pub record Keyed (t : List ℕ) : Type 0 where
+  pub at-key : (k : ℕ) → k < 61 → getD t (nameKey (kindAt k .name)) 0 ≡ k
+  pub low : (i : ℕ) → getD t i 0 < 61
+
+-- t holds where each name begins in the text of all names, and at 61 where a name after the last would
+pub record Begins (t : List ℕ) : Type 0 where
+  pub at-kind : (k : ℕ) → k ≤ 61 → getD t k 0 ≡ nameStart k
+
+-- t is the text of all names: each stands from where it begins up to the space before the next
+pub record Joined (t : List ℕ) : Type 0 where
+  pub size : length t ≡ 474
+  pub at-start : (k : ℕ) → k < 61 → take (nameStart (k + 1) - 1 - nameStart k) (drop (nameStart k) t) ≡ kindAt k .name
 
 -- what a kind takes
 unfoldable pub argumentCode : Argument → ℕ

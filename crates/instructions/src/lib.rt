@@ -6,7 +6,7 @@ ghost use lib.ListN.{length};
 ghost use Rattle.text.specs.Text.{equals, place, among};
 ghost use Rattle.text.specs.Memory.{over};
 ghost use Rattle.instructions.specs.Kinds.{kindNames, calls};
-ghost use Rattle.instructions.specs.Columns.{kindAt, nameStart, nameKey, argumentCode, rangeOf, operationCode};
+ghost use Rattle.instructions.specs.Columns.{kindAt, nameStart, nameKey, Keyed, Begins, Joined, argumentCode, rangeOf, operationCode};
 ghost use Rattle.instructions.specs.Opcodes.{kindCoded, ByOpcode};
 use cells::Binary;
 use cells::Unary;
@@ -141,22 +141,43 @@ fn wide(x: u8) -> usize
     x as usize
 }
 
-// Where name k begins in NAMES; at 61 where a name after the last would.
-fn name_start(k: usize) -> usize
-    requires { ⌜ k ≤ 61 ⌝ }
+// The kinds by the keys of their names, to be lent to `kind_in`.
+pub fn keyed_kinds() -> [u8; 256]
+    ensures { λ r. ⌜ Keyed r ⌝ }
+{
+    slots::KINDS
+}
+
+// Where each name begins in the text of all names, to be lent to `kind_in`.
+pub fn name_starts() -> [u16; 62]
+    ensures { λ r. ⌜ Begins r ⌝ }
+{
+    slots::STARTS
+}
+
+// The text of all names, to be lent to `kind_in`.
+pub fn all_names() -> [u8; 474]
+    ensures { λ r. ⌜ Joined r ⌝ }
+{
+    columns::NAMES
+}
+
+// Where name k begins; at 61 where a name after the last would.
+fn name_start(starts: &[u16; 62], k: usize) -> usize
+    requires { ⌜ Begins (now starts) × (k ≤ 61) ⌝ }
     ensures { λ r. ⌜ r ≡ nameStart k ⌝ }
 {
-    slots::STARTS[k] as usize
+    starts[k] as usize
 }
 
 // Whether w is the name of a kind.
-fn is_name_of(k: usize, w: &[u8]) -> bool
-    requires { ⌜ k < 61 ⌝ }
+fn is_name_of(starts: &[u16; 62], names: &[u8], k: usize, w: &[u8]) -> bool
+    requires { ⌜ Begins (now starts) × Joined (now names) × (k < 61) ⌝ }
     ensures { λ r. ⌜ r ≡ equals (now (w .entry)) (kindAt k .name) ⌝ }
 {
-    let start = name_start(k);
-    let next = name_start(k + 1);
-    text::same(w, &columns::NAMES[start..next - 1])
+    let start = name_start(starts, k);
+    let next = name_start(starts, k + 1);
+    text::same(w, &names[start..next - 1])
 }
 
 // The key of a word: no two names have the same.
@@ -172,17 +193,19 @@ fn name_key(w: &[u8]) -> usize
 }
 
 // The only kind whose name a word can be.
-fn candidate(w: &[u8]) -> usize
-    requires { ⌜ (2 ≤ length (now w)) × (length (now w) ≤ 12) ⌝ }
+fn candidate(keyed: &[u8; 256], w: &[u8]) -> usize
+    requires { ⌜ Keyed (now keyed) × (2 ≤ length (now w)) × (length (now w) ≤ 12) ⌝ }
     ensures low { λ r. ⌜ r < 61 ⌝ }
     ensures only { λ r. ⌜ ((k : ℕ) → k < 61 → now (w .entry) ≡ kindAt k .name → r ≡ k) ⌝ }
 {
     let key = name_key(w);
-    wide(slots::KINDS[key])
+    wide(keyed[key])
 }
 
-// The kind that a word names, by its place in the table: no search, since one kind alone can have the name.
-pub fn kind_named(w: &[u8]) -> Place
+// The kind that a word names, by its place in the table: no search, since one kind alone can have the name. The three tables are lent, since
+// a constant array that is indexed where it stands is stored anew at each use.
+pub fn kind_in(keyed: &[u8; 256], starts: &[u16; 62], names: &[u8], w: &[u8]) -> Place
+    requires { ⌜ Keyed (now keyed) × Begins (now starts) × Joined (now names) ⌝ }
     ensures { λ r. ⌜ r ≡ place (now (w .entry)) kindNames ⌝ }
 {
     if w.len() < 2 {
@@ -191,12 +214,22 @@ pub fn kind_named(w: &[u8]) -> Place
     if 12 < w.len() {
         return Place::Missing;
     }
-    let k = candidate(w);
-    if is_name_of(k, w) {
+    let k = candidate(keyed, w);
+    if is_name_of(starts, names, k, w) {
         Place::At(k)
     } else {
         Place::Missing
     }
+}
+
+// The same with tables of its own.
+pub fn kind_named(w: &[u8]) -> Place
+    ensures { λ r. ⌜ r ≡ place (now (w .entry)) kindNames ⌝ }
+{
+    let keyed = keyed_kinds();
+    let starts = name_starts();
+    let names = all_names();
+    kind_in(&keyed, &starts, &names, w)
 }
 
 // Whether a word names a kind.
@@ -242,7 +275,8 @@ pub fn put_name(out: &mut [u8], at: usize, k: usize) -> usize
     ensures { λ r. ⌜ r ≡ at + length (kindAt k .name) ⌝ }
     ensures { λ _. ⌜ now (out .exit) ≡ over (now (out .entry)) at (kindAt k .name) ⌝ }
 {
-    let start = name_start(k);
-    let next = name_start(k + 1);
+    let starts = name_starts();
+    let start = name_start(&starts, k);
+    let next = name_start(&starts, k + 1);
     text::put(out, at, &columns::NAMES[start..next - 1])
 }

@@ -1,28 +1,13 @@
--- `instructions::kind_named` meets its contract: one kind alone can have the name. Assumes nothing.
-use mathlib.Core.Path.{sym, _∙_}
-use native.Mathlib.Omega.{arith}
-use Rattle.instructions.proofs.NameLaws.{name-length, not-named, is-named, is-unnamed}
+-- `instructions::kind_named` meets its contract: it lends the tables. Assumes nothing.
 use borrow.Author.Needs.{needs}
 use Rattle.instructions.proofs.kind_named.Statement.{statement}
 use Rattle.instructions.proofs.kind_named.Tie as tie
 
+kind-in-requires : tie.Need-kind-in-requires
+kind-in-requires c κs = (c .before .before .before .before .before .keyed-kinds .ensures, c .before .before .before .before .name-starts .ensures, c .before .before .before .all-names .ensures)
+
 returns : tie.Need-returns
-returns c = let w = c .before .before .args .w .now in sym (not-named w (λ a. omega (arith, c .if1 .taken, name-length w a)))
-
-returns-2 : tie.Need-returns-2
-returns-2 c = let w = c .before .before .before .args .w .now in sym (not-named w (λ a. omega (arith, c .if2 .taken, name-length w a)))
-
-returns-3 : tie.Need-returns-3
-returns-3 c =
-    let k = c .before .before .candidate in
-    sym (is-named (c .before .before .before .before .before .before .args .w .now) (k .result) (k .ensures .0) (k .ensures .1) (sym (c .before .is-name-of .ensures) ∙ c .if3 .taken))
-
-returns-4 : tie.Need-returns-4
-returns-4 c =
-    let k = c .before .before .candidate in
-    sym (is-unnamed (c .before .before .before .before .before .before .args .w .now) (k .result) (k .ensures .0) (k .ensures .1) (sym (c .before .is-name-of .ensures) ∙ c .if3 .left))
+returns c = c .kind-in .ensures
 
 pub kind-named-spec : {M : Type 1} → statement M
-kind-named-spec =
-    tie.close
-    (tie.spec returns returns-2 (λ c κs. search needs) (λ c κs. search needs) returns-3 returns-4)
+kind-named-spec = tie.close (tie.spec (λ c κs. search needs) (λ c κs. search needs) (λ c κs. search needs) (λ c. search needs) kind-in-requires returns)
