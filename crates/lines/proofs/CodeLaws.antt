@@ -7,7 +7,6 @@ use native.Mathlib.Omega.{arith}
 use native.Mathlib.Nat.{eq-or-lt-of-le}
 use mathlib.Core.Logic.{⊎-elim}
 use lib.Dec.{eqb, leb, ltb}
-use lib.ListN.{length}
 use lib.IntN.{ℤ, pos, negsuc, natAbs, _+ℤ_}
 use lib.Signed.{mag, leZ, ltZ}
 use types.Run.{OneOf, miss}
@@ -16,7 +15,7 @@ use mir.Syntax.{w64}
 use mir.Val.{SFits, ofZ, toZ}
 use mir.ValLaws.{toZ-ofZ, toZ-pos}
 use borrow.Author.Tests.{eqb-true, eqb-false, leb-true, leb-false, le-leb, lt-leb, ltb-true, ltb-false, le-ltb}
-use Rattle.text.specs.Text.{words, among, place}
+use Rattle.text.specs.Text.{among, place}
 use Rattle.text.specs.declared.Place.{Place}
 use Rattle.text.specs.declared.Place.the-variants.{At, Missing}
 use Rattle.text.specs.Decimal.{numeral, most}
@@ -28,7 +27,7 @@ use Rattle.instructions.proofs.Argument.{the-type}
 use Rattle.instructions.specs.Kinds.{Kind, kinds, kindNames}
 use Rattle.instructions.specs.Columns.{kindAt, rangeOf}
 use Rattle.instructions.proofs.ColumnLaws.{column-at}
-use Rattle.routine.specs.Rows.{isNumeral, argumentOf, at, op, arg, onArgument, codeLaidOut, codeInRange, codeNamed, argumentLaidOut, argumentInRange, argumentNamed, argumentReaches, argumentForward, firstAddresses, atRange, value}
+use Rattle.routine.specs.Rows.{isNumeral, argumentOf, at, op, arg, onArgument, codeInRange, codeNamed, argumentLaidOut, argumentInRange, argumentNamed, argumentReaches, argumentForward, firstAddresses, atRange, value}
 use Rattle.text.proofs.TextLaws.{and-left, and-right, isFound, among-place}
 use Rattle.values.specs.Values.{Near}
 use Rattle.routine.proofs.RangeLaws.{Natural, natural-within}
@@ -228,10 +227,9 @@ unfolding onArgument
 on-line f line e q h = h ∙ ap₂ (λ v o. argumentOf (f v) o) e q
 
 module _ (k : ℕ) (line : List ℕ) {w : List ℕ} (word : w ≡ at line) where
-  pub laid-line : {n : ℕ} {s a b d r : Bool} → n ≡ length (words line) → s ≡ isNumeral (numeral w) → a ≡ onArgument (argumentLaidOut (arg line)) line
-      → b ≡ ltb k 1024 && eqb n 3 → d ≡ b && s → r ≡ d && a → r ≡ codeLaidOut k line
-  unfolding codeLaidOut
-  laid-line n-is s-is a-is b-is d-is r-is = r-is ∙ ap₂ _&&_ (d-is ∙ ap₂ _&&_ (b-is ∙ ap (λ m. ltb k 1024 && eqb m 3) n-is) (s-is ∙ ap (λ v. isNumeral (numeral v)) word)) a-is
+  pub laid-line : {s a d r : Bool} → s ≡ isNumeral (numeral w) → a ≡ onArgument (argumentLaidOut (arg line)) line
+      → d ≡ ltb k 1024 && s → r ≡ d && a → r ≡ (ltb k 1024 && isNumeral (numeral (at line)) && onArgument (argumentLaidOut (arg line)) line)
+  laid-line s-is a-is d-is r-is = r-is ∙ ap₂ _&&_ (d-is ∙ ap (λ b. ltb k 1024 && b) (s-is ∙ ap (λ v. isNumeral (numeral v)) word)) a-is
 
   pub ranged-line : {g : Range} {s a r : Bool} → g ≡ atRange k → s ≡ within g (value w) → a ≡ onArgument (argumentInRange (arg line)) line → r ≡ s && a → r ≡ codeInRange k line
   unfolding codeInRange

@@ -1,4 +1,5 @@
 pub mod LineLaws
 pub mod CodeLaws
+pub mod WholeLaws
 pub mod ExtraLaws
 pub mod PriceLaws

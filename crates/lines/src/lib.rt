@@ -8,10 +8,10 @@ use routine::layout;
 use text::Place;
 ghost use mathlib.Core.Bool.{true, cond, _&&_};
 ghost use mathlib.Core.Path.{_≡_};
-ghost use Prim.Native.Nat.{ℕ, _<_, _≤_};
+ghost use Prim.Native.Nat.{ℕ, suc, _<_, _≤_};
 ghost use lib.IntN.{pos, _+ℤ_};
 ghost use mathlib.Core.List.{List, []};
-ghost use lib.ListN.{drop};
+ghost use lib.ListN.{length, getD, drop};
 ghost use lib.Dec.{ltb};
 ghost use Rattle.text.specs.Text.{words, place, among, all};
 ghost use Rattle.text.specs.Decimal.{numeral};
@@ -22,9 +22,9 @@ ghost use Rattle.instructions.specs.Columns.{rangeOf};
 ghost use Rattle.instructions.specs.declared.Argument.the-variants.{Target};
 ghost use Rattle.routine.specs.declared.Column.the-variants.{Limit};
 ghost use Rattle.routine.specs.Layout.{list};
-ghost use Rattle.routine.specs.Rows.{isNumeral, value, op, argumentLaidOut, argumentInRange, argumentNamed, argumentReaches, argumentForward, firstAddresses, extraRange, extrasInRange, columnInRange, columnLaidOut, onCells, namesLaidOut, valuesLaidOut};
+ghost use Rattle.routine.specs.Rows.{isNumeral, value, at, op, arg, argumentLaidOut, argumentInRange, argumentNamed, argumentReaches, argumentForward, firstAddresses, extraRange, extrasInRange, columnInRange, columnLaidOut, onCells, namesLaidOut, valuesLaidOut};
 ghost use Rattle.values.specs.Values.{Near};
-ghost use Rattle.lines.specs.Lines.{wordTest, ArgumentTests, CodeTests, PricesKept};
+ghost use Rattle.lines.specs.Lines.{wordTest, isWhole, ArgumentTests, CodeTests, PricesKept};
 
 // What a word is tested for: that it is not empty, spells a number, one of a price's cycles or words, a cell, a cell in range, a
 // handle of one of the blocks that are present, a cell that holds one number or a handle, the name of a kind, a name that a primitive may have.
@@ -215,7 +215,35 @@ pub fn cells_pass(t: WordTest, role: Role, line: &[u8]) -> bool
 
 // ---- code lines
 
-// What the tests of rows 2, 3, 4, 6 and 13 come to on a code line, or on its argument.
+// What follows the first word of a line, which has e bytes, and the space after it; no bytes where nothing does.
+pub fn after_word(line: &[u8], e: usize) -> &[u8]
+    requires { ⌜ e ≡ length (getD (words (now line)) 0 []) ⌝ }
+    ensures { λ r. ⌜ ((k : ℕ) → getD (words (now r)) k [] ≡ getD (words (now (line .entry))) (suc k) []) ⌝ }
+{
+    if e < line.len() {
+        return &line[e + 1..];
+    }
+    &line[..0]
+}
+
+// Whether a line is of three words and none is empty, where AT has e bytes, OP has f and ARG has g.
+pub fn is_whole(line: &[u8], e: usize, f: usize, g: usize) -> bool
+    requires { ⌜ (e ≡ length (at (now line))) × (f ≡ length (op (now line))) × (g ≡ length (arg (now line))) ⌝ }
+    ensures { λ r. ⌜ r ≡ isWhole (words (now (line .entry))) ⌝ }
+{
+    if e == 0 {
+        return false;
+    }
+    if f == 0 {
+        return false;
+    }
+    if g == 0 {
+        return false;
+    }
+    line.len() - e - f - g == 2
+}
+
+// What the tests of rows 2, 3, 4, 6 and 13 come to on the words of a code line, or on its argument.
 pub struct Tested {
     pub layout: bool,
     pub range: bool,
@@ -365,28 +393,27 @@ fn is_address(first: i64, k: usize, w: &[u8]) -> bool
     )
 }
 
-// Code line k, whose OP names the kind at a place, where the code has n addresses from `first` on and `primitives` is the line of their names.
+// Code line k with the address `own` and the argument w, whose OP names the kind at a place, where the code has n addresses from `first` on and `primitives` is the
+// line of their names.
 pub fn test_code(
     first: i64,
     n: usize,
     primitives: &[u8],
     k: usize,
     kind: Place,
-    line: &[u8],
+    own: &[u8],
+    w: &[u8],
 ) -> Tested
     requires { ⌜ within firstAddresses first ≡ true ⌝ }
     requires { ⌜ (n ≤ 32768) × (k ≤ 32768) ⌝ }
-    requires { ⌜ kind ≡ place (op (now line)) kindNames ⌝ }
-    ensures { λ r. ⌜ CodeTests first n (list (now (primitives .entry))) k (now (line .entry)) r ⌝ }
+    requires { ⌜ ((i : ℕ) → kind ≡ At i → i < 61) ⌝ }
+    ensures { λ r. ⌜ ((line : List ℕ) → now (own .entry) ≡ at line → now (w .entry) ≡ arg line → kind ≡ place (op line) kindNames → CodeTests first n (list (now (primitives .entry))) k line r) ⌝ }
 {
-    let at = text::word_at(line, 0);
-    let w = text::word_at(line, 2);
     let argument = test_argument(first, n, primitives, k, kind, w);
-    let three = both(k < 1024, text::count_words(line) == 3);
-    let spelt = both(three, values::is_numeral(at));
+    let spelt = both(k < 1024, values::is_numeral(own));
     let layout = both(spelt, argument.layout);
-    let range = both(values::is_within(layout::at_range(k), at), argument.range);
-    let known = both(is_address(first, k, at), is_known(kind));
+    let range = both(values::is_within(layout::at_range(k), own), argument.range);
+    let known = both(is_address(first, k, own), is_known(kind));
     let name = both(known, argument.name);
     Tested {
         layout: layout,

@@ -281,6 +281,9 @@ pub fn lines_of(text: &[u8], body: &[u8], count: usize) -> [u32; 5131]
     ensures instructions { λ r. ⌜ linesFrom r count 11 ≡ map (λ l. instructionOf (priceList Kinds (lines (now (text .entry)))) (listed (Values Kinds Extra) (lines (now (text .entry)))) (priceList Primitives (lines (now (text .entry)))) (l .text)) (take count (lines (now (body .entry)))) ⌝ }
     ensures known { λ r. ⌜ ((j : ℕ) → j < count → getD r (11 + j * 5) 0 % 32 ≤ 22) ⌝ }
 {
+    let keyed = instructions::keyed_kinds();
+    let starts = instructions::name_starts();
+    let table = instructions::all_names();
     let kinds = layout::text_of(text, Role::Names(Section::Kinds));
     let kind_cycles = layout::text_of(text, Role::Values(Section::Kinds, Column::Cycles));
     let kind_words = layout::text_of(text, Role::Values(Section::Kinds, Column::Words));
@@ -295,7 +298,7 @@ pub fn lines_of(text: &[u8], body: &[u8], count: usize) -> [u32; 5131]
     while n < count {
         let line = text::first_line(rest);
         let op = text::word_at(line, 1);
-        let kind = instructions::kind_named(op);
+        let kind = instructions::kind_in(&keyed, &starts, &table, op);
         let slot = find_price(
             &mut kept,
             kinds,

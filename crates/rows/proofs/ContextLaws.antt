@@ -9,9 +9,10 @@ use lib.IntN.{ℤ, pos}
 use types.Run.{OneOf, miss}
 use denote.Enum.Declared.{tagOf}
 use borrow.Author.Tests.{le-leb}
-use lib.Dec.{eqb}
+use lib.Dec.{eqb, ltb}
 use lib.ListN.{length}
 use Rattle.text.specs.Text.{bytes, isEmpty, equals, words, Line, among, all, distinct}
+use Rattle.text.specs.Decimal.{numeral}
 use Rattle.numbers.specs.Numbers.{within}
 use Rattle.routine.specs.declared.Section.{Section}
 use Rattle.routine.specs.declared.Section.the-variants.{Limits as limits, Kinds as kinds, Primitives as primitives, Cells as cells, Fields as fields, Instructions as instructions, Answers as answers}
@@ -20,15 +21,17 @@ use Rattle.routine.specs.declared.Role.{Role}
 use Rattle.routine.specs.declared.Role.the-variants.{Names as names, Values as values, Code as code, Answer as answer}
 use Rattle.routine.specs.declared.Row.the-variants.{Layout as layout-row, Range as range-row, Name as name-row, Price as price-row, Target as target-row, Forward as forward-row, Known as known-row}
 use Rattle.routine.specs.Layout.{layout, list, textAt, listed}
-use Rattle.routine.specs.Rows.{equalLists, blockSizes, total, wellNamed, test, valuesLaidOut, laidOut, onCells, onCode, codeNamed, named, op, arg, onArgument, argumentReaches, priced, reaches, codeForward, forward, firstAddresses, columnInRange, inRange, allKnown}
+use Rattle.routine.specs.Rows.{equalLists, blockSizes, total, wellNamed, test, isNumeral, valuesLaidOut, laidOut, codeLaidOut, argumentLaidOut, at, onCells, onCode, codeNamed, named, op, arg, onArgument, argumentReaches, priced, reaches, codeForward, forward, firstAddresses, columnInRange, inRange, allKnown}
 use Rattle.names.specs.declared.Blocks.{Blocks}
 use Rattle.names.specs.Names.{BlocksOf}
-use Rattle.lines.specs.Lines.{wordTest}
+use Rattle.lines.specs.Lines.{wordTest, isWhole}
 use Rattle.lines.specs.declared.WordTest.the-variants.{Filled, Present, Kind, Primitive}
 use Rattle.lines.proofs.LineLaws.{and-true, and-false, and-through, and-stop}
 use Rattle.routine.proofs.Section.{the-type}
 use Rattle.routine.proofs.Role as roles
 use Rattle.routine.proofs.LayoutLaws.{list-none, list-words}
+use Rattle.rows.specs.declared.Tests.{Tests}
+use Rattle.rows.specs.declared.CodeLine.{CodeLine}
 use Rattle.rows.specs.Scan.{Context, Small, Other, lineWith}
 use Rattle.rows.specs.Checks.{Due, testedBy}
 use Rattle.rows.proofs.FoundLaws.{address-is}
@@ -113,21 +116,40 @@ code-other o k e h = absurd (subst Other e h)
 pub small-code : (o : Role) (k : ℕ) → o ≡ code k → Small o → k ≤ 32768
 small-code o k e h = subst Small e h
 
+-- row 2 on a code line by its parts: that a line feed ends it, that it has three words and none is empty, that these are spelt
+regroup : (e f c k n a : Bool) → e && (f && c) && (k && n && a) ≡ e && f && (k && c && n && a)
+regroup true true true true n a = refl
+regroup true true true false n a = refl
+regroup true true false true n a = refl
+regroup true true false false n a = refl
+regroup true false c k n a = refl
+regroup false f c k n a = refl
+
 -- the rows on a code line
 
 module _ (ls : List Line) {ks ps : List ℕ} {blocks first count : ℕ} (x : Context ls ks ps blocks first count) (z : ℤ) (is : z ≡ pos first) (k : ℕ) (text : List ℕ) (ended : Bool)
-    (t : Tested) {ns : List ℕ} (tested : CodeTests z count (list ns) k text t) {filled layout price due : Bool} (f : filled ≡ all (wordTest Filled) (words text)) (l : layout ≡ ended && filled && t .layout)
+    (t : Tested) {ns : List ℕ} (tested : CodeTests z count (list ns) k text t) {whole layout price due : Bool} (f : whole ≡ isWhole (words text)) (l : layout ≡ ended && whole && t .layout)
     (n : due ≡ true → ns ≡ ps) (p : due ≡ true → price ≡ among (op text) (list ks)) where
   pub code-tests : (row : Row) → Due row ls → ((row ≡ name-row) ⊎ (row ≡ price-row) → due ≡ true)
       → testedBy row (record { layout = layout; range = t .range; name = t .name; price = price; target = t .target; forward = t .forward; known = true }) ≡ test row ls (code k) (lineWith text ended)
-  unfolding test wordTest laidOut inRange named priced onCode reaches forward allKnown onCells listed
-  code-tests layout-row d g = l ∙ ap₂ (λ a b. ended && a && b) f (tested .layout)
+  unfolding test wordTest isWhole laidOut codeLaidOut inRange named priced onCode reaches forward allKnown onCells listed
+  code-tests layout-row d g =
+      l
+      ∙ ap₂ (λ a b. ended && a && b) f (tested .layout)
+      ∙ regroup ended (all (wordTest Filled) (words text)) (eqb (length (words text)) 3) (ltb k 1024) (isNumeral (numeral (at text))) (onArgument (argumentLaidOut (arg text)) text)
   code-tests range-row d g = tested .range
   code-tests name-row d g = tested .name ∙ ap₂ (λ w ns. codeNamed w (list ns) k text) (is ∙ address-is x (d .1)) (n (g (inl refl)) ∙ x .primitives-line)
   code-tests price-row d g = p (g (inr refl)) ∙ ap (λ ns. among (op text) (list ns)) (x .kinds-line)
   code-tests target-row d g = tested .target ∙ ap₂ (λ w m. onArgument (argumentReaches w m (arg text)) text) (is ∙ address-is x (d .1)) (x .code-lines)
   code-tests forward-row d g = tested .forward ∙ ap (λ w. codeForward w k text) (is ∙ address-is x (d .1))
   code-tests known-row d g = refl
+
+-- the same of what is the same beside the line's bytes
+pub code-tests-at : (ls : List Line) {ks ps : List ℕ} (text : List ℕ) (t : Tests) {a b : CodeLine} → a ≡ b
+    → ((blocks : ℕ) → Context ls ks ps blocks (a .first) (a .count) → (row : Row) → Due row ls → ((row ≡ name-row) ⊎ (row ≡ price-row) → a .due ≡ true) → testedBy row t ≡ test row ls (code (a .k)) (lineWith text (a .ended)))
+    → (blocks : ℕ) → Context ls ks ps blocks (b .first) (b .count) → (row : Row) → Due row ls → ((row ≡ name-row) ⊎ (row ≡ price-row) → b .due ≡ true) → testedBy row t ≡ test row ls (code (b .k)) (lineWith text (b .ended))
+code-tests-at ls {ks} {ps} text t e h =
+    subst (λ (c : CodeLine). (blocks : ℕ) → Context ls ks ps blocks (c .first) (c .count) → (row : Row) → Due row ls → ((row ≡ name-row) ⊎ (row ≡ price-row) → c .due ≡ true) → testedBy row t ≡ test row ls (code (c .k)) (lineWith text (c .ended))) e h
 
 module _ (ls : List Line) (o : Role) (text : List ℕ) (ended filled : Bool) (f : filled ≡ all (wordTest Filled) (words text)) where
   pub unended : not ended ≡ true → false ≡ test layout-row ls o (lineWith text ended)

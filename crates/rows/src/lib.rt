@@ -10,7 +10,7 @@ ghost use mathlib.Core.Path.{_≡_};
 ghost use mathlib.Core.Bool.{true, _&&_};
 ghost use mathlib.Core.List.{List};
 ghost use mathlib.Core.Logic.{_⊎_};
-ghost use Prim.Native.Nat.{_≤_};
+ghost use Prim.Native.Nat.{ℕ, _≤_};
 ghost use lib.ListN.{length};
 ghost use Rattle.text.specs.Text.{Line, lines, place, among};
 ghost use Rattle.routine.specs.declared.Role.the-variants.{Names, Code};
@@ -20,6 +20,7 @@ ghost use Rattle.routine.specs.declared.Row.the-variants.{Layout, Name, Price};
 ghost use Rattle.routine.specs.Layout.{list, listed};
 ghost use Rattle.routine.specs.Rows.{wellNamed, laidOut, inRange, named, allKnown, blockSizes, test, refusedLine};
 ghost use Rattle.instructions.specs.Kinds.{kindNames};
+ghost use Rattle.instructions.specs.Columns.{Keyed, Begins, Joined};
 ghost use Rattle.lines.specs.Lines.{PricesKept};
 ghost use Rattle.rows.specs.Scan.{Context, Other, HeadingBefore, lineWith, isHeading, roleOf, headingAfter, missing};
 ghost use Rattle.rows.specs.Checks.{readBy, checkOf, Due, testedBy, keptBy, keptAfter, refusedAt};
@@ -200,29 +201,64 @@ fn all_three(ended: bool, filled: bool, laid: bool) -> bool
     if filled { laid } else { false }
 }
 
-// The rows on code line k. What rows 4 and 5 look for on other lines is looked for only where they are due: no wrong name stands before.
+// A code line beside its bytes: which one it is, whether a line feed ends it, whether rows 4 and 5 are due, and where the code is.
+struct CodeLine {
+    k: usize,
+    ended: bool,
+    due: bool,
+    first: usize,
+    count: usize,
+}
+
+fn code_line(counts: Counts, k: usize, ended: bool, due: bool) -> CodeLine
+    ensures { λ r. ⌜ r ≡ record { k = k; ended = ended; due = due; first = counts .first; count = counts .count } ⌝ }
+{
+    CodeLine {
+        k: k,
+        ended: ended,
+        due: due,
+        first: counts.first,
+        count: counts.count,
+    }
+}
+
+// The rows on a code line, which is cut into its words once. What rows 4 and 5 look for on other lines is looked for only where they are due: no
+// wrong name stands before. The last three are the tables of `instructions::kind_in`.
 fn test_code(
     kinds: &[u8],
     primitives: &[u8],
-    counts: Counts,
-    k: usize,
+    at: CodeLine,
     line: &[u8],
-    ended: bool,
-    due: bool,
     prices: &mut [u8; 61],
+    keyed: &[u8; 256],
+    starts: &[u16; 62],
+    table: &[u8],
 ) -> Tests
-    requires { ⌜ (counts .first ≤ 60000) × (counts .count ≤ 32768) × (k ≤ 32768) ⌝ }
+    requires { ⌜ (at .first ≤ 60000) × (at .count ≤ 32768) × (at .k ≤ 32768) ⌝ }
     requires { ⌜ PricesKept (list (now kinds)) (now prices) ⌝ }
-    ensures tests { λ r. ⌜ ((ls : List Line) → Context ls (now (kinds .entry)) (now (primitives .entry)) (counts .blocks) (counts .first) (counts .count) → (row : Row) → Due row ls → ((row ≡ Name) ⊎ (row ≡ Price) → due ≡ true) → testedBy row r ≡ test row ls (Code k) (lineWith (now (line .entry)) ended)) ⌝ }
+    requires { ⌜ Keyed (now keyed) × Begins (now starts) × Joined (now table) ⌝ }
+    ensures tests { λ r. ⌜ ((ls : List Line) (blocks : ℕ) → Context ls (now (kinds .entry)) (now (primitives .entry)) blocks (at .first) (at .count) → (row : Row) → Due row ls → ((row ≡ Name) ⊎ (row ≡ Price) → at .due ≡ true) → testedBy row r ≡ test row ls (Code (at .k)) (lineWith (now (line .entry)) (at .ended))) ⌝ }
     ensures kept { λ _. ⌜ PricesKept (list (now (kinds .entry))) (now (prices .exit)) ⌝ }
 {
-    let op = text::word_at(line, 1);
-    let kind = instructions::kind_named(op);
-    let names = names_due(primitives, due);
-    let tested = lines::test_code(counts.first as i64, counts.count, names, k, kind, line);
-    let filled = lines::all_words(WordTest::Filled, line);
-    let layout = all_three(ended, filled, tested.layout);
-    let price = is_priced(kinds, prices, kind, op, due);
+    let e = text::piece_length(line, b' ');
+    let rest = lines::after_word(line, e);
+    let f = text::piece_length(rest, b' ');
+    let last = lines::after_word(rest, f);
+    let g = text::piece_length(last, b' ');
+    let op = &rest[..f];
+    let kind = instructions::kind_in(keyed, starts, table, op);
+    let names = names_due(primitives, at.due);
+    let tested = lines::test_code(
+        at.first as i64,
+        at.count,
+        names,
+        at.k,
+        kind,
+        &line[..e],
+        &last[..g],
+    );
+    let layout = all_three(at.ended, lines::is_whole(line, e, f, g), tested.layout);
+    let price = is_priced(kinds, prices, kind, op, at.due);
     Tests {
         layout: layout,
         range: tested.range,
@@ -361,6 +397,9 @@ fn scan(text: &[u8], kinds: &[u8], primitives: &[u8], counts: Counts) -> Earlies
     requires { ⌜ Context (lines (now text)) (now kinds) (now primitives) (counts .blocks) (counts .first) (counts .count) ⌝ }
     ensures { λ r. ⌜ ((row : Row) → Due row (lines (now (text .entry))) → refusedAt (keptBy row r) ≡ refusedLine row (lines (now (text .entry)))) ⌝ }
 {
+    let keyed = instructions::keyed_kinds();
+    let starts = instructions::name_starts();
+    let table = instructions::all_names();
     let mut prices = [0u8; 61];
     let mut kept = none_refused();
     let mut rest = text;
@@ -372,7 +411,17 @@ fn scan(text: &[u8], kinds: &[u8], primitives: &[u8], counts: Counts) -> Earlies
         let role = role_of(passed, heading, line);
         let due = kept.name == 0;
         let tests = if let Role::Code(k) = role {
-            test_code(kinds, primitives, counts, k, line, ended, due, &mut prices)
+            let at = code_line(counts, k, ended, due);
+            test_code(
+                kinds,
+                primitives,
+                at,
+                line,
+                &mut prices,
+                &keyed,
+                &starts,
+                &table,
+            )
         } else {
             test_line(text, counts.blocks, role, line, ended)
         };

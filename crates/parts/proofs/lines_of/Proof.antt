@@ -30,14 +30,14 @@ abbrev read : PriceList → List (List ℕ) → PriceList → Line → Instructi
 read ks xs ps l = instructionOf ks xs ps (l .text)
 
 abbrev Inv-loop : tie.InvT-loop
-Inv-loop text body count kinds kind-cycles kind-words kind-extras primitives cycles words code₀ kept₀ rest₀ n₀ code kept rest n =
+Inv-loop text body count keyed starts table kinds kind-cycles kind-words kind-extras primitives cycles words code₀ kept₀ rest₀ n₀ code kept rest n =
     (n ≤ count) × (length code ≡ 5131) × (lines rest ≡ drop n (lines body))
     × (linesFrom code n 11 ≡ take n (map (read (pricesOn kinds kind-cycles kind-words) (list kind-extras) (pricesOn primitives cycles words)) (lines body)))
     × ((j : ℕ) → j < n → getD code (11 + j * 5) 0 % 32 ≤ 22)
     × KindsKept (pricesOn kinds kind-cycles kind-words) (list kind-extras) kept
 
 abbrev μ-loop : tie.MeasureT-loop
-μ-loop text body count kinds kind-cycles kind-words kind-extras primitives cycles words code₀ kept₀ rest₀ n₀ code kept rest n = count - n
+μ-loop text body count keyed starts table kinds kind-cycles kind-words kind-extras primitives cycles words code₀ kept₀ rest₀ n₀ code kept rest n = count - n
 
 loop-holds : tie.Need-loop-holds Inv-loop μ-loop
 unfolding linesFrom
@@ -45,45 +45,48 @@ loop-holds c = (omega arith, refl, refl, refl, λ j h. absurd (omega arith), non
 
 -- a turn: that a line is left, the kind that its OP names, and its price
 few : (c : tie.In-loop Inv-loop μ-loop) → c .before .loop .n < 1024
-few c = omega (arith, c .loop-test .taken, c .before .before .before .before .before .before .before .before .before .before .before .pre .0)
+few c = omega (arith, c .loop-test .taken, c .before .before .before .before .before .before .before .before .before .before .before .before .before .before .pre .0)
+
+kind-in-requires : tie.Need-kind-in-requires Inv-loop μ-loop
+kind-in-requires c κs = (c .before .before .before .before .before .before .before .before .before .before .before .before .before .before .before .before .keyed-kinds .ensures, c .before .before .before .before .before .before .before .before .before .before .before .before .before .before .before .name-starts .ensures, c .before .before .before .before .before .before .before .before .before .before .before .before .before .before .all-names .ensures)
 
 find-price-requires : tie.Need-find-price-requires Inv-loop μ-loop
-find-price-requires c κs = (c .before .kind-named .ensures, c .before .before .before .before .before .loop .inv .5)
+find-price-requires c κs = (c .before .kind-in .ensures, c .before .before .before .before .before .before .before .before .loop .inv .5)
 
-kind-is : (c : tie.After-kind-named Inv-loop μ-loop) → c .kind-named .result ≡ place (op (c .before .before .first-line .result .now)) kindNames
-kind-is c = c .kind-named .ensures ∙ ap (λ w. place w kindNames) (c .before .word-at .ensures)
+kind-is : (c : tie.After-kind-in Inv-loop μ-loop) → c .kind-in .result ≡ place (op (c .before .before .before .before .before .first-line .result .now)) kindNames
+kind-is c = c .kind-in .ensures ∙ ap (λ w. place w kindNames) (c .before .before .before .before .word-at .ensures)
 
 entry-of-requires : tie.Need-entry-of-requires Inv-loop μ-loop
 entry-of-requires c κs =
-    let low = slot-low _ _ (c .before .before .before .kind-named .ensures) (c .before .find-price .ensures .0) in
+    let low = slot-low _ _ (c .before .before .before .kind-in .ensures) (c .before .find-price .ensures .0) in
     let p = price-small (c .before .find-price .ensures .1 .0) in
     (kind-is (c .before .before .before), (omega arith, p .0, p .1))
 
 put-entry-requires : tie.Need-put-entry-requires Inv-loop μ-loop
-put-entry-requires c κs = few (c .before .before .before .before .before .before .before .before)
+put-entry-requires c κs = few (c .before .before .before .before .before .before .before .before .before .before .before)
 
 after-line-requires : tie.Need-after-line-requires Inv-loop μ-loop
-after-line-requires c κs = ap length (c .before .before .before .before .before .before .before .before .first-line .ensures)
+after-line-requires c κs = ap length (c .before .before .before .before .before .before .before .before .before .before .before .first-line .ensures)
 
 loop-again : tie.Need-loop-again Inv-loop μ-loop
 loop-again c =
-    let t = c .before .before .before .before .before .before .before .before .before .before in
-    let l = c .before .before .before .before .before .before .before .before .before .before .before .loop in
-    let start = c .before .before .before .before .before .before .before .before .before .before .before .before .before .before .before .before .before .before .before .before .before in
+    let t = c .before .before .before .before .before .before .before .before .before .before .before .before .before in
+    let l = c .before .before .before .before .before .before .before .before .before .before .before .before .before .before .loop in
+    let start = c .before .before .before .before .before .before .before .before .before .before .before .before .before .before .before .before .before .before .before .before .before .before .before .before .before .before .before in
     let ls = lines (start .args .body .now) in
-    let ks = pricesOn (c .before .before .before .before .before .before .before .before .before .before .before .before .before .before .before .before .before .before .text-of .result .now) (c .before .before .before .before .before .before .before .before .before .before .before .before .before .before .before .before .before .text-of2 .result .now) (c .before .before .before .before .before .before .before .before .before .before .before .before .before .before .before .before .text-of3 .result .now) in
-    let xs = list (c .before .before .before .before .before .before .before .before .before .before .before .before .before .before .before .text-of4 .result .now) in
-    let ps = pricesOn (c .before .before .before .before .before .before .before .before .before .before .before .before .before .before .text-of5 .result .now) (c .before .before .before .before .before .before .before .before .before .before .before .before .before .text-of6 .result .now) (c .before .before .before .before .before .before .before .before .before .before .before .before .text-of7 .result .now) in
+    let ks = pricesOn (c .before .before .before .before .before .before .before .before .before .before .before .before .before .before .before .before .before .before .before .before .before .text-of .result .now) (c .before .before .before .before .before .before .before .before .before .before .before .before .before .before .before .before .before .before .before .before .text-of2 .result .now) (c .before .before .before .before .before .before .before .before .before .before .before .before .before .before .before .before .before .before .before .text-of3 .result .now) in
+    let xs = list (c .before .before .before .before .before .before .before .before .before .before .before .before .before .before .before .before .before .before .text-of4 .result .now) in
+    let ps = pricesOn (c .before .before .before .before .before .before .before .before .before .before .before .before .before .before .before .before .before .text-of5 .result .now) (c .before .before .before .before .before .before .before .before .before .before .before .before .before .before .before .before .text-of6 .result .now) (c .before .before .before .before .before .before .before .before .before .before .before .before .before .before .before .text-of7 .result .now) in
     let k : l .n < length ls = omega (arith, start .pre .1, t .loop-test .taken) in
     let x = c .before .before .before .entry-of .result in
-    let word = c .before .before .before .before .before .before .before .before .word-at .ensures in
+    let word = c .before .before .before .before .before .before .before .before .before .before .before .word-at .ensures in
     let price = subst (λ w. PriceAt ks xs w (c .before .before .before .before .before .find-price .last .0) (c .before .before .before .before .before .find-price .result)) word (c .before .before .before .before .before .find-price .ensures .1 .0) in
     let e = c .before .before .before .entry-of .ensures ks xs price in
     let fitting : SFits w32 (x .operand) = search (c .before .before .before .entry-of .ok, needs) in
     let o : signed 32 (residue 32 (x .operand)) ≡ x .operand = signed-back 32 (omega arith) (x .operand) (fitting .sfits) in
     let g =
     ap (λ (z : ℤ). lineOf (line (x .code) z (x .cycles) (x .words) (x .extra))) o
-    ∙ e .0 ∙ ap (instructionOf ks xs ps) (c .before .before .before .before .before .before .before .before .before .first-line .ensures) ∙ line-is (read ks xs ps) ls (lines (l .rest .now)) (l .n) (l .inv .2) in
+    ∙ e .0 ∙ ap (instructionOf ks xs ps) (c .before .before .before .before .before .before .before .before .before .before .before .before .first-line .ensures) ∙ line-is (read ks xs ps) ls (lines (l .rest .now)) (l .n) (l .inv .2) in
     let put = c .before .put-entry .ensures in (
       omega (arith, t .loop-test .taken),
       ap length put ∙ simp length-set (l .inv .1),
@@ -96,7 +99,7 @@ loop-again c =
 returns : tie.Need-returns Inv-loop μ-loop
 returns c =
     let l = c .before .loop in
-    let start = c .before .before .before .before .before .before .before .before .before .before .before in
+    let start = c .before .before .before .before .before .before .before .before .before .before .before .before .before .before in
     let n : l .n ≡ start .args .count = omega (arith, c .loop-test .left, l .inv .0) in (
       rw n at (l .inv .3 ∙ take-map _ (l .n) (lines (start .args .body .now)))
           ∙ lines-priced (lines (start .args .text .now)) (take (start .args .count) (lines (start .args .body .now))) (c .before .before .before .before .before .before .before .before .text-of .ensures) (c .before .before .before .before .before .before .before .text-of2 .ensures) (c .before .before .before .before .before .before .text-of3 .ensures) (c .before .before .before .before .before .text-of4 .ensures) (c .before .before .before .before .text-of5 .ensures) (c .before .before .before .text-of6 .ensures) (c .before .before .text-of7 .ensures),
@@ -116,15 +119,19 @@ lines-of-spec =
     (λ c κs. search needs)
     (λ c κs. search needs)
     (λ c κs. search needs)
+    (λ c κs. search needs)
+    (λ c κs. search needs)
+    (λ c κs. search needs)
     loop-holds
     (λ c κs. search needs)
     (λ c κs. search needs)
-    (λ c κs. search needs)
+    (λ c. search needs)
+    kind-in-requires
     find-price-requires
     entry-of-requires
     put-entry-requires
     after-line-requires
-    (λ c. let f = few (c .before .before .before .before .before .before .before .before .before .before) in search needs)
-    (λ c. search needs)
+    (λ c. let f = few (c .before .before .before .before .before .before .before .before .before .before .before .before .before) in search needs)
+    (λ c. omega (arith, c .before .before .before .before .before .before .before .before .before .before .before .before .before .loop-test .taken))
     loop-again
     returns)
