@@ -1,5 +1,5 @@
 -- Laws of the rows of the refusal table on the file with the lines that an import makes of a file's words: a row that refuses no line of the
--- one refuses none of the other, and it is no longer. Assumes nothing.
+-- one refuses none of the other, and it has no more bytes. Assumes nothing.
 use mathlib.Core.Path.{_≡_, refl, sym, ap, ap₂, subst, _∙_}
 use mathlib.Core.Bool.{Bool, true, false, cond, not, _&&_}
 use mathlib.Core.List.{List, [], _∷_, _++_, append-assoc}
@@ -233,7 +233,7 @@ lines-pass : {first n k : ℕ} {ls ms is js : List Line} → Lowers first ls ms 
 lines-pass f p row ends coded.none = coded.none
 lines-pass f p row (follows {l} x r) (coded.next h c) = coded.next (line-passes f p l x row h) (lines-pass f p row r c)
 
--- they are no longer
+-- they have no more bytes
 lines-short : {ps : List (List ℕ)} {n first k : ℕ} {ls ms : List Line} → Lower ps n first k ls ms → length (linesText ms) ≤ length (linesText ls)
 unfolding linesText
 lines-short ends = omega arith
@@ -300,7 +300,7 @@ names-pass known-row ls = refl
 others : (t : Role → Bool) (rs : List Role) → all (λ r. not (t r)) rs ≡ true → Every (λ r. t r ≡ false) rs
 others t rs e = every-map (λ r h. not-true (t r) h) (all-every (λ r. not (t r)) rs e)
 
--- other bytes that are no longer
+-- no more bytes in the place of others
 replaced-short : (ls : List Line) (bs cs : List ℕ) → length bs ≤ length cs → length (replaced ls bs) ≤ length (replaced ls cs)
 unfolding replaced
 replaced-short ls bs cs h = simp length-append (omega arith)
@@ -359,7 +359,7 @@ module _ (text : List ℕ) (p : Passes (lines text)) where
     forward = row-kept forward-row (p .forward);
   }
 
-  -- it is no longer than the file
+  -- it has no more bytes than the file
   pub whole-short : length (linesText ms) ≤ length text
   whole-short =
       let made = bytes "AT OP ARG\n" ++ linesText (lowered.made text p) in

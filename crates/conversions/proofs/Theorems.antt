@@ -179,7 +179,7 @@ exports-taken text words n m e h =
     let line = primitivesLine (lines text) in
     (importText (exportBytes (lines text)) line, ap (λ ws. importAnswer ws line m) (x .1) ∙ import-made (exportBytes (lines text)) line m h (words-imported text (x .0) (lowered.made text (x .0)) (said text (x .0))))
 
--- it passes, and is no longer than the file
+-- it passes, and has no more bytes than the file
 module _ (text words made : List ℕ) (n m : ℕ) (p : Passes (lines text)) (short : length text ≤ textLimit) (e : exportAnswer text n ≡ reported words)
     (g : importAnswer words (primitivesLine (lines text)) m ≡ reported made) where
   abbrev low : List ℕ
