@@ -73,7 +73,7 @@ fn at_the_ends() -> String {
     file(99, "OFFSETINT STOP", "2 1", "ACCU", "1073741823", code).replacen("-\n-\nAT", "B0.0\n-1073741824\nAT", 1)
 }
 
-/// What `crates/cases` is run with: the published example (case 1, run: case 7), the cases that are not starred, each row's example, and
+/// What `crates/test_cases` is run with: the published example (case 1, run: case 7), the cases that are not starred, each row's example, and
 /// what change requests 1, 3, 6, 7, 8 and 12 add to them.
 pub fn cases() -> Vec<Text> {
     let lists = [
@@ -338,7 +338,7 @@ pub fn starred() -> Vec<Text> {
     ])
 }
 
-/// What the programs of `crates/` read and must print: paths from the root, and bytes. `cases` reads each text behind a line with its
+/// What the programs of `crates/` read and must print: paths from the root, and bytes. `test_cases` reads each text behind a line with its
 /// name and length.
 pub fn program_files() -> Vec<(&'static str, Vec<u8>)> {
     let cases = cases();
@@ -365,7 +365,7 @@ pub fn program_files() -> Vec<(&'static str, Vec<u8>)> {
         ("crates/decide/stdout", decision.printed.into()),
         ("crates/nearest/stdin", nearest.text.clone().into_bytes()),
         ("crates/nearest/stdout", nearest.printed.into()),
-        ("crates/cases/stdin", stdin),
-        ("crates/cases/stdout", stdout),
+        ("crates/test_cases/stdin", stdin),
+        ("crates/test_cases/stdout", stdout),
     ]
 }

@@ -11,8 +11,8 @@ use borrow.Author.Tests.{lt-ltb, le-ltb, ltb-false}
 use Rattle.refusals.specs.declared.Refusal.{Refusal}
 use Rattle.refusals.specs.declared.Refusal.the-variants.{ReportMemory}
 use Rattle.refusals.specs.Refusals.{place}
-use Rattle.routine.specs.Routine.{Routine, Reading}
-use Rattle.routine.specs.Routine as readings
+use Rattle.file_format.specs.Routine.{Routine, Reading}
+use Rattle.file_format.specs.Routine as readings
 use Rattle.answers.specs.declared.Answer as code
 use Rattle.answers.specs.declared.Answer.the-variants.{Reported, Refused}
 use Rattle.answers.specs.Answers.{Answer, reported, refused, lending, ofReading, memory, answerOf, reportLength, Delivers}

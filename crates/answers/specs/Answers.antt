@@ -11,8 +11,8 @@ use Rattle.refusals.specs.declared.Refusal.{Refusal}
 use Rattle.refusals.specs.declared.Refusal.the-variants.{ReportMemory}
 use Rattle.refusals.specs.declared.Verdict.{Verdict}
 use Rattle.refusals.specs.declared.Verdict.the-variants as verdicts
-use Rattle.routine.specs.Routine.{Routine, Reading, routine}
-use Rattle.routine.specs.Routine as readings
+use Rattle.file_format.specs.Routine.{Routine, Reading, routine}
+use Rattle.file_format.specs.Routine as readings
 use Rattle.answers.specs.declared.Answer as code
 use Rattle.answers.specs.declared.Answer.the-variants.{Reported, Refused}
 

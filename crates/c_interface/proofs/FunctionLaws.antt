@@ -21,22 +21,22 @@ use Rattle.report_theory.proofs.AnswerLaws.{bound-reported, merge-reported, run
 use Rattle.report_theory.proofs.ListedLaws.{bound-listed, merge-listed, run-listed}
 use Rattle.preview_entry.specs.Answers.{previewAnswer}
 use Rattle.preview_entry.proofs.PreviewLaws.{preview-reported, preview-place}
-use Rattle.conversions.specs.Answers.{conversionLimit, importAnswer, exportAnswer}
-use Rattle.conversions.proofs.FunctionLaws.{import-reported, import-place, export-reported, export-place}
-use Rattle.conformance.specs.Answers.{replayAnswer}
-use Rattle.conformance.proofs.FunctionLaws.{replay-reported, replay-place}
+use Rattle.words_entry.specs.Answers.{conversionLimit, importAnswer, exportAnswer}
+use Rattle.words_entry.proofs.FunctionLaws.{import-reported, import-place, export-reported, export-place}
+use Rattle.replay_entry.specs.Answers.{replayAnswer}
+use Rattle.replay_entry.proofs.FunctionLaws.{replay-reported, replay-place}
 use Rattle.split_entry.specs.Answers.{splitAnswer}
 use Rattle.split_entry.specs.Listed.{CasesRefused}
 use Rattle.split_entry.proofs.ListedLaws.{splits-listed}
 use Rattle.split_entry.proofs.Theorems.{splits-fit, split-places}
-use Rattle.explanations.specs.Answers.{explanationLimit, explainAnswer}
-use Rattle.explanations.proofs.Theorems.{explanations-fit, explain-place}
+use Rattle.explain_entry.specs.Answers.{explanationLimit, explainAnswer}
+use Rattle.explain_entry.proofs.Theorems.{explanations-fit, explain-place}
 use Rattle.explain_merge_entry.specs.Answers.{explainMergeAnswer}
 use Rattle.explain_merge_entry.proofs.Theorems.{merge-explanations-fit, explain-merge-place}
-use Rattle.sensitivity.specs.Answers.{nearestAnswer}
-use Rattle.sensitivity.proofs.FunctionLaws.{nearest-reported, nearest-place}
-use Rattle.generating.specs.Answers.{generatorLimit, generateAnswer}
-use Rattle.generating.proofs.FunctionLaws.{generate-reported, generate-place}
+use Rattle.nearest_entry.specs.Answers.{nearestAnswer}
+use Rattle.nearest_entry.proofs.FunctionLaws.{nearest-reported, nearest-place}
+use Rattle.generate_entry.specs.Answers.{generatorLimit, generateAnswer}
+use Rattle.generate_entry.proofs.FunctionLaws.{generate-reported, generate-place}
 use Rattle.decide_entry.specs.Answers.{decideAnswer}
 use Rattle.decide_entry.proofs.PromiseLaws.{decide-reported, decide-place}
 use Rattle.decide_split_entry.specs.Answers.{decideSplitAnswer}

@@ -10,13 +10,13 @@ ghost use Rattle.report_theory.specs.Promises.{SafeReport, ExactReport, SafeMer
 ghost use Rattle.report_theory.specs.Listed.{BoundRefused, MergeRefused, RunRefused, ListedAlone};
 ghost use Rattle.report_theory.specs.Refined.{MonotoneReport, KnownReport, MonotoneMerge, KnownMerge};
 ghost use Rattle.preview_entry.specs.Answers.{previewAnswer};
-ghost use Rattle.conversions.specs.Answers.{conversionLimit, importAnswer, exportAnswer};
-ghost use Rattle.conformance.specs.Answers.{replayAnswer};
-ghost use Rattle.conformance.specs.Promises.{ReplayKept};
+ghost use Rattle.words_entry.specs.Answers.{conversionLimit, importAnswer, exportAnswer};
+ghost use Rattle.replay_entry.specs.Answers.{replayAnswer};
+ghost use Rattle.replay_entry.specs.Promises.{ReplayKept};
 ghost use Rattle.split_entry.specs.Answers.{splitAnswer};
 ghost use Rattle.split_entry.specs.Promises.{SafeSplit, ExactSplit, BelowMerge, MoreCuts, MonotoneSplit};
 ghost use Rattle.split_entry.specs.Listed.{CasesRefused};
-ghost use Rattle.explanations.specs.Answers.{explanationLimit, explainAnswer};
+ghost use Rattle.explain_entry.specs.Answers.{explanationLimit, explainAnswer};
 ghost use Rattle.explain_merge_entry.specs.Answers.{explainMergeAnswer};
 ghost use Rattle.decide_entry.specs.Answers.{decideAnswer};
 ghost use Rattle.decide_entry.specs.Promises.{KeepsTick, OverTick, UndecidedTick};
@@ -24,8 +24,8 @@ ghost use Rattle.decide_split_entry.specs.Answers.{decideSplitAnswer};
 ghost use Rattle.decide_split_entry.specs.Promises.{KeepsTickByCases, UndecidedByCases};
 ghost use Rattle.trace_entry.specs.Answers.{traceMemory, traceAnswer};
 ghost use Rattle.trace_entry.specs.Promises.{TracesRun};
-ghost use Rattle.sensitivity.specs.Answers.{nearestAnswer};
-ghost use Rattle.generating.specs.Answers.{generatorLimit, generateAnswer};
+ghost use Rattle.nearest_entry.specs.Answers.{nearestAnswer};
+ghost use Rattle.generate_entry.specs.Answers.{generatorLimit, generateAnswer};
 ghost use Rattle.c_interface.specs.Functions.{wordOf, toldLength, Tells, RefusesWord};
 
 // An answer as one number.
@@ -94,29 +94,29 @@ pub extern "C" fn tickbound_run(text: &[u8], out: &mut [u8]) -> u64
     word_of(answer)
 }
 
-// `conversions::import` for C.
+// `words_entry::import` for C.
 #[no_mangle]
 pub extern "C" fn tickbound_import(words: &[u8], primitives: &[u8], out: &mut [u8]) -> u64
     ensures { λ r. ⌜ r ≡ wordOf (answerOf (importAnswer (now (words .entry)) (now (primitives .entry)) (length (now (out .entry))))) ⌝ }
     ensures { λ _. ⌜ now (out .exit) ≡ memory (importAnswer (now (words .entry)) (now (primitives .entry)) (length (now (out .entry)))) (now (out .entry)) ⌝ }
     ensures tells { λ r. ⌜ Tells conversionLimit (importAnswer (now (words .entry)) (now (primitives .entry)) (length (now (out .entry)))) r ⌝ }
 {
-    let imported = conversions::import(words, primitives, out);
+    let imported = words_entry::import(words, primitives, out);
     word_of(imported)
 }
 
-// `conversions::export` for C.
+// `words_entry::export` for C.
 #[no_mangle]
 pub extern "C" fn tickbound_export(text: &[u8], out: &mut [u8]) -> u64
     ensures { λ r. ⌜ r ≡ wordOf (answerOf (exportAnswer (now (text .entry)) (length (now (out .entry))))) ⌝ }
     ensures { λ _. ⌜ now (out .exit) ≡ memory (exportAnswer (now (text .entry)) (length (now (out .entry)))) (now (out .entry)) ⌝ }
     ensures tells { λ r. ⌜ Tells conversionLimit (exportAnswer (now (text .entry)) (length (now (out .entry)))) r ⌝ }
 {
-    let exported = conversions::export(text, out);
+    let exported = words_entry::export(text, out);
     word_of(exported)
 }
 
-// `conformance::replay` for C.
+// `replay_entry::replay` for C.
 #[no_mangle]
 pub extern "C" fn tickbound_replay(text: &[u8], trace: &[u8], out: &mut [u8]) -> u64
     ensures { λ r. ⌜ r ≡ wordOf (answerOf (replayAnswer (now (text .entry)) (now (trace .entry)) (length (now (out .entry))))) ⌝ }
@@ -124,7 +124,7 @@ pub extern "C" fn tickbound_replay(text: &[u8], trace: &[u8], out: &mut [u8]) ->
     ensures tells { λ r. ⌜ Tells memoryLimit (replayAnswer (now (text .entry)) (now (trace .entry)) (length (now (out .entry)))) r ⌝ }
     ensures kept { λ r. ⌜ Delivers (toldLength r) (now (out .exit)) (ReplayKept (now (text .entry)) (now (trace .entry))) ⌝ }
 {
-    let replayed = conformance::replay(text, trace, out);
+    let replayed = replay_entry::replay(text, trace, out);
     word_of(replayed)
 }
 
@@ -161,36 +161,36 @@ pub extern "C" fn tickbound_preview(
     word_of(previewed)
 }
 
-// `sensitivity::nearest` for C.
+// `nearest_entry::nearest` for C.
 #[no_mangle]
 pub extern "C" fn tickbound_nearest(text: &[u8], out: &mut [u8]) -> u64
     ensures { λ r. ⌜ r ≡ wordOf (answerOf (nearestAnswer (now (text .entry)) (length (now (out .entry))))) ⌝ }
     ensures { λ _. ⌜ now (out .exit) ≡ memory (nearestAnswer (now (text .entry)) (length (now (out .entry)))) (now (out .entry)) ⌝ }
     ensures tells { λ r. ⌜ Tells memoryLimit (nearestAnswer (now (text .entry)) (length (now (out .entry)))) r ⌝ }
 {
-    let nearest = sensitivity::nearest(text, out);
+    let nearest = nearest_entry::nearest(text, out);
     word_of(nearest)
 }
 
-// `generating::generate` for C.
+// `generate_entry::generate` for C.
 #[no_mangle]
 pub extern "C" fn tickbound_generate(seed: u32, out: &mut [u8]) -> u64
     ensures { λ r. ⌜ r ≡ wordOf (answerOf (generateAnswer seed (length (now (out .entry))))) ⌝ }
     ensures { λ _. ⌜ now (out .exit) ≡ memory (generateAnswer seed (length (now (out .entry)))) (now (out .entry)) ⌝ }
     ensures tells { λ r. ⌜ Tells generatorLimit (generateAnswer seed (length (now (out .entry)))) r ⌝ }
 {
-    let generated = generating::generate(seed, out);
+    let generated = generate_entry::generate(seed, out);
     word_of(generated)
 }
 
-// `explanations::explain` for C.
+// `explain_entry::explain` for C.
 #[no_mangle]
 pub extern "C" fn tickbound_explain(text: &[u8], out: &mut [u8]) -> u64
     ensures { λ r. ⌜ r ≡ wordOf (answerOf (explainAnswer (now (text .entry)) (length (now (out .entry))))) ⌝ }
     ensures { λ _. ⌜ now (out .exit) ≡ memory (explainAnswer (now (text .entry)) (length (now (out .entry)))) (now (out .entry)) ⌝ }
     ensures tells { λ r. ⌜ Tells explanationLimit (explainAnswer (now (text .entry)) (length (now (out .entry)))) r ⌝ }
 {
-    let explained = explanations::explain(text, out);
+    let explained = explain_entry::explain(text, out);
     word_of(explained)
 }
 

@@ -12,7 +12,7 @@ use Rattle.numbers.specs.Numbers.{bits, half, modulus}
 use Rattle.numbers.proofs.IntegerLaws.{difference-is}
 use Rattle.cells.specs.declared.Cell.{Cell}
 use Rattle.cells.specs.Cells.{range, handle}
-use Rattle.cells.specs.Codes.{cellOf, cellsOf, confine, Confined, Kept}
+use Rattle.cells.specs.HeldCodes.{cellOf, cellsOf, confine, Confined, Kept}
 use Rattle.cells.specs.Order.{Pointwise, end, cons}
 use Rattle.cells.proofs.CellLaws.{confined-range, handle-confined, kept-self}
 

@@ -17,8 +17,8 @@ use Rattle.cells.specs.declared.Cell.{Cell}
 use Rattle.cells.specs.declared.Unary.{Unary}
 use Rattle.cells.specs.declared.Unary.the-variants.{Offset, Negate, Complement}
 use Rattle.cells.specs.Cells.{range, high, unknown, between, handle, calculate₁, results, least₁}
-use Rattle.cells.specs.Codes.{cellOf}
-use Rattle.cells.specs.Small.{Small}
+use Rattle.cells.specs.HeldCodes.{cellOf}
+use Rattle.cells.specs.HeldSmall.{Small}
 use Rattle.cells.proofs.RangeLaws.{InBits, Results, fits, whole, results-is}
 
 -- ---- numbers that are far from the ends of 64 bits

@@ -1,9 +1,9 @@
 pub mod Try
 pub mod Cells
-pub mod Answers
+pub mod HeldAnswers
 pub mod Order
 pub mod Covering
 pub mod Merge
-pub mod Codes
-pub mod Small
+pub mod HeldCodes
+pub mod HeldSmall
 pub mod Promises

@@ -6,10 +6,10 @@ ghost use lib.IntN.{pos, _+ℤ_};
 ghost use lib.Signed.{mag};
 ghost use Rattle.numbers.specs.Numbers.{wrap, bit, within, numbers};
 ghost use Rattle.cells.specs.Cells.{range, high, number, unknown, between, handle, calculate₁, calculate₂, results, least₁, range₁, always, opposite, judged, wider, range₂, compareHandles, combineHandles, operate₁, operate₂, condition, block};
-ghost use Rattle.cells.specs.Answers.{ofOperand, ofTested, ofHandled};
+ghost use Rattle.cells.specs.HeldAnswers.{ofOperand, ofTested, ofHandled};
 ghost use Rattle.cells.specs.Merge.{lower, upper, mergeCells};
-ghost use Rattle.cells.specs.Codes.{cellOf, confine, Confined};
-ghost use Rattle.cells.specs.Small.{Small};
+ghost use Rattle.cells.specs.HeldCodes.{cellOf, confine, Confined};
+ghost use Rattle.cells.specs.HeldSmall.{Small};
 
 // "A cell holds a number, an unknown number or a block handle"; "A start or block cell may be `lo..hi`": a range is its least number and
 // how many more there are above it.

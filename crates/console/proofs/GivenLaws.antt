@@ -13,7 +13,7 @@ use Rattle.text.specs.Decimal.{most, clamp, clamped}
 use Rattle.text.specs.declared.Numeral.{Numeral}
 use Rattle.text.specs.declared.Numeral.the-variants as numerals
 use Rattle.console.specs.declared.Given.the-variants.{Number, Wrong}
-use Rattle.console.specs.Given.{given}
+use Rattle.console.specs.HeldGiven.{given}
 
 -- it is small
 pub clamped-fits : (m : Numeral) (z : ℤ) → numerals.Number z ≡ clamped m → SFits w64 z

@@ -1,3 +1,3 @@
 pub mod Line
-pub mod Given
+pub mod HeldGiven
 pub mod Read

@@ -8,7 +8,7 @@ ghost use mathlib.Core.Path.{_≡_};
 ghost use lib.ListN.{take};
 ghost use Rattle.io.specs.Counts.{Counts};
 ghost use Rattle.text.specs.Decimal.{numeral};
-ghost use Rattle.console.specs.Given.{given};
+ghost use Rattle.console.specs.HeldGiven.{given};
 ghost use Rattle.console.specs.Read.{Whole};
 ghost use Rattle.console.specs.Line.{line, Held};
 

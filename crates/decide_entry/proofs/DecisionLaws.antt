@@ -10,7 +10,7 @@ use lib.ListN.{length, getD, length-append}
 use borrow.Author.Tests.{lt-ltb, le-ltb, ltb-true, ltb-false}
 use Rattle.text.specs.Text.{bytes}
 use Rattle.text.proofs.DecimalLaws.{decimal-length}
-use Rattle.bounds.specs.Tree.{Report}
+use Rattle.bound_theory.specs.Tree.{Report}
 use Rattle.report.specs.Report.{space}
 use Rattle.report.proofs.ReportLaws.{Small}
 use Rattle.decide_entry.specs.declared.Source.{Source}

@@ -10,13 +10,13 @@ use Rattle.refusals.specs.declared.Refusal.{Refusal}
 use Rattle.refusals.specs.Refusals.{number}
 use Rattle.refusals.specs.declared.Verdict.the-variants as verdicts
 use Rattle.refusals.specs.declared.Verdict.the-variants.{Accepted}
-use Rattle.bounds.specs.Tree.{bound}
-use Rattle.bounds.specs.Tree as bounds
-use Rattle.merges.specs.Merge.{merged}
-use Rattle.findings.specs.declared.Found.{Found}
-use Rattle.findings.specs.Found.{Shows, acceptedAs}
-use Rattle.routine.specs.Routine.{Routine, readBound}
-use Rattle.routine.specs.Routine as readings
+use Rattle.bound_theory.specs.Tree.{bound}
+use Rattle.bound_theory.specs.Tree as bounds
+use Rattle.merge_theory.specs.Merge.{merged}
+use Rattle.bound_figures.specs.declared.Found.{Found}
+use Rattle.bound_figures.specs.HeldFigures.{Shows, acceptedAs}
+use Rattle.file_format.specs.Routine.{Routine, readBound}
+use Rattle.file_format.specs.Routine as readings
 use Rattle.report.proofs.DecodeLaws.{report-of}
 use Rattle.answers.specs.Answers.{Answer, reported, refused, memoryLimit, memory, answerOf, reportLength, Delivers}
 use Rattle.answers.specs.declared.Answer as code

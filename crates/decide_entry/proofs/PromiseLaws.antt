@@ -9,17 +9,17 @@ use lib.ListN.{length}
 use Rattle.refusals.specs.declared.Refusal.{Refusal}
 use Rattle.refusals.specs.Refusals.{place}
 use Rattle.text.specs.Text.{lines}
-use Rattle.bounds.specs.Tree.{Report, Verdict, openingLimit, bound}
-use Rattle.bounds.specs.Tree as verdicts
-use Rattle.bounds.proofs.PromiseLaws.{interruptible, bound-exact}
-use Rattle.bounds.proofs.PlaceLaws.{bound-place}
-use Rattle.merges.specs.Merge.{merged}
-use Rattle.merges.proofs.Theorems.{merged-interruptible, merged-exact}
-use Rattle.routine.specs.Routine.{Routine, readBound}
-use Rattle.routine.proofs.RowLaws.{read-passes}
-use Rattle.routine.proofs.RangeLaws.{tick-small}
-use Rattle.routine.proofs.BranchLaws.{passing-forward, passing-closed}
-use Rattle.routine.proofs.PlaceLaws.{read-bound-place, confined, start-small}
+use Rattle.bound_theory.specs.Tree.{Report, Verdict, openingLimit, bound}
+use Rattle.bound_theory.specs.Tree as verdicts
+use Rattle.bound_theory.proofs.PromiseLaws.{interruptible, bound-exact}
+use Rattle.bound_theory.proofs.PlaceLaws.{bound-place}
+use Rattle.merge_theory.specs.Merge.{merged}
+use Rattle.merge_theory.proofs.Theorems.{merged-interruptible, merged-exact}
+use Rattle.file_format.specs.Routine.{Routine, readBound}
+use Rattle.file_format.proofs.RowLaws.{read-passes}
+use Rattle.file_format.proofs.RangeLaws.{tick-small}
+use Rattle.file_format.proofs.BranchLaws.{passing-forward, passing-closed}
+use Rattle.file_format.proofs.PlaceLaws.{read-bound-place, confined, start-small}
 use Rattle.report_theory.proofs.SizeLaws.{ticks, bound-limited, merged-limited}
 use Rattle.report.proofs.ReportLaws.{bound-small}
 use Rattle.answers.specs.Answers.{reported, refused, memoryLimit}

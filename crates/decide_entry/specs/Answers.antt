@@ -5,10 +5,10 @@ use mathlib.Core.List.{List}
 use lib.Dec.{eqb}
 use Rattle.refusals.specs.declared.Refusal.{Refusal}
 use Rattle.refusals.specs.Refusals.{number}
-use Rattle.bounds.specs.Tree.{Verdict, bound}
-use Rattle.bounds.specs.Tree as verdicts
-use Rattle.merges.specs.Merge.{merged}
-use Rattle.routine.specs.Routine.{Routine, readBound}
+use Rattle.bound_theory.specs.Tree.{Verdict, bound}
+use Rattle.bound_theory.specs.Tree as verdicts
+use Rattle.merge_theory.specs.Merge.{merged}
+use Rattle.file_format.specs.Routine.{Routine, readBound}
 use Rattle.answers.specs.Answers.{Answer, reported, refused, memoryLimit, lending, ofReading}
 use Rattle.decide_entry.specs.declared.Source.the-variants.{First, Merging}
 use Rattle.decide_entry.specs.Decision.{decisionText}

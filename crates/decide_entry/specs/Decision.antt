@@ -5,7 +5,7 @@ use mathlib.Core.List.{List, _++_}
 use lib.Dec.{ltb}
 use Rattle.text.specs.Text.{bytes}
 use Rattle.text.specs.Decimal.{decimal}
-use Rattle.bounds.specs.Tree.{Report}
+use Rattle.bound_theory.specs.Tree.{Report}
 use Rattle.report.specs.Report.{space, feed}
 use Rattle.decide_entry.specs.declared.Source.{Source}
 use Rattle.decide_entry.specs.declared.Source.the-variants.{First, Merging, Split}

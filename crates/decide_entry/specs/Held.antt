@@ -3,9 +3,9 @@ use Prim.Native.Nat.{ℕ, _≤_}
 use mathlib.Core.Path.{_≡_}
 use mathlib.Core.List.{List}
 use lib.ListN.{length}
-use Rattle.bounds.specs.Tree.{Report}
-use Rattle.findings.specs.declared.Found.{Found}
-use Rattle.report.specs.Decode.{reportOf}
+use Rattle.bound_theory.specs.Tree.{Report}
+use Rattle.bound_figures.specs.declared.Found.{Found}
+use Rattle.report.specs.HeldPath.{reportOf}
 use Rattle.answers.specs.Answers.{Answer, reported}
 
 -- the report that the figures found stand for

@@ -9,13 +9,13 @@ use Rattle.cells.specs.Cells.{unknown}
 use Rattle.cells.specs.Order.{Allowed}
 use Rattle.machine.specs.Machine.{State, Code, height, step}
 use Rattle.machine.specs.Order.{Cellwise}
-use Rattle.bounds.specs.Tree.{Report, accepted, refused, bound}
-use Rattle.bounds.specs.Traces.{cost, CostMax}
-use Rattle.bounds.specs.Run.{Run, begin, after, isStuck}
-use Rattle.bounds.specs.Promises.{LargestOver}
-use Rattle.merges.specs.Merge.{merged}
-use Rattle.merges.specs.Ways.{table, MergedPath}
-use Rattle.routine.specs.Routine.{Routine, routine, readBound}
+use Rattle.bound_theory.specs.Tree.{Report, accepted, refused, bound}
+use Rattle.bound_theory.specs.Traces.{cost, CostMax}
+use Rattle.bound_theory.specs.Run.{Run, begin, after, isStuck}
+use Rattle.bound_theory.specs.Promises.{LargestOver}
+use Rattle.merge_theory.specs.Merge.{merged}
+use Rattle.merge_theory.specs.Ways.{table, MergedPath}
+use Rattle.file_format.specs.Routine.{Routine, routine, readBound}
 use Rattle.report.specs.Report.{space}
 use Rattle.decide_entry.specs.declared.Source.{Source}
 use Rattle.decide_entry.specs.declared.Source.the-variants.{First, Merging, Split}

@@ -1,19 +1,19 @@
 // Whether a routine fits in its tick, on texts and lent memory. The meaning is in specs/.
 use answers::Answer;
-use findings::Found;
-use reader::Routine;
+use bound_figures::Found;
+use file_check::Reader;
+use file_reader::Routine;
 use refusals::Refusal;
 use refusals::Verdict;
-use rows::Reader;
 ghost use mathlib.Core.Path.{_≡_};
 ghost use mathlib.Core.Bool.{true};
 ghost use mathlib.Core.List.{_++_};
 ghost use Prim.Native.Nat.{_+_, _≤_};
 ghost use lib.ListN.{length, drop};
 ghost use Rattle.text.specs.Memory.{over};
-ghost use Rattle.bounds.specs.Tree.{bound, refused};
-ghost use Rattle.reader.specs.Reader.{Limited};
-ghost use Rattle.entry.specs.Held.{routineIn};
+ghost use Rattle.bound_theory.specs.Tree.{bound, refused};
+ghost use Rattle.file_reader.specs.HeldRoutine.{Limited};
+ghost use Rattle.file_entry.specs.Held.{routineIn};
 ghost use Rattle.answers.specs.Answers.{memory, answerOf, reportLength, Delivers};
 ghost use Rattle.decide_entry.specs.Decision.{decisionWords, decisionText};
 ghost use Rattle.decide_entry.specs.Answers.{forSize, decideRoutine, decideAnswer};
@@ -139,10 +139,10 @@ pub fn decide(text: &[u8], out: &mut [u8]) -> Answer
     ensures over { λ r. ⌜ Delivers (reportLength r) (now (out .exit)) (OverTick (now (text .entry))) ⌝ }
     ensures undecided { λ r. ⌜ Delivers (reportLength r) (now (out .exit)) (UndecidedTick (now (text .entry))) ⌝ }
 {
-    let verdict = entry::check(Reader::Bound, 128, out.len(), text);
+    let verdict = file_entry::check(Reader::Bound, 128, out.len(), text);
     match verdict {
         Verdict::Accepted => {
-            let routine = reader::routine_of(text);
+            let routine = file_reader::routine_of(text);
             decide_routine(routine, out)
         }
         Verdict::Refused(refusal) => Answer::Refused(refusal),

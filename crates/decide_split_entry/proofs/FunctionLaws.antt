@@ -8,15 +8,15 @@ use Rattle.refusals.specs.declared.Refusal.{Refusal}
 use Rattle.refusals.specs.declared.Verdict as checks
 use Rattle.refusals.specs.declared.Verdict.the-variants.{Accepted, Refused}
 use Rattle.text.specs.Text.{lines}
-use Rattle.bounds.specs.Tree.{Report, Verdict}
-use Rattle.bounds.specs.Tree as verdicts
-use Rattle.findings.specs.declared.Found.{Found}
-use Rattle.findings.specs.Found.{Shows}
-use Rattle.routine.specs.Rows.{Passes}
-use Rattle.routine.specs.Routine.{Routine, routineOf, readBound}
-use Rattle.routine.specs.Routine as readings
-use Rattle.routine.proofs.RowLaws.{read-passes}
-use Rattle.routine.proofs.RangeLaws.{tick-small}
+use Rattle.bound_theory.specs.Tree.{Report, Verdict}
+use Rattle.bound_theory.specs.Tree as verdicts
+use Rattle.bound_figures.specs.declared.Found.{Found}
+use Rattle.bound_figures.specs.HeldFigures.{Shows}
+use Rattle.file_format.specs.Rows.{Passes}
+use Rattle.file_format.specs.Routine.{Routine, routineOf, readBound}
+use Rattle.file_format.specs.Routine as readings
+use Rattle.file_format.proofs.RowLaws.{read-passes}
+use Rattle.file_format.proofs.RangeLaws.{tick-small}
 use Rattle.report.proofs.ReportLaws.{bound-small}
 use Rattle.answers.specs.Answers.{reported, refused, memoryLimit}
 use Rattle.answers.proofs.AnswerLaws.{never, from-reading, reading-passed}

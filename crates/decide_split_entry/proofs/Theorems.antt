@@ -11,11 +11,11 @@ use Rattle.refusals.specs.Refusals.{place}
 use Rattle.refusals.specs.declared.Verdict as checks
 use Rattle.refusals.specs.declared.Verdict.the-variants.{Accepted, Refused}
 use Rattle.text.specs.Text.{lines}
-use Rattle.bounds.specs.Tree.{Report, Verdict}
-use Rattle.routine.specs.Routine.{Routine, Reading, readBound}
-use Rattle.routine.specs.Routine as readings
-use Rattle.routine.proofs.RowLaws.{read-passes}
-use Rattle.routine.proofs.BranchLaws.{passing-forward, passing-closed}
+use Rattle.bound_theory.specs.Tree.{Report, Verdict}
+use Rattle.file_format.specs.Routine.{Routine, Reading, readBound}
+use Rattle.file_format.specs.Routine as readings
+use Rattle.file_format.proofs.RowLaws.{read-passes}
+use Rattle.file_format.proofs.BranchLaws.{passing-forward, passing-closed}
 use Rattle.report.specs.Report.{boundText}
 use Rattle.answers.specs.Answers.{Answer, refused, memoryLimit, ofReading}
 use Rattle.report_theory.specs.Answers.{ofVerdict}

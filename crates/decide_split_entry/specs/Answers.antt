@@ -2,7 +2,7 @@
 -- (docs/DECISIONS.md, The bound by cases)
 use Prim.Native.Nat.{ℕ}
 use mathlib.Core.List.{List}
-use Rattle.routine.specs.Routine.{Routine, readBound}
+use Rattle.file_format.specs.Routine.{Routine, readBound}
 use Rattle.answers.specs.Answers.{Answer, memoryLimit, lending, ofReading}
 use Rattle.report_theory.specs.Answers.{ofVerdict}
 use Rattle.split_theory.specs.Split.{split}

@@ -6,9 +6,9 @@ use mathlib.Core.List.{List}
 use mathlib.Core.Logic.{_↔_}
 use Rattle.refusals.specs.declared.Refusal.{Refusal}
 use Rattle.refusals.specs.declared.Verdict.the-variants.{Accepted}
-use Rattle.bounds.specs.Tree.{Report, accepted}
-use Rattle.routine.specs.Routine.{Routine, readBound}
-use Rattle.routine.specs.Routine as readings
+use Rattle.bound_theory.specs.Tree.{Report, accepted}
+use Rattle.file_format.specs.Routine.{Routine, readBound}
+use Rattle.file_format.specs.Routine as readings
 use Rattle.answers.specs.Answers.{reported, refused}
 use Rattle.split_theory.specs.Split.{split}
 use Rattle.split_theory.specs.Promises.{SplitFigures}

@@ -1,17 +1,17 @@
 // Whether a routine fits in its tick by the bound by cases, on texts and lent memory. The meaning is in specs/.
 use answers::Answer;
 use decide_entry::Source;
-use reader::Routine;
+use file_check::Reader;
+use file_reader::Routine;
 use refusals::Verdict;
-use rows::Reader;
 ghost use mathlib.Core.Path.{_≡_};
 ghost use Prim.Native.Nat.{_≤_};
 ghost use lib.ListN.{length};
 ghost use Rattle.text.specs.Text.{lines};
-ghost use Rattle.routine.specs.Routine.{routineOf};
-ghost use Rattle.reader.specs.Reader.{Limited};
+ghost use Rattle.file_format.specs.Routine.{routineOf};
+ghost use Rattle.file_reader.specs.HeldRoutine.{Limited};
 ghost use Rattle.answers.specs.Answers.{memory, answerOf, reportLength, Delivers};
-ghost use Rattle.entry.specs.Held.{routineIn};
+ghost use Rattle.file_entry.specs.Held.{routineIn};
 ghost use Rattle.decide_entry.specs.Held.{Roomy};
 ghost use Rattle.split_entry.specs.Held.{Read};
 ghost use Rattle.decide_split_entry.specs.Answers.{decideCases, decideSplitRoutine, decideSplitAnswer};
@@ -45,7 +45,7 @@ fn decide_passing(text: &[u8], cuts: &[u8], out: &mut [u8]) -> Answer
     let verdict = split_entry::check(text, cuts);
     match verdict {
         Verdict::Accepted => {
-            let routine = reader::routine_of(text);
+            let routine = file_reader::routine_of(text);
             decide_cases(routine, cuts, out)
         }
         Verdict::Refused(refusal) => Answer::Refused(refusal),
@@ -59,7 +59,7 @@ pub fn decide_split(text: &[u8], cuts: &[u8], out: &mut [u8]) -> Answer
     ensures keeps { λ r. ⌜ Delivers (reportLength r) (now (out .exit)) (KeepsTickByCases (now (text .entry)) (now (cuts .entry))) ⌝ }
     ensures undecided { λ r. ⌜ Delivers (reportLength r) (now (out .exit)) (UndecidedByCases (now (text .entry)) (now (cuts .entry))) ⌝ }
 {
-    let verdict = entry::check(Reader::Bound, 128, out.len(), text);
+    let verdict = file_entry::check(Reader::Bound, 128, out.len(), text);
     match verdict {
         Verdict::Accepted => decide_passing(text, cuts, out),
         Verdict::Refused(refusal) => Answer::Refused(refusal),

@@ -4,7 +4,7 @@ ghost use Prim.Native.Nat.{_≤_};
 ghost use lib.ListN.{length, take};
 ghost use Rattle.io.specs.Counts.{Counts};
 ghost use Rattle.console.specs.Line.{printed};
-ghost use Rattle.explanations.specs.Answers.{explainAnswer};
+ghost use Rattle.explain_entry.specs.Answers.{explainAnswer};
 
 // Puts what is printed for a text at the start of out, and answers how many bytes it is.
 fn answer(text: &[u8], out: &mut [u8]) -> usize
@@ -12,7 +12,7 @@ fn answer(text: &[u8], out: &mut [u8]) -> usize
     ensures { λ r. ⌜ Counts r (now (out .exit)) ⌝ }
     ensures { λ r. ⌜ take r (now (out .exit)) ≡ printed (explainAnswer (now (text .entry)) (length (now (out .entry)))) ⌝ }
 {
-    let answer = explanations::explain(text, out);
+    let answer = explain_entry::explain(text, out);
     console::put_line(answer, out)
 }
 

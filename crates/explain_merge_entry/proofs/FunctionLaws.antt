@@ -11,33 +11,33 @@ use Rattle.refusals.specs.declared.Verdict.the-variants.{Accepted}
 use Rattle.text.specs.Text.{Line, lines}
 use Rattle.cells.specs.Cells.{unknown}
 use Rattle.machine.specs.Machine.{step, reblock}
-use Rattle.states.specs.Program.{firstOf, linesIn, programOf}
-use Rattle.states.specs.View.{whole}
-use Rattle.states.proofs.ProgramLaws.{code-count, code-first}
-use Rattle.bounds.specs.Tree as bounds
-use Rattle.bounds.specs.Traces.{Move}
-use Rattle.findings.specs.declared.Found.{Found}
-use Rattle.findings.specs.Found.{Shows, acceptedAs}
-use Rattle.merges.specs.Merge.{span, only, merged}
+use Rattle.machine_state.specs.HeldProgram.{firstOf, linesIn, programOf}
+use Rattle.machine_state.specs.HeldState.{whole}
+use Rattle.machine_state.proofs.ProgramLaws.{code-count, code-first}
+use Rattle.bound_theory.specs.Tree as bounds
+use Rattle.bound_theory.specs.Traces.{Move}
+use Rattle.bound_figures.specs.declared.Found.{Found}
+use Rattle.bound_figures.specs.HeldFigures.{Shows, acceptedAs}
+use Rattle.merge_theory.specs.Merge.{span, only, merged}
 use Rattle.merge_way.specs.Way.{out, beside, nowhence, wayBack, costliestWay}
 use Rattle.merge_way.proofs.Theorems.{kept-beside}
-use Rattle.merge_origins.specs.Kept.{Keeps}
-use Rattle.routine.specs.Layout.{body}
-use Rattle.routine.specs.Routine.{readBound}
-use Rattle.routine.specs.Routine as readings
-use Rattle.routine.proofs.RowLaws.{read-passes}
-use Rattle.routine.proofs.RangeLaws.{tick-positive, tick-small}
-use Rattle.reader.specs.declared.Routine.{Routine}
-use Rattle.entry.specs.Held.{routineIn}
+use Rattle.merge_origins.specs.HeldOrigins.{Keeps}
+use Rattle.file_format.specs.Layout.{body}
+use Rattle.file_format.specs.Routine.{readBound}
+use Rattle.file_format.specs.Routine as readings
+use Rattle.file_format.proofs.RowLaws.{read-passes}
+use Rattle.file_format.proofs.RangeLaws.{tick-positive, tick-small}
+use Rattle.file_reader.specs.declared.Routine.{Routine}
+use Rattle.file_entry.specs.Held.{routineIn}
 use Rattle.report.specs.Report.{boundText}
 use Rattle.report.proofs.DecodeLaws.{report-of}
-use Rattle.listings.specs.Listing.{entries, listing}
-use Rattle.explain_merge_walk.specs.Lasts.{Lists, wayText}
+use Rattle.explain_lines.specs.Listing.{entries, listing}
+use Rattle.explain_merge_walk.specs.HeldLasts.{Lists, wayText}
 use Rattle.explain_merge_walk.proofs.Theorems.{way-text}
 use Rattle.answers.specs.Answers.{reported, refused}
 use Rattle.answers.proofs.AnswerLaws.{reading-passed}
-use Rattle.explanations.specs.Answers.{explanationLimit, entryNames}
-use Rattle.explanations.specs.Held.{reportIn}
+use Rattle.explain_entry.specs.Answers.{explanationLimit, entryNames}
+use Rattle.explain_entry.specs.Held.{reportIn}
 use Rattle.explain_merge_entry.specs.Answers.{mergeExplanationText, mergeExplained, explainMergeRoutine, explainMergeAnswer}
 use Rattle.explain_merge_entry.specs.Held.{originsIn, wayIn, mergeTextIn, MergePrintable}
 use Rattle.explain_merge_entry.proofs.Theorems.{merge-explanations-fit, forward, closed}

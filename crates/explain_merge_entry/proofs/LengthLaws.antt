@@ -14,13 +14,13 @@ use Rattle.machine.proofs.LeadLaws.{goes-there, opens-there}
 use Rattle.machine.proofs.ForwardLaws.{step-above}
 use Rattle.machine.proofs.HeightLaws.{Low}
 use Rattle.machine.proofs.PriceLaws.{AtMost, Both, Priced, is-stuck, stops-at, goes-at, opens-at, step-price}
-use Rattle.bounds.specs.Tree.{N, T}
-use Rattle.bounds.specs.Traces.{Move, goes-on, not-taken, taken}
-use Rattle.merges.specs.Merge.{held, slot, Table}
-use Rattle.merges.specs.Ways.{MergedPath, stop, go-on}
+use Rattle.bound_theory.specs.Tree.{N, T}
+use Rattle.bound_theory.specs.Traces.{Move, goes-on, not-taken, taken}
+use Rattle.merge_theory.specs.Merge.{held, slot, Table}
+use Rattle.merge_theory.specs.Ways.{MergedPath, stop, go-on}
 use Rattle.report.specs.Report.{pathText}
-use Rattle.listings.specs.Listing.{entriesFrom, listing}
-use Rattle.listings.proofs.LengthLaws.{total, Room, one-more, later}
+use Rattle.explain_lines.specs.Listing.{entriesFrom, listing}
+use Rattle.explain_lines.proofs.LengthLaws.{total, Room, one-more, later}
 
 -- ---- the prices of what a step leads to
 

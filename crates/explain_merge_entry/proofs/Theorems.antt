@@ -11,33 +11,33 @@ use Rattle.text.specs.Text.{Line, lines}
 use Rattle.machine.specs.Machine.{State, Price, height}
 use Rattle.machine.specs.Forward.{Forward}
 use Rattle.machine.specs.Targets.{Closed}
-use Rattle.bounds.specs.Tree.{Report, Verdict}
-use Rattle.bounds.specs.Tree as verdicts
-use Rattle.merges.specs.Merge.{held, slot, merged}
-use Rattle.merges.specs.Ways.{table}
-use Rattle.merges.proofs.FigureLaws.{merged-place}
-use Rattle.merges.proofs.Theorems.{merged-exact}
+use Rattle.bound_theory.specs.Tree.{Report, Verdict}
+use Rattle.bound_theory.specs.Tree as verdicts
+use Rattle.merge_theory.specs.Merge.{held, slot, merged}
+use Rattle.merge_theory.specs.Ways.{table}
+use Rattle.merge_theory.proofs.FigureLaws.{merged-place}
+use Rattle.merge_theory.proofs.Theorems.{merged-exact}
 use Rattle.merge_way.specs.Way.{costliestWay}
 use Rattle.merge_way.specs.Promises.{Costliest}
 use Rattle.merge_way.proofs.Theorems.{way-costliest}
-use Rattle.routine.specs.Layout.{body, layout}
-use Rattle.routine.specs.Rows.{Passes}
-use Rattle.routine.specs.Routine.{Routine, Reading, routineOf, readBound}
-use Rattle.routine.specs.Routine as readings
-use Rattle.routine.proofs.RowLaws.{read-passes}
-use Rattle.routine.proofs.PassingLaws.{code-few}
-use Rattle.routine.proofs.BranchLaws.{passing-forward, passing-closed}
-use Rattle.routine.proofs.PlaceLaws.{read-bound-place, confined, start-small}
+use Rattle.file_format.specs.Layout.{body, layout}
+use Rattle.file_format.specs.Rows.{Passes}
+use Rattle.file_format.specs.Routine.{Routine, Reading, routineOf, readBound}
+use Rattle.file_format.specs.Routine as readings
+use Rattle.file_format.proofs.RowLaws.{read-passes}
+use Rattle.file_format.proofs.PassingLaws.{code-few}
+use Rattle.file_format.proofs.BranchLaws.{passing-forward, passing-closed}
+use Rattle.file_format.proofs.PlaceLaws.{read-bound-place, confined, start-small}
 use Rattle.report.specs.Report.{boundText}
 use Rattle.report.proofs.ReportLaws.{bound-small, bound-fits}
 use Rattle.report_theory.proofs.SizeLaws.{code-length, priced, ticks, merged-limited}
-use Rattle.listings.specs.Listing.{entries, listing}
-use Rattle.listings.proofs.LengthLaws.{total, total-drop, total-lines}
+use Rattle.explain_lines.specs.Listing.{entries, listing}
+use Rattle.explain_lines.proofs.LengthLaws.{total, total-drop, total-lines}
 use Rattle.answers.specs.Answers.{Answer, reported, refused, memoryLimit, ofReading}
 use Rattle.answers.proofs.AnswerLaws.{never, from-reading, place-from, lent-enough}
 use Rattle.report_theory.specs.Answers.{ofVerdict, mergeRoutine, mergeAnswer}
-use Rattle.explanations.specs.Answers.{explanationLimit, entryNames}
-use Rattle.explanations.proofs.EntryLaws.{last-cost, last-words}
+use Rattle.explain_entry.specs.Answers.{explanationLimit, entryNames}
+use Rattle.explain_entry.proofs.EntryLaws.{last-cost, last-words}
 use Rattle.explain_merge_entry.specs.Answers.{mergeExplanationText, mergeExplained, explainMergeRoutine, explainMergeAnswer}
 use Rattle.explain_merge_entry.specs.Promises.{MergeExplanationsKept, MergeExplanationsFit, ExplainsMergingBound}
 use Rattle.explain_merge_entry.proofs.LengthLaws.{way-fits}

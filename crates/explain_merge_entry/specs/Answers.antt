@@ -3,16 +3,16 @@
 use Prim.Native.Nat.{ℕ}
 use mathlib.Core.List.{List, _++_}
 use Rattle.text.specs.Text.{Line, lines}
-use Rattle.bounds.specs.Tree.{Report, Verdict}
-use Rattle.bounds.specs.Tree as verdicts
-use Rattle.merges.specs.Merge.{merged}
+use Rattle.bound_theory.specs.Tree.{Report, Verdict}
+use Rattle.bound_theory.specs.Tree as verdicts
+use Rattle.merge_theory.specs.Merge.{merged}
 use Rattle.merge_way.specs.Way.{costliestWay}
-use Rattle.routine.specs.Layout.{body}
-use Rattle.routine.specs.Routine.{Routine, readBound}
+use Rattle.file_format.specs.Layout.{body}
+use Rattle.file_format.specs.Routine.{Routine, readBound}
 use Rattle.report.specs.Report.{boundText}
-use Rattle.listings.specs.Listing.{entries, listing}
+use Rattle.explain_lines.specs.Listing.{entries, listing}
 use Rattle.answers.specs.Answers.{Answer, reported, refused, lending, ofReading}
-use Rattle.explanations.specs.Answers.{explanationLimit, entryNames}
+use Rattle.explain_entry.specs.Answers.{explanationLimit, entryNames}
 
 -- the merging bound's two lines, then one line for each move of the costliest way, under a line of names; ls are the lines after the layout
 unfoldable pub mergeExplanationText : List Line → Routine → Report → List ℕ

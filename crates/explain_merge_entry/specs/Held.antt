@@ -6,14 +6,14 @@ use lib.ListN.{length}
 use Rattle.text.specs.Text.{Line}
 use Rattle.machine.specs.Forward.{Forward}
 use Rattle.machine.specs.Targets.{Closed}
-use Rattle.states.specs.Program.{firstOf}
-use Rattle.findings.specs.declared.Found.{Found}
+use Rattle.machine_state.specs.HeldProgram.{firstOf}
+use Rattle.bound_figures.specs.declared.Found.{Found}
 use Rattle.merge_way.specs.Way.{Origins, origins, costliestWay}
-use Rattle.reader.specs.declared.Routine.{Routine}
-use Rattle.entry.specs.Held.{routineIn}
-use Rattle.listings.specs.Listing.{entries, listing}
+use Rattle.file_reader.specs.declared.Routine.{Routine}
+use Rattle.file_entry.specs.Held.{routineIn}
+use Rattle.explain_lines.specs.Listing.{entries, listing}
 use Rattle.answers.specs.Answers.{reported}
-use Rattle.explanations.specs.Held.{reportIn}
+use Rattle.explain_entry.specs.Held.{reportIn}
 use Rattle.explain_merge_entry.specs.Answers.{mergeExplanationText, explainMergeRoutine}
 
 -- what is kept for each goal, of the routine that the code's arrays hold

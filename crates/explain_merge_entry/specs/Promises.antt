@@ -6,18 +6,18 @@ use mathlib.Core.Logic.{_↔_}
 use lib.ListN.{length}
 use Rattle.refusals.specs.declared.Refusal.{Refusal}
 use Rattle.text.specs.Text.{lines}
-use Rattle.bounds.specs.Tree.{Report, accepted}
-use Rattle.bounds.specs.Traces.{Move, wordSum}
-use Rattle.merges.specs.Merge.{merged}
+use Rattle.bound_theory.specs.Tree.{Report, accepted}
+use Rattle.bound_theory.specs.Traces.{Move, wordSum}
+use Rattle.merge_theory.specs.Merge.{merged}
 use Rattle.merge_way.specs.Promises.{Costliest}
-use Rattle.routine.specs.Layout.{body}
-use Rattle.routine.specs.Routine.{Routine, routine, readBound}
+use Rattle.file_format.specs.Layout.{body}
+use Rattle.file_format.specs.Routine.{Routine, routine, readBound}
 use Rattle.report.specs.Report.{boundText}
-use Rattle.listings.specs.Listing.{entries, listing}
+use Rattle.explain_lines.specs.Listing.{entries, listing}
 use Rattle.answers.specs.Answers.{reported, refused}
 use Rattle.report_theory.specs.Answers.{mergeAnswer}
-use Rattle.explanations.specs.Answers.{explanationLimit, entryNames}
-use Rattle.explanations.specs.Promises.{lastCycles, lastWords}
+use Rattle.explain_entry.specs.Answers.{explanationLimit, entryNames}
+use Rattle.explain_entry.specs.Promises.{lastCycles, lastWords}
 use Rattle.explain_merge_entry.specs.Answers.{explainMergeAnswer}
 
 -- the bytes that explain the merging bound of a text: of the routine x, which it accepts with the report q

@@ -1,21 +1,21 @@
 // The explanation of the merging bound on texts and lent memory: a costliest way through the merged states. The meaning is in specs/.
 use answers::Answer;
-use findings::Found;
-use reader::Routine;
+use bound_figures::Found;
+use file_check::Reader;
+use file_format::layout;
+use file_reader::Routine;
 use refusals::Verdict;
-use routine::layout;
-use rows::Reader;
 ghost use mathlib.Core.Path.{_≡_};
 ghost use mathlib.Core.List.{_++_};
 ghost use Prim.Native.Nat.{_+_, _≤_};
 ghost use lib.ListN.{length, drop};
 ghost use Rattle.text.specs.Text.{lines};
 ghost use Rattle.text.specs.Memory.{over};
-ghost use Rattle.states.specs.Program.{firstOf};
-ghost use Rattle.reader.specs.Reader.{Limited};
-ghost use Rattle.entry.specs.Held.{routineIn};
+ghost use Rattle.machine_state.specs.HeldProgram.{firstOf};
+ghost use Rattle.file_reader.specs.HeldRoutine.{Limited};
+ghost use Rattle.file_entry.specs.Held.{routineIn};
 ghost use Rattle.answers.specs.Answers.{memory, answerOf};
-ghost use Rattle.merge_origins.specs.Kept.{Goals, Keeps};
+ghost use Rattle.merge_origins.specs.HeldOrigins.{Goals, Keeps};
 ghost use Rattle.explain_merge_entry.specs.Answers.{explainMergeRoutine, explainMergeAnswer};
 ghost use Rattle.explain_merge_entry.specs.Held.{originsIn, wayIn, mergeTextIn, MergePrintable};
 
@@ -69,7 +69,7 @@ fn explain_routine(body: &[u8], routine: Routine, out: &mut [u8]) -> Answer
     let fields = routine.fields;
     let start = routine.start;
     let mut kept = [0; 6156];
-    let found = merging::sweep(&code, start, fields, &mut kept);
+    let found = merge_sweep::sweep(&code, start, fields, &mut kept);
     let verdict = found.verdict;
     match verdict {
         Verdict::Accepted => {
@@ -85,10 +85,10 @@ pub fn explain_merge(text: &[u8], out: &mut [u8]) -> Answer
     ensures { λ r. ⌜ r ≡ answerOf (explainMergeAnswer (now (text .entry)) (length (now (out .entry)))) ⌝ }
     ensures { λ _. ⌜ now (out .exit) ≡ memory (explainMergeAnswer (now (text .entry)) (length (now (out .entry)))) (now (out .entry)) ⌝ }
 {
-    let verdict = entry::check(Reader::Bound, 65536, out.len(), text);
+    let verdict = file_entry::check(Reader::Bound, 65536, out.len(), text);
     match verdict {
         Verdict::Accepted => {
-            let routine = reader::routine_of(text);
+            let routine = file_reader::routine_of(text);
             let body = layout::body_of(text);
             explain_routine(body, routine, out)
         }

@@ -7,11 +7,11 @@ use native.Mathlib.Omega.{arith}
 use lib.Dec.{eqb}
 use lib.ListN.{length, drop, set, length-set}
 use borrow.Author.Tests.{eqb-true, eqb-false, ne-eqb}
-use Rattle.bounds.specs.Traces.{Move}
-use Rattle.findings.proofs.PartLaws.{encode-positive}
+use Rattle.bound_theory.specs.Traces.{Move}
+use Rattle.bound_figures.proofs.PartLaws.{encode-positive}
 use Rattle.merge_way.specs.Way.{Goal, out, to, Kept, nothing, kept, Origins, wayBack}
-use Rattle.merge_origins.specs.Kept.{lastAt, IsLast, Holds, Keeps}
-use Rattle.explain_merge_walk.specs.Lasts.{Traced, Lists, none, more}
+use Rattle.merge_origins.specs.HeldOrigins.{lastAt, IsLast, Holds, Keeps}
+use Rattle.explain_merge_walk.specs.HeldLasts.{Traced, Lists, none, more}
 
 -- the goal of a number: the address of a row, or STOP
 unfoldable pub goalOf : ℕ → ℕ → Goal

@@ -8,16 +8,16 @@ use Rattle.text.specs.Text.{Line, noLine}
 use Rattle.text.specs.Memory.{over}
 use Rattle.text.proofs.MemoryLaws.{Wrote, wrote-none, wrote-more}
 use Rattle.machine.specs.Machine.{height}
-use Rattle.bounds.specs.Tree.{Decision, Report}
-use Rattle.bounds.specs.Traces.{Move}
-use Rattle.findings.specs.Found.{encode}
-use Rattle.report.specs.Decode.{decode, reportOf}
+use Rattle.bound_theory.specs.Tree.{Decision, Report}
+use Rattle.bound_theory.specs.Traces.{Move}
+use Rattle.bound_figures.specs.HeldFigures.{encode}
+use Rattle.report.specs.HeldPath.{decode, reportOf}
 use Rattle.report.proofs.DecodeLaws.{report-of}
-use Rattle.listings.specs.Listing.{entriesFrom, codeText, entryText, listing}
+use Rattle.explain_lines.specs.Listing.{entriesFrom, codeText, entryText, listing}
 use Rattle.merge_origins.specs.declared.Last.{Last}
-use Rattle.merge_origins.specs.Kept.{lastAt}
+use Rattle.merge_origins.specs.HeldOrigins.{lastAt}
 use Rattle.explain_merge_walk.proofs.BackLaws.{drop-none}
-use Rattle.explain_merge_walk.specs.Lasts.{Lists, none, more, Usable, wayText}
+use Rattle.explain_merge_walk.specs.HeldLasts.{Lists, none, more, Usable, wayText}
 
 -- ---- the lines are those of the moves
 

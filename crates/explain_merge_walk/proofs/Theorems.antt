@@ -5,11 +5,11 @@ use mathlib.Core.Path.{_≡_}
 use mathlib.Core.List.{List}
 use native.Mathlib.Omega.{arith}
 use Rattle.text.specs.Text.{Line}
-use Rattle.bounds.specs.Traces.{Move}
-use Rattle.listings.specs.Listing.{entries, listing}
+use Rattle.bound_theory.specs.Traces.{Move}
+use Rattle.explain_lines.specs.Listing.{entries, listing}
 use Rattle.merge_way.specs.Way.{Origins}
-use Rattle.merge_origins.specs.Kept.{Keeps}
-use Rattle.explain_merge_walk.specs.Lasts.{Traced, Lists, none, more, Usable, wayText}
+use Rattle.merge_origins.specs.HeldOrigins.{Keeps}
+use Rattle.explain_merge_walk.specs.HeldLasts.{Traced, Lists, none, more, Usable, wayText}
 use Rattle.explain_merge_walk.proofs.BackLaws.{moving}
 use Rattle.explain_merge_walk.proofs.LineLaws.{text-from}
 

@@ -1,1 +1,1 @@
-pub mod Lasts
+pub mod HeldLasts

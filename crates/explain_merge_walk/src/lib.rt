@@ -1,5 +1,5 @@
 // The costliest way of the merging bound: found backwards from STOP, and its lines written into lent memory. The meaning is in specs/.
-use listings::Cursor;
+use explain_lines::Cursor;
 ghost use mathlib.Core.Path.{_≡_};
 ghost use mathlib.Core.List.{[]};
 ghost use Prim.Native.Nat.{ℕ, _+_, _≤_, _<_};
@@ -7,8 +7,8 @@ ghost use lib.ListN.{length, drop};
 ghost use Rattle.text.specs.Text.{lines};
 ghost use Rattle.text.specs.Memory.{over};
 ghost use Rattle.merge_way.specs.Way.{out, Origins, wayBack};
-ghost use Rattle.merge_origins.specs.Kept.{Goals, Keeps};
-ghost use Rattle.explain_merge_walk.specs.Lasts.{Traced, Lists, Usable, wayText};
+ghost use Rattle.merge_origins.specs.HeldOrigins.{Goals, Keeps};
+ghost use Rattle.explain_merge_walk.specs.HeldLasts.{Traced, Lists, Usable, wayText};
 
 // The goals of the moves of the costliest way, from the place that is answered on: at most `most` of them, of which the last is STOP.
 pub fn way_back(kept: &[u64], most: usize, goals: &mut [u64]) -> usize
@@ -47,9 +47,9 @@ pub fn put_way(out: &mut [u8], at: usize, body: &[u8], kept: &[u64], goals: &[u6
         let l = merge_origins::last_of(kept, goals[i] as usize);
         spent = spent + l.cycles;
         sum = sum + l.words;
-        cursor = listings::seek(body, cursor, l.row as usize);
-        let line = listings::line_under(body, cursor);
-        e = listings::put_entry(out, e, line, spent, sum, l.depth, l.way);
+        cursor = explain_lines::seek(body, cursor, l.row as usize);
+        let line = explain_lines::line_under(body, cursor);
+        e = explain_lines::put_entry(out, e, line, spent, sum, l.depth, l.way);
         i += 1;
     }
     e

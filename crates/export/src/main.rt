@@ -4,7 +4,7 @@ ghost use Prim.Native.Nat.{_≤_};
 ghost use lib.ListN.{length, take};
 ghost use Rattle.io.specs.Counts.{Counts};
 ghost use Rattle.console.specs.Line.{printed};
-ghost use Rattle.conversions.specs.Answers.{exportAnswer};
+ghost use Rattle.words_entry.specs.Answers.{exportAnswer};
 
 // Puts what is printed for a text at the start of out, and answers how many bytes it is.
 fn answer(text: &[u8], out: &mut [u8]) -> usize
@@ -12,7 +12,7 @@ fn answer(text: &[u8], out: &mut [u8]) -> usize
     ensures { λ r. ⌜ Counts r (now (out .exit)) ⌝ }
     ensures { λ r. ⌜ take r (now (out .exit)) ≡ printed (exportAnswer (now (text .entry)) (length (now (out .entry)))) ⌝ }
 {
-    let answer = conversions::export(text, out);
+    let answer = words_entry::export(text, out);
     console::put_line(answer, out)
 }
 

@@ -5,7 +5,7 @@ ghost use Prim.Native.Nat.{_≤_};
 ghost use lib.ListN.{length, take};
 ghost use Rattle.io.specs.Counts.{Counts};
 ghost use Rattle.console.specs.Line.{printed};
-ghost use Rattle.generating.specs.Answers.{generateAnswer};
+ghost use Rattle.generate_entry.specs.Answers.{generateAnswer};
 
 // Puts what is printed for a seed at the start of out, and answers how many bytes it is.
 fn answer(seed: u32, out: &mut [u8]) -> usize
@@ -13,7 +13,7 @@ fn answer(seed: u32, out: &mut [u8]) -> usize
     ensures { λ r. ⌜ Counts r (now (out .exit)) ⌝ }
     ensures { λ r. ⌜ take r (now (out .exit)) ≡ printed (generateAnswer seed (length (now (out .entry)))) ⌝ }
 {
-    let answer = generating::generate(seed, out);
+    let answer = generate_entry::generate(seed, out);
     console::put_line(answer, out)
 }
 

@@ -5,7 +5,7 @@ ghost use Prim.Native.Nat.{_≤_};
 ghost use lib.ListN.{length, take};
 ghost use Rattle.io.specs.Counts.{Counts};
 ghost use Rattle.console.specs.Line.{printed};
-ghost use Rattle.conversions.specs.Answers.{importAnswer};
+ghost use Rattle.words_entry.specs.Answers.{importAnswer};
 
 // Puts what is printed for words and a primitives line at the start of out, and answers how many bytes it is.
 fn answer(words: &[u8], primitives: &[u8], out: &mut [u8]) -> usize
@@ -13,7 +13,7 @@ fn answer(words: &[u8], primitives: &[u8], out: &mut [u8]) -> usize
     ensures { λ r. ⌜ Counts r (now (out .exit)) ⌝ }
     ensures { λ r. ⌜ take r (now (out .exit)) ≡ printed (importAnswer (now (words .entry)) (now (primitives .entry)) (length (now (out .entry)))) ⌝ }
 {
-    let answer = conversions::import(words, primitives, out);
+    let answer = words_entry::import(words, primitives, out);
     console::put_line(answer, out)
 }
 

@@ -19,7 +19,7 @@ use Rattle.numbers.specs.declared.Range.{Range}
 use Rattle.instructions.specs.declared.Argument.{Argument}
 use Rattle.instructions.specs.declared.Argument.the-variants.{Absent, Target, Primitive, Within}
 use Rattle.instructions.specs.Kinds.{addresses, Kind, kinds, kindNames}
-use Rattle.instructions.specs.Columns.{kindAt, argumentCode, rangeOf}
+use Rattle.instructions.specs.HeldColumns.{kindAt, argumentCode, rangeOf}
 
 -- within a list the default does not matter
 pub getD-any : {A : Type 0} (l : List A) (k : ℕ) (d e : A) → k < length l → getD l k d ≡ getD l k e

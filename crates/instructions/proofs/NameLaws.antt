@@ -17,7 +17,7 @@ use Rattle.text.specs.declared.Place.{Place}
 use Rattle.text.specs.declared.Place.the-variants.{At, Missing}
 use Rattle.text.proofs.TextLaws.{and-left, and-right, every-getD, every-map, all-every, among-every, among-at, isFound, among-place, equals-path, equals-self, among-find}
 use Rattle.instructions.specs.Kinds.{kinds, kindNames}
-use Rattle.instructions.specs.Columns.{kindAt, nameStart, nameKey, Keyed, Joined}
+use Rattle.instructions.specs.HeldColumns.{kindAt, nameStart, nameKey, Keyed, Joined}
 use Rattle.instructions.proofs.ColumnLaws.{names-count, column-at, kind-small}
 
 -- a test that passes at each number below n

@@ -6,7 +6,7 @@ ghost use lib.ListN.{length};
 ghost use Rattle.text.specs.Text.{equals, place, among};
 ghost use Rattle.text.specs.Memory.{over};
 ghost use Rattle.instructions.specs.Kinds.{kindNames, calls};
-ghost use Rattle.instructions.specs.Columns.{kindAt, nameStart, nameKey, Keyed, Begins, Joined, argumentCode, rangeOf, operationCode};
+ghost use Rattle.instructions.specs.HeldColumns.{kindAt, nameStart, nameKey, Keyed, Begins, Joined, argumentCode, rangeOf, operationCode};
 ghost use Rattle.instructions.specs.Opcodes.{kindCoded, ByOpcode};
 use cells::Binary;
 use cells::Unary;

@@ -10,7 +10,7 @@ use Rattle.cells.specs.declared.Cell.{Cell}
 use Rattle.cells.specs.Cells as cells
 use Rattle.cells.specs.Cells.{range, number, unknown, handle, calculate₁, calculate₂, results, range₂, wider, judged, always, map₁, map₂, operate₁, operate₂, conditionIn, condition, handled, block}
 use Rattle.instructions.specs.Kinds.{kinds, kindNames, operand}
-use Rattle.instructions.specs.Columns.{kindAt}
+use Rattle.instructions.specs.HeldColumns.{kindAt}
 use Rattle.machine.specs.Lists.{nth, put, without}
 use Rattle.machine.specs.Machine.{instruction, State, Price, Code, fetch, goes, opens, height, jump, load, restack, reblock, push, pop, store, getField, setField, advance, ahead, withExtra, ways, opposite, perform, prepare, execute, step}
 

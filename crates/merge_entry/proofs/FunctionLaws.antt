@@ -2,9 +2,9 @@
 use Prim.Native.Nat.{ℕ, _≤_}
 use mathlib.Core.Path.{_≡_, _∙_}
 use mathlib.Core.List.{List}
-use Rattle.routine.specs.Routine.{readBound}
-use Rattle.routine.specs.Routine as readings
-use Rattle.routine.proofs.RowLaws.{read-passes}
+use Rattle.file_format.specs.Routine.{readBound}
+use Rattle.file_format.specs.Routine as readings
+use Rattle.file_format.proofs.RowLaws.{read-passes}
 use Rattle.answers.specs.Answers.{memoryLimit, memory, answerOf, reportLength, Delivers}
 use Rattle.answers.specs.declared.Answer as code
 use Rattle.answers.proofs.AnswerLaws.{reading-passed, delivers}

@@ -4,15 +4,15 @@ use mathlib.Core.Path.{_≡_, refl}
 use mathlib.Core.List.{List, [], _∷_}
 use native.Mathlib.Omega.{arith}
 use Rattle.machine.specs.Machine.{State, Price, jump}
-use Rattle.bounds.specs.Tree.{N, T}
-use Rattle.bounds.specs.Traces.{move}
-use Rattle.steps.specs.declared.Price as code
-use Rattle.steps.specs.declared.Next.{Next}
-use Rattle.steps.specs.declared.Next.the-variants.{Stuck, Stops, Goes, Opens}
-use Rattle.steps.specs.Step.{ofPrice, ofNext}
-use Rattle.findings.specs.Found.{encode}
+use Rattle.bound_theory.specs.Tree.{N, T}
+use Rattle.bound_theory.specs.Traces.{move}
+use Rattle.machine_step.specs.declared.Price as code
+use Rattle.machine_step.specs.declared.Next.{Next}
+use Rattle.machine_step.specs.declared.Next.the-variants.{Stuck, Stops, Goes, Opens}
+use Rattle.machine_step.specs.HeldStep.{ofPrice, ofNext}
+use Rattle.bound_figures.specs.HeldFigures.{encode}
 use Rattle.merge_way.specs.Way.{out, to, Origins, mark, marks, marked}
-use Rattle.merge_origins.specs.Kept.{Keeps}
+use Rattle.merge_origins.specs.HeldOrigins.{Keeps}
 
 -- the decisions of a move as numbers
 pub way-none : 1 ≡ encode []

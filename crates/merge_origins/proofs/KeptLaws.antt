@@ -8,16 +8,16 @@ use lib.Dec.{eqb, ltb}
 use lib.ListN.{replicate, length, getD, set, length-set}
 use lib.Seq.{getD-set-same, getD-set-other}
 use borrow.Author.Tests.{eqb-true, eqb-false, eq-eqb, ne-eqb, ltb-true, ltb-false, lt-ltb, le-ltb}
-use Rattle.findings.specs.Found.{encode}
-use Rattle.findings.proofs.PartLaws.{encode-positive}
+use Rattle.bound_figures.specs.HeldFigures.{encode}
+use Rattle.bound_figures.proofs.PartLaws.{encode-positive}
 use Rattle.machine.specs.Machine.{State, Price, height}
-use Rattle.bounds.specs.Tree.{Decision}
-use Rattle.bounds.specs.Traces.{Move, move}
-use Rattle.steps.specs.declared.Price as code
-use Rattle.steps.specs.Step.{ofPrice, SmallPrice}
+use Rattle.bound_theory.specs.Tree.{Decision}
+use Rattle.bound_theory.specs.Traces.{Move, move}
+use Rattle.machine_step.specs.declared.Price as code
+use Rattle.machine_step.specs.HeldStep.{ofPrice, SmallPrice}
 use Rattle.merge_way.specs.Way.{out, to, same, Kept, nothing, kept, keep, Origins, nowhence, mark}
 use Rattle.merge_origins.specs.declared.Last.{Last}
-use Rattle.merge_origins.specs.Kept.{lastAt, keepLast, lastBy, IsLast, Holds, Keeps}
+use Rattle.merge_origins.specs.HeldOrigins.{lastAt, keepLast, lastBy, IsLast, Holds, Keeps}
 
 -- ---- numbers are put down
 

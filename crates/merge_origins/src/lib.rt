@@ -1,7 +1,7 @@
 // What is kept beside the rows of the merging bound: for each goal of a way, which is the address of a row or STOP, the last move of the
 // costliest way that has come to it. The meaning is in specs/.
-use steps::Next;
-use steps::Price;
+use machine_step::Next;
+use machine_step::Price;
 ghost use mathlib.Core.Path.{_≡_};
 ghost use mathlib.Core.Bool.{cond};
 ghost use Prim.Native.Nat.{ℕ, _+_, _*_, _<_, _≤_};
@@ -9,14 +9,14 @@ ghost use lib.Dec.{eqb};
 ghost use lib.ListN.{length};
 ghost use Rattle.machine.specs.Machine as machine;
 ghost use Rattle.machine.specs.Machine.{State, height};
-ghost use Rattle.states.specs.Program.{firstOf, IsProgram};
-ghost use Rattle.bounds.specs.Traces.{Move};
-ghost use Rattle.steps.specs.Step.{ofNext, Small, SmallPrice};
+ghost use Rattle.machine_state.specs.HeldProgram.{firstOf, IsProgram};
+ghost use Rattle.bound_theory.specs.Traces.{Move};
+ghost use Rattle.machine_step.specs.HeldStep.{ofNext, Small, SmallPrice};
 ghost use Rattle.merge_way.specs.Way.{to, Origins, mark, marked};
-ghost use Rattle.merge_origins.specs.Kept.{Goals, lastAt, keepLast, lastBy, IsLast, Keeps};
+ghost use Rattle.merge_origins.specs.HeldOrigins.{Goals, lastAt, keepLast, lastBy, IsLast, Keeps};
 
 // The last move of a way to a goal: its decision as a path of its own, the cycles of the way with this move, the cycles and the words of
-// the move, the height of the stack before it, and the row of its address. Paths are numbers, as in `findings`, so that 0 is none.
+// the move, the height of the stack before it, and the row of its address. Paths are numbers, as in `bound_figures`, so that 0 is none.
 pub struct Last {
     pub way: u64,
     pub sum: u64,

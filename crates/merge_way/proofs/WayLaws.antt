@@ -17,13 +17,13 @@ use Rattle.machine.specs.Targets.{Closed}
 use Rattle.machine.proofs.LeadLaws.{goes-there, opens-there}
 use Rattle.machine.proofs.TargetLaws.{Onward, step-onward}
 use Rattle.machine.proofs.FetchLaws.{stuck-not, from-first, fetch-below}
-use Rattle.bounds.specs.Tree.{Report, accepted}
-use Rattle.bounds.specs.Traces.{Move, move, Transition, goes-on, not-taken, taken, cost}
-use Rattle.bounds.specs.Promises.{LargestOver}
-use Rattle.merges.specs.Merge.{Arrival, arrival, Slot, empty, unlike, held, slot, Table, end, span, merged}
-use Rattle.merges.specs.Ways.{table, Among, MergedPath, stop, go-on, Comes, begins, follows}
-use Rattle.merges.specs.Promises.{Gathered}
-use Rattle.merges.proofs.Theorems.{table-gathered, merged-exact}
+use Rattle.bound_theory.specs.Tree.{Report, accepted}
+use Rattle.bound_theory.specs.Traces.{Move, move, Transition, goes-on, not-taken, taken, cost}
+use Rattle.bound_theory.specs.Promises.{LargestOver}
+use Rattle.merge_theory.specs.Merge.{Arrival, arrival, Slot, empty, unlike, held, slot, Table, end, span, merged}
+use Rattle.merge_theory.specs.Ways.{table, Among, MergedPath, stop, go-on, Comes, begins, follows}
+use Rattle.merge_theory.specs.Promises.{Gathered}
+use Rattle.merge_theory.proofs.Theorems.{table-gathered, merged-exact}
 use Rattle.merge_way.specs.Way.{spentIn, spentAt, Goal, out, to, Kept, nothing, kept, origins, wayBack, costliestWay, place, linesFrom}
 use Rattle.merge_way.specs.Promises.{MergedTrace, here, further, Leaves, ends, leads, Before, itself, more, lower, Costliest, lineAt}
 use Rattle.merge_way.specs.Promises as promises

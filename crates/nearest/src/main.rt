@@ -3,7 +3,7 @@ ghost use mathlib.Core.Path.{_≡_};
 ghost use Prim.Native.Nat.{_≤_};
 ghost use lib.ListN.{length, take};
 ghost use Rattle.io.specs.Counts.{Counts};
-ghost use Rattle.sensitivity.specs.Answers.{nearestAnswer};
+ghost use Rattle.nearest_entry.specs.Answers.{nearestAnswer};
 ghost use Rattle.console.specs.Line.{printed};
 
 // Puts what is printed for a text at the start of out, and answers how many bytes it is.
@@ -12,7 +12,7 @@ fn answer(text: &[u8], out: &mut [u8]) -> usize
     ensures { λ r. ⌜ Counts r (now (out .exit)) ⌝ }
     ensures { λ r. ⌜ take r (now (out .exit)) ≡ printed (nearestAnswer (now (text .entry)) (length (now (out .entry)))) ⌝ }
 {
-    let answer = sensitivity::nearest(text, out);
+    let answer = nearest_entry::nearest(text, out);
     console::put_line(answer, out)
 }
 

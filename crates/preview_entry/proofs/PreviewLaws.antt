@@ -12,14 +12,14 @@ use Rattle.refusals.specs.declared.Refusal.{Refusal}
 use Rattle.refusals.specs.declared.Refusal.the-variants.{ReportMemory, TextLength, BadName}
 use Rattle.refusals.specs.Refusals.{place}
 use Rattle.text.specs.Text.{lines}
-use Rattle.routine.specs.Routine.{Reading, readBound, textLimit}
-use Rattle.routine.specs.Routine as readings
-use Rattle.routine.proofs.RowLaws.{too-long}
-use Rattle.routine.proofs.PlaceLaws.{read-bound-place}
+use Rattle.file_format.specs.Routine.{Reading, readBound, textLimit}
+use Rattle.file_format.specs.Routine as readings
+use Rattle.file_format.proofs.RowLaws.{too-long}
+use Rattle.file_format.proofs.PlaceLaws.{read-bound-place}
 use Rattle.answers.specs.Answers.{Answer, reported, refused, memoryLimit, ofReading}
 use Rattle.answers.proofs.AnswerLaws.{never, from-reading, reading-refused, lent-enough}
-use Rattle.patches.specs.Patch.{inCode, patched}
-use Rattle.patches.specs.Held.{within, copyAnswer}
+use Rattle.preview_copy.specs.Patch.{inCode, patched}
+use Rattle.preview_copy.specs.Held.{within, copyAnswer}
 use Rattle.report_theory.specs.Answers.{boundRoutine, boundAnswer}
 use Rattle.report_theory.proofs.AnswerLaws.{reports-kept, bound-reported, bound-refusal-place}
 use Rattle.preview_entry.specs.Answers.{previewAnswer}

@@ -4,7 +4,7 @@ use mathlib.Core.Path.{_≡_}
 use mathlib.Core.List.{List}
 use Rattle.text.specs.Text.{lines}
 use Rattle.answers.specs.Answers.{reported}
-use Rattle.patches.specs.Patch.{patched}
+use Rattle.preview_copy.specs.Patch.{patched}
 use Rattle.report_theory.specs.Promises.{SafeReport, ExactReport}
 use Rattle.preview_entry.specs.Answers.{previewAnswer}
 

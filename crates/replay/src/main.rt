@@ -5,7 +5,7 @@ ghost use Prim.Native.Nat.{_≤_};
 ghost use lib.ListN.{length, take};
 ghost use Rattle.io.specs.Counts.{Counts};
 ghost use Rattle.console.specs.Line.{printed};
-ghost use Rattle.conformance.specs.Answers.{replayAnswer};
+ghost use Rattle.replay_entry.specs.Answers.{replayAnswer};
 
 // Puts what is printed for a text and a trace at the start of out, and answers how many bytes it is.
 fn answer(text: &[u8], trace: &[u8], out: &mut [u8]) -> usize
@@ -13,7 +13,7 @@ fn answer(text: &[u8], trace: &[u8], out: &mut [u8]) -> usize
     ensures { λ r. ⌜ Counts r (now (out .exit)) ⌝ }
     ensures { λ r. ⌜ take r (now (out .exit)) ≡ printed (replayAnswer (now (text .entry)) (now (trace .entry)) (length (now (out .entry)))) ⌝ }
 {
-    let answer = conformance::replay(text, trace, out);
+    let answer = replay_entry::replay(text, trace, out);
     console::put_line(answer, out)
 }
 

@@ -6,10 +6,10 @@ use mathlib.Core.List.{List, [], _∷_}
 use native.Mathlib.Omega.{arith}
 use lib.Dec.{ltb}
 use borrow.Author.Tests.{lt-ltb, le-ltb, ltb-false}
-use Rattle.bounds.specs.Tree.{Report, Decision, N, T}
-use Rattle.findings.specs.Found.{encode}
-use Rattle.findings.proofs.PartLaws.{encode-positive}
-use Rattle.report.specs.Decode.{decision, decisions, decode, reportOf}
+use Rattle.bound_theory.specs.Tree.{Report, Decision, N, T}
+use Rattle.bound_figures.specs.HeldFigures.{encode}
+use Rattle.bound_figures.proofs.PartLaws.{encode-positive}
+use Rattle.report.specs.HeldPath.{decision, decisions, decode, reportOf}
 
 -- more fuel changes nothing
 decisions-fuel : (f g n : ℕ) → n ≤ f → n ≤ g → decisions f n ≡ decisions g n

@@ -6,7 +6,7 @@ use Rattle.refusals.specs.declared.Refusal.the-variants.{Spent}
 use Rattle.text.specs.Text.{bytes}
 use Rattle.text.specs.Decimal.{digits, decimal}
 use Rattle.report.specs.Report.{share, pathText, figures, runText, refusalLine, refusalText}
-use Rattle.report.specs.Decode.{decisions, decode}
+use Rattle.report.specs.HeldPath.{decisions, decode}
 
 pub examples :
     -- "65 cycles with TICK 2000 gives 32, and 67 gives 34"; what is no exact half is not rounded to the even one

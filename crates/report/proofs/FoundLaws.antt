@@ -4,11 +4,11 @@ use mathlib.Core.Path.{_≡_, ap}
 use Rattle.refusals.specs.declared.Refusal.{Refusal}
 use Rattle.refusals.specs.declared.Verdict.the-variants as verdicts
 use Rattle.refusals.specs.declared.Verdict.the-variants.{Accepted}
-use Rattle.findings.specs.declared.Found.{Found}
+use Rattle.bound_figures.specs.declared.Found.{Found}
 use Rattle.answers.specs.Answers.{reported}
 use Rattle.answers.specs.Answers as answers
 use Rattle.report.specs.Report.{boundText}
-use Rattle.report.specs.Decode.{reportOf}
+use Rattle.report.specs.HeldPath.{reportOf}
 use Rattle.report.specs.Held.{judgedAs, foundAnswer}
 
 pub judged-accepted : (tick : ℕ) (f : Found) → f .verdict ≡ Accepted

@@ -10,7 +10,7 @@ use Rattle.text.specs.Text.{bytes}
 use Rattle.text.specs.Memory.{over}
 use Rattle.text.proofs.MemoryLaws.{over-none}
 use Rattle.report.specs.Report.{letter, pathText}
-use Rattle.report.specs.Decode.{decision, decode}
+use Rattle.report.specs.HeldPath.{decision, decode}
 use Rattle.report.proofs.DecodeLaws.{decode-none, decode-more}
 
 -- the letters of the decisions of n

@@ -11,8 +11,8 @@ use lib.ListN.{length, length-append, length-map}
 use borrow.Author.Tests.{lt-ltb, le-ltb, ltb-true, ltb-false}
 use Rattle.text.specs.Decimal.{decimal}
 use Rattle.text.proofs.DecimalLaws.{decimal-length}
-use Rattle.bounds.specs.Tree.{Report, Decision}
-use Rattle.bounds.proofs.FigureLaws.{Bounded}
+use Rattle.bound_theory.specs.Tree.{Report, Decision}
+use Rattle.bound_theory.proofs.FigureLaws.{Bounded}
 use Rattle.report.specs.Report.{share, Nearest, letter, pathText, figures, boundText, runText}
 
 -- SHARE by what is left over: less than a half, more than a half, a half

@@ -5,10 +5,10 @@ use mathlib.Core.List.{List}
 use lib.ListN.{length}
 use Rattle.refusals.specs.declared.Verdict as code
 use Rattle.refusals.specs.declared.Verdict.the-variants.{Accepted, Refused}
-use Rattle.findings.specs.declared.Found.{Found}
+use Rattle.bound_figures.specs.declared.Found.{Found}
 use Rattle.answers.specs.Answers.{Answer, reported, refused}
 use Rattle.report.specs.Report.{boundText}
-use Rattle.report.specs.Decode.{reportOf}
+use Rattle.report.specs.HeldPath.{reportOf}
 
 -- CYCLES is small enough for the numbers that SHARE is computed with
 pub record Shareable (found : Found) : Type 0 where

@@ -8,7 +8,7 @@ use Rattle.refusals.specs.Refusals.{number, place}
 use Rattle.refusals.specs.declared.Refusal.{Refusal}
 use Rattle.text.specs.Text.{bytes}
 use Rattle.text.specs.Decimal.{decimal}
-use Rattle.bounds.specs.Tree.{Report, Decision, N, T}
+use Rattle.bound_theory.specs.Tree.{Report, Decision, N, T}
 
 -- "SHARE is CYCLES × 1000 / TICK to the nearest whole number": its whole part where less than a half is left over, and 1 more where more
 -- than a half is; "SHARE at an exact half goes to the even whole number" (document 02 §6): 1 more where the whole part is odd

@@ -1,6 +1,6 @@
 // The printed report and the line of a refusal, written into lent memory. The meaning is in specs/.
 use answers::Answer;
-use findings::Found;
+use bound_figures::Found;
 use refusals::Verdict;
 ghost use mathlib.Core.Path.{_≡_};
 ghost use mathlib.Core.List.{_++_};
@@ -9,7 +9,7 @@ ghost use lib.ListN.{length, drop};
 ghost use Rattle.text.specs.Memory.{over};
 ghost use Rattle.answers.specs.Answers.{memory, answerOf};
 ghost use Rattle.report.specs.Report.{share, letter, pathText, figures, boundText, runText, refusalLine};
-ghost use Rattle.report.specs.Decode.{decision, decode, reportOf};
+ghost use Rattle.report.specs.HeldPath.{decision, decode, reportOf};
 ghost use Rattle.report.specs.Held.{Shareable, Printable, foundAnswer};
 
 // SHARE: the cycles in thousandths of a tick, to the nearest whole number, and at an exact half to the even one.

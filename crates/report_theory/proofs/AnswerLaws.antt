@@ -15,29 +15,29 @@ use Rattle.text.specs.Text.{Line, lines, all}
 use Rattle.text.proofs.TextLaws.{Every, more}
 use Rattle.machine.specs.Forward.{Forward}
 use Rattle.machine.specs.Targets.{Closed}
-use Rattle.bounds.specs.Tree.{Report, Verdict, openingLimit, bound}
-use Rattle.bounds.specs.Tree as verdicts
-use Rattle.bounds.specs.Run.{begin, after, run}
-use Rattle.bounds.specs.Promises.{NoGreater, SinglePass}
-use Rattle.bounds.proofs.PromiseLaws.{interruptible, bound-exact, run-within-bound}
-use Rattle.bounds.proofs.PlaceLaws.{bound-place, run-place}
-use Rattle.bounds.proofs.ForwardLaws.{forward-once}
-use Rattle.merges.specs.Merge.{merged}
-use Rattle.merges.specs.Ways.{table}
-use Rattle.merges.specs.Promises.{NotSmaller}
-use Rattle.merges.proofs.Theorems.{merged-interruptible, run-within-merged, merged-not-smaller, refused-for-size, merged-covers-paths, table-gathered, merged-exact}
-use Rattle.merges.proofs.FigureLaws.{merged-place}
-use Rattle.refinements.proofs.RunLaws.{judged-figures}
-use Rattle.routine.specs.Layout.{body, codeLines}
-use Rattle.routine.specs.Routine.{Routine, Reading, routineOf, readBound, readRun}
-use Rattle.routine.specs.Routine as readings
-use Rattle.routine.specs.Rows.{Passes}
-use Rattle.routine.proofs.RowLaws.{read-passes, run-passes}
-use Rattle.routine.proofs.RangeLaws.{tick-positive}
-use Rattle.routine.proofs.BranchLaws.{passing-forward, passing-closed}
-use Rattle.routine.proofs.PlaceLaws.{read-bound-place, read-run-place, confined, start-small}
-use Rattle.routine.proofs.SpellingLaws.{accepted-ascii}
-use Rattle.routine.proofs.AnswerLaws.{SameButAnswers, same-but-answers}
+use Rattle.bound_theory.specs.Tree.{Report, Verdict, openingLimit, bound}
+use Rattle.bound_theory.specs.Tree as verdicts
+use Rattle.bound_theory.specs.Run.{begin, after, run}
+use Rattle.bound_theory.specs.Promises.{NoGreater, SinglePass}
+use Rattle.bound_theory.proofs.PromiseLaws.{interruptible, bound-exact, run-within-bound}
+use Rattle.bound_theory.proofs.PlaceLaws.{bound-place, run-place}
+use Rattle.bound_theory.proofs.ForwardLaws.{forward-once}
+use Rattle.merge_theory.specs.Merge.{merged}
+use Rattle.merge_theory.specs.Ways.{table}
+use Rattle.merge_theory.specs.Promises.{NotSmaller}
+use Rattle.merge_theory.proofs.Theorems.{merged-interruptible, run-within-merged, merged-not-smaller, refused-for-size, merged-covers-paths, table-gathered, merged-exact}
+use Rattle.merge_theory.proofs.FigureLaws.{merged-place}
+use Rattle.narrowing_theory.proofs.RunLaws.{judged-figures}
+use Rattle.file_format.specs.Layout.{body, codeLines}
+use Rattle.file_format.specs.Routine.{Routine, Reading, routineOf, readBound, readRun}
+use Rattle.file_format.specs.Routine as readings
+use Rattle.file_format.specs.Rows.{Passes}
+use Rattle.file_format.proofs.RowLaws.{read-passes, run-passes}
+use Rattle.file_format.proofs.RangeLaws.{tick-positive}
+use Rattle.file_format.proofs.BranchLaws.{passing-forward, passing-closed}
+use Rattle.file_format.proofs.PlaceLaws.{read-bound-place, read-run-place, confined, start-small}
+use Rattle.file_format.proofs.SpellingLaws.{accepted-ascii}
+use Rattle.file_format.proofs.AnswerLaws.{SameButAnswers, same-but-answers}
 use Rattle.report.specs.Report.{boundText, runText}
 use Rattle.report.proofs.ReportLaws.{share-nearest, bound-small, bound-fits, run-fits}
 use Rattle.answers.specs.Answers.{reported, refused, memoryLimit, lending, ofReading, answerOf, reportLength}

@@ -5,13 +5,13 @@ use mathlib.Core.List.{List}
 use native.Mathlib.Omega.{arith}
 use lib.ListN.{length}
 use Rattle.text.specs.Text.{lines}
-use Rattle.bounds.specs.Tree.{accepted, refused}
-use Rattle.bounds.specs.Tree as bounds
-use Rattle.findings.specs.declared.Found.{Found}
-use Rattle.findings.specs.Found.{Shows, acceptedAs}
-use Rattle.routine.specs.Rows.{Passes}
-use Rattle.routine.specs.Routine.{Routine, routineOf}
-use Rattle.routine.proofs.RangeLaws.{tick-positive, tick-small}
+use Rattle.bound_theory.specs.Tree.{accepted, refused}
+use Rattle.bound_theory.specs.Tree as bounds
+use Rattle.bound_figures.specs.declared.Found.{Found}
+use Rattle.bound_figures.specs.HeldFigures.{Shows, acceptedAs}
+use Rattle.file_format.specs.Rows.{Passes}
+use Rattle.file_format.specs.Routine.{Routine, routineOf}
+use Rattle.file_format.proofs.RangeLaws.{tick-positive, tick-small}
 use Rattle.report.specs.Report.{boundText}
 use Rattle.report.specs.Held.{Printable, judgedAs, foundAnswer}
 use Rattle.report.proofs.DecodeLaws.{report-of}

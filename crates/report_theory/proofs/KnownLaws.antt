@@ -17,19 +17,19 @@ use Rattle.cells.specs.declared.Cell.{Cell}
 use Rattle.cells.specs.Cells.{range, between}
 use Rattle.cells.specs.Order.{Allowed, among, same-handle, Pointwise, end, cons}
 use Rattle.machine.specs.Order.{Cellwise}
-use Rattle.refinements.specs.Promises.{Plain}
-use Rattle.routine.specs.declared.Section.the-variants.{Cells as cells, Fields as fields, Answers as answers}
-use Rattle.routine.specs.declared.Column.the-variants.{Cell as cell}
-use Rattle.routine.specs.declared.Role.{Role}
-use Rattle.routine.specs.declared.Role.the-variants.{Names as names, Values as values, Code as code}
-use Rattle.routine.specs.declared.CellWord.{CellWord}
-use Rattle.routine.specs.declared.CellWord.the-variants.{Wrong, Unknown, Known, Block, Span}
-use Rattle.routine.specs.declared.Row.the-variants.{Layout as layout-row, Known as known-row}
-use Rattle.routine.specs.declared.RefusedLine.the-variants.{Nowhere as nowhere}
-use Rattle.routine.specs.Layout.{layout, isAnswer, body, answerRoles, codeRoles, bodyRoles, roles, textAt, list, listed, holdsCells}
-use Rattle.routine.specs.Rows.{cellWord, cellInRange, spanInRange, isSingle, blockSizes, total, valuesLaidOut, columnInRange, wellNamed, laidOut, inRange, named, onCells, allKnown, test, earliest, refusedLine, Passes}
-use Rattle.routine.specs.Routine.{Routine, inside, cellOf, cellsOf, blocksInLine, startOf, routineOf, routine, orElse, checked, textLimit, limited, readBound, readRun}
-use Rattle.routine.proofs.RowLaws.{read-passes, Covered, rest, passed, row-covered, passes-laid-out, passes-range, passes-named}
+use Rattle.narrowing_theory.specs.Promises.{Plain}
+use Rattle.file_format.specs.declared.Section.the-variants.{Cells as cells, Fields as fields, Answers as answers}
+use Rattle.file_format.specs.declared.Column.the-variants.{Cell as cell}
+use Rattle.file_format.specs.declared.Role.{Role}
+use Rattle.file_format.specs.declared.Role.the-variants.{Names as names, Values as values, Code as code}
+use Rattle.file_format.specs.declared.CellWord.{CellWord}
+use Rattle.file_format.specs.declared.CellWord.the-variants.{Wrong, Unknown, Known, Block, Span}
+use Rattle.file_format.specs.declared.Row.the-variants.{Layout as layout-row, Known as known-row}
+use Rattle.file_format.specs.declared.RefusedLine.the-variants.{Nowhere as nowhere}
+use Rattle.file_format.specs.Layout.{layout, isAnswer, body, answerRoles, codeRoles, bodyRoles, roles, textAt, list, listed, holdsCells}
+use Rattle.file_format.specs.Rows.{cellWord, cellInRange, spanInRange, isSingle, blockSizes, total, valuesLaidOut, columnInRange, wellNamed, laidOut, inRange, named, onCells, allKnown, test, earliest, refusedLine, Passes}
+use Rattle.file_format.specs.Routine.{Routine, inside, cellOf, cellsOf, blocksInLine, startOf, routineOf, routine, orElse, checked, textLimit, limited, readBound, readRun}
+use Rattle.file_format.proofs.RowLaws.{read-passes, Covered, rest, passed, row-covered, passes-laid-out, passes-range, passes-named}
 
 -- ---- a word
 

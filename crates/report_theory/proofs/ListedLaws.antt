@@ -11,19 +11,19 @@ use borrow.Author.Tests.{lt-ltb, le-ltb, ltb-true, ltb-false}
 use Rattle.refusals.specs.declared.Refusal.{Refusal}
 use Rattle.refusals.specs.declared.Refusal.the-variants.{ReportMemory, TextLength, Stuck, Spent}
 use Rattle.text.specs.Text.{Line, lines}
-use Rattle.bounds.specs.Tree.{Report, Verdict}
-use Rattle.bounds.specs.Tree as verdicts
-use Rattle.bounds.specs.Run.{judgeRun, run}
-use Rattle.bounds.proofs.PromiseLaws.{refused-where}
-use Rattle.bounds.proofs.RunVerdictLaws.{run-refused-where}
-use Rattle.merges.proofs.Theorems.{merged-refused-where}
-use Rattle.routine.specs.declared.RefusedLine.{RefusedLine}
-use Rattle.routine.specs.declared.RefusedLine.the-variants.{Nowhere as nowhere, Line as line}
-use Rattle.routine.specs.Rows.{refusedLine}
-use Rattle.routine.specs.Routine.{Routine, routineOf, Reading, orElse, Check, boundChecks, runChecks, checked, textLimit, limited, readBound, readRun}
-use Rattle.routine.specs.Routine as readings
-use Rattle.routine.proofs.RowLaws.{read-passes}
-use Rattle.routine.proofs.BranchLaws.{passing-forward, passing-closed}
+use Rattle.bound_theory.specs.Tree.{Report, Verdict}
+use Rattle.bound_theory.specs.Tree as verdicts
+use Rattle.bound_theory.specs.Run.{judgeRun, run}
+use Rattle.bound_theory.proofs.PromiseLaws.{refused-where}
+use Rattle.bound_theory.proofs.RunVerdictLaws.{run-refused-where}
+use Rattle.merge_theory.proofs.Theorems.{merged-refused-where}
+use Rattle.file_format.specs.declared.RefusedLine.{RefusedLine}
+use Rattle.file_format.specs.declared.RefusedLine.the-variants.{Nowhere as nowhere, Line as line}
+use Rattle.file_format.specs.Rows.{refusedLine}
+use Rattle.file_format.specs.Routine.{Routine, routineOf, Reading, orElse, Check, boundChecks, runChecks, checked, textLimit, limited, readBound, readRun}
+use Rattle.file_format.specs.Routine as readings
+use Rattle.file_format.proofs.RowLaws.{read-passes}
+use Rattle.file_format.proofs.BranchLaws.{passing-forward, passing-closed}
 use Rattle.answers.specs.Answers.{Answer, reported, refused, memoryLimit, ofReading, answerOf}
 use Rattle.answers.specs.declared.Answer as code
 use Rattle.answers.specs.declared.Answer.the-variants.{Refused}

@@ -4,17 +4,17 @@ use mathlib.Core.List.{List}
 use Prim.Native.Nat.{ℕ, _≤_}
 use Rattle.refusals.specs.declared.Refusal.the-variants.{Spent}
 use Rattle.text.specs.Text.{lines}
-use Rattle.bounds.specs.Tree.{Report, Verdict, accepted, refused, bound}
-use Rattle.bounds.specs.Run.{run}
-use Rattle.merges.specs.Merge.{merged}
-use Rattle.merges.proofs.Theorems.{merged-monotone}
-use Rattle.refinements.proofs.Theorems.{bound-monotone, larger-budget, bound-is-run, merged-is-run}
-use Rattle.refinements.proofs.RunLaws.{run-pathless}
-use Rattle.routine.specs.Routine.{Routine, readBound, readRun}
-use Rattle.routine.specs.Routine as readings
-use Rattle.routine.proofs.RowLaws.{read-passes, passes-read, run-passes}
-use Rattle.routine.proofs.BranchLaws.{passing-forward, passing-closed}
-use Rattle.routine.proofs.KnownLaws.{known-start}
+use Rattle.bound_theory.specs.Tree.{Report, Verdict, accepted, refused, bound}
+use Rattle.bound_theory.specs.Run.{run}
+use Rattle.merge_theory.specs.Merge.{merged}
+use Rattle.merge_theory.proofs.Theorems.{merged-monotone}
+use Rattle.narrowing_theory.proofs.Theorems.{bound-monotone, larger-budget, bound-is-run, merged-is-run}
+use Rattle.narrowing_theory.proofs.RunLaws.{run-pathless}
+use Rattle.file_format.specs.Routine.{Routine, readBound, readRun}
+use Rattle.file_format.specs.Routine as readings
+use Rattle.file_format.proofs.RowLaws.{read-passes, passes-read, run-passes}
+use Rattle.file_format.proofs.BranchLaws.{passing-forward, passing-closed}
+use Rattle.file_format.proofs.KnownLaws.{known-start}
 use Rattle.report.specs.Report.{boundText, runText}
 use Rattle.answers.specs.Answers.{memoryLimit}
 use Rattle.answers.proofs.AnswerLaws.{reading-passed}

@@ -10,16 +10,16 @@ use Rattle.machine.specs.Machine.{height, Instruction, fetch}
 use Rattle.machine.proofs.FetchLaws.{fetch-every}
 use Rattle.machine.proofs.HeightLaws.{Low}
 use Rattle.machine.proofs.PriceLaws.{AtMost, Both}
-use Rattle.bounds.specs.Tree.{Report, accepted, bound}
-use Rattle.bounds.proofs.FigureLaws.{Bounded, bound-bounded, run-bounded}
-use Rattle.bounds.specs.Run.{run}
-use Rattle.merges.specs.Merge.{merged, span}
-use Rattle.merges.proofs.FigureLaws.{merged-bounded}
-use Rattle.routine.specs.Layout.{body, codeLines}
-use Rattle.routine.specs.Rows.{Passes}
-use Rattle.routine.specs.Routine.{Routine, codeIn, routineOf}
-use Rattle.routine.proofs.RangeLaws.{prices-small, budget-small, tick-positive, start-low}
-use Rattle.routine.proofs.PlaceLaws.{confined}
+use Rattle.bound_theory.specs.Tree.{Report, accepted, bound}
+use Rattle.bound_theory.proofs.FigureLaws.{Bounded, bound-bounded, run-bounded}
+use Rattle.bound_theory.specs.Run.{run}
+use Rattle.merge_theory.specs.Merge.{merged, span}
+use Rattle.merge_theory.proofs.FigureLaws.{merged-bounded}
+use Rattle.file_format.specs.Layout.{body, codeLines}
+use Rattle.file_format.specs.Rows.{Passes}
+use Rattle.file_format.specs.Routine.{Routine, codeIn, routineOf}
+use Rattle.file_format.proofs.RangeLaws.{prices-small, budget-small, tick-positive, start-low}
+use Rattle.file_format.proofs.PlaceLaws.{confined}
 
 -- as many instructions as code lines
 pub code-length : (ls : List Line) → length (routineOf ls .code .instructions) ≡ length (codeLines (body ls))

@@ -2,11 +2,11 @@
 -- (document 01, Refusal table; demands 1 and 2)
 use Prim.Native.Nat.{ℕ}
 use mathlib.Core.List.{List}
-use Rattle.bounds.specs.Tree.{Report, Verdict, bound}
-use Rattle.bounds.specs.Tree as verdicts
-use Rattle.bounds.specs.Run.{run}
-use Rattle.merges.specs.Merge.{merged}
-use Rattle.routine.specs.Routine.{Routine, readBound, readRun}
+use Rattle.bound_theory.specs.Tree.{Report, Verdict, bound}
+use Rattle.bound_theory.specs.Tree as verdicts
+use Rattle.bound_theory.specs.Run.{run}
+use Rattle.merge_theory.specs.Merge.{merged}
+use Rattle.file_format.specs.Routine.{Routine, readBound, readRun}
 use Rattle.answers.specs.Answers.{Answer, reported, refused, memoryLimit, lending, ofReading}
 use Rattle.report.specs.Report.{boundText, runText}
 

@@ -12,13 +12,13 @@ use Rattle.refusals.specs.Refusals.{number, place}
 use Rattle.text.specs.Text.{Line, lines}
 use Rattle.cells.specs.Cells.{unknown}
 use Rattle.machine.specs.Machine.{step}
-use Rattle.bounds.specs.Tree.{openingLimit}
-use Rattle.bounds.specs.Traces.{Listed}
-use Rattle.bounds.specs.Run.{Run, begin, after, isStuck}
-use Rattle.merges.specs.Promises.{Decides}
-use Rattle.routine.specs.declared.RefusedLine.the-variants.{Nowhere as nowhere, Line as line}
-use Rattle.routine.specs.Rows.{refusedLine}
-use Rattle.routine.specs.Routine.{Routine, routineOf, Check, boundChecks, runChecks, textLimit}
+use Rattle.bound_theory.specs.Tree.{openingLimit}
+use Rattle.bound_theory.specs.Traces.{Listed}
+use Rattle.bound_theory.specs.Run.{Run, begin, after, isStuck}
+use Rattle.merge_theory.specs.Promises.{Decides}
+use Rattle.file_format.specs.declared.RefusedLine.the-variants.{Nowhere as nowhere, Line as line}
+use Rattle.file_format.specs.Rows.{refusedLine}
+use Rattle.file_format.specs.Routine.{Routine, routineOf, Check, boundChecks, runChecks, textLimit}
 use Rattle.answers.specs.Answers.{refused, memoryLimit}
 use Rattle.answers.specs.declared.Answer as code
 use Rattle.answers.specs.declared.Answer.the-variants.{Refused}

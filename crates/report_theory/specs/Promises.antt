@@ -16,14 +16,14 @@ use Rattle.machine.specs.Machine.{State}
 use Rattle.machine.specs.Order.{Cellwise}
 use Rattle.machine.specs.Forward.{Forward}
 use Rattle.machine.specs.Targets.{Closed}
-use Rattle.bounds.specs.Tree.{openingLimit, Report, accepted, bound}
-use Rattle.bounds.specs.Run.{begin, after, run}
-use Rattle.bounds.specs.Promises.{Exact, Safe, NoGreater, SinglePass}
-use Rattle.merges.specs.Merge.{Table, merged}
-use Rattle.merges.specs.Promises.{NotSmaller, CoversPaths, Gathered, MergedFigures}
-use Rattle.routine.specs.Layout.{layout, body, codeLines}
-use Rattle.routine.specs.Routine.{Routine, readBound, readRun}
-use Rattle.routine.specs.Routine as readings
+use Rattle.bound_theory.specs.Tree.{openingLimit, Report, accepted, bound}
+use Rattle.bound_theory.specs.Run.{begin, after, run}
+use Rattle.bound_theory.specs.Promises.{Exact, Safe, NoGreater, SinglePass}
+use Rattle.merge_theory.specs.Merge.{Table, merged}
+use Rattle.merge_theory.specs.Promises.{NotSmaller, CoversPaths, Gathered, MergedFigures}
+use Rattle.file_format.specs.Layout.{layout, body, codeLines}
+use Rattle.file_format.specs.Routine.{Routine, readBound, readRun}
+use Rattle.file_format.specs.Routine as readings
 use Rattle.report.specs.Report.{share, Nearest, boundText, runText}
 use Rattle.answers.specs.Answers.{reported, refused, memoryLimit, answerOf, reportLength}
 use Rattle.report_theory.specs.Answers.{boundAnswer, mergeAnswer, runAnswer}

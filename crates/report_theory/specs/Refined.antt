@@ -7,11 +7,11 @@ use Prim.Native.Nat.{ℕ, _≤_, _<_}
 use Rattle.refusals.specs.declared.Refusal.the-variants.{Spent}
 use Rattle.cells.specs.Order.{Refines}
 use Rattle.machine.specs.Order.{Cellwise}
-use Rattle.bounds.specs.Tree.{Report}
-use Rattle.bounds.specs.Promises.{NoGreater}
-use Rattle.refinements.specs.Promises.{Plain, NoCalls}
-use Rattle.routine.specs.Routine.{Routine, readBound, readRun}
-use Rattle.routine.specs.Routine as readings
+use Rattle.bound_theory.specs.Tree.{Report}
+use Rattle.bound_theory.specs.Promises.{NoGreater}
+use Rattle.narrowing_theory.specs.Promises.{Plain, NoCalls}
+use Rattle.file_format.specs.Routine.{Routine, readBound, readRun}
+use Rattle.file_format.specs.Routine as readings
 use Rattle.report.specs.Report.{runText}
 use Rattle.answers.specs.Answers.{Answer, reported, refused, memoryLimit}
 use Rattle.report_theory.specs.Answers.{boundAnswer, mergeAnswer, runAnswer}

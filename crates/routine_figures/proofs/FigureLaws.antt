@@ -1,14 +1,14 @@
 -- What the loops find of a routine is its bound, and small enough to be printed. Assumes nothing.
 use native.Mathlib.Omega.{arith}
-use Rattle.bounds.specs.Tree.{bound}
-use Rattle.findings.specs.declared.Found.{Found}
-use Rattle.findings.specs.Found.{Shows}
-use Rattle.explore.specs.Contract.{Explores, Bounded}
-use Rattle.merging.specs.Pass.{Figures}
-use Rattle.states.specs.Program.{sizesOf}
-use Rattle.reader.specs.declared.Routine.{Routine}
-use Rattle.reader.specs.Reader.{Limited}
-use Rattle.entry.specs.Held.{routineIn}
+use Rattle.bound_theory.specs.Tree.{bound}
+use Rattle.bound_figures.specs.declared.Found.{Found}
+use Rattle.bound_figures.specs.HeldFigures.{Shows}
+use Rattle.bound_explorer.specs.HeldContract.{Explores, Bounded}
+use Rattle.merge_sweep.specs.HeldPass.{Figures}
+use Rattle.machine_state.specs.HeldProgram.{sizesOf}
+use Rattle.file_reader.specs.declared.Routine.{Routine}
+use Rattle.file_reader.specs.HeldRoutine.{Limited}
+use Rattle.file_entry.specs.Held.{routineIn}
 use Rattle.report.specs.Held.{Shareable}
 
 module _ (x : Routine) (l : Limited x) where

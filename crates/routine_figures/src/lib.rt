@@ -1,15 +1,15 @@
 // The bound, the merging bound and the run of a routine that was read: its arrays lent to the loops. Entry points share them.
-use findings::Found;
-use reader::Routine;
-use runs::Ran;
+use bound_figures::Found;
+use file_reader::Routine;
+use run_loop::Ran;
 ghost use mathlib.Core.Path.{_≡_};
-ghost use Rattle.bounds.specs.Tree.{bound};
-ghost use Rattle.bounds.specs.Run.{run};
-ghost use Rattle.merges.specs.Merge.{merged};
-ghost use Rattle.runs.specs.Contract.{verdictOf};
-ghost use Rattle.findings.specs.Found.{Shows};
-ghost use Rattle.reader.specs.Reader.{Limited};
-ghost use Rattle.entry.specs.Held.{routineIn};
+ghost use Rattle.bound_theory.specs.Tree.{bound};
+ghost use Rattle.bound_theory.specs.Run.{run};
+ghost use Rattle.merge_theory.specs.Merge.{merged};
+ghost use Rattle.run_loop.specs.HeldContract.{verdictOf};
+ghost use Rattle.bound_figures.specs.HeldFigures.{Shows};
+ghost use Rattle.file_reader.specs.HeldRoutine.{Limited};
+ghost use Rattle.file_entry.specs.Held.{routineIn};
 ghost use Rattle.report.specs.Held.{Shareable};
 
 // The routine's bound.
@@ -21,7 +21,7 @@ pub fn explored(routine: Routine) -> Found
     let code = routine.code;
     let fields = routine.fields;
     let start = routine.start;
-    explore::explore(&code, start, fields, 32, routine.budget)
+    bound_explorer::explore(&code, start, fields, 32, routine.budget)
 }
 
 // The routine's merging bound.
@@ -33,7 +33,7 @@ pub fn swept(routine: Routine) -> Found
     let code = routine.code;
     let fields = routine.fields;
     let start = routine.start;
-    merging::merge(&code, start, fields)
+    merge_sweep::merge(&code, start, fields)
 }
 
 // The routine's run.
@@ -47,5 +47,5 @@ pub fn ran(routine: Routine) -> Ran
     let answers = routine.answers;
     let values = answers.values;
     let given = answers.count;
-    runs::run(&code, start, fields, &values[..given], routine.budget)
+    run_loop::run(&code, start, fields, &values[..given], routine.budget)
 }

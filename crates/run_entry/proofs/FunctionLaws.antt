@@ -5,14 +5,14 @@ use mathlib.Core.List.{List}
 use Rattle.refusals.specs.declared.Refusal.{Refusal}
 use Rattle.refusals.specs.declared.Verdict.the-variants as verdicts
 use Rattle.refusals.specs.declared.Verdict.the-variants.{Accepted}
-use Rattle.bounds.specs.Tree.{Report}
-use Rattle.bounds.specs.Tree as bounds
-use Rattle.runs.specs.declared.Ran.{Ran}
-use Rattle.runs.specs.Contract.{judged, verdictOf}
-use Rattle.routine.specs.Routine.{readRun}
-use Rattle.routine.specs.Routine as readings
-use Rattle.routine.proofs.RowLaws.{run-passes}
-use Rattle.report.specs.Decode.{reportOf}
+use Rattle.bound_theory.specs.Tree.{Report}
+use Rattle.bound_theory.specs.Tree as bounds
+use Rattle.run_loop.specs.declared.Ran.{Ran}
+use Rattle.run_loop.specs.HeldContract.{judged, verdictOf}
+use Rattle.file_format.specs.Routine.{readRun}
+use Rattle.file_format.specs.Routine as readings
+use Rattle.file_format.proofs.RowLaws.{run-passes}
+use Rattle.report.specs.HeldPath.{reportOf}
 use Rattle.report.proofs.DecodeLaws.{report-of-run}
 use Rattle.answers.specs.Answers.{reported, memoryLimit, memory, answerOf, reportLength, Delivers}
 use Rattle.answers.specs.Answers as answers

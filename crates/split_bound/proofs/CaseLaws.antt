@@ -11,21 +11,21 @@ use Rattle.refusals.specs.declared.Verdict.the-variants.{Accepted, Refused}
 use Rattle.cells.specs.Try.{Try, stuck, done}
 use Rattle.cells.specs.declared.Value.{Value}
 use Rattle.cells.specs.declared.Cell.{Cell}
-use Rattle.cells.specs.Codes.{Kept}
+use Rattle.cells.specs.HeldCodes.{Kept}
 use Rattle.machine.specs.Machine.{State, Code, load, restack, reblock}
 use Rattle.machine.specs.Order.{Cellwise}
-use Rattle.states.specs.declared.State as states
-use Rattle.states.specs.Program.{sizesOf}
-use Rattle.states.specs.View.{whole}
-use Rattle.bounds.specs.Tree.{Report, Verdict, accepted, refused}
-use Rattle.merges.specs.Merge.{merged}
-use Rattle.findings.specs.declared.Found.{Found}
-use Rattle.findings.specs.Found.{encode, acceptedAs, Shows}
-use Rattle.merging.specs.Pass.{Figures}
-use Rattle.changes.specs.declared.Position.{Position}
-use Rattle.changes.specs.declared.Position.the-variants.{Accu, Entry, Field}
-use Rattle.changes.specs.Places.{cellAt, replaceAt}
-use Rattle.changes.specs.Held.{Present}
+use Rattle.machine_state.specs.declared.State as states
+use Rattle.machine_state.specs.HeldProgram.{sizesOf}
+use Rattle.machine_state.specs.HeldState.{whole}
+use Rattle.bound_theory.specs.Tree.{Report, Verdict, accepted, refused}
+use Rattle.merge_theory.specs.Merge.{merged}
+use Rattle.bound_figures.specs.declared.Found.{Found}
+use Rattle.bound_figures.specs.HeldFigures.{encode, acceptedAs, Shows}
+use Rattle.merge_sweep.specs.HeldPass.{Figures}
+use Rattle.nearest_changes.specs.declared.Position.{Position}
+use Rattle.nearest_changes.specs.declared.Position.the-variants.{Accu, Entry, Field}
+use Rattle.nearest_changes.specs.Places.{cellAt, replaceAt}
+use Rattle.nearest_changes.specs.Held.{Present}
 use Rattle.split_theory.specs.declared.Cuts.{Cuts}
 use Rattle.split_theory.specs.Split.{dividesValue, lowerPart, upperPart, dividesCell, divides, cutTo, below, from, Cut, largest, larger, split}
 use Rattle.split_theory.specs.Held.{cutIn, cutsAt, cutsFrom}

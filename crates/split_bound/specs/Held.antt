@@ -10,14 +10,14 @@ use Rattle.refusals.specs.declared.Verdict.the-variants.{Accepted, Refused}
 use Rattle.cells.specs.Try.{Try, stuck, done}
 use Rattle.cells.specs.declared.Value.{Value}
 use Rattle.cells.specs.declared.Cell.{Cell}
-use Rattle.cells.specs.Codes.{Kept}
+use Rattle.cells.specs.HeldCodes.{Kept}
 use Rattle.machine.specs.Order.{Cellwise}
-use Rattle.states.specs.declared.State.{State}
-use Rattle.states.specs.Program.{firstOf, linesIn, sizesOf, IsProgram}
-use Rattle.states.specs.View.{WellFormed, whole}
-use Rattle.findings.specs.declared.Found.{Found}
-use Rattle.changes.specs.declared.Position.{Position}
-use Rattle.changes.specs.Places.{replaceAt}
+use Rattle.machine_state.specs.declared.State.{State}
+use Rattle.machine_state.specs.HeldProgram.{firstOf, linesIn, sizesOf, IsProgram}
+use Rattle.machine_state.specs.HeldState.{WellFormed, whole}
+use Rattle.bound_figures.specs.declared.Found.{Found}
+use Rattle.nearest_changes.specs.declared.Position.{Position}
+use Rattle.nearest_changes.specs.Places.{replaceAt}
 use Rattle.split_theory.specs.Split.{dividesValue, lowerPart, upperPart}
 use Rattle.split_bound.specs.declared.Case.{Case}
 use Rattle.split_bound.specs.declared.Parts.{Parts}

@@ -1,22 +1,22 @@
 // The bound by cases: cells of a start are cut at numbers, each case is bounded by merging, and the largest figures are reported. The meaning
 // is in the specs of `split_theory`.
+use bound_figures::Found;
 use cells::Cell;
 use cells::Value;
-use changes::Position;
-use findings::Found;
+use machine_state::Slot;
+use machine_state::State;
+use nearest_changes::Position;
 use refusals::Verdict;
 use split_theory::Cuts;
-use states::Slot;
-use states::State;
 ghost use mathlib.Core.Path.{_≡_};
 ghost use Prim.Native.Nat.{_≤_, _<_};
-ghost use Rattle.states.specs.Program.{programOf, sizesOf, IsProgram};
-ghost use Rattle.states.specs.View.{WellFormed, whole};
-ghost use Rattle.findings.specs.Found.{Shows};
-ghost use Rattle.arrivals.specs.Rows.{Rows};
-ghost use Rattle.merging.specs.Pass.{Figures};
-ghost use Rattle.changes.specs.Places.{cellAt};
-ghost use Rattle.changes.specs.Held.{Present};
+ghost use Rattle.machine_state.specs.HeldProgram.{programOf, sizesOf, IsProgram};
+ghost use Rattle.machine_state.specs.HeldState.{WellFormed, whole};
+ghost use Rattle.bound_figures.specs.HeldFigures.{Shows};
+ghost use Rattle.merge_rows.specs.HeldRows.{Rows};
+ghost use Rattle.merge_sweep.specs.HeldPass.{Figures};
+ghost use Rattle.nearest_changes.specs.Places.{cellAt};
+ghost use Rattle.nearest_changes.specs.Held.{Present};
 ghost use Rattle.split_theory.specs.Split.{split};
 ghost use Rattle.split_theory.specs.Held.{cutIn, cutsFrom, Few};
 ghost use Rattle.split_bound.specs.Held.{partsOf, partsAt, Splittable, Replaced, largerOf};
@@ -67,7 +67,7 @@ fn parts_at(code: &[u32; 5131], start: State, fields: [Cell; 128], p: Position, 
             parts_of(start.stack[entry], n)
         }
         Position::Field(b, k) => {
-            let field = states::slot_of(code, cells::handle(b), k);
+            let field = machine_state::slot_of(code, cells::handle(b), k);
             let Slot::At(j) = field else {
                 return Parts::Whole;
             };
@@ -84,10 +84,10 @@ fn larger(f: Found, g: Found) -> Found
     let Verdict::Accepted = verdict else {
         return g;
     };
-    let cycles = findings::larger(f.cycles, g.cycles);
-    let words = findings::larger(f.words, g.words);
-    let depth = findings::larger(f.depth, g.depth);
-    let used = findings::larger(f.used as u64, g.used as u64);
+    let cycles = bound_figures::larger(f.cycles, g.cycles);
+    let words = bound_figures::larger(f.words, g.words);
+    let depth = bound_figures::larger(f.depth, g.depth);
+    let used = bound_figures::larger(f.used as u64, g.used as u64);
     Found {
         verdict: Verdict::Accepted,
         used: used as usize,
@@ -105,7 +105,7 @@ fn cut_at(code: &[u32; 5131], cuts: Cuts, i: usize, start: State, fields: [Cell;
 {
     let places = cuts.places;
     let numbers = cuts.numbers;
-    let p = changes::position_of(places[i]);
+    let p = nearest_changes::position_of(places[i]);
     parts_at(code, start, fields, p, numbers[i])
 }
 
@@ -128,9 +128,9 @@ fn case_at(
     ensures { λ r. ⌜ Replaced (now (code .entry)) start fields (cutIn cuts i .place) c r ⌝ }
 {
     let places = cuts.places;
-    let p = changes::position_of(places[i]);
-    let state = changes::with_entry(code, start, fields, p, c);
-    let blocks = changes::with_field(code, start, fields, p, c);
+    let p = nearest_changes::position_of(places[i]);
+    let state = nearest_changes::with_entry(code, start, fields, p, c);
+    let blocks = nearest_changes::with_field(code, start, fields, p, c);
     Case {
         start: state,
         fields: blocks,
@@ -152,7 +152,7 @@ pub fn split(
     ensures { λ r. ⌜ Figures 1025 r ⌝ }
 {
     if i == cuts.count {
-        return merging::merge_by(code, start, fields, rows);
+        return merge_sweep::merge_by(code, start, fields, rows);
     }
     let parts = cut_at(code, cuts, i, start, fields);
     let Parts::Two(lower, upper) = parts else {

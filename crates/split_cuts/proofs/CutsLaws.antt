@@ -12,10 +12,10 @@ use Rattle.refusals.specs.declared.Verdict.the-variants.{Accepted as accepted, 
 use Rattle.text.specs.Text.{bytes, isEmpty, equals, Line, lines, among}
 use Rattle.text.proofs.LineLaws.{lines-none, lines-some}
 use Rattle.numbers.specs.Numbers.{within, numbers}
-use Rattle.routine.specs.declared.RefusedLine.{RefusedLine}
-use Rattle.routine.specs.Rows.{value}
-use Rattle.lines.proofs.LineLaws.{filled}
-use Rattle.traces.specs.Traces.{earliest, refusedAt}
+use Rattle.file_format.specs.declared.RefusedLine.{RefusedLine}
+use Rattle.file_format.specs.Rows.{value}
+use Rattle.file_lines.proofs.LineLaws.{filled}
+use Rattle.replay_trace.specs.Traces.{earliest, refusedAt}
 use Rattle.split_cuts.specs.Cuts.{cutsLimit, cutLimit, cellName, fromWord, cutLaidOut, textLaidOut, lineLaidOut, textInRange, lineInRange, textNamed, lineNamed, layoutFault, lineVerdict, cutsVerdict}
 
 -- ---- the tests by the index of a line

@@ -14,10 +14,10 @@ use Rattle.refusals.specs.declared.Verdict.{Verdict}
 use Rattle.refusals.specs.declared.Verdict.the-variants.{Accepted as accepted, Refused as refused}
 use Rattle.text.specs.Text.{Line, lines}
 use Rattle.text.proofs.TextLaws.{and-left, and-right}
-use Rattle.routine.specs.declared.RefusedLine.{RefusedLine}
-use Rattle.routine.specs.declared.RefusedLine.the-variants.{Nowhere as nowhere, Line as line}
-use Rattle.routine.proofs.PassingLaws.{lines-count}
-use Rattle.traces.specs.Traces.{earliest, refusedAt}
+use Rattle.file_format.specs.declared.RefusedLine.{RefusedLine}
+use Rattle.file_format.specs.declared.RefusedLine.the-variants.{Nowhere as nowhere, Line as line}
+use Rattle.file_format.proofs.PassingLaws.{lines-count}
+use Rattle.replay_trace.specs.Traces.{earliest, refusedAt}
 use Rattle.split_cuts.specs.Cuts.{cutsLimit, cutLimit, cutLaidOut, textLaidOut, lineLaidOut, lineInRange, lineNamed, layoutFault, lineVerdict, cutsVerdict}
 
 at-nowhere : (a : RefusedLine) (r : ℕ → Refusal) (v : Verdict) → refusedAt a r v ≡ accepted → (a ≡ nowhere) × (v ≡ accepted)

@@ -12,13 +12,13 @@ use Rattle.refusals.specs.declared.Verdict.the-variants.{Accepted as accepted, 
 use Rattle.text.specs.Text.{bytes, isEmpty, equals, words, Line, lines, find, among}
 use Rattle.text.specs.Decimal.{numeral}
 use Rattle.numbers.specs.Numbers.{within, numbers}
-use Rattle.routine.specs.declared.RefusedLine.{RefusedLine}
-use Rattle.routine.specs.declared.RefusedLine.the-variants.{Line as line}
-use Rattle.routine.specs.Rows.{isNumeral, value}
-use Rattle.routine.specs.Routine.{inside}
-use Rattle.traces.specs.Traces.{earliest, refusedAt}
-use Rattle.changes.specs.Held.{positionOf, allPositions}
-use Rattle.sensitivity.specs.Answers.{nameOf}
+use Rattle.file_format.specs.declared.RefusedLine.{RefusedLine}
+use Rattle.file_format.specs.declared.RefusedLine.the-variants.{Line as line}
+use Rattle.file_format.specs.Rows.{isNumeral, value}
+use Rattle.file_format.specs.Routine.{inside}
+use Rattle.replay_trace.specs.Traces.{earliest, refusedAt}
+use Rattle.nearest_changes.specs.Held.{positionOf, allPositions}
+use Rattle.nearest_entry.specs.Answers.{nameOf}
 use Rattle.split_theory.specs.Split.{Cut}
 
 -- a text of its own, of at most 4,096 bytes

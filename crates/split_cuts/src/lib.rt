@@ -1,19 +1,19 @@
 // The text of the cuts: its refusals, and the cuts that it lists. The meaning is in specs/.
+use file_format::RefusedLine;
+use file_format::layout;
 use refusals::Refusal;
 use refusals::Verdict;
-use routine::RefusedLine;
-use routine::layout;
 use split_theory::Cuts;
 ghost use mathlib.Core.Path.{_≡_};
 ghost use mathlib.Core.List.{_++_};
 ghost use Prim.Native.Nat.{_≤_};
 ghost use lib.ListN.{length, getD};
 ghost use Rattle.text.specs.Text.{lines, noLine};
-ghost use Rattle.routine.specs.Layout.{list};
-ghost use Rattle.traces.specs.Traces.{earliest};
+ghost use Rattle.file_format.specs.Layout.{list};
+ghost use Rattle.replay_trace.specs.Traces.{earliest};
 ghost use Rattle.split_theory.specs.Held.{cutsFrom, Few};
 ghost use Rattle.split_cuts.specs.Cuts.{cutsLimit, cutLaidOut, textLaidOut, lineLaidOut, textInRange, textNamed, cutsVerdict, placeNumber, cutNumber, cutsOf};
-ghost use Rattle.split_cuts.specs.Scan.{lineTest};
+ghost use Rattle.split_cuts.specs.HeldScan.{lineTest};
 
 // What a line is tested for: row 2, row 3 or row 4 of the refusal table.
 enum LineTest {
@@ -39,7 +39,7 @@ fn cut_laid_out(line: &[u8]) -> bool
     let name = text::word_at(line, 0);
     let from = text::word_at(line, 1);
     if 0 < name.len() {
-        return values::is_numeral(from);
+        return file_values::is_numeral(from);
     }
     false
 }
@@ -77,7 +77,7 @@ fn in_range(k: usize, line: &[u8]) -> bool
         return true;
     }
     let from = text::word_at(line, 1);
-    values::is_within(numbers::number_range(), from)
+    file_values::is_within(numbers::number_range(), from)
 }
 
 // Row 4 on the text of the line with index k, where `cells` and `fields` are the routine's lines of their names.
@@ -162,7 +162,7 @@ fn place_of(w: &[u8]) -> usize
 fn number_of(line: &[u8]) -> i32
     ensures { λ r. ⌜ r ≡ cutNumber (now (line .entry)) ⌝ }
 {
-    parts::number_of(numbers::number_range(), text::word_at(line, 1))
+    file_parts::number_of(numbers::number_range(), text::word_at(line, 1))
 }
 
 // The cuts of an accepted text.

@@ -9,13 +9,13 @@ use Rattle.refusals.specs.Refusals.{place}
 use Rattle.refusals.specs.declared.Verdict as checks
 use Rattle.refusals.specs.declared.Verdict.the-variants.{Accepted, Refused}
 use Rattle.text.specs.Text.{lines}
-use Rattle.bounds.specs.Tree.{Report, Verdict}
-use Rattle.bounds.specs.Tree as verdicts
-use Rattle.routine.specs.Rows.{Passes}
-use Rattle.routine.specs.Routine.{Routine, routineOf, readBound}
-use Rattle.routine.specs.Routine as readings
-use Rattle.routine.proofs.RowLaws.{read-passes}
-use Rattle.routine.proofs.PlaceLaws.{read-bound-place}
+use Rattle.bound_theory.specs.Tree.{Report, Verdict}
+use Rattle.bound_theory.specs.Tree as verdicts
+use Rattle.file_format.specs.Rows.{Passes}
+use Rattle.file_format.specs.Routine.{Routine, routineOf, readBound}
+use Rattle.file_format.specs.Routine as readings
+use Rattle.file_format.proofs.RowLaws.{read-passes}
+use Rattle.file_format.proofs.PlaceLaws.{read-bound-place}
 use Rattle.report.specs.Report.{boundText}
 use Rattle.report.proofs.ReportLaws.{bound-small, bound-fits}
 use Rattle.answers.specs.Answers.{reported, refused, memoryLimit}

@@ -13,14 +13,14 @@ use Rattle.refusals.specs.declared.Refusal.the-variants.{TextLength, Layout, Ou
 use Rattle.refusals.specs.declared.Verdict.{Verdict}
 use Rattle.refusals.specs.declared.Verdict.the-variants.{Accepted, Refused}
 use Rattle.text.specs.Text.{lines}
-use Rattle.routine.specs.declared.RefusedLine.{RefusedLine}
-use Rattle.routine.specs.declared.RefusedLine.the-variants.{Nowhere as nowhere, Line as line}
-use Rattle.routine.specs.Routine.{Routine, routineOf, boundChecks, readBound}
-use Rattle.routine.specs.Routine as readings
-use Rattle.routine.proofs.RowLaws.{read-passes}
-use Rattle.routine.proofs.BranchLaws.{passing-forward, passing-closed}
-use Rattle.bounds.specs.Tree as verdicts
-use Rattle.traces.specs.Traces.{earliest, refusedAt}
+use Rattle.file_format.specs.declared.RefusedLine.{RefusedLine}
+use Rattle.file_format.specs.declared.RefusedLine.the-variants.{Nowhere as nowhere, Line as line}
+use Rattle.file_format.specs.Routine.{Routine, routineOf, boundChecks, readBound}
+use Rattle.file_format.specs.Routine as readings
+use Rattle.file_format.proofs.RowLaws.{read-passes}
+use Rattle.file_format.proofs.BranchLaws.{passing-forward, passing-closed}
+use Rattle.bound_theory.specs.Tree as verdicts
+use Rattle.replay_trace.specs.Traces.{earliest, refusedAt}
 use Rattle.report.specs.Report.{boundText}
 use Rattle.answers.specs.Answers.{refused}
 use Rattle.report_theory.specs.Answers.{ofVerdict}

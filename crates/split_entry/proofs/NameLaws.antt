@@ -8,12 +8,12 @@ use Rattle.cells.specs.Order.{Pointwise, end, cons}
 use Rattle.machine.specs.Machine.{State}
 use Rattle.machine.specs.Order.{Cellwise}
 use Rattle.machine.proofs.StateLaws.{height-law}
-use Rattle.routine.specs.Routine.{Routine, readBound}
-use Rattle.routine.specs.Routine as readings
-use Rattle.changes.specs.declared.Position.the-variants.{Accu, Entry, Field}
-use Rattle.changes.specs.Places.{from, fieldsFrom, positions}
-use Rattle.sensitivity.specs.Answers.{nameOf}
-use Rattle.sensitivity.proofs.Theorems.{named-in-order}
+use Rattle.file_format.specs.Routine.{Routine, readBound}
+use Rattle.file_format.specs.Routine as readings
+use Rattle.nearest_changes.specs.declared.Position.the-variants.{Accu, Entry, Field}
+use Rattle.nearest_changes.specs.Places.{from, fieldsFrom, positions}
+use Rattle.nearest_entry.specs.Answers.{nameOf}
+use Rattle.nearest_entry.proofs.Theorems.{named-in-order}
 use Rattle.report_theory.specs.Refined.{Narrows}
 use Rattle.split_cuts.specs.Cuts.{cutsVerdict}
 use Rattle.split_entry.specs.Answers.{cellsNamed, cutsChecked}

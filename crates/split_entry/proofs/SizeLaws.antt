@@ -15,17 +15,17 @@ use Rattle.cells.specs.declared.Cell.{Cell}
 use Rattle.machine.specs.Machine.{State, Code, Instruction, fetch, height, load, restack, reblock}
 use Rattle.machine.proofs.HeightLaws.{Low}
 use Rattle.machine.proofs.PriceLaws.{AtMost, Both}
-use Rattle.bounds.specs.Tree.{Report, accepted, refused}
-use Rattle.bounds.proofs.FigureLaws.{Bounded}
-use Rattle.merges.specs.Merge.{span}
-use Rattle.merges.proofs.FigureLaws.{merged-bounded, merged-place}
-use Rattle.routine.specs.Rows.{Passes}
-use Rattle.routine.specs.Routine.{Routine, routineOf}
-use Rattle.routine.proofs.PlaceLaws.{confined, start-small}
+use Rattle.bound_theory.specs.Tree.{Report, accepted, refused}
+use Rattle.bound_theory.proofs.FigureLaws.{Bounded}
+use Rattle.merge_theory.specs.Merge.{span}
+use Rattle.merge_theory.proofs.FigureLaws.{merged-bounded, merged-place}
+use Rattle.file_format.specs.Rows.{Passes}
+use Rattle.file_format.specs.Routine.{Routine, routineOf}
+use Rattle.file_format.proofs.PlaceLaws.{confined, start-small}
 use Rattle.report_theory.proofs.SizeLaws.{Limited, priced, low}
-use Rattle.changes.specs.declared.Position.{Position}
-use Rattle.changes.specs.declared.Position.the-variants.{Accu, Entry, Field}
-use Rattle.changes.specs.Places.{cellAt, replaceAt}
+use Rattle.nearest_changes.specs.declared.Position.{Position}
+use Rattle.nearest_changes.specs.declared.Position.the-variants.{Accu, Entry, Field}
+use Rattle.nearest_changes.specs.Places.{cellAt, replaceAt}
 use Rattle.split_theory.specs.Split.{divides, cutTo, below, from, Cut, largest, larger, split, Case, whole, undivided, lower, upper}
 use Rattle.split_theory.proofs.SplitLaws.{both}
 use Rattle.split_theory.proofs.Theorems.{split-refused}

@@ -9,14 +9,14 @@ use Rattle.refusals.specs.declared.Refusal.the-variants.{ReportMemory}
 use Rattle.refusals.specs.declared.Verdict as checks
 use Rattle.refusals.specs.declared.Verdict.the-variants.{Accepted, Refused}
 use Rattle.text.specs.Text.{lines}
-use Rattle.bounds.specs.Tree.{Report, Verdict, accepted}
-use Rattle.bounds.specs.Tree as verdicts
-use Rattle.bounds.specs.Promises.{NoGreater}
-use Rattle.routine.specs.Routine.{Routine, Reading, readBound}
-use Rattle.routine.specs.Routine as readings
-use Rattle.routine.proofs.RowLaws.{read-passes}
-use Rattle.routine.proofs.RangeLaws.{tick-positive}
-use Rattle.routine.proofs.BranchLaws.{passing-forward, passing-closed}
+use Rattle.bound_theory.specs.Tree.{Report, Verdict, accepted}
+use Rattle.bound_theory.specs.Tree as verdicts
+use Rattle.bound_theory.specs.Promises.{NoGreater}
+use Rattle.file_format.specs.Routine.{Routine, Reading, readBound}
+use Rattle.file_format.specs.Routine as readings
+use Rattle.file_format.proofs.RowLaws.{read-passes}
+use Rattle.file_format.proofs.RangeLaws.{tick-positive}
+use Rattle.file_format.proofs.BranchLaws.{passing-forward, passing-closed}
 use Rattle.report.specs.Report.{boundText}
 use Rattle.report.proofs.ReportLaws.{share-nearest}
 use Rattle.answers.specs.Answers.{reported, refused, memoryLimit, ofReading}

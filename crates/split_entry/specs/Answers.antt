@@ -5,10 +5,10 @@ use mathlib.Core.List.{List, _++_}
 use Rattle.refusals.specs.declared.Verdict.{Verdict}
 use Rattle.refusals.specs.declared.Verdict.the-variants.{Accepted, Refused}
 use Rattle.text.specs.Text.{Line, lines}
-use Rattle.routine.specs.declared.Section.the-variants.{Cells as cells, Fields as fields}
-use Rattle.routine.specs.declared.Role.the-variants.{Names as names}
-use Rattle.routine.specs.Layout.{listed}
-use Rattle.routine.specs.Routine.{Routine, readBound}
+use Rattle.file_format.specs.declared.Section.the-variants.{Cells as cells, Fields as fields}
+use Rattle.file_format.specs.declared.Role.the-variants.{Names as names}
+use Rattle.file_format.specs.Layout.{listed}
+use Rattle.file_format.specs.Routine.{Routine, readBound}
 use Rattle.report.specs.Report.{boundText}
 use Rattle.answers.specs.Answers.{Answer, refused, memoryLimit, lending, ofReading}
 use Rattle.report_theory.specs.Answers.{ofVerdict}

@@ -3,9 +3,9 @@ use mathlib.Core.Path.{_≡_}
 use mathlib.Core.List.{List}
 use Prim.Native.Nat.{ℕ}
 use Rattle.text.specs.Text.{lines}
-use Rattle.routine.specs.Rows.{Passes}
-use Rattle.routine.specs.Routine.{routineOf, readBound}
-use Rattle.routine.specs.Routine as readings
+use Rattle.file_format.specs.Rows.{Passes}
+use Rattle.file_format.specs.Routine.{routineOf, readBound}
+use Rattle.file_format.specs.Routine as readings
 
 -- a text that passes, and its routine
 pub record Read (text : List ℕ) : Type 0 where

@@ -8,9 +8,9 @@ use lib.ListN.{length}
 use Rattle.refusals.specs.declared.Refusal.{Refusal}
 use Rattle.refusals.specs.declared.Refusal.the-variants.{TextLength, Layout, OutOfRange, BadName}
 use Rattle.text.specs.Text.{lines}
-use Rattle.routine.specs.declared.RefusedLine.the-variants.{Nowhere as nowhere, Line as line}
-use Rattle.routine.specs.Routine.{Routine, boundChecks}
-use Rattle.traces.specs.Traces.{earliest}
+use Rattle.file_format.specs.declared.RefusedLine.the-variants.{Nowhere as nowhere, Line as line}
+use Rattle.file_format.specs.Routine.{Routine, boundChecks}
+use Rattle.replay_trace.specs.Traces.{earliest}
 use Rattle.answers.specs.Answers.{refused}
 use Rattle.report_theory.specs.Listed.{Case}
 use Rattle.split_theory.specs.Promises.{FirstRefused}

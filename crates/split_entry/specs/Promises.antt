@@ -11,13 +11,13 @@ use Rattle.refusals.specs.Refusals.{place}
 use Rattle.cells.specs.Order.{Allowed}
 use Rattle.machine.specs.Machine.{State}
 use Rattle.machine.specs.Order.{Cellwise}
-use Rattle.bounds.specs.Tree.{Report, accepted}
-use Rattle.bounds.specs.Tree as verdicts
-use Rattle.bounds.specs.Run.{begin, after}
-use Rattle.bounds.specs.Promises.{Safe, NoGreater}
-use Rattle.merges.specs.Merge.{merged}
-use Rattle.routine.specs.Routine.{Routine, readBound}
-use Rattle.routine.specs.Routine as readings
+use Rattle.bound_theory.specs.Tree.{Report, accepted}
+use Rattle.bound_theory.specs.Tree as verdicts
+use Rattle.bound_theory.specs.Run.{begin, after}
+use Rattle.bound_theory.specs.Promises.{Safe, NoGreater}
+use Rattle.merge_theory.specs.Merge.{merged}
+use Rattle.file_format.specs.Routine.{Routine, readBound}
+use Rattle.file_format.specs.Routine as readings
 use Rattle.report.specs.Report.{boundText}
 use Rattle.answers.specs.Answers.{reported, refused, memoryLimit}
 use Rattle.report_theory.specs.Answers.{mergeAnswer}

@@ -1,21 +1,21 @@
 // The bound by cases on texts and lent memory. The meaning is in specs/.
 use answers::Answer;
-use findings::Found;
-use reader::Routine;
+use bound_figures::Found;
+use file_check::Reader;
+use file_format::Role;
+use file_format::Section;
+use file_format::layout;
+use file_reader::Routine;
 use refusals::Verdict;
-use routine::Role;
-use routine::Section;
-use routine::layout;
-use rows::Reader;
 ghost use mathlib.Core.Path.{_≡_};
 ghost use Prim.Native.Nat.{_≤_};
 ghost use lib.ListN.{length};
 ghost use Rattle.text.specs.Text.{lines};
-ghost use Rattle.findings.specs.Found.{Shows};
-ghost use Rattle.routine.specs.Routine.{routineOf};
-ghost use Rattle.reader.specs.Reader.{Limited};
+ghost use Rattle.bound_figures.specs.HeldFigures.{Shows};
+ghost use Rattle.file_format.specs.Routine.{routineOf};
+ghost use Rattle.file_reader.specs.HeldRoutine.{Limited};
 ghost use Rattle.answers.specs.Answers.{memory, answerOf, reportLength, Delivers};
-ghost use Rattle.entry.specs.Held.{routineIn};
+ghost use Rattle.file_entry.specs.Held.{routineIn};
 ghost use Rattle.report.specs.Held.{Shareable, Printable};
 ghost use Rattle.report_theory.specs.Listed.{Refuses, ListedAlone};
 ghost use Rattle.split_theory.specs.Split.{split};
@@ -69,7 +69,7 @@ fn split_passing(text: &[u8], cuts: &[u8], out: &mut [u8]) -> Answer
     let verdict = check(text, cuts);
     match verdict {
         Verdict::Accepted => {
-            let routine = reader::routine_of(text);
+            let routine = file_reader::routine_of(text);
             split_routine(routine, cuts, out)
         }
         Verdict::Refused(refusal) => Answer::Refused(refusal),
@@ -87,7 +87,7 @@ pub fn split(text: &[u8], cuts: &[u8], out: &mut [u8]) -> Answer
     ensures monotone { λ r. ⌜ Delivers (reportLength r) (now (out .exit)) (MonotoneSplit (now (text .entry)) (now (cuts .entry))) ⌝ }
     ensures listed { λ r. ⌜ ListedAlone (Refuses r) (CasesRefused (now (text .entry)) (now (cuts .entry)) (length (now (out .entry)))) ⌝ }
 {
-    let verdict = entry::check(Reader::Bound, 128, out.len(), text);
+    let verdict = file_entry::check(Reader::Bound, 128, out.len(), text);
     match verdict {
         Verdict::Accepted => split_passing(text, cuts, out),
         Verdict::Refused(refusal) => Answer::Refused(refusal),

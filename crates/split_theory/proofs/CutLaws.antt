@@ -13,7 +13,7 @@ use Rattle.cells.specs.declared.Value.the-variants.{Range, Handle}
 use Rattle.cells.specs.declared.Cell.{Cell}
 use Rattle.cells.specs.Cells.{cell, range, high, between}
 use Rattle.cells.specs.Order.{Refines, same, Allowed, among, same-handle}
-use Rattle.cells.specs.Codes.{Confined, Kept}
+use Rattle.cells.specs.HeldCodes.{Confined, Kept}
 use Rattle.cells.proofs.RangeLaws.{Linear, linear, covers, bits-down}
 use Rattle.cells.proofs.CellLaws as cell-laws
 use Rattle.cells.proofs.CellLaws.{Below, ranges, handles, allowed-refines, range-bits, confined-range, kept-self}
@@ -22,8 +22,8 @@ use Rattle.cells.proofs.AllowLaws.{refines-where}
 use Rattle.machine.specs.Machine.{State}
 use Rattle.machine.specs.Order.{Cellwise}
 use Rattle.machine.proofs.StateLaws.{cellwise-refl, cellwise-trans, cellwise-map, cellwise-self}
-use Rattle.changes.specs.declared.Position.{Position}
-use Rattle.changes.specs.Places.{cellAt, replaceAt}
+use Rattle.nearest_changes.specs.declared.Position.{Position}
+use Rattle.nearest_changes.specs.Places.{cellAt, replaceAt}
 use Rattle.split_theory.specs.Split.{dividesValue, lowerPart, upperPart, dividesCell, divides, cutTo, below, from}
 use Rattle.split_theory.proofs.PlaceLaws.{Alike, neither, each, cell-alike, replace-law, replace-right, replace-left, replace-there}
 

@@ -2,9 +2,9 @@
 use mathlib.Core.List.{[]}
 use native.Mathlib.Omega.{arith}
 use mathlib.Core.Path.{refl}
-use Rattle.bounds.specs.Run.{begin, after, run}
-use Rattle.bounds.proofs.RunLaws.{stopped-verdict}
-use Rattle.merges.proofs.Theorems.{merged-interruptible, merged-refused-where}
+use Rattle.bound_theory.specs.Run.{begin, after, run}
+use Rattle.bound_theory.proofs.RunLaws.{stopped-verdict}
+use Rattle.merge_theory.proofs.Theorems.{merged-interruptible, merged-refused-where}
 use Rattle.split_theory.specs.Split.{largest}
 use Rattle.split_theory.specs.Promises.{SplitCovers, SplitKept, SplitPlain, SplitInterruptible, ChosenInterruptible, SplitNotAbove, SplitMonotone, SplitMore, SplitAmong, RunWithinSplit, SplitCases, SplitExact, SplitRefused, SplitAcceptedWhere, SplitRefusedWhere}
 use Rattle.split_theory.proofs.CutLaws.{parts, apart, parts-kept}

@@ -6,16 +6,16 @@ use Prim.Native.Nat.{ℕ, _≤_}
 use mathlib.Core.Logic.{_⊎_, _↔_}
 use lib.IntN.{ℤ}
 use Rattle.cells.specs.Order.{Refines, Allowed}
-use Rattle.cells.specs.Codes.{Kept}
+use Rattle.cells.specs.HeldCodes.{Kept}
 use Rattle.machine.specs.Machine.{State, Code}
 use Rattle.machine.specs.Order.{Cellwise}
 use Rattle.refusals.specs.declared.Refusal.{Refusal}
-use Rattle.bounds.specs.Tree.{Report, accepted, refused}
-use Rattle.bounds.specs.Run.{run}
-use Rattle.bounds.specs.Promises.{NoGreater, Interruptible, Monotone}
-use Rattle.merges.specs.Merge.{merged}
-use Rattle.merges.specs.Promises.{OfSinglePass, Decides}
-use Rattle.changes.specs.declared.Position.{Position}
+use Rattle.bound_theory.specs.Tree.{Report, accepted, refused}
+use Rattle.bound_theory.specs.Run.{run}
+use Rattle.bound_theory.specs.Promises.{NoGreater, Interruptible, Monotone}
+use Rattle.merge_theory.specs.Merge.{merged}
+use Rattle.merge_theory.specs.Promises.{OfSinglePass, Decides}
+use Rattle.nearest_changes.specs.declared.Position.{Position}
 use Rattle.split_theory.specs.Split.{divides, below, from, Cut, split, Case}
 
 -- the two cases of a cut have, together, all starts and no others, and none is in both

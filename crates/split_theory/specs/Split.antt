@@ -12,10 +12,10 @@ use Rattle.cells.specs.declared.Value.the-variants.{Range, Handle}
 use Rattle.cells.specs.declared.Cell.{Cell}
 use Rattle.cells.specs.Cells.{high, between, handle}
 use Rattle.machine.specs.Machine.{State, Code}
-use Rattle.bounds.specs.Tree.{Report, Verdict, accepted, refused}
-use Rattle.merges.specs.Merge.{merged}
-use Rattle.changes.specs.declared.Position.{Position}
-use Rattle.changes.specs.Places.{cellAt, replaceAt}
+use Rattle.bound_theory.specs.Tree.{Report, Verdict, accepted, refused}
+use Rattle.merge_theory.specs.Merge.{merged}
+use Rattle.nearest_changes.specs.declared.Position.{Position}
+use Rattle.nearest_changes.specs.Places.{cellAt, replaceAt}
 
 -- ---- one cell
 

@@ -1,4 +1,4 @@
 pub mod Text
 pub mod Decimal
-pub mod Magnitude
+pub mod HeldMagnitude
 pub mod Memory

@@ -5,7 +5,7 @@ ghost use mathlib.Core.Path.{_≡_};
 ghost use Rattle.text.specs.Text.{equals, split, words, lines, noLine, lookup, indexOf, among};
 ghost use Prim.Native.Nat.{suc, _+_, _-_, _*_, _≤_, min};
 ghost use Rattle.text.specs.Decimal.{digitsFrom, natural, negative, numeral, most, clamped, decimal};
-ghost use Rattle.text.specs.Magnitude.{held, toNumeral};
+ghost use Rattle.text.specs.HeldMagnitude.{held, toNumeral};
 ghost use Rattle.text.specs.Memory.{over};
 
 // What a word says where a number is wanted.

@@ -15,17 +15,17 @@ use Rattle.cells.specs.Order.{Allowed, end, cons}
 use Rattle.cells.proofs.CellLaws.{known-allowed, number-allowed}
 use Rattle.cells.specs.declared.Cell.{Cell}
 use Rattle.instructions.specs.Kinds as kinds
-use Rattle.instructions.specs.Columns as columns
+use Rattle.instructions.specs.HeldColumns as columns
 use Rattle.machine.specs.Lists as lists
 use Rattle.machine.specs.Machine as machine
 use Rattle.machine.specs.Order.{Cellwise}
-use Rattle.bounds.specs.Tree as tree
-use Rattle.bounds.specs.Run as run
-use Rattle.bounds.specs.Promises.{Safe}
-use Rattle.bounds.proofs.Interrupted as interrupted
-use Rattle.routine.specs.Layout as layout
-use Rattle.routine.specs.Rows as rows
-use Rattle.routine.specs.Routine as routines
+use Rattle.bound_theory.specs.Tree as tree
+use Rattle.bound_theory.specs.Run as run
+use Rattle.bound_theory.specs.Promises.{Safe}
+use Rattle.bound_theory.proofs.Interrupted as interrupted
+use Rattle.file_format.specs.Layout as layout
+use Rattle.file_format.specs.Rows as rows
+use Rattle.file_format.specs.Routine as routines
 use Rattle.report.specs.Report as reports
 use Rattle.answers.specs.Answers as answers
 use Rattle.report_theory.specs.Answers as reports-of

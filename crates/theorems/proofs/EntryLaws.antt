@@ -9,12 +9,12 @@ use lib.Dec.{ltb}
 use Rattle.refusals.specs.declared.Refusal.{Refusal}
 use Rattle.refusals.specs.declared.Refusal.the-variants.{ReportMemory}
 use Rattle.text.specs.Text.{lines, Line}
-use Rattle.bounds.specs.Run.{run}
-use Rattle.bounds.specs.Tree.{accepted, refused, bound}
-use Rattle.bounds.specs.Tree as bounds
-use Rattle.routine.specs.Layout.{body}
-use Rattle.routine.specs.Routine.{readBound, readRun}
-use Rattle.routine.specs.Routine as readings
+use Rattle.bound_theory.specs.Run.{run}
+use Rattle.bound_theory.specs.Tree.{accepted, refused, bound}
+use Rattle.bound_theory.specs.Tree as bounds
+use Rattle.file_format.specs.Layout.{body}
+use Rattle.file_format.specs.Routine.{readBound, readRun}
+use Rattle.file_format.specs.Routine as readings
 use Rattle.report.specs.Report.{boundText, runText}
 use Rattle.answers.specs.Answers.{Answer, reported, memoryLimit, ofReading}
 use Rattle.answers.specs.Answers as answers
@@ -22,17 +22,17 @@ use Rattle.answers.proofs.AnswerLaws.{lent-enough, never}
 use Rattle.report_theory.specs.Answers.{ofVerdict, boundRoutine, runRoutine, boundAnswer, runAnswer}
 use Rattle.report_theory.proofs.AnswerLaws.{bound-reported, merge-reported, run-reported, bound-refusal-place, merge-refusal-place, run-refusal-place}
 use Rattle.preview_entry.proofs.PreviewLaws.{preview-reported, preview-place}
-use Rattle.conversions.specs.Answers.{conversionLimit}
-use Rattle.conversions.proofs.FunctionLaws.{import-reported, import-place, export-reported, export-place}
-use Rattle.conformance.proofs.FunctionLaws.{replay-reported, replay-place}
-use Rattle.listings.specs.Listing.{entries, listing}
-use Rattle.explanations.specs.Answers.{explanationLimit, worstMoves, entryNames, explanationText, explained, explainRoutine, explainAnswer}
-use Rattle.explanations.proofs.Theorems.{explanations-fit, explain-place}
+use Rattle.words_entry.specs.Answers.{conversionLimit}
+use Rattle.words_entry.proofs.FunctionLaws.{import-reported, import-place, export-reported, export-place}
+use Rattle.replay_entry.proofs.FunctionLaws.{replay-reported, replay-place}
+use Rattle.explain_lines.specs.Listing.{entries, listing}
+use Rattle.explain_entry.specs.Answers.{explanationLimit, worstMoves, entryNames, explanationText, explained, explainRoutine, explainAnswer}
+use Rattle.explain_entry.proofs.Theorems.{explanations-fit, explain-place}
 use Rattle.explain_merge_entry.proofs.Theorems.{merge-explanations-fit, explain-merge-place}
 use Rattle.split_entry.proofs.Theorems.{splits-fit, split-places}
-use Rattle.sensitivity.proofs.FunctionLaws.{nearest-reported, nearest-place}
-use Rattle.generating.specs.Answers.{generatorLimit}
-use Rattle.generating.proofs.FunctionLaws.{generate-reported, generate-place}
+use Rattle.nearest_entry.proofs.FunctionLaws.{nearest-reported, nearest-place}
+use Rattle.generate_entry.specs.Answers.{generatorLimit}
+use Rattle.generate_entry.proofs.FunctionLaws.{generate-reported, generate-place}
 use Rattle.decide_entry.specs.Answers.{decideRoutine, decideAnswer}
 use Rattle.decide_entry.proofs.PromiseLaws.{decided-refused, decide-reported, decide-place}
 use Rattle.decide_split_entry.proofs.FunctionLaws.{decide-split-reported}

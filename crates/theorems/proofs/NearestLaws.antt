@@ -6,17 +6,17 @@ use mathlib.Core.List.{List}
 use lib.Dec.{ltb}
 use Rattle.refusals.specs.declared.Refusal.{Refusal}
 use Rattle.refusals.specs.declared.Refusal.the-variants.{ReportMemory}
-use Rattle.bounds.specs.Tree.{Verdict, bound}
-use Rattle.bounds.specs.Tree as verdicts
-use Rattle.routine.specs.Routine.{Routine, Reading, readBound}
-use Rattle.routine.specs.Routine as readings
+use Rattle.bound_theory.specs.Tree.{Verdict, bound}
+use Rattle.bound_theory.specs.Tree as verdicts
+use Rattle.file_format.specs.Routine.{Routine, Reading, readBound}
+use Rattle.file_format.specs.Routine as readings
 use Rattle.answers.specs.Answers.{Answer, refused, memoryLimit, ofReading}
 use Rattle.answers.proofs.AnswerLaws.{never}
 use Rattle.report.specs.Report.{boundText}
-use Rattle.searches.specs.Search.{search}
-use Rattle.searches.proofs.Theorems as searches
-use Rattle.sensitivity.specs.Answers.{nearestRoutine, nearestAnswer}
-use Rattle.sensitivity.proofs.FunctionLaws.{from-refused, says-refused}
+use Rattle.nearest_search.specs.Search.{search}
+use Rattle.nearest_search.proofs.Theorems as searches
+use Rattle.nearest_entry.specs.Answers.{nearestRoutine, nearestAnswer}
+use Rattle.nearest_entry.proofs.FunctionLaws.{from-refused, says-refused}
 use Rattle.report_theory.specs.Answers.{ofVerdict, boundRoutine, boundAnswer}
 use Rattle.theorems.specs.Promises.{RefusedAlike}
 

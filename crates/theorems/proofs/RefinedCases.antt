@@ -4,34 +4,34 @@ use mathlib.Core.Path.{_≡_, refl}
 use mathlib.Core.List.{List, [], _∷_}
 use Prim.Native.Nat.{ℕ, _≤_}
 use native.Mathlib.Omega.{arith}
-use Rattle.bounds.specs.Tree.{Report}
-use Rattle.bounds.specs.Promises.{NoGreater}
+use Rattle.bound_theory.specs.Tree.{Report}
+use Rattle.bound_theory.specs.Promises.{NoGreater}
 use Rattle.cells.specs.declared.Cell.{Cell}
-use Rattle.merges.specs.Merge as merges
+use Rattle.merge_theory.specs.Merge as merges
 use Rattle.cells.specs.Merge as cell-merges
 use Rattle.cells.specs.Order.{Refines}
 use Rattle.machine.specs.Order.{Cellwise}
-use Rattle.refinements.proofs.Examples as states
+use Rattle.narrowing_theory.proofs.Examples as states
 use Rattle.report_theory.specs.Answers as reports-of
 use Rattle.console.specs.Line as console
 use Rattle.answers.specs.Answers as answers
 use Rattle.cells.specs.Cells as cells
-use Rattle.instructions.specs.Columns as columns
+use Rattle.instructions.specs.HeldColumns as columns
 use Rattle.text.specs.Decimal as decimals
 use Rattle.instructions.specs.Kinds as kinds
-use Rattle.routine.specs.Layout as layout
+use Rattle.file_format.specs.Layout as layout
 use Rattle.machine.specs.Lists as lists
 use Rattle.machine.specs.Machine as machine
 use Rattle.numbers.specs.Numbers as numbers
 use Rattle.refusals.specs.Refusals as refusals
 use Rattle.report.specs.Report as reports
-use Rattle.routine.specs.Routine as routines
-use Rattle.routine.specs.Rows as rows
-use Rattle.bounds.specs.Run as run
+use Rattle.file_format.specs.Routine as routines
+use Rattle.file_format.specs.Rows as rows
+use Rattle.bound_theory.specs.Run as run
 use Rattle.text.specs.Text as text
-use Rattle.bounds.specs.Tree as tree
+use Rattle.bound_theory.specs.Tree as tree
 use Rattle.cells.specs.Try as try
-use Rattle.refinements.specs.Promises.{Plain}
+use Rattle.narrowing_theory.specs.Promises.{Plain}
 use Rattle.report_theory.specs.Promises.{BoundReported, MergeReported}
 use Rattle.report_theory.specs.Refined.{Narrows, MonotoneReport, KnownReport, MonotoneMerge, KnownMerge}
 use Rattle.theorems.proofs.Cases.{file, one-branch, report, case2}

@@ -19,13 +19,13 @@ use Rattle.cells.specs.Promises as cells
 use Rattle.machine.specs.Machine.{State, Code}
 use Rattle.machine.specs.Order.{Cellwise}
 use Rattle.machine.specs.Promises as machine
-use Rattle.bounds.specs.Tree.{bound}
-use Rattle.bounds.specs.Promises as bounds
-use Rattle.merges.specs.Promises as merges
-use Rattle.refinements.specs.Promises as refinements
-use Rattle.relocations.specs.Promises as relocations
-use Rattle.ranges.specs.Ranges as ranges
-use Rattle.ranges.specs.Former as former
+use Rattle.bound_theory.specs.Tree.{bound}
+use Rattle.bound_theory.specs.Promises as bounds
+use Rattle.merge_theory.specs.Promises as merges
+use Rattle.narrowing_theory.specs.Promises as refinements
+use Rattle.relocation_theory.specs.Promises as relocations
+use Rattle.narrowing_ranges.specs.Ranges as ranges
+use Rattle.narrowing_ranges.specs.Former as former
 use Rattle.report.specs.Report.{share, Nearest}
 use Rattle.answers.specs.Answers.{Answer, reported, refused, memoryLimit, answerOf, reportLength}
 use Rattle.report_theory.specs.Answers.{boundAnswer, mergeAnswer, runAnswer}
@@ -34,26 +34,26 @@ use Rattle.report_theory.specs.Promises as reports
 use Rattle.report_theory.specs.Listed as listed
 use Rattle.report_theory.specs.Refined.{MonotoneReport, KnownReport, MonotoneMerge, KnownMerge}
 use Rattle.report_theory.specs.Refined as refined
-use Rattle.inverses.specs.Sections.{replaced, primitivesLine}
-use Rattle.conversions.specs.Answers.{conversionLimit, importAnswer, exportAnswer}
-use Rattle.conversions.specs.Promises.{BeginsAtZero}
-use Rattle.conversions.specs.Promises as conversions
-use Rattle.replays.specs.Promises as replays
-use Rattle.conformance.specs.Answers.{replayAnswer}
-use Rattle.conformance.specs.Promises as conformance
-use Rattle.patches.specs.Promises as patches
+use Rattle.words_inverse.specs.Sections.{replaced, primitivesLine}
+use Rattle.words_entry.specs.Answers.{conversionLimit, importAnswer, exportAnswer}
+use Rattle.words_entry.specs.Promises.{BeginsAtZero}
+use Rattle.words_entry.specs.Promises as conversions
+use Rattle.replay_steps.specs.Promises as replays
+use Rattle.replay_entry.specs.Answers.{replayAnswer}
+use Rattle.replay_entry.specs.Promises as conformance
+use Rattle.preview_copy.specs.Promises as patches
 use Rattle.preview_entry.specs.Answers.{previewAnswer}
 use Rattle.preview_entry.specs.Promises as previews
-use Rattle.generator.specs.Promises as generator
-use Rattle.generating.specs.Answers.{generatorLimit, generateAnswer}
-use Rattle.searches.specs.Promises as searches
-use Rattle.sensitivity.specs.Answers.{nearestAnswer}
-use Rattle.sensitivity.specs.Promises as sensitivity
+use Rattle.generate_file.specs.Promises as generator
+use Rattle.generate_entry.specs.Answers.{generatorLimit, generateAnswer}
+use Rattle.nearest_search.specs.Promises as searches
+use Rattle.nearest_entry.specs.Answers.{nearestAnswer}
+use Rattle.nearest_entry.specs.Promises as sensitivity
 use Rattle.decide_entry.specs.Answers.{decideAnswer}
 use Rattle.decide_entry.specs.Promises as decisions
-use Rattle.walks.specs.Promises as walks
-use Rattle.explanations.specs.Answers.{explanationLimit, explainAnswer}
-use Rattle.explanations.specs.Promises as explanations
+use Rattle.explain_walk.specs.Promises as walks
+use Rattle.explain_entry.specs.Answers.{explanationLimit, explainAnswer}
+use Rattle.explain_entry.specs.Promises as explanations
 use Rattle.merge_way.specs.Promises as ways
 use Rattle.explain_merge_entry.specs.Answers.{explainMergeAnswer}
 use Rattle.explain_merge_entry.specs.Promises as merge-explanations

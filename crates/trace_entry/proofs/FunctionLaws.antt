@@ -6,12 +6,12 @@ use native.Mathlib.Omega.{arith}
 use lib.ListN.{length, length-append}
 use Rattle.refusals.specs.declared.Refusal.{Refusal}
 use Rattle.refusals.specs.declared.Verdict.the-variants.{Accepted, Refused}
-use Rattle.bounds.specs.Run.{run}
-use Rattle.runs.specs.declared.Ran.{Ran}
-use Rattle.runs.specs.Contract.{judged, verdictOf}
-use Rattle.routine.specs.Routine.{Routine, readRun}
-use Rattle.routine.specs.Routine as readings
-use Rattle.traces.specs.Traces.{Entry}
+use Rattle.bound_theory.specs.Run.{run}
+use Rattle.run_loop.specs.declared.Ran.{Ran}
+use Rattle.run_loop.specs.HeldContract.{judged, verdictOf}
+use Rattle.file_format.specs.Routine.{Routine, readRun}
+use Rattle.file_format.specs.Routine as readings
+use Rattle.replay_trace.specs.Traces.{Entry}
 use Rattle.answers.specs.Answers.{reported, refused, memory, answerOf, reportLength, Delivers}
 use Rattle.answers.specs.declared.Answer as code
 use Rattle.answers.proofs.AnswerLaws.{reading-passed, delivers}

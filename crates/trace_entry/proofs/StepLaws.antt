@@ -8,15 +8,15 @@ use lib.IntN.{ℤ}
 use lib.ListN.{drop}
 use Rattle.cells.specs.declared.Cell.{Cell}
 use Rattle.machine.specs.Machine.{Code, step, takesAnswer}
-use Rattle.states.specs.declared.State as states
-use Rattle.states.specs.View.{whole}
-use Rattle.bounds.specs.Run.{Run, answer, remaining, moved, leads, once, stuckAt, isStuck}
-use Rattle.steps.specs.declared.Price.{Price}
-use Rattle.steps.specs.declared.Next as next
-use Rattle.steps.specs.declared.Next.the-variants as leads-to
-use Rattle.steps.specs.Step.{ofNext}
-use Rattle.replays.specs.Replay.{goesOn, cost}
-use Rattle.replays.specs.Held.{Stands}
+use Rattle.machine_state.specs.declared.State as states
+use Rattle.machine_state.specs.HeldState.{whole}
+use Rattle.bound_theory.specs.Run.{Run, answer, remaining, moved, leads, once, stuckAt, isStuck}
+use Rattle.machine_step.specs.declared.Price.{Price}
+use Rattle.machine_step.specs.declared.Next as next
+use Rattle.machine_step.specs.declared.Next.the-variants as leads-to
+use Rattle.machine_step.specs.HeldStep.{ofNext}
+use Rattle.replay_steps.specs.Replay.{goesOn, cost}
+use Rattle.replay_steps.specs.Held.{Stands}
 
 module _ (c : Code) (ns : List ℕ) (answers : List ℤ) (taken : ℕ) (state : states.State) (blocks : List Cell) (r : Run) (s : Stands ns answers taken state blocks false r)
     -- the step that the run is at leads to n, with the state t and the blocks fs, and takes an answer or not

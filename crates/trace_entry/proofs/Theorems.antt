@@ -11,24 +11,24 @@ use Rattle.text.specs.Text.{bytes, lines}
 use Rattle.text.proofs.TextLaws.{Every}
 use Rattle.machine.specs.Forward.{Forward}
 use Rattle.machine.proofs.AddressLaws.{Confined}
-use Rattle.bounds.specs.Tree.{Report, Verdict}
-use Rattle.bounds.specs.Tree as verdicts
-use Rattle.bounds.specs.Run.{begin, run}
-use Rattle.bounds.proofs.ForwardLaws.{forward-once}
-use Rattle.bounds.proofs.PlaceLaws.{run-place}
-use Rattle.routine.specs.Rows.{Passes}
-use Rattle.routine.specs.Routine.{Routine, routine, routineOf, readRun}
-use Rattle.routine.proofs.RowLaws.{run-passes}
-use Rattle.routine.proofs.PassingLaws.{code-few}
-use Rattle.routine.proofs.BranchLaws.{passing-forward}
-use Rattle.routine.proofs.PlaceLaws.{read-run-place, confined, start-small}
+use Rattle.bound_theory.specs.Tree.{Report, Verdict}
+use Rattle.bound_theory.specs.Tree as verdicts
+use Rattle.bound_theory.specs.Run.{begin, run}
+use Rattle.bound_theory.proofs.ForwardLaws.{forward-once}
+use Rattle.bound_theory.proofs.PlaceLaws.{run-place}
+use Rattle.file_format.specs.Rows.{Passes}
+use Rattle.file_format.specs.Routine.{Routine, routine, routineOf, readRun}
+use Rattle.file_format.proofs.RowLaws.{run-passes}
+use Rattle.file_format.proofs.PassingLaws.{code-few}
+use Rattle.file_format.proofs.BranchLaws.{passing-forward}
+use Rattle.file_format.proofs.PlaceLaws.{read-run-place, confined, start-small}
 use Rattle.report_theory.proofs.SizeLaws.{code-length, priced}
-use Rattle.traces.specs.Traces.{Entry, traceVerdict, entries}
-use Rattle.replays.specs.Replay.{replay}
+use Rattle.replay_trace.specs.Traces.{Entry, traceVerdict, entries}
+use Rattle.replay_steps.specs.Replay.{replay}
 use Rattle.answers.specs.Answers.{reported, refused, memoryLimit, ofVerdict}
 use Rattle.answers.proofs.AnswerLaws.{never, from-reading, place-from}
-use Rattle.conformance.specs.Answers.{outcomeText, replayRoutine, replayAnswer}
-use Rattle.conformance.proofs.FunctionLaws.{replay-passed}
+use Rattle.replay_entry.specs.Answers.{outcomeText, replayRoutine, replayAnswer}
+use Rattle.replay_entry.proofs.FunctionLaws.{replay-passed}
 use Rattle.trace_theory.specs.Trace.{trace, traceText}
 use Rattle.trace_theory.specs.Promises.{Adds}
 use Rattle.trace_theory.proofs.RecordingLaws.{recording-sums, recording-within}

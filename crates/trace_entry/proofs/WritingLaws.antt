@@ -11,12 +11,12 @@ use Rattle.text.specs.Memory.{over}
 use Rattle.text.proofs.MemoryLaws.{Wrote, wrote-none, wrote-more}
 use Rattle.cells.specs.declared.Cell.{Cell}
 use Rattle.machine.specs.Machine.{Code, reblock}
-use Rattle.states.specs.declared.State as states
-use Rattle.states.specs.View.{WellFormed, whole}
-use Rattle.bounds.specs.Run.{Run, begin, once}
-use Rattle.traces.specs.Traces.{Entry}
-use Rattle.replays.specs.Replay.{goesOn}
-use Rattle.replays.specs.Held.{Stands}
+use Rattle.machine_state.specs.declared.State as states
+use Rattle.machine_state.specs.HeldState.{WellFormed, whole}
+use Rattle.bound_theory.specs.Run.{Run, begin, once}
+use Rattle.replay_trace.specs.Traces.{Entry}
+use Rattle.replay_steps.specs.Replay.{goesOn}
+use Rattle.replay_steps.specs.Held.{Stands}
 use Rattle.trace_theory.specs.Trace.{recorded, recording, trace, entryText, entriesText}
 use Rattle.trace_entry.specs.declared.Recorded.{Recorded}
 use Rattle.trace_entry.specs.Held.{Records, entryOf}

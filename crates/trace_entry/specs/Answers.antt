@@ -1,10 +1,10 @@
 -- The answer of a trace to a routine file and to a length of lent memory. (docs/ROUTINE-FILE.md, The trace of a run)
 use Prim.Native.Nat.{ℕ}
 use mathlib.Core.List.{List}
-use Rattle.bounds.specs.Tree.{Verdict}
-use Rattle.bounds.specs.Tree as verdicts
-use Rattle.bounds.specs.Run.{run}
-use Rattle.routine.specs.Routine.{Routine, readRun}
+use Rattle.bound_theory.specs.Tree.{Verdict}
+use Rattle.bound_theory.specs.Tree as verdicts
+use Rattle.bound_theory.specs.Run.{run}
+use Rattle.file_format.specs.Routine.{Routine, readRun}
 use Rattle.answers.specs.Answers.{Answer, reported, refused, lending, ofReading}
 use Rattle.trace_theory.specs.Trace.{trace, traceText}
 

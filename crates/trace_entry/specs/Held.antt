@@ -7,14 +7,14 @@ use lib.IntN.{ℤ}
 use lib.ListN.{length}
 use Rattle.cells.specs.declared.Cell.{Cell}
 use Rattle.machine.specs.Machine.{Code}
-use Rattle.states.specs.declared.State as states
-use Rattle.states.specs.View.{WellFormed}
-use Rattle.bounds.specs.Run.{Run, once}
-use Rattle.traces.specs.Traces.{Entry}
-use Rattle.replays.specs.Replay.{goesOn, cost}
-use Rattle.replays.specs.Held.{Stands}
-use Rattle.reader.specs.declared.Routine.{Routine}
-use Rattle.entry.specs.Held.{routineIn}
+use Rattle.machine_state.specs.declared.State as states
+use Rattle.machine_state.specs.HeldState.{WellFormed}
+use Rattle.bound_theory.specs.Run.{Run, once}
+use Rattle.replay_trace.specs.Traces.{Entry}
+use Rattle.replay_steps.specs.Replay.{goesOn, cost}
+use Rattle.replay_steps.specs.Held.{Stands}
+use Rattle.file_reader.specs.declared.Routine.{Routine}
+use Rattle.file_entry.specs.Held.{routineIn}
 use Rattle.answers.specs.Answers.{Answer, reported}
 use Rattle.trace_theory.specs.Trace.{trace}
 use Rattle.trace_entry.specs.declared.Recorded.{Recorded}

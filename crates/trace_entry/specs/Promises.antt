@@ -5,12 +5,12 @@ use mathlib.Core.Path.{_≡_}
 use mathlib.Core.List.{List}
 use lib.ListN.{length}
 use Rattle.text.specs.Text.{bytes}
-use Rattle.bounds.specs.Tree.{Report, accepted}
-use Rattle.bounds.specs.Run.{run}
-use Rattle.routine.specs.Routine.{Routine, routine, readRun}
-use Rattle.traces.specs.Traces.{entries}
+use Rattle.bound_theory.specs.Tree.{Report, accepted}
+use Rattle.bound_theory.specs.Run.{run}
+use Rattle.file_format.specs.Routine.{Routine, routine, readRun}
+use Rattle.replay_trace.specs.Traces.{entries}
 use Rattle.answers.specs.Answers.{reported, memoryLimit}
-use Rattle.conformance.specs.Answers.{replayAnswer}
+use Rattle.replay_entry.specs.Answers.{replayAnswer}
 use Rattle.trace_theory.specs.Trace.{trace, traceText}
 use Rattle.trace_theory.specs.Promises.{Adds}
 use Rattle.trace_entry.specs.Answers.{traceMemory, traceAnswer}

@@ -1,21 +1,21 @@
 // The run of a routine file as a card would record it, on texts and lent memory. The meaning is in specs/.
 use answers::Answer;
 use cells::Cell;
-use reader::Routine;
+use file_check::Reader;
+use file_reader::Routine;
+use machine_state::State;
+use machine_step::Next;
 use refusals::Verdict;
-use rows::Reader;
-use states::State;
-use steps::Next;
 ghost use mathlib.Core.Path.{_≡_};
 ghost use mathlib.Core.List.{_++_};
 ghost use Prim.Native.Nat.{_+_, _≤_, _<_};
 ghost use lib.ListN.{length, drop};
 ghost use Rattle.text.specs.Memory.{over};
-ghost use Rattle.states.specs.Program.{programOf, sizesOf, IsProgram};
-ghost use Rattle.states.specs.View.{WellFormed, whole};
-ghost use Rattle.runs.specs.Contract.{Runnable};
-ghost use Rattle.reader.specs.Reader.{Limited};
-ghost use Rattle.entry.specs.Held.{routineIn};
+ghost use Rattle.machine_state.specs.HeldProgram.{programOf, sizesOf, IsProgram};
+ghost use Rattle.machine_state.specs.HeldState.{WellFormed, whole};
+ghost use Rattle.run_loop.specs.HeldContract.{Runnable};
+ghost use Rattle.file_reader.specs.HeldRoutine.{Limited};
+ghost use Rattle.file_entry.specs.Held.{routineIn};
 ghost use Rattle.answers.specs.Answers.{memory, answerOf, reportLength, Delivers};
 ghost use Rattle.trace_theory.specs.Trace.{trace, entryText, entriesText, traceText};
 ghost use Rattle.trace_entry.specs.Answers.{traceRoutine, traceAnswer};
@@ -44,10 +44,10 @@ fn record_step(
     requires { ⌜ IsProgram (now code) × WellFormed state × (taken < 1000000) ⌝ }
     ensures { λ r. ⌜ Records (programOf (now (code .entry))) (sizesOf (now (code .entry))) (now (answers .entry)) taken state blocks r ⌝ }
 {
-    let answer = runs::answer_at(answers, taken);
-    let stepped = steps::step(code, answer, state, blocks);
+    let answer = run_loop::answer_at(answers, taken);
+    let stepped = machine_step::step(code, answer, state, blocks);
     let next = stepped.next;
-    let asked = runs::taken_after(stepped.calls, taken);
+    let asked = run_loop::taken_after(stepped.calls, taken);
     if let Next::Stops(p) = next {
         return Recorded {
             made: true,
@@ -177,10 +177,10 @@ pub fn trace(text: &[u8], out: &mut [u8]) -> Answer
     ensures { λ _. ⌜ now (out .exit) ≡ memory (traceAnswer (now (text .entry)) (length (now (out .entry)))) (now (out .entry)) ⌝ }
     ensures traces { λ r. ⌜ Delivers (reportLength r) (now (out .exit)) (TracesRun (now (text .entry))) ⌝ }
 {
-    let verdict = entry::check(Reader::Run, 32768, out.len(), text);
+    let verdict = file_entry::check(Reader::Run, 32768, out.len(), text);
     match verdict {
         Verdict::Accepted => {
-            let routine = reader::routine_of(text);
+            let routine = file_reader::routine_of(text);
             trace_routine(routine, out)
         }
         Verdict::Refused(refusal) => Answer::Refused(refusal),

@@ -10,12 +10,12 @@ use Rattle.numbers.specs.Numbers.{wrap, holds}
 use Rattle.cells.specs.Try.{_>>=_}
 use Rattle.cells.specs.Cells.{calculate₂, results, range₂, wider, map₂, operate₂, conditionIn, condition}
 use Rattle.instructions.specs.Kinds.{kinds, kindNames, operand}
-use Rattle.instructions.specs.Columns.{kindAt}
+use Rattle.instructions.specs.HeldColumns.{kindAt}
 use Rattle.machine.specs.Lists.{nth, without}
 use Rattle.machine.specs.Machine.{instruction, Instruction, Code, fetch, height, jump, load, restack, push, pop, advance, ahead, withExtra, ways, perform, prepare, execute, step, takes, takesAnswer}
-use Rattle.bounds.specs.Run.{begin, answer, remaining, moved, leads, once, stuckAt, isStuck}
-use Rattle.bounds.proofs.Interrupted as case-1
-use Rattle.replays.specs.Replay.{goesOn, cost}
+use Rattle.bound_theory.specs.Run.{begin, answer, remaining, moved, leads, once, stuckAt, isStuck}
+use Rattle.bound_theory.proofs.Interrupted as case-1
+use Rattle.replay_steps.specs.Replay.{goesOn, cost}
 use Rattle.trace_theory.specs.Trace.{recording, trace, entryText, entriesText, traceText}
 
 abbrev line : List ℕ → ℕ → ℕ → ℕ → Instruction

@@ -13,12 +13,12 @@ use Rattle.machine.specs.Machine.{Code, Instruction, fetch, Next, stops, goes, 
 use Rattle.machine.proofs.PriceLaws.{AtMost, Both, Priced, is-stuck, stops-at, goes-at, opens-at, step-price}
 use Rattle.machine.proofs.LeadLaws.{Leads, goes-there}
 use Rattle.machine.proofs.AddressLaws.{Confined, AddressAtMost, step-at-most}
-use Rattle.bounds.specs.Run.{Run, answer, moved, leads, once, after, stuckAt, isStuck}
-use Rattle.bounds.proofs.RunLaws.{after-still}
-use Rattle.traces.specs.Traces.{Entry}
-use Rattle.replays.specs.Replay.{goesOn, cost, agrees, agreed, replayFrom}
-use Rattle.replays.specs.Promises.{spent}
-use Rattle.replays.proofs.ReplayLaws.{after-first}
+use Rattle.bound_theory.specs.Run.{Run, answer, moved, leads, once, after, stuckAt, isStuck}
+use Rattle.bound_theory.proofs.RunLaws.{after-still}
+use Rattle.replay_trace.specs.Traces.{Entry}
+use Rattle.replay_steps.specs.Replay.{goesOn, cost, agrees, agreed, replayFrom}
+use Rattle.replay_steps.specs.Promises.{spent}
+use Rattle.replay_steps.proofs.ReplayLaws.{after-first}
 use Rattle.trace_theory.specs.Trace.{recorded, recording}
 
 -- ---- one step

@@ -15,14 +15,14 @@ use Rattle.text.proofs.LineLaws.{endedLine}
 use Rattle.text.proofs.DecimalLaws.{decimal-digits, decimal-length, decimal-read}
 use Rattle.numbers.specs.Numbers.{range, within}
 use Rattle.instructions.specs.Kinds.{addresses}
-use Rattle.routine.specs.declared.RefusedLine.the-variants.{Nowhere as nowhere}
-use Rattle.routine.specs.Rows.{isNumeral, valueOf, value, at}
-use Rattle.routine.specs.Routine.{naturalIn}
-use Rattle.routine.proofs.RangeLaws.{inside-is}
-use Rattle.inverses.specs.Sections.{linesText}
-use Rattle.inverses.proofs.JoinLaws.{Free, text-free, split-alone, split-first, lines-of-text}
-use Rattle.traces.specs.Traces.{entryLimit, cycleRange, Entry, cycles, entryLaidOut, textLaidOut, lineLaidOut, entryInRange, textInRange, lineInRange, earliest, traceVerdict, entryOf, entries}
-use Rattle.traces.proofs.TraceLaws.{check-accepted}
+use Rattle.file_format.specs.declared.RefusedLine.the-variants.{Nowhere as nowhere}
+use Rattle.file_format.specs.Rows.{isNumeral, valueOf, value, at}
+use Rattle.file_format.specs.Routine.{naturalIn}
+use Rattle.file_format.proofs.RangeLaws.{inside-is}
+use Rattle.words_inverse.specs.Sections.{linesText}
+use Rattle.words_inverse.proofs.JoinLaws.{Free, text-free, split-alone, split-first, lines-of-text}
+use Rattle.replay_trace.specs.Traces.{entryLimit, cycleRange, Entry, cycles, entryLaidOut, textLaidOut, lineLaidOut, entryInRange, textInRange, lineInRange, earliest, traceVerdict, entryOf, entries}
+use Rattle.replay_trace.proofs.TraceLaws.{check-accepted}
 use Rattle.trace_theory.specs.Trace.{entryText, entriesText, traceNames, traceText}
 use Rattle.trace_theory.proofs.RecordingLaws.{Within}
 

@@ -3,9 +3,9 @@ use Prim.Native.Nat.{ℕ}
 use mathlib.Core.Path.{_≡_, refl, ap, sym, _∙_}
 use mathlib.Core.Bool.{Bool, true, false}
 use native.Mathlib.Omega.{arith}
-use Rattle.bounds.specs.Tree.{Report, accepted}
-use Rattle.bounds.specs.Run.{Run, begin, judgeRun, run}
-use Rattle.replays.specs.Replay.{replay}
+use Rattle.bound_theory.specs.Tree.{Report, accepted}
+use Rattle.bound_theory.specs.Run.{Run, begin, judgeRun, run}
+use Rattle.replay_steps.specs.Replay.{replay}
 use Rattle.trace_theory.specs.Trace.{trace}
 use Rattle.trace_theory.specs.Promises.{TraceAgrees, TraceAdds}
 use Rattle.trace_theory.proofs.RecordingLaws.{recording-agrees, recording-sums}

@@ -6,11 +6,11 @@ use mathlib.Core.List.{List}
 use lib.IntN.{ℤ}
 use lib.ListN.{length}
 use Rattle.machine.specs.Machine.{State, Code}
-use Rattle.bounds.specs.Tree.{Report, accepted}
-use Rattle.bounds.specs.Run.{begin, after, run}
-use Rattle.traces.specs.Traces.{Entry}
-use Rattle.replays.specs.Replay.{agreed, replay}
-use Rattle.replays.specs.Promises.{spent}
+use Rattle.bound_theory.specs.Tree.{Report, accepted}
+use Rattle.bound_theory.specs.Run.{begin, after, run}
+use Rattle.replay_trace.specs.Traces.{Entry}
+use Rattle.replay_steps.specs.Replay.{agreed, replay}
+use Rattle.replay_steps.specs.Promises.{spent}
 use Rattle.trace_theory.specs.Trace.{trace}
 
 -- replaying it against the file says AGREES: of every run, also of one that is refused

@@ -6,9 +6,9 @@ use lib.IntN.{ℤ}
 use Rattle.text.specs.Text.{bytes}
 use Rattle.text.specs.Decimal.{decimal}
 use Rattle.machine.specs.Machine.{State, Code}
-use Rattle.bounds.specs.Run.{Run, begin, once}
-use Rattle.traces.specs.Traces.{Entry}
-use Rattle.replays.specs.Replay.{goesOn, cost}
+use Rattle.bound_theory.specs.Run.{Run, begin, once}
+use Rattle.replay_trace.specs.Traces.{Entry}
+use Rattle.replay_steps.specs.Replay.{goesOn, cost}
 
 -- the step that the run is at, as it is recorded: its address, and its cost (primitive and taken jump included)
 abbrev pub recorded : Code → Run → Entry

@@ -9,10 +9,10 @@ use Rattle.refusals.specs.declared.Verdict.the-variants.{Accepted, Refused}
 use Rattle.text.specs.Text as text
 use Rattle.text.specs.Decimal as decimals
 use Rattle.instructions.specs.Kinds as table
-use Rattle.instructions.specs.Columns as columns
+use Rattle.instructions.specs.HeldColumns as columns
 use Rattle.instructions.specs.Opcodes as opcodes
-use Rattle.routine.specs.Layout as layout
-use Rattle.routine.specs.Rows as rows
+use Rattle.file_format.specs.Layout as layout
+use Rattle.file_format.specs.Rows as rows
 use Rattle.words.specs.Words as words
 use Rattle.words.specs.Decoding as decoding
 use Rattle.words.specs.Lines as lines

@@ -18,7 +18,7 @@ use Rattle.text.proofs.TextLaws as every
 use Rattle.instructions.specs.Kinds.{kinds}
 use Rattle.instructions.proofs.ColumnLaws.{column-at}
 use Rattle.text.specs.declared.Place.the-variants.{At as at}
-use Rattle.instructions.specs.Columns.{kindAt}
+use Rattle.instructions.specs.HeldColumns.{kindAt}
 use Rattle.instructions.specs.Opcodes.{placeFrom}
 use Rattle.instructions.proofs.OpcodeLaws.{kind-of-opcode}
 use Rattle.words.specs.Words.{wordBits, Word, whole, wordsOf, allBytes}

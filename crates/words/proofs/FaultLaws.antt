@@ -10,7 +10,7 @@ use lib.ListN.{length, drop}
 use lib.Dec.{ltb}
 use borrow.Author.Tests.{lt-ltb, le-ltb, ltb-true}
 use Rattle.text.specs.declared.Place.the-variants.{At as at, Missing as missing}
-use Rattle.instructions.specs.Columns.{kindAt}
+use Rattle.instructions.specs.HeldColumns.{kindAt}
 use Rattle.words.specs.declared.Head.the-variants as heads
 use Rattle.words.specs.Words.{Word, wordsOf}
 use Rattle.words.specs.Decoding.{Item, opcode, Entry, item, entries, decoded, callListed, faultFrom, wordFault}

@@ -13,7 +13,7 @@ use mir.Val.{SFits}
 use borrow.Author.Tests.{ltb-true}
 use Rattle.text.specs.declared.Place.{Place}
 use Rattle.text.specs.declared.Place.the-variants.{At as at, Missing as missing}
-use Rattle.instructions.specs.Columns.{kindAt}
+use Rattle.instructions.specs.HeldColumns.{kindAt}
 use Rattle.instructions.specs.Opcodes.{kindCoded}
 use Rattle.instructions.proofs.OpcodeLaws.{opcode-of-kind}
 use Rattle.words.specs.Words.{Word, whole, cut}

@@ -9,12 +9,12 @@ use Rattle.numbers.specs.Numbers.{residue}
 use Rattle.instructions.specs.Kinds.{kindNames}
 use Rattle.instructions.specs.declared.Argument.{Argument}
 use Rattle.instructions.specs.declared.Argument.the-variants.{Absent, Target, Primitive, Within}
-use Rattle.instructions.specs.Columns.{kindAt}
-use Rattle.routine.specs.declared.Section.the-variants.{Primitives as primitives}
-use Rattle.routine.specs.declared.Role.the-variants.{Names as names}
-use Rattle.routine.specs.Layout.{body, codeLines, listed}
-use Rattle.routine.specs.Rows.{op, arg}
-use Rattle.routine.specs.Routine.{argumentValue, firstAddress}
+use Rattle.instructions.specs.HeldColumns.{kindAt}
+use Rattle.file_format.specs.declared.Section.the-variants.{Primitives as primitives}
+use Rattle.file_format.specs.declared.Role.the-variants.{Names as names}
+use Rattle.file_format.specs.Layout.{body, codeLines, listed}
+use Rattle.file_format.specs.Rows.{op, arg}
+use Rattle.file_format.specs.Routine.{argumentValue, firstAddress}
 use Rattle.words.specs.Words.{wordBits, allBytes}
 use Rattle.words.specs.Decoding.{Item, itemOf, hasArgument}
 use Rattle.words.specs.Held.{sizeOf}

@@ -9,9 +9,9 @@ use Rattle.refusals.specs.declared.Verdict.the-variants.{Accepted as accepted, 
 use Rattle.text.specs.Text.{isEmpty, words, Line, lines, all}
 use Rattle.text.specs.declared.Place.{Place}
 use Rattle.text.specs.declared.Place.the-variants.{At as at, Missing as missing}
-use Rattle.routine.specs.declared.Section.the-variants.{Primitives as primitives}
-use Rattle.routine.specs.Layout.{list}
-use Rattle.routine.specs.Rows.{namesLaidOut, wellNamed}
+use Rattle.file_format.specs.declared.Section.the-variants.{Primitives as primitives}
+use Rattle.file_format.specs.Layout.{list}
+use Rattle.file_format.specs.Rows.{namesLaidOut, wellNamed}
 use Rattle.words.specs.Words.{wordsOf}
 use Rattle.words.specs.Decoding.{decoded, items, codeFault}
 use Rattle.words.specs.Lines.{codeText}

@@ -6,7 +6,7 @@ ghost use Prim.Native.Nat.{suc, _+_, _*_, _≤_, _<_};
 ghost use lib.IntN.{pos, _+ℤ_};
 ghost use lib.ListN.{length, getD, drop};
 ghost use Rattle.text.specs.Memory.{over};
-ghost use Rattle.instructions.specs.Columns.{kindAt};
+ghost use Rattle.instructions.specs.HeldColumns.{kindAt};
 ghost use Rattle.instructions.specs.Opcodes.{ByOpcode};
 ghost use Rattle.words.specs.Words.{wordBits, littleEndian, wordsOf, bytesOf};
 ghost use Rattle.words.specs.Decoding.{decoded, items, hasArgument, isPlace, callListed, wordFault, isFound, offsetFault, codeFault};

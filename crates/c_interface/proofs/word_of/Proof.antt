@@ -1,6 +1,6 @@
 -- `c_interface::word_of` meets its contract. Assumes nothing.
 use Rattle.c_interface.specs.Functions.{wordOf}
-use Rattle.lines.proofs.LineLaws.{arm}
+use Rattle.file_lines.proofs.LineLaws.{arm}
 use Rattle.c_interface.proofs.FunctionLaws.{word-reported}
 use borrow.Author.Needs.{needs}
 use Rattle.c_interface.proofs.word_of.Statement.{statement}

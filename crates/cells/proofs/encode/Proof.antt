@@ -9,7 +9,7 @@ use Rattle.numbers.proofs.SignedLaws.{read}
 use Rattle.cells.specs.declared.Cell.{Cell}
 use Rattle.cells.specs.declared.Value.the-variants.{Range, Handle}
 use Rattle.cells.specs.Cells.{results}
-use Rattle.cells.specs.Codes.{cellOf, confineValue, confine}
+use Rattle.cells.specs.HeldCodes.{cellOf, confineValue, confine}
 use Rattle.cells.proofs.ComputeLaws.{encoded-handle}
 use borrow.Author.Needs.{needs}
 use Rattle.cells.proofs.encode.Statement.{statement}

@@ -15,7 +15,7 @@ use Rattle.cells.specs.declared.Cell.{Cell}
 use Rattle.cells.specs.declared.Unary.{Unary}
 use Rattle.cells.specs.declared.Value.the-variants.{Range}
 use Rattle.cells.specs.Try.{done}
-use Rattle.cells.specs.Small.{Small}
+use Rattle.cells.specs.HeldSmall.{Small}
 use Rattle.cells.specs.Cells.{range, number, calculate₁, results, least₁, range₁, map₁, operate₁}
 use Rattle.cells.proofs.AnswerLaws.{entered, operated₁}
 use Rattle.cells.proofs.ComputeLaws.{least-near, near-64, near-small}

@@ -1,6 +1,6 @@
 -- `decide_entry::decide_by_merging` meets its contract. Assumes nothing.
 use Rattle.answers.proofs.AnswerLaws.{gives-report, gives-refusal}
-use Rattle.entry.specs.Held.{routineIn}
+use Rattle.file_entry.specs.Held.{routineIn}
 use Rattle.decide_entry.proofs.FunctionLaws.{merging-decides, merging-refuses}
 use borrow.Author.Needs.{needs}
 use Rattle.decide_entry.proofs.decide_by_merging.Statement.{statement}

@@ -1,7 +1,7 @@
 -- `decide_entry::decide_routine` meets its contract. Assumes nothing.
 use mathlib.Core.Path.{sym, _∙_}
 use Rattle.answers.proofs.AnswerLaws.{gives-report, gives-refusal}
-use Rattle.entry.specs.Held.{routineIn}
+use Rattle.file_entry.specs.Held.{routineIn}
 use Rattle.decide_entry.proofs.FunctionLaws.{shown-refused, routine-first, routine-refused}
 use borrow.Author.Needs.{needs}
 use Rattle.decide_entry.proofs.decide_routine.Statement.{statement}

@@ -4,7 +4,7 @@ use mathlib.Core.List.{List, [], _∷_}
 use lib.ListN.{length}
 use Rattle.text.specs.Decimal.{decimal}
 use Rattle.report.specs.Report.{space, feed}
-use Rattle.report.specs.Decode.{reportOf}
+use Rattle.report.specs.HeldPath.{reportOf}
 use Rattle.decide_entry.specs.Decision.{decisionNames, decisionWords, decisionText}
 use Rattle.text.proofs.PlaceLaws.{Place, joined, begins-first, kept, room, next, finished-first}
 use borrow.Author.Needs.{needs}

@@ -1,6 +1,6 @@
 -- `decide_split_entry::decide_cases` meets its contract. Assumes nothing.
 use Rattle.answers.proofs.AnswerLaws.{gives-report, gives-refusal}
-use Rattle.entry.specs.Held.{routineIn}
+use Rattle.file_entry.specs.Held.{routineIn}
 use Rattle.decide_split_entry.proofs.FunctionLaws.{cases-decide, cases-refuse}
 use borrow.Author.Needs.{needs}
 use Rattle.decide_split_entry.proofs.decide_cases.Statement.{statement}

@@ -3,12 +3,12 @@ use Prim.Native.Nat.{_≤_}
 use mathlib.Core.Path.{_≡_, sym, ap, _∙_}
 use lib.ListN.{length}
 use Rattle.refusals.specs.declared.Verdict.the-variants.{Accepted}
-use Rattle.routine.specs.Routine.{readBound}
-use Rattle.rows.specs.Checks.{readBy, checkOf}
-use Rattle.rows.specs.declared.Reader.the-variants.{Bound}
+use Rattle.file_format.specs.Routine.{readBound}
+use Rattle.file_check.specs.HeldChecks.{readBy, checkOf}
+use Rattle.file_check.specs.declared.Reader.the-variants.{Bound}
 use Rattle.answers.specs.Answers.{memory, answerOf}
-use Rattle.entry.specs.Held.{admitted}
-use Rattle.entry.proofs.EntryLaws.{accepted-passes, accepted-enough, accepted-read, check-refuses}
+use Rattle.file_entry.specs.Held.{admitted}
+use Rattle.file_entry.proofs.EntryLaws.{accepted-passes, accepted-enough, accepted-read, check-refuses}
 use Rattle.split_entry.specs.Held.{Read}
 use Rattle.decide_split_entry.specs.Answers.{decideSplitRoutine, decideSplitAnswer}
 use Rattle.decide_split_entry.proofs.FunctionLaws.{decide-split-passed}

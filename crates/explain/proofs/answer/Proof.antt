@@ -2,7 +2,7 @@
 use mathlib.Core.Path.{_∙_}
 use lib.ListN.{length}
 use borrow.Author.Needs.{needs}
-use Rattle.explanations.specs.Answers.{explainAnswer}
+use Rattle.explain_entry.specs.Answers.{explainAnswer}
 use Rattle.console.proofs.PrintLaws.{line-held, line-printed}
 use Rattle.explain.proofs.answer.Statement.{statement}
 use Rattle.explain.proofs.answer.Tie as tie

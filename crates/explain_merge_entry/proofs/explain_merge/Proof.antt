@@ -2,12 +2,12 @@
 use mathlib.Core.Path.{sym, ap, _∙_}
 use lib.ListN.{length}
 use Rattle.text.specs.Text.{lines}
-use Rattle.routine.specs.Layout.{body}
-use Rattle.routine.specs.Routine.{readBound}
-use Rattle.rows.specs.Checks.{readBy}
-use Rattle.rows.specs.declared.Reader.the-variants.{Bound}
+use Rattle.file_format.specs.Layout.{body}
+use Rattle.file_format.specs.Routine.{readBound}
+use Rattle.file_check.specs.HeldChecks.{readBy}
+use Rattle.file_check.specs.declared.Reader.the-variants.{Bound}
 use Rattle.answers.specs.Answers.{memory, answerOf}
-use Rattle.entry.proofs.EntryLaws.{accepted-passes, check-refuses, read-holds}
+use Rattle.file_entry.proofs.EntryLaws.{accepted-passes, check-refuses, read-holds}
 use Rattle.explain_merge_entry.specs.Answers.{explainMergeRoutine, explainMergeAnswer}
 use Rattle.explain_merge_entry.proofs.FunctionLaws.{explain-passed, explain-printable}
 use borrow.Author.Needs.{needs}

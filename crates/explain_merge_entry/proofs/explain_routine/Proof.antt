@@ -3,12 +3,12 @@ use mathlib.Core.Path.{_≡_, refl}
 use native.Mathlib.Omega.{arith}
 use lib.ListN.{length}
 use Rattle.text.specs.Text.{lines}
-use Rattle.states.specs.Program.{firstOf}
-use Rattle.states.proofs.Stack.{length-images}
-use Rattle.merges.specs.Merge.{merged}
+use Rattle.machine_state.specs.HeldProgram.{firstOf}
+use Rattle.machine_state.proofs.Stack.{length-images}
+use Rattle.merge_theory.specs.Merge.{merged}
 use Rattle.merge_origins.proofs.KeptLaws.{nothing-kept}
 use Rattle.answers.proofs.AnswerLaws.{gives-report, gives-refusal}
-use Rattle.entry.specs.Held.{routineIn}
+use Rattle.file_entry.specs.Held.{routineIn}
 use Rattle.routine_figures.proofs.FigureLaws.{swept-shareable}
 use Rattle.explain_merge_entry.proofs.FunctionLaws.{kept-origins, routine-explained, routine-refused, shown-accepted}
 use borrow.Author.Needs.{needs}

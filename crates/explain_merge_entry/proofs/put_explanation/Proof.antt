@@ -6,9 +6,9 @@ use lib.ListN.{length}
 use Rattle.text.specs.Text.{lines}
 use Rattle.text.proofs.PlaceLaws.{Place, joined, begins-first, room, next, finished-first}
 use Rattle.report.specs.Report.{boundText}
-use Rattle.explanations.specs.Answers.{entryNames}
-use Rattle.explanations.specs.Held.{reportIn}
-use Rattle.explanations.proofs.FunctionLaws.{wrote-first}
+use Rattle.explain_entry.specs.Answers.{entryNames}
+use Rattle.explain_entry.specs.Held.{reportIn}
+use Rattle.explain_entry.proofs.FunctionLaws.{wrote-first}
 use Rattle.explain_merge_entry.specs.Held.{wayIn}
 use Rattle.explain_merge_entry.proofs.FunctionLaws.{text-parts}
 use borrow.Author.Needs.{needs}

@@ -6,10 +6,10 @@ use native.Mathlib.Omega.{arith}
 use lib.ListN.{length, take, drop}
 use Rattle.text.specs.Text.{lines}
 use Rattle.text.specs.Memory.{over}
-use Rattle.states.specs.Program.{firstOf, linesIn}
+use Rattle.machine_state.specs.HeldProgram.{firstOf, linesIn}
 use Rattle.merge_way.specs.Way.{out, wayBack}
-use Rattle.reader.specs.declared.Routine.{Routine}
-use Rattle.explain_merge_walk.specs.Lasts.{Lists, wayText}
+use Rattle.file_reader.specs.declared.Routine.{Routine}
+use Rattle.explain_merge_walk.specs.HeldLasts.{Lists, wayText}
 use Rattle.explain_merge_walk.proofs.Theorems.{keeps-traced, lists-usable}
 use Rattle.explain_merge_entry.specs.Held.{originsIn, wayIn}
 use Rattle.explain_merge_entry.proofs.FunctionLaws.{way-goals, goals-few, way-written}

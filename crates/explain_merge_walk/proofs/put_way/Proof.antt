@@ -5,9 +5,9 @@ use mathlib.Core.Path.{_≡_, ap, _∙_}
 use native.Mathlib.Omega.{arith}
 use lib.ListN.{length, getD}
 use Rattle.text.specs.Text.{noLine, lines}
-use Rattle.listings.specs.Held.{Stands}
-use Rattle.listings.proofs.CursorLaws.{stands-first}
-use Rattle.explain_merge_walk.specs.Lasts.{wayText}
+use Rattle.explain_lines.specs.Held.{Stands}
+use Rattle.explain_lines.proofs.CursorLaws.{stands-first}
+use Rattle.explain_merge_walk.specs.HeldLasts.{wayText}
 use Rattle.explain_merge_walk.proofs.LineLaws.{Writing, writing-starts, writing-ends, sums-fit, writing-room, writing-next}
 use borrow.Author.Needs.{needs}
 use Rattle.explain_merge_walk.proofs.put_way.Statement.{statement}

@@ -5,7 +5,7 @@ use mathlib.Core.Path.{_≡_, sym, ap, subst, _∙_}
 use native.Mathlib.Omega.{arith}
 use lib.ListN.{set}
 use Rattle.merge_origins.specs.declared.Last.{Last}
-use Rattle.merge_origins.specs.Kept.{lastAt}
+use Rattle.merge_origins.specs.HeldOrigins.{lastAt}
 use Rattle.explain_merge_walk.proofs.BackLaws.{Backing, backing-starts, backing-ends, backing-rests, backing-next}
 use borrow.Author.Needs.{needs}
 use Rattle.explain_merge_walk.proofs.way_back.Statement.{statement}

@@ -2,7 +2,7 @@
 use mathlib.Core.Path.{_∙_}
 use lib.ListN.{length}
 use borrow.Author.Needs.{needs}
-use Rattle.generating.specs.Answers.{generateAnswer}
+use Rattle.generate_entry.specs.Answers.{generateAnswer}
 use Rattle.console.proofs.PrintLaws.{line-held, line-printed}
 use Rattle.generate.proofs.answer.Statement.{statement}
 use Rattle.generate.proofs.answer.Tie as tie

@@ -1,7 +1,7 @@
 -- `instructions::argument_code_at` meets its contract: the column is `map` of the rule over the table, by computation.
 -- Assumes nothing.
 use Rattle.instructions.specs.Kinds.{kinds}
-use Rattle.instructions.specs.Columns.{argumentCode}
+use Rattle.instructions.specs.HeldColumns.{argumentCode}
 use Rattle.instructions.proofs.ColumnLaws.{natural-at}
 use borrow.Author.Needs.{needs}
 use Rattle.instructions.proofs.argument_code_at.Statement.{statement}

@@ -3,7 +3,7 @@
 use mathlib.Core.Path.{refl}
 use lib.Dec.{eqb}
 use Rattle.instructions.specs.Kinds.{kinds, calls}
-use Rattle.instructions.specs.Columns.{argumentCode}
+use Rattle.instructions.specs.HeldColumns.{argumentCode}
 use Rattle.instructions.proofs.ColumnLaws.{column-at}
 use borrow.Author.Needs.{needs}
 use Rattle.instructions.proofs.calls_at.Statement.{statement}

@@ -2,7 +2,7 @@
 use Prim.Native.Nat.{_<_}
 use mathlib.Core.Path.{sym, ap, subst, _∙_}
 use lib.ListN.{getD}
-use Rattle.instructions.specs.Columns.{nameKey}
+use Rattle.instructions.specs.HeldColumns.{nameKey}
 use borrow.Author.Needs.{needs}
 use Rattle.instructions.proofs.candidate.Statement.{statement}
 use Rattle.instructions.proofs.candidate.Tie as tie

@@ -3,7 +3,7 @@
 use mathlib.Core.Path.{refl}
 use mir.Syntax.{w64}
 use Rattle.instructions.specs.Kinds.{kinds}
-use Rattle.instructions.specs.Columns.{rangeOf}
+use Rattle.instructions.specs.HeldColumns.{rangeOf}
 use Rattle.instructions.proofs.ColumnLaws.{integer-at}
 use borrow.Author.Needs.{needs}
 use Rattle.instructions.proofs.high_at.Statement.{statement}

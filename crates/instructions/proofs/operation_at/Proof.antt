@@ -1,7 +1,7 @@
 -- `instructions::operation_at` meets its contract: the column is `map` of the rule over the table, by computation.
 -- Assumes nothing.
 use Rattle.instructions.specs.Kinds.{kinds}
-use Rattle.instructions.specs.Columns.{operationCode, unaryCode, binaryCode, comparisonCode}
+use Rattle.instructions.specs.HeldColumns.{operationCode, unaryCode, binaryCode, comparisonCode}
 use Rattle.instructions.proofs.ColumnLaws.{natural-at}
 use borrow.Author.Needs.{needs}
 use Rattle.instructions.proofs.operation_at.Statement.{statement}

@@ -1,10 +1,10 @@
 -- `merge_entry::merge` meets its contract. Assumes nothing.
 use mathlib.Core.Path.{sym, _∙_}
 use lib.ListN.{length}
-use Rattle.routine.specs.Routine.{readBound}
-use Rattle.rows.specs.Checks.{readBy}
-use Rattle.rows.specs.declared.Reader.the-variants.{Bound}
-use Rattle.entry.proofs.EntryLaws.{accepted-passes, check-refuses, read-holds, read-gives}
+use Rattle.file_format.specs.Routine.{readBound}
+use Rattle.file_check.specs.HeldChecks.{readBy}
+use Rattle.file_check.specs.declared.Reader.the-variants.{Bound}
+use Rattle.file_entry.proofs.EntryLaws.{accepted-passes, check-refuses, read-holds, read-gives}
 use Rattle.report_theory.specs.Answers.{mergeRoutine, mergeAnswer}
 use Rattle.merge_entry.proofs.FunctionLaws.{merge-printable, merge-keeps}
 use borrow.Author.Needs.{needs}

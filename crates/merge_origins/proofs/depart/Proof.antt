@@ -1,10 +1,10 @@
 -- `merge_origins::depart` meets its contract, by what the step leads to. Assumes nothing.
 use mathlib.Core.Path.{_≡_, subst}
 use mathlib.Core.List.{[], _∷_}
-use Rattle.bounds.specs.Tree.{N, T}
-use Rattle.states.specs.Program.{firstOf}
-use Rattle.steps.specs.declared.Next.{Next}
-use Rattle.steps.specs.Step.{Small}
+use Rattle.bound_theory.specs.Tree.{N, T}
+use Rattle.machine_state.specs.HeldProgram.{firstOf}
+use Rattle.machine_step.specs.declared.Next.{Next}
+use Rattle.machine_step.specs.HeldStep.{Small}
 use Rattle.merge_way.specs.Way.{mark}
 use Rattle.merge_origins.proofs.KeptLaws.{mark-stop, is-last}
 use Rattle.merge_origins.proofs.DepartLaws.{way-none, way-not-taken, way-taken, depart-stuck, depart-stops, depart-goes, depart-opens}

@@ -1,6 +1,6 @@
 -- `merge_origins::last_of` meets its contract. Assumes nothing.
 use mathlib.Core.Path.{refl}
-use Rattle.merge_origins.specs.Kept.{lastAt}
+use Rattle.merge_origins.specs.HeldOrigins.{lastAt}
 use borrow.Author.Needs.{needs}
 use Rattle.merge_origins.proofs.last_of.Statement.{statement}
 use Rattle.merge_origins.proofs.last_of.Tie as tie

@@ -2,7 +2,7 @@
 use mathlib.Core.Path.{_∙_}
 use lib.ListN.{length}
 use borrow.Author.Needs.{needs}
-use Rattle.sensitivity.specs.Answers.{nearestAnswer}
+use Rattle.nearest_entry.specs.Answers.{nearestAnswer}
 use Rattle.console.proofs.PrintLaws.{line-held, line-printed}
 use Rattle.nearest.proofs.answer.Statement.{statement}
 use Rattle.nearest.proofs.answer.Tie as tie

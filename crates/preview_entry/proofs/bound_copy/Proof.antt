@@ -5,7 +5,7 @@ use lib.ListN.{length}
 use lib.Seq.{length-take-le}
 use Rattle.answers.specs.Answers.{memory, answerOf}
 use Rattle.answers.proofs.AnswerLaws.{gives-refusal}
-use Rattle.patches.proofs.PatchLaws.{told-copy, told-refusal}
+use Rattle.preview_copy.proofs.PatchLaws.{told-copy, told-refusal}
 use Rattle.preview_entry.proofs.PreviewLaws.{preview-copied, preview-refused}
 use borrow.Author.Needs.{needs}
 use Rattle.preview_entry.proofs.bound_copy.Statement.{statement}

@@ -4,13 +4,13 @@ use mathlib.Core.Bool.{cond}
 use lib.ListN.{length}
 use Rattle.refusals.specs.declared.Refusal.the-variants.{BadName}
 use Rattle.text.specs.Text.{lines}
-use Rattle.routine.specs.Routine.{readBound}
-use Rattle.routine.proofs.RowLaws.{read-passes}
-use Rattle.rows.specs.Checks.{readBy}
-use Rattle.rows.specs.declared.Reader.the-variants.{Bound}
+use Rattle.file_format.specs.Routine.{readBound}
+use Rattle.file_format.proofs.RowLaws.{read-passes}
+use Rattle.file_check.specs.HeldChecks.{readBy}
+use Rattle.file_check.specs.declared.Reader.the-variants.{Bound}
 use Rattle.answers.specs.Answers.{refused}
-use Rattle.entry.proofs.EntryLaws.{check-refuses, accepted-enough, accepted-read}
-use Rattle.patches.specs.Patch.{inCode, patched}
+use Rattle.file_entry.proofs.EntryLaws.{check-refuses, accepted-enough, accepted-read}
+use Rattle.preview_copy.specs.Patch.{inCode, patched}
 use Rattle.report_theory.specs.Answers.{boundAnswer}
 use Rattle.preview_entry.specs.Answers.{previewAnswer}
 use borrow.Author.Needs.{needs}

@@ -2,7 +2,7 @@
 use mathlib.Core.Path.{_∙_}
 use lib.ListN.{length}
 use borrow.Author.Needs.{needs}
-use Rattle.conformance.specs.Answers.{replayAnswer}
+use Rattle.replay_entry.specs.Answers.{replayAnswer}
 use Rattle.console.proofs.PrintLaws.{line-held, line-printed}
 use Rattle.replay.proofs.answer.Statement.{statement}
 use Rattle.replay.proofs.answer.Tie as tie

@@ -4,7 +4,7 @@ use mathlib.Core.List.{List, [], _∷_}
 use lib.ListN.{length}
 use Rattle.text.specs.Decimal.{decimal}
 use Rattle.report.specs.Report.{space, figures}
-use Rattle.report.specs.Decode.{reportOf}
+use Rattle.report.specs.HeldPath.{reportOf}
 use Rattle.text.proofs.PlaceLaws.{Place, joined, begins, room, next, finished}
 use borrow.Author.Needs.{needs}
 use Rattle.report.proofs.put_figures.Statement.{statement}

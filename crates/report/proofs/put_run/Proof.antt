@@ -4,7 +4,7 @@ use mathlib.Core.List.{List, [], _∷_}
 use lib.ListN.{length}
 use Rattle.text.specs.Text.{bytes}
 use Rattle.report.specs.Report.{feed, figures, runText}
-use Rattle.report.specs.Decode.{reportOf}
+use Rattle.report.specs.HeldPath.{reportOf}
 use Rattle.text.proofs.PlaceLaws.{Place, joined, begins-first, room, next, finished-first}
 use borrow.Author.Needs.{needs}
 use Rattle.report.proofs.put_run.Statement.{statement}

@@ -1,7 +1,7 @@
 -- `routine_figures::ran` meets its contract. Assumes nothing.
 use native.Mathlib.Omega.{arith}
 use mathlib.Core.Path.{sym}
-use Rattle.reader.proofs.ReaderLaws.{taken}
+use Rattle.file_reader.proofs.ReaderLaws.{taken}
 use borrow.Author.Needs.{needs}
 use Rattle.routine_figures.proofs.ran.Statement.{statement}
 use Rattle.routine_figures.proofs.ran.Tie as tie

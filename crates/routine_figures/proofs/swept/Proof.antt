@@ -2,7 +2,7 @@
 use native.Mathlib.Omega.{arith}
 use mathlib.Core.Path.{_≡_}
 use lib.ListN.{length}
-use Rattle.states.proofs.Stack.{length-images}
+use Rattle.machine_state.proofs.Stack.{length-images}
 use Rattle.routine_figures.proofs.FigureLaws.{swept-shareable}
 use borrow.Author.Needs.{needs}
 use Rattle.routine_figures.proofs.swept.Statement.{statement}

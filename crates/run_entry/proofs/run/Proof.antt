@@ -1,10 +1,10 @@
 -- `run_entry::run` meets its contract. Assumes nothing.
 use mathlib.Core.Path.{sym, _∙_}
 use lib.ListN.{length}
-use Rattle.routine.specs.Routine.{readRun}
-use Rattle.rows.specs.Checks.{readBy}
-use Rattle.rows.specs.declared.Reader.the-variants.{Run}
-use Rattle.entry.proofs.EntryLaws.{accepted-passes, check-refuses, read-holds, read-gives}
+use Rattle.file_format.specs.Routine.{readRun}
+use Rattle.file_check.specs.HeldChecks.{readBy}
+use Rattle.file_check.specs.declared.Reader.the-variants.{Run}
+use Rattle.file_entry.proofs.EntryLaws.{accepted-passes, check-refuses, read-holds, read-gives}
 use Rattle.report_theory.specs.Answers.{runRoutine, runAnswer}
 use Rattle.run_entry.proofs.FunctionLaws.{run-printable, run-keeps}
 use borrow.Author.Needs.{needs}

@@ -5,17 +5,17 @@ use borrow.Fn.PlainCycle.{Measures, is, falls, and}
 use Rattle.split_bound.proofs.split.Reads as split
 use Rattle.split_bound.proofs.split.Kinds as split-kinds
 use Rattle.split_bound.proofs.+split.Lts-split as split-lts
-use Rattle.merging.proofs.merge_by.Reads as merge-by-reads
+use Rattle.merge_sweep.proofs.merge_by.Reads as merge-by-reads
 use Rattle.split_bound.proofs.case_at.Reads as case-at-reads
 use Rattle.split_bound.proofs.cut_at.Reads as cut-at-reads
 use Rattle.split_bound.proofs.larger.Reads as larger-reads
 use mathlib.Core.Path.{_≡_, sym, ap, subst, _∙_}
 use native.Mathlib.Omega.{arith}
 use borrow.Author.Needs.{needs}
-use Rattle.states.specs.Program.{programOf, sizesOf}
-use Rattle.states.specs.View.{whole}
-use Rattle.findings.specs.Found.{Shows}
-use Rattle.merging.specs.Pass.{Figures}
+use Rattle.machine_state.specs.HeldProgram.{programOf, sizesOf}
+use Rattle.machine_state.specs.HeldState.{whole}
+use Rattle.bound_figures.specs.HeldFigures.{Shows}
+use Rattle.merge_sweep.specs.HeldPass.{Figures}
 use Rattle.split_theory.specs.Split.{below, from, larger, split as splits}
 use Rattle.split_theory.specs.Held.{cutIn, cutsFrom}
 use Rattle.split_bound.proofs.CaseLaws.{cuts-end, cuts-more, cut-whole, Divides, cut-two, lower-case, upper-case, split-none, split-whole, split-two, shows, first-refused, larger-shown, larger-figures}

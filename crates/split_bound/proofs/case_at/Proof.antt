@@ -1,12 +1,12 @@
 -- `split_bound::case_at` meets its contract. Assumes nothing.
 use mathlib.Core.Path.{_≡_, sym, ap, subst, _∙_}
 use lib.ListN.{length}
-use Rattle.states.specs.Program.{sizesOf}
-use Rattle.states.specs.View.{view, whole}
-use Rattle.states.proofs.Stack.{length-images}
-use Rattle.changes.specs.Places.{replaceAt}
-use Rattle.changes.specs.Held.{Present}
-use Rattle.changes.proofs.CellLaws.{whole-replaced}
+use Rattle.machine_state.specs.HeldProgram.{sizesOf}
+use Rattle.machine_state.specs.HeldState.{view, whole}
+use Rattle.machine_state.proofs.Stack.{length-images}
+use Rattle.nearest_changes.specs.Places.{replaceAt}
+use Rattle.nearest_changes.specs.Held.{Present}
+use Rattle.nearest_changes.proofs.CellLaws.{whole-replaced}
 use Rattle.split_bound.proofs.CaseLaws.{replace-at}
 use borrow.Author.Needs.{needs}
 use Rattle.split_bound.proofs.case_at.Statement.{statement}

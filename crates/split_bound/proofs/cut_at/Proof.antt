@@ -1,8 +1,8 @@
 -- `split_bound::cut_at` meets its contract. Assumes nothing.
 use mathlib.Core.Path.{ap₂, _∙_}
-use Rattle.states.specs.Program.{sizesOf}
-use Rattle.states.specs.View.{whole}
-use Rattle.changes.specs.Places.{cellAt}
+use Rattle.machine_state.specs.HeldProgram.{sizesOf}
+use Rattle.machine_state.specs.HeldState.{whole}
+use Rattle.nearest_changes.specs.Places.{cellAt}
 use Rattle.split_theory.specs.Held.{cutIn}
 use Rattle.split_bound.specs.Held.{partsAt}
 use mir.Syntax.{w32}

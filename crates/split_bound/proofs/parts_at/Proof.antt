@@ -5,13 +5,13 @@ use native.Mathlib.Omega.{arith}
 use lib.ListN.{length}
 use Rattle.cells.specs.Try.{done}
 use Rattle.cells.specs.Cells.{handle}
-use Rattle.states.specs.Program.{sizesOf}
-use Rattle.states.specs.View.{Fits, slot, ofSlot, whole}
-use Rattle.states.proofs.ProgramLaws.{fits-all}
-use Rattle.states.proofs.Stack.{length-images}
-use Rattle.changes.specs.Places.{cellAt}
+use Rattle.machine_state.specs.HeldProgram.{sizesOf}
+use Rattle.machine_state.specs.HeldState.{Fits, slot, ofSlot, whole}
+use Rattle.machine_state.proofs.ProgramLaws.{fits-all}
+use Rattle.machine_state.proofs.Stack.{length-images}
+use Rattle.nearest_changes.specs.Places.{cellAt}
 use Rattle.split_bound.specs.Held.{partsAt}
-use Rattle.changes.proofs.CellLaws.{accu-there, entry-there, entry-lacks, field-there, field-lacks, slot-in}
+use Rattle.nearest_changes.proofs.CellLaws.{accu-there, entry-there, entry-lacks, field-there, field-lacks, slot-in}
 use Rattle.split_bound.proofs.CaseLaws.{held-parts}
 use mir.Syntax.{w32}
 use mir.ValLaws.{toZ-ofZ}

@@ -1,10 +1,10 @@
 -- `split_cuts::check_cuts` meets its contract. Assumes nothing.
 use mathlib.Core.Path.{_≡_, refl, sym, _∙_}
 use Rattle.text.specs.Text.{lines}
-use Rattle.routine.specs.declared.RefusedLine.the-variants.{Nowhere}
-use Rattle.traces.specs.Traces.{earliest, refusedAt}
+use Rattle.file_format.specs.declared.RefusedLine.the-variants.{Nowhere}
+use Rattle.replay_trace.specs.Traces.{earliest, refusedAt}
 use Rattle.split_cuts.specs.Cuts.{lineLaidOut, lineInRange}
-use Rattle.split_cuts.specs.Scan.{lineTest}
+use Rattle.split_cuts.specs.HeldScan.{lineTest}
 use Rattle.split_cuts.proofs.CutsLaws.{check-long, check-empty, by-rows}
 use borrow.Author.Needs.{needs}
 use Rattle.split_cuts.proofs.check_cuts.Statement.{statement}

@@ -5,8 +5,8 @@ use lib.ListN.{length}
 use borrow.Author.Tests.{eq-eqb, ne-eqb}
 use Rattle.text.specs.Text.{isEmpty, words}
 use Rattle.text.specs.Decimal.{numeral}
-use Rattle.routine.specs.Rows.{isNumeral}
-use Rattle.lines.proofs.LineLaws.{and-true, and-false, and-stop, and-through}
+use Rattle.file_format.specs.Rows.{isNumeral}
+use Rattle.file_lines.proofs.LineLaws.{and-true, and-false, and-stop, and-through}
 use Rattle.split_cuts.specs.Cuts.{cellName, fromWord, cutLaidOut}
 use Rattle.split_cuts.proofs.CutsLaws.{name-there, name-lacks}
 use borrow.Author.Needs.{needs}

@@ -4,9 +4,9 @@ use lib.ListN.{length}
 use native.Mathlib.Omega.{arith}
 use borrow.Author.Needs.{needs}
 use mathlib.Core.List.{_++_}
-use Rattle.routine.specs.Layout.{list}
-use Rattle.split_cuts.specs.Scan.{lineTest}
-use Rattle.traces.proofs.TraceLaws.{Scanned, scan-start, scan-fails, scan-goes, scan-ends}
+use Rattle.file_format.specs.Layout.{list}
+use Rattle.split_cuts.specs.HeldScan.{lineTest}
+use Rattle.replay_trace.proofs.TraceLaws.{Scanned, scan-start, scan-fails, scan-goes, scan-ends}
 use Rattle.split_cuts.proofs.earliest.Statement.{statement}
 use Rattle.split_cuts.proofs.earliest.Tie as tie
 

@@ -1,9 +1,9 @@
 -- `split_cuts::in_range` meets its contract. Assumes nothing.
 use mathlib.Core.Path.{sym, ap₂, subst, _∙_}
 use Rattle.numbers.specs.Numbers.{within}
-use Rattle.routine.specs.Rows.{value}
-use Rattle.values.specs.Values.{Near}
-use Rattle.values.proofs.ValueLaws.{near-numbers}
+use Rattle.file_format.specs.Rows.{value}
+use Rattle.file_values.specs.HeldValues.{Near}
+use Rattle.file_values.proofs.ValueLaws.{near-numbers}
 use Rattle.split_cuts.proofs.CutsLaws.{names-ranged, cut-ranged}
 use borrow.Author.Needs.{needs}
 use Rattle.split_cuts.proofs.in_range.Statement.{statement}

@@ -3,7 +3,7 @@ use mathlib.Core.Path.{sym, ap, _∙_}
 use lib.ListN.{length, getD}
 use Rattle.text.specs.Text.{lines, noLine}
 use Rattle.split_cuts.specs.Cuts.{textLaidOut, lineLaidOut}
-use Rattle.lines.proofs.LineLaws.{and-true, and-false}
+use Rattle.file_lines.proofs.LineLaws.{and-true, and-false}
 use borrow.Author.Needs.{needs}
 use Rattle.split_cuts.proofs.line_laid_out.Statement.{statement}
 use Rattle.split_cuts.proofs.line_laid_out.Tie as tie

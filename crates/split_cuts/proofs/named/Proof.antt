@@ -3,7 +3,7 @@ use mathlib.Core.Path.{_≡_, sym, ap, _∙_}
 use mathlib.Core.Bool.{true, cond}
 use mathlib.Core.List.{_++_}
 use Rattle.text.specs.Text.{among}
-use Rattle.routine.specs.Layout.{list}
+use Rattle.file_format.specs.Layout.{list}
 use Rattle.split_cuts.specs.Cuts.{cellName, textNamed}
 use Rattle.split_cuts.proofs.CutsLaws.{names-named, cut-named, among-both}
 use borrow.Author.Needs.{needs}

@@ -1,8 +1,8 @@
 -- `split_cuts::number_of` meets its contract. Assumes nothing.
 use mathlib.Core.Path.{ap₂, _∙_}
-use Rattle.routine.specs.Rows.{value}
-use Rattle.routine.specs.Routine.{inside}
-use Rattle.parts.proofs.WordLaws.{numbers-fit}
+use Rattle.file_format.specs.Rows.{value}
+use Rattle.file_format.specs.Routine.{inside}
+use Rattle.file_parts.proofs.WordLaws.{numbers-fit}
 use mir.Syntax.{w32}
 use mir.ValLaws.{toZ-ofZ}
 use borrow.Author.Needs.{needs}

@@ -3,10 +3,10 @@ use mathlib.Core.Path.{ap, _∙_}
 use mathlib.Core.List.{_++_}
 use lib.ListN.{getD}
 use Rattle.text.specs.Text.{lines, noLine}
-use Rattle.routine.specs.Layout.{list}
-use Rattle.lines.proofs.LineLaws.{arm}
+use Rattle.file_format.specs.Layout.{list}
+use Rattle.file_lines.proofs.LineLaws.{arm}
 use Rattle.split_cuts.specs.Cuts.{textInRange, lineInRange, textNamed, lineNamed}
-use Rattle.split_cuts.specs.Scan.{lineTest}
+use Rattle.split_cuts.specs.HeldScan.{lineTest}
 use borrow.Author.Needs.{needs}
 use Rattle.split_cuts.proofs.passes.Statement.{statement}
 use Rattle.split_cuts.proofs.passes.Tie as tie

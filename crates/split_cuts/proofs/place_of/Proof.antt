@@ -2,9 +2,9 @@
 use mathlib.Core.Path.{ap, _∙_}
 use Rattle.text.specs.Text.{split, words, indexOf, find}
 use Rattle.text.specs.Decimal.{digits, decimal}
-use Rattle.changes.specs.Places.{from}
-use Rattle.changes.specs.Held.{positionOf, allPositions}
-use Rattle.sensitivity.specs.Answers.{nameOf}
+use Rattle.nearest_changes.specs.Places.{from}
+use Rattle.nearest_changes.specs.Held.{positionOf, allPositions}
+use Rattle.nearest_entry.specs.Answers.{nameOf}
 use Rattle.split_cuts.specs.Cuts.{placeNumber}
 use borrow.Author.Needs.{needs}
 use Rattle.split_cuts.proofs.place_of.Statement.{statement}

@@ -2,10 +2,10 @@
 use mathlib.Core.Path.{_≡_, refl, ap, subst}
 use native.Mathlib.Omega.{arith}
 use lib.ListN.{length}
-use Rattle.states.specs.Program.{programOf, sizesOf}
-use Rattle.states.specs.View.{whole}
-use Rattle.states.proofs.Stack.{length-images}
-use Rattle.findings.specs.Found.{Shows}
+use Rattle.machine_state.specs.HeldProgram.{programOf, sizesOf}
+use Rattle.machine_state.specs.HeldState.{whole}
+use Rattle.machine_state.proofs.Stack.{length-images}
+use Rattle.bound_figures.specs.HeldFigures.{Shows}
 use Rattle.split_theory.specs.Split.{split}
 use borrow.Author.Needs.{needs}
 use Rattle.split_entry.proofs.bounded.Statement.{statement}

@@ -1,7 +1,7 @@
 -- `split_entry::check` meets its contract. Assumes nothing.
 use mathlib.Core.Path.{ap₂, _∙_}
 use mathlib.Core.List.{_++_}
-use Rattle.routine.specs.Layout.{list, listed}
+use Rattle.file_format.specs.Layout.{list, listed}
 use Rattle.split_cuts.specs.Cuts.{cutsVerdict}
 use Rattle.split_entry.specs.Answers.{cellsNamed, cutsChecked}
 use borrow.Author.Needs.{needs}

@@ -3,11 +3,11 @@ use mathlib.Core.Path.{_≡_, sym, ap, _∙_}
 use lib.ListN.{length}
 use Rattle.refusals.specs.declared.Verdict.the-variants.{Accepted}
 use Rattle.text.specs.Text.{lines}
-use Rattle.routine.specs.Routine.{routineOf}
+use Rattle.file_format.specs.Routine.{routineOf}
 use Rattle.answers.specs.Answers.{memory, answerOf}
 use Rattle.answers.proofs.AnswerLaws.{gives-refusal}
-use Rattle.entry.specs.Held.{routineIn}
-use Rattle.entry.proofs.EntryLaws.{holds-is}
+use Rattle.file_entry.specs.Held.{routineIn}
+use Rattle.file_entry.proofs.EntryLaws.{holds-is}
 use Rattle.split_cuts.proofs.PlaceLaws.{cuts-few}
 use Rattle.split_entry.specs.Answers.{cutsChecked, casesRoutine}
 use Rattle.split_entry.proofs.FunctionLaws.{cuts-passed, cuts-refused, cases-printable}

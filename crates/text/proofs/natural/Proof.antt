@@ -1,7 +1,7 @@
 -- `text::natural` meets its contract. Assumes nothing.
 use mathlib.Core.Path.{sym, ap, _∙_}
 use borrow.Author.Needs.{needs}
-use Rattle.text.specs.Magnitude.{held}
+use Rattle.text.specs.HeldMagnitude.{held}
 use Rattle.text.proofs.NumeralLaws.{natural-none, natural-digits, natural-zero, natural-leading-zero}
 use Rattle.text.proofs.natural.Statement.{statement}
 use Rattle.text.proofs.natural.Tie as tie

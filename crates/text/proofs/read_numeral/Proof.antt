@@ -2,7 +2,7 @@
 use mathlib.Core.Path.{sym, ap, _∙_}
 use borrow.Author.Needs.{needs}
 use Rattle.text.specs.Decimal.{negative, clamped}
-use Rattle.text.specs.Magnitude.{toNumeral}
+use Rattle.text.specs.HeldMagnitude.{toNumeral}
 use Rattle.text.proofs.NumeralLaws.{numeral-none, numeral-positive, numeral-negative}
 use Rattle.text.proofs.read_numeral.Statement.{statement}
 use Rattle.text.proofs.read_numeral.Tie as tie

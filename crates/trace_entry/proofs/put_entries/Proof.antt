@@ -3,8 +3,8 @@
 use Prim.Native.Nat.{_<_}
 use mathlib.Core.Path.{_∙_}
 use native.Mathlib.Omega.{arith}
-use Rattle.states.specs.Program.{programOf, sizesOf}
-use Rattle.states.specs.View.{whole}
+use Rattle.machine_state.specs.HeldProgram.{programOf, sizesOf}
+use Rattle.machine_state.specs.HeldState.{whole}
 use Rattle.trace_theory.specs.Trace.{trace, entriesText}
 use Rattle.trace_entry.proofs.WritingLaws.{Writing, writing-starts, writing-ends, writing-stuck, writing-room, writing-stops, writing-next}
 use Rattle.trace_entry.proofs.put_entries.Statement.{statement}

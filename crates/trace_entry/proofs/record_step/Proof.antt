@@ -8,10 +8,10 @@ use native.Mathlib.Omega.{arith}
 use denote.Enum.Declared.{tagOf}
 use types.Run.{OneOf}
 use borrow.Author.Needs.{needs}
-use Rattle.steps.specs.declared.Price.{Price}
-use Rattle.steps.specs.declared.Next.{Next}
-use Rattle.steps.specs.declared.Next.the-variants.{Stops, Goes}
-use Rattle.steps.proofs.Next as next
+use Rattle.machine_step.specs.declared.Price.{Price}
+use Rattle.machine_step.specs.declared.Next.{Next}
+use Rattle.machine_step.specs.declared.Next.the-variants.{Stops, Goes}
+use Rattle.machine_step.proofs.Next as next
 use Rattle.trace_entry.proofs.StepLaws.{still-stays, stop-made, stop-costs, stop-stands, step-made, step-costs, step-stands}
 use Rattle.trace_entry.proofs.record_step.Statement.{statement}
 use Rattle.trace_entry.proofs.record_step.Tie as tie

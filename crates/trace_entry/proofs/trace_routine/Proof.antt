@@ -1,6 +1,6 @@
 -- `trace_entry::trace_routine` meets its contract. Assumes nothing.
 use Rattle.answers.proofs.AnswerLaws.{gives-report, gives-refusal}
-use Rattle.entry.specs.Held.{routineIn}
+use Rattle.file_entry.specs.Held.{routineIn}
 use Rattle.trace_entry.proofs.FunctionLaws.{ran-traced, ran-refused}
 use borrow.Author.Needs.{needs}
 use Rattle.trace_entry.proofs.trace_routine.Statement.{statement}

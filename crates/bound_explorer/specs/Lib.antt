@@ -1,0 +1,3 @@
+pub mod HeldContract
+pub mod HeldTurn
+pub mod HeldWays

@@ -1,0 +1,69 @@
+-- What an explanation says, as statements. `proofs/Theorems` proves each by its name.
+use Prim.Native.Nat.{ℕ, suc, _≤_}
+use mathlib.Core.Path.{_≡_}
+use mathlib.Core.List.{List, [], _∷_, _++_}
+use lib.ListN.{length}
+use Rattle.text.specs.Text.{lines}
+use Rattle.cells.specs.Try.{done}
+use Rattle.cells.specs.Cells.{unknown}
+use Rattle.machine.specs.Lists.{nth}
+use Rattle.machine.specs.Machine.{Code, step}
+use Rattle.bound_theory.specs.Tree.{Decision, Report, accepted, bound}
+use Rattle.bound_theory.specs.Traces.{Move, Transition, wordSum}
+use Rattle.file_format.specs.Layout.{body}
+use Rattle.file_format.specs.Routine.{Routine, routine, readBound}
+use Rattle.report.specs.Report.{boundText}
+use Rattle.explain_walk.specs.Promises.{WorstTrace}
+use Rattle.explain_lines.specs.Listing.{Entry, entries, listing}
+use Rattle.answers.specs.Answers.{reported}
+use Rattle.explain_entry.specs.Answers.{explanationLimit, entryNames, explainAnswer}
+
+-- CYCLES of the last line
+unfoldable pub lastCycles : List Entry → ℕ
+lastCycles [] = 0
+lastCycles (e ∷ []) = e .cycles
+lastCycles (e ∷ f ∷ es) = lastCycles (f ∷ es)
+
+-- WORDS of the last line
+unfoldable pub lastWords : List Entry → ℕ
+lastWords [] = 0
+lastWords (e ∷ []) = e .words
+lastWords (e ∷ f ∷ es) = lastWords (f ∷ es)
+
+-- the letters of WAY, in order
+unfoldable pub ways : List Entry → List Decision
+ways [] = []
+ways (e ∷ es) = e .way ++ ways es
+
+-- the address b follows from the address a by a step
+pub record FollowsBy (c : Code) (a b : ℕ) : Type 0 where
+  pub move : Move
+  pub next : Move
+  pub steps : Transition (step c unknown) (move .state) move (next .state)
+  pub from : a ≡ move .state .at
+  pub to : b ≡ next .state .at
+
+-- the bytes that explain a text: of the routine x, which the bound accepts with the report q
+pub record Explains (text bs : List ℕ) (x : Routine) (q : Report) (moves : List Move) : Type 0 where
+  pub reads : readBound text ≡ routine x
+  pub accepts : bound (x .code) (x .budget) (x .start) ≡ accepted q
+  -- the moves are the maximum trace of Definition 11
+  pub worst : WorstTrace (x .code) (x .start) q moves
+  -- and the bytes list them, one line for each
+  pub prints : bs ≡ boundText (x .tick) q ++ entryNames ++ listing (body (lines text)) (x .code .first) (entries moves)
+  -- the last line's CYCLES is the report's (Lemma 12)
+  pub last : lastCycles (entries moves) ≡ q .cycles
+  -- the last line's WORDS is the sum of the words of all moves
+  pub words : lastWords (entries moves) ≡ wordSum moves
+  -- the letters of WAY are PATH
+  pub path : ways (entries moves) ≡ q .path
+  -- each line's address follows from the one before
+  pub follows : (k : ℕ) (d e : Entry) → nth k (entries moves) ≡ done d → nth (suc k) (entries moves) ≡ done e → FollowsBy (x .code) (d .at) (e .at)
+
+-- so of every explanation
+abbrev pub ExplanationsKept : Type 0
+ExplanationsKept = (text : List ℕ) (n : ℕ) (bs : List ℕ) → explainAnswer text n ≡ reported bs → (x : Routine) × (q : Report) × (moves : List Move) × Explains text bs x q moves
+
+-- whatever the text, what is explained fits, and the memory was lent
+abbrev pub ExplanationsFit : Type 0
+ExplanationsFit = (text : List ℕ) (n : ℕ) (bs : List ℕ) → explainAnswer text n ≡ reported bs → (1 ≤ length bs) × (length bs ≤ explanationLimit) × (explanationLimit ≤ n)

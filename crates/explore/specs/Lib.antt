@@ -1,3 +1,0 @@
-pub mod Contract
-pub mod Turn
-pub mod Ways

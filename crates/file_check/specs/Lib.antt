@@ -1,0 +1,2 @@
+pub mod HeldScan
+pub mod HeldChecks

@@ -1,0 +1,31 @@
+-- `file_lines::argument_forward` meets its contract. Assumes nothing.
+use mathlib.Core.Path.{ap, _∙_}
+use lib.IntN.{pos, _+ℤ_}
+use Rattle.instructions.specs.declared.Argument.the-variants.{Target}
+use Rattle.file_format.specs.Rows.{argumentForward}
+use Rattle.file_lines.proofs.LineLaws.{arm}
+use Rattle.file_lines.proofs.CodeLaws.{no-jump, sum-fits, own-near, own-is}
+use borrow.Author.Needs.{needs}
+use Rattle.file_lines.proofs.argument_forward.Statement.{statement}
+use Rattle.file_lines.proofs.argument_forward.Tie as tie
+
+returns : tie.Need-returns
+returns c = let a = c .before .before .args in no-jump (a .first +ℤ pos (a .k)) (a .w .now) (a .a) (c .match .keys2)
+
+add-own : tie.Need-add-own
+add-own c = let start = c .before .before .before in sum-fits (start .args .first) (start .args .k) (start .pre .0) (start .pre .1)
+
+is-above-requires : tie.Need-is-above-requires
+is-above-requires c κs = let start = c .before .before .before in own-near (start .args .first) (start .args .k) (start .pre .0) (start .pre .1)
+
+returns-2 : tie.Need-returns-2
+unfolding argumentForward
+returns-2 c =
+    let start = c .before .before .before .before in
+    let a = start .args in
+    arm (argumentForward (a .first +ℤ pos (a .k)) (a .w .now)) (c .before .enum-told .given .1)
+    (c .is-above .ensures ∙ ap (λ z. argumentForward z (a .w .now) Target) (own-is (a .first) (a .k) (start .pre .0) (start .pre .1)))
+
+pub argument-forward-spec : {M : Type 1} → statement M
+argument-forward-spec =
+    tie.close (tie.spec (λ c. search needs) returns (λ c. search needs) add-own is-above-requires returns-2)

@@ -1,0 +1,56 @@
+-- What a word of a line is tested for, and what the tests of the rows come to on a code line.
+use Prim.Native.Nat.{ℕ, _<_}
+use mathlib.Core.Path.{_≡_}
+use mathlib.Core.Bool.{Bool, not, cond, _&&_}
+use mathlib.Core.Logic.{_⊎_}
+use lib.Dec.{eqb, ltb}
+use lib.IntN.{ℤ, pos, _+ℤ_}
+use lib.ListN.{length, getD}
+use Rattle.text.specs.declared.Place.{Place}
+use mathlib.Core.List.{List, []}
+use Rattle.text.specs.Text.{isEmpty, among, all}
+use Rattle.text.specs.Decimal.{numeral}
+use Rattle.numbers.specs.Numbers.{within}
+use Rattle.instructions.specs.Kinds.{kindNames}
+use Rattle.file_format.specs.Rows.{isNumeral, value, cellWord, isCell, cellInRange, isSingle, cellPresent, isName, cycleCounts, wordCounts, argumentOf, argumentLaidOut, argumentInRange, argumentNamed, argumentReaches, argumentForward, at, arg, onArgument, codeInRange, codeNamed, codeForward}
+use Rattle.file_lines.specs.declared.Tested.{Tested}
+use Rattle.file_lines.specs.declared.WordTest.{WordTest}
+use Rattle.file_lines.specs.declared.WordTest.the-variants.{Filled, Numeral, Cycles, Words, Cell, CellRange, Present, Known, Kind, Primitive}
+
+-- each test as the definition of the routine file has it
+unfoldable pub wordTest : WordTest → List ℕ → Bool
+wordTest Filled w = not (isEmpty w)
+wordTest Numeral w = isNumeral (numeral w)
+wordTest Cycles w = within cycleCounts (value w)
+wordTest Words w = within wordCounts (value w)
+wordTest Cell w = isCell (cellWord w)
+wordTest CellRange w = cellInRange (cellWord w)
+wordTest (Present n) w = cellPresent n (cellWord w)
+wordTest Known w = isSingle (cellWord w)
+wordTest Kind w = among w kindNames
+wordTest Primitive w = isName w
+
+-- whether the words of a line are three, and none is empty
+unfoldable pub isWhole : List (List ℕ) → Bool
+isWhole ws = all (wordTest Filled) ws && eqb (length ws) 3
+
+-- the tests of the argument w of the kind at a place, on code line k, where the code has n addresses from `first` on and the primitives are ps
+pub record ArgumentTests (first : ℤ) (n : ℕ) (ps : List (List ℕ)) (k : ℕ) (w : List ℕ) (p : Place) (t : Tested) : Type 0 where
+  pub layout : t .layout ≡ argumentOf (argumentLaidOut w) p
+  pub range : t .range ≡ argumentOf (argumentInRange w) p
+  pub name : t .name ≡ argumentOf (argumentNamed ps w) p
+  pub target : t .target ≡ argumentOf (argumentReaches first n w) p
+  pub forward : t .forward ≡ argumentOf (argumentForward (first +ℤ pos k) w) p
+
+-- the tests of rows 2, 3, 4, 6 and 13 on the words of code line k; in row 2 nothing is said of how many words it has
+pub record CodeTests (first : ℤ) (n : ℕ) (ps : List (List ℕ)) (k : ℕ) (line : List ℕ) (t : Tested) : Type 0 where
+  pub layout : t .layout ≡ (ltb k 1024 && isNumeral (numeral (at line)) && onArgument (argumentLaidOut (arg line)) line)
+  pub range : t .range ≡ codeInRange k line
+  pub name : t .name ≡ codeNamed first ps k line
+  pub target : t .target ≡ onArgument (argumentReaches first n (arg line)) line
+  pub forward : t .forward ≡ codeForward first k line
+
+-- what is kept of the search for the price of each kind among ks: 1 where it is found, 2 where it is missing, 0 where it was not made
+pub record PricesKept (ks : List (List ℕ)) (kept : List ℕ) : Type 0 where
+  pub size : length kept ≡ 61
+  pub found : (k : ℕ) → k < 61 → (getD kept k 0 ≡ 0) ⊎ (getD kept k 0 ≡ cond (among (getD kindNames k []) ks) 1 2)

@@ -1,0 +1,46 @@
+-- What the code's state stands for.
+use Prim.Native.Nat.{ℕ, _+_, _*_, _≤_}
+use mathlib.Core.Path.{_≡_}
+use mathlib.Core.Bool.{cond}
+use mathlib.Core.List.{List, [], _∷_}
+use lib.Dec.{ltb}
+use lib.ListN.{length, getD, drop, take}
+use Rattle.cells.specs.Try.{Try, stuck, done, _>>=_}
+use Rattle.cells.specs.declared.Cell.{Cell}
+use Rattle.cells.specs.Cells.{block}
+use Rattle.machine_state.specs.declared.State as code
+use Rattle.machine_state.specs.declared.Slot.{Slot}
+use Rattle.machine_state.specs.declared.Slot.the-variants.{At, Lacks}
+use Rattle.machine.specs.Machine.{State, stackLimit, reblock}
+
+-- the state without its blocks: the first `free` cells of the array are unused, then comes the top, "entry 0 on top"
+abbrev pub view : code.State → State
+view s = record { at = s .at; accu = s .accu; stack = drop (s .free) (s .stack); blocks = [] }
+
+-- "a stack of at most 64 cells": the array has 64 places, and no more are unused
+pub record WellFormed (s : code.State) : Type 0 where
+  pub free : s .free ≤ stackLimit
+  pub places : length (s .stack) ≡ stackLimit
+
+-- blocks of the given sizes, each in sixteen places of one flat array
+unfoldable pub blocksOf : List ℕ → List Cell → List (List Cell)
+blocksOf [] fs = []
+blocksOf (n ∷ ns) fs = take n fs ∷ blocksOf ns (drop 16 fs)
+
+-- where field n of the block that a handles stands in the array: stuck through a non-handle, and where the block lacks the field
+unfoldable pub slot : List ℕ → Cell → ℕ → Try ℕ
+slot ns a n = block a >>= λ k. cond (ltb k (length ns)) (cond (ltb n (getD ns k 0)) (done (k * 16 + n)) stuck) stuck
+
+-- at most sixteen fields in each block, and room for all in the array
+pub record Fits (ns : List ℕ) (fs : List Cell) : Type 0 where
+  pub few : (k : ℕ) → getD ns k 0 ≤ 16
+  pub room : length ns * 16 ≤ length fs
+
+-- what the code's answer stands for
+abbrev pub ofSlot : Slot → Try ℕ
+ofSlot (At j) = done j
+ofSlot Lacks = stuck
+
+-- the state with its blocks
+unfoldable pub whole : List ℕ → List Cell → code.State → State
+whole ns fs s = reblock (blocksOf ns fs) (view s)

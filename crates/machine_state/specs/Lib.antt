@@ -1,0 +1,3 @@
+pub mod HeldState
+pub mod HeldProgram
+pub mod HeldRegisters

@@ -1,0 +1,2 @@
+pub mod HeldEffect
+pub mod HeldStep

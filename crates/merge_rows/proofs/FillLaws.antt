@@ -1,0 +1,46 @@
+-- Laws of a list that a loop fills from its start on. Assumes nothing.
+use Prim.Native.Nat.{ℕ, _+_, _<_}
+use mathlib.Core.Path.{_≡_, refl, sym, ap, ap₂, _∙_}
+use mathlib.Core.List.{List, [], _∷_, _++_, map}
+use native.Mathlib.Omega.{arith}
+use native.Mathlib.Numerals.{add-one}
+use lib.ListN.{length, getD, take, set}
+use lib.Seq.{take-all, take-suc, take-suc-set}
+use Rattle.cells.specs.declared.Cell.{Cell}
+use Rattle.cells.specs.HeldCodes.{cellOf, cellsOf, confine}
+use Rattle.cells.proofs.CodeLaws.{cells-append}
+
+map-append : (xs ys : List Cell) → map confine (xs ++ ys) ≡ map confine xs ++ map confine ys
+map-append [] ys = refl
+map-append (x ∷ xs) ys = ap (λ (l : List Cell). confine x ∷ l) (map-append xs ys)
+
+-- one cell more is put down as a number
+pub encoded-next : (xs : List ℕ) (cs : List Cell) (d : Cell) (i x : ℕ) → i < length xs → i < length cs → cellOf x ≡ confine (getD cs i d)
+    → cellsOf (take i xs) ≡ map confine (take i cs) → cellsOf (take (i + 1) (set xs i x)) ≡ map confine (take (i + 1) cs)
+unfolding cellsOf
+encoded-next xs cs d i x h k e p =
+    rw add-one
+    (ap cellsOf (take-suc-set xs i x h)
+    ∙ cells-append (take i xs) (x ∷ [])
+    ∙ ap₂ (λ (l : List Cell) (c : Cell). l ++ (c ∷ [])) p e
+    ∙ sym (ap (map confine) (take-suc cs i d k) ∙ map-append (take i cs) (getD cs i d ∷ [])))
+
+-- as many as are lent are
+pub encoded-all : (xs : List ℕ) (cs : List Cell) (n i : ℕ) → i ≡ n → length xs ≡ n → cellsOf (take i xs) ≡ map confine (take i cs) → cellsOf xs ≡ map confine (take n cs)
+encoded-all xs cs n i e h p =
+    ap cellsOf (sym (take-all i xs (omega arith))) ∙ p ∙ ap (λ (j : ℕ). map confine (take j cs)) e
+
+-- one number more is read as a cell
+pub decoded-next : (xs : List ℕ) (cs : List Cell) (i : ℕ) (c : Cell) → i < length xs → i < length cs → c ≡ cellOf (getD xs i 0)
+    → take i cs ≡ cellsOf (take i xs) → take (i + 1) (set cs i c) ≡ cellsOf (take (i + 1) xs)
+unfolding cellsOf
+decoded-next xs cs i c h k e p =
+    rw add-one
+    (take-suc-set cs i c k
+    ∙ ap₂ (λ (l : List Cell) (d : Cell). l ++ (d ∷ [])) p e
+    ∙ sym (ap cellsOf (take-suc xs i 0 h) ∙ cells-append (take i xs) (getD xs i 0 ∷ [])))
+
+-- all are
+pub decoded-all : (xs : List ℕ) (cs : List Cell) (n i : ℕ) → i ≡ n → length xs ≡ n → length cs ≡ n → take i cs ≡ cellsOf (take i xs) → cs ≡ cellsOf xs
+decoded-all xs cs n i e h k p =
+    sym (take-all i cs (omega arith)) ∙ p ∙ ap cellsOf (take-all i xs (omega arith))

@@ -1,7 +1,0 @@
--- `merging::reached` meets its contract. Assumes nothing.
-use borrow.Author.Needs.{needs}
-use Rattle.merging.proofs.reached.Statement.{statement}
-use Rattle.merging.proofs.reached.Tie as tie
-
-pub reached-spec : {M : Type 1} → statement M
-reached-spec = tie.close (tie.spec (λ c κs. search needs) (λ c. search needs) (λ c. search needs))

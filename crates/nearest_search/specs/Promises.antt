@@ -1,0 +1,48 @@
+-- What is promised of the search, as statements. `proofs/Theorems` proves each by its name. (document 02, §13)
+use Prim.Native.Nat.{ℕ}
+use mathlib.Core.Path.{_≡_}
+use mathlib.Core.Logic.{_⊎_}
+use mathlib.Core.Option.{some, none}
+use Rattle.refusals.specs.declared.Refusal.{Refusal}
+use Rattle.refusals.specs.Refusals.{number}
+use Rattle.machine.specs.Machine.{State, Code}
+use Rattle.bound_theory.specs.Tree.{Report, Verdict, accepted, refused, bound}
+use Rattle.nearest_changes.specs.declared.Change.{Change}
+use Rattle.nearest_changes.specs.Changes.{applied}
+use Rattle.nearest_changes.specs.Promises.{Direction, ChangeBy, Before}
+use Rattle.nearest_search.specs.Search.{found, refused-by, search}
+
+-- a verdict "alters CYCLES or makes the routine refused by 7, 8 or 9", against a report q
+pub data Moves (q : Report) : Verdict → Type 0 where
+  other-cycles : {r : Report} → (r .cycles ≡ q .cycles → ⊥) → Moves q (accepted r)
+  now-refused : {x : Refusal} → (number x ≡ 7) ⊎ (number x ≡ 8) ⊎ (number x ≡ 9) → Moves q (refused x)
+
+-- the bound of s, which reports q, is moved by the change x, and by no change before it
+pub record MovedFirst (c : Code) (budget : ℕ) (s : State) (q : Report) (x : Change) : Type 0 where
+  pub reports : bound c budget s ≡ accepted q
+  pub amount : ℕ
+  pub direction : Direction
+  pub change : ChangeBy s amount direction x
+  pub moves : Moves q (bound c budget (applied x s))
+  pub first : (m : ℕ) (e : Direction) (y : Change) → ChangeBy s m e y → Before m (y .place) e amount (x .place) direction → Moves q (bound c budget (applied y s)) → ⊥
+
+-- no change moves it
+pub record NeverMoved (c : Code) (budget : ℕ) (s : State) (q : Report) : Type 0 where
+  pub reports : bound c budget s ≡ accepted q
+  pub still : (n : ℕ) (d : Direction) (x : Change) → ChangeBy s n d x → Moves q (bound c budget (applied x s)) → ⊥
+
+-- the change printed moves the bound, and no change before it in the order does
+abbrev pub FoundMoves : Type 0
+FoundMoves = (c : Code) (budget : ℕ) (s : State) (x : Change) → search c budget s ≡ found (some x) → (q : Report) × MovedFirst c budget s q x
+
+-- "`NONE` is printed only if no such change exists", and then it is
+abbrev pub NoneMoves : Type 0
+NoneMoves =
+    (c : Code) (budget : ℕ) (s : State) →
+    (search c budget s ≡ found none → (q : Report) × NeverMoved c budget s q) × ((q : Report) → NeverMoved c budget s q → search c budget s ≡ found none)
+
+-- "A file that is refused to begin with is refused the same way here."
+abbrev pub RefusedAlike : Type 0
+RefusedAlike =
+    (c : Code) (budget : ℕ) (s : State) (r : Refusal) →
+    (search c budget s ≡ refused-by r → bound c budget s ≡ refused r) × (bound c budget s ≡ refused r → search c budget s ≡ refused-by r)

@@ -1,0 +1,22 @@
+-- The answer of a replay to a routine file, to a card's trace and to a length of lent report memory. (document 02, §4)
+use Prim.Native.Nat.{ℕ}
+use mathlib.Core.List.{List, _++_}
+use Rattle.text.specs.Text.{bytes}
+use Rattle.text.specs.Decimal.{decimal}
+use Rattle.file_format.specs.Routine.{Routine, readRun}
+use Rattle.replay_trace.specs.Traces.{traceVerdict, entries}
+use Rattle.replay_steps.specs.Replay.{Outcome, agreed, differed, replay}
+use Rattle.answers.specs.Answers.{Answer, memoryLimit, lending, ofReading, ofVerdict}
+
+-- "It prints `DIFFERS` and that line's number, or `AGREES`."
+unfoldable pub outcomeText : Outcome → List ℕ
+outcomeText agreed = bytes "AGREES\n"
+outcomeText (differed n) = bytes "DIFFERS " ++ decimal n ++ bytes "\n"
+
+-- the answer for a routine: the trace's refusal, or what the replay says of its lines
+unfoldable pub replayRoutine : List ℕ → Routine → Answer
+replayRoutine trace x = ofVerdict (outcomeText (replay (x .code) (x .start) (x .answers) (entries trace))) (traceVerdict trace)
+
+-- the trace's refusals "are checked after the routine file's refusals, 11 included"
+unfoldable pub replayAnswer : List ℕ → List ℕ → ℕ → Answer
+replayAnswer text trace n = lending memoryLimit n (ofReading (replayRoutine trace) (readRun text))

@@ -1,0 +1,2 @@
+pub mod HeldProgress
+pub mod HeldContract

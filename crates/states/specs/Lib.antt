@@ -1,3 +1,0 @@
-pub mod View
-pub mod Program
-pub mod Registers

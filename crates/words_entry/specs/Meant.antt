@@ -1,0 +1,41 @@
+-- The code that words hold, at the prices of a file. (document 02, §2)
+use Prim.Native.Nat.{ℕ}
+use mathlib.Core.List.{List, map}
+use lib.IntN.{ℤ, pos}
+use Rattle.text.specs.Text.{Line, find, indexOf}
+use Rattle.instructions.specs.declared.Argument.{Argument}
+use Rattle.instructions.specs.declared.Argument.the-variants.{Absent, Target, Primitive, Within}
+use Rattle.instructions.specs.HeldColumns.{kindAt}
+use Rattle.machine.specs.Machine.{instruction, Instruction, priceOf, Code}
+use Rattle.file_format.specs.declared.Section.the-variants.{Kinds as kinds, Primitives as primitives}
+use Rattle.file_format.specs.declared.Column.the-variants.{Extra as extra}
+use Rattle.file_format.specs.declared.Role.the-variants.{Values as values}
+use Rattle.file_format.specs.Layout.{listed}
+use Rattle.file_format.specs.Rows.{extraCounts}
+use Rattle.file_format.specs.Routine.{naturalAt, PriceList, priceList, prices}
+use Rattle.words.specs.Words.{wordsOf}
+use Rattle.words.specs.Decoding.{Item, decoded, items, landing, numberAt}
+
+-- the argument of an instruction among xs: an offset leads to the address of an instruction, which is its number, since the code begins
+-- "from address 0"; "C_CALL names a primitive by its place, from 0"; else it is the argument word
+unfoldable pub argumentMeant : List Item → Item → Argument → ℤ
+argumentMeant xs x Absent = pos 0
+argumentMeant xs x Target = pos (indexOf (numberAt xs (landing x)))
+argumentMeant xs x Primitive = x .argument
+argumentMeant xs x (Within r) = x .argument
+
+-- kind k with the argument v, at the prices of the kinds (ks), their extras (es) and the primitives (ps)
+unfoldable pub pricedAs : PriceList → List (List ℕ) → PriceList → ℕ → ℤ → Instruction
+pricedAs ks es ps k v =
+    let i = find (kindAt k .name) (ks .names) in
+    instruction (kindAt k) v (priceOf (prices ks ps) (kindAt k .argument) i v) (naturalAt extraCounts es i)
+
+-- the code of words, at the prices of the lines ls of a file
+unfoldable pub codeMeant : List Line → List ℕ → Code
+codeMeant ls words =
+    let xs = items (decoded (wordsOf words)) in
+    record {
+      first = 0;
+      instructions =
+          map (λ x. pricedAs (priceList kinds ls) (listed (values kinds extra) ls) (priceList primitives ls) (x .kind) (argumentMeant xs x (kindAt (x .kind) .argument))) xs;
+    }

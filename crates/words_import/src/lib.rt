@@ -1,0 +1,203 @@
+// The import: the compiler's words to lines of code. The meaning is in specs/ of `words`.
+use file_format::Section;
+use file_format::layout;
+use file_lines::WordTest;
+use instructions::Argument;
+use refusals::Refusal;
+use refusals::Verdict;
+use text::Place;
+use words::Head;
+ghost use mathlib.Core.Path.{_≡_};
+ghost use Prim.Native.Nat.{_+_, _*_, _≤_, _<_};
+ghost use lib.IntN.{natAbs};
+ghost use mathlib.Core.List.{_++_};
+ghost use lib.ListN.{length, drop};
+ghost use Rattle.text.specs.Memory.{over};
+ghost use Rattle.instructions.specs.HeldColumns.{kindAt};
+ghost use Rattle.file_format.specs.Layout.{list};
+ghost use Rattle.words.specs.Words.{wordsOf};
+ghost use Rattle.words.specs.Decoding.{decoded, items, codeFault};
+ghost use Rattle.words.specs.Lines.{integer, linesFrom, codeText};
+ghost use Rattle.words.specs.Import.{lineVerdict, primitivesVerdict, faultVerdict, importVerdict, importText};
+ghost use Rattle.refusals.specs.declared.Verdict.the-variants.{Accepted};
+ghost use Rattle.words.specs.Held.{Readable, Numbered};
+ghost use Rattle.words_import.specs.HeldLines.{argumentIn, lineIn, ShortNames};
+
+// How far a number is from 0.
+fn magnitude(z: i32) -> u64
+    ensures { λ r. ⌜ r ≡ natAbs z ⌝ }
+{
+    let w = z as i64;
+    if w < 0 {
+        return (-w) as u64;
+    }
+    w as u64
+}
+
+// Puts an integer in decimal over out from `at` on, and answers where it ends.
+pub fn put_integer(out: &mut [u8], at: usize, z: i32) -> usize
+    requires { ⌜ at + length (integer z) ≤ length (now out) ⌝ }
+    ensures { λ r. ⌜ r ≡ at + length (integer z) ⌝ }
+    ensures { λ _. ⌜ now (out .exit) ≡ over (now (out .entry)) at (integer z) ⌝ }
+{
+    if z < 0 {
+        let e = text::put(out, at, b"-");
+        return text::put_decimal(out, e, magnitude(z));
+    }
+    text::put_decimal(out, at, magnitude(z))
+}
+
+// Puts ARG over out from `at` on, and answers where it ends.
+fn put_argument(
+    out: &mut [u8],
+    at: usize,
+    primitives: &[u8],
+    numbers: &[u16],
+    index: usize,
+    k: usize,
+    argument: i32,
+) -> usize
+    requires { ⌜ (k < 61) × (index < 2048) × (at + length (argumentIn (list (now primitives)) (now numbers) index argument (kindAt k .argument)) ≤ length (now out)) ⌝ }
+    ensures { λ r. ⌜ r ≡ at + length (argumentIn (list (now (primitives .entry))) (now (numbers .entry)) index argument (kindAt k .argument)) ⌝ }
+    ensures { λ _. ⌜ now (out .exit) ≡ over (now (out .entry)) at (argumentIn (list (now (primitives .entry))) (now (numbers .entry)) index argument (kindAt k .argument)) ⌝ }
+{
+    match instructions::argument_at(k) {
+        Argument::Absent => text::put(out, at, b"-"),
+        Argument::Target => {
+            let n = text::index_of(words::number_at(numbers, words::landing(index, argument)));
+            text::put_decimal(out, at, n as u64)
+        }
+        Argument::Primitive => {
+            let name = layout::listed_at(primitives, magnitude(argument) as usize);
+            text::put(out, at, name)
+        }
+        Argument::Within(_) => put_integer(out, at, argument),
+    }
+}
+
+// Puts the line of instruction n over out from `at` on, and answers where it ends.
+fn put_line(
+    out: &mut [u8],
+    at: usize,
+    primitives: &[u8],
+    numbers: &[u16],
+    n: usize,
+    index: usize,
+    k: usize,
+    argument: i32,
+) -> usize
+    requires { ⌜ (k < 61) × (index < 2048) × (at + length (lineIn (list (now primitives)) (now numbers) n index k argument) ≤ length (now out)) ⌝ }
+    ensures { λ r. ⌜ r ≡ at + length (lineIn (list (now (primitives .entry))) (now (numbers .entry)) n index k argument) ⌝ }
+    ensures { λ _. ⌜ now (out .exit) ≡ over (now (out .entry)) at (lineIn (list (now (primitives .entry))) (now (numbers .entry)) n index k argument) ⌝ }
+{
+    let a = text::put_decimal(out, at, n as u64);
+    let b = text::put(out, a, b" ");
+    let c = instructions::put_name(out, b, k);
+    let d = text::put(out, c, b" ");
+    let e = put_argument(out, d, primitives, numbers, index, k, argument);
+    text::put(out, e, b"\n")
+}
+
+// Puts the lines of all instructions over out from `at` on, and answers where they end.
+fn put_lines(out: &mut [u8], at: usize, primitives: &[u8], numbers: &[u16], words: &[u8]) -> usize
+    requires { ⌜ Readable (wordsOf (now words)) × Numbered (items (decoded (wordsOf (now words)))) (now numbers) × ShortNames (list (now primitives)) × (at + 30 * 1024 ≤ length (now out)) ⌝ }
+    ensures { λ r. ⌜ r ≡ at + length (linesFrom (list (now (primitives .entry))) (items (decoded (wordsOf (now (words .entry))))) 0 (items (decoded (wordsOf (now (words .entry)))))) ⌝ }
+    ensures { λ _. ⌜ now (out .exit) ≡ over (now (out .entry)) at (linesFrom (list (now (primitives .entry))) (items (decoded (wordsOf (now (words .entry))))) 0 (items (decoded (wordsOf (now (words .entry)))))) ⌝ }
+{
+    let coded = instructions::coded_kinds();
+    let mut e = at;
+    let mut rest = words;
+    let mut index: usize = 0;
+    let mut count: usize = 0;
+    while 0 < rest.len() {
+        let Head::Instruction(k, argument) = words::read_head(&coded, rest) else {
+            return e;
+        };
+        e = put_line(out, e, primitives, numbers, count, index, k, argument);
+        let next = words::after(k, rest);
+        rest = next;
+        index += words::size_of(k);
+        count += 1;
+    }
+    e
+}
+
+// Puts the names line and the lines of all instructions at the start of out, and answers their length.
+fn put_code(out: &mut [u8], primitives: &[u8], numbers: &[u16], words: &[u8]) -> usize
+    requires { ⌜ Readable (wordsOf (now words)) × Numbered (items (decoded (wordsOf (now words)))) (now numbers) × ShortNames (list (now primitives)) × (32768 ≤ length (now out)) ⌝ }
+    ensures { λ r. ⌜ r ≡ length (codeText (list (now (primitives .entry))) (items (decoded (wordsOf (now (words .entry)))))) ⌝ }
+    ensures { λ _. ⌜ now (out .exit) ≡ codeText (list (now (primitives .entry))) (items (decoded (wordsOf (now (words .entry))))) ++ drop (length (codeText (list (now (primitives .entry))) (items (decoded (wordsOf (now (words .entry))))))) (now (out .entry)) ⌝ }
+{
+    let e = text::put(out, 0, b"AT OP ARG\n");
+    put_lines(out, e, primitives, numbers, words)
+}
+
+// Whether the primitives line is laid out, and its names are in order: 2, then 4, at place 1.
+fn check_names(line: &[u8]) -> Verdict
+    ensures { λ r. ⌜ r ≡ lineVerdict (now (line .entry)) ⌝ }
+{
+    if !file_lines::all_words(WordTest::Filled, line) {
+        return Verdict::Refused(Refusal::Layout(1));
+    }
+    if !file_lines::names_laid_out(Section::Primitives, line) {
+        return Verdict::Refused(Refusal::Layout(1));
+    }
+    if text::same(line, b"-") {
+        return Verdict::Accepted;
+    }
+    if !file_lines::all_words(WordTest::Primitive, line) {
+        return Verdict::Refused(Refusal::BadName(1));
+    }
+    if !file_names::distinct(line) {
+        return Verdict::Refused(Refusal::BadName(1));
+    }
+    Verdict::Accepted
+}
+
+// The primitives line, with or without a final line feed.
+fn check_primitives(text: &[u8]) -> Verdict
+    ensures { λ r. ⌜ r ≡ primitivesVerdict (now (text .entry)) ⌝ }
+{
+    if text.len() == 0 {
+        return Verdict::Refused(Refusal::Layout(1));
+    }
+    let rest = text::next_lines(text);
+    if 0 < rest.len() {
+        return Verdict::Refused(Refusal::Layout(1));
+    }
+    check_names(text::first_line(text))
+}
+
+// "New numbers: 12"
+fn fault_verdict(place: Place) -> Verdict
+    ensures { λ r. ⌜ r ≡ faultVerdict place ⌝ }
+{
+    match place {
+        Place::Missing => Verdict::Accepted,
+        Place::At(i) => Verdict::Refused(Refusal::BadWord(i)),
+    }
+}
+
+// Whether an import refuses words or their primitives line.
+pub fn check_import(words: &[u8], primitives: &[u8]) -> Verdict
+    ensures { λ r. ⌜ r ≡ importVerdict (now (words .entry)) (now (primitives .entry)) ⌝ }
+{
+    match check_primitives(primitives) {
+        Verdict::Refused(refusal) => Verdict::Refused(refusal),
+        Verdict::Accepted => {
+            let listed = layout::count_listed(text::first_line(primitives));
+            fault_verdict(words::code_fault(listed, words))
+        }
+    }
+}
+
+// Puts the lines of words that are accepted at the start of out, and answers their length.
+pub fn put_import(words: &[u8], primitives: &[u8], out: &mut [u8]) -> usize
+    requires { ⌜ (importVerdict (now words) (now primitives) ≡ Accepted) × (32768 ≤ length (now out)) ⌝ }
+    ensures { λ r. ⌜ r ≡ length (importText (now (words .entry)) (now (primitives .entry))) ⌝ }
+    ensures { λ _. ⌜ now (out .exit) ≡ importText (now (words .entry)) (now (primitives .entry)) ++ drop (length (importText (now (words .entry)) (now (primitives .entry)))) (now (out .entry)) ⌝ }
+{
+    let line = text::first_line(primitives);
+    let numbers = words::numbers_of(words);
+    put_code(out, line, &numbers, words)
+}
