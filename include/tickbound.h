@@ -221,8 +221,8 @@ TICKBOUND_USED tickbound_answer tickbound_explain_merge(const uint8_t *text, siz
  * name, as the file has it on line 10 or 12, one space and a number. A cut at n parts a cell that may hold numbers below n
  * and numbers from n on; a handle, and a number that does not part its cell, is passed over. Each choice of one part of
  * each cell is a case. The merging bound is taken of each case, and the largest of each figure is reported: none is above
- * that of `tickbound_merge`, more cuts never give more, and every run is within this report too. With no cut it is the
- * merging bound.
+ * that of `tickbound_merge`, more cuts never give more, and every run is within this report too; this is proved. With no
+ * cut it is the merging bound.
  *
  * Refused by 10; then by 1 to 6 and 13, as the bound is; then for the cuts by 1 (at place 0), 2, 3 and 4 (at a line of the
  * cuts); then by 14 or 7 at an address, as the first case is that is refused, the part below a cut before the other. So of
@@ -264,23 +264,11 @@ TICKBOUND_USED tickbound_answer tickbound_trace(const uint8_t *text, size_t text
  * passed over. The report is one line: the cell's name, one space and its new value, as `S2 1009`; or `NONE`, where no
  * such change exists.
  *
- * Refused by 10; then as the bound refuses the file: by 1 to 6, 13, 7, 8 and 9. A search is up to 20,608 bounds: its time
+ * Refused by 10; then as the bound refuses the file: by 1 to 6, 13, 7, 8 and 9. A search takes one bound, one more for
+ * each cell that holds one number, and up to 128 for each of those whose number the bound reads: 19,738 at most. Its time
  * is that of as many calls of `tickbound_bound`, and can be minutes. */
 TICKBOUND_USED tickbound_answer tickbound_nearest(const uint8_t *text, size_t text_length, uint8_t *report,
                                                   size_t report_length);
-
-/* The bound by cases. The cuts are a text of their own: the line `CELL FROM`, which alone means no cuts, then at most 16
- * lines of a cell's name, as on lines 10 and 12 of the file, and a number. A cut at n of a cell whose range has numbers
- * below n and numbers from n on gives two starts, the cell below n and the cell from n on; each case is bounded as
- * `tickbound_merge` does it, and each figure is the largest over the cases. The report has the same six names, PATH `-`.
- * A handle, and a number that does not divide its cell, is passed over. No figure is above that of `tickbound_merge`, and
- * more cuts never give more; this is proved.
- *
- * Refused by 10; then by 1 to 6 and 13, as the bound is; then by 1 (at place 0), 2, 3 and 4 (at a line of the cuts) for
- * the cuts; then by 14 or 7, for the first case that `tickbound_merge` would refuse so. There are at most 65,536 cases:
- * its time is that of as many calls of `tickbound_merge`. */
-TICKBOUND_USED tickbound_answer tickbound_split(const uint8_t *text, size_t text_length, const uint8_t *cuts,
-                                                size_t cuts_length, uint8_t *report, size_t report_length);
 
 /* A card's trace, lines under `AT CYCLES`, held against the run that the file gives. The report is one line: `AGREES`,
  * or `DIFFERS` and the number of the first line of the trace that differs, its line of names being line 1. A trace may

@@ -60,22 +60,22 @@ unfolding ofReading
 from-reading f m limit n bs e = let l = lent-reported limit n (ofReading f m) bs e in read (l .0) m (l .1)
   where
     read : limit ≤ n → (m : Reading) → ofReading f m ≡ reported bs → FromReading f m limit n bs
-    read h (readings.refused r) e = never r bs e
+    read h (readings.unread r) e = never r bs e
     read h (readings.routine x) e = record { lent = h; routine = x; reads = refl; gives = e }
 
 -- a refusal is that of the memory, that of the reading, or that of the routine
-pub place-from : (B : ℕ) (f : Routine → Answer) (m : Reading) (limit n : ℕ) (r : Refusal) → ((r : Refusal) → m ≡ readings.refused r → place r ≤ B) →
+pub place-from : (B : ℕ) (f : Routine → Answer) (m : Reading) (limit n : ℕ) (r : Refusal) → ((r : Refusal) → m ≡ readings.unread r → place r ≤ B) →
     ((x : Routine) → m ≡ readings.routine x → f x ≡ refused r → place r ≤ B) → lending limit n (ofReading f m) ≡ refused r → place r ≤ B
 unfolding ofReading
 place-from B f m limit n r of-reading of-routine = lent-place limit n (ofReading f m) B r (read m refl)
   where
     read : (k : Reading) → m ≡ k → ofReading f k ≡ refused r → place r ≤ B
-    read (readings.refused x) q e = let h : x ≡ r = cc in of-reading r (q ∙ ap readings.refused h)
+    read (readings.unread x) q e = let h : x ≡ r = cc in of-reading r (q ∙ ap readings.unread h)
     read (readings.routine x) q e = of-routine x q e
 
 -- a text that is refused, and one that is not
 module _ (f : Routine → Answer) (m : Reading) (limit n : ℕ) (h : limit ≤ n) where
-  pub reading-refused : (x : Refusal) → m ≡ readings.refused x → lending limit n (ofReading f m) ≡ refused x
+  pub reading-refused : (x : Refusal) → m ≡ readings.unread x → lending limit n (ofReading f m) ≡ refused x
   unfolding ofReading
   reading-refused x e = lent-enough limit n (ofReading f m) h ∙ ap (ofReading f) e
 

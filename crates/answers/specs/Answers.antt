@@ -9,8 +9,8 @@ use lib.Dec.{ltb}
 use lib.ListN.{length, take, drop}
 use Rattle.refusals.specs.declared.Refusal.{Refusal}
 use Rattle.refusals.specs.declared.Refusal.the-variants.{ReportMemory}
-use Rattle.refusals.specs.declared.Verdict.{Verdict}
-use Rattle.refusals.specs.declared.Verdict.the-variants as verdicts
+use Rattle.refusals.specs.declared.Acceptance.{Acceptance}
+use Rattle.refusals.specs.declared.Acceptance.the-variants as verdicts
 use Rattle.file_format.specs.Routine.{Routine, Reading, routine}
 use Rattle.file_format.specs.Routine as readings
 use Rattle.answers.specs.declared.Answer as code
@@ -31,13 +31,13 @@ lending limit n a = cond (ltb n limit) (refused ReportMemory) a
 
 -- of a reading: its refusal, or what f says of its routine
 unfoldable pub ofReading : (Routine → Answer) → Reading → Answer
-ofReading f (readings.refused r) = refused r
+ofReading f (readings.unread r) = refused r
 ofReading f (routine x) = f x
 
 -- of the verdict of a check: what is made, or its refusal
-unfoldable pub ofVerdict : List ℕ → Verdict → Answer
-ofVerdict made verdicts.Accepted = reported made
-ofVerdict made (verdicts.Refused r) = refused r
+unfoldable pub ofAcceptance : List ℕ → Acceptance → Answer
+ofAcceptance made verdicts.Accepted = reported made
+ofAcceptance made (verdicts.Refused r) = refused r
 
 -- demand 1: lent report memory holds, after an accepted call, exactly the report and then its former bytes; after a refusal it is as before.
 unfoldable pub memory : Answer → List ℕ → List ℕ

@@ -10,8 +10,8 @@ use lib.ListN.{length, getD, set, length-set}
 use borrow.Author.Tests.{ltb-true, ltb-false}
 use Rattle.refusals.specs.declared.Refusal.{Refusal}
 use Rattle.refusals.specs.declared.Refusal.the-variants as refusals
-use Rattle.refusals.specs.declared.Verdict.{Verdict}
-use Rattle.refusals.specs.declared.Verdict.the-variants.{Accepted, Refused}
+use Rattle.refusals.specs.declared.Acceptance.{Acceptance}
+use Rattle.refusals.specs.declared.Acceptance.the-variants.{Accepted, Refused}
 use Rattle.cells.specs.Try.{Try, stuck, done}
 use Rattle.cells.specs.declared.Cell.{Cell}
 use Rattle.machine.specs.Machine.{height, Next, goes, opens, index, withExtra, reblock}
@@ -253,11 +253,11 @@ module _ {ps : List ℕ} {o budget : ℕ} {fs₀ : List Cell} {s₀ : State} whe
               (loop.both-done (act ps o budget fs₀ s₀) o budget (whole (sizesOf ps) fs₀ s₀) (whole (sizesOf ps) fs s) left t (a .turn .inv) (a .some) _ _ _ _ opened (o - 1) lower f (ef .shows) (ef .counts) done-first g (eg .shows) (eg .counts) (l .extra) refl done-second)
               (joined-bounded o budget (budget - left + 1) (left - 1) t′ (l .extra) f g q k z (omega (arith, a .turn .inv .within, a .some)) jumped-costs (costs .1) (ways .first-bounded) (ways .second-bounded))
 
-          second-way : (y : Verdict) → g .verdict ≡ y → (q : Found) → q ≡ bothOf t′ (budget - left + 1) f (l .extra) g → Kept ps o budget fs₀ s₀ q
+          second-way : (y : Acceptance) → g .verdict ≡ y → (q : Found) → q ≡ bothOf t′ (budget - left + 1) f (l .extra) g → Kept ps o budget fs₀ s₀ q
           second-way Accepted e q k = joined-out e q (k ∙ both-accepted t′ (budget - left + 1) f (l .extra) g done-first e)
           second-way (Refused y) e q k = second-out y e q (k ∙ second-refused t′ (budget - left + 1) f (l .extra) g done-first y e)
 
-        first-way : (y : Verdict) → f .verdict ≡ y → (q : Found) → q ≡ bothOf t′ (budget - left + 1) f (l .extra) g → Kept ps o budget fs₀ s₀ q
+        first-way : (y : Acceptance) → f .verdict ≡ y → (q : Found) → q ≡ bothOf t′ (budget - left + 1) f (l .extra) g → Kept ps o budget fs₀ s₀ q
         first-way Accepted e q k = second-way e (g .verdict) refl q k
         first-way (Refused y) e q k = first-out y e q (k ∙ first-refused t′ (budget - left + 1) f (l .extra) g y e)
 

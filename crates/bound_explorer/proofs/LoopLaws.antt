@@ -14,7 +14,7 @@ use Rattle.bound_theory.specs.Tree.{Decision, worse, Report, accepted, refused,
 use Rattle.bound_theory.specs.Tree as bounds
 use Rattle.bound_theory.proofs.ExploreLaws.{before, join, joined, both-ways, explore-spent, explore-stuck, explore-stops, explore-goes, explore-over, explore-opens}
 use Rattle.refusals.specs.declared.Refusal.the-variants.{Stuck, Openings, Spent}
-use Rattle.refusals.specs.declared.Verdict.the-variants.{Accepted, Refused}
+use Rattle.refusals.specs.declared.Acceptance.the-variants.{Accepted, Refused}
 use Rattle.bound_figures.specs.declared.Found.{Found}
 use Rattle.bound_figures.specs.declared.Tally.{Tally}
 use Rattle.bound_figures.specs.HeldFigures.{encode, acceptedAs, Shows, zeroTally, moreOf, jumpedOf, decidedOf, joinedOf, finishedOf, refusedAs}

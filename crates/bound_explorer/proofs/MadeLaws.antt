@@ -7,7 +7,7 @@ use lib.IntN.{pos}
 use lib.ListN.{length, getD, set, replicate, length-replicate}
 use Rattle.cells.specs.Try.{Try, stuck, done}
 use Rattle.cells.specs.declared.Cell.{Cell}
-use Rattle.cells.specs.Cells.{unknown, number}
+use Rattle.cells.specs.Cells.{unknown, exactly}
 use Rattle.instructions.specs.HeldColumns.{operationOf}
 use Rattle.machine.specs.Machine.{Next, index, load, jump}
 use Rattle.machine_outcome.specs.declared.Outcome.{Outcome}
@@ -108,7 +108,7 @@ module _ (ns : List ℕ) (l : Line) (r : Registers) (e : Cell) (low : r .free �
   sets c j g p = record {
     leads = λ fs st d h f.
         arms.sets (arm fs st h f) c j (withStack (advanced (popped 1 r)) st) (withStack (advanced (stored (popped 1 r))) st) g p
-        (pop-is (ahead st) (formed st h) 1 (arms.set-room (arm fs st h f) c g)) (at-load (number (pos 0)) (withStack (advanced (popped 1 r)) st) _ refl);
+        (pop-is (ahead st) (formed st h) 1 (arms.set-room (arm fs st h f) c g)) (at-load (exactly (pos 0)) (withStack (advanced (popped 1 r)) st) _ refl);
     within = λ fs f. (arms.slot-in (arm-some fs f) j p, arms.set-room (arm-some fs f) c g);
   }
 

@@ -6,8 +6,8 @@ use machine_state::State;
 use machine_state::code::Fetched;
 use machine_state::code::Line;
 use machine_state::registers::Registers;
+use refusals::Acceptance;
 use refusals::Refusal;
-use refusals::Verdict;
 use turns::Turn;
 ghost use mathlib.Core.Path.{_≡_};
 ghost use Prim.Native.Nat.{_<_};
@@ -58,7 +58,7 @@ fn branch(
     let mut state = State::of(registers, stack).advance();
     let untaken = explore(code, state, blocks, openings - 1, left);
     let verdict = untaken.verdict;
-    if let Verdict::Refused(refusal) = verdict {
+    if let Acceptance::Refused(refusal) = verdict {
         let taken = bound_figures::refused(refusal, 0);
         return Ways {
             untaken: untaken,

@@ -5,7 +5,7 @@ use Prim.Native.Nat.{ℕ, _+_, max, _≤_}
 use native.Mathlib.Omega.{arith}
 use Rattle.bound_theory.specs.Tree.{Decision, N, T}
 use Rattle.refusals.specs.declared.Refusal.{Refusal}
-use Rattle.refusals.specs.declared.Verdict.the-variants.{Accepted, Refused}
+use Rattle.refusals.specs.declared.Acceptance.the-variants.{Accepted, Refused}
 use Rattle.bound_figures.specs.declared.Found.{Found}
 use Rattle.bound_figures.specs.declared.Tally.{Tally}
 use Rattle.bound_figures.specs.HeldFigures.{encode, decidedOf, joinedOf, refusedAs, secondOf, firstOf, bothOf}

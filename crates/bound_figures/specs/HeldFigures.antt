@@ -7,8 +7,8 @@ use lib.Dec.{leb}
 use Rattle.refusals.specs.declared.Refusal.{Refusal}
 use Rattle.machine.specs.Machine.{Price}
 use Rattle.bound_theory.specs.Tree.{Decision, N, T, Step, made, not-made, Report, Verdict, accepted, refused}
-use Rattle.refusals.specs.declared.Verdict as code
-use Rattle.refusals.specs.declared.Verdict.the-variants.{Accepted, Refused}
+use Rattle.refusals.specs.declared.Acceptance as code
+use Rattle.refusals.specs.declared.Acceptance.the-variants.{Accepted, Refused}
 use Rattle.bound_figures.specs.declared.Found.{Found}
 use Rattle.bound_figures.specs.declared.Tally.{Tally}
 
@@ -72,11 +72,11 @@ unfoldable pub refusedAs : Refusal → ℕ → Found
 refusedAs x n = record { verdict = Refused x; used = n; cycles = 0; words = 0; depth = 0; path = 1 }
 
 -- n steps of a tally, and then the two ways of a branch: the first refusal of the two, with the steps up to it, or both joined
-unfoldable pub secondOf : Tally → ℕ → Found → ℕ → Found → code.Verdict → Found
+unfoldable pub secondOf : Tally → ℕ → Found → ℕ → Found → code.Acceptance → Found
 secondOf t n f x g Accepted = joinedOf t n f x g
 secondOf t n f x g (Refused y) = refusedAs y (n + f .used + g .used)
 
-unfoldable pub firstOf : Tally → ℕ → Found → ℕ → Found → code.Verdict → Found
+unfoldable pub firstOf : Tally → ℕ → Found → ℕ → Found → code.Acceptance → Found
 firstOf t n f x g Accepted = secondOf t n f x g (g .verdict)
 firstOf t n f x g (Refused y) = refusedAs y (n + f .used)
 

@@ -1,6 +1,6 @@
 // What exploring comes to, and how it is put together: a step more, STOP, a refusal, the two ways of a branch. The meaning is in specs/.
+use refusals::Acceptance;
 use refusals::Refusal;
-use refusals::Verdict;
 ghost use mathlib.Core.Path.{_≡_};
 ghost use Prim.Native.Nat.{_≤_, max};
 ghost use Rattle.bound_figures.specs.HeldFigures.{zeroTally, price, moreOf, jumpedOf, decidedOf, joinedOf, bothOf, finishedOf, refusedAs, Summable};
@@ -8,7 +8,7 @@ ghost use Rattle.bound_figures.specs.HeldFigures.{zeroTally, price, more
 // What exploring comes to: the verdict, the steps walked, and where it is accepted the figures of the report.
 // `path` has a bit for each decision, the first one lowest, 1 for taken, with a 1 above the last.
 pub struct Found {
-    pub verdict: Verdict,
+    pub verdict: Acceptance,
     pub used: usize,
     pub cycles: u64,
     pub words: u64,
@@ -82,7 +82,7 @@ pub fn finished(t: Tally, n: usize) -> Found
     ensures { λ r. ⌜ r ≡ finishedOf t n ⌝ }
 {
     Found {
-        verdict: Verdict::Accepted,
+        verdict: Acceptance::Accepted,
         used: n,
         cycles: t.cycles,
         words: t.words,
@@ -96,7 +96,7 @@ pub fn refused(x: Refusal, walked: usize) -> Found
     ensures { λ r. ⌜ r ≡ refusedAs x walked ⌝ }
 {
     Found {
-        verdict: Verdict::Refused(x),
+        verdict: Acceptance::Refused(x),
         used: walked,
         cycles: 0,
         words: 0,
@@ -116,7 +116,7 @@ pub fn joined(t: Tally, n: usize, f: Found, extra: u32, g: Found) -> Found
     let depth = larger(t.depth, larger(f.depth, g.depth));
     let path = decided(f.cycles, taken, f.path, g.path);
     Found {
-        verdict: Verdict::Accepted,
+        verdict: Acceptance::Accepted,
         used: n + f.used + g.used,
         cycles: cycles,
         words: words,
@@ -131,11 +131,11 @@ pub fn both(t: Tally, n: usize, f: Found, extra: u32, g: Found) -> Found
     ensures { λ r. ⌜ r ≡ bothOf t n f extra g ⌝ }
 {
     let first = f.verdict;
-    if let Verdict::Refused(refusal) = first {
+    if let Acceptance::Refused(refusal) = first {
         return refused(refusal, n + f.used);
     }
     let second = g.verdict;
-    if let Verdict::Refused(refusal) = second {
+    if let Acceptance::Refused(refusal) = second {
         return refused(refusal, n + f.used + g.used);
     }
     joined(t, n, f, extra, g)

@@ -8,11 +8,10 @@ use lib.IntN.{pos}
 use Rattle.text.specs.Text.{bytes, equals, find}
 use Rattle.numbers.specs.Numbers.{wrap, holds}
 use Rattle.cells.specs.Try.{_>>=_}
-use Rattle.cells.specs.Cells.{number, unknown, calculate₂, results, range₂, wider, map₂, operate₂, conditionIn, condition}
+use Rattle.cells.specs.Cells.{exactly, unknown, calculate₂, results, range₂, wider, map₂, operate₂, conditionIn, condition}
 use Rattle.cells.specs.Order.{Allowed, end, cons}
 use Rattle.cells.proofs.CellLaws.{number-allowed, known-allowed}
-use Rattle.instructions.specs.Kinds.{kinds, kindNames, operand}
-use Rattle.instructions.specs.HeldColumns.{kindAt}
+use Rattle.instructions.specs.Kinds.{kinds, kindNames, operand, kindAt}
 use Rattle.machine.specs.Lists.{nth, without}
 use Rattle.machine.specs.Machine.{instruction, State, Instruction, Code, fetch, height, jump, load, restack, push, pop, advance, ahead, withExtra, ways, perform, prepare, execute, step, takes, takesAnswer}
 use Rattle.machine.specs.Order.{Cellwise}
@@ -38,10 +37,10 @@ code = record {
 
 -- case 1: ACCU 0, S0 `?`; case 7: S0 0
 abbrev pub bounded : State
-bounded = record { at = 0; accu = number (pos 0); stack = unknown ∷ []; blocks = [] }
+bounded = record { at = 0; accu = exactly (pos 0); stack = unknown ∷ []; blocks = [] }
 
 abbrev pub plain : State
-plain = record { at = 0; accu = number (pos 0); stack = number (pos 0) ∷ []; blocks = [] }
+plain = record { at = 0; accu = exactly (pos 0); stack = exactly (pos 0) ∷ []; blocks = [] }
 
 abbrev pub reported : Report
 reported = record { cycles = 65; words = 4; depth = 1; steps = 6; path = N ∷ [] }

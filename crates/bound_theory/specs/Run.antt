@@ -8,7 +8,7 @@ use lib.IntN.{ℤ, pos}
 use Rattle.refusals.specs.declared.Refusal.the-variants.{Stuck, Spent}
 use Rattle.cells.specs.Try.{Try, stuck, done}
 use Rattle.cells.specs.declared.Cell.{Cell}
-use Rattle.cells.specs.Cells.{number}
+use Rattle.cells.specs.Cells.{exactly}
 use Rattle.machine.specs.Machine.{State, Price, Next, stops, goes, opens, Code, height, step, takesAnswer}
 use Rattle.bound_theory.specs.Tree.{Verdict, accepted, refused}
 use Rattle.bound_theory.specs.Traces.{Move, move}
@@ -30,8 +30,8 @@ begin s answers = record { state = s; answers = answers; cycles = 0; words = 0; 
 
 -- "the next listed answer in a run, 0 once the list is used up"
 unfoldable pub answer : List ℤ → Cell
-answer [] = number (pos 0)
-answer (a ∷ rest) = number a
+answer [] = exactly (pos 0)
+answer (a ∷ rest) = exactly a
 
 -- "A C_CALL takes the next answer off the list, if one is left."
 unfoldable pub remaining : Bool → List ℤ → List ℤ

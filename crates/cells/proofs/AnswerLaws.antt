@@ -10,7 +10,7 @@ use Rattle.cells.specs.declared.Value.{Value}
 use Rattle.cells.specs.declared.Cell.{Cell}
 use Rattle.cells.specs.declared.Unary.{Unary}
 use Rattle.cells.specs.declared.Binary.{Binary}
-use Rattle.cells.specs.Cells.{range, number, map₁, compareHandles, combineHandles, map₂, operate₁, operate₂}
+use Rattle.cells.specs.Cells.{range, exactly, map₁, compareHandles, combineHandles, map₂, operate₁, operate₂}
 use Rattle.cells.specs.Merge.{mergeValues, mergeCells}
 use Rattle.cells.specs.Try.{Try}
 
@@ -19,7 +19,7 @@ pub calculated : {D : Type 0} (f : D → ℤ) (d : D) {e : D} {r m : ℤ} → d 
 calculated f d {r = r} {m = m} p q g = result-read (wrap-fits m) (sym q) ∙ ap wrap (g ∙ ap f (sym p))
 
 -- the cell of such a result
-pub entered : (n : ℤ) {r m : ℤ} → r ≡ wrap m → m ≡ n → range (read w32 r) 0 ≡ number n
+pub entered : (n : ℤ) {r m : ℤ} → r ≡ wrap m → m ≡ n → range (read w32 r) 0 ≡ exactly n
 entered n {r = r} {m = m} q e = ap (λ z. range z 0) (result-read (wrap-fits m) (sym q) ∙ ap wrap e)
 
 pub operated₁ : (u : Unary) (i : ℤ) (a : Cell) {v : Value} {m : Try Cell} → a .value ≡ v → m ≡ map₁ u i v → m ≡ operate₁ u i a

@@ -20,9 +20,9 @@ use Rattle.numbers.specs.declared.Comparison.the-variants.{Equal, Unequal, Less
 use Rattle.cells.specs.declared.Binary.{Binary}
 use Rattle.cells.specs.declared.Binary.the-variants.{Add, Subtract, Compare}
 use Rattle.cells.specs.Try.{Try}
-use Rattle.cells.specs.Cells.{range, high, number, unknown, handle, calculate₁, calculate₂, results, least₁, range₁, wider, range₂, map₁, compareHandles, combineHandles, map₂, operate₁, operate₂, conditionIn, condition, handled, block}
+use Rattle.cells.specs.Cells.{range, high, exactly, unknown, handle, calculate₁, calculate₂, results, least₁, range₁, wider, range₂, map₁, compareHandles, combineHandles, map₂, operate₁, operate₂, conditionIn, condition, handled, block}
 use Rattle.cells.specs.Order.{Refines, same, inside, Allowed, among, same-handle}
-use Rattle.cells.specs.HeldCodes.{confineValue, confine, Confined, Kept}
+use Rattle.cells.specs.Confined.{confineValue, confine, Confined, Kept}
 use Rattle.cells.specs.Covering.{Covered, by-stuck, both, Narrower, zeros, nonzeros, zero-unknown, nonzero-unknown, unknowns, Lawful}
 use Rattle.cells.proofs.Covering.{covered-self}
 use Rattle.cells.proofs.RangeLaws.{Linear, linear, lies, covers, linear-self, linear-trans, linear-one, one-allowed, InBits, fitting-yes, Results, fits, whole, results-is, wrap-bits, wrap-unknown, results-refine, number-refines, one-or-more, high-zero, range₁-refines}
@@ -59,7 +59,7 @@ allowed-plain same-handle = same-handle
 pub known-allowed : (n : ℤ) → Allowed (range n 0) (range n 0)
 known-allowed n = among (lies (linear-self n 0))
 
-pub number-allowed : (n : ℤ) → Allowed (number n) unknown
+pub number-allowed : (n : ℤ) → Allowed (exactly n) unknown
 number-allowed n = among (lies (wrap-unknown n))
 
 -- ---- operations on two ranges
@@ -98,14 +98,14 @@ module _ {l l′ k k′ : ℤ} {m m′ n n′ : ℕ} (h : Linear l m l′ m′) 
       (judged-is c (some-number l m) (some-number k n)) (judged-is c (some-number l′ m′) (some-number k′ n′))
 
 module _ {l l′ k k′ : ℤ} {m′ n′ : ℕ} (h : Linear l 0 l′ m′) (g : Linear k 0 k′ n′) where
-  pair-refines : (b : Binary) → Refines (number (calculate₂ b l k)) (wider b l′ m′ k′ n′)
+  pair-refines : (b : Binary) → Refines (exactly (calculate₂ b l k)) (wider b l′ m′ k′ n′)
   unfolding wider calculate₂
   pair-refines Add = number-refines (sum-linear h g)
   pair-refines Subtract = number-refines (rw (high-zero k) at (difference-linear h g))
   pair-refines (Compare c) = pair-judged c l k (one-among h) (one-among g) (judged-is c (some-number l′ m′) (some-number k′ n′))
 
 module _ (b : Binary) {l l′ k k′ : ℤ} {m m′ n n′ : ℕ} (h : Linear l m l′ m′) (g : Linear k n k′ n′) where
-  one₂ : m′ + n′ ≡ 0 → Refines (range₂ b l m k n) (number (calculate₂ b l′ k′))
+  one₂ : m′ + n′ ≡ 0 → Refines (range₂ b l m k n) (exactly (calculate₂ b l′ k′))
   unfolding range₂
   one₂ e =
       let p : m′ ≡ 0 = omega arith in
@@ -117,14 +117,14 @@ module _ (b : Binary) {l l′ k k′ : ℤ} {m m′ n n′ : ℕ} (h : Linear l 
   more₂ : Refines (range₂ b l m k n) (wider b l′ m′ k′ n′)
   unfolding range₂
   more₂ =
-      one-or-more (λ t. Refines (cond t (number (calculate₂ b l k)) (wider b l m k n)) (wider b l′ m′ k′ n′)) (m + n)
+      one-or-more (λ t. Refines (cond t (exactly (calculate₂ b l k)) (wider b l m k n)) (wider b l′ m′ k′ n′)) (m + n)
       (λ e. let p : m ≡ 0 = omega arith in let q : n ≡ 0 = omega arith in pair-refines (rw p at h) (rw q at g) b)
       (λ j. wider-refines h g b)
 
   pub range₂-refines : Refines (range₂ b l m k n) (range₂ b l′ m′ k′ n′)
   unfolding range₂
   range₂-refines =
-      one-or-more (λ t. Refines (range₂ b l m k n) (cond t (number (calculate₂ b l′ k′)) (wider b l′ m′ k′ n′))) (m′ + n′)
+      one-or-more (λ t. Refines (range₂ b l m k n) (cond t (exactly (calculate₂ b l′ k′)) (wider b l′ m′ k′ n′))) (m′ + n′)
       (λ e. one₂ e)
       (λ j. more₂)
 
@@ -144,15 +144,15 @@ map₂-below b handles handles = covered-self (λ c. same) _
 
 -- what they give of plain cells is plain
 
-pub range₁-one : (u : Unary) (i n : ℤ) → range₁ u i n 0 ≡ number (calculate₁ u i n)
+pub range₁-one : (u : Unary) (i n : ℤ) → range₁ u i n 0 ≡ exactly (calculate₁ u i n)
 unfolding range₁
 range₁-one u i n = refl
 
-pub range₂-one : (b : Binary) (m n : ℤ) → range₂ b m 0 n 0 ≡ number (calculate₂ b m n)
+pub range₂-one : (b : Binary) (m n : ℤ) → range₂ b m 0 n 0 ≡ exactly (calculate₂ b m n)
 unfolding range₂
 range₂-one b m n = refl
 
-plain : (z : ℤ) {x y : Cell} → x ≡ number z → Refines x y → Allowed x y
+plain : (z : ℤ) {x y : Cell} → x ≡ exactly z → Refines x y → Allowed x y
 plain z e r = rw e (one-allowed (rw e at r))
 
 map₁-allowed : (u : Unary) (i : ℤ) {a a′ : Cell} → Allowed a a′ → Covered Allowed (map₁ u i (a .value)) (map₁ u i (a′ .value))
@@ -278,7 +278,7 @@ unknown-bits = record { above = omega arith; below = omega arith }
 pub unknown-confined : Confined unknown
 unknown-confined = confined-range unknown-bits
 
-pub number-confined : (n : ℤ) → Confined (number n)
+pub number-confined : (n : ℤ) → Confined (exactly n)
 number-confined n = confined-range (wrap-bits n)
 
 pub handle-confined : (k : ℕ) → Confined (handle k)
@@ -312,7 +312,7 @@ judged-confined (either f g) = confined-range (record { above = omega arith; bel
 range₁-confined : (u : Unary) (i l : ℤ) (m : ℕ) → Confined (range₁ u i l m)
 unfolding range₁
 range₁-confined u i l m =
-    one-or-more (λ t. Confined (cond t (number (calculate₁ u i l)) (results (least₁ u i l m) m))) m
+    one-or-more (λ t. Confined (cond t (exactly (calculate₁ u i l)) (results (least₁ u i l m) m))) m
     (λ e. number-confined (calculate₁ u i l))
     (λ h. results-confined (least₁ u i l m) m)
 
@@ -325,7 +325,7 @@ wider-confined (Compare c) l m k n = judged-confined (judged-is c (some-number l
 range₂-confined : (b : Binary) (l : ℤ) (m : ℕ) (k : ℤ) (n : ℕ) → Confined (range₂ b l m k n)
 unfolding range₂
 range₂-confined b l m k n =
-    one-or-more (λ t. Confined (cond t (number (calculate₂ b l k)) (wider b l m k n))) (m + n)
+    one-or-more (λ t. Confined (cond t (exactly (calculate₂ b l k)) (wider b l m k n))) (m + n)
     (λ e. number-confined (calculate₂ b l k))
     (λ h. wider-confined b l m k n)
 

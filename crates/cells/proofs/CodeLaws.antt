@@ -12,14 +12,15 @@ use Rattle.numbers.specs.Numbers.{bits, half, modulus}
 use Rattle.numbers.proofs.IntegerLaws.{difference-is}
 use Rattle.cells.specs.declared.Cell.{Cell}
 use Rattle.cells.specs.Cells.{range, handle}
-use Rattle.cells.specs.HeldCodes.{cellOf, cellsOf, confine, Confined, Kept}
+use Rattle.cells.specs.HeldCodes.{decodedCell, decodedCells}
+use Rattle.cells.specs.Confined.{confine, Confined, Kept}
 use Rattle.cells.specs.Order.{Pointwise, end, cons}
 use Rattle.cells.proofs.CellLaws.{confined-range, handle-confined, kept-self}
 
 -- what a number stands for
 
-pub code-confined : (x : ℕ) → Confined (cellOf x)
-unfolding cellOf
+pub code-confined : (x : ℕ) → Confined (decodedCell x)
+unfolding decodedCell
 code-confined x = go (leb (x / modulus bits) (x % modulus bits)) refl
   where
     go : (t : Bool) → leb (x / modulus bits) (x % modulus bits) ≡ t
@@ -31,46 +32,46 @@ code-confined x = go (leb (x / modulus bits) (x % modulus bits)) refl
         confined-range (record { above = omega arith; below = omega arith })
     go false e = handle-confined (x % 256)
 
-pub decoded-confined : {c : Cell} (x : ℕ) → c ≡ cellOf x → Confined c
+pub decoded-confined : {c : Cell} (x : ℕ) → c ≡ decodedCell x → Confined c
 decoded-confined x e = rw e (code-confined x)
 
 -- lists of cells as numbers
 
-pub cells-length : (xs : List ℕ) → length (cellsOf xs) ≡ length xs
-unfolding cellsOf
-cells-length xs = length-map xs cellOf
+pub cells-length : (xs : List ℕ) → length (decodedCells xs) ≡ length xs
+unfolding decodedCells
+cells-length xs = length-map xs decodedCell
 
-pub cells-at : (xs : List ℕ) (i : ℕ) → getD (cellsOf xs) i (cellOf 0) ≡ cellOf (getD xs i 0)
-unfolding cellsOf
-cells-at xs i = List·getD-map cellOf xs i 0
+pub cells-at : (xs : List ℕ) (i : ℕ) → getD (decodedCells xs) i (decodedCell 0) ≡ decodedCell (getD xs i 0)
+unfolding decodedCells
+cells-at xs i = List·getD-map decodedCell xs i 0
 
-pub cells-set : (xs : List ℕ) (i x : ℕ) → cellsOf (set xs i x) ≡ set (cellsOf xs) i (cellOf x)
-unfolding cellsOf
+pub cells-set : (xs : List ℕ) (i x : ℕ) → decodedCells (set xs i x) ≡ set (decodedCells xs) i (decodedCell x)
+unfolding decodedCells
 cells-set [] i x = refl
 cells-set (y ∷ xs) zero x = refl
-cells-set (y ∷ xs) (suc i) x = ap (λ (l : List Cell). cellOf y ∷ l) (cells-set xs i x)
+cells-set (y ∷ xs) (suc i) x = ap (λ (l : List Cell). decodedCell y ∷ l) (cells-set xs i x)
 
-pub cells-append : (xs ys : List ℕ) → cellsOf (xs ++ ys) ≡ cellsOf xs ++ cellsOf ys
-unfolding cellsOf
+pub cells-append : (xs ys : List ℕ) → decodedCells (xs ++ ys) ≡ decodedCells xs ++ decodedCells ys
+unfolding decodedCells
 cells-append [] ys = refl
-cells-append (x ∷ xs) ys = ap (λ (l : List Cell). cellOf x ∷ l) (cells-append xs ys)
+cells-append (x ∷ xs) ys = ap (λ (l : List Cell). decodedCell x ∷ l) (cells-append xs ys)
 
-pub cells-take : (n : ℕ) (xs : List ℕ) → cellsOf (take n xs) ≡ take n (cellsOf xs)
-unfolding cellsOf
+pub cells-take : (n : ℕ) (xs : List ℕ) → decodedCells (take n xs) ≡ take n (decodedCells xs)
+unfolding decodedCells
 cells-take zero xs = refl
 cells-take (suc n) [] = refl
-cells-take (suc n) (x ∷ xs) = ap (λ (l : List Cell). cellOf x ∷ l) (cells-take n xs)
+cells-take (suc n) (x ∷ xs) = ap (λ (l : List Cell). decodedCell x ∷ l) (cells-take n xs)
 
-pub cells-drop : (n : ℕ) (xs : List ℕ) → cellsOf (drop n xs) ≡ drop n (cellsOf xs)
-unfolding cellsOf
+pub cells-drop : (n : ℕ) (xs : List ℕ) → decodedCells (drop n xs) ≡ drop n (decodedCells xs)
+unfolding decodedCells
 cells-drop zero xs = refl
 cells-drop (suc n) [] = refl
 cells-drop (suc n) (x ∷ xs) = cells-drop n xs
 
 -- lists of cells that are confined
 
-pub codes-kept : (xs : List ℕ) → Pointwise Kept (cellsOf xs) (cellsOf xs)
-unfolding cellsOf
+pub codes-kept : (xs : List ℕ) → Pointwise Kept (decodedCells xs) (decodedCells xs)
+unfolding decodedCells
 codes-kept [] = end
 codes-kept (x ∷ xs) = cons (kept-self (code-confined x)) (codes-kept xs)
 

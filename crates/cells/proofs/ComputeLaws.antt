@@ -17,7 +17,7 @@ use Rattle.cells.specs.declared.Cell.{Cell}
 use Rattle.cells.specs.declared.Unary.{Unary}
 use Rattle.cells.specs.declared.Unary.the-variants.{Offset, Negate, Complement}
 use Rattle.cells.specs.Cells.{range, high, unknown, between, handle, calculate₁, results, least₁}
-use Rattle.cells.specs.HeldCodes.{cellOf}
+use Rattle.cells.specs.HeldCodes.{decodedCell}
 use Rattle.cells.specs.HeldSmall.{Small}
 use Rattle.cells.proofs.RangeLaws.{InBits, Results, fits, whole, results-is}
 
@@ -207,12 +207,12 @@ counted low h e g = rw e (go (low +ℤ pos (half bits)) (shifted-unsigned low 0 
     go (pos n) u s = record { sign = u .sign; few = u .few; is = omega arith }
     go (negsuc n) u s = absurd (u .sign)
 
-pub encoded-wide : cellOf 2147483647 ≡ unknown
-unfolding cellOf
+pub encoded-wide : decodedCell 2147483647 ≡ unknown
+unfolding decodedCell
 encoded-wide = refl
 
-pub encoded-range : (low : ℤ) (more l : ℕ) → l + under low ≡ over low + half bits → l + more ≤ modulus bits - 1 → cellOf (l * 2147483648 + (l + more)) ≡ results low more
-unfolding cellOf
+pub encoded-range : (low : ℤ) (more l : ℕ) → l + under low ≡ over low + half bits → l + more ≤ modulus bits - 1 → decodedCell (l * 2147483648 + (l + more)) ≡ results low more
+unfolding decodedCell
 encoded-range low more l e h =
     let x = l * 2147483648 + (l + more) in
     let q : x / modulus bits ≡ l = omega arith in
@@ -223,19 +223,19 @@ encoded-range low more l e h =
     let m : l + more - l ≡ more = omega arith in
     rw (q, r) (rw (le-leb l (l + more) (omega arith)) (ap₂ range z m ∙ results-inner low more b))
 
-pub encoded-handle : (k : ℕ) → k < 256 → cellOf (549755813888 + k) ≡ handle k
-unfolding cellOf
+pub encoded-handle : (k : ℕ) → k < 256 → decodedCell (549755813888 + k) ≡ handle k
+unfolding decodedCell
 encoded-handle k h =
     let x = 549755813888 + k in
     let e : x % 256 ≡ k = omega arith in
     rw (lt-leb (x / modulus bits) (x % modulus bits) (omega arith)) (ap handle e)
 
-pub decoded-handle : (x : ℕ) → x % 2147483648 < x / 2147483648 → handle (x % 256) ≡ cellOf x
-unfolding cellOf
+pub decoded-handle : (x : ℕ) → x % 2147483648 < x / 2147483648 → handle (x % 256) ≡ decodedCell x
+unfolding decodedCell
 decoded-handle x h = rw (lt-leb (x / modulus bits) (x % modulus bits) h) refl
 
-pub decoded-range : (x : ℕ) → x / 2147483648 ≤ x % 2147483648 → range (pos (x / 2147483648) -ℤ pos 1073741824) (x % 2147483648 - x / 2147483648) ≡ cellOf x
-unfolding cellOf
+pub decoded-range : (x : ℕ) → x / 2147483648 ≤ x % 2147483648 → range (pos (x / 2147483648) -ℤ pos 1073741824) (x % 2147483648 - x / 2147483648) ≡ decodedCell x
+unfolding decodedCell
 decoded-range x h = rw (le-leb (x / modulus bits) (x % modulus bits) h) refl
 
 pub decoded-fits : (x : ℕ) → x / 2147483648 ≤ x % 2147483648 → SFits w32 (pos (x / 2147483648) -ℤ pos 1073741824)

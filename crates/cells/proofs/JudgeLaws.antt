@@ -12,7 +12,7 @@ use Rattle.numbers.specs.declared.Comparison.the-variants.{Equal, Unequal, Less
 use Rattle.numbers.proofs.SignedLaws.{bit-keeps}
 use Rattle.numbers.proofs.IntegerLaws.{over, under, le-true, le-false, le-yes, le-no, lt-true, lt-false, lt-yes, equal-by, same-true, same-yes}
 use Rattle.cells.specs.declared.Cell.{Cell}
-use Rattle.cells.specs.Cells.{range, number, always, opposite, judged}
+use Rattle.cells.specs.Cells.{range, exactly, always, negated, judged}
 use Rattle.cells.specs.Order.{Refines, same as itself}
 use Rattle.cells.proofs.RangeLaws.{covers}
 
@@ -103,8 +103,8 @@ le-not-lt m n = go (ltZ m n) refl
     go true e = le-no n m (lt-true m n e)
     go false e = le-yes n m (lt-false m n e)
 
-pub holds-opposite : (c : Comparison) (m n : ℤ) → holds (opposite c) m n ≡ not (holds c m n)
-unfolding holds opposite
+pub holds-opposite : (c : Comparison) (m n : ℤ) → holds (negated c) m n ≡ not (holds c m n)
+unfolding holds negated
 holds-opposite Equal m n = refl
 holds-opposite Unequal m n = not-not (same m n)
 holds-opposite Less m n = le-not-lt m n
@@ -123,27 +123,27 @@ pub data Judged (c : Comparison) (l h l′ h′ : ℤ) : Cell → Type 0 where
   either : (((m n : ℤ) → Among m l h → Among n l′ h′ → holds c m n ≡ true) → ⊥) → (((m n : ℤ) → Among m l h → Among n l′ h′ → holds c m n ≡ false) → ⊥)
       → Judged c l h l′ h′ (range (pos 0) 1)
 
-pub one-is : number (pos 1) ≡ range (pos 1) 0
+pub one-is : exactly (pos 1) ≡ range (pos 1) 0
 one-is = ap (λ (z : ℤ). range z 0) (bit-keeps true)
 
-pub zero-is : number (pos 0) ≡ range (pos 0) 0
+pub zero-is : exactly (pos 0) ≡ range (pos 0) 0
 zero-is = ap (λ (z : ℤ). range z 0) (bit-keeps false)
 
 module _ (c : Comparison) {l h l′ h′ : ℤ} (some : leZ l h ≡ true) (some′ : leZ l′ h′ ≡ true) where
-  never : always (opposite c) l h l′ h′ ≡ true → (m n : ℤ) → Among m l h → Among n l′ h′ → holds c m n ≡ false
-  never e m n a b = not-false (holds c m n) (sym (holds-opposite c m n) ∙ always-holds (opposite c) e m n a b)
+  never : always (negated c) l h l′ h′ ≡ true → (m n : ℤ) → Among m l h → Among n l′ h′ → holds c m n ≡ false
+  never e m n a b = not-false (holds c m n) (sym (holds-opposite c m n) ∙ always-holds (negated c) e m n a b)
 
   pub judged-is : Judged c l h l′ h′ (judged c l h l′ h′)
   unfolding judged
-  judged-is = go (always c l h l′ h′) refl (always (opposite c) l h l′ h′) refl
+  judged-is = go (always c l h l′ h′) refl (always (negated c) l h l′ h′) refl
     where
-      go : (t : Bool) → always c l h l′ h′ ≡ t → (r : Bool) → always (opposite c) l h l′ h′ ≡ r
-          → Judged c l h l′ h′ (cond t (number (pos 1)) (cond r (number (pos 0)) (range (pos 0) 1)))
+      go : (t : Bool) → always c l h l′ h′ ≡ t → (r : Bool) → always (negated c) l h l′ h′ ≡ r
+          → Judged c l h l′ h′ (cond t (exactly (pos 1)) (cond r (exactly (pos 0)) (range (pos 0) 1)))
       go true e r q = rw one-is (every (always-holds c e))
       go false e true q = rw zero-is (none (never q))
       go false e false q =
           either (λ f. true≢false (sym (holds-always some some′ c f) ∙ e))
-          (λ f. true≢false (sym (holds-always some some′ (opposite c) (λ m n a b. holds-opposite c m n ∙ ap not (f m n a b))) ∙ q))
+          (λ f. true≢false (sym (holds-always some some′ (negated c) (λ m n a b. holds-opposite c m n ∙ ap not (f m n a b))) ∙ q))
 
 -- ---- what is judged of less is covered by what is judged of more
 
@@ -168,11 +168,11 @@ module _ (c : Comparison) {l h k j l′ h′ k′ j′ : ℤ} (some : leZ l h �
   judged-refines (either f f′) (either g g′) = itself
 
 -- what it gives of one pair
-pub pair-judged : (c : Comparison) {l h l′ h′ : ℤ} (m n : ℤ) → Among m l h → Among n l′ h′ → {y : Cell} → Judged c l h l′ h′ y → Refines (number (bit (holds c m n))) y
+pub pair-judged : (c : Comparison) {l h l′ h′ : ℤ} (m n : ℤ) → Among m l h → Among n l′ h′ → {y : Cell} → Judged c l h l′ h′ y → Refines (exactly (bit (holds c m n))) y
 pair-judged c m n a b (every f) = rw (f m n a b, one-is) itself
 pair-judged c m n a b (none f) = rw (f m n a b, zero-is) itself
 pair-judged c m n a b (either f g) = go (holds c m n)
   where
-    go : (t : Bool) → Refines (number (bit t)) (range (pos 0) 1)
+    go : (t : Bool) → Refines (exactly (bit t)) (range (pos 0) 1)
     go true = rw one-is (covers (record { least = omega arith; greatest = omega arith }))
     go false = rw zero-is (covers (record { least = omega arith; greatest = omega arith }))

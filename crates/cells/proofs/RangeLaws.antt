@@ -13,7 +13,7 @@ use Rattle.numbers.proofs.IntegerLaws.{over, under, sum-is, difference-is, nega
 use Rattle.cells.specs.declared.Cell.{Cell}
 use Rattle.cells.specs.declared.Unary.{Unary}
 use Rattle.cells.specs.declared.Unary.the-variants.{Offset, Negate, Complement}
-use Rattle.cells.specs.Cells.{range, high, number, unknown, calculate₁, results, least₁, range₁}
+use Rattle.cells.specs.Cells.{range, high, exactly, unknown, calculate₁, results, least₁, range₁}
 use Rattle.cells.specs.Order.{Inside, Refines, same, inside, Allowed, among}
 
 -- ---- one range inside another, as facts about natural numbers
@@ -139,11 +139,11 @@ pub results-refine : {l l′ : ℤ} {m m′ : ℕ} → Linear l m l′ m′ → 
 results-refine {l} {l′} {m} {m′} i = between-results i (results-is l m) (results-is l′ m′)
 
 -- the wrapped number of one of them
-number-results : {n l : ℤ} {m : ℕ} {y : Cell} → Linear n 0 l m → Results l m y → Refines (number n) y
+number-results : {n l : ℤ} {m : ℕ} {y : Cell} → Linear n 0 l m → Results l m y → Refines (exactly n) y
 number-results {n} i (fits b) = rw (wrap-keeps n (bits-number n (bits-down i b))) (covers i)
 number-results {n} i (whole k) = covers (wrap-unknown n)
 
-pub number-refines : {n l : ℤ} {m : ℕ} → Linear n 0 l m → Refines (number n) (results l m)
+pub number-refines : {n l : ℤ} {m : ℕ} → Linear n 0 l m → Refines (exactly n) (results l m)
 number-refines {n} {l} {m} i = number-results i (results-is l m)
 
 -- ---- by whether a range is a single number
@@ -180,20 +180,20 @@ least-one Negate i l = ap (calculate₁ Negate i) (sym (high-zero l))
 least-one Complement i l = ap (calculate₁ Complement i) (sym (high-zero l))
 
 module _ (u : Unary) (i : ℤ) {l l′ : ℤ} {m : ℕ} where
-  one₁ : Linear l m l′ 0 → Refines (range₁ u i l m) (number (calculate₁ u i l′))
+  one₁ : Linear l m l′ 0 → Refines (range₁ u i l m) (exactly (calculate₁ u i l′))
   unfolding range₁
   one₁ g = let e = linear-one g in rw (e .0, e .1) same
 
   more₁ : {m′ : ℕ} → Linear l m l′ m′ → Refines (range₁ u i l m) (results (least₁ u i l′ m′) m′)
   unfolding range₁
   more₁ {m′} h =
-      one-or-more (λ t. Refines (cond t (number (calculate₁ u i l)) (results (least₁ u i l m) m)) (results (least₁ u i l′ m′) m′)) m
+      one-or-more (λ t. Refines (cond t (exactly (calculate₁ u i l)) (results (least₁ u i l m) m)) (results (least₁ u i l′ m′) m′)) m
       (λ e. rw (least-one u i l) (number-refines (least-linear u i (rw e at h))))
       (λ j. results-refine (least-linear u i h))
 
   pub range₁-refines : {m′ : ℕ} → Linear l m l′ m′ → Refines (range₁ u i l m) (range₁ u i l′ m′)
   unfolding range₁
   range₁-refines {m′} h =
-      one-or-more (λ t. Refines (range₁ u i l m) (cond t (number (calculate₁ u i l′)) (results (least₁ u i l′ m′) m′))) m′
+      one-or-more (λ t. Refines (range₁ u i l m) (cond t (exactly (calculate₁ u i l′)) (results (least₁ u i l′ m′) m′))) m′
       (λ e. one₁ (rw e at h))
       (λ k. more₁ h)

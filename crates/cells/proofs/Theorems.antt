@@ -14,7 +14,7 @@ use Rattle.cells.specs.declared.Unary.{Unary}
 use Rattle.cells.specs.declared.Unary.the-variants.{Offset, Negate, Complement}
 use Rattle.cells.specs.declared.Binary.{Binary}
 use Rattle.cells.specs.declared.Binary.the-variants.{Add, Subtract, Compare}
-use Rattle.cells.specs.Cells.{range, high, number, unknown, calculate₁, calculate₂, results, least₁, range₁, wider, range₂, conditionIn, condition}
+use Rattle.cells.specs.Cells.{range, high, exactly, unknown, calculate₁, calculate₂, results, least₁, range₁, wider, range₂, conditionIn, condition}
 use Rattle.cells.specs.declared.Condition.the-variants.{IsZero, IsNonzero, IsUnknown}
 use Rattle.cells.specs.Try.{done}
 use Rattle.cells.specs.Order.{Refines}
@@ -40,7 +40,7 @@ among-of : {n l : ℤ} {m : ℕ} → Among n l (high l m) → Of n l m
 among-of {n} {l} {m} a = let s = sum-is l (pos m) in lies (record { least = a .least; greatest = omega (arith, a .greatest) })
 
 -- a single number that is a number
-number-inside : {z l : ℤ} {k : ℕ} → IsNumber z → Of z l k → Refines (number z) (range l k)
+number-inside : {z l : ℤ} {k : ℕ} → IsNumber z → Of z l k → Refines (exactly z) (range l k)
 number-inside {z} h i = rw (wrap-keeps z h) (covers (linear i))
 
 -- ---- the least to the greatest of results
@@ -68,12 +68,12 @@ wraps-by l m v i n = go (results-is l m)
 
 -- ---- one range
 
-single₁ : (u : Unary) (i l : ℤ) (m : ℕ) → m ≡ 0 → range₁ u i l m ≡ number (calculate₁ u i l)
+single₁ : (u : Unary) (i l : ℤ) (m : ℕ) → m ≡ 0 → range₁ u i l m ≡ exactly (calculate₁ u i l)
 single₁ u i l m e = ap (range₁ u i l) e ∙ range₁-one u i l
 
 wide₁ : (u : Unary) (i l : ℤ) (m : ℕ) → 0 < m → range₁ u i l m ≡ results (least₁ u i l m) m
 unfolding range₁
-wide₁ u i l m h = one-or-more (λ t. cond t (number (calculate₁ u i l)) (results (least₁ u i l m) m) ≡ results (least₁ u i l m) m) m (λ e. absurd (omega arith)) (λ k. refl)
+wide₁ u i l m h = one-or-more (λ t. cond t (exactly (calculate₁ u i l)) (results (least₁ u i l m) m) ≡ results (least₁ u i l m) m) m (λ e. absurd (omega arith)) (λ k. refl)
 
 -- which numbers give the least and the greatest
 abbrev first₁ : Unary → ℤ → ℕ → ℤ
@@ -140,15 +140,15 @@ everyUnary u i l m = record {
 
 -- ---- two ranges
 
-single₂ : (b : Binary) (l : ℤ) (m : ℕ) (k : ℤ) (n : ℕ) → m + n ≡ 0 → range₂ b l m k n ≡ number (calculate₂ b l k)
+single₂ : (b : Binary) (l : ℤ) (m : ℕ) (k : ℤ) (n : ℕ) → m + n ≡ 0 → range₂ b l m k n ≡ exactly (calculate₂ b l k)
 unfolding range₂
-single₂ b l m k n e = one-or-more (λ t. cond t (number (calculate₂ b l k)) (wider b l m k n) ≡ number (calculate₂ b l k)) (m + n) (λ q. refl) (λ h. absurd (omega arith))
+single₂ b l m k n e = one-or-more (λ t. cond t (exactly (calculate₂ b l k)) (wider b l m k n) ≡ exactly (calculate₂ b l k)) (m + n) (λ q. refl) (λ h. absurd (omega arith))
 
 wide₂ : (b : Binary) (l : ℤ) (m : ℕ) (k : ℤ) (n : ℕ) → 0 < m + n → range₂ b l m k n ≡ wider b l m k n
 unfolding range₂
-wide₂ b l m k n h = one-or-more (λ t. cond t (number (calculate₂ b l k)) (wider b l m k n) ≡ wider b l m k n) (m + n) (λ e. absurd (omega arith)) (λ q. refl)
+wide₂ b l m k n h = one-or-more (λ t. cond t (exactly (calculate₂ b l k)) (wider b l m k n) ≡ wider b l m k n) (m + n) (λ e. absurd (omega arith)) (λ q. refl)
 
-pair-covers : (b : Binary) (l : ℤ) (m : ℕ) (k : ℤ) (n : ℕ) (x y : ℤ) → Of x l m → Of y k n → Refines (number (calculate₂ b x y)) (range₂ b l m k n)
+pair-covers : (b : Binary) (l : ℤ) (m : ℕ) (k : ℤ) (n : ℕ) (x y : ℤ) → Of x l m → Of y k n → Refines (exactly (calculate₂ b x y)) (range₂ b l m k n)
 pair-covers b l m k n x y o p = rw (sym (range₂-one b x y)) (range₂-refines b (of-linear o) (of-linear p))
 
 module _ (l : ℤ) (m : ℕ) (k : ℤ) (n : ℕ) where
@@ -244,7 +244,7 @@ module _ (c : Comparison) (l : ℤ) (m : ℕ) (k : ℤ) (n : ℕ) where
       alone : {x z : ℤ} (w : ℕ) → w ≡ 0 → Among x z (high z w) → x ≡ z
       alone {x} {z} w e a = linear-one (rw e at (of-linear (among-of a))) .0
 
-      one : (t : Bool) → holds c l k ≡ t → m ≡ 0 → n ≡ 0 → Judged c l (high l m) k (high k n) (number (bit t))
+      one : (t : Bool) → holds c l k ≡ t → m ≡ 0 → n ≡ 0 → Judged c l (high l m) k (high k n) (exactly (bit t))
       one true e p q = rw one-is (every (λ x y a b. rw (alone m p a, alone n q b) e))
       one false e p q = rw zero-is (none (λ x y a b. rw (alone m p a, alone n q b) e))
 
@@ -258,12 +258,12 @@ everyComparison c l m k n = record {
     clash : {X : Type 0} → ((x y : ℤ) → Of x l m → Of y k n → holds c x y ≡ true) → ((x y : ℤ) → Of x l m → Of y k n → holds c x y ≡ false) → X
     clash f g = absurd (true≢false (sym (f l k (lowest-of l m) (lowest-of k n)) ∙ g l k (lowest-of l m) (lowest-of k n)))
 
-    every-by : ((x y : ℤ) → Of x l m → Of y k n → holds c x y ≡ true) → {v : Cell} → Judged c l (high l m) k (high k n) v → v ≡ number (pos 1)
+    every-by : ((x y : ℤ) → Of x l m → Of y k n → holds c x y ≡ true) → {v : Cell} → Judged c l (high l m) k (high k n) v → v ≡ exactly (pos 1)
     every-by f (every g) = sym one-is
     every-by f (none g) = clash f (λ x y o p. g x y (one-among (of-linear o)) (one-among (of-linear p)))
     every-by f (either g h) = absurd (g (λ x y a b. f x y (among-of a) (among-of b)))
 
-    none-by : ((x y : ℤ) → Of x l m → Of y k n → holds c x y ≡ false) → {v : Cell} → Judged c l (high l m) k (high k n) v → v ≡ number (pos 0)
+    none-by : ((x y : ℤ) → Of x l m → Of y k n → holds c x y ≡ false) → {v : Cell} → Judged c l (high l m) k (high k n) v → v ≡ exactly (pos 0)
     none-by f (every g) = clash (λ x y o p. g x y (one-among (of-linear o)) (one-among (of-linear p))) f
     none-by f (none g) = sym zero-is
     none-by f (either g h) = absurd (h (λ x y a b. f x y (among-of a) (among-of b)))

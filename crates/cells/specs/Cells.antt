@@ -34,8 +34,8 @@ abbrev pub high : ℤ → ℕ → ℤ
 high low more = low +ℤ pos more
 
 -- one number, wrapped to the bits that numbers have
-abbrev pub number : ℤ → Cell
-number n = range (wrap n) 0
+abbrev pub exactly : ℤ → Cell
+exactly n = range (wrap n) 0
 
 -- "A `?` is the whole range": "An unknown stands for any number and never for a handle."
 abbrev pub unknown : Cell
@@ -77,7 +77,7 @@ least₁ Complement i low more = calculate₁ Complement i (high low more)
 
 -- "Sums, differences and negations of single numbers stay exact and wrap. Of wider ranges they give the least to the greatest result"
 unfoldable pub range₁ : Unary → ℤ → ℤ → ℕ → Cell
-range₁ u i low more = cond (eqb more 0) (number (calculate₁ u i low)) (results (least₁ u i low more) more)
+range₁ u i low more = cond (eqb more 0) (exactly (calculate₁ u i low)) (results (least₁ u i low more) more)
 
 -- whether a comparison holds for every pair of a number from l to h and one from l′ to h′
 unfoldable pub always : Comparison → ℤ → ℤ → ℤ → ℤ → Bool
@@ -89,17 +89,17 @@ always Greater l h l′ h′ = ltZ h′ l
 always AtLeast l h l′ h′ = leZ h′ l
 
 -- the comparison that holds where another does not
-unfoldable pub opposite : Comparison → Comparison
-opposite Equal = Unequal
-opposite Unequal = Equal
-opposite Less = AtLeast
-opposite AtMost = Greater
-opposite Greater = AtMost
-opposite AtLeast = Less
+unfoldable pub negated : Comparison → Comparison
+negated Equal = Unequal
+negated Unequal = Equal
+negated Less = AtLeast
+negated AtMost = Greater
+negated Greater = AtMost
+negated AtLeast = Less
 
 -- "a comparison gives 1 if it holds for every pair of numbers in the two ranges, 0 if for none, else 0 to 1"
 unfoldable pub judged : Comparison → ℤ → ℤ → ℤ → ℤ → Cell
-judged c l h l′ h′ = cond (always c l h l′ h′) (number (pos 1)) (cond (always (opposite c) l h l′ h′) (number (pos 0)) (range (pos 0) 1))
+judged c l h l′ h′ = cond (always c l h l′ h′) (exactly (pos 1)) (cond (always (negated c) l h l′ h′) (exactly (pos 0)) (range (pos 0) 1))
 
 -- "the least to the greatest result" of the pairs of two ranges, not both of one number
 unfoldable pub wider : Binary → ℤ → ℕ → ℤ → ℕ → Cell
@@ -109,7 +109,7 @@ wider (Compare c) low more low′ more′ = judged c low (high low more) low′ 
 
 -- two operands, of one number each or wider
 unfoldable pub range₂ : Binary → ℤ → ℕ → ℤ → ℕ → Cell
-range₂ b low more low′ more′ = cond (eqb (more + more′) 0) (number (calculate₂ b low low′)) (wider b low more low′ more′)
+range₂ b low more low′ more′ = cond (eqb (more + more′) 0) (exactly (calculate₂ b low low′)) (wider b low more low′ more′)
 
 -- ---- operations on cells
 
@@ -120,8 +120,8 @@ map₁ u i (Handle k) = stuck
 
 -- "EQ and NEQ of two handles now give a known 1 or 0 by block number"; stuck "are the four order comparisons" (document 02 §3)
 unfoldable pub compareHandles : Comparison → ℕ → ℕ → Try Cell
-compareHandles Equal j k = done (number (bit (eqb j k)))
-compareHandles Unequal j k = done (number (bit (not (eqb j k))))
+compareHandles Equal j k = done (exactly (bit (eqb j k)))
+compareHandles Unequal j k = done (exactly (bit (not (eqb j k))))
 compareHandles Less j k = stuck
 compareHandles AtMost j k = stuck
 compareHandles Greater j k = stuck

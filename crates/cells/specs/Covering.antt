@@ -8,7 +8,7 @@ use Rattle.cells.specs.declared.Unary.{Unary}
 use Rattle.cells.specs.declared.Binary.{Binary}
 use Rattle.cells.specs.declared.Condition.{Condition}
 use Rattle.cells.specs.declared.Condition.the-variants.{IsZero, IsNonzero, IsUnknown}
-use Rattle.cells.specs.Cells.{number, operate₁, operate₂, condition, block}
+use Rattle.cells.specs.Cells.{exactly, operate₁, operate₂, condition, block}
 use Rattle.cells.specs.Order.{Refines, Allowed}
 
 pub data Covered {A : Type 0} (R : A → A → Type 0) : Try A → Try A → Type 0 where
@@ -26,7 +26,7 @@ pub data Narrower (two : Type 0) : Condition → Condition → Type 0 where
 
 -- "Cells that agree must still give results that agree": of a relation of cells, in every operation on them
 pub record Lawful (R : Cell → Cell → Type 0) (two : Type 0) : Type 0 where
-  pub numbers : (n : ℤ) → R (number n) (number n)
+  pub numbers : (n : ℤ) → R (exactly n) (exactly n)
   pub operates₁ : (u : Unary) (i : ℤ) {a a′ : Cell} → R a a′ → Covered R (operate₁ u i a) (operate₁ u i a′)
   pub operates₂ : (b : Binary) {a c a′ c′ : Cell} → R a a′ → R c c′ → Covered R (operate₂ b a c) (operate₂ b a′ c′)
   pub conditions : {a a′ : Cell} → R a a′ → Covered (Narrower two) (condition a) (condition a′)

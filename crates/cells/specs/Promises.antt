@@ -10,7 +10,7 @@ use Rattle.cells.specs.declared.Binary.{Binary}
 use Rattle.cells.specs.declared.Binary.the-variants.{Compare}
 use Rattle.cells.specs.declared.Condition.the-variants.{IsZero, IsNonzero, IsUnknown}
 use Rattle.cells.specs.Try.{done}
-use Rattle.cells.specs.Cells.{range, number, unknown, calculate₁, calculate₂, range₁, range₂, condition}
+use Rattle.cells.specs.Cells.{range, exactly, unknown, calculate₁, calculate₂, range₁, range₂, condition}
 use Rattle.cells.specs.Order.{Inside, Refines}
 
 -- n is a number of the range of `low` and `more` beyond it
@@ -20,7 +20,7 @@ Of n low more = Inside n 0 low more
 -- an operation on one range
 pub record Exact₁ (u : Unary) (i low : ℤ) (more : ℕ) : Type 0 where
   -- it covers the operation on every number
-  pub covers : (n : ℤ) → Of n low more → Refines (number (calculate₁ u i n)) (range₁ u i low more)
+  pub covers : (n : ℤ) → Of n low more → Refines (exactly (calculate₁ u i n)) (range₁ u i low more)
   -- "the least to the greatest result": where none would wrap, every range with all results covers it
   pub smallest : ((n : ℤ) → Of n low more → IsNumber (calculate₁ u i n)) → (l : ℤ) (m : ℕ) → ((n : ℤ) → Of n low more → Of (calculate₁ u i n) l m) → Refines (range₁ u i low more) (range l m)
   -- "or the whole range if some result would wrap"
@@ -31,7 +31,7 @@ EveryUnary = (u : Unary) (i low : ℤ) (more : ℕ) → Exact₁ u i low more
 
 -- an operation on two
 pub record Exact₂ (b : Binary) (low : ℤ) (more : ℕ) (low′ : ℤ) (more′ : ℕ) : Type 0 where
-  pub covers : (m n : ℤ) → Of m low more → Of n low′ more′ → Refines (number (calculate₂ b m n)) (range₂ b low more low′ more′)
+  pub covers : (m n : ℤ) → Of m low more → Of n low′ more′ → Refines (exactly (calculate₂ b m n)) (range₂ b low more low′ more′)
   pub smallest : ((m n : ℤ) → Of m low more → Of n low′ more′ → IsNumber (calculate₂ b m n)) → (l : ℤ) (k : ℕ) →
       ((m n : ℤ) → Of m low more → Of n low′ more′ → Of (calculate₂ b m n) l k) → Refines (range₂ b low more low′ more′) (range l k)
   pub wraps : 0 < more + more′ → (m n : ℤ) → Of m low more → Of n low′ more′ → (IsNumber (calculate₂ b m n) → ⊥) → range₂ b low more low′ more′ ≡ unknown
@@ -41,8 +41,8 @@ EveryBinary = (b : Binary) (low : ℤ) (more : ℕ) (low′ : ℤ) (more′ : �
 
 -- "a comparison gives 1 if it holds for every pair of numbers in the two ranges, 0 if for none, else 0 to 1"
 pub record Compared (c : Comparison) (low : ℤ) (more : ℕ) (low′ : ℤ) (more′ : ℕ) : Type 0 where
-  pub every : ((m n : ℤ) → Of m low more → Of n low′ more′ → holds c m n ≡ true) → range₂ (Compare c) low more low′ more′ ≡ number (pos 1)
-  pub none : ((m n : ℤ) → Of m low more → Of n low′ more′ → holds c m n ≡ false) → range₂ (Compare c) low more low′ more′ ≡ number (pos 0)
+  pub every : ((m n : ℤ) → Of m low more → Of n low′ more′ → holds c m n ≡ true) → range₂ (Compare c) low more low′ more′ ≡ exactly (pos 1)
+  pub none : ((m n : ℤ) → Of m low more → Of n low′ more′ → holds c m n ≡ false) → range₂ (Compare c) low more low′ more′ ≡ exactly (pos 0)
   pub some : (((m n : ℤ) → Of m low more → Of n low′ more′ → holds c m n ≡ true) → ⊥) → (((m n : ℤ) → Of m low more → Of n low′ more′ → holds c m n ≡ false) → ⊥)
       → range₂ (Compare c) low more low′ more′ ≡ range (pos 0) 1
 

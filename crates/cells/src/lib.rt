@@ -5,10 +5,11 @@ ghost use Prim.Native.Nat.{_<_, _^_};
 ghost use lib.IntN.{pos, _+ℤ_};
 ghost use lib.Signed.{mag};
 ghost use Rattle.numbers.specs.Numbers.{wrap, bit, within, numbers};
-ghost use Rattle.cells.specs.Cells.{range, high, number, unknown, between, handle, calculate₁, calculate₂, results, least₁, range₁, always, opposite, judged, wider, range₂, compareHandles, combineHandles, operate₁, operate₂, condition, block};
+ghost use Rattle.cells.specs.Cells.{range, high, exactly, unknown, between, handle, calculate₁, calculate₂, results, least₁, range₁, always, negated, judged, wider, range₂, compareHandles, combineHandles, operate₁, operate₂, condition, block};
 ghost use Rattle.cells.specs.HeldAnswers.{ofOperand, ofTested, ofHandled};
 ghost use Rattle.cells.specs.Merge.{lower, upper, mergeCells};
-ghost use Rattle.cells.specs.HeldCodes.{cellOf, confine, Confined};
+ghost use Rattle.cells.specs.HeldCodes.{decodedCell};
+ghost use Rattle.cells.specs.Confined.{confine, Confined};
 ghost use Rattle.cells.specs.HeldSmall.{Small};
 
 // "A cell holds a number, an unknown number or a block handle"; "A start or block cell may be `lo..hi`": a range is its least number and
@@ -62,8 +63,8 @@ pub enum Handled {
 }
 
 // The cell of a number, which wraps.
-pub fn number(n: i32) -> Cell
-    ensures { λ r. ⌜ r ≡ number n ⌝ }
+pub fn exactly(n: i32) -> Cell
+    ensures { λ r. ⌜ r ≡ exactly n ⌝ }
 {
     Cell {
         value: Value::Range(numbers::narrow(n as i64), 0),
@@ -192,9 +193,9 @@ pub fn operate1(u: Unary, i: i32, a: Cell) -> Operand
 
 // The cell of 1 where b is true, else that of 0.
 fn truth(b: bool) -> Cell
-    ensures { λ r. ⌜ r ≡ number (bit b) ⌝ }
+    ensures { λ r. ⌜ r ≡ exactly (bit b) ⌝ }
 {
-    if b { number(1) } else { number(0) }
+    if b { exactly(1) } else { exactly(0) }
 }
 
 // Whether a comparison holds for every pair of a number from l to h and one from m to n.
@@ -211,8 +212,8 @@ fn always(c: Comparison, l: i64, h: i64, m: i64, n: i64) -> bool
     }
 }
 
-fn opposite(c: Comparison) -> Comparison
-    ensures { λ r. ⌜ r ≡ opposite c ⌝ }
+fn negated(c: Comparison) -> Comparison
+    ensures { λ r. ⌜ r ≡ negated c ⌝ }
 {
     match c {
         Comparison::Equal => Comparison::Unequal,
@@ -229,10 +230,10 @@ fn judged(c: Comparison, l: i64, h: i64, m: i64, n: i64) -> Cell
     ensures { λ r. ⌜ r ≡ judged c l h m n ⌝ }
 {
     if always(c, l, h, m, n) {
-        return number(1);
+        return exactly(1);
     }
-    if always(opposite(c), l, h, m, n) {
-        return number(0);
+    if always(negated(c), l, h, m, n) {
+        return exactly(0);
     }
     Cell {
         value: Value::Range(0, 1),
@@ -385,7 +386,7 @@ pub fn merge(a: Cell, b: Cell) -> Operand
 
 // A range as a number: its least and its greatest number, counted from the lowest on.
 fn encode_range(low: i32, more: u32) -> u64
-    ensures { λ r. ⌜ cellOf r ≡ results low more ⌝ }
+    ensures { λ r. ⌜ decodedCell r ≡ results low more ⌝ }
 {
     if low < numbers::LOWEST {
         return numbers::OTHERS as u64;
@@ -400,7 +401,7 @@ fn encode_range(low: i32, more: u32) -> u64
 
 // A cell as a number.
 pub fn encode(c: Cell) -> u64
-    ensures { λ r. ⌜ cellOf r ≡ confine c ⌝ }
+    ensures { λ r. ⌜ decodedCell r ≡ confine c ⌝ }
 {
     let value = c.value;
     match value {
@@ -411,7 +412,7 @@ pub fn encode(c: Cell) -> u64
 
 // The cell that a number stands for: any number stands for one.
 pub fn decode(x: u64) -> Cell
-    ensures { λ r. ⌜ r ≡ cellOf x ⌝ }
+    ensures { λ r. ⌜ r ≡ decodedCell x ⌝ }
 {
     let least = x / 2147483648;
     let greatest = x % 2147483648;

@@ -8,8 +8,8 @@ use lib.Dec.{eqb}
 use borrow.Author.Tests.{ne-eqb}
 use Rattle.refusals.specs.declared.Refusal.{Refusal}
 use Rattle.refusals.specs.Refusals.{number}
-use Rattle.refusals.specs.declared.Verdict.the-variants as verdicts
-use Rattle.refusals.specs.declared.Verdict.the-variants.{Accepted}
+use Rattle.refusals.specs.declared.Acceptance.the-variants as verdicts
+use Rattle.refusals.specs.declared.Acceptance.the-variants.{Accepted}
 use Rattle.bound_theory.specs.Tree.{bound}
 use Rattle.bound_theory.specs.Tree as bounds
 use Rattle.merge_theory.specs.Merge.{merged}

@@ -3,8 +3,8 @@ use answers::Answer;
 use bound_figures::Found;
 use file_check::Reader;
 use file_reader::Routine;
+use refusals::Acceptance;
 use refusals::Refusal;
-use refusals::Verdict;
 ghost use mathlib.Core.Path.{_≡_};
 ghost use mathlib.Core.Bool.{true};
 ghost use mathlib.Core.List.{_++_};
@@ -99,11 +99,11 @@ fn decide_by_merging(refusal: Refusal, routine: Routine, out: &mut [u8]) -> Answ
     let found = routine_figures::swept(routine);
     let verdict = found.verdict;
     match verdict {
-        Verdict::Accepted => {
+        Acceptance::Accepted => {
             let n = put_decision(out, Source::Merging, tick, found);
             Answer::Reported(n)
         }
-        Verdict::Refused(_) => Answer::Refused(refusal),
+        Acceptance::Refused(_) => Answer::Refused(refusal),
     }
 }
 
@@ -117,11 +117,11 @@ fn decide_routine(routine: Routine, out: &mut [u8]) -> Answer
     let found = routine_figures::explored(routine);
     let verdict = found.verdict;
     match verdict {
-        Verdict::Accepted => {
+        Acceptance::Accepted => {
             let n = put_decision(out, Source::First, tick, found);
             Answer::Reported(n)
         }
-        Verdict::Refused(refusal) => {
+        Acceptance::Refused(refusal) => {
             if for_size(refusal) {
                 decide_by_merging(refusal, routine, out)
             } else {
@@ -141,10 +141,10 @@ pub fn decide(text: &[u8], out: &mut [u8]) -> Answer
 {
     let verdict = file_entry::check(Reader::Bound, 128, out.len(), text);
     match verdict {
-        Verdict::Accepted => {
+        Acceptance::Accepted => {
             let routine = file_reader::routine_of(text);
             decide_routine(routine, out)
         }
-        Verdict::Refused(refusal) => Answer::Refused(refusal),
+        Acceptance::Refused(refusal) => Answer::Refused(refusal),
     }
 }

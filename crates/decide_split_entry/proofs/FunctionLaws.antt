@@ -5,8 +5,8 @@ use mathlib.Core.List.{List}
 use native.Mathlib.Omega.{arith}
 use lib.ListN.{length}
 use Rattle.refusals.specs.declared.Refusal.{Refusal}
-use Rattle.refusals.specs.declared.Verdict as checks
-use Rattle.refusals.specs.declared.Verdict.the-variants.{Accepted, Refused}
+use Rattle.refusals.specs.declared.Acceptance as checks
+use Rattle.refusals.specs.declared.Acceptance.the-variants.{Accepted, Refused}
 use Rattle.text.specs.Text.{lines}
 use Rattle.bound_theory.specs.Tree.{Report, Verdict}
 use Rattle.bound_theory.specs.Tree as verdicts
@@ -92,7 +92,7 @@ from-decision text cuts n bs e =
     let a = from-reading (decideSplitRoutine text cuts) (readBound text) memoryLimit n bs e in
     go (a .lent) (a .routine) (a .reads) (cutsChecked text cuts) refl (a .gives)
   where
-    go : memoryLimit ≤ n → (x : Routine) → readBound text ≡ readings.routine x → (v : checks.Verdict) → cutsChecked text cuts ≡ v → checked v (decideCases cuts x) ≡ reported bs → FromDecision text cuts n bs
+    go : memoryLimit ≤ n → (x : Routine) → readBound text ≡ readings.routine x → (v : checks.Acceptance) → cutsChecked text cuts ≡ v → checked v (decideCases cuts x) ≡ reported bs → FromDecision text cuts n bs
     go l x reads Accepted h e =
         let f = from-cases cuts x bs e in
         record { lent = l; routine = x; report = f .report; is = record { reads = reads; passes = h; accepts = f .accepts; prints = f .prints } }

@@ -8,8 +8,8 @@ use lib.Dec.{ltb}
 use Rattle.refusals.specs.declared.Refusal.{Refusal}
 use Rattle.refusals.specs.declared.Refusal.the-variants.{ReportMemory}
 use Rattle.refusals.specs.Refusals.{place}
-use Rattle.refusals.specs.declared.Verdict as checks
-use Rattle.refusals.specs.declared.Verdict.the-variants.{Accepted, Refused}
+use Rattle.refusals.specs.declared.Acceptance as checks
+use Rattle.refusals.specs.declared.Acceptance.the-variants.{Accepted, Refused}
 use Rattle.text.specs.Text.{lines}
 use Rattle.bound_theory.specs.Tree.{Report, Verdict}
 use Rattle.file_format.specs.Routine.{Routine, Reading, readBound}
@@ -67,18 +67,18 @@ split-decision-refused text cuts n r = (
   from (ltb n memoryLimit) (readBound text) (cutsChecked text cuts),
 )
   where
-    by : (Routine → Answer) → checks.Verdict → Bool → Reading → Answer
+    by : (Routine → Answer) → checks.Acceptance → Bool → Reading → Answer
     by f v b m = cond b (refused ReportMemory) (ofReading (λ x. checked v (f x)) m)
 
-    to : (b : Bool) (m : Reading) (v : checks.Verdict) → by (decideCases cuts) v b m ≡ refused r → by (casesRoutine cuts) v b m ≡ refused r
+    to : (b : Bool) (m : Reading) (v : checks.Acceptance) → by (decideCases cuts) v b m ≡ refused r → by (casesRoutine cuts) v b m ≡ refused r
     to true m v e = e
-    to false (readings.refused y) v e = e
+    to false (readings.unread y) v e = e
     to false (readings.routine x) (Refused y) e = e
     to false (readings.routine x) Accepted e = same-refusal _ (boundText (x .tick)) (split (x .code) (cutsOf cuts) (x .start)) r e
 
-    from : (b : Bool) (m : Reading) (v : checks.Verdict) → by (casesRoutine cuts) v b m ≡ refused r → by (decideCases cuts) v b m ≡ refused r
+    from : (b : Bool) (m : Reading) (v : checks.Acceptance) → by (casesRoutine cuts) v b m ≡ refused r → by (decideCases cuts) v b m ≡ refused r
     from true m v e = e
-    from false (readings.refused y) v e = e
+    from false (readings.unread y) v e = e
     from false (readings.routine x) (Refused y) e = e
     from false (readings.routine x) Accepted e = same-refusal _ (decisionText Split (x .tick)) (split (x .code) (cutsOf cuts) (x .start)) r e
 

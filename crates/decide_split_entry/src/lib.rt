@@ -3,7 +3,7 @@ use answers::Answer;
 use decide_entry::Source;
 use file_check::Reader;
 use file_reader::Routine;
-use refusals::Verdict;
+use refusals::Acceptance;
 ghost use mathlib.Core.Path.{_≡_};
 ghost use Prim.Native.Nat.{_≤_};
 ghost use lib.ListN.{length};
@@ -28,11 +28,11 @@ fn decide_cases(routine: Routine, cuts: &[u8], out: &mut [u8]) -> Answer
     let found = split_entry::bounded(routine, cuts);
     let verdict = found.verdict;
     match verdict {
-        Verdict::Accepted => {
+        Acceptance::Accepted => {
             let n = decide_entry::put_decision(out, Source::Split, tick, found);
             Answer::Reported(n)
         }
-        Verdict::Refused(refusal) => Answer::Refused(refusal),
+        Acceptance::Refused(refusal) => Answer::Refused(refusal),
     }
 }
 
@@ -44,11 +44,11 @@ fn decide_passing(text: &[u8], cuts: &[u8], out: &mut [u8]) -> Answer
 {
     let verdict = split_entry::check(text, cuts);
     match verdict {
-        Verdict::Accepted => {
+        Acceptance::Accepted => {
             let routine = file_reader::routine_of(text);
             decide_cases(routine, cuts, out)
         }
-        Verdict::Refused(refusal) => Answer::Refused(refusal),
+        Acceptance::Refused(refusal) => Answer::Refused(refusal),
     }
 }
 
@@ -61,7 +61,7 @@ pub fn decide_split(text: &[u8], cuts: &[u8], out: &mut [u8]) -> Answer
 {
     let verdict = file_entry::check(Reader::Bound, 128, out.len(), text);
     match verdict {
-        Verdict::Accepted => decide_passing(text, cuts, out),
-        Verdict::Refused(refusal) => Answer::Refused(refusal),
+        Acceptance::Accepted => decide_passing(text, cuts, out),
+        Acceptance::Refused(refusal) => Answer::Refused(refusal),
     }
 }

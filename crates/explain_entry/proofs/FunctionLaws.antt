@@ -5,8 +5,8 @@ use mathlib.Core.List.{List, _++_}
 use native.Mathlib.Omega.{arith}
 use lib.ListN.{length, drop, length-append}
 use Rattle.refusals.specs.declared.Refusal.{Refusal}
-use Rattle.refusals.specs.declared.Verdict.the-variants as verdicts
-use Rattle.refusals.specs.declared.Verdict.the-variants.{Accepted}
+use Rattle.refusals.specs.declared.Acceptance.the-variants as verdicts
+use Rattle.refusals.specs.declared.Acceptance.the-variants.{Accepted}
 use Rattle.text.specs.Text.{Line, lines}
 use Rattle.text.proofs.MemoryLaws.{Wrote}
 use Rattle.cells.specs.Cells.{unknown}
@@ -28,7 +28,7 @@ use Rattle.report.specs.Report.{boundText}
 use Rattle.report.specs.HeldPath.{decode, reportOf}
 use Rattle.report.proofs.DecodeLaws.{report-of}
 use Rattle.explain_walk.specs.Walk.{follow}
-use Rattle.explain_lines.specs.Listing.{entries, listing}
+use Rattle.explain_lines.specs.Listing.{shownLines, listing}
 use Rattle.answers.specs.Answers.{reported, refused}
 use Rattle.answers.proofs.AnswerLaws.{reading-passed}
 use Rattle.explain_entry.specs.Answers.{explanationLimit, worstMoves, entryNames, explanationText, explained, explainRoutine, explainAnswer}
@@ -41,7 +41,7 @@ use Rattle.explain_entry.proofs.Theorems.{explanations-fit}
 pub text-parts : (ls : List Line) (x : Routine) (f : Found) → textIn ls x f ≡ boundText (x .tick) (reportIn f) ++ entryNames ++ walkIn ls x (f .path)
 unfolding explanationText worstMoves reportOf programOf
 text-parts ls x f =
-    ap (λ n. boundText (x .tick) (reportIn f) ++ entryNames ++ listing ls (firstOf (x .code)) (entries (follow (step (routineIn x .code) unknown) n (decode (f .path)) (routineIn x .start))))
+    ap (λ n. boundText (x .tick) (reportIn f) ++ entryNames ++ listing ls (firstOf (x .code)) (shownLines (follow (step (routineIn x .code) unknown) n (decode (f .path)) (routineIn x .start))))
     (code-count (x .code))
 
 pub text-length : (ls : List Line) (x : Routine) (f : Found) → length (textIn ls x f) ≡ length (boundText (x .tick) (reportIn f)) + 33 + length (walkIn ls x (f .path))

@@ -22,7 +22,7 @@ use Rattle.report.specs.Report.{boundText}
 use Rattle.report.proofs.ReportLaws.{bound-small, bound-fits}
 use Rattle.report_theory.proofs.SizeLaws.{code-length, priced, low, ticks, bound-limited}
 use Rattle.explain_walk.proofs.Theorems.{walks-worst}
-use Rattle.explain_lines.specs.Listing.{entries, listing}
+use Rattle.explain_lines.specs.Listing.{shownLines, listing}
 use Rattle.explain_lines.proofs.LengthLaws.{total, total-drop, total-lines, walk-fits}
 use Rattle.answers.specs.Answers.{reported, refused}
 use Rattle.answers.proofs.AnswerLaws.{never, from-reading, place-from}
@@ -82,7 +82,7 @@ explanations-kept text n bs e =
 -- ---- its size
 
 text-length : (ls : List Line) (x : Routine) (q : Report)
-    → length (explanationText ls x q) ≡ length (boundText (x .tick) q) + 33 + length (listing ls (x .code .first) (entries (worstMoves x q)))
+    → length (explanationText ls x q) ≡ length (boundText (x .tick) q) + 33 + length (listing ls (x .code .first) (shownLines (worstMoves x q)))
 unfolding explanationText
 text-length ls x q = simp length-append (omega arith)
 
@@ -95,9 +95,9 @@ module _ (text : List ℕ) (x : Routine) (passes : Passes (lines text)) (is : x 
   code-short : length (x .code .instructions) ≤ 1024
   code-short = rw (is, code-length) (code-few (lines text) (passes .layout))
 
-  steps-fit : (q : Report) → length (listing (body (lines text)) (x .code .first) (entries (worstMoves x q)))
+  steps-fit : (q : Report) → length (listing (body (lines text)) (x .code .first) (shownLines (worstMoves x q)))
       ≤ 23 * length (x .code .instructions) + total (drop (x .start .at - x .code .first) (body (lines text)))
-  unfolding worstMoves entries
+  unfolding worstMoves shownLines
   steps-fit q =
       let forward : Forward (x .code) = rw (← is) at (passing-forward (lines text) passes) in
       walk-fits (x .code) forward (priced text x passes is) (body (lines text)) (length (x .code .instructions)) (q .path) (x .start) 0 0 (low text x passes is) (omega (arith, code-short), omega (arith, code-short))

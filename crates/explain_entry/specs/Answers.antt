@@ -12,7 +12,7 @@ use Rattle.file_format.specs.Layout.{body}
 use Rattle.file_format.specs.Routine.{Routine, readBound}
 use Rattle.report.specs.Report.{boundText}
 use Rattle.explain_walk.specs.Walk.{follow}
-use Rattle.explain_lines.specs.Listing.{entries, listing}
+use Rattle.explain_lines.specs.Listing.{shownLines, listing}
 use Rattle.answers.specs.Answers.{Answer, reported, refused, lending, ofReading}
 
 -- Lent memory under 65,536 bytes is refusal 10
@@ -30,7 +30,7 @@ entryNames = bytes "AT OP ARG CYCLES WORDS DEPTH WAY\n"
 
 -- the report's two lines, then one line for each step of the maximum trace, under a line of names; ls are the lines after the layout
 unfoldable pub explanationText : List Line → Routine → Report → List ℕ
-explanationText ls x q = boundText (x .tick) q ++ entryNames ++ listing ls (x .code .first) (entries (worstMoves x q))
+explanationText ls x q = boundText (x .tick) q ++ entryNames ++ listing ls (x .code .first) (shownLines (worstMoves x q))
 
 -- of the bound's verdict: what is explained, or the bound's refusal
 unfoldable pub explained : List Line → Routine → Verdict → Answer

@@ -13,13 +13,13 @@ use Rattle.file_reader.specs.declared.Routine.{Routine}
 use Rattle.file_entry.specs.Held.{routineIn}
 use Rattle.report.specs.HeldPath.{decode, reportOf}
 use Rattle.explain_walk.specs.Walk.{follow}
-use Rattle.explain_lines.specs.Listing.{entries, listing}
+use Rattle.explain_lines.specs.Listing.{shownLines, listing}
 use Rattle.answers.specs.Answers.{reported}
 use Rattle.explain_entry.specs.Answers.{explanationText, explainRoutine}
 
 -- the lines of the walk along a path through the routine that the code's arrays hold
 abbrev pub walkIn : List Line → Routine → ℕ → List ℕ
-walkIn ls x path = listing ls (firstOf (x .code)) (entries (follow (step (routineIn x .code) unknown) (linesIn (x .code)) (decode path) (routineIn x .start)))
+walkIn ls x path = listing ls (firstOf (x .code)) (shownLines (follow (step (routineIn x .code) unknown) (linesIn (x .code)) (decode path) (routineIn x .start)))
 
 -- the report that the explorer's figures stand for
 abbrev pub reportIn : Found → Report

@@ -14,24 +14,24 @@ use Rattle.file_format.specs.Layout.{body}
 use Rattle.file_format.specs.Routine.{Routine, routine, readBound}
 use Rattle.report.specs.Report.{boundText}
 use Rattle.explain_walk.specs.Promises.{WorstTrace}
-use Rattle.explain_lines.specs.Listing.{Entry, entries, listing}
+use Rattle.explain_lines.specs.Listing.{Shown, shownLines, listing}
 use Rattle.answers.specs.Answers.{reported}
 use Rattle.explain_entry.specs.Answers.{explanationLimit, entryNames, explainAnswer}
 
 -- CYCLES of the last line
-unfoldable pub lastCycles : List Entry → ℕ
+unfoldable pub lastCycles : List Shown → ℕ
 lastCycles [] = 0
 lastCycles (e ∷ []) = e .cycles
 lastCycles (e ∷ f ∷ es) = lastCycles (f ∷ es)
 
 -- WORDS of the last line
-unfoldable pub lastWords : List Entry → ℕ
+unfoldable pub lastWords : List Shown → ℕ
 lastWords [] = 0
 lastWords (e ∷ []) = e .words
 lastWords (e ∷ f ∷ es) = lastWords (f ∷ es)
 
 -- the letters of WAY, in order
-unfoldable pub ways : List Entry → List Decision
+unfoldable pub ways : List Shown → List Decision
 ways [] = []
 ways (e ∷ es) = e .way ++ ways es
 
@@ -50,15 +50,15 @@ pub record Explains (text bs : List ℕ) (x : Routine) (q : Report) (moves : Lis
   -- the moves are the maximum trace of Definition 11
   pub worst : WorstTrace (x .code) (x .start) q moves
   -- and the bytes list them, one line for each
-  pub prints : bs ≡ boundText (x .tick) q ++ entryNames ++ listing (body (lines text)) (x .code .first) (entries moves)
+  pub prints : bs ≡ boundText (x .tick) q ++ entryNames ++ listing (body (lines text)) (x .code .first) (shownLines moves)
   -- the last line's CYCLES is the report's (Lemma 12)
-  pub last : lastCycles (entries moves) ≡ q .cycles
+  pub last : lastCycles (shownLines moves) ≡ q .cycles
   -- the last line's WORDS is the sum of the words of all moves
-  pub words : lastWords (entries moves) ≡ wordSum moves
+  pub words : lastWords (shownLines moves) ≡ wordSum moves
   -- the letters of WAY are PATH
-  pub path : ways (entries moves) ≡ q .path
+  pub path : ways (shownLines moves) ≡ q .path
   -- each line's address follows from the one before
-  pub follows : (k : ℕ) (d e : Entry) → nth k (entries moves) ≡ done d → nth (suc k) (entries moves) ≡ done e → FollowsBy (x .code) (d .at) (e .at)
+  pub follows : (k : ℕ) (d e : Shown) → nth k (shownLines moves) ≡ done d → nth (suc k) (shownLines moves) ≡ done e → FollowsBy (x .code) (d .at) (e .at)
 
 -- so of every explanation
 abbrev pub ExplanationsKept : Type 0

@@ -4,7 +4,7 @@ use bound_figures::Found;
 use file_check::Reader;
 use file_format::layout;
 use file_reader::Routine;
-use refusals::Verdict;
+use refusals::Acceptance;
 ghost use mathlib.Core.Path.{_≡_};
 ghost use mathlib.Core.List.{_++_};
 ghost use Prim.Native.Nat.{_+_, _≤_};
@@ -24,9 +24,9 @@ fn put_steps(routine: Routine, path: u64, body: &[u8], out: &mut [u8], at: usize
     ensures { λ _. ⌜ now (out .exit) ≡ over (now (out .entry)) at (walkIn (lines (now (body .entry))) routine path) ⌝ }
 {
     let code = routine.code;
-    let fields = routine.fields;
+    let blocks = routine.blocks;
     let start = routine.start;
-    explain_lines::put_walk(out, at, body, &code, start, fields, path)
+    explain_lines::put_walk(out, at, body, &code, start, blocks, path)
 }
 
 // Puts the report, the line of names and the lines of the steps at the start of out, and answers their length.
@@ -59,11 +59,11 @@ fn explain_routine(body: &[u8], routine: Routine, out: &mut [u8]) -> Answer
     let found = routine_figures::explored(routine);
     let verdict = found.verdict;
     match verdict {
-        Verdict::Accepted => {
+        Acceptance::Accepted => {
             let n = put_explanation(out, body, routine, found);
             Answer::Reported(n)
         }
-        Verdict::Refused(refusal) => Answer::Refused(refusal),
+        Acceptance::Refused(refusal) => Answer::Refused(refusal),
     }
 }
 
@@ -74,11 +74,11 @@ pub fn explain(text: &[u8], out: &mut [u8]) -> Answer
 {
     let verdict = file_entry::check(Reader::Bound, 65536, out.len(), text);
     match verdict {
-        Verdict::Accepted => {
+        Acceptance::Accepted => {
             let routine = file_reader::routine_of(text);
             let body = layout::body_of(text);
             explain_routine(body, routine, out)
         }
-        Verdict::Refused(refusal) => Answer::Refused(refusal),
+        Acceptance::Refused(refusal) => Answer::Refused(refusal),
     }
 }

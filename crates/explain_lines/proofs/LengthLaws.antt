@@ -7,7 +7,7 @@ use native.Mathlib.Omega.{arith}
 use lib.Dec.{eqb}
 use lib.ListN.{length, getD, drop, length-append}
 use lib.Seq.{drop-drop}
-use Rattle.text.specs.Text.{onto, split, Line, noLine, linesOf, lines}
+use Rattle.text.specs.Text.{onto, partedBy, Line, noLine, linesOf, lines}
 use Rattle.text.proofs.DecimalLaws.{decimal-length}
 use Rattle.cells.specs.Try.{Try, done}
 use Rattle.cells.specs.Cells.{unknown}
@@ -65,18 +65,18 @@ unfolding pieces
 onto-pieces x [] = refl
 onto-pieces x (p ∷ ps) = omega arith
 
-split-pieces : (c : ℕ) (s : List ℕ) → pieces (split c s) ≤ length s
-unfolding split pieces
+split-pieces : (c : ℕ) (s : List ℕ) → pieces (partedBy c s) ≤ length s
+unfolding partedBy pieces
 split-pieces c [] = omega arith
 split-pieces c (x ∷ xs) = go (eqb x c) (split-pieces c xs)
   where
-    go : (b : Bool) → pieces (split c xs) ≤ length xs → pieces (cond b ([] ∷ split c xs) (onto x (split c xs))) ≤ suc (length xs)
+    go : (b : Bool) → pieces (partedBy c xs) ≤ length xs → pieces (cond b ([] ∷ partedBy c xs) (onto x (partedBy c xs))) ≤ suc (length xs)
     go true h = omega arith
-    go false h = omega (arith, onto-pieces x (split c xs))
+    go false h = omega (arith, onto-pieces x (partedBy c xs))
 
 pub total-lines : (text : List ℕ) → total (lines text) ≤ length text
 unfolding lines
-total-lines text = omega (arith, lines-pieces (split 10 text), split-pieces 10 text)
+total-lines text = omega (arith, lines-pieces (partedBy 10 text), split-pieces 10 text)
 
 -- ---- a line
 

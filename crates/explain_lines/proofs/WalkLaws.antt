@@ -19,7 +19,7 @@ use Rattle.report.specs.HeldPath.{decode}
 use Rattle.explain_walk.specs.Walk.{onward, follow}
 use Rattle.explain_walk.specs.declared.Walked.{Walked}
 use Rattle.explain_walk.specs.Held.{priceOf, movesBy, StepsOn}
-use Rattle.explain_lines.specs.Listing.{entriesFrom, entries, codeText, entryText, listing}
+use Rattle.explain_lines.specs.Listing.{entriesFrom, shownLines, codeText, entryText, listing}
 
 -- a condition by its negation
 negated : (b : Bool) → not b ≡ true → b ≡ false
@@ -47,8 +47,8 @@ pub record Writing (c : Code) (ns : List ℕ) (ls : List Line) (first : ℕ) (fo
 
 pub writing-starts : (c : Code) (ns : List ℕ) (ls : List Line) (first : ℕ) (former : List ℕ) (start : ℕ) (state : states.State) (blocks : List Cell) (path n : ℕ)
     → start ≤ length former → WellFormed state → n ≤ 1024
-    → Writing c ns ls first former start (listing ls first (entries (follow (step c unknown) n (decode path) (whole ns blocks state)))) former start state blocks path 0 0 n
-unfolding entries
+    → Writing c ns ls first former start (listing ls first (shownLines (follow (step c unknown) n (decode path) (whole ns blocks state)))) former start state blocks path 0 0 n
+unfolding shownLines
 writing-starts c ns ls first former start state blocks path n h formed few = record {
   made = [];
   wrote = wrote-none former start h;

@@ -12,7 +12,7 @@ ghost use Rattle.machine_state.specs.HeldProgram.{firstOf, linesIn, programOf, 
 ghost use Rattle.machine_state.specs.HeldState.{WellFormed, whole};
 ghost use Rattle.report.specs.HeldPath.{decode};
 ghost use Rattle.explain_walk.specs.Walk.{follow};
-ghost use Rattle.explain_lines.specs.Listing.{entries, entryText, listing};
+ghost use Rattle.explain_lines.specs.Listing.{shownLines, entryText, listing};
 ghost use Rattle.explain_lines.specs.Held.{Stands};
 
 // A place in a text: the byte at which a line begins, and the line's number, counted from 0.
@@ -107,17 +107,17 @@ pub fn put_walk(
     body: &[u8],
     code: &[u32; 5131],
     start: State,
-    fields: [Cell; 128],
+    initial: [Cell; 128],
     path: u64,
 ) -> usize
     requires { ⌜ IsProgram (now code) × WellFormed start ⌝ }
-    requires { ⌜ at + length (listing (lines (now body)) (firstOf (now code)) (entries (follow (step (programOf (now code)) unknown) (linesIn (now code)) (decode path) (whole (sizesOf (now code)) fields start)))) ≤ length (now out) ⌝ }
-    ensures { λ r. ⌜ r ≡ at + length (listing (lines (now (body .entry))) (firstOf (now (code .entry))) (entries (follow (step (programOf (now (code .entry))) unknown) (linesIn (now (code .entry))) (decode path) (whole (sizesOf (now (code .entry))) fields start)))) ⌝ }
-    ensures { λ _. ⌜ now (out .exit) ≡ over (now (out .entry)) at (listing (lines (now (body .entry))) (firstOf (now (code .entry))) (entries (follow (step (programOf (now (code .entry))) unknown) (linesIn (now (code .entry))) (decode path) (whole (sizesOf (now (code .entry))) fields start)))) ⌝ }
+    requires { ⌜ at + length (listing (lines (now body)) (firstOf (now code)) (shownLines (follow (step (programOf (now code)) unknown) (linesIn (now code)) (decode path) (whole (sizesOf (now code)) initial start)))) ≤ length (now out) ⌝ }
+    ensures { λ r. ⌜ r ≡ at + length (listing (lines (now (body .entry))) (firstOf (now (code .entry))) (shownLines (follow (step (programOf (now (code .entry))) unknown) (linesIn (now (code .entry))) (decode path) (whole (sizesOf (now (code .entry))) initial start)))) ⌝ }
+    ensures { λ _. ⌜ now (out .exit) ≡ over (now (out .entry)) at (listing (lines (now (body .entry))) (firstOf (now (code .entry))) (shownLines (follow (step (programOf (now (code .entry))) unknown) (linesIn (now (code .entry))) (decode path) (whole (sizesOf (now (code .entry))) initial start)))) ⌝ }
 {
     let mut e = at;
     let mut state = start;
-    let mut blocks = fields;
+    let mut blocks = initial;
     let mut rest = path;
     let mut spent: u64 = 0;
     let mut sum: u64 = 0;

@@ -6,8 +6,8 @@ use native.Mathlib.Omega.{arith}
 use lib.ListN.{length, take, drop, length-drop}
 use lib.Seq.{take-all}
 use Rattle.refusals.specs.declared.Refusal.{Refusal}
-use Rattle.refusals.specs.declared.Verdict.the-variants as verdicts
-use Rattle.refusals.specs.declared.Verdict.the-variants.{Accepted}
+use Rattle.refusals.specs.declared.Acceptance.the-variants as verdicts
+use Rattle.refusals.specs.declared.Acceptance.the-variants.{Accepted}
 use Rattle.text.specs.Text.{Line, lines}
 use Rattle.cells.specs.Cells.{unknown}
 use Rattle.machine.specs.Machine.{step, reblock}
@@ -31,7 +31,7 @@ use Rattle.file_reader.specs.declared.Routine.{Routine}
 use Rattle.file_entry.specs.Held.{routineIn}
 use Rattle.report.specs.Report.{boundText}
 use Rattle.report.proofs.DecodeLaws.{report-of}
-use Rattle.explain_lines.specs.Listing.{entries, listing}
+use Rattle.explain_lines.specs.Listing.{shownLines, listing}
 use Rattle.explain_merge_walk.specs.HeldLasts.{Lists, wayText}
 use Rattle.explain_merge_walk.proofs.Theorems.{way-text}
 use Rattle.answers.specs.Answers.{reported, refused}
@@ -81,7 +81,7 @@ goals-few xs r h l = let e : length (take (1025 - r) (drop r xs)) ≡ length xs 
 -- the lines that are written for its goals
 pub way-written : (x : Routine) (ls : List Line) (ks gs : List ℕ) (most : ℕ) → x .start .at ≡ firstOf (x .code) → most ≡ linesIn (x .code) + 1
     → Lists (firstOf (x .code)) ks gs (wayBack (originsIn x) most (originsIn x out) []) → wayText ls 0 0 ks gs ≡ wayIn ls x
-way-written x ls ks gs most at e l = way-text ls (firstOf (x .code)) ks gs _ l ∙ ap (λ (ms : List Move). listing ls (firstOf (x .code)) (entries ms)) (way-most x at most e)
+way-written x ls ks gs most at e l = way-text ls (firstOf (x .code)) ks gs _ l ∙ ap (λ (ms : List Move). listing ls (firstOf (x .code)) (shownLines ms)) (way-most x at most e)
 
 -- ---- what the answer of the pass gives
 

@@ -31,7 +31,7 @@ use Rattle.file_format.proofs.PlaceLaws.{read-bound-place, confined, start-smal
 use Rattle.report.specs.Report.{boundText}
 use Rattle.report.proofs.ReportLaws.{bound-small, bound-fits}
 use Rattle.report_theory.proofs.SizeLaws.{code-length, priced, ticks, merged-limited}
-use Rattle.explain_lines.specs.Listing.{entries, listing}
+use Rattle.explain_lines.specs.Listing.{shownLines, listing}
 use Rattle.explain_lines.proofs.LengthLaws.{total, total-drop, total-lines}
 use Rattle.answers.specs.Answers.{Answer, reported, refused, memoryLimit, ofReading}
 use Rattle.answers.proofs.AnswerLaws.{never, from-reading, place-from, lent-enough}
@@ -73,8 +73,8 @@ module _ (text : List ℕ) (x : Routine) (passes : Passes (lines text)) (is : x 
   low q e a s p f = omega (arith, merged-exact (x .code) forward closed (x .start) q e .depth .most a s p f, merged-limited text x passes is q e .depth)
 
   steps-fit : (q : Report) → merged (x .code) (x .start) ≡ verdicts.accepted q
-      → length (listing (body (lines text)) (x .code .first) (entries (costliestWay (x .code) (x .start)))) ≤ 23 * length (x .code .instructions) + total (drop (x .start .at - x .code .first) (body (lines text)))
-  unfolding entries
+      → length (listing (body (lines text)) (x .code .first) (shownLines (costliestWay (x .code) (x .start)))) ≤ 23 * length (x .code .instructions) + total (drop (x .start .at - x .code .first) (body (lines text)))
+  unfolding shownLines
   steps-fit q e =
       let w = costliest q e in
       way-fits (x .code) forward (priced text x passes is) (body (lines text)) (table (x .code) (x .start)) (low q e) (w .path) (length (x .code .instructions)) 0 0 (w .lines) (omega (arith, code-short), omega (arith, code-short))
@@ -99,7 +99,7 @@ merge-explanations-kept text n bs e =
 -- ---- its size
 
 text-length : (ls : List Line) (x : Routine) (q : Report)
-    → length (mergeExplanationText ls x q) ≡ length (boundText (x .tick) q) + 33 + length (listing ls (x .code .first) (entries (costliestWay (x .code) (x .start))))
+    → length (mergeExplanationText ls x q) ≡ length (boundText (x .tick) q) + 33 + length (listing ls (x .code .first) (shownLines (costliestWay (x .code) (x .start))))
 unfolding mergeExplanationText
 text-length ls x q = simp length-append (omega arith)
 
@@ -153,14 +153,14 @@ verdict-beside ls x (verdicts.accepted q) = record {
   refuses = λ r. (λ e. never r _ (sym e), λ e. never r _ (sym e));
   begins = λ bs e.
       let f : mergeExplanationText ls x q ≡ bs = cc in
-      let way = listing ls (x .code .first) (entries (costliestWay (x .code) (x .start))) in
+      let way = listing ls (x .code .first) (shownLines (costliestWay (x .code) (x .start))) in
       (boundText (x .tick) q, entryNames ++ way, refl, sym f ∙ append-assoc (boundText (x .tick) q) entryNames way);
 }
 verdict-beside ls x (verdicts.refused y) = record { refuses = λ r. (λ e. e, λ e. e); begins = λ bs e. never y bs e }
 
 reading-beside : (ls : List Line) (m : Reading) → Beside (ofReading (explainMergeRoutine ls) m) (ofReading mergeRoutine m)
 unfolding ofReading explainMergeRoutine mergeRoutine
-reading-beside ls (readings.refused y) = record { refuses = λ r. (λ e. e, λ e. e); begins = λ bs e. never y bs e }
+reading-beside ls (readings.unread y) = record { refuses = λ r. (λ e. e, λ e. e); begins = λ bs e. never y bs e }
 reading-beside ls (readings.routine x) = verdict-beside ls x (merged (x .code) (x .start))
 
 pub explains-merging-bound : ExplainsMergingBound

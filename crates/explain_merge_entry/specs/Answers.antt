@@ -10,13 +10,13 @@ use Rattle.merge_way.specs.Way.{costliestWay}
 use Rattle.file_format.specs.Layout.{body}
 use Rattle.file_format.specs.Routine.{Routine, readBound}
 use Rattle.report.specs.Report.{boundText}
-use Rattle.explain_lines.specs.Listing.{entries, listing}
+use Rattle.explain_lines.specs.Listing.{shownLines, listing}
 use Rattle.answers.specs.Answers.{Answer, reported, refused, lending, ofReading}
 use Rattle.explain_entry.specs.Answers.{explanationLimit, entryNames}
 
 -- the merging bound's two lines, then one line for each move of the costliest way, under a line of names; ls are the lines after the layout
 unfoldable pub mergeExplanationText : List Line → Routine → Report → List ℕ
-mergeExplanationText ls x q = boundText (x .tick) q ++ entryNames ++ listing ls (x .code .first) (entries (costliestWay (x .code) (x .start)))
+mergeExplanationText ls x q = boundText (x .tick) q ++ entryNames ++ listing ls (x .code .first) (shownLines (costliestWay (x .code) (x .start)))
 
 -- of the merging bound's verdict: what is explained, or the bound's refusal
 unfoldable pub mergeExplained : List Line → Routine → Verdict → Answer

@@ -11,7 +11,7 @@ use Rattle.bound_figures.specs.declared.Found.{Found}
 use Rattle.merge_way.specs.Way.{Origins, origins, costliestWay}
 use Rattle.file_reader.specs.declared.Routine.{Routine}
 use Rattle.file_entry.specs.Held.{routineIn}
-use Rattle.explain_lines.specs.Listing.{entries, listing}
+use Rattle.explain_lines.specs.Listing.{shownLines, listing}
 use Rattle.answers.specs.Answers.{reported}
 use Rattle.explain_entry.specs.Held.{reportIn}
 use Rattle.explain_merge_entry.specs.Answers.{mergeExplanationText, explainMergeRoutine}
@@ -22,7 +22,7 @@ originsIn x = origins (routineIn x .code) (routineIn x .start)
 
 -- the lines of its costliest way
 abbrev pub wayIn : List Line → Routine → List ℕ
-wayIn ls x = listing ls (firstOf (x .code)) (entries (costliestWay (routineIn x .code) (routineIn x .start)))
+wayIn ls x = listing ls (firstOf (x .code)) (shownLines (costliestWay (routineIn x .code) (routineIn x .start)))
 
 -- what is explained of that routine, by the figures of the pass
 abbrev pub mergeTextIn : List Line → Routine → Found → List ℕ

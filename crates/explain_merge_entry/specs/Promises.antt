@@ -13,7 +13,7 @@ use Rattle.merge_way.specs.Promises.{Costliest}
 use Rattle.file_format.specs.Layout.{body}
 use Rattle.file_format.specs.Routine.{Routine, routine, readBound}
 use Rattle.report.specs.Report.{boundText}
-use Rattle.explain_lines.specs.Listing.{entries, listing}
+use Rattle.explain_lines.specs.Listing.{shownLines, listing}
 use Rattle.answers.specs.Answers.{reported, refused}
 use Rattle.report_theory.specs.Answers.{mergeAnswer}
 use Rattle.explain_entry.specs.Answers.{explanationLimit, entryNames}
@@ -28,11 +28,11 @@ pub record ExplainsMerge (text bs : List ℕ) (x : Routine) (q : Report) (moves 
   -- ways to its address, and the addresses rise
   pub way : Costliest (x .code) (x .start) q moves
   -- and the bytes list them after the report, one line for each
-  pub prints : bs ≡ boundText (x .tick) q ++ entryNames ++ listing (body (lines text)) (x .code .first) (entries moves)
+  pub prints : bs ≡ boundText (x .tick) q ++ entryNames ++ listing (body (lines text)) (x .code .first) (shownLines moves)
   -- the last line's CYCLES is the report's
-  pub last : lastCycles (entries moves) ≡ q .cycles
+  pub last : lastCycles (shownLines moves) ≡ q .cycles
   -- the last line's WORDS is the sum of the words of all moves
-  pub words : lastWords (entries moves) ≡ wordSum moves
+  pub words : lastWords (shownLines moves) ≡ wordSum moves
 
 -- so of every explanation of the merging bound
 abbrev pub MergeExplanationsKept : Type 0

@@ -4,7 +4,7 @@ use bound_figures::Found;
 use file_check::Reader;
 use file_format::layout;
 use file_reader::Routine;
-use refusals::Verdict;
+use refusals::Acceptance;
 ghost use mathlib.Core.Path.{_≡_};
 ghost use mathlib.Core.List.{_++_};
 ghost use Prim.Native.Nat.{_+_, _≤_};
@@ -66,17 +66,17 @@ fn explain_routine(body: &[u8], routine: Routine, out: &mut [u8]) -> Answer
     ensures { λ _. ⌜ now (out .exit) ≡ memory (explainMergeRoutine (lines (now (body .entry))) (routineIn routine)) (now (out .entry)) ⌝ }
 {
     let code = routine.code;
-    let fields = routine.fields;
+    let blocks = routine.blocks;
     let start = routine.start;
     let mut kept = [0; 6156];
-    let found = merge_sweep::sweep(&code, start, fields, &mut kept);
+    let found = merge_sweep::sweep(&code, start, blocks, &mut kept);
     let verdict = found.verdict;
     match verdict {
-        Verdict::Accepted => {
+        Acceptance::Accepted => {
             let n = put_explanation(out, body, routine, found, &kept);
             Answer::Reported(n)
         }
-        Verdict::Refused(refusal) => Answer::Refused(refusal),
+        Acceptance::Refused(refusal) => Answer::Refused(refusal),
     }
 }
 
@@ -87,11 +87,11 @@ pub fn explain_merge(text: &[u8], out: &mut [u8]) -> Answer
 {
     let verdict = file_entry::check(Reader::Bound, 65536, out.len(), text);
     match verdict {
-        Verdict::Accepted => {
+        Acceptance::Accepted => {
             let routine = file_reader::routine_of(text);
             let body = layout::body_of(text);
             explain_routine(body, routine, out)
         }
-        Verdict::Refused(refusal) => Answer::Refused(refusal),
+        Acceptance::Refused(refusal) => Answer::Refused(refusal),
     }
 }

@@ -14,10 +14,10 @@ use Rattle.file_format.specs.declared.Row.{Row}
 use Rattle.file_format.specs.declared.Row.the-variants.{Layout as layout-row, Range as range-row, Name as name-row, Price as price-row, Target as target-row, Forward as forward-row, Known as known-row}
 use Rattle.file_format.specs.declared.RefusedLine.the-variants.{Nowhere as nowhere, Line as line}
 use Rattle.file_format.specs.Rows.{refusedLine, Passes}
-use Rattle.file_format.specs.Routine.{Routine, routineOf, Reading, refused, routine, Check, check, boundChecks, runChecks, checked, orElse, limited, readRun}
+use Rattle.file_format.specs.Routine.{Routine, routineOf, Reading, unread, routine, Check, check, boundChecks, runChecks, checked, orElse, limited, readRun}
 use Rattle.file_format.proofs.RowLaws.{Unrefused, read-passes, run-passes, passes-read, bound-order, run-order, too-long}
 use Rattle.file_check.specs.HeldChecks.{readBy, checkOf, Due}
-use Rattle.refusals.specs.declared.Verdict.the-variants.{Accepted, Refused}
+use Rattle.refusals.specs.declared.Acceptance.the-variants.{Accepted, Refused}
 use Rattle.file_check.specs.declared.Reader.{Reader}
 use Rattle.file_check.specs.declared.Reader.the-variants.{Bound, Run}
 
@@ -99,13 +99,13 @@ module _ (text : List ℕ) (r : Reader) (e : r ≡ Run) (h : length text ≤ 327
 
 -- what a check says of a reading
 
-refused-not : {A : Type 0} (x : Refusal) → checkOf (refused x) ≡ Accepted → A
+refused-not : {A : Type 0} (x : Refusal) → checkOf (unread x) ≡ Accepted → A
 unfolding checkOf
 refused-not x e = let z : _≡_ {A = ℕ} 0 1 = cc in absurd (omega arith)
 
-pub refused-reading : (m : Reading) (x : Refusal) → checkOf m ≡ Refused x → m ≡ refused x
+pub refused-reading : (m : Reading) (x : Refusal) → checkOf m ≡ Refused x → m ≡ unread x
 unfolding checkOf
-refused-reading (refused y) x e = let f : y ≡ x = cc in ap refused f
+refused-reading (unread y) x e = let f : y ≡ x = cc in ap unread f
 refused-reading (routine y) x e = let z : _≡_ {A = ℕ} 0 1 = cc in absurd (omega arith)
 
 -- a text that is not refused passes, and its reading is its routine
@@ -120,5 +120,5 @@ module _ (text : List ℕ) where
   accepted-reading r e = go (readBy r text) refl e
     where
       go : (m : Reading) → readBy r text ≡ m → checkOf m ≡ Accepted → Passes (lines text) × (readBy r text ≡ routine (routineOf (lines text)))
-      go (refused x) h k = refused-not x k
+      go (unread x) h k = refused-not x k
       go (routine x) h k = let p = read-is r x h in (p .0, h ∙ ap routine (p .1))

@@ -11,7 +11,7 @@ use denote.Enum.Declared.{tagOf}
 use borrow.Author.Tests.{le-leb}
 use lib.Dec.{eqb, ltb}
 use lib.ListN.{length}
-use Rattle.text.specs.Text.{bytes, isEmpty, equals, words, Line, among, all, distinct}
+use Rattle.text.specs.Text.{bytes, isEmpty, equals, lineWords, Line, among, all, distinct}
 use Rattle.text.specs.Decimal.{numeral}
 use Rattle.numbers.specs.Numbers.{within}
 use Rattle.file_format.specs.declared.Section.{Section}
@@ -128,7 +128,7 @@ regroup false f c k n a = refl
 -- the rows on a code line
 
 module _ (ls : List Line) {ks ps : List ℕ} {blocks first count : ℕ} (x : Context ls ks ps blocks first count) (z : ℤ) (is : z ≡ pos first) (k : ℕ) (text : List ℕ) (ended : Bool)
-    (t : Tested) {ns : List ℕ} (tested : CodeTests z count (list ns) k text t) {whole layout price due : Bool} (f : whole ≡ isWhole (words text)) (l : layout ≡ ended && whole && t .layout)
+    (t : Tested) {ns : List ℕ} (tested : CodeTests z count (list ns) k text t) {whole layout price due : Bool} (f : whole ≡ isWhole (lineWords text)) (l : layout ≡ ended && whole && t .layout)
     (n : due ≡ true → ns ≡ ps) (p : due ≡ true → price ≡ among (op text) (list ks)) where
   pub code-tests : (row : Row) → Due row ls → ((row ≡ name-row) ⊎ (row ≡ price-row) → due ≡ true)
       → testedBy row (record { layout = layout; range = t .range; name = t .name; price = price; target = t .target; forward = t .forward; known = true }) ≡ test row ls (code k) (lineWith text ended)
@@ -136,7 +136,7 @@ module _ (ls : List Line) {ks ps : List ℕ} {blocks first count : ℕ} (x : Con
   code-tests layout-row d g =
       l
       ∙ ap₂ (λ a b. ended && a && b) f (tested .layout)
-      ∙ regroup ended (all (wordTest Filled) (words text)) (eqb (length (words text)) 3) (ltb k 1024) (isNumeral (numeral (at text))) (onArgument (argumentLaidOut (arg text)) text)
+      ∙ regroup ended (all (wordTest Filled) (lineWords text)) (eqb (length (lineWords text)) 3) (ltb k 1024) (isNumeral (numeral (at text))) (onArgument (argumentLaidOut (arg text)) text)
   code-tests range-row d g = tested .range
   code-tests name-row d g = tested .name ∙ ap₂ (λ w ns. codeNamed w (list ns) k text) (is ∙ address-is x (d .1)) (n (g (inl refl)) ∙ x .primitives-line)
   code-tests price-row d g = p (g (inr refl)) ∙ ap (λ ns. among (op text) (list ns)) (x .kinds-line)
@@ -151,22 +151,22 @@ pub code-tests-at : (ls : List Line) {ks ps : List ℕ} (text : List ℕ) (t : T
 code-tests-at ls {ks} {ps} text t e h =
     subst (λ (c : CodeLine). (blocks : ℕ) → Context ls ks ps blocks (c .first) (c .count) → (row : Row) → Due row ls → ((row ≡ name-row) ⊎ (row ≡ price-row) → c .due ≡ true) → testedBy row t ≡ test row ls (code (c .k)) (lineWith text (c .ended))) e h
 
-module _ (ls : List Line) (o : Role) (text : List ℕ) (ended filled : Bool) (f : filled ≡ all (wordTest Filled) (words text)) where
+module _ (ls : List Line) (o : Role) (text : List ℕ) (ended filled : Bool) (f : filled ≡ all (wordTest Filled) (lineWords text)) where
   pub unended : not ended ≡ true → false ≡ test layout-row ls o (lineWith text ended)
   unfolding test
-  unended e = and-stop ended (all (λ w. not (isEmpty w)) (words text)) (laidOut ls o text) (not-true ended e)
+  unended e = and-stop ended (all (λ w. not (isEmpty w)) (lineWords text)) (laidOut ls o text) (not-true ended e)
 
   pub unfilled : not ended ≡ false → not filled ≡ true → false ≡ test layout-row ls o (lineWith text ended)
   unfolding test wordTest
   unfilled e h =
-      let k : all (λ w. not (isEmpty w)) (words text) ≡ false = sym f ∙ not-true filled h in
-      and-through ended (all (λ w. not (isEmpty w)) (words text)) (laidOut ls o text) (not-false ended e) (and-false (laidOut ls o text) k)
+      let k : all (λ w. not (isEmpty w)) (lineWords text) ≡ false = sym f ∙ not-true filled h in
+      and-through ended (all (λ w. not (isEmpty w)) (lineWords text)) (laidOut ls o text) (not-false ended e) (and-false (laidOut ls o text) k)
 
   pub well-laid : {r : Bool} → not ended ≡ false → not filled ≡ false → r ≡ laidOut ls o text → r ≡ test layout-row ls o (lineWith text ended)
   unfolding test wordTest
   well-laid e h q =
-      let k : all (λ w. not (isEmpty w)) (words text) ≡ true = sym f ∙ not-false filled h in
-      and-through ended (all (λ w. not (isEmpty w)) (words text)) (laidOut ls o text) (not-false ended e) (and-true k q)
+      let k : all (λ w. not (isEmpty w)) (lineWords text) ≡ true = sym f ∙ not-false filled h in
+      and-through ended (all (λ w. not (isEmpty w)) (lineWords text)) (laidOut ls o text) (not-false ended e) (and-true k q)
 
 -- row 4 on a line of names, which is the empty list or not
 
@@ -181,7 +181,7 @@ module _ (text : List ℕ) where
   named-none instructions e = refl
   named-none answers e = refl
 
-  pub named-words : (s : Section) (r : Bool) → equals text (bytes "-") ≡ false → r ≡ wellNamed s (words text) → r ≡ wellNamed s (list text)
+  pub named-words : (s : Section) (r : Bool) → equals text (bytes "-") ≡ false → r ≡ wellNamed s (lineWords text) → r ≡ wellNamed s (list text)
   named-words s r e h = rw (list-words text e) h
 
   -- the sections whose words row 2 looks at, by the variants' numbers
@@ -195,23 +195,23 @@ module _ (text : List ℕ) where
   named-fixed instructions o = refl
   named-fixed answers o = refl
 
-  pub named-kinds : {a r : Bool} → a ≡ all (wordTest Kind) (words text) → a ≡ true → r ≡ distinct (words text) → r ≡ wellNamed kinds (words text)
+  pub named-kinds : {a r : Bool} → a ≡ all (wordTest Kind) (lineWords text) → a ≡ true → r ≡ distinct (lineWords text) → r ≡ wellNamed kinds (lineWords text)
   unfolding wellNamed wordTest
   named-kinds q e h = and-true (sym q ∙ e) h
 
-  pub unnamed-kinds : {a : Bool} → a ≡ all (wordTest Kind) (words text) → a ≡ false → false ≡ wellNamed kinds (words text)
+  pub unnamed-kinds : {a : Bool} → a ≡ all (wordTest Kind) (lineWords text) → a ≡ false → false ≡ wellNamed kinds (lineWords text)
   unfolding wellNamed wordTest
-  unnamed-kinds q e = and-false (distinct (words text)) (sym q ∙ e)
+  unnamed-kinds q e = and-false (distinct (lineWords text)) (sym q ∙ e)
 
-  pub named-primitives : {a r : Bool} → a ≡ all (wordTest Primitive) (words text) → a ≡ true → r ≡ distinct (words text) → r ≡ wellNamed primitives (words text)
+  pub named-primitives : {a r : Bool} → a ≡ all (wordTest Primitive) (lineWords text) → a ≡ true → r ≡ distinct (lineWords text) → r ≡ wellNamed primitives (lineWords text)
   unfolding wellNamed wordTest
   named-primitives q e h = and-true (sym q ∙ e) h
 
-  pub unnamed-primitives : {a : Bool} → a ≡ all (wordTest Primitive) (words text) → a ≡ false → false ≡ wellNamed primitives (words text)
+  pub unnamed-primitives : {a : Bool} → a ≡ all (wordTest Primitive) (lineWords text) → a ≡ false → false ≡ wellNamed primitives (lineWords text)
   unfolding wellNamed wordTest
-  unnamed-primitives q e = and-false (distinct (words text)) (sym q ∙ e)
+  unnamed-primitives q e = and-false (distinct (lineWords text)) (sym q ∙ e)
 
-  pub named-fields : equals text (bytes "-") ≡ false → (b : Blocks) → BlocksOf (blockSizes (list text)) b → (n : ℕ) → n ≡ length (words text)
-      → eqb (b .total) n ≡ wellNamed fields (words text)
+  pub named-fields : equals text (bytes "-") ≡ false → (b : Blocks) → BlocksOf (blockSizes (list text)) b → (n : ℕ) → n ≡ length (lineWords text)
+      → eqb (b .total) n ≡ wellNamed fields (lineWords text)
   unfolding wellNamed
   named-fields e b h n q = ap₂ eqb (h .sum ∙ ap (λ ws. total (blockSizes ws)) (list-words text e)) q

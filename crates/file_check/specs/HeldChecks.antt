@@ -10,9 +10,9 @@ use Rattle.file_format.specs.declared.Row.the-variants.{Layout as layout-row, R
 use Rattle.file_format.specs.declared.RefusedLine.{RefusedLine}
 use Rattle.file_format.specs.declared.RefusedLine.the-variants.{Nowhere as nowhere, Line as line}
 use Rattle.file_format.specs.Rows.{refusedLine, Passes}
-use Rattle.file_format.specs.Routine.{Reading, refused, routine, readBound, readRun}
-use Rattle.refusals.specs.declared.Verdict.{Verdict}
-use Rattle.refusals.specs.declared.Verdict.the-variants.{Accepted, Refused}
+use Rattle.file_format.specs.Routine.{Reading, unread, routine, readBound, readRun}
+use Rattle.refusals.specs.declared.Acceptance.{Acceptance}
+use Rattle.refusals.specs.declared.Acceptance.the-variants.{Accepted, Refused}
 use Rattle.file_check.specs.declared.Reader.{Reader}
 use Rattle.file_check.specs.declared.Reader.the-variants.{Bound, Run}
 use Rattle.file_check.specs.declared.Tests.{Tests}
@@ -24,8 +24,8 @@ readBy Bound text = readBound text
 readBy Run text = readRun text
 
 -- the refusal of a reading, if it is refused
-unfoldable pub checkOf : Reading → Verdict
-checkOf (refused r) = Refused r
+unfoldable pub checkOf : Reading → Acceptance
+checkOf (unread r) = Refused r
 checkOf (routine x) = Accepted
 
 -- a row is due once the rows before it refuse no line: "Checked in the order of the rows"

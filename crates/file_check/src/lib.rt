@@ -3,8 +3,8 @@ use file_format::Role;
 use file_format::Section;
 use file_format::layout;
 use file_lines::WordTest;
+use refusals::Acceptance;
 use refusals::Refusal;
-use refusals::Verdict;
 use text::Place;
 ghost use mathlib.Core.Path.{_≡_};
 ghost use mathlib.Core.Bool.{true, _&&_};
@@ -12,7 +12,7 @@ ghost use mathlib.Core.List.{List};
 ghost use mathlib.Core.Logic.{_⊎_};
 ghost use Prim.Native.Nat.{ℕ, _≤_};
 ghost use lib.ListN.{length};
-ghost use Rattle.text.specs.Text.{Line, lines, place, among};
+ghost use Rattle.text.specs.Text.{Line, lines, placeAmong, among};
 ghost use Rattle.file_format.specs.declared.Role.the-variants.{Names, Code};
 ghost use Rattle.file_format.specs.declared.Section.the-variants.{Fields};
 ghost use Rattle.file_format.specs.declared.Row.{Row};
@@ -170,7 +170,7 @@ fn test_line(text: &[u8], blocks: usize, role: Role, line: &[u8], ended: bool) -
 
 // Row 5 on a code line, where it is due.
 fn is_priced(kinds: &[u8], prices: &mut [u8; 61], kind: Place, op: &[u8], due: bool) -> bool
-    requires { ⌜ kind ≡ place (now op) kindNames ⌝ }
+    requires { ⌜ kind ≡ placeAmong (now op) kindNames ⌝ }
     requires { ⌜ PricesKept (list (now kinds)) (now prices) ⌝ }
     ensures priced { λ r. ⌜ (due ≡ true → r ≡ among (now (op .entry)) (list (now (kinds .entry)))) ⌝ }
     ensures kept { λ _. ⌜ PricesKept (list (now (kinds .entry))) (now (prices .exit)) ⌝ }
@@ -446,45 +446,45 @@ fn check_rows(
     kinds: &[u8],
     primitives: &[u8],
     counts: Counts,
-) -> Verdict
+) -> Acceptance
     requires { ⌜ length (now text) ≤ 32768 ⌝ }
     requires { ⌜ Context (lines (now text)) (now kinds) (now primitives) (counts .blocks) (counts .first) (counts .count) ⌝ }
     ensures { λ r. ⌜ r ≡ checkOf (readBy reader (now (text .entry))) ⌝ }
 {
     let refused = scan(text, kinds, primitives, counts);
     if 0 < refused.layout {
-        return Verdict::Refused(Refusal::Layout(refused.layout));
+        return Acceptance::Refused(Refusal::Layout(refused.layout));
     }
     if 0 < refused.range {
-        return Verdict::Refused(Refusal::OutOfRange(refused.range));
+        return Acceptance::Refused(Refusal::OutOfRange(refused.range));
     }
     if 0 < refused.name {
-        return Verdict::Refused(Refusal::BadName(refused.name));
+        return Acceptance::Refused(Refusal::BadName(refused.name));
     }
     if 0 < refused.price {
-        return Verdict::Refused(Refusal::Unpriced(refused.price));
+        return Acceptance::Refused(Refusal::Unpriced(refused.price));
     }
     if 0 < refused.target {
-        return Verdict::Refused(Refusal::NoTarget(refused.target));
+        return Acceptance::Refused(Refusal::NoTarget(refused.target));
     }
     if 0 < refused.forward {
-        return Verdict::Refused(Refusal::Backward(refused.forward));
+        return Acceptance::Refused(Refusal::Backward(refused.forward));
     }
     let Reader::Run = reader else {
-        return Verdict::Accepted;
+        return Acceptance::Accepted;
     };
     if 0 < refused.known {
-        return Verdict::Refused(Refusal::UnknownCell(refused.known));
+        return Acceptance::Refused(Refusal::UnknownCell(refused.known));
     }
-    Verdict::Accepted
+    Acceptance::Accepted
 }
 
 // The refusal of a text, as the bound or the run reads it. What the rows look at beside a line is found once.
-pub fn check(reader: Reader, text: &[u8]) -> Verdict
+pub fn check(reader: Reader, text: &[u8]) -> Acceptance
     ensures { λ r. ⌜ r ≡ checkOf (readBy reader (now (text .entry))) ⌝ }
 {
     if 32768 < text.len() {
-        return Verdict::Refused(Refusal::TextLength);
+        return Acceptance::Refused(Refusal::TextLength);
     }
     let kinds = layout::text_of(text, Role::Names(Section::Kinds));
     let primitives = layout::text_of(text, Role::Names(Section::Primitives));

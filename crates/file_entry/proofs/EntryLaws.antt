@@ -8,7 +8,7 @@ use lib.Dec.{ltb}
 use borrow.Author.Tests.{ltb-false}
 use Rattle.refusals.specs.declared.Refusal.{Refusal}
 use Rattle.refusals.specs.declared.Refusal.the-variants.{ReportMemory}
-use Rattle.refusals.specs.declared.Verdict.the-variants.{Accepted, Refused}
+use Rattle.refusals.specs.declared.Acceptance.the-variants.{Accepted, Refused}
 use Rattle.text.specs.Text.{lines}
 use Rattle.file_format.specs.Rows.{Passes}
 use Rattle.file_format.specs.Routine.{routineOf}
@@ -52,7 +52,7 @@ module _ (reader : Reader) (limit lent : ℕ) (text : List ℕ) where
   unfolding admitted checkOf
   accepted-lent = go (ltb lent limit) refl
     where
-      go : (b : Bool) → ltb lent limit ≡ b → checkOf (cond b (readings.refused ReportMemory) (readBy reader text)) ≡ Accepted → (limit ≤ lent) × (checkOf (readBy reader text) ≡ Accepted)
+      go : (b : Bool) → ltb lent limit ≡ b → checkOf (cond b (readings.unread ReportMemory) (readBy reader text)) ≡ Accepted → (limit ≤ lent) × (checkOf (readBy reader text) ≡ Accepted)
       go true h e = passes-not ReportMemory (sym e)
       go false h e = (ltb-false lent limit h, e)
 
@@ -76,7 +76,7 @@ module _ (f : readings.Routine → Answer) (m : readings.Reading) (limit n : ℕ
   unfolding admitted ofReading
   of-admitted = go (ltb n limit)
     where
-      go : (b : Bool) → cond b (answers.refused ReportMemory) (ofReading f m) ≡ ofReading f (cond b (readings.refused ReportMemory) m)
+      go : (b : Bool) → cond b (answers.refused ReportMemory) (ofReading f m) ≡ ofReading f (cond b (readings.unread ReportMemory) m)
       go true = refl
       go false = refl
 

@@ -15,10 +15,10 @@ routineIn x = record {
   budget = x .budget;
   tick = x .tick;
   code = programOf (x .code);
-  start = whole (sizesOf (x .code)) (x .fields) (x .start);
+  start = whole (sizesOf (x .code)) (x .blocks) (x .start);
   answers = answers x;
 }
 
 -- refusal 10 where fewer bytes are lent than the limit, "checked first"; else the reading of the text
 unfoldable pub admitted : ℕ → ℕ → readings.Reading → readings.Reading
-admitted limit lent m = cond (ltb lent limit) (readings.refused ReportMemory) m
+admitted limit lent m = cond (ltb lent limit) (readings.unread ReportMemory) m

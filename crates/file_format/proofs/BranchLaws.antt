@@ -13,8 +13,7 @@ use Rattle.text.specs.Text.{Line, all, find}
 use Rattle.text.proofs.TextLaws.{and-right, every-getD, all-every}
 use Rattle.cells.specs.Try.{done}
 use Rattle.numbers.specs.Numbers.{within}
-use Rattle.instructions.specs.Kinds.{addresses, Kind, kinds, kindNames, operand}
-use Rattle.instructions.specs.HeldColumns.{kindAt}
+use Rattle.instructions.specs.Kinds.{addresses, Kind, kinds, kindNames, operand, kindAt}
 use Rattle.instructions.specs.declared.Argument.{Argument}
 use Rattle.instructions.specs.declared.Argument.the-variants.{Absent, Target, Primitive, Within}
 use Rattle.machine.specs.Lists.{nth}

@@ -5,7 +5,7 @@ use mathlib.Core.Bool.{Bool, true, false, cond}
 use mathlib.Core.List.{List, [], _∷_}
 use native.Mathlib.Omega.{arith}
 use lib.ListN.{length, getD, take, drop}
-use Rattle.text.specs.Text.{bytes, equals, words, Line, lines, noLine}
+use Rattle.text.specs.Text.{bytes, equals, lineWords, Line, lines, noLine}
 use Rattle.text.proofs.PieceLaws.{words-length}
 use Rattle.text.proofs.LineLaws.{lines-first, lines-none}
 use Rattle.file_format.specs.Layout.{list, isAnswer, upToAnswer, pastAnswer, codeLines, answerLines}
@@ -14,7 +14,7 @@ pub list-length : (s : List ℕ) → length (list s) ≤ length s + 1
 unfolding list
 list-length s = go (equals s (bytes "-"))
   where
-    go : (b : Bool) → length (cond b [] (words s)) ≤ length s + 1
+    go : (b : Bool) → length (cond b [] (lineWords s)) ≤ length s + 1
     go true = omega arith
     go false = words-length s
 

@@ -11,7 +11,7 @@ use lib.Seq.{drop-cons}
 use types.Run.{OneOf, miss}
 use denote.Enum.Declared.{tagOf}
 use borrow.Author.Tests.{eq-eqb, ne-eqb}
-use Rattle.text.specs.Text.{bytes, equals, words, Line, noLine}
+use Rattle.text.specs.Text.{bytes, equals, lineWords, Line, noLine}
 use Rattle.instructions.specs.Kinds.{addresses}
 use Rattle.file_format.specs.declared.Section.{Section}
 use Rattle.file_format.specs.declared.Column.{Column}
@@ -106,7 +106,7 @@ pub list-none : (s : List ℕ) → equals s (bytes "-") ≡ true → list s ≡ 
 unfolding list
 list-none s e = rw e refl
 
-pub list-words : (s : List ℕ) → equals s (bytes "-") ≡ false → list s ≡ words s
+pub list-words : (s : List ℕ) → equals s (bytes "-") ≡ false → list s ≡ lineWords s
 unfolding list
 list-words s e = rw e refl
 

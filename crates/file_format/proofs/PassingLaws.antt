@@ -8,7 +8,7 @@ use lib.Dec.{eqb, ltb}
 use lib.IntN.{ℤ, pos, natAbs}
 use lib.ListN.{length, drop, length-drop}
 use borrow.Author.Tests.{eqb-true, ltb-true}
-use Rattle.text.specs.Text.{onto, split, Line, linesOf, lines}
+use Rattle.text.specs.Text.{onto, partedBy, Line, linesOf, lines}
 use Rattle.text.specs.Decimal.{numeral}
 use Rattle.text.proofs.TextLaws.{and-left}
 use Rattle.text.proofs.PieceLaws.{split-some}
@@ -98,14 +98,14 @@ unfolding linesOf
 ended-few p [] h = absurd (omega arith)
 ended-few p (q ∷ ps) h = omega arith
 
-pieces-count : (text : List ℕ) → length (linesOf (split 10 text)) ≤ length text
-unfolding split linesOf
+pieces-count : (text : List ℕ) → length (linesOf (partedBy 10 text)) ≤ length text
+unfolding partedBy linesOf
 pieces-count [] = omega arith
 pieces-count (x ∷ xs) = go (eqb x 10) (pieces-count xs)
   where
-    go : (b : Bool) → length (linesOf (split 10 xs)) ≤ length xs → length (linesOf (cond b ([] ∷ split 10 xs) (onto x (split 10 xs)))) ≤ suc (length xs)
-    go true h = let k = ended-few [] (split 10 xs) (split-some 10 xs) in omega arith
-    go false h = let k = onto-few x (split 10 xs) in omega arith
+    go : (b : Bool) → length (linesOf (partedBy 10 xs)) ≤ length xs → length (linesOf (cond b ([] ∷ partedBy 10 xs) (onto x (partedBy 10 xs)))) ≤ suc (length xs)
+    go true h = let k = ended-few [] (partedBy 10 xs) (split-some 10 xs) in omega arith
+    go false h = let k = onto-few x (partedBy 10 xs) in omega arith
 
 -- no more lines than bytes
 pub lines-count : (text : List ℕ) → length (lines text) ≤ length text

@@ -22,7 +22,7 @@ use Rattle.file_format.specs.declared.RefusedLine.{RefusedLine}
 use Rattle.file_format.specs.declared.RefusedLine.the-variants.{Nowhere as nowhere, Line as line}
 use Rattle.file_format.specs.Layout.{body, codeLines, roles}
 use Rattle.file_format.specs.Rows.{Passes, value, arg, firstAt, test, earliest, refusedLine}
-use Rattle.file_format.specs.Routine.{inside, PriceList, instructionOf, codeIn, startOf, routineOf, refused, orElse, Check, boundChecks, runChecks, checked, textLimit, limited, readBound, readRun}
+use Rattle.file_format.specs.Routine.{inside, PriceList, instructionOf, codeIn, startOf, routineOf, unread, orElse, Check, boundChecks, runChecks, checked, textLimit, limited, readBound, readRun}
 use Rattle.file_format.proofs.RangeLaws.{natural-inside, every-mapped}
 use Rattle.file_format.proofs.BranchLaws.{branch-operand}
 use Rattle.file_format.proofs.PassingLaws.{first-small, lines-count, code-few}
@@ -52,30 +52,30 @@ run-lines : Every AtLine runChecks
 unfolding place
 run-lines = every-append bound-lines (more (λ n. refl) none)
 
-checked-place : (ls : List Line) {cs : List Check} → Every AtLine cs → (r : Refusal) → checked cs ls ≡ refused r → place r ≤ suc (length ls)
+checked-place : (ls : List Line) {cs : List Check} → Every AtLine cs → (r : Refusal) → checked cs ls ≡ unread r → place r ≤ suc (length ls)
 unfolding checked orElse refusedLine
 checked-place ls none r e = let z : _≡_ {A = ℕ} 0 1 = cc in absurd (omega arith)
 checked-place ls (more {x = c} {xs = cs} p ps) r e = go (refusedLine (c .row) ls) refl e (checked-place ls ps r)
   where
-    go : (f : RefusedLine) → refusedLine (c .row) ls ≡ f → orElse f (c .refusal) (checked cs ls) ≡ refused r → (checked cs ls ≡ refused r → place r ≤ suc (length ls)) → place r ≤ suc (length ls)
+    go : (f : RefusedLine) → refusedLine (c .row) ls ≡ f → orElse f (c .refusal) (checked cs ls) ≡ unread r → (checked cs ls ≡ unread r → place r ≤ suc (length ls)) → place r ≤ suc (length ls)
     go nowhere q e ih = ih e
     go (line n) q e ih =
         let f : c .refusal n ≡ r = cc in
         rw (← f, p n) (omega (arith, earliest-line (test (c .row) ls) 1 (roles ls) ls n q))
 
-read-place : (text : List ℕ) {cs : List Check} → Every AtLine cs → (r : Refusal) → limited text (checked cs (lines text)) ≡ refused r → place r ≤ suc textLimit
+read-place : (text : List ℕ) {cs : List Check} → Every AtLine cs → (r : Refusal) → limited text (checked cs (lines text)) ≡ unread r → place r ≤ suc textLimit
 unfolding limited place
 read-place text {cs} h r e = go (ltb textLimit (length text)) refl e
   where
-    go : (b : Bool) → ltb textLimit (length text) ≡ b → cond b (refused TextLength) (checked cs (lines text)) ≡ refused r → place r ≤ suc textLimit
+    go : (b : Bool) → ltb textLimit (length text) ≡ b → cond b (unread TextLength) (checked cs (lines text)) ≡ unread r → place r ≤ suc textLimit
     go true q e = let f : TextLength ≡ r = cc in rw (← f) (omega arith)
     go false q e = omega (arith, checked-place (lines text) h r e, lines-count text, ltb-false textLimit (length text) q)
 
-pub read-bound-place : (text : List ℕ) (r : Refusal) → readBound text ≡ refused r → place r ≤ 32769
+pub read-bound-place : (text : List ℕ) (r : Refusal) → readBound text ≡ unread r → place r ≤ 32769
 unfolding readBound
 read-bound-place text r e = read-place text bound-lines r e
 
-pub read-run-place : (text : List ℕ) (r : Refusal) → readRun text ≡ refused r → place r ≤ 32769
+pub read-run-place : (text : List ℕ) (r : Refusal) → readRun text ≡ unread r → place r ≤ 32769
 unfolding readRun
 read-run-place text r e = read-place text run-lines r e
 

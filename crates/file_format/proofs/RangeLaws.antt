@@ -12,7 +12,7 @@ use borrow.Author.Tests.{leb-true, eqb-true}
 use Rattle.text.specs.Text.{Line, find}
 use Rattle.text.proofs.TextLaws.{Every, more, and-left, and-right, cond-left, cond-right}
 use Rattle.numbers.specs.declared.Range.{Range}
-use Rattle.numbers.specs.Numbers.{range, within}
+use Rattle.numbers.specs.Numbers.{naturals, within}
 use Rattle.instructions.specs.declared.Argument.{Argument}
 use Rattle.instructions.specs.declared.Argument.the-variants.{Absent, Target, Primitive, Within}
 use Rattle.machine.specs.Machine.{Price, Instruction, instruction, Prices, priceOf, withExtra}
@@ -41,13 +41,13 @@ pub record Natural (high : ℕ) (z : ℤ) : Type 0 where
   pub below : natAbs z ≤ high
 
 -- a number within a range from a natural number on
-pub natural-within : (low high : ℕ) (z : ℤ) → within (range low high) z ≡ true → Natural high z
-natural-within low high (pos n) e = record { is = refl; below = leb-true n high (within-high (range low high) (pos n) e) }
-natural-within low high (negsuc n) e = absurd (false≢true (within-low (range low high) (negsuc n) e))
+pub natural-within : (low high : ℕ) (z : ℤ) → within (naturals low high) z ≡ true → Natural high z
+natural-within low high (pos n) e = record { is = refl; below = leb-true n high (within-high (naturals low high) (pos n) e) }
+natural-within low high (negsuc n) e = absurd (false≢true (within-low (naturals low high) (negsuc n) e))
 
-natural-above : (low high : ℕ) (z : ℤ) → within (range low high) z ≡ true → low ≤ natAbs z
-natural-above low high (pos n) e = leb-true low n (within-low (range low high) (pos n) e)
-natural-above low high (negsuc n) e = absurd (false≢true (within-low (range low high) (negsuc n) e))
+natural-above : (low high : ℕ) (z : ℤ) → within (naturals low high) z ≡ true → low ≤ natAbs z
+natural-above low high (pos n) e = leb-true low n (within-low (naturals low high) (pos n) e)
+natural-above low high (negsuc n) e = absurd (false≢true (within-low (naturals low high) (negsuc n) e))
 
 -- a number within its range counts as it is
 pub inside-is : (r : Range) (z : ℤ) → within r z ≡ true → inside r z ≡ z
@@ -63,14 +63,14 @@ inside-keeps P r z o f = go (within r z) refl
     go true e = f z e
     go false e = o
 
-pub natural-inside : (low high : ℕ) (z : ℤ) → Natural high (inside (range low high) z)
-natural-inside low high z = inside-keeps (Natural high) (range low high) z (record { is = refl; below = zero-le }) (natural-within low high)
+pub natural-inside : (low high : ℕ) (z : ℤ) → Natural high (inside (naturals low high) z)
+natural-inside low high z = inside-keeps (Natural high) (naturals low high) z (record { is = refl; below = zero-le }) (natural-within low high)
 
 -- ---- limits
 
 -- a limit of a passing text is the number that its word spells
-limit-ends : (low high : ℕ) (w : List ℕ) → within (range low high) (value w) ≡ true → low ≤ naturalIn (range low high) w
-limit-ends low high w e = rw (inside-is (range low high) (value w) e) (natural-above low high (value w) e)
+limit-ends : (low high : ℕ) (w : List ℕ) → within (naturals low high) (value w) ≡ true → low ≤ naturalIn (naturals low high) w
+limit-ends low high w e = rw (inside-is (naturals low high) (value w) e) (natural-above low high (value w) e)
 
 module _ {ls : List Line} (p : Passes ls) where
   limits-within : columnInRange limit (listed (names limits) ls) (listed (values limits limit) ls) ≡ true

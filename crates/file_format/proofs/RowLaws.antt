@@ -10,7 +10,7 @@ use lib.ListN.{length, length-append, length-drop}
 use borrow.Author.Tests.{ltb-false, lt-ltb, le-ltb}
 use Rattle.refusals.specs.declared.Refusal.{Refusal}
 use Rattle.refusals.specs.declared.Refusal.the-variants.{TextLength}
-use Rattle.text.specs.Text.{isEmpty, equals, words, Line, lines, all}
+use Rattle.text.specs.Text.{isEmpty, equals, lineWords, Line, lines, all}
 use Rattle.text.proofs.TextLaws.{Every, none, more, and-left, and-right, equals-path}
 use Rattle.file_format.specs.declared.Section.the-variants.{Answers as answers}
 use Rattle.file_format.specs.declared.Role.{Role}
@@ -21,7 +21,7 @@ use Rattle.file_format.specs.declared.Row.the-variants.{Layout as layout
 use Rattle.file_format.specs.declared.RefusedLine.{RefusedLine}
 use Rattle.file_format.specs.declared.RefusedLine.the-variants.{Nowhere as nowhere, Line as line}
 use Rattle.file_format.specs.Rows.{Passes, equalLists, earliest, refusedLine, test, laidOut, inRange, named}
-use Rattle.file_format.specs.Routine.{Routine, routineOf, Reading, refused, routine, orElse, Check, boundChecks, runChecks, checked, textLimit, limited, readBound, readRun}
+use Rattle.file_format.specs.Routine.{Routine, routineOf, Reading, unread, routine, orElse, Check, boundChecks, runChecks, checked, textLimit, limited, readBound, readRun}
 
 -- ---- the rows in their order
 
@@ -37,7 +37,7 @@ run-checked text = refl
 abbrev pub Unrefused : List Line → List Check → Type 0
 Unrefused ls cs = Every (λ c. refusedLine (c .row) ls ≡ nowhere) cs
 
-refused-not : {A : Type 0} (r : Refusal) (x : Routine) → refused r ≡ routine x → A
+refused-not : {A : Type 0} (r : Refusal) (x : Routine) → unread r ≡ routine x → A
 refused-not r x e = let z : _≡_ {A = ℕ} 0 1 = cc in absurd (omega arith)
 
 module _ (ls : List Line) where
@@ -57,7 +57,7 @@ module _ (ls : List Line) where
       go (line n) q h ih = refused-not (c .refusal n) x h
 
   first-checked : (c : Check) (after : List Check) (n : ℕ) → refusedLine (c .row) ls ≡ line n → {before : List Check} → Unrefused ls before
-      → checked (before ++ c ∷ after) ls ≡ refused (c .refusal n)
+      → checked (before ++ c ∷ after) ls ≡ unread (c .refusal n)
   unfolding checked orElse
   first-checked c after n q none = rw q refl
   first-checked c after n q (more e es) = rw e (first-checked c after n q es)
@@ -69,7 +69,7 @@ module _ (text : List ℕ) (next : Reading) where
   unfolding limited
   limited-short h = rw (le-ltb textLimit (length text) h) refl
 
-  limited-long : textLimit < length text → limited text next ≡ refused TextLength
+  limited-long : textLimit < length text → limited text next ≡ unread TextLength
   unfolding limited
   limited-long h = rw (lt-ltb textLimit (length text) h) refl
 
@@ -77,7 +77,7 @@ module _ (text : List ℕ) (next : Reading) where
   unfolding limited
   limited-routine x e = go (ltb textLimit (length text)) refl e
     where
-      go : (b : Bool) → ltb textLimit (length text) ≡ b → cond b (refused TextLength) next ≡ routine x → (length text ≤ textLimit) × (next ≡ routine x)
+      go : (b : Bool) → ltb textLimit (length text) ≡ b → cond b (unread TextLength) next ≡ routine x → (length text ≤ textLimit) × (next ≡ routine x)
       go true q h = refused-not TextLength x h
       go false q h = (ltb-false textLimit (length text) q, h)
 
@@ -125,20 +125,20 @@ run-passes text x e =
 -- ---- the order of the rows
 
 -- "text over 32,768 bytes" comes first
-pub too-long : (text : List ℕ) → textLimit < length text → (readBound text ≡ refused TextLength) × (readRun text ≡ refused TextLength)
+pub too-long : (text : List ℕ) → textLimit < length text → (readBound text ≡ unread TextLength) × (readRun text ≡ unread TextLength)
 too-long text h =
     (bound-checked text ∙ limited-long text (checked boundChecks (lines text)) h, run-checked text ∙ limited-long text (checked runChecks (lines text)) h)
 
 -- "Checked in the order of the rows": where the rows before c refuse no line and c does, c decides, whatever the rows after it say.
 -- `bound-order` and `run-order` say it of each row of the two readers, where `all` is refl.
 module _ (text : List ℕ) (short : length text ≤ textLimit) (before : List Check) (c : Check) (after : List Check) (n : ℕ) where
-  row-order : Unrefused (lines text) before → refusedLine (c .row) (lines text) ≡ line n → limited text (checked (before ++ c ∷ after) (lines text)) ≡ refused (c .refusal n)
+  row-order : Unrefused (lines text) before → refusedLine (c .row) (lines text) ≡ line n → limited text (checked (before ++ c ∷ after) (lines text)) ≡ unread (c .refusal n)
   row-order b q = limited-short text (checked (before ++ c ∷ after) (lines text)) short ∙ first-checked (lines text) c after n q b
 
-  pub bound-order : boundChecks ≡ before ++ c ∷ after → Unrefused (lines text) before → refusedLine (c .row) (lines text) ≡ line n → readBound text ≡ refused (c .refusal n)
+  pub bound-order : boundChecks ≡ before ++ c ∷ after → Unrefused (lines text) before → refusedLine (c .row) (lines text) ≡ line n → readBound text ≡ unread (c .refusal n)
   bound-order all b q = bound-checked text ∙ rw all (row-order b q)
 
-  pub run-order : runChecks ≡ before ++ c ∷ after → Unrefused (lines text) before → refusedLine (c .row) (lines text) ≡ line n → readRun text ≡ refused (c .refusal n)
+  pub run-order : runChecks ≡ before ++ c ∷ after → Unrefused (lines text) before → refusedLine (c .row) (lines text) ≡ line n → readRun text ≡ unread (c .refusal n)
   run-order all b q = run-checked text ∙ rw all (row-order b q)
 
 -- ---- what a row gives that refuses no line
@@ -228,25 +228,25 @@ held-row row ls e r s P f = held r P f layout (bodyRoles (body ls)) s (row-cover
 -- row 2 also asks of a line that it is ended and that one space parts its words
 pub laid-out : (ls : List Line) (r : Role) (l : Line) → test layout-row ls r l ≡ true → laidOut ls r (l .text) ≡ true
 unfolding test
-laid-out ls r l h = and-right (l .ended && all (λ w. not (isEmpty w)) (words (l .text))) (laidOut ls r (l .text)) h
+laid-out ls r l h = and-right (l .ended && all (λ w. not (isEmpty w)) (lineWords (l .text))) (laidOut ls r (l .text)) h
 
-spaced : (ls : List Line) (r : Role) (l : Line) → test layout-row ls r l ≡ true → (l .ended && all (λ w. not (isEmpty w)) (words (l .text))) ≡ true
+spaced : (ls : List Line) (r : Role) (l : Line) → test layout-row ls r l ≡ true → (l .ended && all (λ w. not (isEmpty w)) (lineWords (l .text))) ≡ true
 unfolding test
-spaced ls r l h = and-left (l .ended && all (λ w. not (isEmpty w)) (words (l .text))) (laidOut ls r (l .text)) h
+spaced ls r l h = and-left (l .ended && all (λ w. not (isEmpty w)) (lineWords (l .text))) (laidOut ls r (l .text)) h
 
 pub lines-ended : (ls : List Line) → refusedLine layout-row ls ≡ nowhere → Every (λ l. l .ended ≡ true) ls
 lines-ended ls e =
-    held-lines layout-row layout-row ls e e (λ r l h g. and-left (l .ended) (all (λ w. not (isEmpty w)) (words (l .text))) (spaced ls r l h))
+    held-lines layout-row layout-row ls e e (λ r l h g. and-left (l .ended) (all (λ w. not (isEmpty w)) (lineWords (l .text))) (spaced ls r l h))
 
 -- the tests of rows 2, 3 and 4 on the lines of the layout
 module _ {ls : List Line} (p : Passes ls) (r : Role) (s : First r layout) where
   pub passes-laid-out : laidOut ls r (textAt r layout ls) ≡ true
   passes-laid-out = held-row layout-row ls (p .layout) r s (λ x. laidOut ls r x ≡ true) (laid-out ls r)
 
-  pub passes-spaced : all (λ w. not (isEmpty w)) (words (textAt r layout ls)) ≡ true
+  pub passes-spaced : all (λ w. not (isEmpty w)) (lineWords (textAt r layout ls)) ≡ true
   passes-spaced =
-      held-row layout-row ls (p .layout) r s (λ x. all (λ w. not (isEmpty w)) (words x) ≡ true)
-      (λ l h. and-right (l .ended) (all (λ w. not (isEmpty w)) (words (l .text))) (spaced ls r l h))
+      held-row layout-row ls (p .layout) r s (λ x. all (λ w. not (isEmpty w)) (lineWords x) ≡ true)
+      (λ l h. and-right (l .ended) (all (λ w. not (isEmpty w)) (lineWords (l .text))) (spaced ls r l h))
 
   pub passes-range : inRange ls r (textAt r layout ls) ≡ true
   unfolding test

@@ -8,14 +8,13 @@ use native.Mathlib.Omega.{arith}
 use lib.Dec.{eqb, leb, ltb, lit<}
 use lib.ListN.{length, getD, take, drop, take-append-drop}
 use borrow.Author.Tests.{eqb-true, leb-true, ltb-true}
-use Rattle.text.specs.Text.{bytes, equals, words, Line, lines, among, all, distinct}
+use Rattle.text.specs.Text.{bytes, equals, lineWords, Line, lines, among, all, distinct}
 use Rattle.text.specs.declared.Numeral.{Numeral}
 use Rattle.text.specs.declared.Numeral.the-variants.{Misspelt as misspelt, Number as number}
 use Rattle.text.specs.Decimal.{numeral, isDigit, digits, decimal}
 use Rattle.text.proofs.TextLaws.{Every, more, every-append, every-left, every-map, all-every, and-left, and-right, equals-path, among-every, split-every, lines-every}
 use Rattle.text.proofs.DecimalLaws.{digit-ascii, decimal-digits, numeral-ascii}
-use Rattle.instructions.specs.Kinds.{kindNames}
-use Rattle.instructions.specs.HeldColumns.{kindAt}
+use Rattle.instructions.specs.Kinds.{kindNames, kindAt}
 use Rattle.instructions.specs.declared.Argument.{Argument}
 use Rattle.instructions.specs.declared.Argument.the-variants.{Absent, Target, Primitive, Within}
 use Rattle.instructions.specs.Kinds as table
@@ -190,10 +189,10 @@ primitives-ascii ws e = every-map name-ascii (all-every isName ws (and-left (all
 -- ---- lines
 
 list-ascii : (text : List ℕ) → Every Ascii (list text) → Ascii text
-unfolding list words isAscii all
+unfolding list lineWords isAscii all
 list-ascii text h = go (equals text (bytes "-")) refl h
   where
-    go : (b : Bool) → equals text (bytes "-") ≡ b → Every Ascii (cond b [] (words text)) → Ascii text
+    go : (b : Bool) → equals text (bytes "-") ≡ b → Every Ascii (cond b [] (lineWords text)) → Ascii text
     go true q k = fixed text (bytes "-") refl q
     go false q k = split-every 32 (lit< tt) text k
 
@@ -245,10 +244,10 @@ module _ (ls : List Line) (k : ℕ) (text : List ℕ) (ps : Every Ascii (listed 
       (on-kind (argumentLaidOut (arg text)) text k e (l .argument)) (on-kind (argumentNamed (listed (names primitives) ls) (arg text)) text k e (n .argument))
 
   code-ascii : Ascii text
-  unfolding words
+  unfolding lineWords
   code-ascii =
       split-every 32 (lit< tt) text
-      (three (words text) (l .three) (spelt-ascii (at text) (l .spelt)) (among-every (op text) kindNames (n .kind) kind-names-ascii) arg-ascii)
+      (three (lineWords text) (l .three) (spelt-ascii (at text) (l .spelt)) (among-every (op text) kindNames (n .kind) kind-names-ascii) arg-ascii)
 
 line-ascii : (ls : List Line) → Passes ls → (r : Role) (text : List ℕ) → laidOut ls r text ≡ true → named ls r text ≡ true → Ascii text
 unfolding laidOut valuesLaidOut codeLaidOut named codeNamed listed

@@ -11,8 +11,8 @@ use Rattle.text.specs.Text.{Line}
 use Rattle.numbers.specs.Numbers.{within, numbers}
 use Rattle.numbers.proofs.IntegerLaws.{le-true}
 use Rattle.cells.specs.declared.Cell.{Cell}
-use Rattle.cells.specs.Cells.{number, between}
-use Rattle.cells.specs.HeldCodes.{Confined, Kept}
+use Rattle.cells.specs.Cells.{exactly, between}
+use Rattle.cells.specs.Confined.{Confined, Kept}
 use Rattle.cells.specs.Order.{Pointwise, end, cons}
 use Rattle.cells.proofs.RangeLaws.{InBits, fitting-true, high-zero}
 use Rattle.cells.proofs.CellLaws.{confined-range, number-confined, unknown-confined, handle-confined, kept-self}
@@ -89,12 +89,12 @@ module _ {R : Cell → Cell → Type 0} where
   first-self c r end = r
   first-self c r (cons k ks) = k
 
-  pub start-self : (ls : List Line) → R (number (pos 0)) (number (pos 0)) → (First (values cells cell) layout → Pointwise R (cellsOf (listed (values cells cell) ls)) (cellsOf (listed (values cells cell) ls))) →
+  pub start-self : (ls : List Line) → R (exactly (pos 0)) (exactly (pos 0)) → (First (values cells cell) layout → Pointwise R (cellsOf (listed (values cells cell) ls)) (cellsOf (listed (values cells cell) ls))) →
       (First (values fields cell) layout → Pointwise R (cellsOf (listed (values fields cell) ls)) (cellsOf (listed (values fields cell) ls))) → Cellwise R (routineOf ls .start) (routineOf ls .start)
   unfolding routineOf startOf
   start-self ls r k f = record {
     at = refl;
-    accu = first-self (number (pos 0)) r (k refl);
+    accu = first-self (exactly (pos 0)) r (k refl);
     stack = drop-self 1 (k refl);
     blocks = blocks-self _ (f refl);
   }

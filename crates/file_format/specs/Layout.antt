@@ -4,7 +4,7 @@ use mathlib.Core.Bool.{Bool, false, cond, _&&_, _||_}
 use mathlib.Core.List.{List, [], _∷_, _++_, map}
 use lib.Dec.{eqb}
 use lib.ListN.{length, drop}
-use Rattle.text.specs.Text.{bytes, equals, words, Line}
+use Rattle.text.specs.Text.{bytes, equals, lineWords, Line}
 use Rattle.file_format.specs.declared.Section.{Section}
 use Rattle.file_format.specs.declared.Section.the-variants.{Limits as limits, Kinds as kinds, Primitives as primitives, Cells as cells, Fields as fields, Instructions as instructions, Answers as answers}
 use Rattle.file_format.specs.declared.Column.{Column}
@@ -77,7 +77,7 @@ roles ls = layout ++ bodyRoles (body ls)
 
 -- "an empty list is `-` on each of its lines"
 unfoldable pub list : List ℕ → List (List ℕ)
-list text = cond (equals text (bytes "-")) [] (words text)
+list text = cond (equals text (bytes "-")) [] (lineWords text)
 
 -- the place of a section in the file
 abbrev pub sectionPlace : Section → ℕ

@@ -10,12 +10,11 @@ use Rattle.refusals.specs.declared.Refusal.{Refusal}
 use Rattle.refusals.specs.declared.Refusal.the-variants.{TextLength, Layout, OutOfRange, BadName, Unpriced, NoTarget, Backward, UnknownCell}
 use Rattle.text.specs.Text.{Line, lines, find}
 use Rattle.cells.specs.declared.Cell.{Cell}
-use Rattle.cells.specs.Cells.{number, between, handle}
+use Rattle.cells.specs.Cells.{exactly, between, handle}
 use Rattle.cells.specs.Cells as cells-of
 use Rattle.numbers.specs.declared.Range.{Range}
 use Rattle.numbers.specs.Numbers.{within, numbers}
-use Rattle.instructions.specs.Kinds.{addresses, kindNames}
-use Rattle.instructions.specs.HeldColumns.{kindAt}
+use Rattle.instructions.specs.Kinds.{addresses, kindNames, kindAt}
 use Rattle.instructions.specs.declared.Argument.{Argument}
 use Rattle.instructions.specs.declared.Argument.the-variants.{Absent, Target, Primitive, Within}
 use Rattle.machine.specs.Machine.{instruction, State, Price, Instruction, Prices, priceOf, Code}
@@ -104,9 +103,9 @@ codeIn ls = record {
 
 -- "number, `?` for unknown, `#k` for block k (0 to 7)", `lo..hi`
 unfoldable pub cellOf : CellWord → Cell
-cellOf wrong = number (pos 0)
+cellOf wrong = exactly (pos 0)
 cellOf unknown = cells-of.unknown
-cellOf (known z) = number (inside numbers z)
+cellOf (known z) = exactly (inside numbers z)
 cellOf (block k) = handle (natAbs (inside handles k))
 cellOf (span lo hi) = between (inside numbers lo) (inside numbers hi)
 
@@ -121,7 +120,7 @@ blocksInLine (n ∷ ns) cs = take n cs ∷ blocksInLine ns (drop n cs)
 
 -- "ACCU, then S0 on": the start at an address, by the cells of line 11 and the blocks of line 13
 unfoldable pub startOf : ℕ → List Cell → List (List Cell) → State
-startOf first cs bs = record { at = first; accu = getD cs 0 (number (pos 0)); stack = drop 1 cs; blocks = bs }
+startOf first cs bs = record { at = first; accu = getD cs 0 (exactly (pos 0)); stack = drop 1 cs; blocks = bs }
 
 -- the routine that the lines of a file hold: on line 2 BUDGET, then TICK; "The start address is that of the first AT line."
 unfoldable pub routineOf : List Line → Routine
@@ -139,13 +138,13 @@ routineOf ls = record {
 
 -- what reading a text comes to
 pub data Reading : Type 0 where
-  refused : Refusal → Reading
+  unread : Refusal → Reading
   routine : Routine → Reading
 
 -- the refusal at the line that a row refuses, or what comes next
 unfoldable pub orElse : RefusedLine → (ℕ → Refusal) → Reading → Reading
 orElse nowhere r next = next
-orElse (line n) r next = refused (r n)
+orElse (line n) r next = unread (r n)
 
 -- a row of the refusal table, and its refusal at a line
 pub record Check : Type 0 where
@@ -176,7 +175,7 @@ textLimit = 32768
 
 -- "text over 32,768 bytes" comes first
 unfoldable pub limited : List ℕ → Reading → Reading
-limited text next = cond (ltb textLimit (length text)) (refused TextLength) next
+limited text next = cond (ltb textLimit (length text)) (unread TextLength) next
 
 -- as the bound reads a text
 unfoldable pub readBound : List ℕ → Reading

@@ -8,16 +8,15 @@ use lib.Dec.{eqb, leb, ltb}
 use lib.IntN.{ℤ, pos, natAbs, _+ℤ_}
 use lib.Signed.{leZ, ltZ}
 use lib.ListN.{length, getD, take, drop}
-use Rattle.text.specs.Text.{bytes, isEmpty, equals, split, words, Line, place, among, all, distinct}
+use Rattle.text.specs.Text.{bytes, isEmpty, equals, partedBy, lineWords, Line, placeAmong, among, all, distinct}
 use Rattle.text.specs.declared.Place.{Place}
 use Rattle.text.specs.declared.Place.the-variants.{At, Missing}
 use Rattle.text.specs.declared.Numeral.{Numeral}
 use Rattle.text.specs.declared.Numeral.the-variants.{Misspelt as misspelt, Number as number}
 use Rattle.text.specs.Decimal.{numeral, isDigit, decimal}
 use Rattle.numbers.specs.declared.Range.{Range}
-use Rattle.numbers.specs.Numbers.{range, within, numbers, same}
-use Rattle.instructions.specs.Kinds.{addresses, calls, kindNames}
-use Rattle.instructions.specs.HeldColumns.{kindAt}
+use Rattle.numbers.specs.Numbers.{naturals, within, numbers, same}
+use Rattle.instructions.specs.Kinds.{addresses, calls, kindNames, kindAt}
 use Rattle.instructions.specs.declared.Argument.{Argument}
 use Rattle.instructions.specs.declared.Argument.the-variants.{Absent, Target, Primitive, Within}
 use Rattle.file_format.specs.declared.Section.{Section}
@@ -68,7 +67,7 @@ spanOf (number lo) (number hi) = span lo hi
 
 -- how many bytes stand before the first full stop, which is byte 46
 abbrev pub stop : List ℕ → ℕ
-stop w = length (getD (split 46 w) 0 [])
+stop w = length (getD (partedBy 46 w) 0 [])
 
 -- a number, or two around `..`
 unfoldable pub spanned : List ℕ → CellWord
@@ -93,7 +92,7 @@ isCell (span lo hi) = true
 
 -- "`#k` with k outside 0 to 7 is 3"
 abbrev pub handles : Range
-handles = range 0 7
+handles = naturals 0 7
 
 -- "lo above hi is refusal 3"
 abbrev pub spanInRange : ℤ → ℤ → Bool
@@ -182,19 +181,19 @@ argumentOf t (At k) = t (kindAt k .argument)
 
 -- AT
 abbrev pub at : List ℕ → List ℕ
-at text = getD (words text) 0 []
+at text = getD (lineWords text) 0 []
 
 -- OP
 abbrev pub op : List ℕ → List ℕ
-op text = getD (words text) 1 []
+op text = getD (lineWords text) 1 []
 
 -- ARG
 abbrev pub arg : List ℕ → List ℕ
-arg text = getD (words text) 2 []
+arg text = getD (lineWords text) 2 []
 
 -- the same of a code line
 unfoldable pub onArgument : (Argument → Bool) → List ℕ → Bool
-onArgument t text = argumentOf t (place (op text) kindNames)
+onArgument t text = argumentOf t (placeAmong (op text) kindNames)
 
 -- "ARG is `-` where none"; a primitive's name is looked up in row 4
 unfoldable pub argumentLaidOut : List ℕ → Argument → Bool
@@ -233,7 +232,7 @@ argumentForward own w a = cond (isTarget a) (ltZ own (value w)) true
 
 -- "AT starts anywhere from 0 to 60,000 and rises by one"
 abbrev pub firstAddresses : Range
-firstAddresses = range 0 60000
+firstAddresses = naturals 0 60000
 
 -- "a later AT outside 0 to 62,000 is refusal 3"
 abbrev pub atRange : ℕ → Range
@@ -242,27 +241,27 @@ atRange (suc k) = addresses
 
 -- "1 to 1,000,000"
 abbrev pub budgets : Range
-budgets = range 1 1000000
+budgets = naturals 1 1000000
 
 -- "cycles per tick, 1 to 4,000,000,000"
 abbrev pub ticks : Range
-ticks = range 1 4000000000
+ticks = naturals 1 4000000000
 
 -- "cycles 0 to 65,535"
 abbrev pub cycleCounts : Range
-cycleCounts = range 0 65535
+cycleCounts = naturals 0 65535
 
 -- "words 0 to 255"
 abbrev pub wordCounts : Range
-wordCounts = range 0 255
+wordCounts = naturals 0 255
 
 -- "extra cycles when BRANCHIF or BRANCHIFNOT jumps, 0 to 65,535" (document 02 §1)
 abbrev pub extraCounts : Range
-extraCounts = range 0 65535
+extraCounts = naturals 0 65535
 
 -- "Other kinds must hold 0 there"
 abbrev pub noExtra : Range
-noExtra = range 0 0
+noExtra = naturals 0 0
 
 -- the range of the extra under a name, a kind's or any other
 unfoldable pub extraRange : List ℕ → Range
@@ -319,7 +318,7 @@ valuesLaidOut c ns ws = eqb (length ws) (length ns) && columnLaidOut c ws
 
 -- on code line k: "a 1,025th code line", "spelling of a number, an ARG missing or not called for"
 unfoldable pub codeLaidOut : ℕ → List ℕ → Bool
-codeLaidOut k text = ltb k 1024 && eqb (length (words text)) 3 && isNumeral (numeral (at text)) && onArgument (argumentLaidOut (arg text)) text
+codeLaidOut k text = ltb k 1024 && eqb (length (lineWords text)) 3 && isNumeral (numeral (at text)) && onArgument (argumentLaidOut (arg text)) text
 
 -- row 2: "layout, counts, spelling of a number, an ARG missing or not called for"; among the answers "a 65th answer"
 unfoldable pub laidOut : List Line → Role → List ℕ → Bool
@@ -391,7 +390,7 @@ allKnown r text = onCells (λ w. isSingle (cellWord w)) r text
 
 -- the test of a row on one line; in row 2 also "Each line ends in a line feed" and "words are parted by one space"
 unfoldable pub test : Row → List Line → Role → Line → Bool
-test layout-row ls r l = l .ended && all (λ w. not (isEmpty w)) (words (l .text)) && laidOut ls r (l .text)
+test layout-row ls r l = l .ended && all (λ w. not (isEmpty w)) (lineWords (l .text)) && laidOut ls r (l .text)
 test range-row ls r l = inRange ls r (l .text)
 test name-row ls r l = named ls r (l .text)
 test price-row ls r l = priced ls r (l .text)

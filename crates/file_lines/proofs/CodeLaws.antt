@@ -15,17 +15,18 @@ use mir.Syntax.{w64}
 use mir.Val.{SFits, ofZ, toZ}
 use mir.ValLaws.{toZ-ofZ, toZ-pos}
 use borrow.Author.Tests.{eqb-true, eqb-false, leb-true, leb-false, le-leb, lt-leb, ltb-true, ltb-false, le-ltb}
-use Rattle.text.specs.Text.{among, place}
+use Rattle.text.specs.Text.{among, placeAmong}
 use Rattle.text.specs.declared.Place.{Place}
 use Rattle.text.specs.declared.Place.the-variants.{At, Missing}
-use Rattle.text.specs.Decimal.{numeral, most}
+use Rattle.text.specs.Decimal.{numeral}
+use Rattle.text.specs.HeldMagnitude.{most}
 use Rattle.numbers.specs.declared.Range.{Range}
-use Rattle.numbers.specs.Numbers.{range, within, same}
+use Rattle.numbers.specs.Numbers.{naturals, within, same}
 use Rattle.instructions.specs.declared.Argument.{Argument}
 use Rattle.instructions.specs.declared.Argument.the-variants.{Absent, Target, Primitive, Within}
 use Rattle.instructions.proofs.Argument.{the-type}
-use Rattle.instructions.specs.Kinds.{Kind, kinds, kindNames}
-use Rattle.instructions.specs.HeldColumns.{kindAt, rangeOf}
+use Rattle.instructions.specs.Kinds.{Kind, kinds, kindNames, kindAt}
+use Rattle.instructions.specs.HeldColumns.{rangeOf}
 use Rattle.instructions.proofs.ColumnLaws.{column-at}
 use Rattle.file_format.specs.Rows.{isNumeral, argumentOf, at, op, arg, onArgument, codeInRange, codeNamed, argumentLaidOut, argumentInRange, argumentNamed, argumentReaches, argumentForward, firstAddresses, atRange, value}
 use Rattle.text.proofs.TextLaws.{and-left, and-right, isFound, among-place}
@@ -34,10 +35,10 @@ use Rattle.file_format.proofs.RangeLaws.{Natural, natural-within}
 
 -- ---- the kind that a word names
 
-pub name-unknown : (w : List ℕ) → place w kindNames ≡ Missing → among w kindNames ≡ false
+pub name-unknown : (w : List ℕ) → placeAmong w kindNames ≡ Missing → among w kindNames ≡ false
 name-unknown w q = among-place 0 w kindNames ∙ ap isFound q
 
-pub name-known : (w : List ℕ) {k : ℕ} → place w kindNames ≡ At k → among w kindNames ≡ true
+pub name-known : (w : List ℕ) {k : ℕ} → placeAmong w kindNames ≡ At k → among w kindNames ≡ true
 name-known w q = among-place 0 w kindNames ∙ ap isFound q
 
 -- ---- the argument that OP calls for
@@ -133,7 +134,7 @@ module _ (first : ℤ) (m : ℕ) (h : within firstAddresses first ≡ true) (k :
   sum-exact = ap (λ z. z +ℤ pos m) (first-natural .is)
 
 -- a range of one number
-point : (n : ℕ) (z : ℤ) → within (range n n) z ≡ same z (pos n)
+point : (n : ℕ) (z : ℤ) → within (naturals n n) z ≡ same z (pos n)
 point n (pos m) = go (eqb m n) refl (leb n m) refl
   where
     go : (b : Bool) → eqb m n ≡ b → (d : Bool) → leb n m ≡ d → cond d (leb m n) false ≡ b
@@ -155,7 +156,7 @@ module _ (first : ℤ) (n : ℕ) (h : within firstAddresses first ≡ true) wher
   start : Natural 60000 first
   start = natural-within 0 60000 first h
 
-  reached : (f : ℕ) (z : ℤ) → 0 < n → within (range f (f + (n - 1))) z ≡ leZ (pos f) z && ltZ z (pos f +ℤ pos n)
+  reached : (f : ℕ) (z : ℤ) → 0 < n → within (naturals f (f + (n - 1))) z ≡ leZ (pos f) z && ltZ z (pos f +ℤ pos n)
   reached f (pos m) k = go (leb f m)
     where
       last : (b : Bool) → ltb m (f + n) ≡ b → leb m (f + (n - 1)) ≡ b
@@ -167,7 +168,7 @@ module _ (first : ℤ) (n : ℕ) (h : within firstAddresses first ≡ true) wher
       go false = refl
   reached f (negsuc m) k = refl
 
-  reached-some : (z : ℤ) → 0 < n → within (range (natAbs first) (natAbs first + (n - 1))) z ≡ leZ first z && ltZ z (first +ℤ pos n)
+  reached-some : (z : ℤ) → 0 < n → within (naturals (natAbs first) (natAbs first + (n - 1))) z ≡ leZ first z && ltZ z (first +ℤ pos n)
   reached-some z k = reached (natAbs first) z k ∙ ap (λ f. leZ f z && ltZ z (f +ℤ pos n)) (start .is)
 
   none : (f : ℕ) (z : ℤ) → n ≡ 0 → false ≡ leZ (pos f) z && ltZ z (pos f +ℤ pos n)
@@ -222,7 +223,7 @@ module _ (first : ℤ) (n : ℕ) (h : within firstAddresses first ≡ true) (l :
 -- ---- the tests of a code line by those of its words
 
 -- a test of the argument w of the kind at p, which OP names
-pub on-line : (f : List ℕ → Argument → Bool) (line : List ℕ) {w : List ℕ} {p : Place} {x : Bool} → w ≡ arg line → p ≡ place (op line) kindNames → x ≡ argumentOf (f w) p → x ≡ onArgument (f (arg line)) line
+pub on-line : (f : List ℕ → Argument → Bool) (line : List ℕ) {w : List ℕ} {p : Place} {x : Bool} → w ≡ arg line → p ≡ placeAmong (op line) kindNames → x ≡ argumentOf (f w) p → x ≡ onArgument (f (arg line)) line
 unfolding onArgument
 on-line f line e q h = h ∙ ap₂ (λ v o. argumentOf (f v) o) e q
 

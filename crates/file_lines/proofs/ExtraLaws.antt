@@ -4,7 +4,7 @@ use mathlib.Core.Path.{_≡_, refl, sym, ap, _∙_}
 use mathlib.Core.Bool.{Bool, true, false, _&&_, and-true as and-right}
 use mathlib.Core.List.{List, [], _∷_}
 use lib.ListN.{length, getD, take, drop}
-use Rattle.text.specs.Text.{bytes, equals, split, words, among}
+use Rattle.text.specs.Text.{bytes, equals, partedBy, lineWords, among}
 use Rattle.text.proofs.TextLaws.{equals-path}
 use Rattle.text.proofs.ScanLaws.{firstLength, past}
 use Rattle.text.proofs.PieceLaws.{words-more, words-last}
@@ -37,35 +37,35 @@ no-name n e [] = refl
 no-name n e (w ∷ ws) = ap (λ r. within r (value w) && extrasInRange [] ws) e
 
 module _ (l : List ℕ) (n : ℕ) (q : n ≡ firstLength 32 l) where
-  pub names-more : n < length l → (ws : List (List ℕ)) → extrasInRange (words (past n l)) ws ≡ extrasInRange (drop 1 (words l)) ws
+  pub names-more : n < length l → (ws : List (List ℕ)) → extrasInRange (lineWords (past n l)) ws ≡ extrasInRange (drop 1 (lineWords l)) ws
   names-more h ws = ap (λ ns. extrasInRange (drop 1 ns) ws) (sym (words-more l n q h))
 
-  pub names-none : length l ≤ n → (ws : List (List ℕ)) → extrasInRange (words []) ws ≡ extrasInRange (drop 1 (words l)) ws
-  unfolding words split
+  pub names-none : length l ≤ n → (ws : List (List ℕ)) → extrasInRange (lineWords []) ws ≡ extrasInRange (drop 1 (lineWords l)) ws
+  unfolding lineWords partedBy
   names-none h ws = no-name [] refl ws ∙ ap (λ ns. extrasInRange (drop 1 ns) ws) (sym (words-last l n q h))
 
 -- `-` as a name is of no kind
-pub names-listed : (names : List ℕ) (ws : List (List ℕ)) → extrasInRange (words names) ws ≡ extrasInRange (list names) ws
+pub names-listed : (names : List ℕ) (ws : List (List ℕ)) → extrasInRange (lineWords names) ws ≡ extrasInRange (list names) ws
 names-listed names ws = go (equals names (bytes "-")) refl
   where
-    dash : extrasInRange (words (bytes "-")) ws ≡ extrasInRange [] ws
-    dash = unfold words split extraRange among equals in no-name (bytes "-") refl ws
+    dash : extrasInRange (lineWords (bytes "-")) ws ≡ extrasInRange [] ws
+    dash = unfold lineWords partedBy extraRange among equals in no-name (bytes "-") refl ws
 
-    go : (b : Bool) → equals names (bytes "-") ≡ b → extrasInRange (words names) ws ≡ extrasInRange (list names) ws
-    go true e = ap (λ n. extrasInRange (words n) ws) (equals-path names (bytes "-") e) ∙ dash ∙ ap (λ ns. extrasInRange ns ws) (sym (list-none names e))
+    go : (b : Bool) → equals names (bytes "-") ≡ b → extrasInRange (lineWords names) ws ≡ extrasInRange (list names) ws
+    go true e = ap (λ n. extrasInRange (lineWords n) ws) (equals-path names (bytes "-") e) ∙ dash ∙ ap (λ ns. extrasInRange ns ws) (sym (list-none names e))
     go false e = ap (λ ns. extrasInRange ns ws) (sym (list-words names e))
 
 -- ---- the extras of l under the names ns; its first word has the length n
 
 module _ (ns : List (List ℕ)) (l : List ℕ) (n : ℕ) (q : n ≡ firstLength 32 l) where
-  pub extras-stop : n < length l → within (extraRange (getD ns 0 [])) (value (take n l)) ≡ false → extrasInRange ns (words l) ≡ false
+  pub extras-stop : n < length l → within (extraRange (getD ns 0 [])) (value (take n l)) ≡ false → extrasInRange ns (lineWords l) ≡ false
   unfolding extrasInRange
-  extras-stop h e = ap (extrasInRange ns) (words-more l n q h) ∙ ap (λ b. b && extrasInRange (drop 1 ns) (words (past n l))) e
+  extras-stop h e = ap (extrasInRange ns) (words-more l n q h) ∙ ap (λ b. b && extrasInRange (drop 1 ns) (lineWords (past n l))) e
 
-  pub extras-next : n < length l → within (extraRange (getD ns 0 [])) (value (take n l)) ≡ true → extrasInRange ns (words l) ≡ extrasInRange (drop 1 ns) (words (past n l))
+  pub extras-next : n < length l → within (extraRange (getD ns 0 [])) (value (take n l)) ≡ true → extrasInRange ns (lineWords l) ≡ extrasInRange (drop 1 ns) (lineWords (past n l))
   unfolding extrasInRange
-  extras-next h e = ap (extrasInRange ns) (words-more l n q h) ∙ ap (λ b. b && extrasInRange (drop 1 ns) (words (past n l))) e
+  extras-next h e = ap (extrasInRange ns) (words-more l n q h) ∙ ap (λ b. b && extrasInRange (drop 1 ns) (lineWords (past n l))) e
 
-  pub extras-last : length l ≤ n → extrasInRange ns (words l) ≡ within (extraRange (getD ns 0 [])) (value l)
+  pub extras-last : length l ≤ n → extrasInRange ns (lineWords l) ≡ within (extraRange (getD ns 0 [])) (value l)
   unfolding extrasInRange
   extras-last h = ap (extrasInRange ns) (words-last l n q h) ∙ and-right (within (extraRange (getD ns 0 [])) (value l))

@@ -7,12 +7,12 @@ use native.Mathlib.Omega.{arith}
 use lib.Dec.{ltb}
 use lib.ListN.{length, take}
 use borrow.Author.Tests.{lt-ltb}
-use Rattle.text.specs.Text.{isEmpty, words, all}
-use Rattle.text.specs.Decimal.{most}
+use Rattle.text.specs.Text.{isEmpty, lineWords, all}
+use Rattle.text.specs.HeldMagnitude.{most}
 use Rattle.text.proofs.ScanLaws.{firstLength, past}
 use Rattle.text.proofs.PieceLaws.{words-more, words-last}
 use Rattle.numbers.specs.declared.Range.{Range}
-use Rattle.numbers.specs.Numbers.{range}
+use Rattle.numbers.specs.Numbers.{naturals}
 use Rattle.file_values.specs.HeldValues.{Near}
 
 -- ---- tests
@@ -42,19 +42,19 @@ filled (x ∷ xs) = lt-ltb 0 (suc (length xs)) (omega arith)
 -- ---- a test of every word of l, whose first word has the length n
 
 module _ (t : List ℕ → Bool) (l : List ℕ) (n : ℕ) (q : n ≡ firstLength 32 l) where
-  pub all-stop : n < length l → t (take n l) ≡ false → all t (words l) ≡ false
+  pub all-stop : n < length l → t (take n l) ≡ false → all t (lineWords l) ≡ false
   unfolding all
-  all-stop h e = ap (all t) (words-more l n q h) ∙ ap (λ b. b && all t (words (past n l))) e
+  all-stop h e = ap (all t) (words-more l n q h) ∙ ap (λ b. b && all t (lineWords (past n l))) e
 
-  pub all-next : n < length l → t (take n l) ≡ true → all t (words l) ≡ all t (words (past n l))
+  pub all-next : n < length l → t (take n l) ≡ true → all t (lineWords l) ≡ all t (lineWords (past n l))
   unfolding all
-  all-next h e = ap (all t) (words-more l n q h) ∙ ap (λ b. b && all t (words (past n l))) e
+  all-next h e = ap (all t) (words-more l n q h) ∙ ap (λ b. b && all t (lineWords (past n l))) e
 
-  pub all-last : length l ≤ n → all t (words l) ≡ t l
+  pub all-last : length l ≤ n → all t (lineWords l) ≡ t l
   unfolding all
   all-last h = ap (all t) (words-last l n q h) ∙ and-right (t l)
 
 -- ---- a range by its name
 
-pub near-range : (low high : ℕ) → low < most → high < most → {r : Range} → r ≡ range low high → Near r
+pub near-range : (low high : ℕ) → low < most → high < most → {r : Range} → r ≡ naturals low high → Near r
 near-range low high a b e = subst Near (sym e) (record { low = a; high = b })

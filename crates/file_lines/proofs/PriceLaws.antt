@@ -9,7 +9,7 @@ use lib.Dec.{eqb}
 use lib.ListN.{length, getD, set, length-set, replicate, getD-replicate}
 use lib.Seq.{getD-set-same, getD-set-other}
 use borrow.Author.Tests.{eqb-true, eqb-false}
-use Rattle.text.specs.Text.{place, find, among}
+use Rattle.text.specs.Text.{placeAmong, find, among}
 use Rattle.text.specs.declared.Place.the-variants.{At}
 use Rattle.text.proofs.TextLaws.{among-find}
 use Rattle.instructions.specs.Kinds.{kindNames}
@@ -18,7 +18,7 @@ use Rattle.file_lines.specs.HeldLines.{PricesKept}
 use Rattle.file_lines.proofs.CodeLaws.{name-known}
 
 -- the word that stands at a place is the word that was found there
-pub word-found : (w : List ℕ) {k : ℕ} → place w kindNames ≡ At k → getD kindNames k [] ≡ w
+pub word-found : (w : List ℕ) {k : ℕ} → placeAmong w kindNames ≡ At k → getD kindNames k [] ≡ w
 word-found w {k} q =
     let f = among-find w kindNames (name-known w q) in
     let e : k ≡ find w kindNames = cc (f .0) in
@@ -28,7 +28,7 @@ one-is : (b : Bool) → eqb (cond b 1 2) 1 ≡ b
 one-is true = refl
 one-is false = refl
 
-module _ (ks : List (List ℕ)) (kept : List ℕ) (s : PricesKept ks kept) (w : List ℕ) {k : ℕ} (q : place w kindNames ≡ At k) where
+module _ (ks : List (List ℕ)) (kept : List ℕ) (s : PricesKept ks kept) (w : List ℕ) {k : ℕ} (q : placeAmong w kindNames ≡ At k) where
   pub place-low : k < 61
   place-low = kind-below w q
 

@@ -7,7 +7,7 @@ use native.Mathlib.Omega.{arith}
 use lib.Dec.{eqb}
 use lib.ListN.{length, getD, take}
 use borrow.Author.Tests.{eq-eqb, ne-eqb}
-use Rattle.text.specs.Text.{onto, split, words, all}
+use Rattle.text.specs.Text.{onto, partedBy, lineWords, all}
 use Rattle.text.proofs.ScanLaws.{firstLength, past}
 use Rattle.text.proofs.PieceLaws.{split-some, words-more, words-last, word-here}
 use Rattle.file_format.specs.Rows.{at, op, arg}
@@ -17,11 +17,11 @@ use Rattle.file_lines.specs.HeldLines.{wordTest, isWhole}
 -- ---- what follows the first word of l, which has n bytes
 
 module _ (l : List ℕ) (n : ℕ) (q : n ≡ firstLength 32 l) where
-  pub after-more : n < length l → (k : ℕ) → getD (words (past n l)) k [] ≡ getD (words l) (suc k) []
+  pub after-more : n < length l → (k : ℕ) → getD (lineWords (past n l)) k [] ≡ getD (lineWords l) (suc k) []
   after-more h k = sym (ap (λ ws. getD ws (suc k) []) (words-more l n q h))
 
-  pub after-none : length l ≤ n → (k : ℕ) → getD (words []) k [] ≡ getD (words l) (suc k) []
-  unfolding words split
+  pub after-none : length l ≤ n → (k : ℕ) → getD (lineWords []) k [] ≡ getD (lineWords l) (suc k) []
+  unfolding lineWords partedBy
   after-none h k = go k ∙ sym (ap (λ ws. getD ws (suc k) []) (words-last l n q h))
     where
       go : (j : ℕ) → getD ([] ∷ []) j [] ≡ getD (l ∷ []) (suc j) []
@@ -30,8 +30,8 @@ module _ (l : List ℕ) (n : ℕ) (q : n ≡ firstLength 32 l) where
 
 -- ---- a line that is cut: its first word has e bytes, that of what follows has f, and that of what follows this has g
 
-module _ (line rest last : List ℕ) {e f g : ℕ} (first : e ≡ firstLength 32 line) (after : (k : ℕ) → getD (words rest) k [] ≡ getD (words line) (suc k) []) (second : f ≡ firstLength 32 rest)
-    (then : (k : ℕ) → getD (words last) k [] ≡ getD (words rest) (suc k) []) (third : g ≡ firstLength 32 last) where
+module _ (line rest last : List ℕ) {e f g : ℕ} (first : e ≡ firstLength 32 line) (after : (k : ℕ) → getD (lineWords rest) k [] ≡ getD (lineWords line) (suc k) []) (second : f ≡ firstLength 32 rest)
+    (then : (k : ℕ) → getD (lineWords last) k [] ≡ getD (lineWords rest) (suc k) []) (third : g ≡ firstLength 32 last) where
   pub cut-at : take e line ≡ at line
   cut-at = sym (word-here line e 0 first (omega arith))
 
@@ -42,7 +42,7 @@ module _ (line rest last : List ℕ) {e f g : ℕ} (first : e ≡ firstLength 32
   cut-arg = sym (word-here last g 0 third (omega arith)) ∙ then 0 ∙ after 1
 
   pub cut-lengths : (e ≡ length (at line)) × (f ≡ length (op line)) × (g ≡ length (arg line))
-  unfolding words
+  unfolding lineWords
   cut-lengths = (first, second ∙ ap length (after 0), third ∙ ap length (then 0 ∙ after 1))
 
 -- ---- the bytes of words and of the spaces between them
@@ -61,21 +61,21 @@ spread-onto x [] h = absurd (omega arith)
 spread-onto x (w ∷ []) h = refl
 spread-onto x (w ∷ v ∷ ws) h = omega arith
 
-spread-split : (c : ℕ) (s : List ℕ) → spread (split c s) ≡ length s
-unfolding split
+spread-split : (c : ℕ) (s : List ℕ) → spread (partedBy c s) ≡ length s
+unfolding partedBy
 spread-split c [] = refl
 spread-split c (x ∷ xs) = go (eqb x c) (spread-split c xs)
   where
-    go : (b : Bool) → spread (split c xs) ≡ length xs → spread (cond b ([] ∷ split c xs) (onto x (split c xs))) ≡ suc (length xs)
-    go true e = omega (arith, spread-cons [] (split c xs) (split-some c xs))
-    go false e = omega (arith, spread-onto x (split c xs) (split-some c xs))
+    go : (b : Bool) → spread (partedBy c xs) ≡ length xs → spread (cond b ([] ∷ partedBy c xs) (onto x (partedBy c xs))) ≡ suc (length xs)
+    go true e = omega (arith, spread-cons [] (partedBy c xs) (split-some c xs))
+    go false e = omega (arith, spread-onto x (partedBy c xs) (split-some c xs))
 
-spread-words : (l : List ℕ) → spread (words l) ≡ length l
-unfolding words
+spread-words : (l : List ℕ) → spread (lineWords l) ≡ length l
+unfolding lineWords
 spread-words l = spread-split 32 l
 
-words-some : (l : List ℕ) → 0 < length (words l)
-unfolding words
+words-some : (l : List ℕ) → 0 < length (lineWords l)
+unfolding lineWords
 words-some l = split-some 32 l
 
 -- ---- three words, none of them empty
@@ -133,20 +133,20 @@ none-empty (w ∷ v ∷ u ∷ x ∷ ws) n s a b d =
 
 -- the same of the words of a line, whose lengths are e, f and g
 
-module _ (l : List ℕ) {e f g : ℕ} (p : (e ≡ length (getD (words l) 0 [])) × (f ≡ length (getD (words l) 1 [])) × (g ≡ length (getD (words l) 2 []))) where
+module _ (l : List ℕ) {e f g : ℕ} (p : (e ≡ length (getD (lineWords l) 0 [])) × (f ≡ length (getD (lineWords l) 1 [])) × (g ≡ length (getD (lineWords l) 2 []))) where
   pub words-fit : e + f + g ≤ length l
-  words-fit = omega (arith, fits (words l) (length l) (spread-words l), p .0, p .1, p .2)
+  words-fit = omega (arith, fits (lineWords l) (length l) (spread-words l), p .0, p .1, p .2)
 
-  pub no-first : e ≡ 0 → false ≡ isWhole (words l)
-  no-first z = first-empty (words l) (words-some l) (sym (p .0) ∙ z)
+  pub no-first : e ≡ 0 → false ≡ isWhole (lineWords l)
+  no-first z = first-empty (lineWords l) (words-some l) (sym (p .0) ∙ z)
 
-  pub no-second : f ≡ 0 → false ≡ isWhole (words l)
-  no-second z = second-empty (words l) (words-some l) (sym (p .1) ∙ z)
+  pub no-second : f ≡ 0 → false ≡ isWhole (lineWords l)
+  no-second z = second-empty (lineWords l) (words-some l) (sym (p .1) ∙ z)
 
-  pub no-third : g ≡ 0 → false ≡ isWhole (words l)
-  no-third z = third-empty (words l) (words-some l) (sym (p .2) ∙ z)
+  pub no-third : g ≡ 0 → false ≡ isWhole (lineWords l)
+  no-third z = third-empty (lineWords l) (words-some l) (sym (p .2) ∙ z)
 
-  pub all-there : (e ≡ 0 → ⊥) → (f ≡ 0 → ⊥) → (g ≡ 0 → ⊥) → eqb (length l - e - f - g) 2 ≡ isWhole (words l)
+  pub all-there : (e ≡ 0 → ⊥) → (f ≡ 0 → ⊥) → (g ≡ 0 → ⊥) → eqb (length l - e - f - g) 2 ≡ isWhole (lineWords l)
   all-there a b d =
       rw (p .0, p .1, p .2)
-      (none-empty (words l) (length l) (spread-words l) (λ z. a (p .0 ∙ z)) (λ z. b (p .1 ∙ z)) (λ z. d (p .2 ∙ z)))
+      (none-empty (lineWords l) (length l) (spread-words l) (λ z. a (p .0 ∙ z)) (λ z. b (p .1 ∙ z)) (λ z. d (p .2 ∙ z)))

@@ -13,7 +13,7 @@ ghost use lib.IntN.{pos, _+ℤ_};
 ghost use mathlib.Core.List.{List, []};
 ghost use lib.ListN.{length, getD, drop};
 ghost use lib.Dec.{ltb};
-ghost use Rattle.text.specs.Text.{words, place, among, all};
+ghost use Rattle.text.specs.Text.{lineWords, placeAmong, among, all};
 ghost use Rattle.text.specs.Decimal.{numeral};
 ghost use Rattle.text.specs.declared.Place.the-variants.{At};
 ghost use Rattle.numbers.specs.Numbers.{within, numbers, same};
@@ -62,7 +62,7 @@ fn word_passes(t: WordTest, w: &[u8]) -> bool
 
 // Whether all words of a line pass a test.
 pub fn all_words(t: WordTest, line: &[u8]) -> bool
-    ensures { λ r. ⌜ r ≡ all (wordTest t) (words (now (line .entry))) ⌝ }
+    ensures { λ r. ⌜ r ≡ all (wordTest t) (lineWords (now (line .entry))) ⌝ }
 {
     let mut rest = line;
     let mut e = text::piece_length(rest, b' ');
@@ -151,7 +151,7 @@ fn extra_in_range(name: &[u8], w: &[u8]) -> bool
 
 // What follows the first of a line's words; no bytes where nothing does, which stand for names that no kind has.
 fn next_names(names: &[u8]) -> &[u8]
-    ensures { λ r. ⌜ ((ws : List (List ℕ)) → extrasInRange (words (now r)) ws ≡ extrasInRange (drop 1 (words (now (names .entry)))) ws) ⌝ }
+    ensures { λ r. ⌜ ((ws : List (List ℕ)) → extrasInRange (lineWords (now r)) ws ≡ extrasInRange (drop 1 (lineWords (now (names .entry)))) ws) ⌝ }
 {
     let e = text::piece_length(names, b' ');
     if e < names.len() {
@@ -162,7 +162,7 @@ fn next_names(names: &[u8]) -> &[u8]
 
 // Whether each word of a line is in the range of the name at its place: one scan of both lines.
 fn extras_in_range(names: &[u8], line: &[u8]) -> bool
-    ensures { λ r. ⌜ r ≡ extrasInRange (words (now (names .entry))) (words (now (line .entry))) ⌝ }
+    ensures { λ r. ⌜ r ≡ extrasInRange (lineWords (now (names .entry))) (lineWords (now (line .entry))) ⌝ }
 {
     let mut above = names;
     let mut rest = line;
@@ -217,8 +217,8 @@ pub fn cells_pass(t: WordTest, role: Role, line: &[u8]) -> bool
 
 // What follows the first word of a line, which has e bytes, and the space after it; no bytes where nothing does.
 pub fn after_word(line: &[u8], e: usize) -> &[u8]
-    requires { ⌜ e ≡ length (getD (words (now line)) 0 []) ⌝ }
-    ensures { λ r. ⌜ ((k : ℕ) → getD (words (now r)) k [] ≡ getD (words (now (line .entry))) (suc k) []) ⌝ }
+    requires { ⌜ e ≡ length (getD (lineWords (now line)) 0 []) ⌝ }
+    ensures { λ r. ⌜ ((k : ℕ) → getD (lineWords (now r)) k [] ≡ getD (lineWords (now (line .entry))) (suc k) []) ⌝ }
 {
     if e < line.len() {
         return &line[e + 1..];
@@ -229,7 +229,7 @@ pub fn after_word(line: &[u8], e: usize) -> &[u8]
 // Whether a line is of three words and none is empty, where AT has e bytes, OP has f and ARG has g.
 pub fn is_whole(line: &[u8], e: usize, f: usize, g: usize) -> bool
     requires { ⌜ (e ≡ length (at (now line))) × (f ≡ length (op (now line))) × (g ≡ length (arg (now line))) ⌝ }
-    ensures { λ r. ⌜ r ≡ isWhole (words (now (line .entry))) ⌝ }
+    ensures { λ r. ⌜ r ≡ isWhole (lineWords (now (line .entry))) ⌝ }
 {
     if e == 0 {
         return false;
@@ -369,7 +369,7 @@ fn both(a: bool, b: bool) -> bool
 
 // Whether a kind was found.
 fn is_known(kind: Place) -> bool
-    ensures { λ r. ⌜ ((w : List ℕ) → kind ≡ place w kindNames → r ≡ among w kindNames) ⌝ }
+    ensures { λ r. ⌜ ((w : List ℕ) → kind ≡ placeAmong w kindNames → r ≡ among w kindNames) ⌝ }
 {
     let Place::At(_) = kind else {
         return false;
@@ -407,7 +407,7 @@ pub fn test_code(
     requires { ⌜ within firstAddresses first ≡ true ⌝ }
     requires { ⌜ (n ≤ 32768) × (k ≤ 32768) ⌝ }
     requires { ⌜ ((i : ℕ) → kind ≡ At i → i < 61) ⌝ }
-    ensures { λ r. ⌜ ((line : List ℕ) → now (own .entry) ≡ at line → now (w .entry) ≡ arg line → kind ≡ place (op line) kindNames → CodeTests first n (list (now (primitives .entry))) k line r) ⌝ }
+    ensures { λ r. ⌜ ((line : List ℕ) → now (own .entry) ≡ at line → now (w .entry) ≡ arg line → kind ≡ placeAmong (op line) kindNames → CodeTests first n (list (now (primitives .entry))) k line r) ⌝ }
 {
     let argument = test_argument(first, n, primitives, k, kind, w);
     let spelt = both(k < 1024, file_values::is_numeral(own));
@@ -437,7 +437,7 @@ fn one_or_two(yes: bool) -> u8
 // Row 5 on a code line whose OP is `op`, the name of the kind at a place, and `kinds` the line of the kinds that have a price. What the search
 // found of a kind is kept: 1 where it has a price, 2 where it has none, and 0 as long as it was not looked for.
 pub fn code_priced(kinds: &[u8], kept: &mut [u8; 61], kind: Place, op: &[u8]) -> bool
-    requires { ⌜ kind ≡ place (now op) kindNames ⌝ }
+    requires { ⌜ kind ≡ placeAmong (now op) kindNames ⌝ }
     requires { ⌜ PricesKept (list (now kinds)) (now kept) ⌝ }
     ensures priced { λ r. ⌜ r ≡ among (now (op .entry)) (list (now (kinds .entry))) ⌝ }
     ensures kept { λ _. ⌜ PricesKept (list (now (kinds .entry))) (now (kept .exit)) ⌝ }

@@ -9,7 +9,7 @@ use lib.Dec.{eqb, ltb}
 use lib.ListN.{length, getD, take, set}
 use lib.Seq.{length-take-le, take-suc, take-suc-set}
 use borrow.Author.Tests.{eqb-true, eqb-false, eq-eqb, ne-eqb, ltb-true}
-use Rattle.text.specs.Text.{bytes, equals, words}
+use Rattle.text.specs.Text.{bytes, equals, lineWords}
 use Rattle.text.specs.Decimal.{decimal}
 use Rattle.text.proofs.ScanLaws.{firstLength, past, cut-more, cut-last}
 use Rattle.text.proofs.TextLaws.{and-left, and-right}
@@ -112,26 +112,26 @@ same-total k (n ∷ m ∷ ns) w e = ap (λ (ms : List ℕ). n ∷ ms) (same-tota
 
 -- the names on a line l, whose first has the length n: it adds nothing, it adds something, or it is the last
 
-pub grow-stop : (ns l : List ℕ) (n : ℕ) → n ≡ firstLength 32 l → n < length l → total (added 0 ns (take n l)) ≡ total ns → grow 0 ns (words l) ≡ ns
-unfolding grow words
+pub grow-stop : (ns l : List ℕ) (n : ℕ) → n ≡ firstLength 32 l → n < length l → total (added 0 ns (take n l)) ≡ total ns → grow 0 ns (lineWords l) ≡ ns
+unfolding grow lineWords
 grow-stop ns l n q h e = rw (cut-more 32 l n q h, eq-eqb (total (added 0 ns (take n l))) (total ns) e) refl
 
 pub grow-next : (ns ms l : List ℕ) (n : ℕ) → n ≡ firstLength 32 l → n < length l → ms ≡ added 0 ns (take n l) → (total ms ≡ total ns → ⊥)
-    → grow 0 ns (words l) ≡ grow 0 ms (words (past n l))
-unfolding grow words
+    → grow 0 ns (lineWords l) ≡ grow 0 ms (lineWords (past n l))
+unfolding grow lineWords
 grow-next ns ms l n q h a e = rw (cut-more 32 l n q h, sym a, ne-eqb (total ms) (total ns) e) refl
 
-pub grow-last : (ns l : List ℕ) (n : ℕ) → n ≡ firstLength 32 l → length l ≤ n → grow 0 ns (words l) ≡ added 0 ns l
-unfolding grow words
+pub grow-last : (ns l : List ℕ) (n : ℕ) → n ≡ firstLength 32 l → length l ≤ n → grow 0 ns (lineWords l) ≡ added 0 ns l
+unfolding grow lineWords
 grow-last ns l n q h = rw (cut-last 32 l n q h) (go (eqb (total (added 0 ns l)) (total ns)) refl)
   where
     go : (b : Bool) → eqb (total (added 0 ns l)) (total ns) ≡ b → cond b ns (added 0 ns l) ≡ added 0 ns l
     go true e = sym (same-total 0 ns l (eqb-true (total (added 0 ns l)) (total ns) e))
     go false e = refl
 
-pub some-names : (l : List ℕ) → equals l (bytes "-") ≡ false → blockSizes (list l) ≡ grow 0 [] (words l)
+pub some-names : (l : List ℕ) → equals l (bytes "-") ≡ false → blockSizes (list l) ≡ grow 0 [] (lineWords l)
 unfolding list
-some-names l e = rw e (grow-start (words l))
+some-names l e = rw e (grow-start (lineWords l))
 
 -- ---- name by name, in an array
 

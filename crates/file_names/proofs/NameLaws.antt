@@ -9,7 +9,7 @@ use lib.Dec.{ltb}
 use lib.ListN.{length, getD, take, drop, drop-of-length-le}
 use lib.Seq.{drop-cons, take-nil}
 use borrow.Author.Tests.{lt-ltb, le-ltb}
-use Rattle.text.specs.Text.{equals, split, words, among, distinct, all}
+use Rattle.text.specs.Text.{equals, partedBy, lineWords, among, distinct, all}
 use Rattle.text.specs.Decimal.{digits, decimal}
 use Rattle.text.proofs.DecimalLaws.{decimal-one}
 use Rattle.text.proofs.ScanLaws.{firstLength, past, cut-more, cut-last}
@@ -21,17 +21,17 @@ first-within l n q = rw q (first-le 32 l)
 
 -- ---- whether a word stands twice
 
-pub distinct-again : (l : List ℕ) (n : ℕ) → n ≡ firstLength 32 l → n < length l → among (take n l) (words (past n l)) ≡ true → distinct (words l) ≡ false
-unfolding distinct words
+pub distinct-again : (l : List ℕ) (n : ℕ) → n ≡ firstLength 32 l → n < length l → among (take n l) (lineWords (past n l)) ≡ true → distinct (lineWords l) ≡ false
+unfolding distinct lineWords
 distinct-again l n q h e = rw (cut-more 32 l n q h, e) refl
 
-pub distinct-next : (l : List ℕ) (n : ℕ) → n ≡ firstLength 32 l → n < length l → among (take n l) (words (past n l)) ≡ false
-    → distinct (words l) ≡ distinct (words (past n l))
-unfolding distinct words
+pub distinct-next : (l : List ℕ) (n : ℕ) → n ≡ firstLength 32 l → n < length l → among (take n l) (lineWords (past n l)) ≡ false
+    → distinct (lineWords l) ≡ distinct (lineWords (past n l))
+unfolding distinct lineWords
 distinct-next l n q h e = rw (cut-more 32 l n q h, e) refl
 
-pub distinct-last : (l : List ℕ) (n : ℕ) → n ≡ firstLength 32 l → length l ≤ n → distinct (words l) ≡ true
-unfolding distinct among words
+pub distinct-last : (l : List ℕ) (n : ℕ) → n ≡ firstLength 32 l → length l ≤ n → distinct (lineWords l) ≡ true
+unfolding distinct among lineWords
 distinct-last l n q h = rw (cut-last 32 l n q h) refl
 
 -- ---- a primitive's name
@@ -71,7 +71,7 @@ all-end t w i h = rw (drop-of-length-le w h) refl
 -- ---- the words of l as the first of those of o
 
 abbrev pub leads : List ℕ → List ℕ → Bool
-leads l o = equalLists (words l) (take (length (words l)) (words o))
+leads l o = equalLists (lineWords l) (take (length (lineWords l)) (lineWords o))
 
 none-differs : (ps : List (List ℕ)) → 0 < length ps → equalLists ps [] ≡ false
 unfolding equalLists
@@ -85,22 +85,22 @@ short x o xs e =
     ap (λ (ys : List (List ℕ)). equals x o && equalLists xs ys) t ∙ ap (λ (b : Bool). equals x o && b) e ∙ and-false (equals x o)
 
 pub leads-short : (l o : List ℕ) (n m : ℕ) → n ≡ firstLength 32 l → n < length l → m ≡ firstLength 32 o → length o ≤ m → leads l o ≡ false
-unfolding words equalLists
-leads-short l o n m q h p k = rw (cut-more 32 l n q h, cut-last 32 o m p k) (short (take n l) o (split 32 (past n l)) (none-differs (split 32 (past n l)) (split-some 32 (past n l))))
+unfolding lineWords equalLists
+leads-short l o n m q h p k = rw (cut-more 32 l n q h, cut-last 32 o m p k) (short (take n l) o (partedBy 32 (past n l)) (none-differs (partedBy 32 (past n l)) (split-some 32 (past n l))))
 
 pub leads-differ : (l o : List ℕ) (n m : ℕ) → n ≡ firstLength 32 l → n < length l → m ≡ firstLength 32 o → m < length o
     → equals (take n l) (take m o) ≡ false → leads l o ≡ false
-unfolding words equalLists
+unfolding lineWords equalLists
 leads-differ l o n m q h p k e = rw (cut-more 32 l n q h, cut-more 32 o m p k, e) refl
 
 pub leads-agree : (l o : List ℕ) (n m : ℕ) → n ≡ firstLength 32 l → n < length l → m ≡ firstLength 32 o → m < length o
     → equals (take n l) (take m o) ≡ true → leads l o ≡ leads (past n l) (past m o)
-unfolding words equalLists
+unfolding lineWords equalLists
 leads-agree l o n m q h p k e = rw (cut-more 32 l n q h, cut-more 32 o m p k, e) refl
 
 pub leads-last : (l o : List ℕ) (n m : ℕ) → n ≡ firstLength 32 l → length l ≤ n → m ≡ firstLength 32 o → leads l o ≡ equals l (take m o)
-unfolding words equalLists
-leads-last l o n m q h p = rw (cut-last 32 l n q h) (go (split 32 o) (split-some 32 o) (first-piece 32 o m p))
+unfolding lineWords equalLists
+leads-last l o n m q h p = rw (cut-last 32 l n q h) (go (partedBy 32 o) (split-some 32 o) (first-piece 32 o m p))
   where
     go : (ps : List (List ℕ)) → 0 < length ps → getD ps 0 [] ≡ take m o → equalLists (l ∷ []) (take 1 ps) ≡ equals l (take m o)
     go [] k e = absurd (omega arith)

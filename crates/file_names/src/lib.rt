@@ -1,7 +1,7 @@
 // The names on the lines of a routine file. The meaning is in the specs of `file_format`.
 ghost use mathlib.Core.Path.{_≡_};
 ghost use lib.ListN.{length, take};
-ghost use Rattle.text.specs.Text.{words, distinct};
+ghost use Rattle.text.specs.Text.{lineWords, distinct};
 ghost use Rattle.text.specs.Decimal.{isDigit};
 ghost use Rattle.file_format.specs.Rows.{isCapital, inName, isName, equalLists, cellNames, isField, blockSizes};
 ghost use Rattle.file_format.specs.Layout.{list};
@@ -9,7 +9,7 @@ ghost use Rattle.file_names.specs.HeldNames.{BlocksOf, added};
 
 // Whether no word of line stands twice.
 pub fn distinct(line: &[u8]) -> bool
-    ensures { λ r. ⌜ r ≡ distinct (words (now (line .entry))) ⌝ }
+    ensures { λ r. ⌜ r ≡ distinct (lineWords (now (line .entry))) ⌝ }
 {
     let mut rest = line;
     let mut e = text::piece_length(rest, b' ');
@@ -74,7 +74,7 @@ pub fn is_name(w: &[u8]) -> bool
 
 // Whether the words of line are the first of the words of names.
 fn begins(line: &[u8], names: &[u8]) -> bool
-    ensures { λ r. ⌜ r ≡ equalLists (words (now (line .entry))) (take (length (words (now (line .entry)))) (words (now (names .entry)))) ⌝ }
+    ensures { λ r. ⌜ r ≡ equalLists (lineWords (now (line .entry))) (take (length (lineWords (now (line .entry)))) (lineWords (now (names .entry)))) ⌝ }
 {
     let mut rest = line;
     let mut others = names;
@@ -101,7 +101,7 @@ const CELLS: [u8; 122] =
 
 // Whether the words of line are the names of the first cells.
 pub fn cells_named(line: &[u8]) -> bool
-    ensures { λ r. ⌜ r ≡ equalLists (words (now (line .entry))) (take (length (words (now (line .entry)))) cellNames) ⌝ }
+    ensures { λ r. ⌜ r ≡ equalLists (lineWords (now (line .entry))) (take (length (lineWords (now (line .entry)))) cellNames) ⌝ }
 {
     begins(line, &CELLS)
 }

@@ -10,7 +10,7 @@ use lib.IntN.{ℤ}
 use lib.ListN.{length, getD, take, set, length-map, length-set}
 use lib.Seq.{take-suc, getD-set-same, getD-set-other}
 use borrow.Author.Tests.{le-leb, lt-leb, ltb-true, ltb-false}
-use Rattle.text.specs.Text.{place, indexOf, find, Line, noLine}
+use Rattle.text.specs.Text.{placeAmong, indexOf, find, Line, noLine}
 use Rattle.text.specs.declared.Place.{Place}
 use Rattle.numbers.specs.declared.Comparison.the-variants.{Equal, Unequal, Less, AtMost, Greater, AtLeast}
 use Rattle.numbers.specs.declared.Range.{Range}
@@ -21,8 +21,8 @@ use Rattle.instructions.specs.declared.Argument.{Argument}
 use Rattle.instructions.specs.declared.Argument.the-variants.{Absent, Target, Primitive, Within}
 use Rattle.instructions.specs.declared.Operation.{Operation}
 use Rattle.instructions.specs.declared.Operation.the-variants.{Nothing, Access, Drop, Assign, Constant, GetField, SetField, Branch, BranchIf, BranchIfNot, Call, Stop, Alter, Combine}
-use Rattle.instructions.specs.Kinds.{Kind, kindNames, operand, calls, addresses}
-use Rattle.instructions.specs.HeldColumns.{kindAt, operationCode, unaryCode, binaryCode, comparisonCode, operations, operationOf}
+use Rattle.instructions.specs.Kinds.{Kind, kindNames, operand, calls, addresses, kindAt}
+use Rattle.instructions.specs.HeldColumns.{operationCode, unaryCode, binaryCode, comparisonCode, operations, operationOf}
 use Rattle.machine.specs.Machine.{Price, Instruction, instruction, priceOf}
 use Rattle.machine_state.specs.declared.code.Line.{Line as Held}
 use Rattle.machine_state.specs.HeldProgram.{line, lineAt, lineOf, linesFrom}
@@ -34,9 +34,9 @@ use Rattle.file_values.specs.HeldValues.{NaturalRange}
 use Rattle.file_parts.specs.HeldParts.{PriceRange, Coded, putLine}
 
 -- where a word is found, as an index
-pub found : (ws : List (List ℕ)) (w v : List ℕ) (p : Place) {k : ℕ} → k ≡ indexOf p → p ≡ place w ws → w ≡ v → k ≡ find v ws
+pub found : (ws : List (List ℕ)) (w v : List ℕ) (p : Place) {k : ℕ} → k ≡ indexOf p → p ≡ placeAmong w ws → w ≡ v → k ≡ find v ws
 unfolding find
-found ws w v p i e q = i ∙ ap indexOf e ∙ ap (λ u. indexOf (place u ws)) q
+found ws w v p i e q = i ∙ ap indexOf e ∙ ap (λ u. indexOf (placeAmong u ws)) q
 
 -- an operation by its code
 

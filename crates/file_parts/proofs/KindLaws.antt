@@ -9,12 +9,11 @@ use native.Mathlib.Nat.{eq-or-lt-of-le}
 use lib.Dec.{eqb, ltb}
 use lib.ListN.{length, getD, length-set, replicate, getD-replicate}
 use borrow.Author.Tests.{eqb-true, eqb-false, ltb-true, ltb-false}
-use Rattle.text.specs.Text.{place, indexOf, find}
+use Rattle.text.specs.Text.{placeAmong, indexOf, find}
 use Rattle.text.specs.declared.Place.{Place}
 use Rattle.text.specs.declared.Place.the-variants.{At, Missing}
 use Rattle.numbers.specs.declared.Range.{Range}
-use Rattle.instructions.specs.Kinds.{kindNames}
-use Rattle.instructions.specs.HeldColumns.{kindAt}
+use Rattle.instructions.specs.Kinds.{kindNames, kindAt}
 use Rattle.instructions.proofs.ColumnLaws.{kind-below}
 use Rattle.file_format.specs.Rows.{cycleCounts, wordCounts, extraCounts}
 use Rattle.file_format.specs.Routine.{PriceList, naturalAt}
@@ -33,17 +32,17 @@ slot-is : (p : Place) → slotOf p ≡ slotNumber p * 5
 slot-is (At k) = refl
 slot-is Missing = refl
 
-pub places-low : (op : List ℕ) (p : Place) → p ≡ place op kindNames → (k : ℕ) → p ≡ At k → k < 61
+pub places-low : (op : List ℕ) (p : Place) → p ≡ placeAmong op kindNames → (k : ℕ) → p ≡ At k → k < 61
 places-low op p q k e = kind-below op (sym q ∙ e)
 
 slot-few : (p : Place) → ((k : ℕ) → p ≡ At k → k < 61) → slotNumber p ≤ 61
 slot-few (At k) h = let l = h k refl in omega arith
 slot-few Missing h = omega arith
 
-pub slot-low : (op : List ℕ) (p : Place) → p ≡ place op kindNames → {s : ℕ} → s ≡ slotOf p → s ≤ 305
+pub slot-low : (op : List ℕ) (p : Place) → p ≡ placeAmong op kindNames → {s : ℕ} → s ≡ slotOf p → s ≤ 305
 slot-low op p q e = let a = slot-few p (places-low op p q) in let b = slot-is p in omega arith
 
-slot-named : (op : List ℕ) (p : Place) → p ≡ place op kindNames → (j : ℕ) → j < 61 → j ≡ slotNumber p → getD kindNames j [] ≡ op
+slot-named : (op : List ℕ) (p : Place) → p ≡ placeAmong op kindNames → (j : ℕ) → j < 61 → j ≡ slotNumber p → getD kindNames j [] ≡ op
 slot-named op (At k) q j h e = ap (λ i. getD kindNames i []) e ∙ word-found op (sym q)
 slot-named op Missing q j h e = absurd (omega arith)
 
@@ -61,12 +60,12 @@ module _ (ks : PriceList) (xs : List (List ℕ)) where
   pub none-kept : KindsKept ks xs (replicate 310 0)
   none-kept = record { size = refl; other = refl; found = λ k h e. let z : _≡_ {A = ℕ} (getD (replicate 310 0) (k * 5 + 1) 0) 0 = getD-replicate 310 (k * 5 + 1) 0 0 (omega arith) in absurd (omega arith) }
 
-  module _ (ws : List ℕ) (s : KindsKept ks xs ws) (op : List ℕ) (p : Place) (q : p ≡ place op kindNames) {k : ℕ} (at : k ≡ slotOf p) where
+  module _ (ws : List ℕ) (s : KindsKept ks xs ws) (op : List ℕ) (p : Place) (q : p ≡ placeAmong op kindNames) {k : ℕ} (at : k ≡ slotOf p) where
     -- what was kept is there
     pub kept-price : getD ws (k + 1) 0 ≡ 1 → PriceAt ks xs op ws k
     kept-price e = go p q at
       where
-        go : (o : Place) → o ≡ place op kindNames → k ≡ slotOf o → PriceAt ks xs op ws k
+        go : (o : Place) → o ≡ placeAmong op kindNames → k ≡ slotOf o → PriceAt ks xs op ws k
         go (At j) r z =
             subst (λ i. PriceAt ks xs op ws i) (sym z)
             (subst (λ o. PriceAt ks xs o ws (j * 5)) (word-found op (sym r)) (s .found j (kind-below op (sym r)) (ap (λ i. getD ws (i + 1) 0) (sym z) ∙ e)))
@@ -131,7 +130,7 @@ module _ (ks : PriceList) (xs : List (List ℕ)) where
       kept-put = record { size = simp length-set (s .size); other = other-kept; found = found-kept }
 
 -- what the search finds of a kind
-pub price-found : (ks : PriceList) (xs : List (List ℕ)) (op : List ℕ) (p : Place) → p ≡ place op kindNames → {k i b c w x : ℕ} {r t u : Range} → k ≡ indexOf p → Coded (kindAt k) b → i ≡ find op (ks .names)
+pub price-found : (ks : PriceList) (xs : List (List ℕ)) (op : List ℕ) (p : Place) → p ≡ placeAmong op kindNames → {k i b c w x : ℕ} {r t u : Range} → k ≡ indexOf p → Coded (kindAt k) b → i ≡ find op (ks .names)
     → r ≡ cycleCounts → c ≡ naturalAt r (ks .cycles) i → t ≡ wordCounts → w ≡ naturalAt t (ks .words) i → u ≡ extraCounts → x ≡ naturalAt u xs i → KindPrice ks xs op b c w x
 price-found ks xs op p q {b = b} k-is b-is i-is r-is c-is t-is w-is u-is x-is = record {
   coded = subst (λ k. Coded (kindAt k) b) (found kindNames op op p k-is q refl) b-is;

@@ -10,7 +10,7 @@ use Rattle.text.specs.Text.{equals}
 use Rattle.numbers.specs.declared.Range.{Range}
 use Rattle.numbers.specs.Numbers.{IsNumber, numbers}
 use Rattle.cells.specs.declared.Cell.{Cell}
-use Rattle.cells.specs.Cells.{number}
+use Rattle.cells.specs.Cells.{exactly}
 use Rattle.instructions.specs.Kinds.{addresses}
 use Rattle.machine.specs.Machine.{State}
 use Rattle.file_format.specs.Rows.{cellWord, hashed}
@@ -34,17 +34,17 @@ pub cells-length : (ws : List (List ℕ)) → length (cellsOf ws) ≡ length ws
 unfolding cellsOf
 cells-length ws = length-map ws (λ w. cellOf (cellWord w))
 
-no-word : cellOf (cellWord []) ≡ number (pos 0)
+no-word : cellOf (cellWord []) ≡ exactly (pos 0)
 unfolding cellOf cellWord hashed equals
 no-word = refl
 
-pub cell-is : (ws : List (List ℕ)) (w : List ℕ) (i : ℕ) → w ≡ getD ws i [] → cellOf (cellWord w) ≡ getD (cellsOf ws) i (number (pos 0))
+pub cell-is : (ws : List (List ℕ)) (w : List ℕ) (i : ℕ) → w ≡ getD ws i [] → cellOf (cellWord w) ≡ getD (cellsOf ws) i (exactly (pos 0))
 unfolding cellsOf
 cell-is ws w i e =
     ap (λ (v : List ℕ). cellOf (cellWord v)) e ∙ sym (List·getD-map (λ (v : List ℕ). cellOf (cellWord v)) ws i [])
     ∙ ap (λ (d : Cell). getD (cellsOf ws) i d) no-word
 
-pub start-is : (first : ℕ) (cs : List Cell) (accu : Cell) (stack : List Cell) → accu ≡ getD cs 0 (number (pos 0)) → stack ≡ drop 1 cs
+pub start-is : (first : ℕ) (cs : List Cell) (accu : Cell) (stack : List Cell) → accu ≡ getD cs 0 (exactly (pos 0)) → stack ≡ drop 1 cs
     → _≡_ {A = State} (record { at = first; accu = accu; stack = stack; blocks = [] }) (startOf first cs [])
 unfolding startOf
 start-is first cs accu stack e q = λ i. record { at = first; accu = e i; stack = q i; blocks = [] }

@@ -8,9 +8,9 @@ use Rattle.text.specs.Text.{find}
 use Rattle.text.specs.declared.Place.{Place}
 use Rattle.text.specs.declared.Place.the-variants.{At, Missing}
 use Rattle.numbers.specs.declared.Range.{Range}
-use Rattle.numbers.specs.Numbers.{range}
-use Rattle.instructions.specs.Kinds.{Kind, calls, kindNames}
-use Rattle.instructions.specs.HeldColumns.{kindAt, operationCode}
+use Rattle.numbers.specs.Numbers.{naturals}
+use Rattle.instructions.specs.Kinds.{Kind, calls, kindNames, kindAt}
+use Rattle.instructions.specs.HeldColumns.{operationCode}
 use Rattle.file_format.specs.Layout.{list}
 use Rattle.file_format.specs.Rows.{cycleCounts, wordCounts, extraCounts}
 use Rattle.file_format.specs.Routine.{naturalAt, PriceList}
@@ -18,7 +18,7 @@ use Rattle.file_format.specs.Routine.{naturalAt, PriceList}
 -- a range of prices: two of them are a number of 32 bits
 pub record PriceRange (r : Range) : Type 0 where
   pub greatest : ℕ
-  pub is : r ≡ range 0 greatest
+  pub is : r ≡ naturals 0 greatest
   pub small : greatest ≤ 65535
 
 -- the prices on three lines, by their texts: names, cycles, words

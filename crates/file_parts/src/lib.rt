@@ -15,12 +15,11 @@ ghost use Prim.Native.Nat.{ℕ, _+_, _*_, _%_, _≤_, _<_};
 ghost use lib.Dec.{ltb};
 ghost use lib.IntN.{pos};
 ghost use lib.ListN.{length, getD, take, drop};
-ghost use Rattle.text.specs.Text.{lines, place, find};
+ghost use Rattle.text.specs.Text.{lines, placeAmong, find};
 ghost use Rattle.text.specs.declared.Place.the-variants.{At};
 ghost use Rattle.numbers.specs.Numbers.{IsNumber, numbers, residue};
-ghost use Rattle.cells.specs.Cells.{number};
-ghost use Rattle.instructions.specs.Kinds.{operand, kindNames};
-ghost use Rattle.instructions.specs.HeldColumns.{kindAt};
+ghost use Rattle.cells.specs.Cells.{exactly};
+ghost use Rattle.instructions.specs.Kinds.{operand, kindNames, kindAt};
 ghost use Rattle.machine_state.specs.HeldProgram.{firstOf, linesIn, blocksIn, sizesOf, line, lineOf, linesFrom};
 ghost use Rattle.machine_state.specs.HeldState.{view, WellFormed, blocksOf};
 ghost use Rattle.file_format.specs.declared.Section.the-variants.{Kinds, Primitives};
@@ -44,7 +43,7 @@ pub fn natural_at(range: Range, values: &[u8], i: usize) -> u32
 
 // The cell at place i of a line; 0 where it lists fewer.
 fn cell_at(values: &[u8], i: usize) -> Cell
-    ensures { λ r. ⌜ r ≡ getD (cellsOf (list (now (values .entry)))) i (number (pos 0)) ⌝ }
+    ensures { λ r. ⌜ r ≡ getD (cellsOf (list (now (values .entry)))) i (exactly (pos 0)) ⌝ }
 {
     file_values::cell_of(layout::listed_at(values, i))
 }
@@ -98,7 +97,7 @@ pub fn start_of(values: &[u8], first: usize) -> State
     ensures formed { λ r. ⌜ WellFormed r ⌝ }
 {
     let accu = cell_at(values, 0);
-    let zero = cells::number(0);
+    let zero = cells::exactly(0);
     let mut stack = [zero; 64];
     let count = layout::count_listed(values);
     let n = if count == 0 { 0 } else { count - 1 };
@@ -189,7 +188,7 @@ fn find_price(
     kind: Place,
     op: &[u8],
 ) -> usize
-    requires { ⌜ kind ≡ place (now op) kindNames ⌝ }
+    requires { ⌜ kind ≡ placeAmong (now op) kindNames ⌝ }
     requires { ⌜ KindsKept (pricesOn (now kinds) (now cycles) (now words)) (list (now extras)) (now kept) ⌝ }
     ensures slot { λ r. ⌜ r ≡ slotOf kind ⌝ }
     ensures price { λ r. ⌜ PriceAt (pricesOn (now (kinds .entry)) (now (cycles .entry)) (now (words .entry))) (list (now (extras .entry))) (now (op .entry)) (now (kept .exit)) r ⌝ }
@@ -241,7 +240,7 @@ fn entry_of(
     words: &[u8],
     text: &[u8],
 ) -> Entry
-    requires { ⌜ kind ≡ place (op (now text)) kindNames ⌝ }
+    requires { ⌜ kind ≡ placeAmong (op (now text)) kindNames ⌝ }
     requires { ⌜ (slot + 5 ≤ 310) × (getD (now kept) (slot + 2) 0 ≤ 65535) × (getD (now kept) (slot + 3) 0 ≤ 65535) ⌝ }
     ensures { λ r. ⌜ ((ks : PriceList) (xs : List (List ℕ)) → PriceAt ks xs (op (now (text .entry))) (now (kept .entry)) slot → (lineOf (line (r .code) (r .operand) (r .cycles) (r .words) (r .extra)) ≡ instructionOf ks xs (pricesOn (now (primitives .entry)) (now (cycles .entry)) (now (words .entry))) (now (text .entry))) × (r .code % 32 ≤ 22)) ⌝ }
 {
@@ -323,15 +322,15 @@ pub fn with_head(
     first: usize,
     count: usize,
     sizes: [u8; 8],
-    blocks: usize,
+    present: usize,
 ) -> [u32; 5131]
-    requires { ⌜ (first ≤ 60000) × (count ≤ 1024) × (blocks ≤ 8) ⌝ }
-    ensures head { λ r. ⌜ (firstOf r ≡ first) × (linesIn r ≡ count) × (sizesOf r ≡ take blocks sizes) × (blocksIn r ≡ blocks) ⌝ }
+    requires { ⌜ (first ≤ 60000) × (count ≤ 1024) × (present ≤ 8) ⌝ }
+    ensures head { λ r. ⌜ (firstOf r ≡ first) × (linesIn r ≡ count) × (sizesOf r ≡ take present sizes) × (blocksIn r ≡ present) ⌝ }
     ensures kept { λ r. ⌜ ((i : ℕ) → 11 ≤ i → getD r i 0 ≡ getD code i 0) ⌝ }
 {
     code[0] = first as u32;
     code[1] = count as u32;
-    code[2] = blocks as u32;
+    code[2] = present as u32;
     let mut k = 0;
     while k < 8 {
         code[k + 3] = sizes[k] as u32;
@@ -364,7 +363,7 @@ pub fn fields_of(values: &[u8], sizes: [u8; 8], count: usize) -> [Cell; 128]
     requires { ⌜ (count ≤ 8) × ((k : ℕ) → getD (take count sizes) k 0 ≤ 16) × (total (take count sizes) ≡ length (list (now values))) ⌝ }
     ensures { λ r. ⌜ blocksOf (take count sizes) r ≡ blocksInLine (take count sizes) (cellsOf (list (now (values .entry)))) ⌝ }
 {
-    let zero = cells::number(0);
+    let zero = cells::exactly(0);
     let mut fields = [zero; 128];
     let mut from = 0;
     let mut k = 0;

@@ -5,7 +5,7 @@ use mathlib.Core.List.{List}
 use lib.IntN.{ℤ}
 use lib.ListN.{length, getD, take}
 use Rattle.text.specs.Text.{Line}
-use Rattle.cells.specs.HeldCodes.{Kept}
+use Rattle.cells.specs.Confined.{Kept}
 use Rattle.machine.specs.Order.{Cellwise}
 use Rattle.machine_state.specs.HeldProgram.{firstOf, sizesOf, linesFrom, programOf, IsProgram}
 use Rattle.machine_state.specs.HeldState.{WellFormed, whole}
@@ -22,7 +22,7 @@ pub record Holds (x : readings.Routine) (held : Routine) : Type 0 where
   pub budget : held .budget ≡ x .budget
   pub tick : held .tick ≡ x .tick
   pub code : programOf (held .code) ≡ x .code
-  pub start : whole (sizesOf (held .code)) (held .fields) (held .start) ≡ x .start
+  pub start : whole (sizesOf (held .code)) (held .blocks) (held .start) ≡ x .start
   pub answered : answers held ≡ x .answers
 
 -- and its parts are within their limits
@@ -33,7 +33,7 @@ pub record Limited (held : Routine) : Type 0 where
   pub placed : held .start .at ≡ firstOf (held .code)
   pub formed : WellFormed (held .start)
   -- the numbers in its start have as many bits as numbers have
-  pub numeric : Cellwise Kept (whole (sizesOf (held .code)) (held .fields) (held .start)) (whole (sizesOf (held .code)) (held .fields) (held .start))
+  pub numeric : Cellwise Kept (whole (sizesOf (held .code)) (held .blocks) (held .start)) (whole (sizesOf (held .code)) (held .blocks) (held .start))
   pub answered : held .answers .count ≤ 64
   pub places : length (held .answers .values) ≡ 64
 

@@ -17,7 +17,7 @@ pub struct Routine {
     pub tick: u64,
     pub code: [u32; 5131],
     pub start: State,
-    pub fields: [Cell; 128],
+    pub blocks: [Cell; 128],
     pub answers: Answers,
 }
 
@@ -40,17 +40,17 @@ pub fn routine_of(text: &[u8]) -> Routine
     let tick = file_parts::natural_at(layout::ticks(), limits, 1) as u64;
     let named = file_names::blocks_named(layout::text_of(text, Role::Names(Section::Fields)));
     let sizes = named.sizes;
-    let blocks = named.count;
-    let fields = file_parts::fields_of(
+    let present = named.count;
+    let blocks = file_parts::fields_of(
         layout::text_of(text, Role::Values(Section::Fields, Column::Cell)),
         sizes,
-        blocks,
+        present,
     );
     let body = layout::body_of(text);
     let first = file_values::first_address(body);
     let count = layout::count_code(body);
     let lines = lines_in(text, body, count);
-    let code = file_parts::with_head(lines, first, count, sizes, blocks);
+    let code = file_parts::with_head(lines, first, count, sizes, present);
     let start = file_parts::start_of(
         layout::text_of(text, Role::Values(Section::Cells, Column::Cell)),
         first,
@@ -61,7 +61,7 @@ pub fn routine_of(text: &[u8]) -> Routine
         tick: tick,
         code: code,
         start: start,
-        fields: fields,
+        blocks: blocks,
         answers: answers,
     }
 }

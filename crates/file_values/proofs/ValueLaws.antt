@@ -16,8 +16,9 @@ use types.Run.{OneOf, miss}
 use denote.Enum.Declared.{tagOf}
 use Rattle.file_format.proofs.CellWord.{the-type}
 use Rattle.text.proofs.TextLaws.{ltb-suc}
-use Rattle.text.specs.Text.{equals, bytes, split, words, Line, noLine}
-use Rattle.text.specs.Decimal.{numeral, most, clamp, clamped}
+use Rattle.text.specs.Text.{equals, bytes, partedBy, lineWords, Line, noLine}
+use Rattle.text.specs.Decimal.{numeral}
+use Rattle.text.specs.HeldMagnitude.{most, clamp, clamped}
 use Rattle.text.specs.declared.Numeral.{Numeral}
 use Rattle.text.specs.declared.Numeral.the-variants.{Misspelt, Number}
 use Rattle.text.proofs.PieceLaws.{first-le}
@@ -25,7 +26,7 @@ use Rattle.text.proofs.ClampLaws.{clamp-le, le-clamp, clamp-small, clamp-natAbs
 use Rattle.numbers.specs.declared.Range.{Range}
 use Rattle.numbers.specs.Numbers.{bits, half, IsNumber, same, within, numbers}
 use Rattle.numbers.proofs.SignedLaws.{number-fits}
-use Rattle.cells.specs.Cells.{number, between, handle}
+use Rattle.cells.specs.Cells.{exactly, between, handle}
 use Rattle.file_format.specs.declared.CellWord.{CellWord}
 use Rattle.file_format.specs.declared.CellWord.the-variants.{Wrong, Unknown, Known, Block, Span}
 use Rattle.file_format.specs.Rows.{isNumeral, value, valueOf, knownOf, blockOf, spanOf, stop, spanned, hashed, cellWord, isCell, handles, spanInRange, cellInRange, isSingle, cellPresent, firstAt}
@@ -160,7 +161,7 @@ pub cell-of-clamped : (c : CellWord) → cellOf (clampedCell c) ≡ cellOf c
 unfolding cellOf clampedCell
 cell-of-clamped Wrong = refl
 cell-of-clamped Unknown = refl
-cell-of-clamped (Known z) = ap number (inside-clamp numbers z near-numbers)
+cell-of-clamped (Known z) = ap exactly (inside-clamp numbers z near-numbers)
 cell-of-clamped (Block k) = ap (λ x. handle (natAbs x)) (inside-clamp handles k near-handles)
 cell-of-clamped (Span lo hi) = ap₂ between (inside-clamp numbers lo near-numbers) (inside-clamp numbers hi near-numbers)
 
@@ -314,7 +315,7 @@ module _ (r : Range) (n : NaturalRange r) where
   natural-held z = rw (n .is) (natural-inside (n .least) (n .greatest) z)
 
 -- the first address stands at the start of the first code line
-pub first-spelt : (ls : List Line) → value (getD (words (getD ls 0 noLine .text)) 0 []) ≡ firstAt ls
-unfolding firstAt words split value valueOf numeral
+pub first-spelt : (ls : List Line) → value (getD (lineWords (getD ls 0 noLine .text)) 0 []) ≡ firstAt ls
+unfolding firstAt lineWords partedBy value valueOf numeral
 first-spelt [] = refl
 first-spelt (l ∷ ls) = refl

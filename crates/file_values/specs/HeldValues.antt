@@ -2,9 +2,9 @@
 use Prim.Native.Nat.{ℕ, _<_, _≤_}
 use mathlib.Core.Path.{_≡_}
 use lib.Signed.{mag}
-use Rattle.text.specs.Decimal.{most, clamp}
+use Rattle.text.specs.HeldMagnitude.{most, clamp}
 use Rattle.numbers.specs.declared.Range.{Range}
-use Rattle.numbers.specs.Numbers.{range}
+use Rattle.numbers.specs.Numbers.{naturals}
 use Rattle.file_format.specs.declared.CellWord.{CellWord}
 use Rattle.file_format.specs.declared.CellWord.the-variants.{Wrong, Unknown, Known, Block, Span}
 
@@ -17,7 +17,7 @@ pub record Near (r : Range) : Type 0 where
 pub record NaturalRange (r : Range) : Type 0 where
   pub least : ℕ
   pub greatest : ℕ
-  pub is : r ≡ range least greatest
+  pub is : r ≡ naturals least greatest
   pub small : (least ≤ 4294967295) × (greatest ≤ 4294967295)
 
 -- a cell word with its numbers clamped

@@ -10,9 +10,10 @@ ghost use lib.Dec.{ltb};
 ghost use lib.IntN.{natAbs};
 ghost use lib.Signed.{mag, ltZ};
 ghost use Rattle.text.specs.Text.{lines};
-ghost use Rattle.text.specs.Decimal.{numeral, most, clamp};
-ghost use Rattle.numbers.specs.Numbers.{range, within, numbers};
-ghost use Rattle.cells.specs.Cells.{number, between, handle};
+ghost use Rattle.text.specs.Decimal.{numeral};
+ghost use Rattle.text.specs.HeldMagnitude.{most, clamp};
+ghost use Rattle.numbers.specs.Numbers.{naturals, within, numbers};
+ghost use Rattle.cells.specs.Cells.{exactly, between, handle};
 ghost use Rattle.file_format.specs.Rows.{isNumeral, value, knownOf, blockOf, spanOf, spanned, cellWord, isCell, handles, spanInRange, cellInRange, isSingle, cellPresent};
 ghost use Rattle.file_format.specs.Routine.{inside, naturalIn, firstAddress, cellOf};
 ghost use Rattle.file_values.specs.HeldValues.{Near, NaturalRange, clampedCell};
@@ -80,7 +81,7 @@ pub fn natural_of(range: Range, w: &[u8]) -> u32
 
 // The same, by the ends of the range.
 pub fn natural_in(low: u32, high: u32, w: &[u8]) -> u32
-    ensures { λ r. ⌜ r ≡ naturalIn (range low high) (now (w .entry)) ⌝ }
+    ensures { λ r. ⌜ r ≡ naturalIn (naturals low high) (now (w .entry)) ⌝ }
 {
     natural_of(
         Range {
@@ -238,10 +239,10 @@ pub fn cell_present(n: usize, w: &[u8]) -> bool
 }
 
 fn number_cell(z: i64) -> Cell
-    ensures { λ r. ⌜ r ≡ number (inside numbers z) ⌝ }
+    ensures { λ r. ⌜ r ≡ exactly (inside numbers z) ⌝ }
 {
     let n = inside(numbers::number_range(), z);
-    cells::number(n as i32)
+    cells::exactly(n as i32)
 }
 
 fn span_cell(lo: i64, hi: i64) -> Cell
@@ -264,7 +265,7 @@ pub fn cell_of(w: &[u8]) -> Cell
     ensures { λ r. ⌜ r ≡ cellOf (cellWord (now (w .entry))) ⌝ }
 {
     match cell_word(w) {
-        CellWord::Wrong => cells::number(0),
+        CellWord::Wrong => cells::exactly(0),
         CellWord::Unknown => cells::unknown(),
         CellWord::Known(z) => number_cell(z),
         CellWord::Block(k) => handle_cell(k),

@@ -19,12 +19,12 @@ use Rattle.text.specs.Decimal.{decimal}
 use Rattle.numbers.specs.declared.Range.{Range}
 use Rattle.numbers.specs.Numbers.{numbers}
 use Rattle.numbers.proofs.SignedLaws.{number-fits}
-use Rattle.instructions.specs.HeldColumns.{kindAt}
+use Rattle.instructions.specs.Kinds.{kindAt}
 use Rattle.instructions.specs.declared.Argument.{Argument}
 use Rattle.instructions.specs.declared.Argument.the-variants.{Absent, Target, Primitive, Within}
 use Rattle.words.specs.Lines.{integer}
 use Rattle.words_import.proofs.IntegerLaws.{integer-length}
-use Rattle.text.specs.Text.{split, words, all}
+use Rattle.text.specs.Text.{partedBy, lineWords, all}
 use Rattle.text.proofs.TextLaws.{every-getD, all-every}
 use Rattle.text.proofs.DecimalLaws.{decimal-length}
 use Rattle.generate_file.specs.Held.{sound}
@@ -187,8 +187,8 @@ argument-short n k d h (Within r) s = let l = integer-length (numberIn r d) (num
 pub kind-short : (n k d kind : ℕ) → n < 200 → length (argument n k d (kindAt kind .argument)) ≤ 12
 kind-short n k d kind h = argument-short n k d h (kindAt kind .argument) (kind-sound kind)
 
-pub listed-primitives : words (bytes "READ WRITE CLOCK NOISE") ≡ primitives
-unfolding words split
+pub listed-primitives : lineWords (bytes "READ WRITE CLOCK NOISE") ≡ primitives
+unfolding lineWords partedBy
 listed-primitives = refl
 
 module _ {a : Argument} (n k d : ℕ) where
@@ -200,7 +200,7 @@ module _ {a : Argument} (n k d : ℕ) where
   unfolding argument
   argument-target e f = rw (e, ← f) refl
 
-  pub argument-primitive : a ≡ Primitive → {w : List ℕ} → w ≡ getD (words (bytes "READ WRITE CLOCK NOISE")) (d % 4) [] → argument n k d a ≡ w
+  pub argument-primitive : a ≡ Primitive → {w : List ℕ} → w ≡ getD (lineWords (bytes "READ WRITE CLOCK NOISE")) (d % 4) [] → argument n k d a ≡ w
   unfolding argument
   argument-primitive e f = rw e (sym (f ∙ ap (λ ws. getD ws (d % 4) []) listed-primitives))
 
@@ -208,7 +208,7 @@ module _ {a : Argument} (n k d : ℕ) where
   unfolding argument
   argument-within r e = rw e refl
 
-pub primitive-room : (i : ℕ) {w : List ℕ} → w ≡ getD (words (bytes "READ WRITE CLOCK NOISE")) i [] → length w ≤ 12
+pub primitive-room : (i : ℕ) {w : List ℕ} → w ≡ getD (lineWords (bytes "READ WRITE CLOCK NOISE")) i [] → length w ≤ 12
 primitive-room i e = rw (e ∙ ap (λ ws. getD ws i []) listed-primitives) (primitive-short i)
 
 pub within-sound : (k : ℕ) (r : Range) {a : Argument} → a ≡ kindAt k .argument → a ≡ Within r → sound r ≡ true

@@ -11,8 +11,7 @@ use borrow.Author.Tests.{ltb-true}
 use Rattle.text.specs.Memory.{over}
 use Rattle.text.proofs.MemoryLaws.{Wrote, wrote-none, wrote-more}
 use Rattle.instructions.specs.declared.Argument.the-variants.{Target}
-use Rattle.instructions.specs.Kinds.{kinds}
-use Rattle.instructions.specs.HeldColumns.{kindAt}
+use Rattle.instructions.specs.Kinds.{kinds, kindAt}
 use Rattle.generate_file.specs.declared.Column.{Column}
 use Rattle.generate_file.specs.Draws.{next, after}
 use Rattle.generate_file.specs.Words.{word, break, goesOn, rowFrom}

@@ -12,7 +12,7 @@ ghost use lib.Dec.{ltb};
 ghost use lib.ListN.{length, drop};
 ghost use Rattle.text.specs.Memory.{over};
 ghost use Rattle.text.specs.Decimal.{decimal};
-ghost use Rattle.instructions.specs.HeldColumns.{kindAt};
+ghost use Rattle.instructions.specs.Kinds.{kindAt};
 ghost use Rattle.instructions.specs.declared.Argument.the-variants.{Target};
 ghost use Rattle.answers.specs.Answers.{memory, answerOf};
 ghost use Rattle.generate_file.specs.declared.Column.the-variants.{Limits, Extras};

@@ -9,7 +9,7 @@ use lib.Dec.{eqb, ltb}
 use lib.IntN.{pos, _+ℤ_}
 use lib.ListN.{length, length-append, getD}
 use borrow.Author.Tests.{le-leb, lt-ltb, ltb-true, eq-eqb}
-use Rattle.text.specs.Text.{bytes, isEmpty, equals, split, words, Line, place, find, among, all}
+use Rattle.text.specs.Text.{bytes, isEmpty, equals, partedBy, lineWords, Line, placeAmong, find, among, all}
 use Rattle.text.specs.declared.Place.the-variants.{At}
 use Rattle.text.specs.Decimal.{numeral, decimal}
 use Rattle.text.proofs.TextLaws.{none, more, every-append, among-at, among-find, equals-path}
@@ -17,8 +17,7 @@ use Rattle.text.proofs.DecimalLaws.{decimal-length}
 use Rattle.text.proofs.LineLaws.{endedLine}
 use Rattle.numbers.specs.Numbers.{within, same}
 use Rattle.numbers.proofs.SignedLaws.{number-fits}
-use Rattle.instructions.specs.Kinds.{kinds, kindNames}
-use Rattle.instructions.specs.HeldColumns.{kindAt}
+use Rattle.instructions.specs.Kinds.{kinds, kindNames, kindAt}
 use Rattle.instructions.specs.declared.Argument.{Argument}
 use Rattle.instructions.specs.declared.Argument.the-variants.{Absent, Target, Primitive, Within}
 use Rattle.instructions.proofs.ColumnLaws.{column-at, names-count}
@@ -60,7 +59,7 @@ name-at k h = column-at (λ r. r .name) (λ w. w) (λ r. r .name) [] refl k h
 pub name-among : (k : ℕ) → k < 61 → among (kindAt k .name) kindNames ≡ true
 name-among k h = subst (λ w. among w kindNames ≡ true) (name-at k h) (among-at kindNames k (rw names-count h))
 
-pub name-place : (k : ℕ) → k < 61 → place (kindAt k .name) kindNames ≡ At k
+pub name-place : (k : ℕ) → k < 61 → placeAmong (kindAt k .name) kindNames ≡ At k
 name-place k h =
     let w = kindAt k .name in
     let f = among-find w kindNames (name-among k h) .0 in
@@ -198,25 +197,25 @@ code-short seed k h =
     simp length-append (omega arith)
 
 -- its three words
-line-words : (a b c : List ℕ) → Free 32 a → Free 32 b → Free 32 c → words (a ++ bytes " " ++ b ++ bytes " " ++ c) ≡ a ∷ b ∷ c ∷ []
-unfolding words
+line-words : (a b c : List ℕ) → Free 32 a → Free 32 b → Free 32 c → lineWords (a ++ bytes " " ++ b ++ bytes " " ++ c) ≡ a ∷ b ∷ c ∷ []
+unfolding lineWords
 line-words a b c p q r =
     let e : a ++ bytes " " ++ b ++ bytes " " ++ c ≡ a ++ 32 ∷ (b ++ 32 ∷ c) = simp append-assoc in
-    ap (split 32) e ∙ split-first 32 (b ++ 32 ∷ c) p ∙ ap (λ ws. a ∷ ws) (split-first 32 c q ∙ ap (λ ws. b ∷ ws) (split-alone 32 r))
+    ap (partedBy 32) e ∙ split-first 32 (b ++ 32 ∷ c) p ∙ ap (λ ws. a ∷ ws) (split-first 32 c q ∙ ap (λ ws. b ∷ ws) (split-alone 32 r))
 
-pub code-words : (seed k : ℕ) → words (codeText seed k) ≡ decimal k ∷ kindAt (kindOf seed k) .name ∷ argumentOn seed k ∷ []
+pub code-words : (seed k : ℕ) → lineWords (codeText seed k) ≡ decimal k ∷ kindAt (kindOf seed k) .name ∷ argumentOn seed k ∷ []
 code-words seed k =
     line-words (decimal k) (kindAt (kindOf seed k) .name) (argumentOn seed k) (decimal-free 32 (omega arith) k) (plain-name (kindOf seed k) .spaceless)
     (line-argued seed k (after (2 + count seed + k) seed) .plain .spaceless)
 
 -- it is not ANSWER, which is one word
 pub code-no-answer : (seed k : ℕ) → isAnswer (endedLine (codeText seed k)) ≡ false
-unfolding isAnswer words split
+unfolding isAnswer lineWords partedBy
 code-no-answer seed k = go (equals (codeText seed k) (bytes "ANSWER")) refl
   where
     go : (b : Bool) → equals (codeText seed k) (bytes "ANSWER") ≡ b → b ≡ false
     go true e =
-        let p = sym (code-words seed k) ∙ ap words (equals-path (codeText seed k) (bytes "ANSWER") e) in
+        let p = sym (code-words seed k) ∙ ap lineWords (equals-path (codeText seed k) (bytes "ANSWER") e) in
         let l : _≡_ {A = ℕ} 3 1 = ap length p in
         absurd (omega arith)
     go false e = refl
@@ -245,7 +244,7 @@ module _ (seed k : ℕ) (few : k < 200) (ls : List Line) (f : Listing ls (count 
 
   on-kind : (t : Argument → Bool) → onArgument t (codeText seed k) ≡ t (kindAt (kindOf seed k) .argument)
   unfolding onArgument argumentOf
-  on-kind t = ap (λ o. argumentOf t (place o kindNames)) op-is ∙ ap (argumentOf t) (name-place (kindOf seed k) (kind-below seed k))
+  on-kind t = ap (λ o. argumentOf t (placeAmong o kindNames)) op-is ∙ ap (argumentOf t) (name-place (kindOf seed k) (kind-below seed k))
 
   on-argument : (t : List ℕ → Argument → Bool) → t (argumentOn seed k) (kindAt (kindOf seed k) .argument) ≡ true → onArgument (t (arg (codeText seed k))) (codeText seed k) ≡ true
   on-argument t e = on-kind (t (arg (codeText seed k))) ∙ ap (λ v. t v (kindAt (kindOf seed k) .argument)) arg-is ∙ e
@@ -253,8 +252,8 @@ module _ (seed k : ℕ) (few : k < 200) (ls : List Line) (f : Listing ls (count 
   pub code-laid-out : test layout-row ls (code k) (endedLine (codeText seed k)) ≡ true
   unfolding test laidOut codeLaidOut
   code-laid-out =
-      let p : all (λ v. not (isEmpty v)) (words (codeText seed k)) ≡ true = ap (all (λ v. not (isEmpty v))) (code-words seed k) ∙ filled-words in
-      let q : eqb (length (words (codeText seed k))) 3 ≡ true = ap (λ ws. eqb (length ws) 3) (code-words seed k) in
+      let p : all (λ v. not (isEmpty v)) (lineWords (codeText seed k)) ≡ true = ap (all (λ v. not (isEmpty v))) (code-words seed k) ∙ filled-words in
+      let q : eqb (length (lineWords (codeText seed k))) 3 ≡ true = ap (λ ws. eqb (length ws) 3) (code-words seed k) in
       let r : isNumeral (numeral (at (codeText seed k))) ≡ true = ap (λ v. isNumeral (numeral v)) at-is ∙ numeral-decimal k in
       rw (p, lt-ltb k 1024 (omega arith), q, r) (on-argument argumentLaidOut (of-argument .laid))
     where

@@ -4,8 +4,7 @@ use mathlib.Core.List.{[], _∷_}
 use Rattle.generate_file.specs.Draws.{next, after}
 use Rattle.text.specs.Text.{bytes}
 use Rattle.text.specs.Decimal.{decimal, digits}
-use Rattle.instructions.specs.Kinds.{kinds}
-use Rattle.instructions.specs.HeldColumns.{kindAt}
+use Rattle.instructions.specs.Kinds.{kinds, kindAt}
 use Rattle.words.specs.Lines.{integer}
 use Rattle.generate_file.specs.Words.{below, numberIn, amount, word, rowFrom}
 use Rattle.generate_file.specs.File.{count, kindOf, target, argument, lineOf, codeLine, codeFrom, primitivePrices}

@@ -9,7 +9,7 @@ use borrow.Author.Tests.{eq-eqb, leb-true, not-true}
 use lib.IntN.{pos}
 use lib.ListN.{length, length-append, getD}
 use Rattle.text.specs.Text as texts
-use Rattle.text.specs.Text.{bytes, isEmpty, equals, split, words, Line, lines, among, all, distinct}
+use Rattle.text.specs.Text.{bytes, isEmpty, equals, partedBy, lineWords, Line, lines, among, all, distinct}
 use Rattle.text.specs.Decimal as decimals
 use Rattle.text.proofs.TextLaws.{Every, none, more, every-map, every-append, all-every, and-left, and-right}
 use Rattle.text.proofs.LineLaws.{endedLine}
@@ -119,10 +119,10 @@ body-covered t seed f m h = passed (f 0 (omega arith)) (codes-covered t seed f 1
 -- ---- lines of values
 
 module _ {ws : List (List ℕ)} (plain : Every Plain ws) (some : 2 ≤ length ws) where
-  many-words : words (spaced ws) ≡ ws
+  many-words : lineWords (spaced ws) ≡ ws
   many-words = go some (every-map (λ w p. p .spaceless) plain)
     where
-      go : {vs : List (List ℕ)} → 2 ≤ length vs → Every (Free 32) vs → words (spaced vs) ≡ vs
+      go : {vs : List (List ℕ)} → 2 ≤ length vs → Every (Free 32) vs → lineWords (spaced vs) ≡ vs
       go h none = absurd (omega arith)
       go h (more p ps) = words-spaced (more p ps)
 
@@ -209,7 +209,7 @@ fields-list : list (spaced fieldWords) ≡ fieldWords
 fields-list = many-list fields-plain-names (omega (arith, fields-names-count))
 
 limits-count : length (list (bytes "BUDGET TICK")) ≡ 2
-unfolding list words split equals
+unfolding list lineWords partedBy equals
 limits-count = refl
 
 blocks-count : length (blockSizes (list (spaced fieldWords))) ≡ 2
@@ -230,11 +230,11 @@ primitives-well-named = refl
 
 module _ (ls : List Line) where
   limits-names : test rows-of.Layout ls (roles-of.Names sections.Limits) (endedLine (bytes "BUDGET TICK")) ≡ true
-  unfolding test laidOut rows.namesLaidOut equals words split all list
+  unfolding test laidOut rows.namesLaidOut equals lineWords partedBy all list
   limits-names = refl
 
   code-names : test rows-of.Layout ls (roles-of.Names sections.Instructions) (endedLine (bytes "AT OP ARG")) ≡ true
-  unfolding test laidOut rows.namesLaidOut equals words split all list
+  unfolding test laidOut rows.namesLaidOut equals lineWords partedBy all list
   code-names = refl
 
   names-laid : (s : Section) {ws : List (List ℕ)} → Every Plain ws → 2 ≤ length ws → rows.namesLaidOut s (spaced ws) ≡ true → test rows-of.Layout ls (roles-of.Names s) (endedLine (spaced ws)) ≡ true

@@ -12,8 +12,7 @@ use Rattle.text.specs.Text.{all}
 use Rattle.text.proofs.TextLaws.{every-getD, all-every, and-left, and-right}
 use Rattle.numbers.specs.declared.Range.{Range}
 use Rattle.numbers.specs.Numbers.{bits, half, IsNumber, within, numbers}
-use Rattle.instructions.specs.Kinds.{Kind, kinds}
-use Rattle.instructions.specs.HeldColumns.{kindAt}
+use Rattle.instructions.specs.Kinds.{Kind, kinds, kindAt}
 use Rattle.instructions.specs.declared.Argument.{Argument}
 use Rattle.instructions.specs.declared.Argument.the-variants.{Absent, Target, Primitive, Within}
 use Rattle.words_inverse.proofs.LineLaws.{argument-number}

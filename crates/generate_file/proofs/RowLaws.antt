@@ -9,14 +9,13 @@ use lib.Dec.{eqb}
 use lib.IntN.{ℤ, pos}
 use lib.ListN.{length, getD, take, drop}
 use borrow.Author.Tests.{eqb-true, le-leb, lt-ltb}
-use Rattle.text.specs.Text.{bytes, isEmpty, equals, split, words, among, all}
+use Rattle.text.specs.Text.{bytes, isEmpty, equals, partedBy, lineWords, among, all}
 use Rattle.text.specs.declared.Numeral.the-variants.{Misspelt as misspelt, Number as number}
 use Rattle.text.specs.Decimal.{digitsFrom, natural, numeral, decimal}
 use Rattle.text.proofs.TextLaws.{Every, none, more, every-map, every-append, equals-path}
 use Rattle.text.proofs.DecimalLaws.{decimal-read}
-use Rattle.numbers.specs.Numbers.{range, within, numbers}
-use Rattle.instructions.specs.Kinds.{kinds, kindNames}
-use Rattle.instructions.specs.HeldColumns.{kindAt}
+use Rattle.numbers.specs.Numbers.{naturals, within, numbers}
+use Rattle.instructions.specs.Kinds.{kinds, kindNames, kindAt}
 use Rattle.words.specs.Lines.{integer}
 use Rattle.file_format.specs.declared.CellWord.the-variants.{Unknown as unknown, Known as known, Block as block}
 use Rattle.file_format.specs.declared.Column.the-variants.{Limit as limit, Cycles as cycles, Words as words-column, Extra as extra, Cell as cell}
@@ -40,19 +39,19 @@ spaced-free c h none = none
 spaced-free c h (more p none) = p
 spaced-free c h (more p (more q qs)) = every-append p (more h (spaced-free c h (more q qs)))
 
-pub words-spaced : {w : List ℕ} {ws : List (List ℕ)} → Every (Free 32) (w ∷ ws) → words (spaced (w ∷ ws)) ≡ w ∷ ws
-unfolding words spaced
+pub words-spaced : {w : List ℕ} {ws : List (List ℕ)} → Every (Free 32) (w ∷ ws) → lineWords (spaced (w ∷ ws)) ≡ w ∷ ws
+unfolding lineWords spaced
 words-spaced (more p none) = split-alone 32 p
 words-spaced (more {x = w} p (more {x = v} {xs = vs} q qs)) = split-first 32 (spaced (v ∷ vs)) p ∙ ap (λ us. w ∷ us) (words-spaced (more q qs))
 
 -- two words or more are no `-`
 pub list-spaced : {w v : List ℕ} {ws : List (List ℕ)} → Every (Free 32) (w ∷ v ∷ ws) → list (spaced (w ∷ v ∷ ws)) ≡ w ∷ v ∷ ws
-unfolding list words split
+unfolding list lineWords partedBy
 list-spaced {w} {v} {ws} h = go (equals (spaced (w ∷ v ∷ ws)) (bytes "-")) refl
   where
-    go : (b : Bool) → equals (spaced (w ∷ v ∷ ws)) (bytes "-") ≡ b → cond b [] (words (spaced (w ∷ v ∷ ws))) ≡ w ∷ v ∷ ws
+    go : (b : Bool) → equals (spaced (w ∷ v ∷ ws)) (bytes "-") ≡ b → cond b [] (lineWords (spaced (w ∷ v ∷ ws))) ≡ w ∷ v ∷ ws
     go true e =
-        let p : w ∷ v ∷ ws ≡ bytes "-" ∷ [] = sym (words-spaced h) ∙ ap words (equals-path (spaced (w ∷ v ∷ ws)) (bytes "-") e) in
+        let p : w ∷ v ∷ ws ≡ bytes "-" ∷ [] = sym (words-spaced h) ∙ ap lineWords (equals-path (spaced (w ∷ v ∷ ws)) (bytes "-") e) in
         let l : suc (suc (length ws)) ≡ 1 = ap length p in
         absurd (omega arith)
     go false e = words-spaced h
@@ -67,7 +66,7 @@ words-filled h = every-all (every-map (λ w p. ap not (p .filled)) h)
 
 -- ---- numbers
 
-pub within-natural : (low high m : ℕ) → low ≤ m → m ≤ high → within (range low high) (pos m) ≡ true
+pub within-natural : (low high m : ℕ) → low ≤ m → m ≤ high → within (naturals low high) (pos m) ≡ true
 within-natural low high m h k = rw (le-leb low m h, le-leb m high k) refl
 
 pub value-decimal : (n : ℕ) → value (decimal n) ≡ pos n
@@ -82,7 +81,7 @@ pub numeral-decimal : (n : ℕ) → isNumeral (numeral (decimal n)) ≡ true
 unfolding isNumeral
 numeral-decimal n = ap isNumeral (decimal-read n)
 
-decimal-within : (low high m : ℕ) → low ≤ m → m ≤ high → within (range low high) (value (decimal m)) ≡ true
+decimal-within : (low high m : ℕ) → low ≤ m → m ≤ high → within (naturals low high) (value (decimal m)) ≡ true
 decimal-within low high m h k = rw (value-decimal m) (within-natural low high m h k)
 
 pub limits-laid : (n i s : ℕ) → columnLaidOut limit (rowWords Limits n i s) ≡ true

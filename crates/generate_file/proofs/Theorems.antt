@@ -11,7 +11,7 @@ use Rattle.file_format.specs.declared.RefusedLine.{RefusedLine}
 use Rattle.file_format.specs.declared.RefusedLine.the-variants.{Nowhere as nowhere, Line as line}
 use Rattle.file_format.specs.declared.Row.the-variants.{Known as known-row}
 use Rattle.file_format.specs.Rows.{refusedLine, Passes}
-use Rattle.file_format.specs.Routine.{refused, routine, routineOf, orElse, checked, textLimit, limited, readRun}
+use Rattle.file_format.specs.Routine.{unread, routine, routineOf, orElse, checked, textLimit, limited, readRun}
 use Rattle.file_format.proofs.RowLaws.{passes-read}
 use Rattle.generate_file.specs.File.{file}
 use Rattle.generate_file.specs.Promises.{FilePasses, FileRuns, FileFits}
@@ -32,6 +32,6 @@ pub file-runs : FileRuns
 unfolding orElse
 file-runs seed = go (refusedLine known-row (lines (file seed))) (run-reads (file seed) (file-passes seed) (file-short seed))
   where
-    go : (r : RefusedLine) → readRun (file seed) ≡ orElse r UnknownCell (routine (routineOf (lines (file seed)))) → (readRun (file seed) ≡ routine (routineOf (lines (file seed)))) ⊎ ((k : ℕ) × (readRun (file seed) ≡ refused (UnknownCell k)))
+    go : (r : RefusedLine) → readRun (file seed) ≡ orElse r UnknownCell (routine (routineOf (lines (file seed)))) → (readRun (file seed) ≡ routine (routineOf (lines (file seed)))) ⊎ ((k : ℕ) × (readRun (file seed) ≡ unread (UnknownCell k)))
     go nowhere e = inl e
     go (line k) e = inr (k, e)

@@ -15,8 +15,7 @@ use Rattle.text.proofs.TextLaws.{Every, none, more, every-append, every-getD, a
 use Rattle.text.proofs.DecimalLaws.{decimal-length, decimal-read}
 use Rattle.numbers.specs.Numbers.{numbers}
 use Rattle.numbers.proofs.SignedLaws.{number-fits}
-use Rattle.instructions.specs.Kinds.{Kind, kinds}
-use Rattle.instructions.specs.HeldColumns.{kindAt}
+use Rattle.instructions.specs.Kinds.{Kind, kinds, kindAt}
 use Rattle.words.specs.Lines.{integer}
 use Rattle.words_import.proofs.IntegerLaws.{integer-length}
 use Rattle.words_inverse.proofs.SpellingLaws.{integer-read}

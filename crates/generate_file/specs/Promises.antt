@@ -5,7 +5,7 @@ use mathlib.Core.Logic.{_⊎_}
 use lib.ListN.{length}
 use Rattle.refusals.specs.declared.Refusal.the-variants.{UnknownCell}
 use Rattle.text.specs.Text.{lines}
-use Rattle.file_format.specs.Routine.{refused, routine, routineOf, textLimit, readBound, readRun}
+use Rattle.file_format.specs.Routine.{unread, routine, routineOf, textLimit, readBound, readRun}
 use Rattle.generate_file.specs.File.{file}
 
 -- "no file made is refused by 1 to 6 or 13": it is read as a routine, whatever the seed
@@ -14,7 +14,7 @@ FilePasses = (seed : ℕ) → readBound (file seed) ≡ routine (routineOf (line
 
 -- the run reads it too, or refuses it by 11, where it has a `?`, and by nothing else
 abbrev pub FileRuns : Type 0
-FileRuns = (seed : ℕ) → (readRun (file seed) ≡ routine (routineOf (lines (file seed)))) ⊎ ((k : ℕ) × (readRun (file seed) ≡ refused (UnknownCell k)))
+FileRuns = (seed : ℕ) → (readRun (file seed) ≡ routine (routineOf (lines (file seed)))) ⊎ ((k : ℕ) × (readRun (file seed) ≡ unread (UnknownCell k)))
 
 -- so it is no longer than a file may be
 abbrev pub FileFits : Type 0

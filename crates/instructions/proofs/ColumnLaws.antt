@@ -12,14 +12,14 @@ use lib.IntN.{ℤ, pos}
 use lib.ListN.{length, getD, List·getD-map}
 use mir.Syntax.{Width}
 use mir.Val.{ofZ, toZ}
-use Rattle.text.specs.Text.{place, find}
+use Rattle.text.specs.Text.{placeAmong, find}
 use Rattle.text.specs.declared.Place.the-variants.{At}
 use Rattle.text.proofs.TextLaws.{place-below, find-below}
 use Rattle.numbers.specs.declared.Range.{Range}
 use Rattle.instructions.specs.declared.Argument.{Argument}
 use Rattle.instructions.specs.declared.Argument.the-variants.{Absent, Target, Primitive, Within}
-use Rattle.instructions.specs.Kinds.{addresses, Kind, kinds, kindNames}
-use Rattle.instructions.specs.HeldColumns.{kindAt, argumentCode, rangeOf}
+use Rattle.instructions.specs.Kinds.{addresses, Kind, kinds, kindNames, kindAt}
+use Rattle.instructions.specs.HeldColumns.{argumentCode, rangeOf}
 
 -- within a list the default does not matter
 pub getD-any : {A : Type 0} (l : List A) (k : ℕ) (d e : A) → k < length l → getD l k d ≡ getD l k e
@@ -38,7 +38,7 @@ column-at h g f d e k l =
 
 -- the place of a kind's name, as it is found and as an index
 
-pub kind-below : (w : List ℕ) {k : ℕ} → place w kindNames ≡ At k → k < 61
+pub kind-below : (w : List ℕ) {k : ℕ} → placeAmong w kindNames ≡ At k → k < 61
 kind-below w e = rw names-count at (place-below 0 w kindNames e)
 
 pub kind-small : (w : List ℕ) → find w kindNames < 61

@@ -12,12 +12,12 @@ use lib.ListN.{length, getD, take, drop, set, replicate}
 use mir.Syntax.{w64}
 use mir.Val.{Fits}
 use borrow.Author.Tests.{eqb-true, ltb-true, leb-true}
-use Rattle.text.specs.Text.{equals, place, find, among, all}
+use Rattle.text.specs.Text.{equals, placeAmong, find, among, all}
 use Rattle.text.specs.declared.Place.{Place}
 use Rattle.text.specs.declared.Place.the-variants.{At, Missing}
 use Rattle.text.proofs.TextLaws.{and-left, and-right, every-getD, every-map, all-every, among-every, among-at, isFound, among-place, equals-path, equals-self, among-find}
-use Rattle.instructions.specs.Kinds.{kinds, kindNames}
-use Rattle.instructions.specs.HeldColumns.{kindAt, nameStart, nameKey, Keyed, Joined}
+use Rattle.instructions.specs.Kinds.{kinds, kindNames, kindAt}
+use Rattle.instructions.specs.HeldColumns.{nameStart, nameKey, Keyed, Joined}
 use Rattle.instructions.proofs.ColumnLaws.{names-count, column-at, kind-small}
 
 -- a test that passes at each number below n
@@ -67,10 +67,10 @@ name-length w h =
     (leb-true 2 (length w) (and-left (leb 2 (length w)) (leb (length w) 12) e), leb-true (length w) 12 (and-right (leb 2 (length w)) (leb (length w) 12) e))
 
 -- what is not among the names has no place there
-pub not-named : (w : List ℕ) → (among w kindNames ≡ true → ⊥) → place w kindNames ≡ Missing
-not-named w h = go (place w kindNames) refl
+pub not-named : (w : List ℕ) → (among w kindNames ≡ true → ⊥) → placeAmong w kindNames ≡ Missing
+not-named w h = go (placeAmong w kindNames) refl
   where
-    go : (p : Place) → place w kindNames ≡ p → place w kindNames ≡ Missing
+    go : (p : Place) → placeAmong w kindNames ≡ p → placeAmong w kindNames ≡ Missing
     go (At k) e = absurd (h (among-place 0 w kindNames ∙ ap isFound e))
     go Missing e = e
 
@@ -84,13 +84,13 @@ module _ (w : List ℕ) (k : ℕ) (low : k < 61) (only : (j : ℕ) → j < 61 �
   found : among w kindNames ≡ true → k ≡ find w kindNames
   found a = only (find w kindNames) (kind-small w) (sym (among-find w kindNames a .1) ∙ name-at (find w kindNames) (kind-small w))
 
-  pub is-named : equals w (kindAt k .name) ≡ true → place w kindNames ≡ At k
+  pub is-named : equals w (kindAt k .name) ≡ true → placeAmong w kindNames ≡ At k
   is-named e =
       let q = equals-path w (kindAt k .name) e in
       let a = subst (λ x. among x kindNames ≡ true) (name-at k low ∙ sym q) (among-at kindNames k (rw names-count low)) in
       among-find w kindNames a .0 ∙ ap At (sym (found a))
 
-  pub is-unnamed : equals w (kindAt k .name) ≡ false → place w kindNames ≡ Missing
+  pub is-unnamed : equals w (kindAt k .name) ≡ false → placeAmong w kindNames ≡ Missing
   is-unnamed e =
       not-named w
       (λ a.

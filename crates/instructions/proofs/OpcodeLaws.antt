@@ -11,8 +11,7 @@ use lib.ListN.{length, getD, List·getD-map}
 use borrow.Author.Tests.{eqb-true, ltb-true}
 use Rattle.text.specs.declared.Place.{Place}
 use Rattle.text.specs.declared.Place.the-variants.{At as at, Missing as missing}
-use Rattle.instructions.specs.Kinds.{kinds, opcodes}
-use Rattle.instructions.specs.HeldColumns.{kindAt}
+use Rattle.instructions.specs.Kinds.{kinds, opcodes, kindAt}
 use Rattle.instructions.specs.Opcodes.{placeFrom, kindCoded, codedPlace, ByOpcode}
 use Rattle.instructions.proofs.ColumnLaws.{column-at, natural-at}
 

@@ -4,7 +4,7 @@ use mathlib.Core.Path.{_≡_}
 use mathlib.Core.List.{List, [], _∷_}
 use lib.ListN.{length, getD, take, drop}
 use Rattle.numbers.specs.declared.Range.{Range}
-use Rattle.numbers.specs.Numbers.{range}
+use Rattle.numbers.specs.Numbers.{naturals}
 use Rattle.numbers.specs.declared.Comparison.{Comparison}
 use Rattle.numbers.specs.declared.Comparison.the-variants.{Equal, Unequal, Less, AtMost, Greater, AtLeast}
 use Rattle.cells.specs.declared.Unary.{Unary}
@@ -15,11 +15,8 @@ use Rattle.instructions.specs.declared.Argument.{Argument}
 use Rattle.instructions.specs.declared.Argument.the-variants.{Absent, Target, Primitive, Within}
 use Rattle.instructions.specs.declared.Operation.{Operation}
 use Rattle.instructions.specs.declared.Operation.the-variants.{Nothing, Access, Drop, Assign, Constant, GetField, SetField, Branch, BranchIf, BranchIfNot, Call, Stop, Alter, Combine}
-use Rattle.instructions.specs.Kinds.{addresses, Kind, kind, kinds, kindNames, stays}
-
--- the kind at a place of the table, counted from 0; past its end, the last
-unfoldable pub kindAt : ℕ → Kind
-kindAt k = getD kinds k (kind 143 "STOP" Absent stays Stop 0)
+use Rattle.instructions.specs.Kinds.{addresses, kindNames}
+use Rattle.instructions.specs.Kinds.{kindAt}
 
 -- where each of the given words begins in a text of them, parted by single spaces, from s on; at the end, where one more would
 abbrev pub startsFrom : ℕ → List (List ℕ) → List ℕ
@@ -57,10 +54,10 @@ argumentCode Primitive = 3
 
 -- the range of the number or the target that a kind takes; 0 to 0 where it takes neither
 unfoldable pub rangeOf : Argument → Range
-rangeOf Absent = range 0 0
+rangeOf Absent = naturals 0 0
 rangeOf (Within r) = r
 rangeOf Target = addresses
-rangeOf Primitive = range 0 0
+rangeOf Primitive = naturals 0 0
 
 -- the code of each comparison
 unfoldable pub comparisonCode : Comparison → ℕ

@@ -5,7 +5,7 @@ use mathlib.Core.Bool.{Bool, true, false}
 use mathlib.Core.List.{List, [], _∷_, map}
 use lib.IntN.{ℤ, pos}
 use Rattle.text.specs.Text.{bytes}
-use Rattle.numbers.specs.Numbers.{range, numbers}
+use Rattle.numbers.specs.Numbers.{naturals, numbers}
 use Rattle.numbers.specs.declared.Range.{Range}
 use Rattle.numbers.specs.declared.Comparison.the-variants.{Equal, Unequal, Less, AtMost, Greater, AtLeast}
 use Rattle.cells.specs.declared.Unary.the-variants.{Offset, Negate, Complement}
@@ -14,6 +14,7 @@ use Rattle.instructions.specs.declared.Argument.{Argument}
 use Rattle.instructions.specs.declared.Argument.the-variants.{Absent, Target, Primitive, Within}
 use Rattle.instructions.specs.declared.Operation.{Operation}
 use Rattle.instructions.specs.declared.Operation.the-variants.{Nothing, Access, Drop, Assign, Constant, GetField, SetField, Branch, BranchIf, BranchIfNot, Call, Stop, Alter, Combine}
+use lib.ListN.{getD}
 
 -- that a kind calls a primitive, and so takes an answer
 abbrev pub calls : Argument → Bool
@@ -24,19 +25,19 @@ calls (Within r) = false
 
 -- "Targets are addresses, 0 to 62,000."
 abbrev pub addresses : Range
-addresses = range 0 62000
+addresses = naturals 0 62000
 
 -- "ACC n (0 to 63)", "ASSIGN n (0 to 63)"
 abbrev pub entry : Argument
-entry = Within (range 0 63)
+entry = Within (naturals 0 63)
 
 -- "POP n (0 to 64)"
 abbrev pub count : Argument
-count = Within (range 0 64)
+count = Within (naturals 0 64)
 
 -- "GETFIELD n (0 to 15)"
 abbrev pub field : Argument
-field = Within (range 0 15)
+field = Within (naturals 0 15)
 
 -- "An i is any .. number" (document 01), of 31 bits (document 02, §7)
 abbrev pub any : Argument
@@ -147,3 +148,7 @@ operand k a = chosen (k .argument)
     chosen Target = a
     chosen Primitive = k .fixed
     chosen (Within r) = a
+
+-- the kind at a place of the table, counted from 0; past its end, the last
+unfoldable pub kindAt : ℕ → Kind
+kindAt k = getD kinds k (kind 143 "STOP" Absent stays Stop 0)

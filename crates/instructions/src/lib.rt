@@ -3,10 +3,10 @@ ghost use mathlib.Core.Path.{_≡_};
 ghost use Prim.Native.Nat.{ℕ, _+_, _≤_, _<_};
 ghost use lib.Dec.{ltb};
 ghost use lib.ListN.{length};
-ghost use Rattle.text.specs.Text.{equals, place, among};
+ghost use Rattle.text.specs.Text.{equals, placeAmong, among};
 ghost use Rattle.text.specs.Memory.{over};
-ghost use Rattle.instructions.specs.Kinds.{kindNames, calls};
-ghost use Rattle.instructions.specs.HeldColumns.{kindAt, nameStart, nameKey, Keyed, Begins, Joined, argumentCode, rangeOf, operationCode};
+ghost use Rattle.instructions.specs.Kinds.{kindNames, calls, kindAt};
+ghost use Rattle.instructions.specs.HeldColumns.{nameStart, nameKey, Keyed, Begins, Joined, argumentCode, rangeOf, operationCode};
 ghost use Rattle.instructions.specs.Opcodes.{kindCoded, ByOpcode};
 use cells::Binary;
 use cells::Unary;
@@ -206,7 +206,7 @@ fn candidate(keyed: &[u8; 256], w: &[u8]) -> usize
 // a constant array that is indexed where it stands is stored anew at each use.
 pub fn kind_in(keyed: &[u8; 256], starts: &[u16; 62], names: &[u8], w: &[u8]) -> Place
     requires { ⌜ Keyed (now keyed) × Begins (now starts) × Joined (now names) ⌝ }
-    ensures { λ r. ⌜ r ≡ place (now (w .entry)) kindNames ⌝ }
+    ensures { λ r. ⌜ r ≡ placeAmong (now (w .entry)) kindNames ⌝ }
 {
     if w.len() < 2 {
         return Place::Missing;
@@ -224,7 +224,7 @@ pub fn kind_in(keyed: &[u8; 256], starts: &[u16; 62], names: &[u8], w: &[u8]) ->
 
 // The same with tables of its own.
 pub fn kind_named(w: &[u8]) -> Place
-    ensures { λ r. ⌜ r ≡ place (now (w .entry)) kindNames ⌝ }
+    ensures { λ r. ⌜ r ≡ placeAmong (now (w .entry)) kindNames ⌝ }
 {
     let keyed = keyed_kinds();
     let starts = name_starts();

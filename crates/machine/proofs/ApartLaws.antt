@@ -11,7 +11,7 @@ use lib.IntN.{pos}
 use lib.ListN.{length}
 use Rattle.cells.specs.Try.{Try, stuck, done, _>>=_}
 use Rattle.cells.specs.declared.Cell.{Cell}
-use Rattle.cells.specs.Cells.{number, block}
+use Rattle.cells.specs.Cells.{exactly, block}
 use Rattle.machine.specs.Lists.{nth, put, without}
 use Rattle.machine.specs.Machine.{State, stackLimit, height, push, pop, store, setField, load, restack, reblock, advance, jump}
 
@@ -34,10 +34,10 @@ module _ (f : State → State) (apart : Apart f) where
   restacked stuck s = refl
   restacked (done cs) s = ap done (apart .restacks cs s)
 
-  stored : (m : Try (List Cell)) (s : State) → (m >>= λ cs. done (load (number (pos 0)) (restack cs (f s)))) ≡ ((m >>= λ cs. done (load (number (pos 0)) (restack cs s))) >>= λ t. done (f t))
+  stored : (m : Try (List Cell)) (s : State) → (m >>= λ cs. done (load (exactly (pos 0)) (restack cs (f s)))) ≡ ((m >>= λ cs. done (load (exactly (pos 0)) (restack cs s))) >>= λ t. done (f t))
   unfolding _>>=_
   stored stuck s = refl
-  stored (done cs) s = ap (λ u. done (load (number (pos 0)) u)) (apart .restacks cs s) ∙ ap done (apart .loads (number (pos 0)) (restack cs s))
+  stored (done cs) s = ap (λ u. done (load (exactly (pos 0)) u)) (apart .restacks cs s) ∙ ap done (apart .loads (exactly (pos 0)) (restack cs s))
 
   push-apart : (s : State) → push (f s) ≡ (push s >>= λ t. done (f t))
   unfolding push height

@@ -7,7 +7,7 @@ use lib.IntN.{ℤ, pos, negsuc, natAbs}
 use lib.ListN.{length}
 use Rattle.cells.specs.Try.{Try, stuck, done, _>>=_}
 use Rattle.cells.specs.declared.Cell.{Cell}
-use Rattle.cells.specs.Cells.{number, operate₁, operate₂, condition, block}
+use Rattle.cells.specs.Cells.{exactly, operate₁, operate₂, condition, block}
 use Rattle.cells.specs.declared.Condition.{Condition}
 use Rattle.cells.specs.declared.Condition.the-variants.{IsZero, IsNonzero, IsUnknown}
 use Rattle.instructions.specs.Kinds.{calls, Kind, operand}
@@ -114,7 +114,7 @@ pop n s = without n (s .stack) >>= λ cs. done (restack cs s)
 
 -- "ASSIGN n (0 to 63): entry n becomes the accumulator, which becomes 0."; "Stuck: .. an entry read, assigned or popped that is not there"
 unfoldable pub store : ℕ → State → Try State
-store n s = put n (s .accu) (s .stack) >>= λ cs. done (load (number (pos 0)) (restack cs s))
+store n s = put n (s .accu) (s .stack) >>= λ cs. done (load (exactly (pos 0)) (restack cs s))
 
 -- "field n of the handled block"; "Stuck: .. a field access through a non-handle; a field the block lacks"
 unfoldable pub getField : ℕ → State → Try Cell
@@ -163,13 +163,13 @@ perform p x r Nothing i s = ahead p (done s)
 perform p x r Access i s = ahead p (nth (index i) (s .stack) >>= λ c. done (load c s))
 perform p x r Drop i s = ahead p (pop (index i) s)
 perform p x r Assign i s = ahead p (store (index i) s)
-perform p x r Constant i s = ahead p (done (load (number i) s))
+perform p x r Constant i s = ahead p (done (load (exactly i) s))
 perform p x r (Alter u) i s = ahead p (operate₁ u i (s .accu) >>= λ c. done (load c s))
 -- "accumulator on the left, popped entry on the right"
 perform p x r (Combine b) i s = ahead p (nth 0 (s .stack) >>= λ c. operate₂ b (s .accu) c >>= λ d. pop 1 s >>= λ t. done (load d t))
 perform p x r GetField i s = ahead p (getField (index i) s >>= λ c. done (load c s))
 -- "field n becomes the popped entry, accumulator 0"
-perform p x r SetField i s = ahead p (nth 0 (s .stack) >>= λ c. pop 1 s >>= λ t. setField (index i) c t >>= λ u. done (load (number (pos 0)) u))
+perform p x r SetField i s = ahead p (nth 0 (s .stack) >>= λ c. pop 1 s >>= λ t. setField (index i) c t >>= λ u. done (load (exactly (pos 0)) u))
 perform p x r Branch i s = done (goes p (jump (index i) s))
 perform p x r BranchIf i s = condition (s .accu) >>= λ c. done (ways p x (index i) s c)
 perform p x r BranchIfNot i s = condition (s .accu) >>= λ c. done (ways p x (index i) s (opposite c))

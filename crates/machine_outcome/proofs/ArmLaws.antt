@@ -10,7 +10,7 @@ use lib.ListN.{length, getD, set}
 use lib.Seq.{getD-drop}
 use Rattle.cells.specs.Try.{Try, stuck, done}
 use Rattle.cells.specs.declared.Cell.{Cell}
-use Rattle.cells.specs.Cells.{number}
+use Rattle.cells.specs.Cells.{exactly}
 use Rattle.instructions.specs.declared.Operation.{Operation}
 use Rattle.machine_outcome.specs.declared.Outcome.{Outcome}
 use Rattle.machine_outcome.specs.declared.Outcome.the-variants.{Gives, Operates, Stores, Sets, Gets, Goes, Jumps, Opens, Halts, Stuck}
@@ -133,7 +133,7 @@ module _ {m : Try Next} {ns : List ℕ} {fs : List Cell} {p : Price} {y : ℕ} {
   pub gets-nothing : out ≡ Gets → stuck ≡ slot ns (u .accu) n → m ≡ stuck
   gets-nothing g h = made Gets g ∙ turn.gets-stuck ns fs p y o i u e (a .fits) (slot-is h)
 
-  pub sets : (c : Cell) (j : ℕ) (v w : State) → out ≡ Sets c → done j ≡ slot ns (u .accu) n → done (view v) ≡ pop 1 (view u) → view w ≡ load (number (pos 0)) (view v) → m ≡ done (goes p (whole ns (set fs j c) w))
+  pub sets : (c : Cell) (j : ℕ) (v w : State) → out ≡ Sets c → done j ≡ slot ns (u .accu) n → done (view v) ≡ pop 1 (view u) → view w ≡ load (exactly (pos 0)) (view v) → m ≡ done (goes p (whole ns (set fs j c) w))
   sets c j v w g h dropped loaded = made (Sets c) g ∙ turn.sets-goes ns fs p y o i u e (a .fits) c v dropped j w (slot-is h) loaded
 
   pub sets-nothing : (c : Cell) → out ≡ Sets c → stuck ≡ slot ns (u .accu) n → m ≡ stuck

@@ -12,7 +12,7 @@ use Rattle.cells.specs.declared.Unary.{Unary}
 use Rattle.cells.specs.declared.Binary.{Binary}
 use Rattle.cells.specs.declared.Condition.{Condition}
 use Rattle.cells.specs.declared.Condition.the-variants.{IsZero, IsNonzero, IsUnknown}
-use Rattle.cells.specs.Cells.{number, operate₁, operate₂, condition}
+use Rattle.cells.specs.Cells.{exactly, operate₁, operate₂, condition}
 use Rattle.instructions.specs.declared.Operation.{Operation}
 use Rattle.instructions.specs.declared.Operation.the-variants.{Nothing, Access, Drop, Assign, Constant, GetField, SetField, Branch, BranchIf, BranchIfNot, Call, Stop, Alter, Combine}
 use Rattle.machine_outcome.specs.declared.Outcome.{Outcome}
@@ -70,18 +70,18 @@ module _ (p : Price) (x : ℕ) (r : Cell) (i : ℤ) (s : State) (d : Cell) where
   unfolding perform resume outcome entryOf height ahead _>>=_ pop advance jump load restack
   set-is = go (ltb 0 (length (s .stack))) refl
     where
-      moved : (m : Try State) → ahead p (m >>= λ u. done (load (number (pos 0)) u)) ≡ ((m >>= λ u. done (advance u)) >>= λ u. done (goes p (load (number (pos 0)) u)))
+      moved : (m : Try State) → ahead p (m >>= λ u. done (load (exactly (pos 0)) u)) ≡ ((m >>= λ u. done (advance u)) >>= λ u. done (goes p (load (exactly (pos 0)) u)))
       moved stuck = refl
       moved (done u) = refl
 
       go : (b : Bool) → ltb 0 (length (s .stack)) ≡ b →
-          ahead p (nth 0 (s .stack) >>= λ c. pop 1 s >>= λ t. setField (index i) c t >>= λ u. done (load (number (pos 0)) u))
+          ahead p (nth 0 (s .stack) >>= λ c. pop 1 s >>= λ t. setField (index i) c t >>= λ u. done (load (exactly (pos 0)) u))
           ≡ resume p x SetField i (advance s) (seen SetField) (cond b (Sets (getD (s .stack) 0 d)) Stuck)
       go true e =
           let h = ltb-true 0 (length (s .stack)) e in
           let c = getD (s .stack) 0 d in
           rw (nth-in 0 (s .stack) d h, without-in 1 (s .stack) h)
-          (moved (setField (index i) c (restack (drop 1 (s .stack)) s)) ∙ ap (λ m. m >>= λ u. done (goes p (load (number (pos 0)) u))) (sym (setField-advance (index i) c (restack (drop 1 (s .stack)) s))))
+          (moved (setField (index i) c (restack (drop 1 (s .stack)) s)) ∙ ap (λ m. m >>= λ u. done (goes p (load (exactly (pos 0)) u))) (sym (setField-advance (index i) c (restack (drop 1 (s .stack)) s))))
       go false e = rw (nth-out 0 (s .stack) (ltb-false 0 (length (s .stack)) e)) refl
 
   combine-is : (b : Binary) → perform p x r (Combine b) i s ≡ resume p x (Combine b) i (advance s) (seen (Combine b)) (comes (Combine b))

@@ -13,7 +13,7 @@ use Rattle.cells.specs.Try.{Try, stuck, done, _>>=_}
 use Rattle.cells.specs.declared.Cell.{Cell}
 use Rattle.cells.specs.declared.Condition.{Condition}
 use Rattle.cells.specs.declared.Condition.the-variants.{IsZero, IsNonzero, IsUnknown}
-use Rattle.cells.specs.Cells.{number, condition}
+use Rattle.cells.specs.Cells.{exactly, condition}
 use Rattle.instructions.specs.declared.Operation.{Operation}
 use Rattle.instructions.specs.declared.Operation.the-variants.{Nothing, Access, Drop, Assign, Constant, GetField, SetField, Branch, BranchIf, BranchIfNot, Call, Stop, Alter, Combine}
 use Rattle.machine_outcome.specs.declared.Outcome.{Outcome}
@@ -211,27 +211,27 @@ module _ (ns : List ℕ) (fs : List Cell) where
 
       module _ (c : Cell) (v : code.State) (popped : done (view v) ≡ pop 1 (view u)) where
         -- the field is set after the pop
-        set-after : resume p y o i (whole ns fs u) e (Sets c) ≡ (slot ns (u .accu) (index i) >>= λ j. done (goes p (load (number (pos 0)) (whole ns (set fs j c) v))))
+        set-after : resume p y o i (whole ns fs u) e (Sets c) ≡ (slot ns (u .accu) (index i) >>= λ j. done (goes p (load (exactly (pos 0)) (whole ns (set fs j c) v))))
         unfolding resume _>>=_ whole reblock
         set-after =
             let kept : v .accu ≡ u .accu = pop-accu 1 (view u) (view v) popped in
-            ap (λ m. m >>= λ t. setField (index i) c t >>= λ w. done (goes p (load (number (pos 0)) w))) (pop-whole ns fs u v 1 popped)
-            ∙ ap (λ m. m >>= λ w. done (goes p (load (number (pos 0)) w))) (setField-slot ns fs fits (whole ns fs v) refl (index i) c)
+            ap (λ m. m >>= λ t. setField (index i) c t >>= λ w. done (goes p (load (exactly (pos 0)) w))) (pop-whole ns fs u v 1 popped)
+            ∙ ap (λ m. m >>= λ w. done (goes p (load (exactly (pos 0)) w))) (setField-slot ns fs fits (whole ns fs v) refl (index i) c)
             ∙ from (slot ns (v .accu) (index i))
-            ∙ ap (λ a. slot ns a (index i) >>= λ j. done (goes p (load (number (pos 0)) (whole ns (set fs j c) v)))) kept
+            ∙ ap (λ a. slot ns a (index i) >>= λ j. done (goes p (load (exactly (pos 0)) (whole ns (set fs j c) v)))) kept
           where
-            from : (m : Try ℕ) → ((m >>= λ j. done (reblock (blocksOf ns (set fs j c)) (whole ns fs v))) >>= λ w. done (goes p (load (number (pos 0)) w)))
-                ≡ (m >>= λ j. done (goes p (load (number (pos 0)) (whole ns (set fs j c) v))))
+            from : (m : Try ℕ) → ((m >>= λ j. done (reblock (blocksOf ns (set fs j c)) (whole ns fs v))) >>= λ w. done (goes p (load (exactly (pos 0)) w)))
+                ≡ (m >>= λ j. done (goes p (load (exactly (pos 0)) (whole ns (set fs j c) v))))
             from stuck = refl
             from (done j) = refl
 
-        pub sets-goes : (j : ℕ) (w : code.State) → slot ns (u .accu) (index i) ≡ done j → view w ≡ load (number (pos 0)) (view v) →
+        pub sets-goes : (j : ℕ) (w : code.State) → slot ns (u .accu) (index i) ≡ done j → view w ≡ load (exactly (pos 0)) (view v) →
             resume p y o i (whole ns fs u) e (Sets c) ≡ done (goes p (whole ns (set fs j c) w))
         unfolding _>>=_
         sets-goes j w at loaded =
-            set-after ∙ ap (λ m. m >>= λ j. done (goes p (load (number (pos 0)) (whole ns (set fs j c) v)))) at
-            ∙ ap (λ s. done (goes p s)) (sym (load-whole ns (set fs j c) v w (number (pos 0)) loaded))
+            set-after ∙ ap (λ m. m >>= λ j. done (goes p (load (exactly (pos 0)) (whole ns (set fs j c) v)))) at
+            ∙ ap (λ s. done (goes p s)) (sym (load-whole ns (set fs j c) v w (exactly (pos 0)) loaded))
 
         pub sets-stuck : slot ns (u .accu) (index i) ≡ stuck → resume p y o i (whole ns fs u) e (Sets c) ≡ stuck
         unfolding _>>=_
-        sets-stuck at = set-after ∙ ap (λ m. m >>= λ j. done (goes p (load (number (pos 0)) (whole ns (set fs j c) v)))) at
+        sets-stuck at = set-after ∙ ap (λ m. m >>= λ j. done (goes p (load (exactly (pos 0)) (whole ns (set fs j c) v)))) at

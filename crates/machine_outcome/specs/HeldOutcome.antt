@@ -9,7 +9,7 @@ use Rattle.cells.specs.Try.{Try, stuck, done, _>>=_}
 use Rattle.cells.specs.declared.Cell.{Cell}
 use Rattle.cells.specs.declared.Condition.{Condition}
 use Rattle.cells.specs.declared.Condition.the-variants.{IsZero, IsNonzero, IsUnknown}
-use Rattle.cells.specs.Cells.{number, operate₁, operate₂, condition}
+use Rattle.cells.specs.Cells.{exactly, operate₁, operate₂, condition}
 use Rattle.instructions.specs.declared.Operation.{Operation}
 use Rattle.instructions.specs.declared.Operation.the-variants.{Nothing, Access, Drop, Assign, Constant, GetField, SetField, Branch, BranchIf, BranchIfNot, Call, Stop, Alter, Combine}
 use Rattle.machine_outcome.specs.declared.Outcome.{Outcome}
@@ -99,7 +99,7 @@ outcome Nothing i r h a e = Gives a
 outcome Access i r h a e = cond (ltb (index i) h) (Gives e) Stuck
 outcome Drop i r h a e = cond (leb (index i) h) (Gives a) Stuck
 outcome Assign i r h a e = cond (ltb (index i) h) Stores Stuck
-outcome Constant i r h a e = Gives (number i)
+outcome Constant i r h a e = Gives (exactly i)
 outcome GetField i r h a e = Gets
 outcome SetField i r h a e = cond (ltb 0 h) (Sets e) Stuck
 outcome Branch i r h a e = Goes
@@ -116,7 +116,7 @@ unfoldable pub resume : Price → ℕ → Operation → ℤ → State → Cell �
 resume p x o i s e (Gives c) = pop (drops o (index i)) s >>= λ t. done (goes p (load c t))
 resume p x o i s e Operates = operated o i (s .accu) e >>= λ c. pop (drops o (index i)) s >>= λ t. done (goes p (load c t))
 resume p x o i s e Stores = store (index i) s >>= λ t. done (goes p t)
-resume p x o i s e (Sets c) = pop 1 s >>= λ t. setField (index i) c t >>= λ u. done (goes p (load (number (pos 0)) u))
+resume p x o i s e (Sets c) = pop 1 s >>= λ t. setField (index i) c t >>= λ u. done (goes p (load (exactly (pos 0)) u))
 resume p x o i s e Gets = getField (index i) s >>= λ c. done (goes p (load c s))
 resume p x o i s e Goes = done (goes p (jump (index i) s))
 resume p x o i s e Jumps = done (goes (withExtra x p) (jump (index i) s))

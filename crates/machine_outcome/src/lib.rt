@@ -144,7 +144,7 @@ pub fn outcome_of(
         operations::ACCESS => if_there(index < height, Outcome::Gives(entry)),
         operations::DROP => if_there(index <= height, Outcome::Gives(accu)),
         operations::ASSIGN => if_there(index < height, Outcome::Stores),
-        operations::CONSTANT => Outcome::Gives(cells::number(operand)),
+        operations::CONSTANT => Outcome::Gives(cells::exactly(operand)),
         operations::OFFSET => Outcome::Operates,
         operations::NEGATE => Outcome::Operates,
         operations::COMPLEMENT => Outcome::Operates,

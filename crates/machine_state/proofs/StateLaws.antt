@@ -9,7 +9,7 @@ use lib.Seq.{drop-drop, drop-set-add}
 use borrow.Author.Tests.{lt-ltb}
 use Rattle.cells.specs.Try.{done, _>>=_}
 use Rattle.cells.specs.declared.Cell.{Cell}
-use Rattle.cells.specs.Cells.{number}
+use Rattle.cells.specs.Cells.{exactly}
 use Rattle.machine.specs.Machine.{State, stackLimit, height, push, pop, store, load, restack, reblock, advance, jump}
 use Rattle.machine.proofs.ListLaws.{put-in, without-in}
 use Rattle.machine.proofs.ApartLaws.{push-reblock, pop-reblock, store-reblock}
@@ -25,7 +25,7 @@ pushed s = record { at = s .at; accu = s .accu; free = s .free - 1; stack = set 
 
 -- with the accumulator in the place of entry n, and 0 in the accumulator
 abbrev pub stored : ℕ → code.State → code.State
-stored n s = record { at = s .at; accu = number (pos 0); free = s .free; stack = set (s .stack) (s .free + n) (s .accu) }
+stored n s = record { at = s .at; accu = exactly (pos 0); free = s .free; stack = set (s .stack) (s .free + n) (s .accu) }
 
 -- with n more unused places
 abbrev pub popped : ℕ → code.State → code.State

@@ -3,7 +3,7 @@ use Prim.Native.Nat.{ℕ, _+_, _-_}
 use mathlib.Core.List.{List}
 use lib.IntN.{pos}
 use Rattle.cells.specs.declared.Cell.{Cell}
-use Rattle.cells.specs.Cells.{number}
+use Rattle.cells.specs.Cells.{exactly}
 use Rattle.machine_state.specs.declared.State.{State}
 use Rattle.machine_state.specs.declared.registers.Registers.{Registers}
 
@@ -26,7 +26,7 @@ abbrev pub loaded : Cell → Registers → Registers
 loaded c r = record { at = r .at; accu = c; free = r .free }
 
 abbrev pub stored : Registers → Registers
-stored r = loaded (number (pos 0)) r
+stored r = loaded (exactly (pos 0)) r
 
 -- at the next address, and at another
 abbrev pub advanced : Registers → Registers

@@ -62,7 +62,7 @@ impl State {
         let accu = self.accu;
         let mut stack = self.stack;
         stack[entry] = accu;
-        let zero = cells::number(0);
+        let zero = cells::exactly(0);
         State {
             at: self.at,
             accu: zero,

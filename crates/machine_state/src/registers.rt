@@ -35,7 +35,7 @@ impl Registers {
     pub fn store(self) -> Self
         ensures { λ r. ⌜ r ≡ stored self ⌝ }
     {
-        let zero = cells::number(0);
+        let zero = cells::exactly(0);
         self.load(zero)
     }
 

@@ -7,7 +7,7 @@ use lib.IntN.{ℤ, pos}
 use lib.ListN.{length, getD, set}
 use Rattle.cells.specs.Try.{Try, stuck, done}
 use Rattle.cells.specs.declared.Cell.{Cell}
-use Rattle.cells.specs.Cells.{number}
+use Rattle.cells.specs.Cells.{exactly}
 use Rattle.instructions.specs.declared.Operation.{Operation}
 use Rattle.machine.specs.Machine.{Price, Next, stops, goes, withExtra, index, pop, store, load, jump}
 use Rattle.machine_outcome.specs.declared.Outcome.{Outcome}
@@ -26,7 +26,7 @@ module _ {m : Try Next} {ns : List ℕ} {fs : List Cell} {p : Price} {y : ℕ} {
   abbrev pub Leads : Effect → Type 0
   Leads (Gives k c) = (u .free + k ≤ 64) × ((v w : State) → done (view v) ≡ pop k (view u) → view w ≡ load c (view v) → m ≡ done (goes p (whole ns fs w)))
   Leads Stores = (u .free + n < 64) × ((w : State) → done (view w) ≡ store n (view u) → m ≡ done (goes p (whole ns fs w)))
-  Leads (Sets j c) = ((u .free + 1 ≤ 64) × (j < length fs)) × ((v w : State) → done (view v) ≡ pop 1 (view u) → view w ≡ load (number (pos 0)) (view v) → m ≡ done (goes p (whole ns (set fs j c) w)))
+  Leads (Sets j c) = ((u .free + 1 ≤ 64) × (j < length fs)) × ((v w : State) → done (view v) ≡ pop 1 (view u) → view w ≡ load (exactly (pos 0)) (view v) → m ≡ done (goes p (whole ns (set fs j c) w)))
   Leads (Gets j) = (j < length fs) × ((d : Cell) (w : State) → view w ≡ load (getD fs j d) (view u) → m ≡ done (goes p (whole ns fs w)))
   Leads Goes = (w : State) → view w ≡ jump n (view u) → m ≡ done (goes p (whole ns fs w))
   Leads Jumps = (w : State) → view w ≡ jump n (view u) → m ≡ done (goes (withExtra y p) (whole ns fs w))

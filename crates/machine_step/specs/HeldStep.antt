@@ -11,8 +11,8 @@ use Rattle.machine.specs.Machine.{State, Price, Next, stops, goes, opens, jump}
 use Rattle.machine_step.specs.declared.Price as code
 use Rattle.machine_step.specs.declared.Next as code-next
 use Rattle.machine_step.specs.declared.Next.the-variants.{Stuck, Stops, Goes, Opens}
-use Rattle.machine_step.specs.declared.Change.{Change}
-use Rattle.machine_step.specs.declared.Change.the-variants.{Nothing, Field}
+use Rattle.machine_step.specs.declared.Update.{Update}
+use Rattle.machine_step.specs.declared.Update.the-variants.{Nothing, Field}
 use Rattle.machine_step.specs.declared.Stepped.{Stepped}
 
 -- a price by its cycles and its words
@@ -39,7 +39,7 @@ ofNext (Goes p) s = done (goes (ofPrice p) s)
 ofNext (Opens p a q) s = done (opens (ofPrice p) s (ofPrice q) (jump a s))
 
 -- the fields gs differ from fs by the change: in nothing, or at one of the 128 places
-abbrev pub Differs : Change → List Cell → List Cell → Type 0
+abbrev pub Differs : Update → List Cell → List Cell → Type 0
 Differs Nothing fs gs = gs ≡ fs
 Differs (Field j c) fs gs = (j < 128) × (gs ≡ set fs j c)
 

@@ -32,7 +32,7 @@ pub enum Next {
 }
 
 // How the blocks differ from those before the step: in nothing, or in the field at the place, which has become the cell.
-pub enum Change {
+pub enum Update {
     Nothing,
     Field(usize, Cell),
 }
@@ -44,7 +44,7 @@ pub struct Stepped {
     pub state: State,
     pub next: Next,
     pub calls: bool,
-    pub change: Change,
+    pub change: Update,
 }
 
 // What a line costs.
@@ -84,7 +84,7 @@ fn keep(next: Next, calls: bool, state: State, blocks: [Cell; 128]) -> Stepped
         state: state,
         next: next,
         calls: calls,
-        change: Change::Nothing,
+        change: Update::Nothing,
     }
 }
 
@@ -106,7 +106,7 @@ fn set_field(
         state: state,
         next: next,
         calls: calls,
-        change: Change::Field(j, c),
+        change: Update::Field(j, c),
     }
 }
 
@@ -141,7 +141,7 @@ pub fn step(code: &[u32; 5131], answer: Cell, mut state: State, blocks: [Cell; 1
         }
         Effect::Stores => state = state.store(index).advance(),
         Effect::Sets(j, c) => {
-            state = state.pop(1).load(cells::number(0)).advance();
+            state = state.pop(1).load(cells::exactly(0)).advance();
             return set_field(next, calls, j, c, state, blocks);
         }
         Effect::Gets(j) => state = state.load(field_of(blocks, j)).advance(),

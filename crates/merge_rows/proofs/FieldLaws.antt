@@ -12,7 +12,8 @@ use Rattle.cells.specs.declared.Cell.{Cell}
 use Rattle.machine_state.specs.HeldState.{blocksOf}
 use Rattle.cells.specs.Merge.{mergeCells}
 use Rattle.merge_theory.specs.Merge.{mergeLists}
-use Rattle.cells.specs.HeldCodes.{cellsOf, confine}
+use Rattle.cells.specs.HeldCodes.{decodedCells}
+use Rattle.cells.specs.Confined.{confine}
 use Rattle.machine_state.specs.HeldProgram.{sizesOf, IsProgram}
 use Rattle.machine_state.proofs.ProgramLaws.{sizes-count}
 use Rattle.merge_rows.proofs.ZipLaws.{Partly, one-made, none-merged}
@@ -82,7 +83,7 @@ blocks-put (n ∷ ns) fs p (suc k) few h r e =
     ∙ ap₂ (λ (b : List Cell) (f : List Cell). b ∷ blocksOf ns f) first (later fs p (k * 16) m (omega arith))
     ∙ ap (λ (bs : List (List Cell)). take n fs ∷ bs) (blocks-put ns (drop 16 fs) p k (λ i. few (suc i)) (omega arith) room e)
 
-cells-put : (a m : ℕ) (xs p : List ℕ) → cellsOf (putMid a m xs p) ≡ putMid a m (cellsOf xs) (cellsOf p)
+cells-put : (a m : ℕ) (xs p : List ℕ) → decodedCells (putMid a m xs p) ≡ putMid a m (decodedCells xs) (decodedCells p)
 cells-put a m xs p = simp (cells-append, cells-take, cells-drop)
 
 -- at most eight blocks, of at most sixteen fields
@@ -98,41 +99,41 @@ module _ (ns xs ys : List ℕ) (k z : ℕ) (small : Small ns) (h : length xs ≡
   abbrev part : List ℕ → List ℕ
   part l = take z (drop (k * 16) l)
 
-  block-is : (l : List ℕ) → cellsOf (part l) ≡ getD (blocksOf ns (cellsOf l)) k []
-  block-is l = cells-take z (drop (k * 16) l) ∙ ap₂ take e (cells-drop (k * 16) l) ∙ sym (blocks-at ns (cellsOf l) k r)
+  block-is : (l : List ℕ) → decodedCells (part l) ≡ getD (blocksOf ns (decodedCells l)) k []
+  block-is l = cells-take z (drop (k * 16) l) ∙ ap₂ take e (cells-drop (k * 16) l) ∙ sym (blocks-at ns (decodedCells l) k r)
 
-  within : (l : List ℕ) → k < length (blocksOf ns (cellsOf l))
+  within : (l : List ℕ) → k < length (blocksOf ns (decodedCells l))
   within l = rw blocks-length r
 
   -- the block's places are written, p
-  block-put : (p : List ℕ) → length p ≡ z → blocksOf ns (cellsOf (putMid (k * 16) z xs p)) ≡ set (blocksOf ns (cellsOf xs)) k (cellsOf p)
+  block-put : (p : List ℕ) → length p ≡ z → blocksOf ns (decodedCells (putMid (k * 16) z xs p)) ≡ set (blocksOf ns (decodedCells xs)) k (decodedCells p)
   block-put p n =
-      let room : k * 16 + 16 ≤ length (cellsOf xs) = rw cells-length (omega (arith, small .blocks)) in
-      ap (blocksOf ns) (cells-put (k * 16) z xs p ∙ ap (λ (i : ℕ). putMid (k * 16) i (cellsOf xs) (cellsOf p)) e)
-      ∙ blocks-put ns (cellsOf xs) (cellsOf p) k (small .few) r room (cells-length p ∙ n ∙ e)
+      let room : k * 16 + 16 ≤ length (decodedCells xs) = rw cells-length (omega (arith, small .blocks)) in
+      ap (blocksOf ns) (cells-put (k * 16) z xs p ∙ ap (λ (i : ℕ). putMid (k * 16) i (decodedCells xs) (decodedCells p)) e)
+      ∙ blocks-put ns (decodedCells xs) (decodedCells p) k (small .few) r room (cells-length p ∙ n ∙ e)
 
-  pub block-encoded : (cs : List Cell) (p : List ℕ) → length p ≡ z → cellsOf p ≡ map confine (take z (drop (k * 16) cs))
-      → take k (blocksOf ns (cellsOf xs)) ≡ take k (blocksOf ns (map confine cs))
-      → take (k + 1) (blocksOf ns (cellsOf (putMid (k * 16) z xs p))) ≡ take (k + 1) (blocksOf ns (map confine cs))
+  pub block-encoded : (cs : List Cell) (p : List ℕ) → length p ≡ z → decodedCells p ≡ map confine (take z (drop (k * 16) cs))
+      → take k (blocksOf ns (decodedCells xs)) ≡ take k (blocksOf ns (map confine cs))
+      → take (k + 1) (blocksOf ns (decodedCells (putMid (k * 16) z xs p))) ≡ take (k + 1) (blocksOf ns (map confine cs))
   block-encoded cs p n q i =
-      let block : cellsOf p ≡ getD (blocksOf ns (map confine cs)) k [] = q ∙ sym (blocks-at ns (map confine cs) k r ∙ ap₂ take (sym e) (drop-map confine (k * 16) cs) ∙ take-map confine z (drop (k * 16) cs)) in
+      let block : decodedCells p ≡ getD (blocksOf ns (map confine cs)) k [] = q ∙ sym (blocks-at ns (map confine cs) k r ∙ ap₂ take (sym e) (drop-map confine (k * 16) cs) ∙ take-map confine z (drop (k * 16) cs)) in
       rw add-one
       (ap (take (suc k)) (block-put p n)
-      ∙ take-suc-set (blocksOf ns (cellsOf xs)) k (cellsOf p) (within xs)
+      ∙ take-suc-set (blocksOf ns (decodedCells xs)) k (decodedCells p) (within xs)
       ∙ ap₂ (λ (l : List (List Cell)) (b : List Cell). l ++ (b ∷ [])) i block
       ∙ sym (take-suc (blocksOf ns (map confine cs)) k [] (rw blocks-length r)))
 
-  pub block-merged : (w : Try (List (List Cell))) (p : List ℕ) → length p ≡ z → done (cellsOf p) ≡ mergeLists mergeCells (cellsOf (part xs)) (cellsOf (part ys))
-      → Partly (mergeLists mergeCells) [] w k (blocksOf ns (cellsOf xs)) (blocksOf ns (cellsOf ys))
-      → Partly (mergeLists mergeCells) [] w (k + 1) (blocksOf ns (cellsOf (putMid (k * 16) z xs p))) (blocksOf ns (cellsOf ys))
+  pub block-merged : (w : Try (List (List Cell))) (p : List ℕ) → length p ≡ z → done (decodedCells p) ≡ mergeLists mergeCells (decodedCells (part xs)) (decodedCells (part ys))
+      → Partly (mergeLists mergeCells) [] w k (blocksOf ns (decodedCells xs)) (blocksOf ns (decodedCells ys))
+      → Partly (mergeLists mergeCells) [] w (k + 1) (blocksOf ns (decodedCells (putMid (k * 16) z xs p))) (blocksOf ns (decodedCells ys))
   block-merged w p n q m =
       rw (block-put p n)
-      (one-made (mergeLists mergeCells) [] w (blocksOf ns (cellsOf xs)) (blocksOf ns (cellsOf ys)) k (cellsOf p) (within xs) (within ys) (q ∙ ap₂ (mergeLists mergeCells) (block-is xs) (block-is ys)) m)
+      (one-made (mergeLists mergeCells) [] w (blocksOf ns (decodedCells xs)) (blocksOf ns (decodedCells ys)) k (decodedCells p) (within xs) (within ys) (q ∙ ap₂ (mergeLists mergeCells) (block-is xs) (block-is ys)) m)
 
-  pub block-unlike : (w : Try (List (List Cell))) → stuck ≡ mergeLists mergeCells (cellsOf (part xs)) (cellsOf (part ys))
-      → Partly (mergeLists mergeCells) [] w k (blocksOf ns (cellsOf xs)) (blocksOf ns (cellsOf ys)) → w ≡ stuck
+  pub block-unlike : (w : Try (List (List Cell))) → stuck ≡ mergeLists mergeCells (decodedCells (part xs)) (decodedCells (part ys))
+      → Partly (mergeLists mergeCells) [] w k (blocksOf ns (decodedCells xs)) (blocksOf ns (decodedCells ys)) → w ≡ stuck
   block-unlike w q m =
-      none-merged (mergeLists mergeCells) [] w (blocksOf ns (cellsOf xs)) (blocksOf ns (cellsOf ys)) k (within xs) (within ys) (q ∙ ap₂ (mergeLists mergeCells) (block-is xs) (block-is ys)) m
+      none-merged (mergeLists mergeCells) [] w (blocksOf ns (decodedCells xs)) (blocksOf ns (decodedCells ys)) k (within xs) (within ys) (q ∙ ap₂ (mergeLists mergeCells) (block-is xs) (block-is ys)) m
 
   pub part-length : (l : List ℕ) → length l ≡ 128 → length (part l) ≡ z
   part-length l n =

@@ -10,7 +10,7 @@ use borrow.Rule.Slice.PartMut.{putMid}
 use Rattle.cells.specs.Try.{Try, stuck, done, _>>=_}
 use Rattle.cells.specs.declared.Cell.{Cell}
 use Rattle.cells.specs.Merge.{mergeCells}
-use Rattle.cells.specs.HeldCodes.{cellOf, cellsOf}
+use Rattle.cells.specs.HeldCodes.{decodedCell, decodedCells}
 use Rattle.cells.proofs.CodeLaws.{cells-length}
 use Rattle.machine.specs.Machine.{State}
 use Rattle.machine_state.specs.HeldState.{blocksOf}
@@ -54,13 +54,13 @@ module _ (ns : List ℕ) (a b : ℕ) (r k : List ℕ) where
   both = mergeStates (stateIn ns a r) (stateIn ns b k)
 
   abbrev accus : Try Cell
-  accus = mergeCells (cellOf (getD r 4 0)) (cellOf (getD k 4 0))
+  accus = mergeCells (decodedCell (getD r 4 0)) (decodedCell (getD k 4 0))
 
   abbrev stacks : Try (List Cell)
-  stacks = mergeLists mergeCells (cellsOf (part (5 + unusedOf (getD r 1 0)) 69 r)) (cellsOf (part (5 + unusedOf (getD k 1 0)) 69 k))
+  stacks = mergeLists mergeCells (decodedCells (part (5 + unusedOf (getD r 1 0)) 69 r)) (decodedCells (part (5 + unusedOf (getD k 1 0)) 69 k))
 
   abbrev blocks : Try (List (List Cell))
-  blocks = mergeLists (mergeLists mergeCells) (blocksOf ns (cellsOf (part 69 197 r))) (blocksOf ns (cellsOf (part 69 197 k)))
+  blocks = mergeLists (mergeLists mergeCells) (blocksOf ns (decodedCells (part 69 197 r))) (blocksOf ns (decodedCells (part 69 197 k)))
 
   by-parts : both ≡ assembled a accus stacks blocks
   unfolding mergeStates stateIn
@@ -79,10 +79,10 @@ module _ (ns : List ℕ) (a b : ℕ) (r k : List ℕ) where
       let g = unusedOf (getD k 1 0) in
       let f≤ : f ≤ 64 = unused-most (getD r 1 0) in
       let g≤ : g ≤ 64 = unused-most (getD k 1 0) in
-      let height : (xs : List ℕ) (i : ℕ) → length xs ≡ 197 → length (cellsOf (part (5 + i) 69 xs)) ≡ 69 - (5 + i) = λ xs i q. cells-length (part (5 + i) 69 xs) ∙ part-length (5 + i) 69 xs (omega arith) in
+      let height : (xs : List ℕ) (i : ℕ) → length xs ≡ 197 → length (decodedCells (part (5 + i) 69 xs)) ≡ 69 - (5 + i) = λ xs i q. cells-length (part (5 + i) 69 xs) ∙ part-length (5 + i) 69 xs (omega arith) in
       no-stacks
       (sym
-      (lists-unlike mergeCells (cellsOf (part (5 + f) 69 r)) (cellsOf (part (5 + g) 69 k))
+      (lists-unlike mergeCells (decodedCells (part (5 + f) 69 r)) (decodedCells (part (5 + g) 69 k))
       (λ e. let q : 69 - (5 + f) ≡ 69 - (5 + g) = sym (height r f l) ∙ e ∙ height k g m in n (omega arith))))
 
   -- where the unused places are as many, f, and x is the merged accumulator's number
@@ -95,12 +95,12 @@ module _ (ns : List ℕ) (a b : ℕ) (r k : List ℕ) where
 
     -- the merge of the stacks, as parts that are lent
     abbrev lent : Try (List Cell)
-    lent = mergeLists mergeCells (cellsOf (part (5 + f) 69 (set r 4 x))) (cellsOf (part (5 + f) 69 k))
+    lent = mergeLists mergeCells (decodedCells (part (5 + f) 69 (set r 4 x))) (decodedCells (part (5 + f) 69 k))
 
     as-lent : lent ≡ stacks
     as-lent =
-        ap (λ (ys : List ℕ). mergeLists mergeCells (cellsOf ys) (cellsOf (part (5 + f) 69 k))) (part-set (5 + f) 69 (omega arith))
-        ∙ ap₂ (λ (i j : ℕ). mergeLists mergeCells (cellsOf (part (5 + i) 69 r)) (cellsOf (part (5 + j) 69 k))) e g
+        ap (λ (ys : List ℕ). mergeLists mergeCells (decodedCells ys) (decodedCells (part (5 + f) 69 k))) (part-set (5 + f) 69 (omega arith))
+        ∙ ap₂ (λ (i j : ℕ). mergeLists mergeCells (decodedCells (part (5 + i) 69 r)) (decodedCells (part (5 + j) 69 k))) e g
 
     pub stacks-unlike : stuck ≡ lent → stuck ≡ both
     stacks-unlike q = no-stacks (q ∙ as-lent)
@@ -119,11 +119,11 @@ module _ (ns : List ℕ) (a b : ℕ) (r k : List ℕ) where
 
       -- the merge of the blocks, as parts that are lent
       abbrev blocks-lent : Try (List (List Cell))
-      blocks-lent = mergeLists (mergeLists mergeCells) (blocksOf ns (cellsOf (part 69 197 stacked))) (blocksOf ns (cellsOf (part 69 197 k)))
+      blocks-lent = mergeLists (mergeLists mergeCells) (blocksOf ns (decodedCells (part 69 197 stacked))) (blocksOf ns (decodedCells (part 69 197 k)))
 
       as-blocks : blocks-lent ≡ blocks
       as-blocks =
-          ap (λ (ys : List ℕ). mergeLists (mergeLists mergeCells) (blocksOf ns (cellsOf ys)) (blocksOf ns (cellsOf (part 69 197 k))))
+          ap (λ (ys : List ℕ). mergeLists (mergeLists mergeCells) (blocksOf ns (decodedCells ys)) (blocksOf ns (decodedCells (part 69 197 k))))
           (part-after (set r 4 x) p (5 + f) 69 (omega (arith, few)) (rw length-set (omega arith)) pl 69 197 (omega arith) ∙ part-set 69 197 (omega arith))
 
       -- the merged state, with the numbers q for the fields
@@ -132,21 +132,21 @@ module _ (ns : List ℕ) (a b : ℕ) (r k : List ℕ) where
         merged-row = made (set r 4 x) p q f
 
         abbrev merged-state : State
-        merged-state = state a (cellOf x) (cellsOf p) (blocksOf ns (cellsOf q))
+        merged-state = state a (decodedCell x) (decodedCells p) (blocksOf ns (decodedCells q))
 
-        parts-made : done (cellOf x) ≡ accus → done (cellsOf p) ≡ lent → done (blocksOf ns (cellsOf q)) ≡ blocks → assembled a accus stacks blocks ≡ done merged-state
+        parts-made : done (decodedCell x) ≡ accus → done (decodedCells p) ≡ lent → done (blocksOf ns (decodedCells q)) ≡ blocks → assembled a accus stacks blocks ≡ done merged-state
         unfolding _>>=_
         parts-made u v w =
             ap (λ (c : Try Cell). assembled a c stacks blocks) (sym u)
-            ∙ ap (λ (c : Try (List Cell)). assembled a (done (cellOf x)) c blocks) (sym (v ∙ as-lent))
-            ∙ ap (λ (c : Try (List (List Cell))). assembled a (done (cellOf x)) (done (cellsOf p)) c) (sym w)
+            ∙ ap (λ (c : Try (List Cell)). assembled a (done (decodedCell x)) c blocks) (sym (v ∙ as-lent))
+            ∙ ap (λ (c : Try (List (List Cell))). assembled a (done (decodedCell x)) (done (decodedCells p)) c) (sym w)
 
         state-merged : stateIn ns a merged-row ≡ merged-state
         state-merged =
             made-state (set r 4 x) p q f (rw length-set l) few pl ql ns a (ap unusedOf (getD-set-other r 4 1 x 0 (λ z. omega arith)) ∙ sym e)
-            ∙ ap (λ (c : ℕ). state a (cellOf c) (cellsOf p) (blocksOf ns (cellsOf q))) (getD-set-same r 4 x 0 (omega arith))
+            ∙ ap (λ (c : ℕ). state a (decodedCell c) (decodedCells p) (blocksOf ns (decodedCells q))) (getD-set-same r 4 x 0 (omega arith))
 
-        pub rows-merged : (t : Bool) → done (cellOf x) ≡ accus → done (cellsOf p) ≡ lent → ofBlocks ns t q ≡ blocks-lent → ofStates ns a t merged-row ≡ both
+        pub rows-merged : (t : Bool) → done (decodedCell x) ≡ accus → done (decodedCells p) ≡ lent → ofBlocks ns t q ≡ blocks-lent → ofStates ns a t merged-row ≡ both
         rows-merged false u v w =
             sym (by-parts ∙ ap (λ (z : Try (List (List Cell))). assembled a accus stacks z) (sym (w ∙ as-blocks)) ∙ no-blocks a accus stacks)
         rows-merged true u v w = ap done state-merged ∙ sym (parts-made u v (w ∙ as-blocks)) ∙ sym by-parts

@@ -11,7 +11,8 @@ use borrow.Rule.Slice.PartMut.{putMid}
 use borrow.Author.Tests.{ltb-true, ltb-false}
 use Rattle.cells.specs.Try.{Try, stuck, done}
 use Rattle.cells.specs.declared.Cell.{Cell}
-use Rattle.cells.specs.HeldCodes.{cellOf, cellsOf, confine, Kept}
+use Rattle.cells.specs.HeldCodes.{decodedCell, decodedCells}
+use Rattle.cells.specs.Confined.{confine, Kept}
 use Rattle.cells.specs.Order.{Pointwise, end, cons}
 use Rattle.cells.proofs.CodeLaws.{cells-drop, cells-length, code-confined, codes-kept, kept-all}
 use Rattle.cells.proofs.CellLaws.{kept-self}
@@ -95,17 +96,17 @@ module _ (r p q : List ℕ) (f : ℕ) (rl : length r ≡ 197) (few : f ≤ 64) (
   pub made-at : (i : ℕ) → i < 5 → getD (made r p q f) i 0 ≡ getD r i 0
   made-at i h = sym (getD-take 5 (made r p q f) i 0 h) ∙ ap (λ (l : List ℕ). getD l i 0) (made-start 5 (omega arith)) ∙ getD-take 5 r i 0 h
 
-  pub made-state : (ns : List ℕ) (a : ℕ) → unusedOf (getD r 1 0) ≡ f → stateIn ns a (made r p q f) ≡ state a (cellOf (getD r 4 0)) (cellsOf p) (blocksOf ns (cellsOf q))
+  pub made-state : (ns : List ℕ) (a : ℕ) → unusedOf (getD r 1 0) ≡ f → stateIn ns a (made r p q f) ≡ state a (decodedCell (getD r 4 0)) (decodedCells p) (blocksOf ns (decodedCells q))
   unfolding stateIn
   made-state ns a u =
       let unused : unusedOf (getD (made r p q f) 1 0) ≡ f = ap unusedOf (made-at 1 (omega arith)) ∙ u in
       states a
-      (ap cellOf (made-at 4 (omega arith)))
-      (ap (λ (i : ℕ). cellsOf (part (5 + i) 69 (made r p q f))) unused
-      ∙ ap cellsOf
+      (ap decodedCell (made-at 4 (omega arith)))
+      (ap (λ (i : ℕ). decodedCells (part (5 + i) 69 (made r p q f))) unused
+      ∙ ap decodedCells
       (part-before (entered r p f) q 69 197 (omega arith) (omega (arith, same)) ql (5 + f) 69 (omega arith) (omega arith)
       ∙ part-written r p (5 + f) 69 (omega arith) (omega arith) pl))
-      (ap (λ (l : List ℕ). blocksOf ns (cellsOf l)) (part-written (entered r p f) q 69 197 (omega arith) (omega (arith, same)) ql))
+      (ap (λ (l : List ℕ). blocksOf ns (decodedCells l)) (part-written (entered r p f) q 69 197 (omega arith) (omega (arith, same)) ql))
 
 -- a number of the head is written that the state does not hold
 state-set : (ns : List ℕ) (a : ℕ) (r : List ℕ) (i v : ℕ) → i < 5 → (1 ≡ i → ⊥) → (4 ≡ i → ⊥) → stateIn ns a (set r i v) ≡ stateIn ns a r
@@ -113,10 +114,10 @@ unfolding stateIn
 state-set ns a r i v h n m =
     let u = unusedOf (getD r 1 0) in
     states a
-    (ap cellOf (getD-set-other r i 4 v 0 m))
-    (ap (λ (j : ℕ). cellsOf (part (5 + unusedOf j) 69 (set r i v))) (getD-set-other r i 1 v 0 n)
-    ∙ ap (λ (l : List ℕ). cellsOf (take (69 - (5 + u)) l)) (drop-set-lt (5 + u) r i v (omega arith)))
-    (ap (λ (l : List ℕ). blocksOf ns (cellsOf (take 128 l))) (drop-set-lt 69 r i v (omega arith)))
+    (ap decodedCell (getD-set-other r i 4 v 0 m))
+    (ap (λ (j : ℕ). decodedCells (part (5 + unusedOf j) 69 (set r i v))) (getD-set-other r i 1 v 0 n)
+    ∙ ap (λ (l : List ℕ). decodedCells (take (69 - (5 + u)) l)) (drop-set-lt (5 + u) r i v (omega arith)))
+    (ap (λ (l : List ℕ). blocksOf ns (decodedCells (take 128 l))) (drop-set-lt 69 r i v (omega arith)))
 
 -- ---- a way that is put down, and one that is taken
 
@@ -134,8 +135,8 @@ five-of (m ∷ f ∷ c ∷ w ∷ x ∷ l) e = five m f c w x l
 
 module _ (ns : List ℕ) (w : Way) (r p q : List ℕ) (x : ℕ) (rl : length r ≡ 197) (formed : Formed w) (numeric : Numeric ns w)
     (pl : length p ≡ 69 - (5 + w .state .free)) (ql : length q ≡ 128)
-    (accu : cellOf x ≡ confine (w .state .accu)) (stack : cellsOf p ≡ map confine (drop (w .state .free) (w .state .stack)))
-    (blocks : blocksOf ns (cellsOf q) ≡ blocksOf ns (map confine (w .blocks))) where
+    (accu : decodedCell x ≡ confine (w .state .accu)) (stack : decodedCells p ≡ map confine (drop (w .state .free) (w .state .stack)))
+    (blocks : blocksOf ns (decodedCells q) ≡ blocksOf ns (map confine (w .blocks))) where
   abbrev head : List ℕ
   head = set (set (set (set (set r 0 1) 1 (w .state .free)) 2 (w .cycles)) 3 (w .words)) 4 x
 
@@ -166,24 +167,24 @@ module _ (ns : List ℕ) (w : Way) (r p q : List ℕ) (x : ℕ) (rl : length r �
       ap₂ arrival
       (made-state head p q (w .state .free) head-length (formed .state .free) pl ql ns (w .state .at) (ap unusedOf (head-at 1 (omega arith)) ∙ unused-all (w .state .free) (formed .state .free))
       ∙ states (w .state .at)
-      (ap cellOf (head-at 4 (omega arith)) ∙ accu ∙ numeric .accu .kept .stays)
+      (ap decodedCell (head-at 4 (omega arith)) ∙ accu ∙ numeric .accu .kept .stays)
       (stack ∙ kept-all (numeric .stack))
       (blocks ∙ blocks-map confine ns (w .blocks) ∙ kept-blocks (numeric .blocks)))
       (ap₂ price (way-at 2 (omega arith)) (way-at 3 (omega arith)))
 
-module _ (at : ℕ) (r : List ℕ) (a : Cell) (f : ℕ) (st bl : List Cell) (rl : length r ≡ 197) (free : f ≡ unusedOf (getD r 1 0)) (stack : st ≡ cellsOf (part 5 69 r)) (blocks : bl ≡ cellsOf (part 69 197 r)) where
+module _ (at : ℕ) (r : List ℕ) (a : Cell) (f : ℕ) (st bl : List Cell) (rl : length r ≡ 197) (free : f ≡ unusedOf (getD r 1 0)) (stack : st ≡ decodedCells (part 5 69 r)) (blocks : bl ≡ decodedCells (part 69 197 r)) where
   -- the way that is read of a row
   abbrev read : Way
   read = record { state = record { at = at; accu = a; free = f; stack = st }; blocks = bl; cycles = getD r 2 0; words = getD r 3 0 }
 
-  pub take-holds : (ns : List ℕ) → a ≡ cellOf (getD r 4 0) → arrivalOf ns read ≡ arrivalIn ns at r
+  pub take-holds : (ns : List ℕ) → a ≡ decodedCell (getD r 4 0) → arrivalOf ns read ≡ arrivalIn ns at r
   unfolding stateIn priceIn arrivalOf whole reblock
   take-holds ns accu =
       let u = unusedOf (getD r 1 0) in
       let u≤ = unused-most (getD r 1 0) in
       ap (λ (s : State). arrival s (priceIn r))
       (states at accu
-      (ap₂ drop free stack ∙ sym (cells-drop u (part 5 69 r)) ∙ ap cellsOf (part-end 5 69 u r (omega arith) (omega arith)))
+      (ap₂ drop free stack ∙ sym (cells-drop u (part 5 69 r)) ∙ ap decodedCells (part-end 5 69 u r (omega arith) (omega arith)))
       (ap (blocksOf ns) blocks))
 
   pub take-formed : Formed read
@@ -192,7 +193,7 @@ module _ (at : ℕ) (r : List ℕ) (a : Cell) (f : ℕ) (st bl : List Cell) (rl 
     fields = ap length blocks ∙ cells-length (part 69 197 r) ∙ part-length 69 197 r (omega arith);
   }
 
-  pub take-numeric : (ns : List ℕ) → a ≡ cellOf (getD r 4 0) → Numeric ns read
+  pub take-numeric : (ns : List ℕ) → a ≡ decodedCell (getD r 4 0) → Numeric ns read
   unfolding whole reblock
   take-numeric ns accu = record {
     at = refl;

@@ -7,7 +7,8 @@ use lib.Dec.{eqb, ltb}
 use lib.ListN.{length, getD, take, drop}
 use Rattle.cells.specs.Try.{Try, stuck, done}
 use Rattle.cells.specs.declared.Cell.{Cell}
-use Rattle.cells.specs.HeldCodes.{cellOf, cellsOf, Kept}
+use Rattle.cells.specs.HeldCodes.{decodedCell, decodedCells}
+use Rattle.cells.specs.Confined.{Kept}
 use Rattle.machine.specs.Machine.{State, Price}
 use Rattle.machine.specs.Order.{Cellwise}
 use Rattle.machine_state.specs.HeldProgram.{linesIn}
@@ -49,14 +50,14 @@ unusedOf n = cond (ltb n 64) n 64
 -- what the answers of the merges stand for, with what is left in the first list
 unfoldable pub ofMerged : Merged → Try Cell
 ofMerged Unlike = stuck
-ofMerged (Is x) = done (cellOf x)
+ofMerged (Is x) = done (decodedCell x)
 
 abbrev pub ofCells : Bool → List ℕ → Try (List Cell)
-ofCells true xs = done (cellsOf xs)
+ofCells true xs = done (decodedCells xs)
 ofCells false xs = stuck
 
 abbrev pub ofBlocks : List ℕ → Bool → List ℕ → Try (List (List Cell))
-ofBlocks ns true xs = done (blocksOf ns (cellsOf xs))
+ofBlocks ns true xs = done (blocksOf ns (decodedCells xs))
 ofBlocks ns false xs = stuck
 
 -- a way as the definition has it; ns are the sizes of the blocks
@@ -65,7 +66,7 @@ arrivalOf ns w = arrival (whole ns (w .blocks) (w .state)) (record { cycles = w 
 
 -- the state of a row, at the address a
 unfoldable pub stateIn : List ℕ → ℕ → List ℕ → State
-stateIn ns a r = record { at = a; accu = cellOf (getD r 4 0); stack = cellsOf (part (5 + unusedOf (getD r 1 0)) 69 r); blocks = blocksOf ns (cellsOf (part 69 197 r)) }
+stateIn ns a r = record { at = a; accu = decodedCell (getD r 4 0); stack = decodedCells (part (5 + unusedOf (getD r 1 0)) 69 r); blocks = blocksOf ns (decodedCells (part 69 197 r)) }
 
 -- the largest sums
 unfoldable pub priceIn : List ℕ → Price

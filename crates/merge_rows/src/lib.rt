@@ -7,7 +7,8 @@ ghost use mathlib.Core.List.{List, map};
 ghost use Prim.Native.Nat.{ℕ, _+_, _<_, _≤_};
 ghost use lib.ListN.{length, getD, take, drop};
 ghost use Rattle.cells.specs.Merge.{mergeCells};
-ghost use Rattle.cells.specs.HeldCodes.{cellOf, cellsOf, confine};
+ghost use Rattle.cells.specs.HeldCodes.{decodedCell, decodedCells};
+ghost use Rattle.cells.specs.Confined.{confine};
 ghost use Rattle.machine_state.specs.HeldProgram.{firstOf, sizesOf, IsProgram};
 ghost use Rattle.machine_state.specs.HeldState.{blocksOf};
 ghost use Rattle.merge_theory.specs.Merge.{mergeLists, mergeStates, settle, larger, join};
@@ -24,7 +25,7 @@ pub struct Way {
 // The numbers of the cells of a stack from the place `low` on, as many as are lent.
 fn encode_stack(stack: [Cell; 64], low: usize, entries: &mut [u64])
     requires { ⌜ (length stack ≡ 64) × (low + length (now entries) ≤ 64) ⌝ }
-    ensures { λ _. ⌜ cellsOf (now (entries .exit)) ≡ map confine (take (length (now (entries .entry))) (drop low stack)) ⌝ }
+    ensures { λ _. ⌜ decodedCells (now (entries .exit)) ≡ map confine (take (length (now (entries .entry))) (drop low stack)) ⌝ }
 {
     let mut i = 0;
     while i < entries.len() {
@@ -36,7 +37,7 @@ fn encode_stack(stack: [Cell; 64], low: usize, entries: &mut [u64])
 // The numbers of the cells of the blocks from the place `low` on, as many as are lent.
 fn encode_fields(blocks: [Cell; 128], low: usize, fields: &mut [u64])
     requires { ⌜ (length blocks ≡ 128) × (low + length (now fields) ≤ 128) ⌝ }
-    ensures { λ _. ⌜ cellsOf (now (fields .exit)) ≡ map confine (take (length (now (fields .entry))) (drop low blocks)) ⌝ }
+    ensures { λ _. ⌜ decodedCells (now (fields .exit)) ≡ map confine (take (length (now (fields .entry))) (drop low blocks)) ⌝ }
 {
     let mut i = 0;
     while i < fields.len() {
@@ -48,7 +49,7 @@ fn encode_fields(blocks: [Cell; 128], low: usize, fields: &mut [u64])
 // The numbers of the fields that the blocks have, block by block.
 fn encode_blocks(blocks: [Cell; 128], fields: &mut [u64], code: &[u32; 5131])
     requires { ⌜ (length blocks ≡ 128) × (length (now fields) ≡ 128) × IsProgram (now code) ⌝ }
-    ensures { λ _. ⌜ blocksOf (sizesOf (now (code .entry))) (cellsOf (now (fields .exit))) ≡ blocksOf (sizesOf (now (code .entry))) (map confine blocks) ⌝ }
+    ensures { λ _. ⌜ blocksOf (sizesOf (now (code .entry))) (decodedCells (now (fields .exit))) ≡ blocksOf (sizesOf (now (code .entry))) (map confine blocks) ⌝ }
 {
     let count = machine_state::count_blocks(code);
     let mut k = 0;
@@ -63,7 +64,7 @@ fn encode_blocks(blocks: [Cell; 128], fields: &mut [u64], code: &[u32; 5131])
 // The cells of a stack.
 fn decode_stack(entries: &[u64]) -> [Cell; 64]
     requires { ⌜ length (now entries) ≡ 64 ⌝ }
-    ensures { λ r. ⌜ r ≡ cellsOf (now (entries .entry)) ⌝ }
+    ensures { λ r. ⌜ r ≡ decodedCells (now (entries .entry)) ⌝ }
 {
     let none = cells::unknown();
     let mut stack = [none; 64];
@@ -78,7 +79,7 @@ fn decode_stack(entries: &[u64]) -> [Cell; 64]
 // The cells of the blocks.
 fn decode_fields(fields: &[u64]) -> [Cell; 128]
     requires { ⌜ length (now fields) ≡ 128 ⌝ }
-    ensures { λ r. ⌜ r ≡ cellsOf (now (fields .entry)) ⌝ }
+    ensures { λ r. ⌜ r ≡ decodedCells (now (fields .entry)) ⌝ }
 {
     let none = cells::unknown();
     let mut blocks = [none; 128];
@@ -105,7 +106,7 @@ pub enum Merged {
 
 // The merge of the cells of two numbers. A number that came and is held already stays.
 fn merge_numbers(x: u64, y: u64) -> Merged
-    ensures { λ r. ⌜ ofMerged r ≡ mergeCells (cellOf x) (cellOf y) ⌝ }
+    ensures { λ r. ⌜ ofMerged r ≡ mergeCells (decodedCell x) (decodedCell y) ⌝ }
 {
     if x == y {
         return Merged::Is(x);
@@ -121,7 +122,7 @@ fn merge_numbers(x: u64, y: u64) -> Merged
 // The cells `came` are merged one by one into those of `held`, which are as many; whether all can be merged.
 fn merge_cells(held: &mut [u64], came: &[u64]) -> bool
     requires { ⌜ length (now held) ≡ length (now came) ⌝ }
-    ensures { λ r. ⌜ ofCells r (now (held .exit)) ≡ mergeLists mergeCells (cellsOf (now (held .entry))) (cellsOf (now (came .entry))) ⌝ }
+    ensures { λ r. ⌜ ofCells r (now (held .exit)) ≡ mergeLists mergeCells (decodedCells (now (held .entry))) (decodedCells (now (came .entry))) ⌝ }
 {
     let mut i = 0;
     while i < came.len() {
@@ -138,7 +139,7 @@ fn merge_cells(held: &mut [u64], came: &[u64]) -> bool
 // The fields of all blocks, block by block.
 fn merge_blocks(held: &mut [u64], came: &[u64], code: &[u32; 5131]) -> bool
     requires { ⌜ (length (now held) ≡ 128) × (length (now came) ≡ 128) × IsProgram (now code) ⌝ }
-    ensures { λ r. ⌜ ofBlocks (sizesOf (now (code .entry))) r (now (held .exit)) ≡ mergeLists (mergeLists mergeCells) (blocksOf (sizesOf (now (code .entry))) (cellsOf (now (held .entry)))) (blocksOf (sizesOf (now (code .entry))) (cellsOf (now (came .entry)))) ⌝ }
+    ensures { λ r. ⌜ ofBlocks (sizesOf (now (code .entry))) r (now (held .exit)) ≡ mergeLists (mergeLists mergeCells) (blocksOf (sizesOf (now (code .entry))) (decodedCells (now (held .entry)))) (blocksOf (sizesOf (now (code .entry))) (decodedCells (now (came .entry)))) ⌝ }
 {
     let count = machine_state::count_blocks(code);
     let mut k = 0;

@@ -9,11 +9,11 @@ use native.Mathlib.Omega.{arith}
 use lib.ListN.{length, length-set}
 use Rattle.refusals.specs.declared.Refusal.{Refusal}
 use Rattle.refusals.specs.declared.Refusal.the-variants.{Stuck}
-use Rattle.refusals.specs.declared.Verdict.the-variants.{Accepted, Refused}
+use Rattle.refusals.specs.declared.Acceptance.the-variants.{Accepted, Refused}
 use Rattle.cells.specs.Try.{Try, stuck, done}
 use Rattle.cells.specs.declared.Cell.{Cell}
 use Rattle.cells.specs.Cells.{unknown}
-use Rattle.cells.specs.HeldCodes.{Kept}
+use Rattle.cells.specs.Confined.{Kept}
 use Rattle.cells.proofs.CellLaws.{kept-lawful, unknown-kept}
 use Rattle.machine.specs.Machine.{State, Price, Next, stops, goes, opens, Code, height, jump, sum, reblock, step}
 use Rattle.machine.specs.Order.{Cellwise}
@@ -26,8 +26,8 @@ use Rattle.bound_theory.specs.Tree.{Report, Verdict, refused}
 use Rattle.machine_step.specs.declared.Price as steps
 use Rattle.machine_step.specs.declared.Next as leads-to
 use Rattle.machine_step.specs.declared.Next.the-variants as leads
-use Rattle.machine_step.specs.declared.Change.{Change}
-use Rattle.machine_step.specs.declared.Change.the-variants as change
+use Rattle.machine_step.specs.declared.Update.{Update}
+use Rattle.machine_step.specs.declared.Update.the-variants as change
 use Rattle.machine_step.specs.HeldStep.{ofPrice, SmallPrice, ofNext, Differs}
 use Rattle.bound_figures.specs.declared.Found.{Found}
 use Rattle.bound_figures.specs.HeldFigures.{acceptedAs, encode, refusedAs}
@@ -196,7 +196,7 @@ pub leads-opens : (x : leads-to.Next) (p q : steps.Price) (a : ℕ) (s : State) 
 unfolding ofNext
 leads-opens x p q a s f u e g h = ap (λ (y : leads-to.Next). ofNext y s) (sym e) ∙ h ∙ ap f g
 
-pub same-fields : (x : Change) (fs gs : List Cell) → Differs x fs gs → length fs ≡ 128 → length gs ≡ 128
+pub same-fields : (x : Update) (fs gs : List Cell) → Differs x fs gs → length fs ≡ 128 → length gs ≡ 128
 same-fields change.Nothing fs gs e l = ap length e ∙ l
 same-fields (change.Field i c) fs gs e l = ap length (e .1) ∙ length-set fs i c ∙ l
 

@@ -9,8 +9,8 @@ use lib.ListN.{length, getD, drop, set, replicate, length-set}
 use lib.Seq.{getD-take, getD-drop, getD-set-same, getD-set-other}
 use borrow.Author.Tests.{ltb-true, ltb-false}
 use Rattle.refusals.specs.declared.Refusal.{Refusal}
-use Rattle.refusals.specs.declared.Verdict as code-verdict
-use Rattle.refusals.specs.declared.Verdict.the-variants.{Accepted, Refused}
+use Rattle.refusals.specs.declared.Acceptance as code-verdict
+use Rattle.refusals.specs.declared.Acceptance.the-variants.{Accepted, Refused}
 use Rattle.cells.specs.declared.Cell.{Cell}
 use Rattle.cells.specs.Cells.{unknown}
 use Rattle.machine.specs.Machine.{State, Code, step, reblock}
@@ -222,7 +222,7 @@ pub not-accepted : {A : Type 0} (f : Found) (x : Refusal) (v : Verdict) (q : Rep
 unfolding acceptedAs
 not-accepted f x v q e s h =
     let k : f ≡ acceptedAs q = subst (Shows f) h s in
-    let z : _≡_ {A = code-verdict.Verdict} Accepted (Refused x) = sym (ap (λ (f : Found). f .verdict) k) ∙ e in
+    let z : _≡_ {A = code-verdict.Acceptance} Accepted (Refused x) = sym (ap (λ (f : Found). f .verdict) k) ∙ e in
     let y : _≡_ {A = ℕ} 0 1 = cc in
     absurd (omega arith)
 

@@ -4,7 +4,7 @@ use mathlib.Core.Path.{_≡_}
 use mathlib.Core.Bool.{Bool, true, false}
 use mathlib.Core.List.{List}
 use Rattle.refusals.specs.declared.Refusal.{Refusal}
-use Rattle.refusals.specs.declared.Verdict.the-variants.{Refused}
+use Rattle.refusals.specs.declared.Acceptance.the-variants.{Refused}
 use Rattle.machine.specs.Machine.{Price}
 use Rattle.bound_theory.specs.Tree.{Report, Verdict, refused}
 use Rattle.machine_step.specs.declared.Price as code

@@ -5,14 +5,14 @@ use machine_state::State;
 use machine_step::Next;
 use machine_step::Price;
 use merge_rows::Way;
+use refusals::Acceptance;
 use refusals::Refusal;
-use refusals::Verdict;
 ghost use mathlib.Core.Path.{_≡_};
 ghost use mathlib.Core.List.{List};
 ghost use mathlib.Core.Bool.{true};
 ghost use Prim.Native.Nat.{ℕ, suc, _+_, _<_, _≤_, max};
 ghost use lib.ListN.{length};
-ghost use Rattle.cells.specs.HeldCodes.{Kept};
+ghost use Rattle.cells.specs.Confined.{Kept};
 ghost use Rattle.cells.specs.Cells.{unknown};
 ghost use Rattle.machine.specs.Machine.{step};
 ghost use Rattle.machine.specs.Order.{Cellwise};
@@ -21,7 +21,7 @@ ghost use Rattle.machine_state.specs.HeldState.{WellFormed, whole};
 ghost use Rattle.bound_theory.specs.Tree.{Report, accepted};
 ghost use Rattle.machine_step.specs.HeldStep.{SmallPrice};
 ghost use Rattle.bound_figures.specs.HeldFigures.{acceptedAs, Shows};
-ghost use Rattle.refusals.specs.declared.Verdict.the-variants.{Accepted};
+ghost use Rattle.refusals.specs.declared.Acceptance.the-variants.{Accepted};
 ghost use Rattle.merge_theory.specs.Merge.{Table, slot, carry, visit, span, only, merged};
 ghost use Rattle.merge_theory.specs.Ways.{sent, sends};
 ghost use Rattle.merge_way.specs.Way.{Origins, marked, departs, beside, nowhence};
@@ -124,7 +124,7 @@ fn reached(f: Found, h: usize) -> Found
 {
     let depth = bound_figures::larger(f.depth, h as u64);
     Found {
-        verdict: Verdict::Accepted,
+        verdict: Acceptance::Accepted,
         used: f.used + 1,
         cycles: f.cycles,
         words: f.words,
@@ -140,7 +140,7 @@ fn ended(f: Found, w: Way) -> Found
     let cycles = bound_figures::larger(f.cycles, w.cycles);
     let words = bound_figures::larger(f.words, w.words);
     Found {
-        verdict: Verdict::Accepted,
+        verdict: Acceptance::Accepted,
         used: f.used,
         cycles: cycles,
         words: words,
@@ -279,7 +279,7 @@ fn sweep_by(
         words: 0,
     };
     let nothing = Found {
-        verdict: Verdict::Accepted,
+        verdict: Acceptance::Accepted,
         used: 0,
         cycles: 0,
         words: 0,
@@ -295,7 +295,7 @@ fn sweep_by(
         p = visit(code, rows, kept, j, p);
         let f = p.found;
         let verdict = f.verdict;
-        let Verdict::Accepted = verdict else {
+        let Acceptance::Accepted = verdict else {
             return f;
         };
         j += 1;

@@ -18,7 +18,7 @@ use Rattle.bound_theory.specs.Tree.{Report, Verdict, accepted, refused}
 use Rattle.bound_theory.specs.Traces.{Move, move, Transition, goes-on, not-taken, taken}
 use Rattle.bound_theory.specs.Promises.{NoGreater, LargestOver}
 use Rattle.merge_theory.specs.Merge.{Arrival, arrival, Slot, empty, unlike, held, slot, Table, nowhere, join, reach, finish, sweep, only, none}
-use Rattle.merge_theory.specs.Ways.{fill, Among, Under, NoMore, Together, Unlike, MergedPath, stop, go-on, Comes, begins, follows, Fault, FirstFault, LargestMerged, count}
+use Rattle.merge_theory.specs.Ways.{fill, Among, Under, NoMore, Together, Unlike, MergedPath, stop, go-on, Arrives, begins, follows, Fault, FirstFault, LargestMerged, count}
 use Rattle.merge_theory.specs.Ways as ways
 use Rattle.merge_theory.proofs.FillLaws.{assess, arrive-own, arrive-has, New, itself, former, arrive-new, From, from, fill-keeps, fill-start, fill-has, Source, before, by-way, fill-from, swept}
 use Rattle.merge_theory.proofs.SlotLaws.{Summary, of-none, of-unlike, of-held, nobody, summary, slot-held, slot-unlike, parted-unlike, unlike-parted}
@@ -109,14 +109,14 @@ module _ (act : State → Try Next) (pass : Pass act) where
   unfolding came
   way-comes b s {p = p} e w = let (lo, hi) = held-range b e in fill-has act z rising n (start .at) (only start) b s p lo (omega arith) e w
 
-  pub comes-where : (b : ℕ) (x : Arrival) → Among x (came b) ↔ ((x .state .at ≡ b) × Comes act came start x)
+  pub comes-where : (b : ℕ) (x : Arrival) → Among x (came b) ↔ ((x .state .at ≡ b) × Arrives act came start x)
   comes-where b x = (λ h. out (origin b x h), λ (e, k). subst (λ b. Among x (came b)) e (in-table k))
     where
-      out : Origin b x → (x .state .at ≡ b) × Comes act came start x
+      out : Origin b x → (x .state .at ≡ b) × Arrives act came start x
       out (is-start e f) = (ap (λ (y : Arrival). y .state .at) e ∙ sym f, begins e)
       out (on-way a lo k hi e w f g) = (ap (λ (y : Arrival). y .state .at) f ∙ sym g, follows a e w f)
 
-      in-table : Comes act came start x → Among x (came (x .state .at))
+      in-table : Arrives act came start x → Among x (came (x .state .at))
       in-table (begins e) = subst (λ (y : Arrival). Among y (came (y .state .at))) (sym e) start-comes
       in-table (follows a {s} e w f) = subst (λ (y : Arrival). Among y (came (y .state .at))) (sym f) (way-comes a s e w)
 

@@ -8,10 +8,9 @@ use Rattle.numbers.specs.Numbers.{wrap, holds}
 use Rattle.refusals.specs.declared.Refusal.the-variants.{Stuck, NoMeeting}
 use Rattle.cells.specs.Try.{_>>=_}
 use Rattle.cells.specs.declared.Cell.{Cell}
-use Rattle.cells.specs.Cells.{number, unknown, between, handle, calculate₂, results, range₂, wider, map₂, operate₂, conditionIn, condition}
+use Rattle.cells.specs.Cells.{exactly, unknown, between, handle, calculate₂, results, range₂, wider, map₂, operate₂, conditionIn, condition}
 use Rattle.cells.specs.Merge.{mergeValues, mergeCells}
-use Rattle.instructions.specs.Kinds.{kinds, kindNames, operand}
-use Rattle.instructions.specs.HeldColumns.{kindAt}
+use Rattle.instructions.specs.Kinds.{kinds, kindNames, operand, kindAt}
 use Rattle.machine.specs.Lists.{nth, without}
 use Rattle.machine.specs.Machine.{instruction, State, Instruction, Code, fetch, height, jump, load, restack, push, pop, advance, ahead, withExtra, ways, perform, prepare, execute, step}
 use Rattle.bound_theory.specs.Tree.{Verdict, accepted, refused}
@@ -52,7 +51,7 @@ pub examples :
     × (merged (code (line (bytes "BRANCHIF") 1 5 0 0 ∷ line (bytes "STOP") 0 1 0 0 ∷ [])) (begins unknown []) ≡ figures 6 0 0 2)
     × (merged (code (line (bytes "BRANCHIF") 1 5 0 3 ∷ line (bytes "STOP") 0 1 0 0 ∷ [])) (begins unknown []) ≡ figures 9 0 0 2)
     -- case 3
-    × (merged (code (line (bytes "STOP") 0 0 0 0 ∷ [])) (begins (number (pos 0)) []) ≡ figures 0 0 0 1)
+    × (merged (code (line (bytes "STOP") 0 0 0 0 ∷ [])) (begins (exactly (pos 0)) []) ≡ figures 0 0 0 1)
     -- case 4: CYCLES and WORDS are those of different ways
     × (merged (code (line (bytes "BRANCHIF") 3 1 0 0 ∷ line (bytes "C_CALL1") 0 11 1 0 ∷ line (bytes "STOP") 0 1 0 0 ∷ line (bytes "C_CALL1") 0 5 9 0 ∷ line (bytes "STOP") 0 1 0 0 ∷ []))
     (begins unknown []) ≡ figures 13 9 0 5)

@@ -19,7 +19,7 @@ use Rattle.machine.specs.Machine.{State, Price, Code, jump, step}
 use Rattle.machine.specs.Forward.{Forward}
 use Rattle.bound_theory.proofs.ForwardLaws.{forward-once}
 use Rattle.merge_theory.specs.Merge.{mergeLists, mergeStates, Arrival, Slot, empty, unlike, held, settle, join, slot, Table}
-use Rattle.merge_theory.specs.Ways.{Among, first, later, Under, Together, Comes, begins, follows, Fault, no-meeting, is-stuck, FirstFault}
+use Rattle.merge_theory.specs.Ways.{Among, first, later, Under, Together, Arrives, begins, follows, Fault, no-meeting, is-stuck, FirstFault}
 use Rattle.merge_theory.specs.Promises.{Gathered}
 use Rattle.merge_theory.proofs.SlotLaws.{Summary, of-none, of-unlike, of-held, nobody, summary, slot-unlike}
 
@@ -103,7 +103,7 @@ module _ (c : Code) (forward : Forward c) (s : State) where
   unfolding jump
   carried-over came came′ g g′ a below x h = let (e, k) = g .comes a x .0 h in g′ .comes a x .1 (e, go e k)
     where
-      go : x .state .at ≡ a → Comes (step c unknown) came s x → Comes (step c unknown) came′ s x
+      go : x .state .at ≡ a → Arrives (step c unknown) came s x → Arrives (step c unknown) came′ s x
       go e (begins f) = begins f
       go e (follows b {s = t} {t = u} {m = m} f w k) =
           let l = forward-once c forward .rises unknown (jump b t) m u w in

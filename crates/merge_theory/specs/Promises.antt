@@ -17,7 +17,7 @@ use Rattle.bound_theory.specs.Traces.{Move, cost, wordSum, Trace, Path, CostMax
 use Rattle.bound_theory.specs.Run.{run}
 use Rattle.bound_theory.specs.Promises.{NoGreater, Interruptible, Monotone, LargestOver}
 use Rattle.merge_theory.specs.Merge.{Arrival, empty, unlike, held, slot, Table, span, merged}
-use Rattle.merge_theory.specs.Ways.{table, Among, Together, Unlike, MergedPath, Comes, Fault, FirstFault, LargestMerged, count}
+use Rattle.merge_theory.specs.Ways.{table, Among, Together, Unlike, MergedPath, Arrives, Fault, FirstFault, LargestMerged, count}
 
 -- what holds of all code that passes refusals 6 and 13
 abbrev pub OfSinglePass : (Code → Type 0) → Type 0
@@ -70,7 +70,7 @@ MergedCoversPaths = OfSinglePass (λ c. (s : State) (q : Report) → merged c s 
 -- a table holds what comes to each address from the start s on
 pub record Gathered (c : Code) (s : State) (came : Table) : Type 0 where
   -- to each address come the start and what the merged states lead to, and nothing else
-  pub comes : (a : ℕ) (x : Arrival) → Among x (came a) ↔ ((x .state .at ≡ a) × Comes (step c unknown) came s x)
+  pub comes : (a : ℕ) (x : Arrival) → Among x (came a) ↔ ((x .state .at ≡ a) × Arrives (step c unknown) came s x)
   -- "merges the states where ways meet"
   pub merges : (a : ℕ) (m : State) (p : Price) → slot (came a) ≡ held m p → Together (came a) m p
   -- which is not possible where two of them are unlike, and there is nothing where none comes

@@ -78,9 +78,9 @@ module _ (act : State → Try Next) (came : Table) where
     go-on : {a : ℕ} {s t : State} {p : Price} {m : Move} {ms : List Move} → slot (came a) ≡ held s p → Transition act (jump a s) m t → MergedPath (t .at) ms → MergedPath a (m ∷ ms)
 
   -- x comes to its address: it is the start, with nothing spent, or a way from a merged state leads to it, with what that has cost at most
-  pub data Comes (start : State) (x : Arrival) : Type 0 where
-    begins : x ≡ arrival start (record { cycles = 0; words = 0 }) → Comes start x
-    follows : (a : ℕ) {s t : State} {p : Price} {m : Move} → slot (came a) ≡ held s p → Transition act (jump a s) m t → x ≡ arrival t (sum p (m .price)) → Comes start x
+  pub data Arrives (start : State) (x : Arrival) : Type 0 where
+    begins : x ≡ arrival start (record { cycles = 0; words = 0 }) → Arrives start x
+    follows : (a : ℕ) {s t : State} {p : Price} {m : Move} → slot (came a) ≡ held s p → Transition act (jump a s) m t → x ≡ arrival t (sum p (m .price)) → Arrives start x
 
   -- a refusal at the address a: 14 where two of the states that come are unlike, 7 where the merged state is stuck
   pub data Fault (a : ℕ) : Refusal → Type 0 where

@@ -21,10 +21,10 @@ use Rattle.bound_theory.specs.Tree.{Report, accepted}
 use Rattle.bound_theory.specs.Traces.{Move, move, Transition, goes-on, not-taken, taken, cost}
 use Rattle.bound_theory.specs.Promises.{LargestOver}
 use Rattle.merge_theory.specs.Merge.{Arrival, arrival, Slot, empty, unlike, held, slot, Table, end, span, merged}
-use Rattle.merge_theory.specs.Ways.{table, Among, MergedPath, stop, go-on, Comes, begins, follows}
+use Rattle.merge_theory.specs.Ways.{table, Among, MergedPath, stop, go-on, Arrives, begins, follows}
 use Rattle.merge_theory.specs.Promises.{Gathered}
 use Rattle.merge_theory.proofs.Theorems.{table-gathered, merged-exact}
-use Rattle.merge_way.specs.Way.{spentIn, spentAt, Goal, out, to, Kept, nothing, kept, origins, wayBack, costliestWay, place, linesFrom}
+use Rattle.merge_way.specs.Way.{spentIn, spentAt, Goal, out, to, Kept, nothing, kept, origins, wayBack, costliestWay, point, linesFrom}
 use Rattle.merge_way.specs.Promises.{MergedTrace, here, further, Leaves, ends, leads, Before, itself, more, lower, Costliest, lineAt}
 use Rattle.merge_way.specs.Promises as promises
 use Rattle.merge_way.proofs.OriginLaws.{move-at, Has, Genuine, kept-sound, kept-first}
@@ -66,7 +66,7 @@ module _ (c : Code) (forward : Forward c) (closed : Closed c) (start : State) wh
   among-range zero a x l h = absurd (omega arith)
   among-range (suc k) a x l h = go (gathered .comes a x .0 h) (among-range k)
     where
-      go : (x .state .at ≡ a) × Comes act came start x → ((b : ℕ) (y : Arrival) → b < k → Among y (came b) → (start .at ≤ b) × (b < start .at + span c start)) → (start .at ≤ a) × (a < start .at + span c start)
+      go : (x .state .at ≡ a) × Arrives act came start x → ((b : ℕ) (y : Arrival) → b < k → Among y (came b) → (start .at ≤ b) × (b < start .at + span c start)) → (start .at ≤ a) × (a < start .at + span c start)
       go (e, begins f) ih = let i = ap (λ (y : Arrival). y .state .at) f in omega arith
       go (e, follows b {s = u} {t} f w g) ih =
           let o = onward b u w in
@@ -140,7 +140,7 @@ module _ (c : Code) (forward : Forward c) (closed : Closed c) (start : State) wh
           let v : y ≡ p .cycles = omega arith in
           record { move = n; keeps = k ∙ ap (λ y. kept y n) v; address = a; is = move-at a u w; from = u; spent = q; comes = f; state = t; way = w; at = j; sums = sym v ∙ l }
 
-      go : (x : Arrival) → x .spent .cycles ≡ p .cycles → (x .state .at ≡ b) × Comes act came start x → Led b (p .cycles)
+      go : (x : Arrival) → x .spent .cycles ≡ p .cycles → (x .state .at ≡ b) × Arrives act came start x → Led b (p .cycles)
       go x r (i, begins f) = absurd (ne (sym i ∙ ap (λ (y : Arrival). y .state .at) f))
       go x r (i, follows a {t = t} f w g) =
           let j : t .at ≡ b = sym (ap (λ (y : Arrival). y .state .at) g) ∙ i in
@@ -186,7 +186,7 @@ module _ (c : Code) (forward : Forward c) (closed : Closed c) (start : State) wh
   start-spent : {s : State} {p : Price} → slot (came (start .at)) ≡ held s p → p .cycles ≡ 0
   start-spent {p = p} e = let (x, h, r) = gathered .merges (start .at) _ _ e .cycles in go x r (gathered .comes (start .at) x .0 h)
     where
-      go : (x : Arrival) → x .spent .cycles ≡ p .cycles → (x .state .at ≡ start .at) × Comes act came start x → p .cycles ≡ 0
+      go : (x : Arrival) → x .spent .cycles ≡ p .cycles → (x .state .at ≡ start .at) × Arrives act came start x → p .cycles ≡ 0
       go x r (i, begins f) = sym r ∙ ap (λ (y : Arrival). y .spent .cycles) f
       go x r (i, follows a {s} f w g) =
           let (lo, hi) = held-range a f in
@@ -243,8 +243,8 @@ module _ (c : Code) (forward : Forward c) (closed : Closed c) (start : State) wh
   best-cost (next {a} {t = t} e w f h o b) = omega (arith, held-spent a e, held-spent (t .at) f, best-cost b)
 
   -- its lines
-  best-lines : {x a : ℕ} {ms : List Move} → Best x a ms → (y : ℕ) → y ≡ spentAt c start a → linesFrom y ms ≡ map (λ m. lineAt (spentAt c start) (place m)) ms
-  unfolding linesFrom place jump
+  best-lines : {x a : ℕ} {ms : List Move} → Best x a ms → (y : ℕ) → y ≡ spentAt c start a → linesFrom y ms ≡ map (λ m. lineAt (spentAt c start) (point m)) ms
+  unfolding linesFrom point jump
   best-lines (last {a} {s} {q = q} e f h o) y i = rw i refl
   best-lines (next {a} {s} {t = t} {m = m} {ms = ms} e w f h o b) y i =
       let j : y ≡ spentAt c start (m .state .at) = i ∙ ap (spentAt c start) (sym (move-at a s w)) in
@@ -387,5 +387,5 @@ module _ (c : Code) (forward : Forward c) (closed : Closed c) (start : State) wh
             let e : cost ls ≡ spentAt c start b = omega (arith, v .sums, start-free) in
             (e, rw e (record { witness = ls; path = v .trace; attains = e; most = spent-largest b (v .state) (v .spent) (v .reached) .most }))
 
-    pub lines-found : linesFrom 0 (costliestWay c start) ≡ map (λ m. lineAt (spentAt c start) (place m)) (costliestWay c start)
+    pub lines-found : linesFrom 0 (costliestWay c start) ≡ map (λ m. lineAt (spentAt c start) (point m)) (costliestWay c start)
     lines-found = let (x, le, best) = listed in best-lines best 0 (sym start-free)

@@ -8,10 +8,9 @@ use Rattle.text.specs.Text.{bytes, equals, find}
 use Rattle.numbers.specs.Numbers.{wrap, holds, numbers}
 use Rattle.cells.specs.Try.{_>>=_}
 use Rattle.cells.specs.declared.Cell.{Cell}
-use Rattle.cells.specs.Cells.{range, number, unknown, between, calculate₂, always, opposite, judged, wider, range₂, map₂, operate₂, conditionIn, condition}
+use Rattle.cells.specs.Cells.{range, exactly, unknown, between, calculate₂, always, negated, judged, wider, range₂, map₂, operate₂, conditionIn, condition}
 use Rattle.cells.specs.Merge.{mergeValues, mergeCells}
-use Rattle.instructions.specs.Kinds.{kinds, kindNames, operand}
-use Rattle.instructions.specs.HeldColumns.{kindAt}
+use Rattle.instructions.specs.Kinds.{kinds, kindNames, operand, kindAt}
 use Rattle.machine.specs.Lists.{nth, without}
 use Rattle.machine.specs.Machine.{instruction, State, Instruction, Code, fetch, height, jump, load, restack, pop, advance, ahead, withExtra, ways, perform, prepare, execute, step}
 use Rattle.bound_theory.specs.Tree.{expand, tree, steps, size, cycles, words, depth, Decision, T, worse, path, Report, report, accepted, judge, verdict, explore, bound}
@@ -45,15 +44,15 @@ Computed =
     (bound code 1000 (start (between (pos 1) (pos 5)) []) ≡ accepted (figures 6 0 2 []))
     × (formerBound code 1000 (start (between (pos 1) (pos 5)) []) ≡ accepted (figures 6 0 3 (T ∷ [])))
     × (formerBound code 1000 (start unknown []) ≡ accepted (figures 6 0 3 (T ∷ [])))
-    × (formerBound code 1000 (start (number (pos 7)) []) ≡ accepted (figures 6 0 2 []))
+    × (formerBound code 1000 (start (exactly (pos 7)) []) ≡ accepted (figures 6 0 2 []))
     × (formerMerged code (start (between (pos 1) (pos 5)) []) ≡ accepted (figures 6 0 2 []))
     -- a comparison that holds of every number is known; with an unknown it was not
     × (bound comparison 1000 (start unknown (lowest ∷ [])) ≡ accepted (figures 7 1 3 []))
     × (formerBound comparison 1000 (start unknown (lowest ∷ [])) ≡ accepted (figures 7 1 4 (T ∷ [])))
-    × (formerBound comparison 1000 (start (number (pos 7)) (lowest ∷ [])) ≡ accepted (figures 7 1 3 []))
+    × (formerBound comparison 1000 (start (exactly (pos 7)) (lowest ∷ [])) ≡ accepted (figures 7 1 3 []))
     × (merged comparison (start unknown (lowest ∷ [])) ≡ accepted (figures 7 1 3 []))
     × (formerMerged comparison (start unknown (lowest ∷ [])) ≡ accepted (figures 7 1 3 []))
 
 pub computed : Computed
-unfolding code comparison equals find wrap holds _>>=_ calculate₂ always opposite judged wider range₂ map₂ operate₂ conditionIn condition kinds kindNames operand kindAt instruction nth without fetch height jump load restack pop advance ahead withExtra ways perform prepare execute step expand tree steps size cycles words depth worse path report judge verdict explore bound mergeValues mergeCells mergeLists mergeStates larger settle join slot nowhere arrive send reach finish carry visit sweep only merged between whole formerValue formerState isWide entryWide comparing comparesUnknown forget formerStep formerBound formerMerged
+unfolding code comparison equals find wrap holds _>>=_ calculate₂ always negated judged wider range₂ map₂ operate₂ conditionIn condition kinds kindNames operand kindAt instruction nth without fetch height jump load restack pop advance ahead withExtra ways perform prepare execute step expand tree steps size cycles words depth worse path report judge verdict explore bound mergeValues mergeCells mergeLists mergeStates larger settle join slot nowhere arrive send reach finish carry visit sweep only merged between whole formerValue formerState isWide entryWide comparing comparesUnknown forget formerStep formerBound formerMerged
 computed = (refl, refl, refl, refl, refl, refl, refl, refl, refl, refl)

@@ -7,7 +7,7 @@ use Rattle.cells.specs.declared.Value.{Value}
 use Rattle.cells.specs.declared.Value.the-variants.{Range, Handle}
 use Rattle.cells.specs.declared.Cell.{Cell}
 use Rattle.cells.specs.Cells.{cell, range, unknown}
-use Rattle.cells.specs.HeldCodes.{Confined, Kept}
+use Rattle.cells.specs.Confined.{Confined, Kept}
 use Rattle.cells.specs.Order.{Refines, same, Pointwise, end, cons}
 use Rattle.cells.proofs.RangeLaws.{covers, in-unknown, one-or-more}
 use Rattle.cells.proofs.CellLaws.{range-bits}

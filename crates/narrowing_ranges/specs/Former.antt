@@ -15,7 +15,7 @@ use Rattle.cells.specs.declared.Binary.{Binary}
 use Rattle.cells.specs.declared.Binary.the-variants.{Add, Subtract, Compare}
 use Rattle.cells.specs.Cells.{range, high, unknown, between, handle}
 use Rattle.cells.specs.Merge.{lower, upper}
-use Rattle.cells.specs.HeldCodes.{Confined}
+use Rattle.cells.specs.Confined.{Confined}
 use Rattle.instructions.specs.declared.Operation.{Operation}
 use Rattle.instructions.specs.declared.Operation.the-variants.{Nothing, Access, Drop, Assign, Constant, GetField, SetField, Branch, BranchIf, BranchIfNot, Call, Stop, Alter, Combine}
 use Rattle.machine.specs.Lists.{nth}

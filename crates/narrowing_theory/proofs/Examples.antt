@@ -11,12 +11,11 @@ use Rattle.text.proofs.TextLaws.{none, more}
 use Rattle.numbers.specs.Numbers.{wrap}
 use Rattle.cells.specs.Try.{done, _>>=_}
 use Rattle.cells.specs.declared.Cell.{Cell}
-use Rattle.cells.specs.Cells.{number, unknown, between, conditionIn, condition}
+use Rattle.cells.specs.Cells.{exactly, unknown, between, conditionIn, condition}
 use Rattle.cells.specs.Order.{Refines, inside, end}
 use Rattle.cells.specs.Merge.{mergeValues, mergeCells}
 use Rattle.cells.proofs.CellLaws.{allowed-lawful}
-use Rattle.instructions.specs.Kinds.{kinds, kindNames, operand}
-use Rattle.instructions.specs.HeldColumns.{kindAt}
+use Rattle.instructions.specs.Kinds.{kinds, kindNames, operand, kindAt}
 use Rattle.instructions.specs.declared.Operation.{Operation}
 use Rattle.instructions.specs.declared.Operation.the-variants.{BranchIf, Call, Stop}
 use Rattle.machine.specs.Lists.{nth}
@@ -53,7 +52,7 @@ abbrev pub count : Cell
 count = between (pos 0) (pos 1008)
 
 abbrev pub seven : Cell
-seven = number (pos 7)
+seven = exactly (pos 7)
 
 abbrev pub figures : ℕ → ℕ → List Decision → Report
 figures c n ds = record { cycles = c; words = 0; depth = 0; steps = n; path = ds }

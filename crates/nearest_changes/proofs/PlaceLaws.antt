@@ -15,9 +15,8 @@ use Rattle.machine.specs.Machine.{State, height}
 use Rattle.machine.proofs.ListLaws.{nth-out}
 use Rattle.nearest_changes.specs.declared.Position.{Position}
 use Rattle.nearest_changes.specs.declared.Position.the-variants.{Accu, Entry, Field}
-use Rattle.nearest_changes.specs.Places.{cellAt, from, fieldsFrom, positions}
+use Rattle.nearest_changes.specs.Places.{cellAt, from, fieldsFrom, positions, positionOf, allPositions}
 use Rattle.nearest_changes.specs.Changes.{numberAt, changesOf, changesAt, changesBy}
-use Rattle.nearest_changes.specs.Held.{positionOf, allPositions}
 use Rattle.nearest_changes.proofs.FirstLaws.{flatMap-append, flatMap-map, from-append}
 use Rattle.nearest_changes.proofs.CellLaws.{never, number-out}
 

@@ -16,9 +16,9 @@ use Rattle.cells.specs.Try.{Try, stuck, done}
 use Rattle.machine.specs.Machine.{State}
 use Rattle.nearest_changes.specs.declared.Position.{Position}
 use Rattle.nearest_changes.specs.declared.Change.{Change}
-use Rattle.nearest_changes.specs.Places.{from}
+use Rattle.nearest_changes.specs.Places.{from, positionOf}
 use Rattle.nearest_changes.specs.Changes.{numberAt, change, changeTo, changesOf, changesAt, changesBy, changes}
-use Rattle.nearest_changes.specs.Held.{positionOf, shift, directed, trialOf, Present}
+use Rattle.nearest_changes.specs.Held.{shift, directed, trialOf, Present}
 use Rattle.nearest_changes.proofs.FirstLaws.{flatMap-append, from-append}
 use Rattle.nearest_changes.proofs.CellLaws.{number-present}
 use Rattle.nearest_changes.proofs.PlaceLaws.{Limited, all-changes}

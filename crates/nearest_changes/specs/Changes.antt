@@ -6,7 +6,7 @@ use mathlib.Core.Option.{Option, some, none}
 use lib.IntN.{ℤ, pos, _+ℤ_, _-ℤ_}
 use Rattle.numbers.specs.Numbers.{within, numbers}
 use Rattle.cells.specs.Try.{Try, stuck, done, _>>=_}
-use Rattle.cells.specs.Cells.{number}
+use Rattle.cells.specs.Cells.{exactly}
 use Rattle.machine.specs.Machine.{State}
 use Rattle.nearest_changes.specs.declared.Position.{Position}
 use Rattle.nearest_changes.specs.declared.Change.{Change}
@@ -44,7 +44,7 @@ changes s = flatMap (changesBy s) (from 1 64)
 
 -- the start with a change made: "the cell's value is changed, not the length of the text"
 unfoldable pub applied : Change → State → State
-applied c s = replaceAt (c .place) (number (c .value)) s
+applied c s = replaceAt (c .place) (exactly (c .value)) s
 
 -- the first of a list that passes a test
 unfoldable pub first : {A : Type 0} → (A → Bool) → List A → Option A

@@ -2,34 +2,26 @@
 use Prim.Native.Nat.{ℕ, _+_, _-_, _/_, _%_}
 use mathlib.Core.Path.{_≡_}
 use mathlib.Core.Bool.{cond}
-use mathlib.Core.List.{List, [], _∷_, map}
-use lib.Dec.{eqb, ltb}
+use mathlib.Core.List.{List, [], _∷_}
+use lib.Dec.{eqb}
 use lib.IntN.{ℤ, pos, _+ℤ_, _-ℤ_}
 use Rattle.cells.specs.Try.{Try, stuck, done}
 use Rattle.cells.specs.declared.Cell.{Cell}
 use Rattle.machine.specs.Machine.{State}
 use Rattle.nearest_changes.specs.declared.Position.{Position}
-use Rattle.nearest_changes.specs.declared.Position.the-variants.{Accu, Entry, Field}
 use Rattle.nearest_changes.specs.declared.Single.{Single}
 use Rattle.nearest_changes.specs.declared.Single.the-variants.{Number, Other}
 use Rattle.nearest_changes.specs.declared.Trial.{Trial}
 use Rattle.nearest_changes.specs.declared.Trial.the-variants.{Of, Nothing}
 use Rattle.nearest_changes.specs.declared.Change.{Change}
-use Rattle.nearest_changes.specs.Places.{cellAt, from}
+use Rattle.nearest_changes.specs.Places.{cellAt}
 use Rattle.nearest_changes.specs.Changes.{numberAt, changeTo}
+use Rattle.nearest_changes.specs.Places.{positionOf}
 
 -- the number that is held, or stuck
 abbrev pub ofSingle : Single → Try ℤ
 ofSingle (Number n) = done n
 ofSingle Other = stuck
-
--- place k of those that a start can have: ACCU, 64 entries, eight blocks of sixteen fields
-unfoldable pub positionOf : ℕ → Position
-positionOf k = cond (eqb k 0) Accu (cond (ltb k 65) (Entry (k - 1)) (Field ((k - 65) / 16) ((k - 65) % 16)))
-
--- all of them
-unfoldable pub allPositions : List Position
-allPositions = map positionOf (from 0 193)
 
 -- the start has a cell at p
 pub record Present (p : Position) (s : State) : Type 0 where

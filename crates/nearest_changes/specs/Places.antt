@@ -1,5 +1,5 @@
 -- The cells of a start by their places in the file. (document 02, §13)
-use Prim.Native.Nat.{ℕ, zero, suc, _<_}
+use Prim.Native.Nat.{ℕ, zero, suc, _<_, _-_, _/_, _%_}
 use mathlib.Core.List.{List, [], _∷_, _++_, map}
 use lib.ListN.{length, getD, set}
 use Rattle.cells.specs.Try.{Try, _>>=_, done}
@@ -8,6 +8,8 @@ use Rattle.machine.specs.Lists.{nth}
 use Rattle.machine.specs.Machine.{State, height, load, restack, reblock}
 use Rattle.nearest_changes.specs.declared.Position.{Position}
 use Rattle.nearest_changes.specs.declared.Position.the-variants.{Accu, Entry, Field}
+use mathlib.Core.Bool.{cond}
+use lib.Dec.{eqb, ltb}
 
 -- the cell at a place; stuck where the start has none there
 unfoldable pub cellAt : Position → State → Try Cell
@@ -43,3 +45,11 @@ pub data Earlier : Position → Position → Type 0 where
   entry-field : {m k n : ℕ} → Earlier (Entry m) (Field k n)
   blocks : {j m k n : ℕ} → j < k → Earlier (Field j m) (Field k n)
   fields : {k m n : ℕ} → m < n → Earlier (Field k m) (Field k n)
+
+-- place k of those that a start can have: ACCU, 64 entries, eight blocks of sixteen fields
+unfoldable pub positionOf : ℕ → Position
+positionOf k = cond (eqb k 0) Accu (cond (ltb k 65) (Entry (k - 1)) (Field ((k - 65) / 16) ((k - 65) % 16)))
+
+-- all of them
+unfoldable pub allPositions : List Position
+allPositions = map positionOf (from 0 193)

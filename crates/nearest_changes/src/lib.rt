@@ -9,9 +9,9 @@ ghost use lib.ListN.{length};
 ghost use Rattle.machine_state.specs.HeldProgram.{sizesOf, IsProgram};
 ghost use Rattle.machine_state.specs.HeldState.{view, WellFormed, blocksOf, whole};
 ghost use Rattle.nearest_changes.specs.Single.{single};
-ghost use Rattle.nearest_changes.specs.Places.{replaceAt};
+ghost use Rattle.nearest_changes.specs.Places.{replaceAt, positionOf};
 ghost use Rattle.nearest_changes.specs.Changes.{numberAt};
-ghost use Rattle.nearest_changes.specs.Held.{positionOf, ofSingle, ofTrial, shift, trialOf, Present};
+ghost use Rattle.nearest_changes.specs.Held.{ofSingle, ofTrial, shift, trialOf, Present};
 
 // Where a cell of the start stands: ACCU, an entry of the stack, a field of a block.
 pub enum Position {
@@ -70,9 +70,9 @@ pub fn position_of(k: usize) -> Position
 }
 
 // The number of the cell at p, where the start has one there and it holds one number.
-pub fn number_at(code: &[u32; 5131], start: State, fields: [Cell; 128], p: Position) -> Single
+pub fn number_at(code: &[u32; 5131], start: State, blocks: [Cell; 128], p: Position) -> Single
     requires { ⌜ IsProgram (now code) × WellFormed start ⌝ }
-    ensures { λ r. ⌜ ofSingle r ≡ numberAt p (whole (sizesOf (now (code .entry))) fields start) ⌝ }
+    ensures { λ r. ⌜ ofSingle r ≡ numberAt p (whole (sizesOf (now (code .entry))) blocks start) ⌝ }
 {
     match p {
         Position::Accu => single_of(start.accu),
@@ -89,7 +89,7 @@ pub fn number_at(code: &[u32; 5131], start: State, fields: [Cell; 128], p: Posit
             let Slot::At(j) = field else {
                 return Single::Other;
             };
-            single_of(fields[j])
+            single_of(blocks[j])
         }
     }
 }
@@ -98,11 +98,11 @@ pub fn number_at(code: &[u32; 5131], start: State, fields: [Cell; 128], p: Posit
 pub fn with_entry(
     code: &[u32; 5131],
     start: State,
-    fields: [Cell; 128],
+    blocks: [Cell; 128],
     p: Position,
     c: Cell,
 ) -> State
-    requires { ⌜ IsProgram (now code) × WellFormed start × Present p (whole (sizesOf (now code)) fields start) ⌝ }
+    requires { ⌜ IsProgram (now code) × WellFormed start × Present p (whole (sizesOf (now code)) blocks start) ⌝ }
     ensures { λ r. ⌜ view r ≡ replaceAt p c (view start) ⌝ }
     ensures { λ r. ⌜ WellFormed r ⌝ }
 {
@@ -124,28 +124,28 @@ pub fn with_entry(
     }
 }
 
-// The fields with c as one of them, where p is a field.
+// The blocks with c as one of their fields, where p is a field.
 pub fn with_field(
     code: &[u32; 5131],
     start: State,
-    mut fields: [Cell; 128],
+    mut blocks: [Cell; 128],
     p: Position,
     c: Cell,
 ) -> [Cell; 128]
-    requires { ⌜ IsProgram (now code) × WellFormed start × Present p (whole (sizesOf (now code)) fields start) ⌝ }
-    ensures { λ r. ⌜ blocksOf (sizesOf (now (code .entry))) r ≡ replaceAt p c (whole (sizesOf (now (code .entry))) fields start) .blocks ⌝ }
-    ensures { λ r. ⌜ length r ≡ length fields ⌝ }
+    requires { ⌜ IsProgram (now code) × WellFormed start × Present p (whole (sizesOf (now code)) blocks start) ⌝ }
+    ensures { λ r. ⌜ blocksOf (sizesOf (now (code .entry))) r ≡ replaceAt p c (whole (sizesOf (now (code .entry))) blocks start) .blocks ⌝ }
+    ensures { λ r. ⌜ length r ≡ length blocks ⌝ }
 {
     match p {
-        Position::Accu => fields,
-        Position::Entry(_) => fields,
+        Position::Accu => blocks,
+        Position::Entry(_) => blocks,
         Position::Field(k, n) => {
             let field = machine_state::slot_of(code, cells::handle(k), n);
             let Slot::At(j) = field else {
-                return fields;
+                return blocks;
             };
-            fields[j] = c;
-            fields
+            blocks[j] = c;
+            blocks
         }
     }
 }
@@ -163,12 +163,12 @@ fn shifted(v: i32, n: usize, d: usize) -> i64
 
 // Trial j of a start: by 1, by 2 and on to 64, each of all places in the file's order, each downwards and then upwards. It changes nothing
 // where the start has no single number there, and where the value would be outside the range of numbers.
-pub fn trial_at(code: &[u32; 5131], start: State, fields: [Cell; 128], j: usize) -> Trial
+pub fn trial_at(code: &[u32; 5131], start: State, blocks: [Cell; 128], j: usize) -> Trial
     requires { ⌜ IsProgram (now code) × WellFormed start × (j < 24704) ⌝ }
-    ensures { λ r. ⌜ ofTrial r ≡ trialOf (whole (sizesOf (now (code .entry))) fields start) j ⌝ }
+    ensures { λ r. ⌜ ofTrial r ≡ trialOf (whole (sizesOf (now (code .entry))) blocks start) j ⌝ }
 {
     let p = position_of(j / 2 % 193);
-    let held = number_at(code, start, fields, p);
+    let held = number_at(code, start, blocks, p);
     let Single::Number(n) = held else {
         return Trial::Nothing;
     };

@@ -124,7 +124,7 @@ from-refused (refused-by x) r e = let h : x ≡ r = cc in ap refused-by h
 -- ---- a routine
 
 pub held-length : (x : Routine) → Limited x → (y : Change) → searchIn x ≡ found (some y) → length (lineOf y) ≤ 19
-held-length x l y e = found-length _ _ _ (whole-limited (sizesOf (x .code)) (x .fields) (x .start) (l .formed) (l .program .sizes) (omega (arith, sizes-count (x .code) (l .program), l .program .blocks))) y e .1
+held-length x l y e = found-length _ _ _ (whole-limited (sizesOf (x .code)) (x .blocks) (x .start) (l .formed) (l .program .sizes) (omega (arith, sizes-count (x .code) (l .program), l .program .blocks))) y e .1
 
 -- ---- a text
 

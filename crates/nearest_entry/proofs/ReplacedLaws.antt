@@ -9,13 +9,13 @@ use lib.IntN.{ℤ}
 use lib.ListN.{length, getD, set, drop, length-set, length-map, length-drop, length-append, List·getD-append}
 use lib.Seq.{drop-set-lt, drop-set-add, take-set-lt, take-set-le, getD-append-add}
 use borrow.Author.Tests.{eq-eqb, ltb-true, ltb-false, not-true}
-use Rattle.text.specs.Text.{bytes, isEmpty, equals, split, words, Line, lines, all}
+use Rattle.text.specs.Text.{bytes, isEmpty, equals, partedBy, lineWords, Line, lines, all}
 use Rattle.text.specs.Decimal.{digitsFrom, natural, numeral}
 use Rattle.text.proofs.TextLaws.{Every, none, and-left, and-right, equals-path}
 use Rattle.text.proofs.LineLaws.{endedLine}
 use Rattle.numbers.specs.Numbers.{numbers, IsNumber}
 use Rattle.cells.specs.declared.Cell.{Cell}
-use Rattle.cells.specs.Cells.{number}
+use Rattle.cells.specs.Cells.{exactly}
 use Rattle.cells.specs.Try.{done}
 use Rattle.machine.specs.Machine.{State, height, load, restack, reblock}
 use Rattle.file_format.specs.declared.Section.{Section}
@@ -252,24 +252,24 @@ row-set row ls k l f e t =
 -- ---- the new line
 
 -- a line that lists something lists its words
-listed-words : (text : List ℕ) → 0 < length (list text) → list text ≡ words text
+listed-words : (text : List ℕ) → 0 < length (list text) → list text ≡ lineWords text
 listed-words text h = go (equals text (bytes "-")) refl
   where
-    go : (b : Bool) → equals text (bytes "-") ≡ b → list text ≡ words text
+    go : (b : Bool) → equals text (bytes "-") ≡ b → list text ≡ lineWords text
     go true e = let z = ap length (list-none text e) in absurd (omega arith)
     go false e = list-words text e
 
 -- `-` is no cell
-dash : all (λ w. isCell (cellWord w)) (words (bytes "-")) ≡ false
-unfolding all words split isCell cellWord hashed spanned spanOf knownOf numeral natural digitsFrom equals
+dash : all (λ w. isCell (cellWord w)) (lineWords (bytes "-")) ≡ false
+unfolding all lineWords partedBy isCell cellWord hashed spanned spanOf knownOf numeral natural digitsFrom equals
 dash = refl
 
-cells-listed : (text : List ℕ) (ws : List (List ℕ)) → words text ≡ ws → all (λ w. isCell (cellWord w)) ws ≡ true → list text ≡ ws
+cells-listed : (text : List ℕ) (ws : List (List ℕ)) → lineWords text ≡ ws → all (λ w. isCell (cellWord w)) ws ≡ true → list text ≡ ws
 cells-listed text ws e a = go (equals text (bytes "-")) refl
   where
     go : (b : Bool) → equals text (bytes "-") ≡ b → list text ≡ ws
     go true q =
-        let d : words (bytes "-") ≡ ws = ap words (sym (equals-path text (bytes "-") q)) ∙ e in
+        let d : lineWords (bytes "-") ≡ ws = ap lineWords (sym (equals-path text (bytes "-") q)) ∙ e in
         absurd (false≢true (sym dash ∙ ap (all (λ w. isCell (cellWord w))) d ∙ a))
     go false q = list-words text q ∙ e
 
@@ -325,16 +325,16 @@ module _ (text : List ℕ) (p : Passes (lines text)) (s : Section) (k : ℕ) (li
       let l = line .inside in
       omega arith
 
-  old-words : vs ≡ words (textAt (values s cell) layout ls)
+  old-words : vs ≡ lineWords (textAt (values s cell) layout ls)
   unfolding listed
   old-words = listed-words (textAt (values s cell) layout ls) (omega arith)
 
   parted : Every (Free 32) ws
-  unfolding words
+  unfolding lineWords
   parted = every-set (subst (Every (Free 32)) (sym old-words) (split-free 32 (textAt (values s cell) layout ls))) (integer-free 32 (λ e. omega arith) (omega arith) v) i
 
   one-line : Every (Free 10) ws
-  unfolding words
+  unfolding lineWords
   one-line =
       every-set
       (subst (Every (Free 10)) (sym old-words) (pieces-every 32 (role-every (Free 10) none (values s cell) layout (lines-free text))))
@@ -344,8 +344,8 @@ module _ (text : List ℕ) (p : Passes (lines text)) (s : Section) (k : ℕ) (li
   pub new-free : Free 10 new
   new-free = joined-every 32 (λ e. omega arith) one-line
 
-  new-words : words new ≡ ws
-  unfolding words
+  new-words : lineWords new ≡ ws
+  unfolding lineWords
   new-words = split-joined 32 (let l = length-set vs i (integer v) in omega arith) parted
 
   all-cells : all (λ w. isCell (cellWord w)) ws ≡ true
@@ -365,7 +365,7 @@ module _ (text : List ℕ) (p : Passes (lines text)) (s : Section) (k : ℕ) (li
   test-laid : test layout-row ms (values s cell) (endedLine new) ≡ true
   unfolding test laidOut valuesLaidOut columnLaidOut
   test-laid =
-      let spaces : all (λ w. not (isEmpty w)) (words new) ≡ true =
+      let spaces : all (λ w. not (isEmpty w)) (lineWords new) ≡ true =
       ap (all (λ w. not (isEmpty w))) new-words
       ∙ all-set (λ w. not (isEmpty w)) vs i (integer v) (ap (all (λ w. not (isEmpty w))) old-words ∙ passes-spaced p (values s cell) (line .first)) (integer-some v) in
       let count : length (list new) ≡ length (listed (names s) ms) =
@@ -402,13 +402,13 @@ module _ (text : List ℕ) (p : Passes (lines text)) (s : Section) (k : ℕ) (li
   }
 
   -- the cells of the line
-  pub cells-set : cellsOf (listed (values s cell) ms) ≡ set (cellsOf vs) i (number v)
+  pub cells-set : cellsOf (listed (values s cell) ms) ≡ set (cellsOf vs) i (exactly v)
   unfolding cellsOf listed cellOf
   cells-set =
       ap (λ t. map (λ w. cellOf (cellWord w)) (list t)) (text-there (values s cell) layout ls k (endedLine new) (line .at) there)
       ∙ ap (map (λ w. cellOf (cellWord w))) new-list
       ∙ map-set (λ w. cellOf (cellWord w)) vs i (integer v)
-      ∙ ap (set (map (λ w. cellOf (cellWord w)) vs) i) (ap cellOf (integer-cell v) ∙ ap number (inside-is numbers v (number-within v is)))
+      ∙ ap (set (map (λ w. cellOf (cellWord w)) vs) i) (ap cellOf (integer-cell v) ∙ ap exactly (inside-is numbers v (number-within v is)))
 
   pub lines-new : lines (linesText ms) ≡ ms
   lines-new = lines-set text new k (lines-ended ls (p .layout)) new-free
@@ -439,7 +439,7 @@ module _ (text : List ℕ) (p : Passes (lines text)) (q : Position) (i : ℕ) (v
   before = routineOf (lines text) .start
 
   abbrev after : State
-  after = replaceAt q (number v) before
+  after = replaceAt q (exactly v) before
 
   read-set : (s : Section) (k : ℕ) (line : CellLine s k) (h : i < length (listed (values s cell) (lines text))) → routineOf (ms text p s k line i h v is) .start ≡ after →
       length (linesText (ms text p s k line i h v is)) ≤ textLimit → readBound (linesText (ms text p s k line i h v is)) ≡ routine (withStart after (routineOf (lines text)))
@@ -462,8 +462,8 @@ module _ (text : List ℕ) (p : Passes (lines text)) (q : Position) (i : ℕ) (v
         let e = named-place (Accu ∷ map Entry (from 0 (height before))) (listed (names cells) ls) i q (cells-named p) (omega arith) n in
         let other : listed (values fields cell) (ms text p cells 10 line-eleven i h v is) ≡ listed (values fields cell) ls = ap list (text-other (values fields cell) layout ls 10 _ refl) in
         rw (code-framed f, cells-set text p cells 10 line-eleven i h v is, f .names fields, other)
-        (start-set (codeIn ls .first) cs (blocksInLine (blockSizes (listed (names fields) ls)) (cellsOf (listed (values fields cell) ls))) (number v) i (height before) l (omega (arith, cells-counted (listed (values cells cell) ls)))
-        ∙ ap (λ r. replaceAt r (number v) before) e)
+        (start-set (codeIn ls .first) cs (blocksInLine (blockSizes (listed (names fields) ls)) (cellsOf (listed (values fields cell) ls))) (exactly v) i (height before) l (omega (arith, cells-counted (listed (values cells cell) ls)))
+        ∙ ap (λ r. replaceAt r (exactly v) before) e)
 
     pub cells-read : length (withValue (lines text) Accu i v) ≤ textLimit → readBound (withValue (lines text) Accu i v) ≡ routine (withStart after (routineOf (lines text)))
     unfolding withValue
@@ -484,8 +484,8 @@ module _ (text : List ℕ) (p : Passes (lines text)) (q : Position) (i : ℕ) (v
         let e = named-place (fieldsFrom 0 (before .blocks)) (listed (names fields) ls) i q (fields-named p) (omega arith) n in
         let other : listed (values cells cell) (ms text p fields 12 line-thirteen i h v is) ≡ listed (values cells cell) ls = ap list (text-other (values cells cell) layout ls 12 _ refl) in
         rw (code-framed f, cells-set text p fields 12 line-thirteen i h v is, f .names fields, other)
-        (blocks-set (codeIn ls .first) sizes (cellsOf (listed (values cells cell) ls)) (cellsOf (listed (values fields cell) ls)) (number v) i (omega arith)
-        ∙ ap (λ r. replaceAt r (number v) before) (ap (λ ps. getD ps i Accu) (sym (fields-placed p)) ∙ e))
+        (blocks-set (codeIn ls .first) sizes (cellsOf (listed (values cells cell) ls)) (cellsOf (listed (values fields cell) ls)) (exactly v) i (omega arith)
+        ∙ ap (λ r. replaceAt r (exactly v) before) (ap (λ ps. getD ps i Accu) (sym (fields-placed p)) ∙ e))
 
     pub fields-read : length (withValue (lines text) (Field 0 0) i v) ≤ textLimit → readBound (withValue (lines text) (Field 0 0) i v) ≡ routine (withStart after (routineOf (lines text)))
     unfolding withValue
@@ -495,7 +495,7 @@ module _ (text : List ℕ) (p : Passes (lines text)) (q : Position) (i : ℕ) (v
 
 -- of any place
 pub place-read : (text : List ℕ) (p : Passes (lines text)) (q : Position) (i : ℕ) (v : ℤ) → IsNumber v → Under (lines text) q i → length (withValue (lines text) q i v) ≤ textLimit →
-    readBound (withValue (lines text) q i v) ≡ routine (withStart (replaceAt q (number v) (routineOf (lines text) .start)) (routineOf (lines text)))
+    readBound (withValue (lines text) q i v) ≡ routine (withStart (replaceAt q (exactly v) (routineOf (lines text) .start)) (routineOf (lines text)))
 unfolding withValue
 place-read text p Accu i v is u short = cells-read text p Accu i v is (omega (arith, values-counted p cells cell refl, u .there)) (u .name) short
 place-read text p (Entry m) i v is u short = cells-read text p (Entry m) i v is (omega (arith, values-counted p cells cell refl, u .there)) (u .name) short

@@ -4,7 +4,7 @@ use mathlib.Core.Logic.{_⊎_, inl, inr}
 use mathlib.Core.Option.{some, none}
 use mathlib.Core.List.{map}
 use Rattle.text.specs.Text.{bytes}
-use Rattle.cells.specs.Cells.{number}
+use Rattle.cells.specs.Cells.{exactly}
 use Rattle.file_format.specs.Routine.{Routine, readBound}
 use Rattle.file_format.specs.Routine as readings
 use Rattle.file_format.proofs.RowLaws.{read-passes}
@@ -49,4 +49,4 @@ unfolding tried applied
 tried-reads text x n d c i e b u short =
     let r = read-passes text x e in
     place-read text (r .0) (c .place) i (c .value) (b .fits) u short
-    ∙ ap (λ (y : Routine). readings.routine (withStart (replaceAt (c .place) (number (c .value)) (y .start)) y)) (sym (r .1))
+    ∙ ap (λ (y : Routine). readings.routine (withStart (replaceAt (c .place) (exactly (c .value)) (y .start)) y)) (sym (r .1))

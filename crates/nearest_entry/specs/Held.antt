@@ -6,4 +6,4 @@ use Rattle.nearest_search.specs.Search.{Searched, search}
 
 -- what the search says of the routine that the code's arrays hold
 abbrev pub searchIn : Routine → Searched
-searchIn x = search (programOf (x .code)) (x .budget) (whole (sizesOf (x .code)) (x .fields) (x .start))
+searchIn x = search (programOf (x .code)) (x .budget) (whole (sizesOf (x .code)) (x .blocks) (x .start))

@@ -5,7 +5,7 @@ use file_reader::Routine;
 use nearest_changes::Change;
 use nearest_changes::Position;
 use nearest_search::Sought;
-use refusals::Verdict;
+use refusals::Acceptance;
 ghost use mathlib.Core.Path.{_≡_};
 ghost use mathlib.Core.List.{_++_};
 ghost use Prim.Native.Nat.{_+_, _≤_};
@@ -23,9 +23,9 @@ fn sought(routine: Routine) -> Sought
     ensures { λ r. ⌜ ofSought r ≡ searchIn routine ⌝ }
 {
     let code = routine.code;
-    let fields = routine.fields;
+    let blocks = routine.blocks;
     let start = routine.start;
-    nearest_search::search(&code, start, fields, routine.budget)
+    nearest_search::search(&code, start, blocks, routine.budget)
 }
 
 // Puts the name of a cell at the start of out, and answers its length.
@@ -89,10 +89,10 @@ pub fn nearest(text: &[u8], out: &mut [u8]) -> Answer
 {
     let verdict = file_entry::check(Reader::Bound, 128, out.len(), text);
     match verdict {
-        Verdict::Accepted => {
+        Acceptance::Accepted => {
             let routine = file_reader::routine_of(text);
             nearest_routine(routine, out)
         }
-        Verdict::Refused(refusal) => Answer::Refused(refusal),
+        Acceptance::Refused(refusal) => Answer::Refused(refusal),
     }
 }

@@ -11,9 +11,9 @@ use lib.ListN.{length, getD, set, drop, length-take}
 use lib.Seq.{getD-set-same, getD-set-other}
 use borrow.Author.Tests.{ltb-true, ltb-false}
 use Rattle.refusals.specs.declared.Refusal.{Refusal}
-use Rattle.refusals.specs.declared.Verdict.the-variants.{Accepted, Refused}
+use Rattle.refusals.specs.declared.Acceptance.the-variants.{Accepted, Refused}
 use Rattle.cells.specs.Try.{stuck, done}
-use Rattle.cells.specs.Cells.{number, unknown}
+use Rattle.cells.specs.Cells.{exactly, unknown}
 use Rattle.cells.specs.declared.Cell.{Cell}
 use Rattle.machine.specs.Machine.{State, Code, height, step, reblock}
 use Rattle.machine_state.specs.declared.State as code
@@ -78,11 +78,11 @@ module _ (c : Code) (budget n : ℕ) (s : State) (xs : List Change) where
   unfolding first
   tried-nothing e = rw (← e) refl
 
-  pub tried-hit : (x : Change) → x ∷ [] ≡ xs → true ≡ moved n (bound c budget (replaceAt (x .place) (number (x .value)) s)) → some x ≡ firstMoved c budget n s xs
+  pub tried-hit : (x : Change) → x ∷ [] ≡ xs → true ≡ moved n (bound c budget (replaceAt (x .place) (exactly (x .value)) s)) → some x ≡ firstMoved c budget n s xs
   unfolding first applied
   tried-hit x e h = rw (← e, ← h) refl
 
-  pub tried-miss : (x : Change) → x ∷ [] ≡ xs → false ≡ moved n (bound c budget (replaceAt (x .place) (number (x .value)) s)) → none ≡ firstMoved c budget n s xs
+  pub tried-miss : (x : Change) → x ∷ [] ≡ xs → false ≡ moved n (bound c budget (replaceAt (x .place) (exactly (x .value)) s)) → none ≡ firstMoved c budget n s xs
   unfolding first applied
   tried-miss x e h = rw (← e, ← h) refl
 

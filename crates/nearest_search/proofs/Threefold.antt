@@ -20,7 +20,7 @@ use Rattle.cells.specs.declared.Binary.{Binary}
 use Rattle.cells.specs.declared.Binary.the-variants.{Add, Subtract, Compare}
 use Rattle.cells.specs.declared.Condition.{Condition}
 use Rattle.cells.specs.declared.Condition.the-variants.{IsZero, IsNonzero, IsUnknown}
-use Rattle.cells.specs.Cells.{range, number, handle, calculate₂, map₁, compareHandles, combineHandles, map₂, operate₁, operate₂, conditionIn, condition, handled, block}
+use Rattle.cells.specs.Cells.{range, exactly, handle, calculate₂, map₁, compareHandles, combineHandles, map₂, operate₁, operate₂, conditionIn, condition, handled, block}
 use Rattle.cells.proofs.CellLaws.{range₂-one}
 use Rattle.instructions.specs.declared.Operation.{Operation}
 use Rattle.instructions.specs.declared.Operation.the-variants.{Nothing, Access, Drop, Assign, Constant, GetField, SetField, Branch, BranchIf, BranchIfNot, Call, Stop, Alter, Combine}
@@ -167,7 +167,7 @@ module _ (v : ℤ) (k : ℕ) (n : ℤ) where
   beside-left b (Handle j) = first-stuck
 
   -- the number against itself, and the handle: only EQ and NEQ go on, and what they give is known
-  known : (x : ℤ) {a b c : Cell} → a ≡ number x → b ≡ number x → c ≡ number x → Together S (done a) (done b) (done c)
+  known : (x : ℤ) {a b c : Cell} → a ≡ exactly x → b ≡ exactly x → c ≡ exactly x → Together S (done a) (done b) (done c)
   known x e f g = rw (e, f, g) (all same-cell)
 
   itself : (b : Binary) → Together S (map₂ b (Range v 0) (Range v 0)) (map₂ b (Handle k) (Handle k)) (map₂ b (Range n 0) (Range n 0))
@@ -176,14 +176,14 @@ module _ (v : ℤ) (k : ℕ) (n : ℤ) where
   itself Subtract = second-stuck
   itself (Compare Equal) =
       known (pos 1)
-      (range₂-one (Compare Equal) v v ∙ ap (λ t. number (bit t)) (same-number v))
-      (ap (λ t. number (bit t)) (eq-eqb k k refl))
-      (range₂-one (Compare Equal) n n ∙ ap (λ t. number (bit t)) (same-number n))
+      (range₂-one (Compare Equal) v v ∙ ap (λ t. exactly (bit t)) (same-number v))
+      (ap (λ t. exactly (bit t)) (eq-eqb k k refl))
+      (range₂-one (Compare Equal) n n ∙ ap (λ t. exactly (bit t)) (same-number n))
   itself (Compare Unequal) =
       known (pos 0)
-      (range₂-one (Compare Unequal) v v ∙ ap (λ t. number (bit (not t))) (same-number v))
-      (ap (λ t. number (bit (not t))) (eq-eqb k k refl))
-      (range₂-one (Compare Unequal) n n ∙ ap (λ t. number (bit (not t))) (same-number n))
+      (range₂-one (Compare Unequal) v v ∙ ap (λ t. exactly (bit (not t))) (same-number v))
+      (ap (λ t. exactly (bit (not t))) (eq-eqb k k refl))
+      (range₂-one (Compare Unequal) n n ∙ ap (λ t. exactly (bit (not t))) (same-number n))
   itself (Compare Less) = second-stuck
   itself (Compare AtMost) = second-stuck
   itself (Compare Greater) = second-stuck

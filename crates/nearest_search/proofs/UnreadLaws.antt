@@ -19,9 +19,9 @@ use Rattle.bound_theory.specs.Tree.{Tree, expand, tree, cycles, size, report, R
 use Rattle.bound_theory.proofs.TreeLaws.{Complete, accepted-complete, complete-accepted}
 use Rattle.nearest_changes.specs.declared.Position.{Position}
 use Rattle.nearest_changes.specs.declared.Position.the-variants.{Accu, Entry, Field}
-use Rattle.nearest_changes.specs.Places.{cellAt, replaceAt}
+use Rattle.nearest_changes.specs.Places.{cellAt, replaceAt, positionOf}
 use Rattle.nearest_changes.specs.Changes.{numberAt, change, changeTo, applied, first}
-use Rattle.nearest_changes.specs.Held.{positionOf, shift, directed, trialOf}
+use Rattle.nearest_changes.specs.Held.{shift, directed, trialOf}
 use Rattle.nearest_changes.proofs.CellLaws.{never, number-cell}
 use Rattle.nearest_search.specs.Search.{moved}
 use Rattle.nearest_search.specs.Held.{Reported, noBlock, readBy, isRead, firstMoved}

@@ -18,9 +18,8 @@ use Rattle.bound_figures.specs.HeldFigures.{Shows}
 use Rattle.bound_explorer.specs.HeldContract.{Explorable}
 use Rattle.nearest_changes.specs.declared.Change.{Change}
 use Rattle.nearest_changes.specs.declared.Position.{Position}
-use Rattle.nearest_changes.specs.Places.{replaceAt}
+use Rattle.nearest_changes.specs.Places.{replaceAt, positionOf}
 use Rattle.nearest_changes.specs.Changes.{numberAt, applied, first}
-use Rattle.nearest_changes.specs.Held.{positionOf}
 use Rattle.nearest_search.specs.declared.Hit.{Hit}
 use Rattle.nearest_search.specs.declared.Hit.the-variants.{At, Nowhere}
 use Rattle.nearest_search.specs.declared.Sought.{Sought}

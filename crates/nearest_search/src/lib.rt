@@ -7,8 +7,8 @@ use nearest_changes::Change;
 use nearest_changes::Position;
 use nearest_changes::Single;
 use nearest_changes::Trial;
+use refusals::Acceptance;
 use refusals::Refusal;
-use refusals::Verdict;
 ghost use mathlib.Core.Path.{_≡_};
 ghost use Prim.Native.Nat.{_<_};
 ghost use Rattle.machine_state.specs.HeldState.{whole};
@@ -39,8 +39,8 @@ fn is_moved(figure: u64, found: Found) -> bool
 {
     let verdict = found.verdict;
     match verdict {
-        Verdict::Accepted => found.cycles != figure,
-        Verdict::Refused(_) => true,
+        Acceptance::Accepted => found.cycles != figure,
+        Acceptance::Refused(_) => true,
     }
 }
 
@@ -48,18 +48,18 @@ fn is_moved(figure: u64, found: Found) -> bool
 fn is_moved_by(
     code: &[u32; 5131],
     start: State,
-    fields: [Cell; 128],
+    blocks: [Cell; 128],
     budget: usize,
     figure: u64,
     p: Position,
     c: Cell,
 ) -> bool
-    requires { ⌜ Searchable (now code) start budget × Present p (whole (sizesOf (now code)) fields start) ⌝ }
-    ensures { λ r. ⌜ r ≡ moved figure (bound (programOf (now (code .entry))) budget (replaceAt p c (whole (sizesOf (now (code .entry))) fields start))) ⌝ }
+    requires { ⌜ Searchable (now code) start budget × Present p (whole (sizesOf (now code)) blocks start) ⌝ }
+    ensures { λ r. ⌜ r ≡ moved figure (bound (programOf (now (code .entry))) budget (replaceAt p c (whole (sizesOf (now (code .entry))) blocks start))) ⌝ }
 {
-    let state = nearest_changes::with_entry(code, start, fields, p, c);
-    let blocks = nearest_changes::with_field(code, start, fields, p, c);
-    let found = bound_explorer::explore(code, state, blocks, 32, budget);
+    let state = nearest_changes::with_entry(code, start, blocks, p, c);
+    let changed = nearest_changes::with_field(code, start, blocks, p, c);
+    let found = bound_explorer::explore(code, state, changed, 32, budget);
     is_moved(figure, found)
 }
 
@@ -67,37 +67,37 @@ fn is_moved_by(
 fn is_read(
     code: &[u32; 5131],
     start: State,
-    fields: [Cell; 128],
+    blocks: [Cell; 128],
     budget: usize,
     figure: u64,
     p: Position,
 ) -> bool
     requires { ⌜ Searchable (now code) start budget ⌝ }
-    ensures { λ r. ⌜ r ≡ isRead (programOf (now (code .entry))) budget figure (whole (sizesOf (now (code .entry))) fields start) p ⌝ }
+    ensures { λ r. ⌜ r ≡ isRead (programOf (now (code .entry))) budget figure (whole (sizesOf (now (code .entry))) blocks start) p ⌝ }
 {
-    let held = nearest_changes::number_at(code, start, fields, p);
+    let held = nearest_changes::number_at(code, start, blocks, p);
     let Single::Number(_) = held else {
         return false;
     };
-    is_moved_by(code, start, fields, budget, figure, p, cells::handle(8))
+    is_moved_by(code, start, blocks, budget, figure, p, cells::handle(8))
 }
 
 // The same of every place.
 fn cells_read(
     code: &[u32; 5131],
     start: State,
-    fields: [Cell; 128],
+    blocks: [Cell; 128],
     budget: usize,
     figure: u64,
 ) -> [bool; 193]
     requires { ⌜ Searchable (now code) start budget ⌝ }
-    ensures { λ r. ⌜ ReadAs (programOf (now (code .entry))) budget figure (whole (sizesOf (now (code .entry))) fields start) r ⌝ }
+    ensures { λ r. ⌜ ReadAs (programOf (now (code .entry))) budget figure (whole (sizesOf (now (code .entry))) blocks start) r ⌝ }
 {
     let mut read = [false; 193];
     let mut k = 0;
     while k < 193 {
         let p = nearest_changes::position_of(k);
-        read[k] = is_read(code, start, fields, budget, figure, p);
+        read[k] = is_read(code, start, blocks, budget, figure, p);
         k += 1;
     }
     read
@@ -107,21 +107,21 @@ fn cells_read(
 fn try_change(
     code: &[u32; 5131],
     start: State,
-    fields: [Cell; 128],
+    blocks: [Cell; 128],
     budget: usize,
     figure: u64,
     j: usize,
 ) -> Hit
     requires { ⌜ Searchable (now code) start budget × (j < 24704) ⌝ }
-    ensures { λ r. ⌜ ofHit r ≡ firstMoved (programOf (now (code .entry))) budget figure (whole (sizesOf (now (code .entry))) fields start) (trialOf (whole (sizesOf (now (code .entry))) fields start) j) ⌝ }
+    ensures { λ r. ⌜ ofHit r ≡ firstMoved (programOf (now (code .entry))) budget figure (whole (sizesOf (now (code .entry))) blocks start) (trialOf (whole (sizesOf (now (code .entry))) blocks start) j) ⌝ }
 {
-    let trial = nearest_changes::trial_at(code, start, fields, j);
+    let trial = nearest_changes::trial_at(code, start, blocks, j);
     let Trial::Of(change) = trial else {
         return Hit::Nowhere;
     };
     let p = change.place;
-    let c = cells::number(change.value);
-    if is_moved_by(code, start, fields, budget, figure, p, c) {
+    let c = cells::exactly(change.value);
+    if is_moved_by(code, start, blocks, budget, figure, p, c) {
         return Hit::At(change);
     }
     Hit::Nowhere
@@ -131,19 +131,19 @@ fn try_change(
 fn first_moved(
     code: &[u32; 5131],
     start: State,
-    fields: [Cell; 128],
+    blocks: [Cell; 128],
     budget: usize,
     figure: u64,
     read: [bool; 193],
 ) -> Hit
-    requires { ⌜ Searchable (now code) start budget × Reported (programOf (now code)) budget figure (whole (sizesOf (now code)) fields start) × ReadAs (programOf (now code)) budget figure (whole (sizesOf (now code)) fields start) read ⌝ }
-    ensures { λ r. ⌜ ofHit r ≡ nearest (λ t. moved figure (bound (programOf (now (code .entry))) budget t)) (whole (sizesOf (now (code .entry))) fields start) ⌝ }
+    requires { ⌜ Searchable (now code) start budget × Reported (programOf (now code)) budget figure (whole (sizesOf (now code)) blocks start) × ReadAs (programOf (now code)) budget figure (whole (sizesOf (now code)) blocks start) read ⌝ }
+    ensures { λ r. ⌜ ofHit r ≡ nearest (λ t. moved figure (bound (programOf (now (code .entry))) budget t)) (whole (sizesOf (now (code .entry))) blocks start) ⌝ }
 {
     let mut j = 0;
     while j < 24704 {
         let k = j / 2 % 193;
         if read[k] {
-            let hit = try_change(code, start, fields, budget, figure, j);
+            let hit = try_change(code, start, blocks, budget, figure, j);
             if let Hit::At(change) = hit {
                 return Hit::At(change);
             }
@@ -154,18 +154,18 @@ fn first_moved(
 }
 
 // The nearest change of a start that moves its bound, or the bound's refusal.
-pub fn search(code: &[u32; 5131], start: State, fields: [Cell; 128], budget: usize) -> Sought
+pub fn search(code: &[u32; 5131], start: State, blocks: [Cell; 128], budget: usize) -> Sought
     requires { ⌜ Searchable (now code) start budget ⌝ }
-    ensures { λ r. ⌜ ofSought r ≡ search (programOf (now (code .entry))) budget (whole (sizesOf (now (code .entry))) fields start) ⌝ }
+    ensures { λ r. ⌜ ofSought r ≡ search (programOf (now (code .entry))) budget (whole (sizesOf (now (code .entry))) blocks start) ⌝ }
 {
-    let found = bound_explorer::explore(code, start, fields, 32, budget);
+    let found = bound_explorer::explore(code, start, blocks, 32, budget);
     let figure = found.cycles;
     let verdict = found.verdict;
-    if let Verdict::Refused(refusal) = verdict {
+    if let Acceptance::Refused(refusal) = verdict {
         return Sought::Refused(refusal);
     }
-    let read = cells_read(code, start, fields, budget, figure);
-    let hit = first_moved(code, start, fields, budget, figure, read);
+    let read = cells_read(code, start, blocks, budget, figure);
+    let hit = first_moved(code, start, blocks, budget, figure, read);
     match hit {
         Hit::At(change) => Sought::Moves(change),
         Hit::Nowhere => Sought::Still,

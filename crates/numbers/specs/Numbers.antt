@@ -68,5 +68,5 @@ abbrev pub numbers : Range
 numbers = record { low = negsuc (half bits - 1); high = pos (half bits - 1) }
 
 -- from 0, or another natural number, on to a natural number
-abbrev pub range : ℕ → ℕ → Range
-range low high = record { low = pos low; high = pos high }
+abbrev pub naturals : ℕ → ℕ → Range
+naturals low high = record { low = pos low; high = pos high }

@@ -10,7 +10,7 @@ use lib.Seq.{length-take-le, drop-cons, drop-drop, take-append-seam, getD-take, 
 use borrow.Author.Tests.{lt-ltb, le-ltb, lt-leb, le-leb}
 use Rattle.refusals.specs.declared.Refusal.{Refusal}
 use Rattle.refusals.specs.declared.Refusal.the-variants.{TextLength, BadName}
-use Rattle.text.specs.Text.{bytes, words, Line, noLine, lines}
+use Rattle.text.specs.Text.{bytes, lineWords, Line, noLine, lines}
 use Rattle.text.specs.Decimal.{numeral}
 use Rattle.text.proofs.TextLaws.{Every, none, more}
 use Rattle.text.proofs.LineLaws.{line-drop}
@@ -115,7 +115,7 @@ pub record Parts (text : List ℕ) (k start : ℕ) (address after : List ℕ) : 
   pub fits : start + length address + 2 + length after ≤ length text
 
 pub parts-are : (text : List ℕ) (p : Passes (lines text)) (k : ℕ) → InCode (lines text) k → (rest line address after : List ℕ) →
-    lines rest ≡ drop k (lines text) → line ≡ getD (lines rest) 0 noLine .text → address ≡ getD (words line) 0 [] → lines after ≡ drop 1 (lines rest) →
+    lines rest ≡ drop k (lines text) → line ≡ getD (lines rest) 0 noLine .text → address ≡ getD (lineWords line) 0 [] → lines after ≡ drop 1 (lines rest) →
     Parts text k (length text - length rest) address after
 unfolding linesText
 parts-are text p k h rest line address after r l a f =

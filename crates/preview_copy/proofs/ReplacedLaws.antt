@@ -8,7 +8,7 @@ use native.Mathlib.Omega.{arith}
 use lib.Dec.{eqb}
 use lib.ListN.{length, getD, set, length-set, length-map}
 use lib.Seq.{drop-set-add, getD-drop}
-use Rattle.text.specs.Text.{bytes, equals, split, words, Line, noLine, lines, all}
+use Rattle.text.specs.Text.{bytes, equals, partedBy, lineWords, Line, noLine, lines, all}
 use Rattle.text.proofs.TextLaws.{none, every-append, every-left, every-getD}
 use Rattle.text.proofs.LineLaws.{endedLine}
 use Rattle.file_format.specs.declared.Section.{Section}
@@ -72,8 +72,8 @@ module _ (text : List ℕ) (p : Passes (lines text)) (k : ℕ) (h : InCode (line
 
 -- the first word of a line that begins with a number is that number
 at-number : (line r : List ℕ) → CodeLine line → at (at line ++ bytes " " ++ r) ≡ at line
-unfolding words
-at-number line r c = ap (λ t. getD (split 32 t) 0 []) (append-assoc (at line) (bytes " ") r) ∙ ap (λ (ws : List (List ℕ)). getD ws 0 []) (split-first 32 r (every-getD (split-free 32 line) none 0))
+unfolding lineWords
+at-number line r c = ap (λ t. getD (partedBy 32 t) 0 []) (append-assoc (at line) (bytes " ") r) ∙ ap (λ (ws : List (List ℕ)). getD ws 0 []) (split-first 32 r (every-getD (split-free 32 line) none 0))
 
 -- the layout stays
 text-kept : (r : Role) (rs : List Role) (ls : List Line) (k : ℕ) (l : Line) → length rs ≤ k → textAt r rs (set ls k l) ≡ textAt r rs ls
@@ -151,9 +151,9 @@ module _ (ls : List Line) (j : ℕ) (l : Line) (e : at (l .text) ≡ at (getD (b
 -- the instruction of a line, whatever its first word
 instruction-after : (ks ps : PriceList) (xs : List (List ℕ)) {v w : List ℕ} (t : List ℕ) → Free 32 v → Free 32 w →
     instructionOf ks xs ps (v ++ bytes " " ++ t) ≡ instructionOf ks xs ps (w ++ bytes " " ++ t)
-unfolding instructionOf words
+unfolding instructionOf lineWords
 instruction-after ks ps xs {v} {w} t f g =
-    let is : (u : List ℕ) → Free 32 u → split 32 (u ++ bytes " " ++ t) ≡ u ∷ split 32 t = λ u k. ap (split 32) (append-assoc u (bytes " ") t) ∙ split-first 32 t k in
+    let is : (u : List ℕ) → Free 32 u → partedBy 32 (u ++ bytes " " ++ t) ≡ u ∷ partedBy 32 t = λ u k. ap (partedBy 32) (append-assoc u (bytes " ") t) ∙ split-first 32 t k in
     rw (is v f, is w g) refl
 
 -- the new line as it stands
@@ -175,7 +175,7 @@ module _ (ls : List Line) (p : Passes ls) (j : ℕ) (h : j < length (codeLines (
       ap (λ t. equals t (bytes "ANSWER")) (append-assoc w (bytes " ") instruction) ∙ number-first w (bytes " " ++ instruction) (own .spelt)
 
   pub one-replaced : (address : ℕ) → OneReplaced j (newInstruction ls address instruction) (routineOf ls) (routineOf (set ls (length layout + j) (replacedLine ls (length layout + j) instruction)))
-  unfolding words
+  unfolding lineWords
   one-replaced address =
       subst (λ i. OneReplaced j i (routineOf ls) (routineOf (set ls (length layout + j) (replacedLine ls (length layout + j) instruction))))
       (instruction-after (priceList kinds ls) (priceList primitives ls) (listed (values kinds extra) ls) instruction (every-getD (split-free 32 (getD ls (length layout + j) noLine .text)) none 0) (decimal-free 32 (omega arith) address))

@@ -61,7 +61,7 @@ preview-place text instruction address n r = lent (ltb n memoryLimit)
     of-copy false e = let h : BadName address ≡ r = cc in inr (sym h)
 
     read : (m : Reading) → readBound text ≡ m → ofReading (λ x. previewed text address instruction n (inCode (x .code) address)) m ≡ refused r → (place r ≤ 62000) ⊎ (r ≡ BadName address)
-    read (readings.refused x) q e = let h : x ≡ r = cc in inl (omega (arith, read-bound-place text r (q ∙ ap readings.refused h)))
+    read (readings.unread x) q e = let h : x ≡ r = cc in inl (omega (arith, read-bound-place text r (q ∙ ap readings.unread h)))
     read (readings.routine x) q e = of-copy (inCode (x .code) address) e
 
     lent : (b : Bool) → cond b (refused ReportMemory) (ofReading (λ x. previewed text address instruction n (inCode (x .code) address)) (readBound text)) ≡ refused r
@@ -98,7 +98,7 @@ module _ (text : List ℕ) (address : ℕ) (instruction : List ℕ) (n : ℕ) wh
 
         read : (m : Reading) → ofReading (λ x. cond (inCode (x .code) address) (boundAnswer (patched (lines text) address instruction) n) (refused (BadName address))) m
             ≡ bounded n (ofReading (λ x. cond (inCode (x .code) address) (within (patched (lines text) address instruction)) (refused (BadName address))) m)
-        read (readings.refused x) = refl
+        read (readings.unread x) = refl
         read (readings.routine x) = copied (inCode (x .code) address)
 
     pub preview-copied : (bs : List ℕ) → copyAnswer text address instruction ≡ reported bs → previewAnswer text address instruction n ≡ boundAnswer bs n

@@ -1,7 +1,7 @@
 // A preview of a routine file, on texts and lent memory. The meaning is in specs/.
 use answers::Answer;
 use file_check::Reader;
-use refusals::Verdict;
+use refusals::Acceptance;
 ghost use mathlib.Core.Path.{_≡_};
 ghost use Prim.Native.Nat.{_≤_};
 ghost use lib.ListN.{length};
@@ -31,7 +31,7 @@ pub fn preview(text: &[u8], address: u32, instruction: &[u8], out: &mut [u8]) ->
 {
     let verdict = file_entry::check(Reader::Bound, 128, out.len(), text);
     match verdict {
-        Verdict::Accepted => bound_copy(text, address, instruction, out),
-        Verdict::Refused(refusal) => Answer::Refused(refusal),
+        Acceptance::Accepted => bound_copy(text, address, instruction, out),
+        Acceptance::Refused(refusal) => Answer::Refused(refusal),
     }
 }

@@ -21,7 +21,7 @@ pub enum Refusal {
 }
 
 // How a check of a text, a bound or a run ends.
-pub enum Verdict {
+pub enum Acceptance {
     Accepted,
     Refused(Refusal),
 }

@@ -6,8 +6,8 @@ use native.Mathlib.Omega.{arith}
 use lib.IntN.{pos}
 use lib.ListN.{length, getD, take}
 use lib.Seq.{take-length}
-use Rattle.refusals.specs.declared.Verdict.{Verdict}
-use Rattle.refusals.specs.declared.Verdict.the-variants.{Accepted, Refused}
+use Rattle.refusals.specs.declared.Acceptance.{Acceptance}
+use Rattle.refusals.specs.declared.Acceptance.the-variants.{Accepted, Refused}
 use Rattle.text.specs.declared.Numeral.the-variants.{Number}
 use Rattle.text.specs.Text.{bytes, lines}
 use Rattle.text.specs.Decimal.{decimal, numeral}
@@ -18,12 +18,12 @@ use Rattle.merge_theory.proofs.Theorems.{merged-interruptible}
 use Rattle.file_format.specs.Routine.{Routine, readRun}
 use Rattle.file_format.proofs.RowLaws.{run-passes}
 use Rattle.file_format.proofs.BranchLaws.{passing-forward, passing-closed}
-use Rattle.replay_trace.specs.Traces.{Entry, entries, traceVerdict}
+use Rattle.replay_trace.specs.Traces.{Entry, entries, traceAcceptance}
 use Rattle.replay_steps.specs.Replay.{Outcome, agreed, differed, replay}
 use Rattle.replay_steps.specs.Promises.{spent}
 use Rattle.replay_steps.proofs.Theorems.{agrees-where, differs-where, spent-within-run, spent-within-bound}
 use Rattle.answers.specs.declared.Answer as code
-use Rattle.answers.specs.Answers.{reported, memoryLimit, ofVerdict, memory, answerOf, reportLength, Delivers}
+use Rattle.answers.specs.Answers.{reported, memoryLimit, ofAcceptance, memory, answerOf, reportLength, Delivers}
 use Rattle.answers.proofs.AnswerLaws.{never, from-reading, delivers}
 use Rattle.replay_entry.specs.Answers.{outcomeText, replayRoutine, replayAnswer}
 use Rattle.replay_entry.specs.Promises.{KeepsTo, ReplayKept, ReplaysKept}
@@ -61,12 +61,12 @@ keeps-to x f g es e = record {
 }
 
 pub replays-kept : ReplaysKept
-unfolding replayAnswer replayRoutine ofVerdict
+unfolding replayAnswer replayRoutine ofAcceptance
 replays-kept text trace n printed e =
     let a = from-reading (replayRoutine trace) (readRun text) memoryLimit n printed e in
     let x = a .routine in
     let o = replay (x .code) (x .start) (x .answers) (entries trace) in
-    let said : outcomeText o ≡ printed = go (outcomeText o) (traceVerdict trace) (a .gives) in
+    let said : outcomeText o ≡ printed = go (outcomeText o) (traceAcceptance trace) (a .gives) in
     let p = run-passes text x (a .reads) in
     let f : Forward (x .code) = rw (p .2) (passing-forward (lines text) (p .0)) in
     let g : Closed (x .code) = rw (p .2) (passing-closed (lines text) (p .0)) in
@@ -77,7 +77,7 @@ replays-kept text trace n printed e =
       differs = λ m h. differs-where (x .code) (x .start) (x .answers) (entries trace) .0 m (said-differed o m (said ∙ h));
     }
   where
-    go : (made : List ℕ) (v : Verdict) → ofVerdict made v ≡ reported printed → made ≡ printed
+    go : (made : List ℕ) (v : Acceptance) → ofAcceptance made v ≡ reported printed → made ≡ printed
     go made Accepted e = cc
     go made (Refused r) e = never r printed e
 

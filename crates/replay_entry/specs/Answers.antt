@@ -4,9 +4,9 @@ use mathlib.Core.List.{List, _++_}
 use Rattle.text.specs.Text.{bytes}
 use Rattle.text.specs.Decimal.{decimal}
 use Rattle.file_format.specs.Routine.{Routine, readRun}
-use Rattle.replay_trace.specs.Traces.{traceVerdict, entries}
+use Rattle.replay_trace.specs.Traces.{traceAcceptance, entries}
 use Rattle.replay_steps.specs.Replay.{Outcome, agreed, differed, replay}
-use Rattle.answers.specs.Answers.{Answer, memoryLimit, lending, ofReading, ofVerdict}
+use Rattle.answers.specs.Answers.{Answer, memoryLimit, lending, ofReading, ofAcceptance}
 
 -- "It prints `DIFFERS` and that line's number, or `AGREES`."
 unfoldable pub outcomeText : Outcome → List ℕ
@@ -15,7 +15,7 @@ outcomeText (differed n) = bytes "DIFFERS " ++ decimal n ++ bytes "\n"
 
 -- the answer for a routine: the trace's refusal, or what the replay says of its lines
 unfoldable pub replayRoutine : List ℕ → Routine → Answer
-replayRoutine trace x = ofVerdict (outcomeText (replay (x .code) (x .start) (x .answers) (entries trace))) (traceVerdict trace)
+replayRoutine trace x = ofAcceptance (outcomeText (replay (x .code) (x .start) (x .answers) (entries trace))) (traceAcceptance trace)
 
 -- the trace's refusals "are checked after the routine file's refusals, 11 included"
 unfoldable pub replayAnswer : List ℕ → List ℕ → ℕ → Answer

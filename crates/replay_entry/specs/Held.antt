@@ -11,4 +11,4 @@ use Rattle.replay_steps.specs.Replay.{Outcome, replay}
 -- what the replay of a trace says of the routine that the code's arrays hold
 abbrev pub outcomeIn : Routine → List ℕ → Outcome
 outcomeIn x trace =
-    replay (programOf (x .code)) (whole (sizesOf (x .code)) (x .fields) (x .start)) (answers x) (entries trace)
+    replay (programOf (x .code)) (whole (sizesOf (x .code)) (x .blocks) (x .start)) (answers x) (entries trace)

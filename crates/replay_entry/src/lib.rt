@@ -2,7 +2,7 @@
 use answers::Answer;
 use file_check::Reader;
 use file_reader::Routine;
-use refusals::Verdict;
+use refusals::Acceptance;
 use replay_steps::Replayed;
 ghost use mathlib.Core.Path.{_≡_};
 ghost use mathlib.Core.List.{_++_};
@@ -10,9 +10,9 @@ ghost use Prim.Native.Nat.{_≤_};
 ghost use lib.ListN.{length, drop};
 ghost use Rattle.text.specs.Text.{lines};
 ghost use Rattle.file_reader.specs.HeldRoutine.{Limited};
-ghost use Rattle.replay_trace.specs.Traces.{traceVerdict};
+ghost use Rattle.replay_trace.specs.Traces.{traceAcceptance};
 ghost use Rattle.replay_steps.specs.Held.{ofReplayed};
-ghost use Rattle.answers.specs.Answers.{ofVerdict, memory, answerOf, reportLength, Delivers};
+ghost use Rattle.answers.specs.Answers.{ofAcceptance, memory, answerOf, reportLength, Delivers};
 ghost use Rattle.replay_entry.specs.Answers.{outcomeText, replayAnswer};
 ghost use Rattle.replay_entry.specs.Promises.{ReplayKept};
 ghost use Rattle.replay_entry.specs.Held.{outcomeIn};
@@ -23,12 +23,12 @@ fn followed(routine: Routine, trace: &[u8]) -> Replayed
     ensures { λ r. ⌜ ofReplayed r ≡ outcomeIn routine (now (trace .entry)) ⌝ }
 {
     let code = routine.code;
-    let fields = routine.fields;
+    let blocks = routine.blocks;
     let start = routine.start;
     let answers = routine.answers;
     let values = answers.values;
     let given = answers.count;
-    replay_steps::replay(&code, start, fields, &values[..given], trace)
+    replay_steps::replay(&code, start, blocks, &values[..given], trace)
 }
 
 // Puts what a replay says at the start of out, and answers its length.
@@ -50,17 +50,17 @@ fn put_outcome(out: &mut [u8], said: Replayed) -> usize
 // The answer of the replay to a routine and a trace.
 fn replay_trace(routine: Routine, trace: &[u8], out: &mut [u8]) -> Answer
     requires { ⌜ Limited routine × (128 ≤ length (now out)) ⌝ }
-    ensures { λ r. ⌜ r ≡ answerOf (ofVerdict (outcomeText (outcomeIn routine (now (trace .entry)))) (traceVerdict (now (trace .entry)))) ⌝ }
-    ensures { λ _. ⌜ now (out .exit) ≡ memory (ofVerdict (outcomeText (outcomeIn routine (now (trace .entry)))) (traceVerdict (now (trace .entry)))) (now (out .entry)) ⌝ }
+    ensures { λ r. ⌜ r ≡ answerOf (ofAcceptance (outcomeText (outcomeIn routine (now (trace .entry)))) (traceAcceptance (now (trace .entry)))) ⌝ }
+    ensures { λ _. ⌜ now (out .exit) ≡ memory (ofAcceptance (outcomeText (outcomeIn routine (now (trace .entry)))) (traceAcceptance (now (trace .entry)))) (now (out .entry)) ⌝ }
 {
     let verdict = replay_trace::check_trace(trace);
     match verdict {
-        Verdict::Accepted => {
+        Acceptance::Accepted => {
             let said = followed(routine, trace);
             let n = put_outcome(out, said);
             Answer::Reported(n)
         }
-        Verdict::Refused(refusal) => Answer::Refused(refusal),
+        Acceptance::Refused(refusal) => Answer::Refused(refusal),
     }
 }
 
@@ -72,10 +72,10 @@ pub fn replay(text: &[u8], trace: &[u8], out: &mut [u8]) -> Answer
 {
     let verdict = file_entry::check(Reader::Run, 128, out.len(), text);
     match verdict {
-        Verdict::Accepted => {
+        Acceptance::Accepted => {
             let routine = file_reader::routine_of(text);
             replay_trace(routine, trace, out)
         }
-        Verdict::Refused(refusal) => Answer::Refused(refusal),
+        Acceptance::Refused(refusal) => Answer::Refused(refusal),
     }
 }

@@ -18,7 +18,7 @@ use Rattle.machine_step.specs.declared.Next as next
 use Rattle.machine_step.specs.declared.Next.the-variants as leads-to
 use Rattle.machine_step.specs.HeldStep.{ofNext}
 use Rattle.replay_trace.specs.Traces.{Entry}
-use Rattle.replay_steps.specs.Replay.{goesOn, cost, agrees}
+use Rattle.replay_steps.specs.Replay.{goesOn, stepCost, agrees}
 use Rattle.replay_steps.specs.Held.{Stands}
 
 -- a conjunction, as the code has it
@@ -65,7 +65,7 @@ module _ (c : Code) (ns : List ℕ) (answers : List ℤ) (taken : ℕ) (state : 
 
     module _ (p : Price) (k : ℕ) (drops : drop k answers ≡ remaining calls (drop taken answers)) where
       priced : goesOn c r ≡ true → once c r .cycles ≡ r .cycles + p .cycles → cond (eqb (state .at) at) (leb spent (p .cycles)) false ≡ agrees c r (line at spent)
-      unfolding agrees cost
+      unfolding agrees stepCost
       priced g e =
           let d : once c r .cycles - r .cycles ≡ p .cycles = omega arith in
           conjoined (eqb (state .at) at) (leb spent (p .cycles))

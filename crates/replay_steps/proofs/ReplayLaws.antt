@@ -14,7 +14,7 @@ use Rattle.cells.specs.Try.{Try, stuck, done}
 use Rattle.machine.specs.Machine.{Code, Next, stops, goes, opens}
 use Rattle.bound_theory.specs.Run.{Run, moved, leads, once, after}
 use Rattle.replay_trace.specs.Traces.{Entry}
-use Rattle.replay_steps.specs.Replay.{goesOn, cost, agrees, agreed, differed, replayFrom}
+use Rattle.replay_steps.specs.Replay.{goesOn, stepCost, agrees, agreed, differed, replayFrom}
 use Rattle.replay_steps.specs.Promises.{noEntry, spent}
 
 not-differed : {X : Type 0} (n : ℕ) → differed n ≡ agreed → X
@@ -107,7 +107,7 @@ module _ (c : Code) where
       go false (done (opens p t q u)) rest = omega arith
 
   line-within : (r : Run) (e : Entry) → agrees c r e ≡ true → r .cycles + e .cycles ≤ once c r .cycles
-  unfolding agrees cost
+  unfolding agrees stepCost
   line-within r e h =
       let l = leb-true (e .cycles) (once c r .cycles - r .cycles) (and-right (goesOn c r && eqb (r .state .at) (e .at)) (leb (e .cycles) (once c r .cycles - r .cycles)) h) in
       omega (arith, once-more r)

@@ -13,13 +13,13 @@ unfoldable pub goesOn : Code → Run → Bool
 goesOn c r = not (r .stopped) && not (isStuck c r)
 
 -- "what that step costs, primitive and jump included"
-unfoldable pub cost : Code → Run → ℕ
-cost c r = once c r .cycles - r .cycles
+unfoldable pub stepCost : Code → Run → ℕ
+stepCost c r = once c r .cycles - r .cycles
 
 -- whether a line agrees with the step that the run is at: neither its "address differs from the machine's" nor its "cycles exceed what
 -- that step costs"
 unfoldable pub agrees : Code → Run → Entry → Bool
-agrees c r e = goesOn c r && eqb (r .state .at) (e .at) && leb (e .cycles) (cost c r)
+agrees c r e = goesOn c r && eqb (r .state .at) (e .at) && leb (e .cycles) (stepCost c r)
 
 -- "names the first trace line [that differs] or says that the trace agrees up to its end"
 pub data Outcome : Type 0 where

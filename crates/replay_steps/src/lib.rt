@@ -86,19 +86,19 @@ fn after_stop(n: usize, rest: &[u8]) -> Replayed
     Replayed::Differs(n + 1)
 }
 
-// The replay of an accepted trace from `start` with `fields`.
+// The replay of an accepted trace from `start` with the blocks `initial`.
 pub fn replay(
     code: &[u32; 5131],
     start: State,
-    fields: [Cell; 128],
+    initial: [Cell; 128],
     answers: &[i32],
     trace: &[u8],
 ) -> Replayed
     requires { ⌜ IsProgram (now code) × WellFormed start × (length (lines (now trace)) ≤ 4097) ⌝ }
-    ensures { λ r. ⌜ ofReplayed r ≡ replay (programOf (now (code .entry))) (whole (sizesOf (now (code .entry))) fields start) (now (answers .entry)) (entries (now (trace .entry))) ⌝ }
+    ensures { λ r. ⌜ ofReplayed r ≡ replay (programOf (now (code .entry))) (whole (sizesOf (now (code .entry))) initial start) (now (answers .entry)) (entries (now (trace .entry))) ⌝ }
 {
     let mut state = start;
-    let mut blocks = fields;
+    let mut blocks = initial;
     let mut taken = 0;
     let mut rest = text::next_lines(trace);
     let mut line = 2;

@@ -11,15 +11,14 @@ use lib.ListN.{length, getD, drop, length-map, length-drop}
 use Rattle.refusals.specs.declared.Refusal.{Refusal}
 use Rattle.refusals.specs.declared.Refusal.the-variants.{TextLength, Layout, OutOfRange}
 use Rattle.refusals.specs.Refusals.{place}
-use Rattle.refusals.specs.declared.Verdict.{Verdict}
-use Rattle.refusals.specs.declared.Verdict.the-variants.{Accepted as accepted, Refused as refused}
+use Rattle.refusals.specs.declared.Acceptance.{Acceptance}
+use Rattle.refusals.specs.declared.Acceptance.the-variants.{Accepted as accepted, Refused as refused}
 use Rattle.text.specs.Text.{bytes, equals, Line, lines, noLine}
 use Rattle.text.proofs.TextLaws.{and-left, and-right}
 use Rattle.text.proofs.LineLaws.{lines-first, lines-none, lines-some}
-use Rattle.numbers.specs.Numbers.{range}
 use Rattle.file_format.specs.declared.RefusedLine.{RefusedLine}
 use Rattle.file_format.specs.declared.RefusedLine.the-variants.{Nowhere as nowhere, Line as line}
-use Rattle.replay_trace.specs.Traces.{traceLimit, entryLimit, entryLaidOut, textLaidOut, lineLaidOut, entryInRange, textInRange, lineInRange, earliest, layoutFault, rangeFault, refusedAt, lineVerdict, traceVerdict, entries}
+use Rattle.replay_trace.specs.Traces.{traceLimit, entryLimit, entryLaidOut, textLaidOut, lineLaidOut, entryInRange, textInRange, lineInRange, earliest, layoutFault, rangeFault, refusedAt, lineVerdict, traceAcceptance, entries}
 
 -- ---- the tests by the index of a line
 
@@ -85,16 +84,16 @@ module _ {t : ℕ → Line → Bool} {text rest : List ℕ} {k : ℕ} (s : Scann
 -- ---- the refusals
 
 module _ (text : List ℕ) where
-  pub check-long : traceLimit < length text → refused TextLength ≡ traceVerdict text
-  unfolding traceVerdict
+  pub check-long : traceLimit < length text → refused TextLength ≡ traceAcceptance text
+  unfolding traceAcceptance
   check-long h = sym (ap (λ b. cond b (refused TextLength) (lineVerdict (lines text))) (lt-ltb traceLimit (length text) h))
 
   module _ (short : length text ≤ traceLimit) where
-    by-lines : traceVerdict text ≡ lineVerdict (lines text)
-    unfolding traceVerdict
+    by-lines : traceAcceptance text ≡ lineVerdict (lines text)
+    unfolding traceAcceptance
     by-lines = ap (λ b. cond b (refused TextLength) (lineVerdict (lines text))) (le-ltb traceLimit (length text) short)
 
-    pub check-empty : length text ≡ 0 → refused (Layout 1) ≡ traceVerdict text
+    pub check-empty : length text ≡ 0 → refused (Layout 1) ≡ traceAcceptance text
     unfolding lineVerdict layoutFault refusedAt
     check-empty e = sym (by-lines ∙ ap lineVerdict (lines-none text (omega arith)))
 
@@ -105,26 +104,26 @@ module _ (text : List ℕ) where
       layout-some (l ∷ ls) h = refl
 
       by-rows : {a b : RefusedLine} → earliest lineLaidOut 0 (lines text) ≡ a → earliest lineInRange 0 (lines text) ≡ b
-          → traceVerdict text ≡ refusedAt a Layout (refusedAt b OutOfRange accepted)
+          → traceAcceptance text ≡ refusedAt a Layout (refusedAt b OutOfRange accepted)
       unfolding lineVerdict rangeFault
       by-rows p q =
           by-lines ∙ ap₂ (λ x y. refusedAt x Layout (refusedAt y OutOfRange accepted)) (layout-some (lines text) (lines-some text (omega arith)) ∙ p) q
 
-      pub check-layout : (n : ℕ) → earliest lineLaidOut 0 (lines text) ≡ line n → refused (Layout n) ≡ traceVerdict text
+      pub check-layout : (n : ℕ) → earliest lineLaidOut 0 (lines text) ≡ line n → refused (Layout n) ≡ traceAcceptance text
       unfolding refusedAt
       check-layout n p = sym (by-rows p refl)
 
-      pub check-range : (n : ℕ) → earliest lineLaidOut 0 (lines text) ≡ nowhere → earliest lineInRange 0 (lines text) ≡ line n → refused (OutOfRange n) ≡ traceVerdict text
+      pub check-range : (n : ℕ) → earliest lineLaidOut 0 (lines text) ≡ nowhere → earliest lineInRange 0 (lines text) ≡ line n → refused (OutOfRange n) ≡ traceAcceptance text
       unfolding refusedAt
       check-range n p q = sym (by-rows p q)
 
-      pub check-accepted : earliest lineLaidOut 0 (lines text) ≡ nowhere → earliest lineInRange 0 (lines text) ≡ nowhere → accepted ≡ traceVerdict text
+      pub check-accepted : earliest lineLaidOut 0 (lines text) ≡ nowhere → earliest lineInRange 0 (lines text) ≡ nowhere → accepted ≡ traceAcceptance text
       unfolding refusedAt
       check-accepted p q = sym (by-rows p q)
 
 -- what a verdict that is no refusal of a row says of the row
 
-at-nowhere : (a : RefusedLine) (r : ℕ → Refusal) (v : Verdict) → refusedAt a r v ≡ accepted → (a ≡ nowhere) × (v ≡ accepted)
+at-nowhere : (a : RefusedLine) (r : ℕ → Refusal) (v : Acceptance) → refusedAt a r v ≡ accepted → (a ≡ nowhere) × (v ≡ accepted)
 unfolding refusedAt
 at-nowhere nowhere r v e = (refl, e)
 at-nowhere (line n) r v e = absurd (let z : _≡_ {A = ℕ} 0 1 = cc in omega arith)
@@ -135,8 +134,8 @@ pub record Passes (text : List ℕ) : Type 0 where
   pub layout : layoutFault (lines text) ≡ nowhere
   pub range : rangeFault (lines text) ≡ nowhere
 
-pub accepted-passes : (text : List ℕ) → traceVerdict text ≡ accepted → Passes text
-unfolding traceVerdict lineVerdict
+pub accepted-passes : (text : List ℕ) → traceAcceptance text ≡ accepted → Passes text
+unfolding traceAcceptance lineVerdict
 accepted-passes text = go (ltb traceLimit (length text)) refl
   where
     go : (b : Bool) → ltb traceLimit (length text) ≡ b → cond b (refused TextLength) (lineVerdict (lines text)) ≡ accepted → Passes text
@@ -179,7 +178,7 @@ layout-few [] e = omega arith
 layout-few (l ∷ ls) e = let h = lines-few 0 (l ∷ ls) (omega arith) e in omega arith
 
 -- "A trace has at most 4,096 lines after its names line"
-pub entries-few : (text : List ℕ) → traceVerdict text ≡ accepted → length (entries text) ≤ entryLimit
+pub entries-few : (text : List ℕ) → traceAcceptance text ≡ accepted → length (entries text) ≤ entryLimit
 unfolding entries
 entries-few text e =
     let h = layout-few (lines text) (accepted-passes text e .layout) in
@@ -214,8 +213,8 @@ unfolding rangeFault
 range-fault-low ls n p q = let w = place-within lineInRange 0 ls n q in let k = layout-few ls p in omega arith
 
 -- "else refusal 2 at the first line too many": no place is past it
-pub trace-place : (text : List ℕ) (r : Refusal) → traceVerdict text ≡ refused r → place r ≤ 4098
-unfolding traceVerdict lineVerdict refusedAt place
+pub trace-place : (text : List ℕ) (r : Refusal) → traceAcceptance text ≡ refused r → place r ≤ 4098
+unfolding traceAcceptance lineVerdict refusedAt place
 trace-place text r = go (ltb traceLimit (length text)) (layoutFault (lines text)) (rangeFault (lines text)) refl refl
   where
     go : (b : Bool) (a c : RefusedLine) → layoutFault (lines text) ≡ a → rangeFault (lines text) ≡ c → cond b (refused TextLength) (refusedAt a Layout (refusedAt c OutOfRange accepted)) ≡ refused r → place r ≤ 4098

@@ -7,12 +7,12 @@ use lib.Dec.{eqb, ltb}
 use lib.ListN.{length, getD, drop}
 use Rattle.refusals.specs.declared.Refusal.{Refusal}
 use Rattle.refusals.specs.declared.Refusal.the-variants.{TextLength, Layout, OutOfRange}
-use Rattle.refusals.specs.declared.Verdict.{Verdict}
-use Rattle.refusals.specs.declared.Verdict.the-variants.{Accepted as accepted, Refused as refused}
-use Rattle.text.specs.Text.{bytes, equals, words, Line, lines}
+use Rattle.refusals.specs.declared.Acceptance.{Acceptance}
+use Rattle.refusals.specs.declared.Acceptance.the-variants.{Accepted as accepted, Refused as refused}
+use Rattle.text.specs.Text.{bytes, equals, lineWords, Line, lines}
 use Rattle.text.specs.Decimal.{numeral}
 use Rattle.numbers.specs.declared.Range.{Range}
-use Rattle.numbers.specs.Numbers.{range, within}
+use Rattle.numbers.specs.Numbers.{naturals, within}
 use Rattle.instructions.specs.Kinds.{addresses}
 use Rattle.file_format.specs.declared.RefusedLine.{RefusedLine}
 use Rattle.file_format.specs.declared.RefusedLine.the-variants.{Nowhere as nowhere, Line as line}
@@ -29,7 +29,7 @@ entryLimit = 4096
 
 -- "CYCLES 0 to 4,000,000,000"; "AT is 0 to 62,000", as `addresses` are
 abbrev pub cycleRange : Range
-cycleRange = range 0 4000000000
+cycleRange = naturals 0 4000000000
 
 -- "The card's debug port records each step as a line under the names AT CYCLES": a recorded step
 pub record Entry : Type 0 where
@@ -37,14 +37,14 @@ pub record Entry : Type 0 where
   pub cycles : ℕ
 
 -- "under the names AT CYCLES": AT is the first word, as on a code line, and CYCLES the second
-abbrev pub cycles : List ℕ → List ℕ
-cycles text = getD (words text) 1 []
+abbrev pub recordedCycles : List ℕ → List ℕ
+recordedCycles text = getD (lineWords text) 1 []
 
 -- ---- row 2: "a wrong layout there is 2"
 
 -- a recorded step: two numbers parted by one space
 unfoldable pub entryLaidOut : List ℕ → Bool
-entryLaidOut text = eqb (length (words text)) 2 && isNumeral (numeral (at text)) && isNumeral (numeral (cycles text))
+entryLaidOut text = eqb (length (lineWords text)) 2 && isNumeral (numeral (at text)) && isNumeral (numeral (recordedCycles text))
 
 -- the text of the line with index k, from 0: "its names line is line 1"; "at most 4,096 lines after its names line, else refusal 2 at the
 -- first line too many"
@@ -60,7 +60,7 @@ lineLaidOut k l = l .ended && textLaidOut k (l .text)
 
 -- a recorded step
 unfoldable pub entryInRange : List ℕ → Bool
-entryInRange text = within addresses (value (at text)) && within cycleRange (value (cycles text))
+entryInRange text = within addresses (value (at text)) && within cycleRange (value (recordedCycles text))
 
 -- the text of the line with index k: the names line has no number
 unfoldable pub textInRange : ℕ → List ℕ → Bool
@@ -88,23 +88,23 @@ unfoldable pub rangeFault : List Line → RefusedLine
 rangeFault ls = earliest lineInRange 0 ls
 
 -- the refusal at the line that a row refuses, or what comes next
-unfoldable pub refusedAt : RefusedLine → (ℕ → Refusal) → Verdict → Verdict
+unfoldable pub refusedAt : RefusedLine → (ℕ → Refusal) → Acceptance → Acceptance
 refusedAt nowhere r next = next
 refusedAt (line n) r next = refused (r n)
 
 -- 2 over all lines, then 3 over all lines
-unfoldable pub lineVerdict : List Line → Verdict
+unfoldable pub lineVerdict : List Line → Acceptance
 lineVerdict ls = refusedAt (layoutFault ls) Layout (refusedAt (rangeFault ls) OutOfRange accepted)
 
 -- "at most 131,072 bytes or refusal 1 at place 0" comes first
-unfoldable pub traceVerdict : List ℕ → Verdict
-traceVerdict text = cond (ltb traceLimit (length text)) (refused TextLength) (lineVerdict (lines text))
+unfoldable pub traceAcceptance : List ℕ → Acceptance
+traceAcceptance text = cond (ltb traceLimit (length text)) (refused TextLength) (lineVerdict (lines text))
 
 -- ---- the recorded steps
 
 -- the step that the text of a line records; a number outside its range, which row 3 refuses, counts 0
 unfoldable pub entryOf : List ℕ → Entry
-entryOf text = record { at = naturalIn addresses (at text); cycles = naturalIn cycleRange (cycles text) }
+entryOf text = record { at = naturalIn addresses (at text); cycles = naturalIn cycleRange (recordedCycles text) }
 
 -- "each step as a line under the names": those of the lines after the first
 unfoldable pub entries : List ℕ → List Entry

@@ -2,13 +2,13 @@
 use file_format::RefusedLine;
 use file_format::layout;
 use numbers::Range;
+use refusals::Acceptance;
 use refusals::Refusal;
-use refusals::Verdict;
 ghost use mathlib.Core.Path.{_≡_};
 ghost use Prim.Native.Nat.{_≤_};
 ghost use lib.ListN.{length, getD};
 ghost use Rattle.text.specs.Text.{lines, noLine};
-ghost use Rattle.replay_trace.specs.Traces.{traceLimit, cycleRange, entryLaidOut, textLaidOut, lineLaidOut, entryInRange, textInRange, earliest, traceVerdict, entryOf};
+ghost use Rattle.replay_trace.specs.Traces.{traceLimit, cycleRange, entryLaidOut, textLaidOut, lineLaidOut, entryInRange, textInRange, earliest, traceAcceptance, entryOf};
 ghost use Rattle.replay_trace.specs.HeldScan.{lineTest};
 
 // A recorded step.
@@ -128,24 +128,24 @@ fn earliest(test: LineTest, trace: &[u8]) -> RefusedLine
 }
 
 // The refusal of a trace.
-pub fn check_trace(trace: &[u8]) -> Verdict
-    ensures { λ r. ⌜ r ≡ traceVerdict (now (trace .entry)) ⌝ }
+pub fn check_trace(trace: &[u8]) -> Acceptance
+    ensures { λ r. ⌜ r ≡ traceAcceptance (now (trace .entry)) ⌝ }
 {
     if 131072 < trace.len() {
-        return Verdict::Refused(Refusal::TextLength);
+        return Acceptance::Refused(Refusal::TextLength);
     }
     if trace.len() == 0 {
-        return Verdict::Refused(Refusal::Layout(1));
+        return Acceptance::Refused(Refusal::Layout(1));
     }
     let layout = earliest(LineTest::Layout, trace);
     if let RefusedLine::Line(n) = layout {
-        return Verdict::Refused(Refusal::Layout(n));
+        return Acceptance::Refused(Refusal::Layout(n));
     }
     let range = earliest(LineTest::Range, trace);
     if let RefusedLine::Line(n) = range {
-        return Verdict::Refused(Refusal::OutOfRange(n));
+        return Acceptance::Refused(Refusal::OutOfRange(n));
     }
-    Verdict::Accepted
+    Acceptance::Accepted
 }
 
 // The step that a line records.

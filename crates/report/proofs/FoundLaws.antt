@@ -2,8 +2,8 @@
 use Prim.Native.Nat.{ℕ}
 use mathlib.Core.Path.{_≡_, ap}
 use Rattle.refusals.specs.declared.Refusal.{Refusal}
-use Rattle.refusals.specs.declared.Verdict.the-variants as verdicts
-use Rattle.refusals.specs.declared.Verdict.the-variants.{Accepted}
+use Rattle.refusals.specs.declared.Acceptance.the-variants as verdicts
+use Rattle.refusals.specs.declared.Acceptance.the-variants.{Accepted}
 use Rattle.bound_figures.specs.declared.Found.{Found}
 use Rattle.answers.specs.Answers.{reported}
 use Rattle.answers.specs.Answers as answers

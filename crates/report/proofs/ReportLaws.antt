@@ -13,7 +13,7 @@ use Rattle.text.specs.Decimal.{decimal}
 use Rattle.text.proofs.DecimalLaws.{decimal-length}
 use Rattle.bound_theory.specs.Tree.{Report, Decision}
 use Rattle.bound_theory.proofs.FigureLaws.{Bounded}
-use Rattle.report.specs.Report.{share, Nearest, letter, pathText, figures, boundText, runText}
+use Rattle.report.specs.Report.{share, Rounded, letter, pathText, figures, boundText, runText}
 
 -- SHARE by what is left over: less than a half, more than a half, a half
 pub share-below : (tick cycles : ℕ) → 2 * (cycles * 1000 % tick) < tick → share tick cycles ≡ cycles * 1000 / tick
@@ -29,7 +29,7 @@ unfolding share
 share-half tick cycles e = rw (le-ltb (2 * (cycles * 1000 % tick)) tick (omega arith), le-ltb tick (2 * (cycles * 1000 % tick)) (omega arith)) refl
 
 -- of a whole part w with r left over: w is the nearest where r is at most a half, and w + 1 where it is at least a half
-near-low : (tick cycles w r : ℕ) → 1 ≤ tick → w * tick + r ≡ cycles * 1000 → 2 * r ≤ tick → (2 * r ≡ tick → w % 2 ≡ 0) → Nearest tick cycles w
+near-low : (tick cycles w r : ℕ) → 1 ≤ tick → w * tick + r ≡ cycles * 1000 → 2 * r ≤ tick → (2 * r ≡ tick → w % 2 ≡ 0) → Rounded tick cycles w
 near-low tick cycles w r h d l even = record {
   not-above = omega arith;
   not-below = omega arith;
@@ -37,7 +37,7 @@ near-low tick cycles w r h d l even = record {
   even-below = λ e. even (omega arith);
 }
 
-near-high : (tick cycles w r : ℕ) → r < tick → w * tick + r ≡ cycles * 1000 → tick ≤ 2 * r → (2 * r ≡ tick → (w + 1) % 2 ≡ 0) → Nearest tick cycles (w + 1)
+near-high : (tick cycles w r : ℕ) → r < tick → w * tick + r ≡ cycles * 1000 → tick ≤ 2 * r → (2 * r ≡ tick → (w + 1) % 2 ≡ 0) → Rounded tick cycles (w + 1)
 near-high tick cycles w r h d l even =
     let m = mul-add (2 * tick) w 1 in
     record {
@@ -47,7 +47,7 @@ near-high tick cycles w r h d l even =
       even-below = λ e. absurd (omega arith);
     }
 
-pub share-nearest : (tick cycles : ℕ) → 1 ≤ tick → Nearest tick cycles (share tick cycles)
+pub share-nearest : (tick cycles : ℕ) → 1 ≤ tick → Rounded tick cycles (share tick cycles)
 share-nearest tick cycles h = go (ltb (2 * r) tick) refl (ltb tick (2 * r)) refl
   where
     w : ℕ
@@ -59,18 +59,18 @@ share-nearest tick cycles h = go (ltb (2 * r) tick) refl (ltb tick (2 * r)) refl
     d : w * tick + r ≡ cycles * 1000
     d = div-add-mod' (cycles * 1000) tick
 
-    low : 2 * r ≤ tick → (2 * r ≡ tick → w % 2 ≡ 0) → Nearest tick cycles w
+    low : 2 * r ≤ tick → (2 * r ≡ tick → w % 2 ≡ 0) → Rounded tick cycles w
     low = near-low tick cycles w r h d
 
-    high : tick ≤ 2 * r → (2 * r ≡ tick → (w + 1) % 2 ≡ 0) → Nearest tick cycles (w + 1)
+    high : tick ≤ 2 * r → (2 * r ≡ tick → (w + 1) % 2 ≡ 0) → Rounded tick cycles (w + 1)
     high = near-high tick cycles w r (mod-lt (cycles * 1000) h) d
 
-    half : 2 * r ≡ tick → (n : ℕ) → w % 2 ≡ n → n < 2 → Nearest tick cycles (w + n)
+    half : 2 * r ≡ tick → (n : ℕ) → w % 2 ≡ n → n < 2 → Rounded tick cycles (w + n)
     half e zero f _ = rw (add-zero w) (low (omega arith) (λ _. f))
     half e (suc zero) f _ = high (omega arith) (λ _. omega arith)
     half e (suc (suc n)) f k = absurd (omega arith)
 
-    go : (a : Bool) → ltb (2 * r) tick ≡ a → (b : Bool) → ltb tick (2 * r) ≡ b → Nearest tick cycles (share tick cycles)
+    go : (a : Bool) → ltb (2 * r) tick ≡ a → (b : Bool) → ltb tick (2 * r) ≡ b → Rounded tick cycles (share tick cycles)
     go true e b f = let l = ltb-true (2 * r) tick e in rw (share-below tick cycles l) (low (omega arith) (λ q. absurd (omega arith)))
     go false e true f = let l = ltb-true tick (2 * r) f in rw (share-above tick cycles l) (high (omega arith) (λ q. absurd (omega arith)))
     go false e false f =
@@ -78,7 +78,7 @@ share-nearest tick cycles h = go (ltb (2 * r) tick) refl (ltb tick (2 * r)) refl
         rw (share-half tick cycles l) (half l (w % 2) refl (omega arith))
 
 -- of two numbers that are the nearest neither is below the other: they would be neighbours with the half between them, and both even
-apart : (tick cycles n m : ℕ) → 1 ≤ tick → Nearest tick cycles n → Nearest tick cycles m → n < m → ⊥
+apart : (tick cycles n m : ℕ) → 1 ≤ tick → Rounded tick cycles n → Rounded tick cycles m → n < m → ⊥
 apart tick cycles n m h a b l =
     let k = mul-le-mul-left tick l in
     let e : tick * m ≡ tick * suc n = le-antisymm (omega (arith, a .not-below, b .not-above)) k in
@@ -88,7 +88,7 @@ apart tick cycles n m h a b l =
     omega arith
 
 -- no other number is that near
-pub share-unique : (tick cycles n : ℕ) → 1 ≤ tick → Nearest tick cycles n → n ≡ share tick cycles
+pub share-unique : (tick cycles n : ℕ) → 1 ≤ tick → Rounded tick cycles n → n ≡ share tick cycles
 share-unique tick cycles n h k =
     let s = share-nearest tick cycles h in
     omega (arith, apart tick cycles n (share tick cycles) h k s, apart tick cycles (share tick cycles) n h s k)

@@ -3,8 +3,8 @@ use Prim.Native.Nat.{ℕ, _≤_}
 use mathlib.Core.Path.{_≡_}
 use mathlib.Core.List.{List}
 use lib.ListN.{length}
-use Rattle.refusals.specs.declared.Verdict as code
-use Rattle.refusals.specs.declared.Verdict.the-variants.{Accepted, Refused}
+use Rattle.refusals.specs.declared.Acceptance as code
+use Rattle.refusals.specs.declared.Acceptance.the-variants.{Accepted, Refused}
 use Rattle.bound_figures.specs.declared.Found.{Found}
 use Rattle.answers.specs.Answers.{Answer, reported, refused}
 use Rattle.report.specs.Report.{boundText}
@@ -21,7 +21,7 @@ pub record Printable (a : Answer) (tick n : ℕ) : Type 0 where
   pub fits : (bs : List ℕ) → a ≡ reported bs → length bs ≤ n
 
 -- the figures found with a verdict: their report, or the refusal
-unfoldable pub judgedAs : ℕ → Found → code.Verdict → Answer
+unfoldable pub judgedAs : ℕ → Found → code.Acceptance → Answer
 judgedAs tick f Accepted = reported (boundText tick (reportOf (f .cycles) (f .words) (f .depth) (f .used) (f .path)))
 judgedAs tick f (Refused x) = refused x
 

@@ -20,7 +20,7 @@ share tick cycles =
 
 -- the same without a division: SHARE is at most a half above and at most a half below CYCLES × 1000 / TICK, and it is even where it is a
 -- half above or a half below; here all times 2 × TICK
-pub record Nearest (tick cycles share : ℕ) : Type 0 where
+pub record Rounded (tick cycles share : ℕ) : Type 0 where
   pub not-above : 2 * tick * share ≤ 2 * (cycles * 1000) + tick
   pub not-below : 2 * (cycles * 1000) ≤ 2 * tick * share + tick
   pub even-above : 2 * tick * share ≡ 2 * (cycles * 1000) + tick → share % 2 ≡ 0

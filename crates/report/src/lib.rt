@@ -1,7 +1,7 @@
 // The printed report and the line of a refusal, written into lent memory. The meaning is in specs/.
 use answers::Answer;
 use bound_figures::Found;
-use refusals::Verdict;
+use refusals::Acceptance;
 ghost use mathlib.Core.Path.{_≡_};
 ghost use mathlib.Core.List.{_++_};
 ghost use Prim.Native.Nat.{_+_, _≤_};
@@ -128,7 +128,7 @@ pub fn put_found(found: Found, tick: u64, out: &mut [u8]) -> Answer
     let steps = found.used as u64;
     let verdict = found.verdict;
     match verdict {
-        Verdict::Accepted => {
+        Acceptance::Accepted => {
             let n = put_bound(
                 out,
                 tick,
@@ -140,6 +140,6 @@ pub fn put_found(found: Found, tick: u64, out: &mut [u8]) -> Answer
             );
             Answer::Reported(n)
         }
-        Verdict::Refused(refusal) => Answer::Refused(refusal),
+        Acceptance::Refused(refusal) => Answer::Refused(refusal),
     }
 }

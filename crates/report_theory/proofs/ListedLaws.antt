@@ -28,7 +28,7 @@ use Rattle.answers.specs.Answers.{Answer, reported, refused, memoryLimit, ofRea
 use Rattle.answers.specs.declared.Answer as code
 use Rattle.answers.specs.declared.Answer.the-variants.{Refused}
 use Rattle.report_theory.specs.Answers.{ofVerdict, boundRoutine, mergeRoutine, runRoutine, boundAnswer, mergeAnswer, runAnswer}
-use Rattle.report_theory.specs.Listed.{FirstRow, this, later, Case, few-bytes, long-text, row-refuses, ends, BoundRefused, MergeRefused, runOf, RunEnds, is-stuck, is-spent, RunRefused, Refuses, ListedAlone, AnswersListed}
+use Rattle.report_theory.specs.Listed.{FirstRow, this, later, ListedCase, few-bytes, long-text, row-refuses, ends, BoundRefused, MergeRefused, runOf, RunEnds, is-stuck, is-spent, RunRefused, Refuses, ListedAlone, AnswersListed}
 use Rattle.report_theory.proofs.AnswerLaws.{from-refused}
 
 -- ---- the rows
@@ -36,20 +36,20 @@ use Rattle.report_theory.proofs.AnswerLaws.{from-refused}
 no-line : {A : Type 0} (n : ℕ) → line n ≡ nowhere → A
 no-line n e = let z : _≡_ {A = ℕ} 0 1 = cc in absurd (omega arith)
 
-routine-not : {A : Type 0} (r : Refusal) (x : Routine) → readings.routine x ≡ readings.refused r → A
+routine-not : {A : Type 0} (r : Refusal) (x : Routine) → readings.routine x ≡ readings.unread r → A
 routine-not r x e = let z : _≡_ {A = ℕ} 0 1 = cc in absurd (omega arith)
 
 module _ (ls : List Line) where
-  checked-first : (cs : List Check) (r : Refusal) → checked cs ls ≡ readings.refused r → FirstRow ls r cs
+  checked-first : (cs : List Check) (r : Refusal) → checked cs ls ≡ readings.unread r → FirstRow ls r cs
   unfolding checked orElse
   checked-first [] r e = routine-not r _ e
   checked-first (c ∷ cs) r e = go (refusedLine (c .row) ls) refl e (checked-first cs r)
     where
-      go : (f : RefusedLine) → refusedLine (c .row) ls ≡ f → orElse f (c .refusal) (checked cs ls) ≡ readings.refused r → (checked cs ls ≡ readings.refused r → FirstRow ls r cs) → FirstRow ls r (c ∷ cs)
+      go : (f : RefusedLine) → refusedLine (c .row) ls ≡ f → orElse f (c .refusal) (checked cs ls) ≡ readings.unread r → (checked cs ls ≡ readings.unread r → FirstRow ls r cs) → FirstRow ls r (c ∷ cs)
       go nowhere q h ih = later q (ih h)
       go (line n) q h ih = let k : r ≡ c .refusal n = cc in this q k
 
-  first-checked : {cs : List Check} {r : Refusal} → FirstRow ls r cs → checked cs ls ≡ readings.refused r
+  first-checked : {cs : List Check} {r : Refusal} → FirstRow ls r cs → checked cs ls ≡ readings.unread r
   unfolding checked orElse
   first-checked (this q e) = rw (q, e) refl
   first-checked (later q f) = rw q (first-checked f)
@@ -80,25 +80,25 @@ module _ (rows : List Check) (Ends : Routine → Refusal → Type 0) (f : Routin
   abbrev Settled : Type 0
   Settled = reading ≡ readings.routine (routineOf (lines text)) → (r : Refusal) → (f (routineOf (lines text)) ≡ refused r) ↔ Ends (routineOf (lines text)) r
 
-  limited-case : Settled → memoryLimit ≤ lent → (r : Refusal) → ofReading f reading ≡ refused r → Case rows Ends text lent r
+  limited-case : Settled → memoryLimit ≤ lent → (r : Refusal) → ofReading f reading ≡ refused r → ListedCase rows Ends text lent r
   unfolding limited ofReading
   limited-case settled enough r e = by (ltb textLimit (length text)) refl e
     where
-      routine : length text ≤ textLimit → (x : Routine) → checked rows (lines text) ≡ readings.routine x → x ≡ routineOf (lines text) → f x ≡ refused r → Case rows Ends text lent r
+      routine : length text ≤ textLimit → (x : Routine) → checked rows (lines text) ≡ readings.routine x → x ≡ routineOf (lines text) → f x ≡ refused r → ListedCase rows Ends text lent r
       routine short x q i e =
           let k : checked rows (lines text) ≡ readings.routine (routineOf (lines text)) = q ∙ ap readings.routine i in
           let m : reading ≡ readings.routine (routineOf (lines text)) = rw (le-ltb textLimit (length text) short) k in
           ends enough short (checked-none (lines text) rows x q) (settled m r .0 (ap f (sym i) ∙ e))
 
-      read : length text ≤ textLimit → (m : Reading) → checked rows (lines text) ≡ m → ofReading f m ≡ refused r → Case rows Ends text lent r
-      read short (readings.refused x) q e = let h : x ≡ r = cc in row-refuses enough short (checked-first (lines text) rows r (q ∙ ap readings.refused h))
+      read : length text ≤ textLimit → (m : Reading) → checked rows (lines text) ≡ m → ofReading f m ≡ refused r → ListedCase rows Ends text lent r
+      read short (readings.unread x) q e = let h : x ≡ r = cc in row-refuses enough short (checked-first (lines text) rows r (q ∙ ap readings.unread h))
       read short (readings.routine x) q e = routine short x q (read-routine (lines text) rows x q) e
 
-      by : (b : Bool) → ltb textLimit (length text) ≡ b → ofReading f (cond b (readings.refused TextLength) (checked rows (lines text))) ≡ refused r → Case rows Ends text lent r
+      by : (b : Bool) → ltb textLimit (length text) ≡ b → ofReading f (cond b (readings.unread TextLength) (checked rows (lines text))) ≡ refused r → ListedCase rows Ends text lent r
       by true q e = long-text enough (ltb-true textLimit (length text) q) (cc)
       by false q e = read (ltb-false textLimit (length text) q) (checked rows (lines text)) refl e
 
-  case-limited : Settled → (r : Refusal) → Case rows Ends text lent r → cond (ltb lent memoryLimit) (refused ReportMemory) (ofReading f reading) ≡ refused r
+  case-limited : Settled → (r : Refusal) → ListedCase rows Ends text lent r → cond (ltb lent memoryLimit) (refused ReportMemory) (ofReading f reading) ≡ refused r
   unfolding limited ofReading
   case-limited settled r (few-bytes h e) = rw (lt-ltb lent memoryLimit h, e) refl
   case-limited settled r (long-text h l e) = rw (le-ltb lent memoryLimit h, lt-ltb textLimit (length text) l, e) refl
@@ -107,10 +107,10 @@ module _ (rows : List Check) (Ends : Routine → Refusal → Type 0) (f : Routin
       let m = none-checked (lines text) rows k in
       rw (le-ltb lent memoryLimit h, le-ltb textLimit (length text) l, m) (settled (rw (le-ltb textLimit (length text) l) m) r .1 e)
 
-  pub refused-case : Settled → (r : Refusal) → (cond (ltb lent memoryLimit) (refused ReportMemory) (ofReading f reading) ≡ refused r) ↔ Case rows Ends text lent r
+  pub refused-case : Settled → (r : Refusal) → (cond (ltb lent memoryLimit) (refused ReportMemory) (ofReading f reading) ≡ refused r) ↔ ListedCase rows Ends text lent r
   refused-case settled r = (by (ltb lent memoryLimit) refl, case-limited settled r)
     where
-      by : (b : Bool) → ltb lent memoryLimit ≡ b → cond b (refused ReportMemory) (ofReading f reading) ≡ refused r → Case rows Ends text lent r
+      by : (b : Bool) → ltb lent memoryLimit ≡ b → cond b (refused ReportMemory) (ofReading f reading) ≡ refused r → ListedCase rows Ends text lent r
       by true q e = few-bytes (ltb-true lent memoryLimit q) (cc)
       by false q e = limited-case settled (ltb-false lent memoryLimit q) r e
 

@@ -31,23 +31,23 @@ pub data FirstRow (ls : List Line) (r : Refusal) : List Check → Type 0 where
   later : {c : Check} {cs : List Check} → refusedLine (c .row) ls ≡ nowhere → FirstRow ls r cs → FirstRow ls r (c ∷ cs)
 
 -- the refusals of a call on a text with so many bytes lent: rows 10 and 1, then the rows given, then those of its routine
-pub data Case (rows : List Check) (Ends : Routine → Refusal → Type 0) (text : List ℕ) (lent : ℕ) (r : Refusal) : Type 0 where
+pub data ListedCase (rows : List Check) (Ends : Routine → Refusal → Type 0) (text : List ℕ) (lent : ℕ) (r : Refusal) : Type 0 where
   -- "report memory under 128 bytes"
-  few-bytes : lent < memoryLimit → r ≡ ReportMemory → Case rows Ends text lent r
+  few-bytes : lent < memoryLimit → r ≡ ReportMemory → ListedCase rows Ends text lent r
   -- "text over 32,768 bytes"
-  long-text : memoryLimit ≤ lent → textLimit < length text → r ≡ TextLength → Case rows Ends text lent r
+  long-text : memoryLimit ≤ lent → textLimit < length text → r ≡ TextLength → ListedCase rows Ends text lent r
   -- rows 2 to 6 and 13, in the run 11 too
-  row-refuses : memoryLimit ≤ lent → length text ≤ textLimit → FirstRow (lines text) r rows → Case rows Ends text lent r
+  row-refuses : memoryLimit ≤ lent → length text ≤ textLimit → FirstRow (lines text) r rows → ListedCase rows Ends text lent r
   -- 7, 8, 9 and 14, where no row refuses a line
-  ends : memoryLimit ≤ lent → length text ≤ textLimit → ((x : Refusal) → FirstRow (lines text) x rows → ⊥) → Ends (routineOf (lines text)) r → Case rows Ends text lent r
+  ends : memoryLimit ≤ lent → length text ≤ textLimit → ((x : Refusal) → FirstRow (lines text) x rows → ⊥) → Ends (routineOf (lines text)) r → ListedCase rows Ends text lent r
 
 -- of the bound: "among 7, 8 and 9 the section on exploring decides"
 abbrev pub BoundRefused : List ℕ → ℕ → Refusal → Type 0
-BoundRefused = Case boundChecks (λ x. Listed (step (x .code) unknown) openingLimit (x .budget) (x .start))
+BoundRefused = ListedCase boundChecks (λ x. Listed (step (x .code) unknown) openingLimit (x .budget) (x .start))
 
 -- of the merging bound: "the lowest address with a 14 or a 7 decides" (document 02 §9)
 abbrev pub MergeRefused : List ℕ → ℕ → Refusal → Type 0
-MergeRefused = Case boundChecks (λ x. Decides (x .code) (x .start))
+MergeRefused = ListedCase boundChecks (λ x. Decides (x .code) (x .start))
 
 -- the run of a routine after n steps
 abbrev pub runOf : Routine → ℕ → Run
@@ -60,7 +60,7 @@ pub data RunEnds (x : Routine) (r : Refusal) : Type 0 where
   is-spent : runOf x (x .budget) .steps ≡ x .budget → runOf x (x .budget) .stopped ≡ false → r ≡ Spent (runOf x (x .budget) .state .at) → RunEnds x r
 
 abbrev pub RunRefused : List ℕ → ℕ → Refusal → Type 0
-RunRefused = Case runChecks RunEnds
+RunRefused = ListedCase runChecks RunEnds
 
 -- a call is refused in the listed cases and in no other
 abbrev pub AnswersListed : Type 0

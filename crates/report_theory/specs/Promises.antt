@@ -24,7 +24,7 @@ use Rattle.merge_theory.specs.Promises.{NotSmaller, CoversPaths, Gathered, Merg
 use Rattle.file_format.specs.Layout.{layout, body, codeLines}
 use Rattle.file_format.specs.Routine.{Routine, readBound, readRun}
 use Rattle.file_format.specs.Routine as readings
-use Rattle.report.specs.Report.{share, Nearest, boundText, runText}
+use Rattle.report.specs.Report.{share, Rounded, boundText, runText}
 use Rattle.answers.specs.Answers.{reported, refused, memoryLimit, answerOf, reportLength}
 use Rattle.report_theory.specs.Answers.{boundAnswer, mergeAnswer, runAnswer}
 
@@ -78,7 +78,7 @@ SafeReport text bytes = (x : Routine) × (q : Report) × BoundReported text byte
 
 -- "SHARE is CYCLES × 1000 / TICK to the nearest whole number", "at an exact half .. to the even" (document 02 §6): no other number is
 abbrev pub NearestShare : Routine → Report → Type 0
-NearestShare x q = Nearest (x .tick) (q .cycles) (share (x .tick) (q .cycles))
+NearestShare x q = Rounded (x .tick) (q .cycles) (share (x .tick) (q .cycles))
 
 -- demand 2
 abbrev pub ExactReport : List ℕ → List ℕ → Type 0

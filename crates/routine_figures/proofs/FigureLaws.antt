@@ -12,7 +12,7 @@ use Rattle.file_entry.specs.Held.{routineIn}
 use Rattle.report.specs.Held.{Shareable}
 
 module _ (x : Routine) (l : Limited x) where
-  pub explored-shows : (r : Found) → Explores (routineIn x .code) (sizesOf (x .code)) (x .fields) (x .start) 32 (x .budget) r
+  pub explored-shows : (r : Found) → Explores (routineIn x .code) (sizesOf (x .code)) (x .blocks) (x .start) 32 (x .budget) r
       → Shows r (bound (routineIn x .code) (routineIn x .budget) (routineIn x .start))
   unfolding bound
   explored-shows r e = e .shows

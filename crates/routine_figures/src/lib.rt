@@ -19,9 +19,9 @@ pub fn explored(routine: Routine) -> Found
     ensures { λ r. ⌜ Shareable r ⌝ }
 {
     let code = routine.code;
-    let fields = routine.fields;
+    let blocks = routine.blocks;
     let start = routine.start;
-    bound_explorer::explore(&code, start, fields, 32, routine.budget)
+    bound_explorer::explore(&code, start, blocks, 32, routine.budget)
 }
 
 // The routine's merging bound.
@@ -31,9 +31,9 @@ pub fn swept(routine: Routine) -> Found
     ensures { λ r. ⌜ Shareable r ⌝ }
 {
     let code = routine.code;
-    let fields = routine.fields;
+    let blocks = routine.blocks;
     let start = routine.start;
-    merge_sweep::merge(&code, start, fields)
+    merge_sweep::merge(&code, start, blocks)
 }
 
 // The routine's run.
@@ -42,10 +42,10 @@ pub fn ran(routine: Routine) -> Ran
     ensures { λ r. ⌜ verdictOf r ≡ run (routineIn routine .code) (routineIn routine .budget) (routineIn routine .start) (routineIn routine .answers) ⌝ }
 {
     let code = routine.code;
-    let fields = routine.fields;
+    let blocks = routine.blocks;
     let start = routine.start;
     let answers = routine.answers;
     let values = answers.values;
     let given = answers.count;
-    run_loop::run(&code, start, fields, &values[..given], routine.budget)
+    run_loop::run(&code, start, blocks, &values[..given], routine.budget)
 }

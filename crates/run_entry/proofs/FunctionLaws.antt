@@ -3,8 +3,8 @@ use Prim.Native.Nat.{ℕ, _≤_}
 use mathlib.Core.Path.{_≡_, sym, ap, _∙_}
 use mathlib.Core.List.{List}
 use Rattle.refusals.specs.declared.Refusal.{Refusal}
-use Rattle.refusals.specs.declared.Verdict.the-variants as verdicts
-use Rattle.refusals.specs.declared.Verdict.the-variants.{Accepted}
+use Rattle.refusals.specs.declared.Acceptance.the-variants as verdicts
+use Rattle.refusals.specs.declared.Acceptance.the-variants.{Accepted}
 use Rattle.bound_theory.specs.Tree.{Report}
 use Rattle.bound_theory.specs.Tree as bounds
 use Rattle.run_loop.specs.declared.Ran.{Ran}

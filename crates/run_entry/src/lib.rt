@@ -2,7 +2,7 @@
 use answers::Answer;
 use file_check::Reader;
 use file_reader::Routine;
-use refusals::Verdict;
+use refusals::Acceptance;
 ghost use mathlib.Core.Path.{_≡_};
 ghost use lib.ListN.{length};
 ghost use Rattle.file_reader.specs.HeldRoutine.{Limited};
@@ -25,11 +25,11 @@ fn run_routine(routine: Routine, out: &mut [u8]) -> Answer
     let depth = ran.depth as u64;
     let verdict = ran.verdict;
     match verdict {
-        Verdict::Accepted => {
+        Acceptance::Accepted => {
             let n = report::put_run(out, ran.cycles, ran.words, depth, steps);
             Answer::Reported(n)
         }
-        Verdict::Refused(refusal) => Answer::Refused(refusal),
+        Acceptance::Refused(refusal) => Answer::Refused(refusal),
     }
 }
 
@@ -43,10 +43,10 @@ pub fn run(text: &[u8], out: &mut [u8]) -> Answer
 {
     let verdict = file_entry::check(Reader::Run, 128, out.len(), text);
     match verdict {
-        Verdict::Accepted => {
+        Acceptance::Accepted => {
             let routine = file_reader::routine_of(text);
             run_routine(routine, out)
         }
-        Verdict::Refused(refusal) => Answer::Refused(refusal),
+        Acceptance::Refused(refusal) => Answer::Refused(refusal),
     }
 }

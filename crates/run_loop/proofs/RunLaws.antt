@@ -8,11 +8,11 @@ use native.Mathlib.Numerals.{add-one}
 use lib.IntN.{ℤ, pos}
 use lib.ListN.{length, getD, drop, set}
 use borrow.Author.Tests.{lt-ltb, le-ltb}
-use Rattle.refusals.specs.declared.Verdict as code
-use Rattle.refusals.specs.declared.Verdict.the-variants.{Accepted, Refused}
+use Rattle.refusals.specs.declared.Acceptance as code
+use Rattle.refusals.specs.declared.Acceptance.the-variants.{Accepted, Refused}
 use Rattle.refusals.specs.declared.Refusal.the-variants.{Stuck, Spent}
 use Rattle.cells.specs.declared.Cell.{Cell}
-use Rattle.cells.specs.Cells.{number}
+use Rattle.cells.specs.Cells.{exactly}
 use Rattle.machine.specs.Machine.{State, height, Code, reblock, step, takesAnswer}
 use Rattle.machine_state.specs.declared.State as states
 use Rattle.machine_state.specs.HeldState.{WellFormed, whole}
@@ -24,8 +24,8 @@ use Rattle.bound_theory.proofs.PromiseLaws.{interruptible, run-within-bound}
 use Rattle.machine_step.specs.declared.Price.{Price}
 use Rattle.machine_step.specs.declared.Next as next
 use Rattle.machine_step.specs.declared.Next.the-variants as leads-to
-use Rattle.machine_step.specs.declared.Change.{Change}
-use Rattle.machine_step.specs.declared.Change.the-variants.{Nothing, Field}
+use Rattle.machine_step.specs.declared.Update.{Update}
+use Rattle.machine_step.specs.declared.Update.the-variants.{Nothing, Field}
 use Rattle.machine_step.specs.HeldStep.{SmallPrice, ofNext, Differs}
 use Rattle.run_loop.specs.declared.Progress.{Progress}
 use Rattle.run_loop.specs.declared.Ran.{Ran}
@@ -34,14 +34,14 @@ use Rattle.run_loop.specs.HeldContract.{judged, verdictOf, SafeFrom, Wit
 
 -- ---- the answers after the first k
 
-pub answer-out : (xs : List ℤ) (k : ℕ) → length xs ≤ k → number (pos 0) ≡ answer (drop k xs)
+pub answer-out : (xs : List ℤ) (k : ℕ) → length xs ≤ k → exactly (pos 0) ≡ answer (drop k xs)
 unfolding answer
 answer-out [] zero h = refl
 answer-out [] (suc k) h = refl
 answer-out (x ∷ xs) zero h = absurd (omega arith)
 answer-out (x ∷ xs) (suc k) h = answer-out xs k (omega arith)
 
-pub answer-in : (xs : List ℤ) (k : ℕ) → k < length xs → number (getD xs k (pos 0)) ≡ answer (drop k xs)
+pub answer-in : (xs : List ℤ) (k : ℕ) → k < length xs → exactly (getD xs k (pos 0)) ≡ answer (drop k xs)
 unfolding answer
 answer-in [] k h = absurd (omega arith)
 answer-in (x ∷ xs) zero h = refl
@@ -165,15 +165,15 @@ module _ (c : Code) (ns : List ℕ) (answers : List ℤ) (b : Run) (n : ℕ) (r 
 
 -- ---- the blocks that a step left
 
-pub set-one : (x : Change) (fs gs : List Cell) (j : ℕ) (c : Cell) → Differs x fs gs → x ≡ Field j c → (j < 128) × (gs ≡ set fs j c)
+pub set-one : (x : Update) (fs gs : List Cell) (j : ℕ) (c : Cell) → Differs x fs gs → x ≡ Field j c → (j < 128) × (gs ≡ set fs j c)
 set-one x fs gs j c d e = subst (λ y. Differs y fs gs) e d
 
-pub set-none : (x : Change) (fs gs : List Cell) → Differs x fs gs → x ≡ Nothing → gs ≡ fs
+pub set-none : (x : Update) (fs gs : List Cell) → Differs x fs gs → x ≡ Nothing → gs ≡ fs
 set-none x fs gs d e = subst (λ y. Differs y fs gs) e d
 
 -- ---- the verdict
 
-abbrev pub ran : Progress → code.Verdict → Ran
+abbrev pub ran : Progress → code.Acceptance → Ran
 ran r v = record { verdict = v; cycles = r .cycles; words = r .words; depth = r .depth; steps = r .steps }
 
 module _ (ns : List ℕ) (answers : List ℤ) (budget : ℕ) (r : Progress) where

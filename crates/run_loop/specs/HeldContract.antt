@@ -3,8 +3,8 @@ use Prim.Native.Nat.{ℕ, _≤_}
 use mathlib.Core.Path.{_≡_}
 use mathlib.Core.List.{List, []}
 use lib.IntN.{ℤ}
-use Rattle.refusals.specs.declared.Verdict as code
-use Rattle.refusals.specs.declared.Verdict.the-variants.{Accepted, Refused}
+use Rattle.refusals.specs.declared.Acceptance as code
+use Rattle.refusals.specs.declared.Acceptance.the-variants.{Accepted, Refused}
 use Rattle.cells.specs.Order.{Allowed}
 use Rattle.machine.specs.Machine.{State, Code}
 use Rattle.machine.specs.Order.{Cellwise}
@@ -21,7 +21,7 @@ pub record Runnable (start : states.State) (n : ℕ) : Type 0 where
   pub steps : n ≤ 1000000
 
 -- the verdict of a case, with the figures of r where it is accepted
-unfoldable pub judged : code.Verdict → Ran → Verdict
+unfoldable pub judged : code.Acceptance → Ran → Verdict
 judged Accepted r = accepted (record { cycles = r .cycles; words = r .words; depth = r .depth; steps = r .steps; path = [] })
 judged (Refused x) r = refused x
 

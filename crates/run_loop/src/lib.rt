@@ -1,10 +1,10 @@
 // The plain machine over a list of answers of any length: a loop of steps. The meaning is in specs/.
 use cells::Cell;
 use machine_state::State;
-use machine_step::Change;
 use machine_step::Next;
+use machine_step::Update;
+use refusals::Acceptance;
 use refusals::Refusal;
-use refusals::Verdict;
 ghost use mathlib.Core.Path.{_≡_};
 ghost use mathlib.Core.List.{List};
 ghost use Prim.Native.Nat.{ℕ, suc, _<_, _≤_};
@@ -30,7 +30,7 @@ pub struct Progress {
 
 // What a run comes to, with its figures.
 pub struct Ran {
-    pub verdict: Verdict,
+    pub verdict: Acceptance,
     pub cycles: u64,
     pub words: u64,
     pub depth: usize,
@@ -42,9 +42,9 @@ pub fn answer_at(answers: &[i32], taken: usize) -> Cell
     ensures { λ r. ⌜ r ≡ answer (drop taken (now (answers .entry))) ⌝ }
 {
     if answers.len() <= taken {
-        return cells::number(0);
+        return cells::exactly(0);
     }
-    cells::number(answers[taken])
+    cells::exactly(answers[taken])
 }
 
 // The answers asked for after a step that takes one or none.
@@ -80,22 +80,22 @@ fn so_far(
     }
 }
 
-// The run after `n` steps from `start` with `fields`.
+// The run after `n` steps from `start` with the blocks `initial`.
 pub fn after(
     code: &[u32; 5131],
     start: State,
-    fields: [Cell; 128],
+    initial: [Cell; 128],
     answers: &[i32],
     n: usize,
 ) -> Progress
     requires { ⌜ IsProgram (now code) ⌝ }
     requires { ⌜ Runnable start n ⌝ }
-    ensures { λ r. ⌜ ofProgress (sizesOf (now (code .entry))) (now (answers .entry)) r ≡ after (programOf (now (code .entry))) n (begin (whole (sizesOf (now (code .entry))) fields start) (now (answers .entry))) ⌝ }
-    ensures safe { λ r. ⌜ SafeFrom (programOf (now (code .entry))) (whole (sizesOf (now (code .entry))) fields start) (now (answers .entry)) n (ofProgress (sizesOf (now (code .entry))) (now (answers .entry)) r) ⌝ }
+    ensures { λ r. ⌜ ofProgress (sizesOf (now (code .entry))) (now (answers .entry)) r ≡ after (programOf (now (code .entry))) n (begin (whole (sizesOf (now (code .entry))) initial start) (now (answers .entry))) ⌝ }
+    ensures safe { λ r. ⌜ SafeFrom (programOf (now (code .entry))) (whole (sizesOf (now (code .entry))) initial start) (now (answers .entry)) n (ofProgress (sizesOf (now (code .entry))) (now (answers .entry)) r) ⌝ }
     ensures { λ r. ⌜ WellFormed (r .state) ⌝ }
 {
     let mut state = start;
-    let mut blocks = fields;
+    let mut blocks = initial;
     let mut taken = 0;
     let mut spent: u64 = 0;
     let mut sum: u64 = 0;
@@ -124,7 +124,7 @@ pub fn after(
         }
         // the blocks become those of the step, of which none but the field that was set is written
         let change = stepped.change;
-        if let Change::Field(j, c) = change {
+        if let Update::Field(j, c) = change {
             blocks[j] = c;
         }
         made += 1;
@@ -138,11 +138,11 @@ fn judge(r: Progress, budget: usize) -> Ran
 {
     let state = r.state;
     let verdict = if r.stopped {
-        Verdict::Accepted
+        Acceptance::Accepted
     } else if r.steps < budget {
-        Verdict::Refused(Refusal::Stuck(state.at))
+        Acceptance::Refused(Refusal::Stuck(state.at))
     } else {
-        Verdict::Refused(Refusal::Spent(state.at))
+        Acceptance::Refused(Refusal::Spent(state.at))
     };
     Ran {
         verdict: verdict,
@@ -157,15 +157,15 @@ fn judge(r: Progress, budget: usize) -> Ran
 pub fn run(
     code: &[u32; 5131],
     start: State,
-    fields: [Cell; 128],
+    initial: [Cell; 128],
     answers: &[i32],
     budget: usize,
 ) -> Ran
     requires { ⌜ IsProgram (now code) ⌝ }
     requires { ⌜ Runnable start budget ⌝ }
-    ensures { λ r. ⌜ verdictOf r ≡ run (programOf (now (code .entry))) budget (whole (sizesOf (now (code .entry))) fields start) (now (answers .entry)) ⌝ }
-    ensures within { λ r. ⌜ WithinBound (programOf (now (code .entry))) budget (whole (sizesOf (now (code .entry))) fields start) (verdictOf r) ⌝ }
+    ensures { λ r. ⌜ verdictOf r ≡ run (programOf (now (code .entry))) budget (whole (sizesOf (now (code .entry))) initial start) (now (answers .entry)) ⌝ }
+    ensures within { λ r. ⌜ WithinBound (programOf (now (code .entry))) budget (whole (sizesOf (now (code .entry))) initial start) (verdictOf r) ⌝ }
 {
-    let r = after(code, start, fields, answers, budget);
+    let r = after(code, start, initial, answers, budget);
     judge(r, budget)
 }

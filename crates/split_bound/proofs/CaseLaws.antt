@@ -6,12 +6,12 @@ use mathlib.Core.List.{List, [], _∷_}
 use native.Mathlib.Omega.{arith}
 use lib.IntN.{ℤ}
 use Rattle.refusals.specs.declared.Refusal.{Refusal}
-use Rattle.refusals.specs.declared.Verdict as code
-use Rattle.refusals.specs.declared.Verdict.the-variants.{Accepted, Refused}
+use Rattle.refusals.specs.declared.Acceptance as code
+use Rattle.refusals.specs.declared.Acceptance.the-variants.{Accepted, Refused}
 use Rattle.cells.specs.Try.{Try, stuck, done}
 use Rattle.cells.specs.declared.Value.{Value}
 use Rattle.cells.specs.declared.Cell.{Cell}
-use Rattle.cells.specs.HeldCodes.{Kept}
+use Rattle.cells.specs.Confined.{Kept}
 use Rattle.machine.specs.Machine.{State, Code, load, restack, reblock}
 use Rattle.machine.specs.Order.{Cellwise}
 use Rattle.machine_state.specs.declared.State as states
@@ -123,7 +123,7 @@ module _ {code : List ℕ} {start : states.State} {fields : List Cell} (s : Spli
       × Cellwise Kept (from p n (whole (sizesOf code) fields start)) (from p n (whole (sizesOf code) fields start))
   both-kept = split-kept p n (whole (sizesOf code) fields start) (d .divided) (s .numeric)
 
-  splittable : {c : Cell} {t : State} {r : Case} → Replaced code start fields p c r → replaceAt p c (whole (sizesOf code) fields start) ≡ t → Cellwise Kept t t → Splittable code (r .start) (r .fields)
+  splittable : {c : Cell} {t : State} {r : Case} → Replaced code start fields p c r → replaceAt p c (whole (sizesOf code) fields start) ≡ t → Cellwise Kept t t → Splittable code (r .start) (r .blocks)
   splittable x e k = record {
     program = s .program;
     formed = x .formed;
@@ -132,10 +132,10 @@ module _ {code : List ℕ} {start : states.State} {fields : List Cell} (s : Spli
     placed = rw (x .at) (s .placed);
   }
 
-  pub lower-case : {r : Case} → Replaced code start fields p l r → Splittable code (r .start) (r .fields)
+  pub lower-case : {r : Case} → Replaced code start fields p l r → Splittable code (r .start) (r .blocks)
   lower-case x = splittable x (d .lower) (both-kept .0)
 
-  pub upper-case : {r : Case} → Replaced code start fields p u r → Splittable code (r .start) (r .fields)
+  pub upper-case : {r : Case} → Replaced code start fields p u r → Splittable code (r .start) (r .blocks)
   upper-case x = splittable x (d .upper) (both-kept .1)
 
 -- ---- the bound
@@ -180,7 +180,7 @@ pub larger-figures : (f g : Found) → Figures 1025 f → Figures 1025 g → Fig
 unfolding largerOf largerBy
 larger-figures f g a b = go (g .verdict)
   where
-    go : (v : code.Verdict) → Figures 1025 (largerBy f g v)
+    go : (v : code.Acceptance) → Figures 1025 (largerBy f g v)
     go Accepted =
         record {
           used = omega (arith, a .used, b .used);

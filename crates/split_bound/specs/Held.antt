@@ -5,12 +5,12 @@ use mathlib.Core.Bool.{cond}
 use mathlib.Core.List.{List}
 use lib.IntN.{ℤ}
 use lib.ListN.{length}
-use Rattle.refusals.specs.declared.Verdict.{Verdict}
-use Rattle.refusals.specs.declared.Verdict.the-variants.{Accepted, Refused}
+use Rattle.refusals.specs.declared.Acceptance.{Acceptance}
+use Rattle.refusals.specs.declared.Acceptance.the-variants.{Accepted, Refused}
 use Rattle.cells.specs.Try.{Try, stuck, done}
 use Rattle.cells.specs.declared.Value.{Value}
 use Rattle.cells.specs.declared.Cell.{Cell}
-use Rattle.cells.specs.HeldCodes.{Kept}
+use Rattle.cells.specs.Confined.{Kept}
 use Rattle.machine.specs.Order.{Cellwise}
 use Rattle.machine_state.specs.declared.State.{State}
 use Rattle.machine_state.specs.HeldProgram.{firstOf, linesIn, sizesOf, IsProgram}
@@ -42,13 +42,13 @@ pub record Splittable (code : List ℕ) (start : State) (fields : List Cell) : T
 
 -- the start that r holds is another with c at p
 pub record Replaced (code : List ℕ) (start : State) (fields : List Cell) (p : Position) (c : Cell) (r : Case) : Type 0 where
-  pub is : whole (sizesOf code) (r .fields) (r .start) ≡ replaceAt p c (whole (sizesOf code) fields start)
+  pub is : whole (sizesOf code) (r .blocks) (r .start) ≡ replaceAt p c (whole (sizesOf code) fields start)
   pub formed : WellFormed (r .start)
-  pub room : length (r .fields) ≡ 128
+  pub room : length (r .blocks) ≡ 128
   pub at : r .start .at ≡ start .at
 
 -- what is found of two cases, of which the first is accepted: the refusal of the second, or the larger figures
-unfoldable pub largerBy : Found → Found → Verdict → Found
+unfoldable pub largerBy : Found → Found → Acceptance → Found
 largerBy f g Accepted = record {
   verdict = Accepted;
   used = max (f .used) (g .used);

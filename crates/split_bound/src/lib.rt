@@ -6,7 +6,7 @@ use cells::Value;
 use machine_state::Slot;
 use machine_state::State;
 use nearest_changes::Position;
-use refusals::Verdict;
+use refusals::Acceptance;
 use split_theory::Cuts;
 ghost use mathlib.Core.Path.{_≡_};
 ghost use Prim.Native.Nat.{_≤_, _<_};
@@ -52,9 +52,9 @@ fn parts_of(c: Cell, n: i32) -> Parts
 }
 
 // The parts of the cell at p; nothing is divided where the start has no cell there.
-fn parts_at(code: &[u32; 5131], start: State, fields: [Cell; 128], p: Position, n: i32) -> Parts
+fn parts_at(code: &[u32; 5131], start: State, blocks: [Cell; 128], p: Position, n: i32) -> Parts
     requires { ⌜ IsProgram (now code) × WellFormed start ⌝ }
-    ensures { λ r. ⌜ r ≡ partsAt n (cellAt p (whole (sizesOf (now (code .entry))) fields start)) ⌝ }
+    ensures { λ r. ⌜ r ≡ partsAt n (cellAt p (whole (sizesOf (now (code .entry))) blocks start)) ⌝ }
 {
     match p {
         Position::Accu => parts_of(start.accu, n),
@@ -71,7 +71,7 @@ fn parts_at(code: &[u32; 5131], start: State, fields: [Cell; 128], p: Position, 
             let Slot::At(j) = field else {
                 return Parts::Whole;
             };
-            parts_of(fields[j], n)
+            parts_of(blocks[j], n)
         }
     }
 }
@@ -81,7 +81,7 @@ fn larger(f: Found, g: Found) -> Found
     ensures { λ r. ⌜ r ≡ largerOf f g ⌝ }
 {
     let verdict = g.verdict;
-    let Verdict::Accepted = verdict else {
+    let Acceptance::Accepted = verdict else {
         return g;
     };
     let cycles = bound_figures::larger(f.cycles, g.cycles);
@@ -89,7 +89,7 @@ fn larger(f: Found, g: Found) -> Found
     let depth = bound_figures::larger(f.depth, g.depth);
     let used = bound_figures::larger(f.used as u64, g.used as u64);
     Found {
-        verdict: Verdict::Accepted,
+        verdict: Acceptance::Accepted,
         used: used as usize,
         cycles: cycles,
         words: words,
@@ -99,20 +99,20 @@ fn larger(f: Found, g: Found) -> Found
 }
 
 // The parts that the cut at i makes of its cell.
-fn cut_at(code: &[u32; 5131], cuts: Cuts, i: usize, start: State, fields: [Cell; 128]) -> Parts
+fn cut_at(code: &[u32; 5131], cuts: Cuts, i: usize, start: State, blocks: [Cell; 128]) -> Parts
     requires { ⌜ IsProgram (now code) × WellFormed start × Few cuts × (i < cuts .count) ⌝ }
-    ensures { λ r. ⌜ r ≡ partsAt (cutIn cuts i .number) (cellAt (cutIn cuts i .place) (whole (sizesOf (now (code .entry))) fields start)) ⌝ }
+    ensures { λ r. ⌜ r ≡ partsAt (cutIn cuts i .number) (cellAt (cutIn cuts i .place) (whole (sizesOf (now (code .entry))) blocks start)) ⌝ }
 {
     let places = cuts.places;
     let numbers = cuts.numbers;
     let p = nearest_changes::position_of(places[i]);
-    parts_at(code, start, fields, p, numbers[i])
+    parts_at(code, start, blocks, p, numbers[i])
 }
 
 // A start by its two parts.
 pub struct Case {
     pub start: State,
-    pub fields: [Cell; 128],
+    pub blocks: [Cell; 128],
 }
 
 // The start with c at the place of the cut at i.
@@ -121,19 +121,19 @@ fn case_at(
     cuts: Cuts,
     i: usize,
     start: State,
-    fields: [Cell; 128],
+    blocks: [Cell; 128],
     c: Cell,
 ) -> Case
-    requires { ⌜ IsProgram (now code) × WellFormed start × Few cuts × (i < cuts .count) × Present (cutIn cuts i .place) (whole (sizesOf (now code)) fields start) ⌝ }
-    ensures { λ r. ⌜ Replaced (now (code .entry)) start fields (cutIn cuts i .place) c r ⌝ }
+    requires { ⌜ IsProgram (now code) × WellFormed start × Few cuts × (i < cuts .count) × Present (cutIn cuts i .place) (whole (sizesOf (now code)) blocks start) ⌝ }
+    ensures { λ r. ⌜ Replaced (now (code .entry)) start blocks (cutIn cuts i .place) c r ⌝ }
 {
     let places = cuts.places;
     let p = nearest_changes::position_of(places[i]);
-    let state = nearest_changes::with_entry(code, start, fields, p, c);
-    let blocks = nearest_changes::with_field(code, start, fields, p, c);
+    let state = nearest_changes::with_entry(code, start, blocks, p, c);
+    let changed = nearest_changes::with_field(code, start, blocks, p, c);
     Case {
         start: state,
-        fields: blocks,
+        blocks: changed,
     }
 }
 
@@ -144,31 +144,31 @@ pub fn split(
     cuts: Cuts,
     i: usize,
     start: State,
-    fields: [Cell; 128],
+    blocks: [Cell; 128],
     rows: &mut [u64],
 ) -> Found
-    requires { ⌜ Splittable (now code) start fields × Few cuts × (i ≤ cuts .count) × Rows (now rows) ⌝ }
-    ensures { λ r. ⌜ Shows r (split (programOf (now (code .entry))) (cutsFrom cuts i) (whole (sizesOf (now (code .entry))) fields start)) ⌝ }
+    requires { ⌜ Splittable (now code) start blocks × Few cuts × (i ≤ cuts .count) × Rows (now rows) ⌝ }
+    ensures { λ r. ⌜ Shows r (split (programOf (now (code .entry))) (cutsFrom cuts i) (whole (sizesOf (now (code .entry))) blocks start)) ⌝ }
     ensures { λ r. ⌜ Figures 1025 r ⌝ }
 {
     if i == cuts.count {
-        return merge_sweep::merge_by(code, start, fields, rows);
+        return merge_sweep::merge_by(code, start, blocks, rows);
     }
-    let parts = cut_at(code, cuts, i, start, fields);
+    let parts = cut_at(code, cuts, i, start, blocks);
     let Parts::Two(lower, upper) = parts else {
-        return split(code, cuts, i + 1, start, fields, rows);
+        return split(code, cuts, i + 1, start, blocks, rows);
     };
-    let below = case_at(code, cuts, i, start, fields, lower);
+    let below = case_at(code, cuts, i, start, blocks, lower);
     let state = below.start;
-    let blocks = below.fields;
-    let first = split(code, cuts, i + 1, state, blocks, rows);
+    let held = below.blocks;
+    let first = split(code, cuts, i + 1, state, held, rows);
     let verdict = first.verdict;
-    let Verdict::Accepted = verdict else {
+    let Acceptance::Accepted = verdict else {
         return first;
     };
-    let from = case_at(code, cuts, i, start, fields, upper);
+    let from = case_at(code, cuts, i, start, blocks, upper);
     let state = from.start;
-    let blocks = from.fields;
-    let second = split(code, cuts, i + 1, state, blocks, rows);
+    let held = from.blocks;
+    let second = split(code, cuts, i + 1, state, held, rows);
     larger(first, second)
 }

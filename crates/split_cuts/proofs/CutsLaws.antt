@@ -8,7 +8,7 @@ use native.Mathlib.Omega.{arith}
 use borrow.Author.Tests.{lt-ltb, le-ltb}
 use lib.ListN.{length}
 use Rattle.refusals.specs.declared.Refusal.the-variants.{TextLength, Layout, OutOfRange, BadName}
-use Rattle.refusals.specs.declared.Verdict.the-variants.{Accepted as accepted, Refused as refused}
+use Rattle.refusals.specs.declared.Acceptance.the-variants.{Accepted as accepted, Refused as refused}
 use Rattle.text.specs.Text.{bytes, isEmpty, equals, Line, lines, among}
 use Rattle.text.proofs.LineLaws.{lines-none, lines-some}
 use Rattle.numbers.specs.Numbers.{within, numbers}
@@ -16,7 +16,7 @@ use Rattle.file_format.specs.declared.RefusedLine.{RefusedLine}
 use Rattle.file_format.specs.Rows.{value}
 use Rattle.file_lines.proofs.LineLaws.{filled}
 use Rattle.replay_trace.specs.Traces.{earliest, refusedAt}
-use Rattle.split_cuts.specs.Cuts.{cutsLimit, cutLimit, cellName, fromWord, cutLaidOut, textLaidOut, lineLaidOut, textInRange, lineInRange, textNamed, lineNamed, layoutFault, lineVerdict, cutsVerdict}
+use Rattle.split_cuts.specs.Cuts.{cutsLimit, cutLimit, cellName, fromWord, cutLaidOut, textLaidOut, lineLaidOut, textInRange, lineInRange, textNamed, lineNamed, layoutFault, lineVerdict, cutsAcceptance}
 
 -- ---- the tests by the index of a line
 
@@ -77,16 +77,16 @@ among-both w (x ∷ xs) ys = go (equals w x) (among-both w xs ys)
 -- ---- the refusals
 
 module _ (ns : List (List ℕ)) (text : List ℕ) where
-  pub check-long : cutsLimit < length text → refused TextLength ≡ cutsVerdict ns text
-  unfolding cutsVerdict
+  pub check-long : cutsLimit < length text → refused TextLength ≡ cutsAcceptance ns text
+  unfolding cutsAcceptance
   check-long h = sym (ap (λ b. cond b (refused TextLength) (lineVerdict ns (lines text))) (lt-ltb cutsLimit (length text) h))
 
   module _ (short : length text ≤ cutsLimit) where
-    by-lines : cutsVerdict ns text ≡ lineVerdict ns (lines text)
-    unfolding cutsVerdict
+    by-lines : cutsAcceptance ns text ≡ lineVerdict ns (lines text)
+    unfolding cutsAcceptance
     by-lines = ap (λ b. cond b (refused TextLength) (lineVerdict ns (lines text))) (le-ltb cutsLimit (length text) short)
 
-    pub check-empty : length text ≡ 0 → refused (Layout 1) ≡ cutsVerdict ns text
+    pub check-empty : length text ≡ 0 → refused (Layout 1) ≡ cutsAcceptance ns text
     unfolding lineVerdict layoutFault refusedAt
     check-empty e = sym (by-lines ∙ ap (lineVerdict ns) (lines-none text (omega arith)))
 
@@ -97,7 +97,7 @@ module _ (ns : List (List ℕ)) (text : List ℕ) where
       layout-some (l ∷ ls) h = refl
 
       pub by-rows : {a b d : RefusedLine} → earliest lineLaidOut 0 (lines text) ≡ a → earliest lineInRange 0 (lines text) ≡ b → earliest (lineNamed ns) 0 (lines text) ≡ d
-          → refusedAt a Layout (refusedAt b OutOfRange (refusedAt d BadName accepted)) ≡ cutsVerdict ns text
+          → refusedAt a Layout (refusedAt b OutOfRange (refusedAt d BadName accepted)) ≡ cutsAcceptance ns text
       unfolding lineVerdict
       by-rows p q r =
           sym (by-lines

@@ -10,17 +10,17 @@ use lib.ListN.{length}
 use Rattle.refusals.specs.declared.Refusal.{Refusal}
 use Rattle.refusals.specs.declared.Refusal.the-variants.{TextLength, Layout, OutOfRange, BadName}
 use Rattle.refusals.specs.Refusals.{place}
-use Rattle.refusals.specs.declared.Verdict.{Verdict}
-use Rattle.refusals.specs.declared.Verdict.the-variants.{Accepted as accepted, Refused as refused}
+use Rattle.refusals.specs.declared.Acceptance.{Acceptance}
+use Rattle.refusals.specs.declared.Acceptance.the-variants.{Accepted as accepted, Refused as refused}
 use Rattle.text.specs.Text.{Line, lines}
 use Rattle.text.proofs.TextLaws.{and-left, and-right}
 use Rattle.file_format.specs.declared.RefusedLine.{RefusedLine}
 use Rattle.file_format.specs.declared.RefusedLine.the-variants.{Nowhere as nowhere, Line as line}
 use Rattle.file_format.proofs.PassingLaws.{lines-count}
 use Rattle.replay_trace.specs.Traces.{earliest, refusedAt}
-use Rattle.split_cuts.specs.Cuts.{cutsLimit, cutLimit, cutLaidOut, textLaidOut, lineLaidOut, lineInRange, lineNamed, layoutFault, lineVerdict, cutsVerdict}
+use Rattle.split_cuts.specs.Cuts.{cutsLimit, cutLimit, cutLaidOut, textLaidOut, lineLaidOut, lineInRange, lineNamed, layoutFault, lineVerdict, cutsAcceptance}
 
-at-nowhere : (a : RefusedLine) (r : ℕ → Refusal) (v : Verdict) → refusedAt a r v ≡ accepted → (a ≡ nowhere) × (v ≡ accepted)
+at-nowhere : (a : RefusedLine) (r : ℕ → Refusal) (v : Acceptance) → refusedAt a r v ≡ accepted → (a ≡ nowhere) × (v ≡ accepted)
 unfolding refusedAt
 at-nowhere nowhere r v e = (refl, e)
 at-nowhere (line n) r v e = absurd (let z : _≡_ {A = ℕ} 0 1 = cc in omega arith)
@@ -53,8 +53,8 @@ layout-few [] e = omega arith
 layout-few (l ∷ ls) e = let h = lines-few 0 (l ∷ ls) (omega arith) e in omega arith
 
 -- at most 16 lines after the names line
-pub cuts-few : (ns : List (List ℕ)) (text : List ℕ) → cutsVerdict ns text ≡ accepted → length (lines text) ≤ 17
-unfolding cutsVerdict lineVerdict
+pub cuts-few : (ns : List (List ℕ)) (text : List ℕ) → cutsAcceptance ns text ≡ accepted → length (lines text) ≤ 17
+unfolding cutsAcceptance lineVerdict
 cuts-few ns text = go (ltb cutsLimit (length text))
   where
     go : (b : Bool)
@@ -79,8 +79,8 @@ layout-place [] n e = let r : 1 ≡ n = cc in omega arith
 layout-place (l ∷ ls) n e = let h = place-within lineLaidOut 0 (l ∷ ls) n e in omega arith
 
 -- a place is one of the lines, or the one that a text without lines lacks
-pub cuts-place : (ns : List (List ℕ)) (text : List ℕ) (r : Refusal) → cutsVerdict ns text ≡ refused r → place r ≤ 4097
-unfolding cutsVerdict lineVerdict refusedAt place
+pub cuts-place : (ns : List (List ℕ)) (text : List ℕ) (r : Refusal) → cutsAcceptance ns text ≡ refused r → place r ≤ 4097
+unfolding cutsAcceptance lineVerdict refusedAt place
 cuts-place ns text r =
     go (ltb cutsLimit (length text)) (layoutFault (lines text)) (earliest lineInRange 0 (lines text)) (earliest (lineNamed ns) 0 (lines text)) refl refl refl refl
   where

@@ -10,8 +10,7 @@ use Rattle.text.specs.Text.{Line, noLine, lines}
 use Rattle.text.proofs.TextLaws.{find-below}
 use Rattle.text.proofs.LineLaws.{lines-some}
 use Rattle.file_parts.proofs.FillLaws.{fill-more, line-left, line-next, line-end, line-is}
-use Rattle.nearest_changes.specs.Places.{from}
-use Rattle.nearest_changes.specs.Held.{allPositions}
+use Rattle.nearest_changes.specs.Places.{from, allPositions}
 use Rattle.nearest_entry.specs.Answers.{nameOf}
 use Rattle.split_theory.specs.Split.{Cut}
 use Rattle.split_theory.specs.Held.{cutsAt, cutsFrom, Few}
@@ -80,7 +79,7 @@ listed ks vs [] i a b = refl
 listed ks vs (l ∷ ls) i a b =
     let z : i + 0 ≡ i = omega arith in
     ap₂ (λ (x : Cut) (xs : List Cut). x ∷ xs)
-    (λ t. record { place = Rattle.nearest_changes.specs.Held.positionOf ((rw z at (a 0 (omega arith))) t); number = (rw z at (b 0 (omega arith))) t })
+    (λ t. record { place = Rattle.nearest_changes.specs.Places.positionOf ((rw z at (a 0 (omega arith))) t); number = (rw z at (b 0 (omega arith))) t })
     (listed ks vs ls (suc i)
     (λ j h. let e : i + suc j ≡ suc i + j = omega arith in rw e at (a (suc j) (omega arith)))
     (λ j h. let e : i + suc j ≡ suc i + j = omega arith in rw e at (b (suc j) (omega arith))))

@@ -7,9 +7,9 @@ use lib.Dec.{eqb, ltb}
 use lib.IntN.{ℤ}
 use lib.ListN.{length, getD, drop}
 use Rattle.refusals.specs.declared.Refusal.the-variants.{TextLength, Layout, OutOfRange, BadName}
-use Rattle.refusals.specs.declared.Verdict.{Verdict}
-use Rattle.refusals.specs.declared.Verdict.the-variants.{Accepted as accepted, Refused as refused}
-use Rattle.text.specs.Text.{bytes, isEmpty, equals, words, Line, lines, find, among}
+use Rattle.refusals.specs.declared.Acceptance.{Acceptance}
+use Rattle.refusals.specs.declared.Acceptance.the-variants.{Accepted as accepted, Refused as refused}
+use Rattle.text.specs.Text.{bytes, isEmpty, equals, lineWords, Line, lines, find, among}
 use Rattle.text.specs.Decimal.{numeral}
 use Rattle.numbers.specs.Numbers.{within, numbers}
 use Rattle.file_format.specs.declared.RefusedLine.{RefusedLine}
@@ -17,7 +17,7 @@ use Rattle.file_format.specs.declared.RefusedLine.the-variants.{Line as line}
 use Rattle.file_format.specs.Rows.{isNumeral, value}
 use Rattle.file_format.specs.Routine.{inside}
 use Rattle.replay_trace.specs.Traces.{earliest, refusedAt}
-use Rattle.nearest_changes.specs.Held.{positionOf, allPositions}
+use Rattle.nearest_changes.specs.Places.{positionOf, allPositions}
 use Rattle.nearest_entry.specs.Answers.{nameOf}
 use Rattle.split_theory.specs.Split.{Cut}
 
@@ -31,17 +31,17 @@ cutLimit = 16
 
 -- under the names CELL FROM: a cell's name is the first word of a cut's line
 abbrev pub cellName : List ℕ → List ℕ
-cellName text = getD (words text) 0 []
+cellName text = getD (lineWords text) 0 []
 
 -- and the number from which on its upper part goes is the second
 abbrev pub fromWord : List ℕ → List ℕ
-fromWord text = getD (words text) 1 []
+fromWord text = getD (lineWords text) 1 []
 
 -- ---- row 2
 
 -- a cut: a name and a number parted by one space
 unfoldable pub cutLaidOut : List ℕ → Bool
-cutLaidOut text = eqb (length (words text)) 2 && not (isEmpty (cellName text)) && isNumeral (numeral (fromWord text))
+cutLaidOut text = eqb (length (lineWords text)) 2 && not (isEmpty (cellName text)) && isNumeral (numeral (fromWord text))
 
 -- the text of the line with index k, from 0: the names line is line 1, and a seventeenth cut is refused at its line
 unfoldable pub textLaidOut : ℕ → List ℕ → Bool
@@ -82,13 +82,13 @@ layoutFault [] = line 1
 layoutFault (l ∷ ls) = earliest lineLaidOut 0 (l ∷ ls)
 
 -- 2, 3 and 4, each over all lines, with the line as the place; ns are the names of the routine's cells
-unfoldable pub lineVerdict : List (List ℕ) → List Line → Verdict
+unfoldable pub lineVerdict : List (List ℕ) → List Line → Acceptance
 lineVerdict ns ls =
     refusedAt (layoutFault ls) Layout (refusedAt (earliest lineInRange 0 ls) OutOfRange (refusedAt (earliest (lineNamed ns) 0 ls) BadName accepted))
 
 -- 1 comes first: over 4,096 bytes, at place 0
-unfoldable pub cutsVerdict : List (List ℕ) → List ℕ → Verdict
-cutsVerdict ns text = cond (ltb cutsLimit (length text)) (refused TextLength) (lineVerdict ns (lines text))
+unfoldable pub cutsAcceptance : List (List ℕ) → List ℕ → Acceptance
+cutsAcceptance ns text = cond (ltb cutsLimit (length text)) (refused TextLength) (lineVerdict ns (lines text))
 
 -- ---- the cuts
 

@@ -1,8 +1,8 @@
 // The text of the cuts: its refusals, and the cuts that it lists. The meaning is in specs/.
 use file_format::RefusedLine;
 use file_format::layout;
+use refusals::Acceptance;
 use refusals::Refusal;
-use refusals::Verdict;
 use split_theory::Cuts;
 ghost use mathlib.Core.Path.{_≡_};
 ghost use mathlib.Core.List.{_++_};
@@ -12,7 +12,7 @@ ghost use Rattle.text.specs.Text.{lines, noLine};
 ghost use Rattle.file_format.specs.Layout.{list};
 ghost use Rattle.replay_trace.specs.Traces.{earliest};
 ghost use Rattle.split_theory.specs.Held.{cutsFrom, Few};
-ghost use Rattle.split_cuts.specs.Cuts.{cutsLimit, cutLaidOut, textLaidOut, lineLaidOut, textInRange, textNamed, cutsVerdict, placeNumber, cutNumber, cutsOf};
+ghost use Rattle.split_cuts.specs.Cuts.{cutsLimit, cutLaidOut, textLaidOut, lineLaidOut, textInRange, textNamed, cutsAcceptance, placeNumber, cutNumber, cutsOf};
 ghost use Rattle.split_cuts.specs.HeldScan.{lineTest};
 
 // What a line is tested for: row 2, row 3 or row 4 of the refusal table.
@@ -125,28 +125,28 @@ fn earliest(test: LineTest, cuts: &[u8], cells: &[u8], fields: &[u8]) -> Refused
 }
 
 // The refusal of the cuts, where `cells` and `fields` are the routine's lines of the names of its cells.
-pub fn check_cuts(cuts: &[u8], cells: &[u8], fields: &[u8]) -> Verdict
-    ensures { λ r. ⌜ r ≡ cutsVerdict (list (now (cells .entry)) ++ list (now (fields .entry))) (now (cuts .entry)) ⌝ }
+pub fn check_cuts(cuts: &[u8], cells: &[u8], fields: &[u8]) -> Acceptance
+    ensures { λ r. ⌜ r ≡ cutsAcceptance (list (now (cells .entry)) ++ list (now (fields .entry))) (now (cuts .entry)) ⌝ }
 {
     if 4096 < cuts.len() {
-        return Verdict::Refused(Refusal::TextLength);
+        return Acceptance::Refused(Refusal::TextLength);
     }
     if cuts.len() == 0 {
-        return Verdict::Refused(Refusal::Layout(1));
+        return Acceptance::Refused(Refusal::Layout(1));
     }
     let layout = earliest(LineTest::Layout, cuts, cells, fields);
     if let RefusedLine::Line(n) = layout {
-        return Verdict::Refused(Refusal::Layout(n));
+        return Acceptance::Refused(Refusal::Layout(n));
     }
     let range = earliest(LineTest::Range, cuts, cells, fields);
     if let RefusedLine::Line(n) = range {
-        return Verdict::Refused(Refusal::OutOfRange(n));
+        return Acceptance::Refused(Refusal::OutOfRange(n));
     }
     let name = earliest(LineTest::Name, cuts, cells, fields);
     if let RefusedLine::Line(n) = name {
-        return Verdict::Refused(Refusal::BadName(n));
+        return Acceptance::Refused(Refusal::BadName(n));
     }
-    Verdict::Accepted
+    Acceptance::Accepted
 }
 
 // The number of the place that a name stands for.

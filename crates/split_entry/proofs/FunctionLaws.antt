@@ -6,8 +6,8 @@ use native.Mathlib.Omega.{arith}
 use lib.ListN.{length}
 use Rattle.refusals.specs.declared.Refusal.{Refusal}
 use Rattle.refusals.specs.Refusals.{place}
-use Rattle.refusals.specs.declared.Verdict as checks
-use Rattle.refusals.specs.declared.Verdict.the-variants.{Accepted, Refused}
+use Rattle.refusals.specs.declared.Acceptance as checks
+use Rattle.refusals.specs.declared.Acceptance.the-variants.{Accepted, Refused}
 use Rattle.text.specs.Text.{lines}
 use Rattle.bound_theory.specs.Tree.{Report, Verdict}
 use Rattle.bound_theory.specs.Tree as verdicts
@@ -79,7 +79,7 @@ from-split text cuts n bs e =
     let a = from-reading (splitRoutine text cuts) (readBound text) memoryLimit n bs e in
     go (a .lent) (a .routine) (a .reads) (cutsChecked text cuts) refl (a .gives)
   where
-    go : memoryLimit ≤ n → (x : Routine) → readBound text ≡ readings.routine x → (v : checks.Verdict) → cutsChecked text cuts ≡ v → checked v (casesRoutine cuts x) ≡ reported bs → FromSplit text cuts n bs
+    go : memoryLimit ≤ n → (x : Routine) → readBound text ≡ readings.routine x → (v : checks.Acceptance) → cutsChecked text cuts ≡ v → checked v (casesRoutine cuts x) ≡ reported bs → FromSplit text cuts n bs
     go l x reads Accepted h e = record { lent = l; routine = x; reads = reads; passes = h; gives = from-cases cuts x bs e }
     go l x reads (Refused r) h e = never r bs e
 
@@ -114,6 +114,6 @@ module _ (text cuts : List ℕ) (n : ℕ) where
   split-refusal-place r =
       place-from 62000 (splitRoutine text cuts) (readBound text) memoryLimit n r (λ r e. omega (arith, read-bound-place text r e)) (λ x e f. let (passes, is, short) = read-passes text x e in go x passes is (cutsChecked text cuts) refl f)
     where
-      go : (x : Routine) → Passes (lines text) → x ≡ routineOf (lines text) → (v : checks.Verdict) → cutsChecked text cuts ≡ v → checked v (casesRoutine cuts x) ≡ refused r → place r ≤ 62000
+      go : (x : Routine) → Passes (lines text) → x ≡ routineOf (lines text) → (v : checks.Acceptance) → cutsChecked text cuts ≡ v → checked v (casesRoutine cuts x) ≡ refused r → place r ≤ 62000
       go x passes is Accepted h e = split-place text x passes is (cutsOf cuts) r (from-refused (boundText (x .tick)) (split (x .code) (cutsOf cuts) (x .start)) r e)
       go x passes is (Refused y) h e = let g : y ≡ r = cc in omega (arith, cuts-place _ cuts r (h ∙ ap Refused g))

@@ -10,8 +10,8 @@ use lib.ListN.{length}
 use borrow.Author.Tests.{lt-ltb, le-ltb, ltb-true, ltb-false}
 use Rattle.refusals.specs.declared.Refusal.{Refusal}
 use Rattle.refusals.specs.declared.Refusal.the-variants.{TextLength, Layout, OutOfRange, BadName}
-use Rattle.refusals.specs.declared.Verdict.{Verdict}
-use Rattle.refusals.specs.declared.Verdict.the-variants.{Accepted, Refused}
+use Rattle.refusals.specs.declared.Acceptance.{Acceptance}
+use Rattle.refusals.specs.declared.Acceptance.the-variants.{Accepted, Refused}
 use Rattle.text.specs.Text.{lines}
 use Rattle.file_format.specs.declared.RefusedLine.{RefusedLine}
 use Rattle.file_format.specs.declared.RefusedLine.the-variants.{Nowhere as nowhere, Line as line}
@@ -29,15 +29,15 @@ use Rattle.report_theory.proofs.ListedLaws.{refused-case}
 use Rattle.split_theory.specs.Split.{split}
 use Rattle.split_theory.specs.Promises.{FirstRefused}
 use Rattle.split_theory.proofs.Theorems.{split-refused-where}
-use Rattle.split_cuts.specs.Cuts.{cutsLimit, lineInRange, lineNamed, layoutFault, lineVerdict, cutsVerdict, cutsOf}
+use Rattle.split_cuts.specs.Cuts.{cutsLimit, lineInRange, lineNamed, layoutFault, lineVerdict, cutsAcceptance, cutsOf}
 use Rattle.split_entry.specs.Answers.{cellsNamed, cutsChecked, checked, casesRoutine, splitRoutine, splitAnswer}
 use Rattle.split_entry.specs.Listed.{CutsRefused, long-cuts, not-laid-out, out-of-range, not-named, CasesEnd, cuts-refuse, case-refuses, SplitsListed}
 
 -- ---- the cuts
 
 module _ (ns : List (List ℕ)) (cuts : List ℕ) where
-  cuts-first : (r : Refusal) → cutsVerdict ns cuts ≡ Refused r → CutsRefused ns cuts r
-  unfolding cutsVerdict lineVerdict refusedAt
+  cuts-first : (r : Refusal) → cutsAcceptance ns cuts ≡ Refused r → CutsRefused ns cuts r
+  unfolding cutsAcceptance lineVerdict refusedAt
   cuts-first r e = by (ltb cutsLimit (length cuts)) refl e
     where
       rows : length cuts ≤ cutsLimit → (f g h : RefusedLine) → layoutFault (lines cuts) ≡ f → earliest lineInRange 0 (lines cuts) ≡ g → earliest (lineNamed ns) 0 (lines cuts) ≡ h →
@@ -51,21 +51,21 @@ module _ (ns : List (List ℕ)) (cuts : List ℕ) where
       by true q e = let k : r ≡ TextLength = cc in long-cuts (ltb-true cutsLimit (length cuts) q) k
       by false q e = rows (ltb-false cutsLimit (length cuts) q) _ _ _ refl refl refl e
 
-  first-cuts : {r : Refusal} → CutsRefused ns cuts r → cutsVerdict ns cuts ≡ Refused r
-  unfolding cutsVerdict lineVerdict refusedAt
+  first-cuts : {r : Refusal} → CutsRefused ns cuts r → cutsAcceptance ns cuts ≡ Refused r
+  unfolding cutsAcceptance lineVerdict refusedAt
   first-cuts (long-cuts l e) = rw (lt-ltb cutsLimit (length cuts) l, e) refl
   first-cuts (not-laid-out l p e) = rw (le-ltb cutsLimit (length cuts) l, p, e) refl
   first-cuts (out-of-range l p q e) = rw (le-ltb cutsLimit (length cuts) l, p, q, e) refl
   first-cuts (not-named l p q s e) = rw (le-ltb cutsLimit (length cuts) l, p, q, s, e) refl
 
-  none-cuts : ((r : Refusal) → CutsRefused ns cuts r → ⊥) → cutsVerdict ns cuts ≡ Accepted
-  none-cuts h = go (cutsVerdict ns cuts) refl
+  none-cuts : ((r : Refusal) → CutsRefused ns cuts r → ⊥) → cutsAcceptance ns cuts ≡ Accepted
+  none-cuts h = go (cutsAcceptance ns cuts) refl
     where
-      go : (v : Verdict) → cutsVerdict ns cuts ≡ v → cutsVerdict ns cuts ≡ Accepted
+      go : (v : Acceptance) → cutsAcceptance ns cuts ≡ v → cutsAcceptance ns cuts ≡ Accepted
       go Accepted e = e
       go (Refused r) e = absurd (h r (cuts-first r e))
 
-  cuts-none : cutsVerdict ns cuts ≡ Accepted → (r : Refusal) → CutsRefused ns cuts r → ⊥
+  cuts-none : cutsAcceptance ns cuts ≡ Accepted → (r : Refusal) → CutsRefused ns cuts r → ⊥
   cuts-none e r k = let f = first-cuts k in let z : _≡_ {A = ℕ} 0 1 = cc in omega arith
 
 -- ---- a routine
@@ -83,7 +83,7 @@ module _ (text cuts : List ℕ) (reads : readBound text ≡ readings.routine (ro
   unfolding splitRoutine cutsChecked checked casesRoutine ofVerdict
   cases-end = (λ e. to (cutsChecked text cuts) refl e, from)
     where
-      to : (v : Verdict) → cutsChecked text cuts ≡ v → checked v (casesRoutine cuts x) ≡ refused r → CasesEnd text cuts x r
+      to : (v : Acceptance) → cutsChecked text cuts ≡ v → checked v (casesRoutine cuts x) ≡ refused r → CasesEnd text cuts x r
       to Accepted h e =
           case-refuses (cuts-none (cellsNamed (lines text)) cuts h)
           (cases-refused .0 (from-refused (boundText (x .tick)) (split (x .code) (cutsOf cuts) (x .start)) r e))

@@ -15,7 +15,7 @@ use Rattle.nearest_changes.specs.Places.{from, fieldsFrom, positions}
 use Rattle.nearest_entry.specs.Answers.{nameOf}
 use Rattle.nearest_entry.proofs.Theorems.{named-in-order}
 use Rattle.report_theory.specs.Refined.{Narrows}
-use Rattle.split_cuts.specs.Cuts.{cutsVerdict}
+use Rattle.split_cuts.specs.Cuts.{cutsAcceptance}
 use Rattle.split_entry.specs.Answers.{cellsNamed, cutsChecked}
 
 module _ {R : Cell → Cell → Type 0} where
@@ -37,4 +37,4 @@ module _ (narrower text : List ℕ) (y x : Routine) (reads : readBound narrower 
   pub cuts-alike : (cuts : List ℕ) → cutsChecked narrower cuts ≡ cutsChecked text cuts
   unfolding cutsChecked cellsNamed
   cuts-alike cuts =
-      ap (λ ns. cutsVerdict ns cuts) (sym (named-in-order narrower y reads) ∙ ap (map nameOf) (places-alike (h .start)) ∙ named-in-order text x reads′)
+      ap (λ ns. cutsAcceptance ns cuts) (sym (named-in-order narrower y reads) ∙ ap (map nameOf) (places-alike (h .start)) ∙ named-in-order text x reads′)

@@ -6,10 +6,10 @@ use mathlib.Core.List.{List}
 use lib.Dec.{ltb}
 use borrow.Author.Tests.{ltb-true, ltb-false}
 use Rattle.refusals.specs.declared.Refusal.the-variants.{ReportMemory}
-use Rattle.refusals.specs.declared.Verdict as checks
-use Rattle.refusals.specs.declared.Verdict.the-variants.{Accepted, Refused}
+use Rattle.refusals.specs.declared.Acceptance as checks
+use Rattle.refusals.specs.declared.Acceptance.the-variants.{Accepted, Refused}
 use Rattle.text.specs.Text.{lines}
-use Rattle.bound_theory.specs.Tree.{Report, Verdict, accepted}
+use Rattle.bound_theory.specs.Tree.{Report, accepted}
 use Rattle.bound_theory.specs.Tree as verdicts
 use Rattle.bound_theory.specs.Promises.{NoGreater}
 use Rattle.file_format.specs.Routine.{Routine, Reading, readBound}
@@ -100,7 +100,7 @@ pub splits-refused : SplitsRefused
 unfolding splitAnswer ofReading splitRoutine checked casesRoutine
 splits-refused text cuts n r e = go (ltb n memoryLimit) refl (readBound text) refl e
   where
-    routine : memoryLimit ≤ n → (x : Routine) → readBound text ≡ readings.routine x → (v : checks.Verdict) → cutsChecked text cuts ≡ v → checked v (casesRoutine cuts x) ≡ refused r → SplitRefusal text cuts n r
+    routine : memoryLimit ≤ n → (x : Routine) → readBound text ≡ readings.routine x → (v : checks.Acceptance) → cutsChecked text cuts ≡ v → checked v (casesRoutine cuts x) ≡ refused r → SplitRefusal text cuts n r
     routine l x reads Accepted h e =
         let (u, k, m) = split-refused (x .code) (cutsOf cuts) (x .start) r (from-refused (boundText (x .tick)) (split (x .code) (cutsOf cuts) (x .start)) r e) in
         by-case l x reads h u k m
@@ -108,7 +108,7 @@ splits-refused text cuts n r e = go (ltb n memoryLimit) refl (readBound text) re
 
     go : (b : Bool) → ltb n memoryLimit ≡ b → (m : Reading) → readBound text ≡ m → cond b (refused ReportMemory) (ofReading (splitRoutine text cuts) m) ≡ refused r → SplitRefusal text cuts n r
     go true h m q e = let g : ReportMemory ≡ r = cc in by-memory (ltb-true n memoryLimit h) (sym g)
-    go false h (readings.refused y) q e = let g : y ≡ r = cc in by-file (ltb-false n memoryLimit h) (q ∙ ap readings.refused g)
+    go false h (readings.unread y) q e = let g : y ≡ r = cc in by-file (ltb-false n memoryLimit h) (q ∙ ap readings.unread g)
     go false h (readings.routine x) q e = routine (ltb-false n memoryLimit h) x q (cutsChecked text cuts) refl e
 
 pub splits-fit : SplitsFit

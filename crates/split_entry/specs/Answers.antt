@@ -2,8 +2,8 @@
 -- (docs/DECISIONS.md, The bound by cases)
 use Prim.Native.Nat.{ℕ}
 use mathlib.Core.List.{List, _++_}
-use Rattle.refusals.specs.declared.Verdict.{Verdict}
-use Rattle.refusals.specs.declared.Verdict.the-variants.{Accepted, Refused}
+use Rattle.refusals.specs.declared.Acceptance.{Acceptance}
+use Rattle.refusals.specs.declared.Acceptance.the-variants.{Accepted, Refused}
 use Rattle.text.specs.Text.{Line, lines}
 use Rattle.file_format.specs.declared.Section.the-variants.{Cells as cells, Fields as fields}
 use Rattle.file_format.specs.declared.Role.the-variants.{Names as names}
@@ -13,18 +13,18 @@ use Rattle.report.specs.Report.{boundText}
 use Rattle.answers.specs.Answers.{Answer, refused, memoryLimit, lending, ofReading}
 use Rattle.report_theory.specs.Answers.{ofVerdict}
 use Rattle.split_theory.specs.Split.{split}
-use Rattle.split_cuts.specs.Cuts.{cutsVerdict, cutsOf}
+use Rattle.split_cuts.specs.Cuts.{cutsAcceptance, cutsOf}
 
 -- the names of the cells of a routine file: those on its lines 10 and 12
 unfoldable pub cellsNamed : List Line → List (List ℕ)
 cellsNamed ls = listed (names cells) ls ++ listed (names fields) ls
 
 -- whether the cuts pass, beside those names
-unfoldable pub cutsChecked : List ℕ → List ℕ → Verdict
-cutsChecked text cuts = cutsVerdict (cellsNamed (lines text)) cuts
+unfoldable pub cutsChecked : List ℕ → List ℕ → Acceptance
+cutsChecked text cuts = cutsAcceptance (cellsNamed (lines text)) cuts
 
 -- the refusal of a check, or the answer after it
-unfoldable pub checked : Verdict → Answer → Answer
+unfoldable pub checked : Acceptance → Answer → Answer
 checked Accepted a = a
 checked (Refused r) a = refused r
 

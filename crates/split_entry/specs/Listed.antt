@@ -12,7 +12,7 @@ use Rattle.file_format.specs.declared.RefusedLine.the-variants.{Nowhere as nowh
 use Rattle.file_format.specs.Routine.{Routine, boundChecks}
 use Rattle.replay_trace.specs.Traces.{earliest}
 use Rattle.answers.specs.Answers.{refused}
-use Rattle.report_theory.specs.Listed.{Case}
+use Rattle.report_theory.specs.Listed.{ListedCase}
 use Rattle.split_theory.specs.Promises.{FirstRefused}
 use Rattle.split_cuts.specs.Cuts.{cutsLimit, lineInRange, lineNamed, layoutFault, cutsOf}
 use Rattle.split_entry.specs.Answers.{cellsNamed, splitAnswer}
@@ -37,7 +37,7 @@ pub data CasesEnd (text cuts : List ℕ) (x : Routine) (r : Refusal) : Type 0 wh
 
 -- "Refusals in their order: 10; the routine's 1 to 6 and 13", and those
 abbrev pub CasesRefused : List ℕ → List ℕ → ℕ → Refusal → Type 0
-CasesRefused text cuts = Case boundChecks (CasesEnd text cuts) text
+CasesRefused text cuts = ListedCase boundChecks (CasesEnd text cuts) text
 
 -- a call is refused in the listed cases and in no other
 abbrev pub SplitsListed : Type 0

@@ -6,7 +6,7 @@ use lib.IntN.{ℤ}
 use lib.ListN.{length}
 use Rattle.refusals.specs.declared.Refusal.{Refusal}
 use Rattle.refusals.specs.declared.Refusal.the-variants.{ReportMemory}
-use Rattle.refusals.specs.declared.Verdict.the-variants.{Accepted, Refused}
+use Rattle.refusals.specs.declared.Acceptance.the-variants.{Accepted, Refused}
 use Rattle.refusals.specs.Refusals.{place}
 use Rattle.cells.specs.Order.{Allowed}
 use Rattle.machine.specs.Machine.{State}
@@ -73,7 +73,7 @@ MonotoneSplit text cuts bytes =
 -- why a call is refused: the memory, the routine file, the cuts, or a case, which the merging bound refuses so
 pub data SplitRefusal (text cuts : List ℕ) (n : ℕ) (r : Refusal) : Type 0 where
   by-memory : n < memoryLimit → r ≡ ReportMemory → SplitRefusal text cuts n r
-  by-file : memoryLimit ≤ n → readBound text ≡ readings.refused r → SplitRefusal text cuts n r
+  by-file : memoryLimit ≤ n → readBound text ≡ readings.unread r → SplitRefusal text cuts n r
   by-cuts : memoryLimit ≤ n → (x : Routine) → readBound text ≡ readings.routine x → cutsChecked text cuts ≡ Refused r → SplitRefusal text cuts n r
   by-case : memoryLimit ≤ n → (x : Routine) → readBound text ≡ readings.routine x → cutsChecked text cuts ≡ Accepted →
       (u : State) → Case (cutsOf cuts) (x .start) u → merged (x .code) u ≡ verdicts.refused r → SplitRefusal text cuts n r

@@ -6,7 +6,7 @@ use file_format::Role;
 use file_format::Section;
 use file_format::layout;
 use file_reader::Routine;
-use refusals::Verdict;
+use refusals::Acceptance;
 ghost use mathlib.Core.Path.{_≡_};
 ghost use Prim.Native.Nat.{_≤_};
 ghost use lib.ListN.{length};
@@ -26,7 +26,7 @@ ghost use Rattle.split_entry.specs.Listed.{CasesRefused};
 ghost use Rattle.split_entry.specs.Held.{Read};
 
 // The refusal of the cuts, beside the names of the cells of a routine file.
-pub fn check(text: &[u8], cuts: &[u8]) -> Verdict
+pub fn check(text: &[u8], cuts: &[u8]) -> Acceptance
     ensures { λ r. ⌜ r ≡ cutsChecked (now (text .entry)) (now (cuts .entry)) ⌝ }
 {
     let cells = layout::text_of(text, Role::Names(Section::Cells));
@@ -41,11 +41,11 @@ pub fn bounded(routine: Routine, cuts: &[u8]) -> Found
     ensures { λ r. ⌜ Shareable r ⌝ }
 {
     let code = routine.code;
-    let fields = routine.fields;
+    let blocks = routine.blocks;
     let start = routine.start;
     let held = split_cuts::cuts_of(cuts);
     let mut rows = [0; 201925];
-    split_bound::split(&code, held, 0, start, fields, &mut rows)
+    split_bound::split(&code, held, 0, start, blocks, &mut rows)
 }
 
 // The answer to a routine and to an accepted text of cuts.
@@ -68,11 +68,11 @@ fn split_passing(text: &[u8], cuts: &[u8], out: &mut [u8]) -> Answer
 {
     let verdict = check(text, cuts);
     match verdict {
-        Verdict::Accepted => {
+        Acceptance::Accepted => {
             let routine = file_reader::routine_of(text);
             split_routine(routine, cuts, out)
         }
-        Verdict::Refused(refusal) => Answer::Refused(refusal),
+        Acceptance::Refused(refusal) => Answer::Refused(refusal),
     }
 }
 
@@ -89,7 +89,7 @@ pub fn split(text: &[u8], cuts: &[u8], out: &mut [u8]) -> Answer
 {
     let verdict = file_entry::check(Reader::Bound, 128, out.len(), text);
     match verdict {
-        Verdict::Accepted => split_passing(text, cuts, out),
-        Verdict::Refused(refusal) => Answer::Refused(refusal),
+        Acceptance::Accepted => split_passing(text, cuts, out),
+        Acceptance::Refused(refusal) => Answer::Refused(refusal),
     }
 }

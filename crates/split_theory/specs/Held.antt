@@ -4,7 +4,7 @@ use mathlib.Core.Path.{_≡_}
 use mathlib.Core.List.{List, [], _∷_}
 use lib.IntN.{ℤ, pos}
 use lib.ListN.{length, getD}
-use Rattle.nearest_changes.specs.Held.{positionOf}
+use Rattle.nearest_changes.specs.Places.{positionOf}
 use Rattle.split_theory.specs.declared.Cuts.{Cuts}
 use Rattle.split_theory.specs.Split.{Cut}
 

@@ -6,7 +6,7 @@ use Prim.Native.Nat.{ℕ, _≤_}
 use mathlib.Core.Logic.{_⊎_, _↔_}
 use lib.IntN.{ℤ}
 use Rattle.cells.specs.Order.{Refines, Allowed}
-use Rattle.cells.specs.HeldCodes.{Kept}
+use Rattle.cells.specs.Confined.{Kept}
 use Rattle.machine.specs.Machine.{State, Code}
 use Rattle.machine.specs.Order.{Cellwise}
 use Rattle.refusals.specs.declared.Refusal.{Refusal}

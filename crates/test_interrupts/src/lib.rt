@@ -5,7 +5,7 @@ use cells::Cell;
 use file_check::Reader;
 use file_reader::Routine;
 use machine_state::State;
-use refusals::Verdict;
+use refusals::Acceptance;
 use run_loop::Progress;
 ghost use mathlib.Core.Path.{_≡_};
 ghost use mathlib.Core.List.{_++_};
@@ -62,7 +62,7 @@ fn told_of(found: Found) -> Told
     ensures { λ t. ⌜ Tells found t ⌝ }
 {
     let verdict = found.verdict;
-    let Verdict::Refused(x) = verdict else {
+    let Acceptance::Refused(x) = verdict else {
         return Told {
             number: 0,
             place: 0,
@@ -112,16 +112,16 @@ fn numbers_of(r: Progress, found: Found) -> [u64; 13]
 fn interrupt(
     code: &[u32; 5131],
     start: State,
-    fields: [Cell; 128],
+    blocks: [Cell; 128],
     answers: &[i32],
     n: usize,
     budget: usize,
 ) -> [u64; 13]
     requires { ⌜ IsProgram (now code) ⌝ }
     requires { ⌜ Runnable start n × (budget ≤ 1000000) ⌝ }
-    ensures { λ r. ⌜ r ≡ numbersOf (programOf (now (code .entry))) budget (after (programOf (now (code .entry))) n (begin (whole (sizesOf (now (code .entry))) fields start) (now (answers .entry)))) ⌝ }
+    ensures { λ r. ⌜ r ≡ numbersOf (programOf (now (code .entry))) budget (after (programOf (now (code .entry))) n (begin (whole (sizesOf (now (code .entry))) blocks start) (now (answers .entry)))) ⌝ }
 {
-    let r = run_loop::after(code, start, fields, answers, n);
+    let r = run_loop::after(code, start, blocks, answers, n);
     let reached = r.state;
     let written = r.blocks;
     let found = afresh(code, r.stopped, reached, written, budget);
@@ -145,13 +145,13 @@ fn interrupted(x: Routine, n: u64) -> [u64; 13]
     ensures { λ r. ⌜ r ≡ interrupted (routineIn x) n ⌝ }
 {
     let code = x.code;
-    let fields = x.fields;
+    let blocks = x.blocks;
     let start = x.start;
     let answers = x.answers;
     let values = answers.values;
     let given = answers.count;
     let steps = steps_of(n);
-    interrupt(&code, start, fields, &values[..given], steps, x.budget)
+    interrupt(&code, start, blocks, &values[..given], steps, x.budget)
 }
 
 // Puts the numbers at the start of out.
@@ -174,12 +174,12 @@ pub extern "C" fn tickbound_test_after(text: &[u8], n: u64, out: &mut [u64]) -> 
 {
     let verdict = file_entry::check(Reader::Run, 13, out.len(), text);
     match verdict {
-        Verdict::Accepted => {
+        Acceptance::Accepted => {
             let x = file_reader::routine_of(text);
             let numbers = interrupted(x, n);
             put_numbers(out, numbers);
             0
         }
-        Verdict::Refused(r) => refusals::number(r),
+        Acceptance::Refused(r) => refusals::number(r),
     }
 }

@@ -6,7 +6,7 @@ use native.Mathlib.Omega.{arith}
 use lib.Dec.{leb, ltb}
 use lib.IntN.{ℤ, pos, negsuc, natAbs}
 use lib.Signed.{mag, leZ, ltZ}
-use Rattle.text.specs.Decimal.{most, clamp}
+use Rattle.text.specs.HeldMagnitude.{most, clamp}
 use Rattle.text.proofs.TextLaws.{ltb-agree, leb-agree}
 
 -- ---- tests of natural numbers

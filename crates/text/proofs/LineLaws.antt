@@ -8,7 +8,7 @@ use lib.Dec.{ltb}
 use lib.ListN.{length, getD, take, drop}
 use lib.Seq.{length-take-le, take-all, drop-nil, getD-drop}
 use borrow.Author.Tests.{ltb-true, ltb-false}
-use Rattle.text.specs.Text.{isEmpty, split, Line, noLine, linesOf, lines}
+use Rattle.text.specs.Text.{isEmpty, partedBy, Line, noLine, linesOf, lines}
 use Rattle.text.proofs.ScanLaws.{firstLength, past, cut-more, cut-last}
 use Rattle.text.proofs.PieceLaws.{split-some, first-le}
 
@@ -29,7 +29,7 @@ linesOf-more p (q ∷ ps) h = refl
 
 lines-more : (s : List ℕ) (n : ℕ) → n ≡ firstLength 10 s → n < length s → lines s ≡ endedLine (take n s) ∷ lines (past n s)
 unfolding lines
-lines-more s n q h = ap linesOf (cut-more 10 s n q h) ∙ linesOf-more (take n s) (split 10 (past n s)) (split-some 10 (past n s))
+lines-more s n q h = ap linesOf (cut-more 10 s n q h) ∙ linesOf-more (take n s) (partedBy 10 (past n s)) (split-some 10 (past n s))
 
 lines-last : (s : List ℕ) (n : ℕ) → n ≡ firstLength 10 s → length s ≤ n → lines s ≡ cond (isEmpty s) [] (unendedLine s ∷ [])
 unfolding lines linesOf
@@ -81,13 +81,13 @@ pub next-more : (s : List ℕ) (n : ℕ) → n ≡ firstLength 10 s → n < leng
 next-more s n q h = sym (ap (drop 1) (lines-more s n q h))
 
 pub next-none : (s : List ℕ) (n : ℕ) → n ≡ firstLength 10 s → length s ≤ n → lines [] ≡ drop 1 (lines s)
-unfolding lines linesOf split
+unfolding lines linesOf partedBy
 next-none s n q h = sym (ap (drop 1) (lines-last s n q h) ∙ last-next s)
 
 -- a text has no line exactly if it is empty
 
 pub lines-none : (s : List ℕ) → length s ≤ 0 → lines s ≡ []
-unfolding lines linesOf split
+unfolding lines linesOf partedBy
 lines-none [] h = refl
 lines-none (x ∷ xs) h = absurd (omega arith)
 

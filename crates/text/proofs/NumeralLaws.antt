@@ -12,8 +12,8 @@ use mir.Syntax.{w64}
 use mir.Val.{SFits, ofZ, toZ}
 use mir.ValLaws.{toZ-ofZ}
 use borrow.Author.Tests.{le-leb, lt-leb, eq-eqb, ne-eqb}
-use Rattle.text.specs.Decimal.{isDigit, digitsFrom, natural, negative, numeral, most, clamp, clamped}
-use Rattle.text.specs.HeldMagnitude.{held, toNumeral}
+use Rattle.text.specs.Decimal.{isDigit, digitsFrom, natural, negative, numeral}
+use Rattle.text.specs.HeldMagnitude.{most, clamp, clamped, held, toNumeral}
 use Rattle.text.specs.declared.Numeral.{Numeral}
 use Rattle.text.specs.declared.Numeral.the-variants.{Misspelt as misspelt, Number as number}
 use Rattle.text.specs.declared.Magnitude.the-variants.{Unspelt as unspelt, Value as value}

@@ -9,7 +9,7 @@ use native.Mathlib.Nat.{le-of-suc-le-suc, not-suc-le-zero}
 use lib.Dec.{eqb, leb, ltb}
 use lib.ListN.{length, getD}
 use borrow.Author.Tests.{eqb-true, eq-eqb, ltb-true, ltb-false, lt-ltb, le-ltb, leb-true, leb-false, le-leb, lt-leb}
-use Rattle.text.specs.Text.{equals, onto, split, linesOf, lines, placeFrom, place, indexOf, find, among, all}
+use Rattle.text.specs.Text.{equals, onto, partedBy, linesOf, lines, placeFrom, placeAmong, indexOf, find, among, all}
 use Rattle.text.specs.declared.Place.{Place}
 use Rattle.text.specs.declared.Place.the-variants.{At, Missing}
 
@@ -138,9 +138,9 @@ place-below k w (x ∷ xs) {n} e = go (equals w x) e (place-below (suc k) w xs)
 
 pub find-below : (w : List ℕ) (ws : List (List ℕ)) → 0 < length ws → find w ws < length ws
 unfolding find
-find-below w ws h = go (place w ws) refl
+find-below w ws h = go (placeAmong w ws) refl
   where
-    go : (p : Place) → place w ws ≡ p → indexOf p < length ws
+    go : (p : Place) → placeAmong w ws ≡ p → indexOf p < length ws
     go (At k) e = omega (arith, place-below 0 w ws e)
     go Missing e = h
 
@@ -153,11 +153,11 @@ place-word k w (x ∷ xs) {n} e = go (equals w x) refl e (place-word (suc k) w x
     go true s q ih = let f : k ≡ n = cc in let z : n - k ≡ 0 = omega arith in (omega arith, rw z (sym (equals-path w x s)))
     go false s q ih = let i = ih q in let z : n - k ≡ suc (n - suc k) = omega (arith, i .0) in (omega (arith, i .0), rw z (i .1))
 
-pub among-find : (w : List ℕ) (ws : List (List ℕ)) → among w ws ≡ true → (place w ws ≡ At (find w ws)) × (getD ws (find w ws) [] ≡ w)
+pub among-find : (w : List ℕ) (ws : List (List ℕ)) → among w ws ≡ true → (placeAmong w ws ≡ At (find w ws)) × (getD ws (find w ws) [] ≡ w)
 unfolding find
-among-find w ws h = go (place w ws) refl (sym (among-place 0 w ws) ∙ h)
+among-find w ws h = go (placeAmong w ws) refl (sym (among-place 0 w ws) ∙ h)
   where
-    go : (p : Place) → place w ws ≡ p → isFound p ≡ true → (p ≡ At (indexOf p)) × (getD ws (indexOf p) [] ≡ w)
+    go : (p : Place) → placeAmong w ws ≡ p → isFound p ≡ true → (p ≡ At (indexOf p)) × (getD ws (indexOf p) [] ≡ w)
     go (At k) e q = let z : k ≡ k - 0 = omega arith in (refl, ap (λ i. getD ws i []) z ∙ place-word 0 w ws e .1)
     go Missing e q = absurd (false≢true q)
 
@@ -169,14 +169,14 @@ onto-parts : {P : ℕ → Type 0} (x : ℕ) (ps : List (List ℕ)) → Every (Ev
 onto-parts x [] (more (more p none) none) = (p, none)
 onto-parts x (w ∷ ws) (more (more p q) qs) = (p, more q qs)
 
-pub split-every : {P : ℕ → Type 0} (c : ℕ) → P c → (text : List ℕ) → Every (Every P) (split c text) → Every P text
-unfolding split
+pub split-every : {P : ℕ → Type 0} (c : ℕ) → P c → (text : List ℕ) → Every (Every P) (partedBy c text) → Every P text
+unfolding partedBy
 split-every c k [] h = none
 split-every {P} c k (x ∷ xs) h = go (eqb x c) refl h (split-every c k xs)
   where
-    go : (b : Bool) → eqb x c ≡ b → Every (Every P) (cond b ([] ∷ split c xs) (onto x (split c xs))) → (Every (Every P) (split c xs) → Every P xs) → Every P (x ∷ xs)
+    go : (b : Bool) → eqb x c ≡ b → Every (Every P) (cond b ([] ∷ partedBy c xs) (onto x (partedBy c xs))) → (Every (Every P) (partedBy c xs) → Every P xs) → Every P (x ∷ xs)
     go true e (more p ps) ih = more (subst P (sym (eqb-true x c e)) k) (ih ps)
-    go false e g ih = let t = onto-parts x (split c xs) g in more (t .0) (ih (t .1))
+    go false e g ih = let t = onto-parts x (partedBy c xs) g in more (t .0) (ih (t .1))
 
 -- an empty last piece is no line, and has no byte
 linesOf-every : {P : ℕ → Type 0} (ps : List (List ℕ)) → Every (λ l. Every P (l .text)) (linesOf ps) → Every (Every P) ps
@@ -188,4 +188,4 @@ linesOf-every (p ∷ q ∷ ps) (more k h) = more k (linesOf-every (q ∷ ps) h)
 
 pub lines-every : {P : ℕ → Type 0} → P 10 → (text : List ℕ) → Every (λ l. Every P (l .text)) (lines text) → Every P text
 unfolding lines
-lines-every k text h = split-every 10 k text (linesOf-every (split 10 text) h)
+lines-every k text h = split-every 10 k text (linesOf-every (partedBy 10 text) h)

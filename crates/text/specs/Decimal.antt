@@ -1,9 +1,9 @@
 -- "Numbers are decimal, no leading zero, no `-0`." (document 01, The routine file)
-use Prim.Native.Nat.{ℕ, zero, suc, _+_, _-_, _*_, _/_, _%_, min}
+use Prim.Native.Nat.{ℕ, zero, suc, _+_, _-_, _*_, _/_, _%_}
 use mathlib.Core.Bool.{Bool, true, false, cond}
 use mathlib.Core.List.{List, [], _∷_, _++_}
 use lib.Dec.{eqb, leb, ltb}
-use lib.IntN.{ℤ, pos, negsuc}
+use lib.IntN.{pos, negsuc}
 use Rattle.text.specs.Text.{isEmpty}
 use Rattle.text.specs.declared.Numeral.{Numeral}
 use Rattle.text.specs.declared.Numeral.the-variants.{Misspelt as misspelt, Number as number}
@@ -33,20 +33,6 @@ negative (number (negsuc n)) = misspelt
 unfoldable pub numeral : List ℕ → Numeral
 numeral [] = misspelt
 numeral (d ∷ ds) = cond (eqb d 45) (negative (natural ds)) (natural (d ∷ ds))
-
--- the farthest number that the code holds: it stands for every number above it, and -(most + 1) for every one below that
-abbrev pub most : ℕ
-most = 10000000000
-
--- a number as the code holds it
-unfoldable pub clamp : ℤ → ℤ
-clamp (pos n) = pos (min most n)
-clamp (negsuc n) = negsuc (min most n)
-
--- a spelt number as the code holds it
-unfoldable pub clamped : Numeral → Numeral
-clamped misspelt = misspelt
-clamped (number z) = number (clamp z)
 
 -- n written in decimal, by its last digit and the digits before that; `small` says whether n is below 10
 unfoldable pub digits : ℕ → Bool → ℕ → List ℕ

@@ -33,13 +33,13 @@ onto x [] = (x ∷ []) ∷ []
 onto x (w ∷ ws) = (x ∷ w) ∷ ws
 
 -- the pieces of a text that the byte c parts: one more than c stands in it
-unfoldable pub split : ℕ → List ℕ → List (List ℕ)
-split c [] = [] ∷ []
-split c (x ∷ xs) = cond (eqb x c) ([] ∷ split c xs) (onto x (split c xs))
+unfoldable pub partedBy : ℕ → List ℕ → List (List ℕ)
+partedBy c [] = [] ∷ []
+partedBy c (x ∷ xs) = cond (eqb x c) ([] ∷ partedBy c xs) (onto x (partedBy c xs))
 
 -- "words are parted by one space": an empty word shows a space too many
-unfoldable pub words : List ℕ → List (List ℕ)
-words line = split 32 line
+unfoldable pub lineWords : List ℕ → List (List ℕ)
+lineWords line = partedBy 32 line
 
 -- a line, and whether a line feed ends it
 pub record Line : Type 0 where
@@ -58,7 +58,7 @@ linesOf (p ∷ q ∷ ps) = record { text = p; ended = true } ∷ linesOf (q ∷ 
 
 -- "Each line ends in a line feed"
 unfoldable pub lines : List ℕ → List Line
-lines text = linesOf (split 10 text)
+lines text = linesOf (partedBy 10 text)
 
 -- where the first of the given words is w, counted from k, if it is one of them
 abbrev pub placeFrom : ℕ → List ℕ → List (List ℕ) → Place
@@ -66,8 +66,8 @@ placeFrom k w [] = Missing
 placeFrom k w (x ∷ xs) = cond (equals w x) (At k) (placeFrom (suc k) w xs)
 
 -- counted from 0
-abbrev pub place : List ℕ → List (List ℕ) → Place
-place w ws = placeFrom 0 w ws
+abbrev pub placeAmong : List ℕ → List (List ℕ) → Place
+placeAmong w ws = placeFrom 0 w ws
 
 -- "how many names it looked at: those up to and with the one sought, or all of them where that one is missing" (document 02 §5)
 abbrev pub looked : List ℕ → List (List ℕ) → ℕ
@@ -76,7 +76,7 @@ looked w (x ∷ xs) = suc (cond (equals w x) 0 (looked w xs))
 
 -- what looking w up among the given words comes to
 abbrev pub lookup : List ℕ → List (List ℕ) → Lookup
-lookup w ws = record { place = place w ws; looked = looked w ws }
+lookup w ws = record { place = placeAmong w ws; looked = looked w ws }
 
 -- a place as an index; 0 where the word is missing
 abbrev pub indexOf : Place → ℕ
@@ -85,7 +85,7 @@ indexOf Missing = 0
 
 -- the place of w as an index
 unfoldable pub find : List ℕ → List (List ℕ) → ℕ
-find w ws = indexOf (place w ws)
+find w ws = indexOf (placeAmong w ws)
 
 -- whether w is one of the given words
 unfoldable pub among : List ℕ → List (List ℕ) → Bool

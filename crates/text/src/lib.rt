@@ -2,10 +2,10 @@
 ghost use lib.ListN.{length, getD, drop};
 ghost use mathlib.Core.List.{[]};
 ghost use mathlib.Core.Path.{_≡_};
-ghost use Rattle.text.specs.Text.{equals, split, words, lines, noLine, lookup, indexOf, among};
+ghost use Rattle.text.specs.Text.{equals, partedBy, lineWords, lines, noLine, lookup, indexOf, among};
 ghost use Prim.Native.Nat.{suc, _+_, _-_, _*_, _≤_, min};
-ghost use Rattle.text.specs.Decimal.{digitsFrom, natural, negative, numeral, most, clamped, decimal};
-ghost use Rattle.text.specs.HeldMagnitude.{held, toNumeral};
+ghost use Rattle.text.specs.Decimal.{digitsFrom, natural, negative, numeral, decimal};
+ghost use Rattle.text.specs.HeldMagnitude.{most, clamped, held, toNumeral};
 ghost use Rattle.text.specs.Memory.{over};
 
 // What a word says where a number is wanted.
@@ -53,7 +53,7 @@ pub fn same(a: &[u8], b: &[u8]) -> bool
 
 // The length of the first piece of s that the byte c parts. Four bytes are looked at in a turn, which is faster than one.
 pub fn piece_length(s: &[u8], c: u8) -> usize
-    ensures { λ r. ⌜ r ≡ length (getD (split c (now (s .entry))) 0 []) ⌝ }
+    ensures { λ r. ⌜ r ≡ length (getD (partedBy c (now (s .entry))) 0 []) ⌝ }
 {
     let mut i = 0;
     while 4 <= s.len() - i {
@@ -82,7 +82,7 @@ pub fn piece_length(s: &[u8], c: u8) -> usize
 
 // Looks w up among the words of text: where the first stands that is w, and how many words were looked at. It ends there.
 pub fn find(w: &[u8], text: &[u8]) -> Lookup
-    ensures { λ r. ⌜ r ≡ lookup (now (w .entry)) (words (now (text .entry))) ⌝ }
+    ensures { λ r. ⌜ r ≡ lookup (now (w .entry)) (lineWords (now (text .entry))) ⌝ }
 {
     let mut rest = text;
     let mut k = 0;
@@ -181,7 +181,7 @@ pub fn after_lines(s: &[u8], k: usize) -> &[u8]
 
 // The number of words of a line.
 pub fn count_words(line: &[u8]) -> usize
-    ensures { λ r. ⌜ r ≡ length (words (now (line .entry))) ⌝ }
+    ensures { λ r. ⌜ r ≡ length (lineWords (now (line .entry))) ⌝ }
 {
     let mut rest = line;
     let mut n = 1;
@@ -196,7 +196,7 @@ pub fn count_words(line: &[u8]) -> usize
 
 // Word k of a line, counted from 0; no bytes where it has fewer words.
 pub fn word_at(line: &[u8], k: usize) -> &[u8]
-    ensures { λ r. ⌜ now r ≡ getD (words (now (line .entry))) k [] ⌝ }
+    ensures { λ r. ⌜ now r ≡ getD (lineWords (now (line .entry))) k [] ⌝ }
 {
     let mut rest = line;
     let mut left = k;
@@ -214,7 +214,7 @@ pub fn word_at(line: &[u8], k: usize) -> &[u8]
 
 // Whether w is one of the words of text.
 pub fn is_among(w: &[u8], text: &[u8]) -> bool
-    ensures { λ r. ⌜ r ≡ among (now (w .entry)) (words (now (text .entry))) ⌝ }
+    ensures { λ r. ⌜ r ≡ among (now (w .entry)) (lineWords (now (text .entry))) ⌝ }
 {
     let found = find(w, text);
     let place = found.place;

@@ -25,7 +25,7 @@ use Rattle.preview_entry.proofs.PreviewLaws.{preview-reported, preview-place}
 use Rattle.words_entry.specs.Answers.{conversionLimit}
 use Rattle.words_entry.proofs.FunctionLaws.{import-reported, import-place, export-reported, export-place}
 use Rattle.replay_entry.proofs.FunctionLaws.{replay-reported, replay-place}
-use Rattle.explain_lines.specs.Listing.{entries, listing}
+use Rattle.explain_lines.specs.Listing.{shownLines, listing}
 use Rattle.explain_entry.specs.Answers.{explanationLimit, worstMoves, entryNames, explanationText, explained, explainRoutine, explainAnswer}
 use Rattle.explain_entry.proofs.Theorems.{explanations-fit, explain-place}
 use Rattle.explain_merge_entry.proofs.Theorems.{merge-explanations-fit, explain-merge-place}
@@ -106,7 +106,7 @@ decision-refused text n r = go (ltb n memoryLimit) (readBound text)
   where
     go : (b : Bool) (m : readings.Reading) → cond b (answers.refused ReportMemory) (ofReading decideRoutine m) ≡ answers.refused r → cond b (answers.refused ReportMemory) (ofReading boundRoutine m) ≡ answers.refused r
     go true m e = e
-    go false (readings.refused y) e = e
+    go false (readings.unread y) e = e
     go false (readings.routine x) e = ap (ofVerdict (boundText (x .tick))) (decided-refused x r e)
 
 -- ---- an explanation beside the bound
@@ -122,13 +122,13 @@ verdict-beside ls x (accepted q) = record {
   refuses = λ r. (λ e. never r _ (sym e), λ e. never r _ (sym e));
   begins = λ bs e.
       let f : explanationText ls x q ≡ bs = cc in
-      (boundText (x .tick) q, entryNames ++ listing ls (x .code .first) (entries (worstMoves x q)), refl, sym f ∙ append-assoc (boundText (x .tick) q) entryNames (listing ls (x .code .first) (entries (worstMoves x q))));
+      (boundText (x .tick) q, entryNames ++ listing ls (x .code .first) (shownLines (worstMoves x q)), refl, sym f ∙ append-assoc (boundText (x .tick) q) entryNames (listing ls (x .code .first) (shownLines (worstMoves x q))));
 }
 verdict-beside ls x (refused y) = record { refuses = λ r. (λ e. e, λ e. e); begins = λ bs e. never y bs e }
 
 reading-beside : (ls : List Line) (m : readings.Reading) → Beside (ofReading (explainRoutine ls) m) (ofReading boundRoutine m)
 unfolding ofReading explainRoutine boundRoutine
-reading-beside ls (readings.refused y) = record { refuses = λ r. (λ e. e, λ e. e); begins = λ bs e. never y bs e }
+reading-beside ls (readings.unread y) = record { refuses = λ r. (λ e. e, λ e. e); begins = λ bs e. never y bs e }
 reading-beside ls (readings.routine x) = verdict-beside ls x (bound (x .code) (x .budget) (x .start))
 
 pub explains-bound : ExplainsBound
@@ -148,7 +148,7 @@ verdict-refused made (refused y) r = (λ e. e, λ e. e)
 
 reading-refused-too : (m : readings.Reading) (r : Refusal) → (ofReading traceRoutine m ≡ answers.refused r) ↔ (ofReading runRoutine m ≡ answers.refused r)
 unfolding ofReading traceRoutine runRoutine
-reading-refused-too (readings.refused y) r = (λ e. e, λ e. e)
+reading-refused-too (readings.unread y) r = (λ e. e, λ e. e)
 reading-refused-too (readings.routine x) r = verdict-refused (traceText (trace (x .code) (x .budget) (x .start) (x .answers))) (run (x .code) (x .budget) (x .start) (x .answers)) r
 
 pub trace-refused : TraceRefused

@@ -25,7 +25,7 @@ alike : (f g : Routine → Answer) (r : Refusal) → ((x : Routine) → f x ≡ 
     (b : Bool) (m : Reading) → cond b (refused ReportMemory) (ofReading f m) ≡ refused r → cond b (refused ReportMemory) (ofReading g m) ≡ refused r
 unfolding ofReading
 alike f g r h true m e = e
-alike f g r h false (readings.refused x) e = e
+alike f g r h false (readings.unread x) e = e
 alike f g r h false (readings.routine x) e = h x e
 
 -- a refusal of a verdict is that of the answer

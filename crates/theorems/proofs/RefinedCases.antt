@@ -16,7 +16,6 @@ use Rattle.report_theory.specs.Answers as reports-of
 use Rattle.console.specs.Line as console
 use Rattle.answers.specs.Answers as answers
 use Rattle.cells.specs.Cells as cells
-use Rattle.instructions.specs.HeldColumns as columns
 use Rattle.text.specs.Decimal as decimals
 use Rattle.instructions.specs.Kinds as kinds
 use Rattle.file_format.specs.Layout as layout
@@ -63,7 +62,7 @@ Computed =
     × (routines.readBound counted ≡ routines.routine (holding 1000 states.count))
 
 pub computed : Computed
-unfolding case2 counted seven states.code refusals.number refusals.place text.equals text.split text.words text.linesOf text.lines text.find text.among text.all text.distinct decimals.digitsFrom decimals.natural decimals.numeral decimals.digits decimals.decimal numbers.wrap numbers.holds try._>>=_ cells.between cells.calculate₁ cells.calculate₂ cells.results cells.least₁ cells.range₁ cells.always cells.opposite cells.judged cells.wider cells.range₂ cells.map₁ cells.compareHandles cells.combineHandles cells.map₂ cells.operate₁ cells.operate₂ cells.conditionIn cells.condition cells.handled cells.block kinds.kinds kinds.kindNames kinds.operand lists.nth lists.put lists.without machine.height machine.priceOf machine.fetch machine.jump machine.load machine.restack machine.store machine.push machine.pop machine.getField machine.setField machine.advance machine.ahead machine.withExtra machine.ways machine.opposite machine.perform machine.prepare machine.execute machine.step machine.takes machine.takesAnswer tree.expand tree.tree tree.address tree.steps tree.size tree.cycles tree.words tree.depth tree.worse tree.path tree.report tree.refusal tree.judge tree.verdict tree.explore tree.bound run.begin run.answer run.remaining run.moved run.leads run.once run.after run.stuckAt run.isStuck run.boundedAfresh run.judgeRun run.run layout.isAnswer layout.body layout.upToAnswer layout.pastAnswer layout.codeLines layout.answerLines layout.answerRoles layout.codeRoles layout.bodyRoles layout.roles layout.list layout.textAt layout.listed rows.isNumeral rows.valueOf rows.value rows.knownOf rows.blockOf rows.spanOf rows.spanned rows.hashed rows.cellWord rows.isCell rows.cellInRange rows.isSingle rows.cellPresent rows.isName rows.stackNames rows.cellNames rows.equalLists rows.isField rows.sizesFrom rows.blockSizes rows.total rows.argumentOf rows.onArgument rows.argumentLaidOut rows.argumentInRange rows.argumentNamed rows.argumentReaches rows.extraRange rows.extrasInRange rows.columnInRange rows.columnLaidOut rows.onCells rows.onCode rows.namesLaidOut rows.valuesLaidOut rows.codeLaidOut rows.laidOut rows.codeInRange rows.inRange rows.wellNamed rows.firstAt rows.codeNamed rows.named rows.priced rows.reaches rows.argumentForward rows.codeForward rows.forward rows.allKnown rows.test rows.earliest rows.refusedLine routines.inside routines.priceList routines.argumentValue routines.instructionOf columns.kindAt machine.instruction routines.codeIn routines.cellOf routines.cellsOf routines.blocksInLine routines.startOf routines.routineOf routines.orElse routines.checked routines.limited routines.readBound routines.readRun reports.share reports.pathText reports.figures reports.boundText reports.runText reports.refusalLine reports.refusalText reports-of.ofVerdict answers.ofReading reports-of.boundRoutine reports-of.runRoutine reports-of.boundAnswer reports-of.runAnswer answers.memory console.printed merges.mergeLists merges.mergeStates merges.larger merges.settle merges.join merges.slot merges.nowhere merges.arrive merges.send merges.reach merges.finish merges.carry merges.visit merges.sweep merges.only merges.merged cell-merges.mergeValues cell-merges.mergeCells reports-of.mergeRoutine reports-of.mergeAnswer
+unfolding case2 counted seven states.code refusals.number refusals.place text.equals text.partedBy text.lineWords text.linesOf text.lines text.find text.among text.all text.distinct decimals.digitsFrom decimals.natural decimals.numeral decimals.digits decimals.decimal numbers.wrap numbers.holds try._>>=_ cells.between cells.calculate₁ cells.calculate₂ cells.results cells.least₁ cells.range₁ cells.always cells.negated cells.judged cells.wider cells.range₂ cells.map₁ cells.compareHandles cells.combineHandles cells.map₂ cells.operate₁ cells.operate₂ cells.conditionIn cells.condition cells.handled cells.block kinds.kinds kinds.kindNames kinds.operand lists.nth lists.put lists.without machine.height machine.priceOf machine.fetch machine.jump machine.load machine.restack machine.store machine.push machine.pop machine.getField machine.setField machine.advance machine.ahead machine.withExtra machine.ways machine.opposite machine.perform machine.prepare machine.execute machine.step machine.takes machine.takesAnswer tree.expand tree.tree tree.address tree.steps tree.size tree.cycles tree.words tree.depth tree.worse tree.path tree.report tree.refusal tree.judge tree.verdict tree.explore tree.bound run.begin run.answer run.remaining run.moved run.leads run.once run.after run.stuckAt run.isStuck run.boundedAfresh run.judgeRun run.run layout.isAnswer layout.body layout.upToAnswer layout.pastAnswer layout.codeLines layout.answerLines layout.answerRoles layout.codeRoles layout.bodyRoles layout.roles layout.list layout.textAt layout.listed rows.isNumeral rows.valueOf rows.value rows.knownOf rows.blockOf rows.spanOf rows.spanned rows.hashed rows.cellWord rows.isCell rows.cellInRange rows.isSingle rows.cellPresent rows.isName rows.stackNames rows.cellNames rows.equalLists rows.isField rows.sizesFrom rows.blockSizes rows.total rows.argumentOf rows.onArgument rows.argumentLaidOut rows.argumentInRange rows.argumentNamed rows.argumentReaches rows.extraRange rows.extrasInRange rows.columnInRange rows.columnLaidOut rows.onCells rows.onCode rows.namesLaidOut rows.valuesLaidOut rows.codeLaidOut rows.laidOut rows.codeInRange rows.inRange rows.wellNamed rows.firstAt rows.codeNamed rows.named rows.priced rows.reaches rows.argumentForward rows.codeForward rows.forward rows.allKnown rows.test rows.earliest rows.refusedLine routines.inside routines.priceList routines.argumentValue routines.instructionOf kinds.kindAt machine.instruction routines.codeIn routines.cellOf routines.cellsOf routines.blocksInLine routines.startOf routines.routineOf routines.orElse routines.checked routines.limited routines.readBound routines.readRun reports.share reports.pathText reports.figures reports.boundText reports.runText reports.refusalLine reports.refusalText reports-of.ofVerdict answers.ofReading reports-of.boundRoutine reports-of.runRoutine reports-of.boundAnswer reports-of.runAnswer answers.memory console.printed merges.mergeLists merges.mergeStates merges.larger merges.settle merges.join merges.slot merges.nowhere merges.arrive merges.send merges.reach merges.finish merges.carry merges.visit merges.sweep merges.only merges.merged cell-merges.mergeValues cell-merges.mergeCells reports-of.mergeRoutine reports-of.mergeAnswer
 computed = (refl, refl, refl, refl, refl, refl, refl, refl, refl, refl)
 
 -- ---- each statement at these files

@@ -26,7 +26,7 @@ use Rattle.narrowing_theory.specs.Promises as refinements
 use Rattle.relocation_theory.specs.Promises as relocations
 use Rattle.narrowing_ranges.specs.Ranges as ranges
 use Rattle.narrowing_ranges.specs.Former as former
-use Rattle.report.specs.Report.{share, Nearest}
+use Rattle.report.specs.Report.{share, Rounded}
 use Rattle.answers.specs.Answers.{Answer, reported, refused, memoryLimit, answerOf, reportLength}
 use Rattle.report_theory.specs.Answers.{boundAnswer, mergeAnswer, runAnswer}
 use Rattle.report_theory.specs.Promises.{ExactReport, SafeReport, WithinReport, RunAccepted, ExactMerge, SafeMerge, AboveMerge}
@@ -323,7 +323,7 @@ SpentWithinBound = replays.SpentWithinBound
 
 -- §6: SHARE is the nearest whole number, at an exact half the even one, and no other number is
 abbrev pub ShareNearest : Type 0
-ShareNearest = (tick cycles : ℕ) → 1 ≤ tick → Nearest tick cycles (share tick cycles) × ((n : ℕ) → Nearest tick cycles n → n ≡ share tick cycles)
+ShareNearest = (tick cycles : ℕ) → 1 ≤ tick → Rounded tick cycles (share tick cycles) × ((n : ℕ) → Rounded tick cycles n → n ≡ share tick cycles)
 
 -- §8: "only single-pass ticks"
 abbrev pub PassingIsSinglePass : Type 0

@@ -15,7 +15,7 @@ use Rattle.machine_step.specs.declared.Price.{Price}
 use Rattle.machine_step.specs.declared.Next as next
 use Rattle.machine_step.specs.declared.Next.the-variants as leads-to
 use Rattle.machine_step.specs.HeldStep.{ofNext}
-use Rattle.replay_steps.specs.Replay.{goesOn, cost}
+use Rattle.replay_steps.specs.Replay.{goesOn, stepCost}
 use Rattle.replay_steps.specs.Held.{Stands}
 
 module _ (c : Code) (ns : List ℕ) (answers : List ℤ) (taken : ℕ) (state : states.State) (blocks : List Cell) (r : Run) (s : Stands ns answers taken state blocks false r)
@@ -48,8 +48,8 @@ module _ (c : Code) (ns : List ℕ) (answers : List ℤ) (taken : ℕ) (state : 
       still (leads-to.Opens p b q) f g = unfold stuckAt ofNext in refl
 
   module _ (p : Price) (k : ℕ) (drops : drop k answers ≡ remaining calls (drop taken answers)) where
-    priced : once c r .cycles ≡ r .cycles + p .cycles → p .cycles ≡ cost c r
-    unfolding cost
+    priced : once c r .cycles ≡ r .cycles + p .cycles → p .cycles ≡ stepCost c r
+    unfolding stepCost
     priced e = omega arith
 
     -- STOP
@@ -58,7 +58,7 @@ module _ (c : Code) (ns : List ℕ) (answers : List ℤ) (taken : ℕ) (state : 
       unfolding ofNext stuckAt
       stop-made = sym (goes-by (leads-to.Stops p) e)
 
-      pub stop-costs : p .cycles ≡ cost c r
+      pub stop-costs : p .cycles ≡ stepCost c r
       unfolding moved ofNext
       stop-costs = priced (ap (λ (q : Run). q .cycles) (once-is (leads-to.Stops p) e))
 
@@ -72,7 +72,7 @@ module _ (c : Code) (ns : List ℕ) (answers : List ℤ) (taken : ℕ) (state : 
       unfolding ofNext stuckAt
       step-made = sym (goes-by (leads-to.Goes p) e)
 
-      pub step-costs : p .cycles ≡ cost c r
+      pub step-costs : p .cycles ≡ stepCost c r
       unfolding moved ofNext
       step-costs = priced (ap (λ (q : Run). q .cycles) (once-is (leads-to.Goes p) e))
 

@@ -6,7 +6,7 @@ use native.Mathlib.Omega.{arith}
 use lib.ListN.{length}
 use Rattle.refusals.specs.declared.Refusal.{Refusal}
 use Rattle.refusals.specs.Refusals.{place}
-use Rattle.refusals.specs.declared.Verdict.the-variants.{Accepted}
+use Rattle.refusals.specs.declared.Acceptance.the-variants.{Accepted}
 use Rattle.text.specs.Text.{bytes, lines}
 use Rattle.text.proofs.TextLaws.{Every}
 use Rattle.machine.specs.Forward.{Forward}
@@ -23,9 +23,9 @@ use Rattle.file_format.proofs.PassingLaws.{code-few}
 use Rattle.file_format.proofs.BranchLaws.{passing-forward}
 use Rattle.file_format.proofs.PlaceLaws.{read-run-place, confined, start-small}
 use Rattle.report_theory.proofs.SizeLaws.{code-length, priced}
-use Rattle.replay_trace.specs.Traces.{Entry, traceVerdict, entries}
+use Rattle.replay_trace.specs.Traces.{Entry, traceAcceptance, entries}
 use Rattle.replay_steps.specs.Replay.{replay}
-use Rattle.answers.specs.Answers.{reported, refused, memoryLimit, ofVerdict}
+use Rattle.answers.specs.Answers.{reported, refused, memoryLimit, ofAcceptance}
 use Rattle.answers.proofs.AnswerLaws.{never, from-reading, place-from}
 use Rattle.replay_entry.specs.Answers.{outcomeText, replayRoutine, replayAnswer}
 use Rattle.replay_entry.proofs.FunctionLaws.{replay-passed}
@@ -75,7 +75,7 @@ module _ (text : List ℕ) (x : Routine) (passes : Passes (lines text)) (is : x 
       let low : x .start .at ≤ 62000 = rw is (start-small (lines text) passes) in
       recording-within 62000 196605 510 (x .code) near (priced text x passes is) (x .budget) (begin (x .start) (x .answers)) low
 
-  trace-passes : traceVerdict (traceText (stepsOf x)) ≡ Accepted
+  trace-passes : traceAcceptance (traceText (stepsOf x)) ≡ Accepted
   trace-passes = text-accepted steps-ranged (omega (arith, steps-few))
 
   trace-fits : length (traceText (stepsOf x)) ≤ 13322
@@ -94,11 +94,11 @@ traces-fit text n bs e =
     (omega (arith, text-some (steps-ranged text x p is)), omega (arith, trace-fits text x p is), a .lent)
 
 -- a replay says that a trace which is accepted and records the steps of the run agrees
-says-agreed : (text bs : List ℕ) (x : Routine) → readRun text ≡ routine x → traceVerdict bs ≡ Accepted → entries bs ≡ stepsOf x → (n : ℕ) → memoryLimit ≤ n → replayAnswer text bs n ≡ reported (bytes "AGREES\n")
-unfolding replayRoutine ofVerdict outcomeText
+says-agreed : (text bs : List ℕ) (x : Routine) → readRun text ≡ routine x → traceAcceptance bs ≡ Accepted → entries bs ≡ stepsOf x → (n : ℕ) → memoryLimit ≤ n → replayAnswer text bs n ≡ reported (bytes "AGREES\n")
+unfolding replayRoutine ofAcceptance outcomeText
 says-agreed text bs x reads passes records n h =
     replay-passed text bs n h x reads
-    ∙ ap (ofVerdict (outcomeText (replay (x .code) (x .start) (x .answers) (entries bs)))) passes
+    ∙ ap (ofAcceptance (outcomeText (replay (x .code) (x .start) (x .answers) (entries bs)))) passes
     ∙ ap (λ es. reported (outcomeText (replay (x .code) (x .start) (x .answers) es))) records
     ∙ ap (λ o. reported (outcomeText o)) (trace-agrees (x .code) (x .budget) (x .start) (x .answers))
 
@@ -110,7 +110,7 @@ traces-kept text n bs e =
     let v = from-run (traceText (stepsOf x)) (run (x .code) (x .budget) (x .start) (x .answers)) bs (a .gives) in
     let (p, k, is, short) = run-passes text x (a .reads) in
     let records : entries bs ≡ stepsOf x = ap entries (sym (v .prints)) ∙ text-read (steps-ranged text x p is) in
-    let passes : traceVerdict bs ≡ Accepted = ap traceVerdict (sym (v .prints)) ∙ trace-passes text x p is in (
+    let passes : traceAcceptance bs ≡ Accepted = ap traceAcceptance (sym (v .prints)) ∙ trace-passes text x p is in (
       x,
       v .report,
       record {

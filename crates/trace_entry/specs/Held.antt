@@ -11,7 +11,7 @@ use Rattle.machine_state.specs.declared.State as states
 use Rattle.machine_state.specs.HeldState.{WellFormed}
 use Rattle.bound_theory.specs.Run.{Run, once}
 use Rattle.replay_trace.specs.Traces.{Entry}
-use Rattle.replay_steps.specs.Replay.{goesOn, cost}
+use Rattle.replay_steps.specs.Replay.{goesOn, stepCost}
 use Rattle.replay_steps.specs.Held.{Stands}
 use Rattle.file_reader.specs.declared.Routine.{Routine}
 use Rattle.file_entry.specs.Held.{routineIn}
@@ -22,7 +22,7 @@ use Rattle.trace_entry.specs.declared.Recorded.{Recorded}
 -- h says of each run that stands there whether it makes a step more, and if so what that step costs, and stands for the run after it
 pub record Records (c : Code) (ns : List ℕ) (answers : List ℤ) (taken : ℕ) (state : states.State) (blocks : List Cell) (h : Recorded) : Type 0 where
   pub makes : (r : Run) → Stands ns answers taken state blocks false r → h .made ≡ goesOn c r
-  pub costs : (r : Run) → Stands ns answers taken state blocks false r → h .made ≡ true → h .cycles ≡ cost c r
+  pub costs : (r : Run) → Stands ns answers taken state blocks false r → h .made ≡ true → h .cycles ≡ stepCost c r
   pub goes-on : (r : Run) → Stands ns answers taken state blocks false r → h .made ≡ true → Stands ns answers (h .taken) (h .state) (h .blocks) (h .stopped) (once c r)
   pub formed : WellFormed (h .state)
   pub few : h .taken ≤ suc taken

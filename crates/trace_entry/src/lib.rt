@@ -5,7 +5,7 @@ use file_check::Reader;
 use file_reader::Routine;
 use machine_state::State;
 use machine_step::Next;
-use refusals::Verdict;
+use refusals::Acceptance;
 ghost use mathlib.Core.Path.{_≡_};
 ghost use mathlib.Core.List.{_++_};
 ghost use Prim.Native.Nat.{_+_, _≤_, _<_};
@@ -98,18 +98,18 @@ fn put_entries(
     at: usize,
     code: &[u32; 5131],
     start: State,
-    fields: [Cell; 128],
+    initial: [Cell; 128],
     answers: &[i32],
     budget: usize,
 ) -> usize
     requires { ⌜ IsProgram (now code) × Runnable start budget ⌝ }
-    requires { ⌜ at + length (entriesText (trace (programOf (now code)) budget (whole (sizesOf (now code)) fields start) (now answers))) ≤ length (now out) ⌝ }
-    ensures { λ r. ⌜ r ≡ at + length (entriesText (trace (programOf (now (code .entry))) budget (whole (sizesOf (now (code .entry))) fields start) (now (answers .entry)))) ⌝ }
-    ensures { λ _. ⌜ now (out .exit) ≡ over (now (out .entry)) at (entriesText (trace (programOf (now (code .entry))) budget (whole (sizesOf (now (code .entry))) fields start) (now (answers .entry)))) ⌝ }
+    requires { ⌜ at + length (entriesText (trace (programOf (now code)) budget (whole (sizesOf (now code)) initial start) (now answers))) ≤ length (now out) ⌝ }
+    ensures { λ r. ⌜ r ≡ at + length (entriesText (trace (programOf (now (code .entry))) budget (whole (sizesOf (now (code .entry))) initial start) (now (answers .entry)))) ⌝ }
+    ensures { λ _. ⌜ now (out .exit) ≡ over (now (out .entry)) at (entriesText (trace (programOf (now (code .entry))) budget (whole (sizesOf (now (code .entry))) initial start) (now (answers .entry)))) ⌝ }
 {
     let mut e = at;
     let mut state = start;
-    let mut blocks = fields;
+    let mut blocks = initial;
     let mut taken = 0;
     let mut left = budget;
     while 0 < left {
@@ -137,7 +137,7 @@ fn put_trace(routine: Routine, out: &mut [u8]) -> usize
     ensures { λ _. ⌜ now (out .exit) ≡ traceText (traceIn routine) ++ drop (length (traceText (traceIn routine))) (now (out .entry)) ⌝ }
 {
     let code = routine.code;
-    let fields = routine.fields;
+    let blocks = routine.blocks;
     let start = routine.start;
     let answers = routine.answers;
     let values = answers.values;
@@ -148,7 +148,7 @@ fn put_trace(routine: Routine, out: &mut [u8]) -> usize
         e,
         &code,
         start,
-        fields,
+        blocks,
         &values[..given],
         routine.budget,
     )
@@ -163,11 +163,11 @@ fn trace_routine(routine: Routine, out: &mut [u8]) -> Answer
     let ran = routine_figures::ran(routine);
     let verdict = ran.verdict;
     match verdict {
-        Verdict::Accepted => {
+        Acceptance::Accepted => {
             let n = put_trace(routine, out);
             Answer::Reported(n)
         }
-        Verdict::Refused(refusal) => Answer::Refused(refusal),
+        Acceptance::Refused(refusal) => Answer::Refused(refusal),
     }
 }
 
@@ -179,10 +179,10 @@ pub fn trace(text: &[u8], out: &mut [u8]) -> Answer
 {
     let verdict = file_entry::check(Reader::Run, 32768, out.len(), text);
     match verdict {
-        Verdict::Accepted => {
+        Acceptance::Accepted => {
             let routine = file_reader::routine_of(text);
             trace_routine(routine, out)
         }
-        Verdict::Refused(refusal) => Answer::Refused(refusal),
+        Acceptance::Refused(refusal) => Answer::Refused(refusal),
     }
 }

@@ -9,13 +9,12 @@ use Rattle.text.specs.Decimal.{digits, decimal}
 use Rattle.numbers.specs.Numbers.{wrap, holds}
 use Rattle.cells.specs.Try.{_>>=_}
 use Rattle.cells.specs.Cells.{calculate₂, results, range₂, wider, map₂, operate₂, conditionIn, condition}
-use Rattle.instructions.specs.Kinds.{kinds, kindNames, operand}
-use Rattle.instructions.specs.HeldColumns.{kindAt}
+use Rattle.instructions.specs.Kinds.{kinds, kindNames, operand, kindAt}
 use Rattle.machine.specs.Lists.{nth, without}
 use Rattle.machine.specs.Machine.{instruction, Instruction, Code, fetch, height, jump, load, restack, push, pop, advance, ahead, withExtra, ways, perform, prepare, execute, step, takes, takesAnswer}
 use Rattle.bound_theory.specs.Run.{begin, answer, remaining, moved, leads, once, stuckAt, isStuck}
 use Rattle.bound_theory.proofs.Interrupted as case-1
-use Rattle.replay_steps.specs.Replay.{goesOn, cost}
+use Rattle.replay_steps.specs.Replay.{goesOn, stepCost}
 use Rattle.trace_theory.specs.Trace.{recording, trace, entryText, entriesText, traceText}
 
 abbrev line : List ℕ → ℕ → ℕ → ℕ → Instruction
@@ -34,5 +33,5 @@ pub examples :
     (says 1000 (pos 7 ∷ []) ≡ bytes "AT CYCLES\n0 50\n1 9\n4 1\n")
     × (says 1000 (pos 0 ∷ []) ≡ bytes "AT CYCLES\n0 50\n1 5\n2 2\n3 7\n4 1\n")
     × (says 2 (pos 7 ∷ []) ≡ bytes "AT CYCLES\n0 50\n1 9\n")
-unfolding equals find digits decimal wrap holds _>>=_ calculate₂ results range₂ wider map₂ operate₂ conditionIn condition kinds kindNames operand kindAt instruction nth without fetch height jump load restack push pop advance ahead withExtra ways perform prepare execute step takes takesAnswer begin answer remaining moved leads once stuckAt isStuck goesOn cost recording trace entryText entriesText traceText
+unfolding equals find digits decimal wrap holds _>>=_ calculate₂ results range₂ wider map₂ operate₂ conditionIn condition kinds kindNames operand kindAt instruction nth without fetch height jump load restack push pop advance ahead withExtra ways perform prepare execute step takes takesAnswer begin answer remaining moved leads once stuckAt isStuck goesOn stepCost recording trace entryText entriesText traceText
 examples = (refl, refl, refl)

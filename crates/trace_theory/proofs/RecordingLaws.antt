@@ -16,7 +16,7 @@ use Rattle.machine.proofs.AddressLaws.{Confined, AddressAtMost, step-at-most}
 use Rattle.bound_theory.specs.Run.{Run, answer, moved, leads, once, after, stuckAt, isStuck}
 use Rattle.bound_theory.proofs.RunLaws.{after-still}
 use Rattle.replay_trace.specs.Traces.{Entry}
-use Rattle.replay_steps.specs.Replay.{goesOn, cost, agrees, agreed, replayFrom}
+use Rattle.replay_steps.specs.Replay.{goesOn, stepCost, agrees, agreed, replayFrom}
 use Rattle.replay_steps.specs.Promises.{spent}
 use Rattle.replay_steps.proofs.ReplayLaws.{after-first}
 use Rattle.trace_theory.specs.Trace.{recorded, recording}
@@ -42,7 +42,7 @@ module _ (c : Code) (r : Run) where
 
   -- what a step adds
   record Added : Type 0 where
-    cycles : once c r .cycles ≡ r .cycles + cost c r
+    cycles : once c r .cycles ≡ r .cycles + stepCost c r
     steps : once c r .steps ≡ suc (r .steps)
 
   grows : goesOn c r ≡ true → (r .cycles ≤ once c r .cycles) × (once c r .steps ≡ suc (r .steps))
@@ -57,13 +57,13 @@ module _ (c : Code) (r : Run) where
       go false (done (opens p t q u)) rest h = absurd (false≢true h)
 
   adds : goesOn c r ≡ true → Added
-  unfolding cost
+  unfolding stepCost
   adds h = let g = grows h in record { cycles = omega (arith, g .0); steps = g .1 }
 
   -- the line of a step agrees with it
   line-agrees : goesOn c r ≡ true → agrees c r (recorded c r) ≡ true
   unfolding agrees
-  line-agrees h = rw (h, eq-eqb (r .state .at) (r .state .at) refl, le-leb (cost c r) (cost c r) (omega arith)) refl
+  line-agrees h = rw (h, eq-eqb (r .state .at) (r .state .at) refl, le-leb (stepCost c r) (stepCost c r) (omega arith)) refl
 
 -- ---- all steps
 
@@ -111,8 +111,8 @@ pub record Within (B C : ℕ) (e : Entry) : Type 0 where
   pub cycles : e .cycles ≤ C
 
 module _ (B C W : ℕ) (c : Code) (confined : Confined B c) (cheap : (a : ℕ) (i : Instruction) → fetch c a ≡ done i → Both (AtMost C W) (i .price) (i .extra)) where
-  cost-within : (r : Run) → cost c r ≤ C
-  unfolding cost once leads moved
+  cost-within : (r : Run) → stepCost c r ≤ C
+  unfolding stepCost once leads moved
   cost-within r = go (r .stopped) _ (step-price (AtMost C W) c cheap (answer (r .answers)) (r .state))
     where
       go : (b : Bool) (rest : List ℤ) {m : Try Next} → Priced (AtMost C W) m → moved r rest b m .cycles - r .cycles ≤ C

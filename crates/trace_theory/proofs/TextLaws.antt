@@ -7,13 +7,13 @@ use native.Mathlib.Omega.{arith}
 use lib.IntN.{pos, natAbs}
 use lib.ListN.{length, getD, drop, length-append}
 use borrow.Author.Tests.{lt-ltb, le-leb, leb-true}
-use Rattle.refusals.specs.declared.Verdict.the-variants.{Accepted}
-use Rattle.text.specs.Text.{bytes, equals, words, Line, lines, all}
+use Rattle.refusals.specs.declared.Acceptance.the-variants.{Accepted}
+use Rattle.text.specs.Text.{bytes, equals, lineWords, Line, lines, all}
 use Rattle.text.specs.Decimal.{numeral, decimal}
 use Rattle.text.proofs.TextLaws.{Every, none, more, every-append, every-map, cond-left}
 use Rattle.text.proofs.LineLaws.{endedLine}
 use Rattle.text.proofs.DecimalLaws.{decimal-digits, decimal-length, decimal-read}
-use Rattle.numbers.specs.Numbers.{range, within}
+use Rattle.numbers.specs.Numbers.{naturals, within}
 use Rattle.instructions.specs.Kinds.{addresses}
 use Rattle.file_format.specs.declared.RefusedLine.the-variants.{Nowhere as nowhere}
 use Rattle.file_format.specs.Rows.{isNumeral, valueOf, value, at}
@@ -21,7 +21,7 @@ use Rattle.file_format.specs.Routine.{naturalIn}
 use Rattle.file_format.proofs.RangeLaws.{inside-is}
 use Rattle.words_inverse.specs.Sections.{linesText}
 use Rattle.words_inverse.proofs.JoinLaws.{Free, text-free, split-alone, split-first, lines-of-text}
-use Rattle.replay_trace.specs.Traces.{entryLimit, cycleRange, Entry, cycles, entryLaidOut, textLaidOut, lineLaidOut, entryInRange, textInRange, lineInRange, earliest, traceVerdict, entryOf, entries}
+use Rattle.replay_trace.specs.Traces.{entryLimit, cycleRange, Entry, recordedCycles, entryLaidOut, textLaidOut, lineLaidOut, entryInRange, textInRange, lineInRange, earliest, traceAcceptance, entryOf, entries}
 use Rattle.replay_trace.proofs.TraceLaws.{check-accepted}
 use Rattle.trace_theory.specs.Trace.{entryText, entriesText, traceNames, traceText}
 use Rattle.trace_theory.proofs.RecordingLaws.{Within}
@@ -44,10 +44,10 @@ line-free : (e : Entry) → Free 10 (lineText e)
 unfolding all
 line-free e = every-append (every-append (digits-free 10 (omega arith) (e .at)) (text-free 10 (bytes " ") refl)) (digits-free 10 (omega arith) (e .cycles))
 
-line-words : (e : Entry) → words (lineText e) ≡ decimal (e .at) ∷ decimal (e .cycles) ∷ []
-unfolding words
+line-words : (e : Entry) → lineWords (lineText e) ≡ decimal (e .at) ∷ decimal (e .cycles) ∷ []
+unfolding lineWords
 line-words e =
-    ap words (append-assoc (decimal (e .at)) (bytes " ") (decimal (e .cycles)))
+    ap lineWords (append-assoc (decimal (e .at)) (bytes " ") (decimal (e .cycles)))
     ∙ split-first 32 (decimal (e .cycles)) (digits-free 32 (omega arith) (e .at))
     ∙ ap (λ ws. decimal (e .at) ∷ ws) (split-alone 32 (digits-free 32 (omega arith) (e .cycles)))
 
@@ -60,17 +60,17 @@ counts : (n : ℕ) → value (decimal n) ≡ pos n
 unfolding value valueOf
 counts n = ap valueOf (decimal-read n)
 
-inside-range : (high n : ℕ) → n ≤ high → within (range 0 high) (value (decimal n)) ≡ true
+inside-range : (high n : ℕ) → n ≤ high → within (naturals 0 high) (value (decimal n)) ≡ true
 inside-range high n h = rw (counts n, le-leb 0 n (omega arith), le-leb n high h) refl
 
-natural-is : (high n : ℕ) → n ≤ high → naturalIn (range 0 high) (decimal n) ≡ n
-natural-is high n h = ap natAbs (inside-is (range 0 high) (value (decimal n)) (inside-range high n h) ∙ counts n)
+natural-is : (high n : ℕ) → n ≤ high → naturalIn (naturals 0 high) (decimal n) ≡ n
+natural-is high n h = ap natAbs (inside-is (naturals 0 high) (value (decimal n)) (inside-range high n h) ∙ counts n)
 
 module _ (e : Entry) where
   at-is : at (lineText e) ≡ decimal (e .at)
   at-is = ap (λ ws. getD ws 0 []) (line-words e)
 
-  cycles-are : cycles (lineText e) ≡ decimal (e .cycles)
+  cycles-are : recordedCycles (lineText e) ≡ decimal (e .cycles)
   cycles-are = ap (λ ws. getD ws 1 []) (line-words e)
 
   line-laid : entryLaidOut (lineText e) ≡ true
@@ -154,7 +154,7 @@ module _ {es : List Entry} (h : Every Ranged es) where
   unfolding entries
   text-read = ap (λ ls. map (λ l. entryOf (l .text)) (drop 1 ls)) (text-lines es) ∙ read-again h
 
-  pub text-accepted : length es ≤ entryLimit → traceVerdict (traceText es) ≡ Accepted
+  pub text-accepted : length es ≤ entryLimit → traceAcceptance (traceText es) ≡ Accepted
   unfolding earliest equals lineLaidOut textLaidOut lineInRange textInRange
   text-accepted few =
       sym

@@ -8,11 +8,11 @@ use Rattle.text.specs.Decimal.{decimal}
 use Rattle.machine.specs.Machine.{State, Code}
 use Rattle.bound_theory.specs.Run.{Run, begin, once}
 use Rattle.replay_trace.specs.Traces.{Entry}
-use Rattle.replay_steps.specs.Replay.{goesOn, cost}
+use Rattle.replay_steps.specs.Replay.{goesOn, stepCost}
 
 -- the step that the run is at, as it is recorded: its address, and its cost (primitive and taken jump included)
 abbrev pub recorded : Code → Run → Entry
-recorded c r = record { at = r .state .at; cycles = cost c r }
+recorded c r = record { at = r .state .at; cycles = stepCost c r }
 
 -- one for each step, of the next n steps at most: a run that is stuck makes none, and STOP is the last
 unfoldable pub recording : Code → ℕ → Run → List Entry

@@ -5,11 +5,10 @@ use mathlib.Core.List.{List, [], _∷_, _++_}
 use Prim.Native.Nat.{ℕ}
 use lib.IntN.{pos}
 use Rattle.refusals.specs.declared.Refusal.the-variants.{Layout, BadName, BadWord}
-use Rattle.refusals.specs.declared.Verdict.the-variants.{Accepted, Refused}
+use Rattle.refusals.specs.declared.Acceptance.the-variants.{Accepted, Refused}
 use Rattle.text.specs.Text as text
 use Rattle.text.specs.Decimal as decimals
 use Rattle.instructions.specs.Kinds as table
-use Rattle.instructions.specs.HeldColumns as columns
 use Rattle.instructions.specs.Opcodes as opcodes
 use Rattle.file_format.specs.Layout as layout
 use Rattle.file_format.specs.Rows as rows
@@ -18,7 +17,6 @@ use Rattle.words.specs.Decoding as decoding
 use Rattle.words.specs.Lines as lines
 use Rattle.words.specs.Import.{importVerdict, importText}
 use Rattle.words.specs.Import as import-of
-use Rattle.words.specs.Held as held
 use Rattle.words.specs.Export.{Op, exportOps}
 use Rattle.words.specs.Export as export-of
 
@@ -61,5 +59,5 @@ Examples =
     × (importVerdict (published) (text.bytes "READ\n-") ≡ Refused (Layout 1))
 
 pub examples : Examples
-unfolding published text.equals text.split text.words text.linesOf text.lines decimals.digits decimals.decimal table.kinds table.opcodes columns.kindAt opcodes.placeFrom opcodes.kindCoded layout.list words.wordsOf words.bytesOf words.allBytes decoding.coded decoding.entries decoding.decoded decoding.items decoding.numberAt lines.integer lines.argumentText lines.lineText lines.linesFrom lines.codeText import-of.primitivesOf import-of.importText op held.sizeOf export-of.positions export-of.argumentWord export-of.itemsFrom export-of.itemWords export-of.wordsIn export-of.exportOps text.among text.all text.distinct rows.isName rows.namesLaidOut rows.wellNamed decoding.isPlace decoding.callListed decoding.faultFrom decoding.wordFault decoding.lands decoding.offsetFault decoding.orOffsets decoding.codeFault import-of.lineLaidOut import-of.lineVerdict import-of.oneLine import-of.primitivesVerdict import-of.faultVerdict import-of.both import-of.importVerdict
+unfolding published text.equals text.partedBy text.lineWords text.linesOf text.lines decimals.digits decimals.decimal table.kinds table.opcodes table.kindAt opcodes.placeFrom opcodes.kindCoded layout.list words.wordsOf words.bytesOf words.allBytes decoding.coded decoding.decodedWords decoding.decoded decoding.items decoding.numberAt lines.integer lines.argumentText lines.lineText lines.linesFrom lines.codeText import-of.primitivesOf import-of.importText op decoding.sizeOf export-of.positions export-of.argumentWord export-of.itemsFrom export-of.itemWords export-of.wordsIn export-of.exportOps text.among text.all text.distinct rows.isName rows.namesLaidOut rows.wellNamed decoding.isPlace decoding.callListed decoding.faultFrom decoding.wordFault decoding.lands decoding.offsetFault decoding.orOffsets decoding.codeFault import-of.lineLaidOut import-of.lineVerdict import-of.oneLine import-of.primitivesVerdict import-of.faultVerdict import-of.both import-of.importVerdict
 examples = (refl, refl, refl, refl, refl, refl, refl, refl, refl, refl, refl, refl, refl)

@@ -15,15 +15,13 @@ use Rattle.numbers.specs.Numbers.{modulus, residue}
 use Rattle.numbers.proofs.NumberLaws.{residue-fits, signed-back}
 use Rattle.text.proofs.TextLaws.{Every, more}
 use Rattle.text.proofs.TextLaws as every
-use Rattle.instructions.specs.Kinds.{kinds}
+use Rattle.instructions.specs.Kinds.{kinds, kindAt}
 use Rattle.instructions.proofs.ColumnLaws.{column-at}
 use Rattle.text.specs.declared.Place.the-variants.{At as at}
-use Rattle.instructions.specs.HeldColumns.{kindAt}
 use Rattle.instructions.specs.Opcodes.{placeFrom}
 use Rattle.instructions.proofs.OpcodeLaws.{kind-of-opcode}
 use Rattle.words.specs.Words.{wordBits, Word, whole, wordsOf, allBytes}
-use Rattle.words.specs.Decoding.{Item, itemOf, hasArgument, opcode, argument, item, coded, entries, decoded, items, numberAt}
-use Rattle.words.specs.Held.{sizeOf}
+use Rattle.words.specs.Decoding.{Item, itemOf, hasArgument, opcode, argument, item, coded, decodedWords, decoded, items, numberAt, sizeOf}
 use Rattle.words.specs.Export.{Op, positions, argumentWord, itemsFrom, itemWords, wordsIn, exportOps}
 use Rattle.words.proofs.WordLaws.{words-back, bytes-length}
 use Rattle.words.proofs.HeadLaws.{size-small, size-one, size-two}
@@ -45,27 +43,27 @@ words-plain i k z t = rw t refl
 
 -- one instruction is decoded
 decode-with : (i k : ℕ) (z : ℤ) (ws : List Word) → k < 61 → hasArgument (kindAt k .argument) ≡ true → SFits w32 z
-    → entries opcode i (whole (kindAt k .opcode) ∷ whole (residue wordBits z) ∷ ws) ≡ item (itemOf i k z) ∷ entries opcode (i + sizeOf k) ws
-unfolding entries coded
+    → decodedWords opcode i (whole (kindAt k .opcode) ∷ whole (residue wordBits z) ∷ ws) ≡ item (itemOf i k z) ∷ decodedWords opcode (i + sizeOf k) ws
+unfolding decodedWords coded
 decode-with i k z ws h t n =
     let s = size-two k t in
-    rw (kind-of-opcode k h, t, signed-back wordBits (omega arith) z (n .sfits), s) (ap (λ j. item (itemOf i k z) ∷ entries opcode j ws) (omega arith))
+    rw (kind-of-opcode k h, t, signed-back wordBits (omega arith) z (n .sfits), s) (ap (λ j. item (itemOf i k z) ∷ decodedWords opcode j ws) (omega arith))
 
 decode-plain : (i k : ℕ) (ws : List Word) → k < 61 → hasArgument (kindAt k .argument) ≡ false
-    → entries opcode i (whole (kindAt k .opcode) ∷ ws) ≡ item (itemOf i k (pos 0)) ∷ entries opcode (i + sizeOf k) ws
-unfolding entries coded
+    → decodedWords opcode i (whole (kindAt k .opcode) ∷ ws) ≡ item (itemOf i k (pos 0)) ∷ decodedWords opcode (i + sizeOf k) ws
+unfolding decodedWords coded
 decode-plain i k ws h t =
     let s = size-one k t in
-    rw (kind-of-opcode k h, t, s) (ap (λ j. item (itemOf i k (pos 0)) ∷ entries opcode j ws) (omega arith))
+    rw (kind-of-opcode k h, t, s) (ap (λ j. item (itemOf i k (pos 0)) ∷ decodedWords opcode j ws) (omega arith))
 
 -- "Exporting and importing a routine .. brings back its code": the words of instructions are decoded to them
-pub decode-words : {i : ℕ} {xs : List Item} → Placed i xs → entries opcode i (map whole (wordsIn xs)) ≡ map item xs
-unfolding entries wordsIn
+pub decode-words : {i : ℕ} {xs : List Item} → Placed i xs → decodedWords opcode i (map whole (wordsIn xs)) ≡ map item xs
+unfolding decodedWords wordsIn
 decode-words none = refl
 decode-words (with-word {i} {k} {z} {xs} h t n p) =
-    ap (λ ws. entries opcode i (map whole (ws ++ wordsIn xs))) (words-with i k z t) ∙ decode-with i k z (map whole (wordsIn xs)) h t n ∙ ap (λ es. item (itemOf i k z) ∷ es) (decode-words p)
+    ap (λ ws. decodedWords opcode i (map whole (ws ++ wordsIn xs))) (words-with i k z t) ∙ decode-with i k z (map whole (wordsIn xs)) h t n ∙ ap (λ es. item (itemOf i k z) ∷ es) (decode-words p)
 decode-words (plain {i} {k} {xs} h t p) =
-    ap (λ ws. entries opcode i (map whole (ws ++ wordsIn xs))) (words-plain i k (pos 0) t) ∙ decode-plain i k (map whole (wordsIn xs)) h t ∙ ap (λ es. item (itemOf i k (pos 0)) ∷ es) (decode-words p)
+    ap (λ ws. decodedWords opcode i (map whole (ws ++ wordsIn xs))) (words-plain i k (pos 0) t) ∙ decode-plain i k (map whole (wordsIn xs)) h t ∙ ap (λ es. item (itemOf i k (pos 0)) ∷ es) (decode-words p)
 
 -- an instruction has one word or two, so that 1 to 1,024 lines have 4 to 8,192 bytes
 words-few : (x : Item) → (1 ≤ length (itemWords x)) × (length (itemWords x) ≤ 2)
@@ -159,7 +157,7 @@ items-are (x ∷ xs) = ap (λ ys. x ∷ ys) (items-are xs)
 
 pub bytes-entries : {xs : List Item} → Placed 0 xs → decoded (wordsOf (allBytes (wordsIn xs))) ≡ map item xs
 unfolding decoded
-bytes-entries {xs} p = ap (entries opcode 0) (words-back (wordsIn xs) (words-small p)) ∙ decode-words p
+bytes-entries {xs} p = ap (decodedWords opcode 0) (words-back (wordsIn xs) (words-small p)) ∙ decode-words p
 
 pub bytes-decoded : {xs : List Item} → Placed 0 xs → items (decoded (wordsOf (allBytes (wordsIn xs)))) ≡ xs
 bytes-decoded {xs} p = ap items (bytes-entries p) ∙ items-are xs

@@ -14,13 +14,14 @@ use Rattle.text.specs.declared.Place.{Place}
 use Rattle.text.specs.declared.Place.the-variants.{At as at, Missing as missing}
 use Rattle.instructions.specs.declared.Argument.{Argument}
 use Rattle.instructions.specs.declared.Argument.the-variants.{Absent, Target, Primitive, Within}
-use Rattle.instructions.specs.HeldColumns.{kindAt, argumentCode}
+use Rattle.instructions.specs.HeldColumns.{argumentCode}
+use Rattle.instructions.specs.Kinds.{kindAt}
 use Rattle.instructions.specs.Opcodes.{kindCoded}
 use Rattle.instructions.proofs.OpcodeLaws.{opcode-of-kind}
 use Rattle.words.specs.declared.Head.the-variants as heads
 use Rattle.words.specs.Words.{wordBits, Word, whole, cut, wordsOf}
-use Rattle.words.specs.Decoding.{itemOf, hasArgument, item, unreadable, opcode, argument, coded, entries}
-use Rattle.words.specs.Held.{sizeOf, withArgument, headCoded, headOf}
+use Rattle.words.specs.Decoding.{itemOf, hasArgument, item, unreadable, opcode, argument, coded, decodedWords, sizeOf}
+use Rattle.words.specs.Held.{withArgument, headCoded, headOf}
 use Rattle.words.proofs.WordLaws.{words-none, firstOf, words-first, part-is}
 
 -- ---- whether a kind has an argument word, by the code of what it takes
@@ -124,10 +125,10 @@ not-instruction k z e = let q : _≡_ {A = ℕ} 0 1 = cc in absurd (omega arith)
 -- an instruction that is read: its kind is in the table, and the others follow
 pub record Read (i k : ℕ) (z : ℤ) (ws : List Word) : Type 0 where
   pub known : k < 61
-  pub first : entries opcode i ws ≡ item (itemOf i k z) ∷ entries opcode (i + sizeOf k) (drop (sizeOf k) ws)
+  pub first : decodedWords opcode i ws ≡ item (itemOf i k z) ∷ decodedWords opcode (i + sizeOf k) (drop (sizeOf k) ws)
 
 with-argument : (i w k j : ℕ) (z : ℤ) (ws : List Word) → kindCoded w ≡ at j → hasArgument (kindAt j .argument) ≡ true → withArgument j ws ≡ heads.Instruction k z → Read i k z (whole w ∷ ws)
-unfolding withArgument entries coded
+unfolding withArgument decodedWords coded
 with-argument i w k j z [] e t h = not-instruction k z h
 with-argument i w k j z (cut ∷ ws) e t h = not-instruction k z h
 with-argument i w k j z (whole v ∷ ws) e t h =
@@ -136,18 +137,18 @@ with-argument i w k j z (whole v ∷ ws) e t h =
     let s = size-two k (ap (λ x. hasArgument (kindAt x .argument)) (sym p) ∙ t) in
     record {
       known = rw p at (opcode-of-kind w j e .0);
-      first = rw (e, t, s, p, q) (ap (λ n. item (itemOf i k z) ∷ entries opcode n ws) (omega arith));
+      first = rw (e, t, s, p, q) (ap (λ n. item (itemOf i k z) ∷ decodedWords opcode n ws) (omega arith));
     }
 
 without-argument : (i w k j : ℕ) (z : ℤ) (ws : List Word) → kindCoded w ≡ at j → hasArgument (kindAt j .argument) ≡ false → heads.Instruction j (pos 0) ≡ heads.Instruction k z → Read i k z (whole w ∷ ws)
-unfolding entries coded
+unfolding decodedWords coded
 without-argument i w k j z ws e t h =
     let p : j ≡ k = cc in
     let q : pos 0 ≡ z = cc in
     let s = size-one k (ap (λ x. hasArgument (kindAt x .argument)) (sym p) ∙ t) in
     record {
       known = rw p at (opcode-of-kind w j e .0);
-      first = rw (e, t, s, p, q) (ap (λ n. item (itemOf i k z) ∷ entries opcode n ws) (omega arith));
+      first = rw (e, t, s, p, q) (ap (λ n. item (itemOf i k z) ∷ decodedWords opcode n ws) (omega arith));
     }
 
 coded-read : (i w k : ℕ) (z : ℤ) (ws : List Word) (p : Place) → kindCoded w ≡ p → headCoded ws p ≡ heads.Instruction k z → Read i k z (whole w ∷ ws)
@@ -166,13 +167,13 @@ head-read i k z (cut ∷ ws) h = not-instruction k z h
 head-read i k z (whole w ∷ ws) h = coded-read i w k z ws (kindCoded w) refl h
 
 -- no words
-pub entries-none : (i : ℕ) (bs : List ℕ) → length bs ≡ 0 → entries opcode i (wordsOf bs) ≡ []
-unfolding entries
-entries-none i bs h = ap (entries opcode i) (words-none bs h)
+pub entries-none : (i : ℕ) (bs : List ℕ) → length bs ≡ 0 → decodedWords opcode i (wordsOf bs) ≡ []
+unfolding decodedWords
+entries-none i bs h = ap (decodedWords opcode i) (words-none bs h)
 
 -- what is no instruction
-pub head-unread : (i : ℕ) (ws : List Word) → 0 < length ws → headOf ws ≡ heads.Unreadable → entries opcode i ws ≡ unreadable i ∷ []
-unfolding headOf headCoded withArgument entries coded
+pub head-unread : (i : ℕ) (ws : List Word) → 0 < length ws → headOf ws ≡ heads.Unreadable → decodedWords opcode i ws ≡ unreadable i ∷ []
+unfolding headOf headCoded withArgument decodedWords coded
 head-unread i [] l h = absurd (omega arith)
 head-unread i (cut ∷ ws) l h = refl
 head-unread i (whole w ∷ ws) l h = go (kindCoded w) h
@@ -180,16 +181,16 @@ head-unread i (whole w ∷ ws) l h = go (kindCoded w) h
     not-unread : {X : Type 0} (k : ℕ) (z : ℤ) → heads.Instruction k z ≡ heads.Unreadable → X
     not-unread k z e = not-instruction k z (sym e)
 
-    after-opcode : (j : ℕ) (vs : List Word) → withArgument j vs ≡ heads.Unreadable → entries (argument i j) (suc i) vs ≡ unreadable i ∷ []
+    after-opcode : (j : ℕ) (vs : List Word) → withArgument j vs ≡ heads.Unreadable → decodedWords (argument i j) (suc i) vs ≡ unreadable i ∷ []
     after-opcode j [] e = refl
     after-opcode j (cut ∷ vs) e = refl
     after-opcode j (whole v ∷ vs) e = not-unread j (signed wordBits v) e
 
-    go : (p : Place) → headCoded ws p ≡ heads.Unreadable → coded i (λ d. entries d (suc i) ws) p ≡ unreadable i ∷ []
+    go : (p : Place) → headCoded ws p ≡ heads.Unreadable → coded i (λ d. decodedWords d (suc i) ws) p ≡ unreadable i ∷ []
     go missing e = refl
     go (at j) e = by (hasArgument (kindAt j .argument)) e
       where
-        by : (b : Bool) → cond b (withArgument j ws) (heads.Instruction j (pos 0)) ≡ heads.Unreadable → cond b (entries (argument i j) (suc i) ws) (item (itemOf i j (pos 0)) ∷ entries opcode (suc i) ws) ≡ unreadable i ∷ []
+        by : (b : Bool) → cond b (withArgument j ws) (heads.Instruction j (pos 0)) ≡ heads.Unreadable → cond b (decodedWords (argument i j) (suc i) ws) (item (itemOf i j (pos 0)) ∷ decodedWords opcode (suc i) ws) ≡ unreadable i ∷ []
         by true q = after-opcode j ws q
         by false q = not-unread j (pos 0) q
 

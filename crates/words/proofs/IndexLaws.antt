@@ -13,21 +13,21 @@ use mir.Val.{SFits}
 use borrow.Author.Tests.{ltb-true}
 use Rattle.text.specs.declared.Place.{Place}
 use Rattle.text.specs.declared.Place.the-variants.{At as at, Missing as missing}
-use Rattle.instructions.specs.HeldColumns.{kindAt}
+use Rattle.instructions.specs.Kinds.{kindAt}
 use Rattle.instructions.specs.Opcodes.{kindCoded}
 use Rattle.instructions.proofs.OpcodeLaws.{opcode-of-kind}
 use Rattle.words.specs.Words.{Word, whole, cut}
-use Rattle.words.specs.Decoding.{Item, itemOf, hasArgument, Entry, item, unreadable, Due, opcode, argument, coded, entries, decoded, items, callListed, faultFrom, wordFault, lands, offsetFault, orOffsets, codeFault}
+use Rattle.words.specs.Decoding.{Item, itemOf, hasArgument, Decoded, item, unreadable, Due, opcode, argument, coded, decodedWords, decoded, items, callListed, faultFrom, wordFault, lands, offsetFault, orOffsets, codeFault}
 use Rattle.numbers.proofs.ResidueLaws.{signed-fits}
 use Rattle.words.proofs.FaultLaws.{sound-item}
 use Rattle.words.proofs.OffsetLaws.{readable-of}
 
 -- entries before which c instructions stand: each at an index of at most two for each instruction before it, of a kind of the table, with an
 -- argument that fits a word
-pub data Spaced : ℕ → List Entry → Type 0 where
+pub data Spaced : ℕ → List Decoded → Type 0 where
   none : {c : ℕ} → Spaced c []
-  unread : {c i : ℕ} {es : List Entry} → i ≤ 2 * c → Spaced c (unreadable i ∷ es)
-  next : {c : ℕ} {x : Item} {es : List Entry} → x .index ≤ 2 * c → x .kind < 61 → SFits w32 (x .argument) → Spaced (suc c) es → Spaced c (item x ∷ es)
+  unread : {c i : ℕ} {es : List Decoded} → i ≤ 2 * c → Spaced c (unreadable i ∷ es)
+  next : {c : ℕ} {x : Item} {es : List Decoded} → x .index ≤ 2 * c → x .kind < 61 → SFits w32 (x .argument) → Spaced (suc c) es → Spaced c (item x ∷ es)
 
 -- where the next word begins an instruction, and where it is the argument of kind k
 abbrev DueAt : ℕ → ℕ → Due → Type 0
@@ -35,7 +35,7 @@ DueAt c i opcode = i ≤ 2 * c
 DueAt c i (argument j k) = (j ≤ 2 * c) × (i ≡ suc j) × (k < 61)
 
 -- an opcode at i, where f gives what follows
-coded-spaced : (c i w : ℕ) (f : Due → List Entry) → i ≤ 2 * c → ((k : ℕ) → k < 61 → Spaced c (f (argument i k))) → Spaced (suc c) (f opcode) → Spaced c (coded i f (kindCoded w))
+coded-spaced : (c i w : ℕ) (f : Due → List Decoded) → i ≤ 2 * c → ((k : ℕ) → k < 61 → Spaced c (f (argument i k))) → Spaced (suc c) (f opcode) → Spaced c (coded i f (kindCoded w))
 unfolding coded
 coded-spaced c i w f h with-argument after = kind (kindCoded w) refl
   where
@@ -47,12 +47,12 @@ coded-spaced c i w f h with-argument after = kind (kindCoded w) refl
     kind missing e = unread h
     kind (at k) e = known k (opcode-of-kind w k e .0) (hasArgument (kindAt k .argument))
 
-words-spaced : (c : ℕ) (d : Due) (i : ℕ) (ws : List Word) → DueAt c i d → Spaced c (entries d i ws)
-unfolding entries
+words-spaced : (c : ℕ) (d : Due) (i : ℕ) (ws : List Word) → DueAt c i d → Spaced c (decodedWords d i ws)
+unfolding decodedWords
 words-spaced c opcode i [] h = none
 words-spaced c opcode i (cut ∷ ws) h = unread h
 words-spaced c opcode i (whole w ∷ ws) h =
-    coded-spaced c i w (λ d. entries d (suc i) ws) h (λ k l. words-spaced c (argument i k) (suc i) ws (h, refl, l)) (words-spaced (suc c) opcode (suc i) ws (omega arith))
+    coded-spaced c i w (λ d. decodedWords d (suc i) ws) h (λ k l. words-spaced c (argument i k) (suc i) ws (h, refl, l)) (words-spaced (suc c) opcode (suc i) ws (omega arith))
 words-spaced c (argument j k) i [] h = unread (h .0)
 words-spaced c (argument j k) i (cut ∷ ws) h = unread (h .0)
 words-spaced c (argument j k) i (whole w ∷ ws) h =
@@ -64,7 +64,7 @@ decoded-spaced ws = words-spaced 0 opcode 0 ws (omega arith)
 
 -- ---- the word at fault
 
-fault-near : (n c : ℕ) (es : List Entry) → Spaced c es → c ≤ 1024 → (p : ℕ) → faultFrom n c es ≡ at p → p ≤ 2048
+fault-near : (n c : ℕ) (es : List Decoded) → Spaced c es → c ≤ 1024 → (p : ℕ) → faultFrom n c es ≡ at p → p ≤ 2048
 unfolding faultFrom
 fault-near n c [] none h p e = let z : _≡_ {A = ℕ} 0 1 = cc in absurd (omega arith)
 fault-near n c (unreadable i ∷ es) (unread l) h p e = let q : i ≡ p = cc in omega arith
@@ -79,7 +79,7 @@ fault-near n c (item x ∷ es) (next l k m s) h p e = first (ltb c 1024) refl e 
     first true g e ih = second (ltb-true c 1024 g) (callListed n (x .argument) (kindAt (x .kind) .argument)) e ih
     first false g e ih = let q : x .index ≡ p = cc in omega arith
 
-offset-near : (n c : ℕ) (es : List Entry) → Spaced c es → faultFrom n c es ≡ missing → (xs : List Item) (p : ℕ) → offsetFault xs (items es) ≡ at p → p ≤ 2048
+offset-near : (n c : ℕ) (es : List Decoded) → Spaced c es → faultFrom n c es ≡ missing → (xs : List Item) (p : ℕ) → offsetFault xs (items es) ≡ at p → p ≤ 2048
 unfolding items offsetFault faultFrom
 offset-near n c [] none f xs p e = let z : _≡_ {A = ℕ} 0 1 = cc in absurd (omega arith)
 offset-near n c (unreadable i ∷ es) (unread l) f xs p e = let z : _≡_ {A = ℕ} 0 1 = cc in absurd (omega arith)
@@ -105,7 +105,7 @@ code-fault-near n ws p = go (wordFault n ws) refl
 
 -- ---- how many instructions
 
-pub items-few : (n c : ℕ) (es : List Entry) → faultFrom n c es ≡ missing → c ≤ 1024 → c + length (items es) ≤ 1024
+pub items-few : (n c : ℕ) (es : List Decoded) → faultFrom n c es ≡ missing → c ≤ 1024 → c + length (items es) ≤ 1024
 unfolding items faultFrom
 items-few n c [] e h = omega arith
 items-few n c (unreadable i ∷ es) e h = let z : _≡_ {A = ℕ} 0 1 = cc in absurd (omega arith)

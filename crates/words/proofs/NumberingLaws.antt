@@ -15,14 +15,14 @@ use Rattle.text.specs.declared.Place.the-variants.{At as at, Missing as missing
 use Rattle.instructions.specs.Opcodes.{placeFrom}
 use Rattle.words.specs.declared.Head.the-variants as heads
 use Rattle.words.specs.Words.{Word}
-use Rattle.words.specs.Decoding.{itemOf, opcode, entries, decoded, items, faultFrom}
-use Rattle.words.specs.Held.{sizeOf, headOf, Readable, Numbered}
+use Rattle.words.specs.Decoding.{itemOf, opcode, decodedWords, decoded, items, faultFrom, sizeOf}
+use Rattle.words.specs.Held.{headOf, Readable, Numbered}
 use Rattle.words.proofs.HeadLaws.{Read, size-small}
 use Rattle.words.proofs.FaultLaws.{fault-unread, sound-item}
 
 -- the indices of the instructions from index i on
 abbrev indices : ℕ → List Word → List ℕ
-indices i ws = map (λ x. x .index) (items (entries opcode i ws))
+indices i ws = map (λ x. x .index) (items (decodedWords opcode i ws))
 
 -- what the table holds, or else what is still to be found
 abbrev heldOr : ℕ → Place → Place
@@ -31,7 +31,7 @@ heldOr v p = cond (ltb v 1024) (at v) p
 -- the table t once the instructions before index i, c of them, are entered, where those of the words ws are left of those of `all`
 pub record Numbering (all : List Word) (t : List ℕ) (i c : ℕ) (ws : List Word) : Type 0 where
   pub listed : ℕ
-  pub sound : faultFrom listed c (entries opcode i ws) ≡ missing
+  pub sound : faultFrom listed c (decodedWords opcode i ws) ≡ missing
   pub near : i ≤ 2 * c
   pub few : c ≤ 1024
   pub long : length t ≡ 2048
@@ -56,9 +56,9 @@ numbering-starts ws t r e l = record {
 }
 
 -- what is read next
-pub sound-read : (n c i k : ℕ) (z : ℤ) (ws : List Word) → Read i k z ws → faultFrom n c (entries opcode i ws) ≡ missing
-    → (c < 1024) × (faultFrom n (suc c) (entries opcode (i + sizeOf k) (drop (sizeOf k) ws)) ≡ missing)
-sound-read n c i k z ws r e = sound-item n c (itemOf i k z) (entries opcode (i + sizeOf k) (drop (sizeOf k) ws)) (sym (ap (faultFrom n c) (r .first)) ∙ e)
+pub sound-read : (n c i k : ℕ) (z : ℤ) (ws : List Word) → Read i k z ws → faultFrom n c (decodedWords opcode i ws) ≡ missing
+    → (c < 1024) × (faultFrom n (suc c) (decodedWords opcode (i + sizeOf k) (drop (sizeOf k) ws)) ≡ missing)
+sound-read n c i k z ws r e = sound-item n c (itemOf i k z) (decodedWords opcode (i + sizeOf k) (drop (sizeOf k) ws)) (sym (ap (faultFrom n c) (r .first)) ∙ e)
 
 module _ {all : List Word} {t : List ℕ} {i c : ℕ} {ws : List Word} (s : Numbering all t i c ws) where
   -- what is no instruction is not there
@@ -69,7 +69,7 @@ module _ {all : List Word} {t : List ℕ} {i c : ℕ} {ws : List Word} (s : Numb
       absurd (omega arith)
 
   -- at the end
-  pub numbering-ends : entries opcode i ws ≡ [] → Numbered (items (decoded all)) t
+  pub numbering-ends : decodedWords opcode i ws ≡ [] → Numbered (items (decoded all)) t
   unfolding decoded items placeFrom
   numbering-ends e = record { at-index = λ n. sym (ap (λ es. heldOr (getD t n 1024) (placeFrom c n (map (λ x. x .index) (items es)))) e) ∙ s .held n }
 

@@ -16,12 +16,12 @@ use Rattle.instructions.specs.declared.Argument.{Argument}
 use Rattle.instructions.specs.declared.Argument.the-variants.{Absent, Target, Primitive, Within}
 use Rattle.text.specs.declared.Place.{Place}
 use Rattle.text.specs.declared.Place.the-variants.{At as at, Missing as missing}
-use Rattle.instructions.specs.HeldColumns.{kindAt}
+use Rattle.instructions.specs.Kinds.{kindAt}
 use Rattle.instructions.proofs.ColumnLaws.{getD-any}
 use Rattle.words.specs.declared.Head.the-variants as heads
 use Rattle.words.specs.Words.{Word}
-use Rattle.words.specs.Decoding.{Item, itemOf, opcode, entries, decoded, items, faultFrom, wordFault, landing, numberAt, isFound, lands, offsetFault, orOffsets, codeFault}
-use Rattle.words.specs.Held.{sizeOf, headOf, Readable, numberHeld, numberIn, Numbered, landsIn}
+use Rattle.words.specs.Decoding.{Item, itemOf, opcode, decodedWords, decoded, items, faultFrom, wordFault, landing, numberAt, isFound, lands, offsetFault, orOffsets, codeFault, sizeOf}
+use Rattle.words.specs.Held.{headOf, Readable, numberHeld, numberIn, Numbered, landsIn}
 use Rattle.words.proofs.HeadLaws.{Read, size-small}
 use Rattle.words.proofs.FaultLaws.{fault-unread}
 use Rattle.words.proofs.NumberingLaws.{sound-read}
@@ -80,7 +80,7 @@ target-lands t {x} {y} {z} {p} {b} {a} e f g h k = h ∙ ap isFound (g ∙ ap (n
 pub record Ahead (i : ℕ) (ws : List Word) : Type 0 where
   pub listed : ℕ
   pub before : ℕ
-  pub sound : faultFrom listed before (entries opcode i ws) ≡ missing
+  pub sound : faultFrom listed before (decodedWords opcode i ws) ≡ missing
   pub near : i ≤ 2 * before
 
 pub ahead-starts : {ws : List Word} → Readable ws → Ahead 0 ws
@@ -108,16 +108,16 @@ module _ {i : ℕ} {ws : List Word} (a : Ahead i ws) where
 -- ---- one turn of the pass
 
 module _ (xs : List Item) {i k : ℕ} {z : ℤ} {ws : List Word} (r : Read i k z ws) where
-  pub offset-here : lands xs (itemOf i k z) (kindAt k .argument) ≡ false → offsetFault xs (items (entries opcode i ws)) ≡ at (suc i)
+  pub offset-here : lands xs (itemOf i k z) (kindAt k .argument) ≡ false → offsetFault xs (items (decodedWords opcode i ws)) ≡ at (suc i)
   unfolding items offsetFault
   offset-here e = ap (λ es. offsetFault xs (items es)) (r .first) ∙ rw e refl
 
   pub offset-next : lands xs (itemOf i k z) (kindAt k .argument) ≡ true → {size : ℕ} → size ≡ sizeOf k → {vs : List Word} → vs ≡ drop (sizeOf k) ws
-      → offsetFault xs (items (entries opcode i ws)) ≡ offsetFault xs (items (entries opcode (i + size) vs))
+      → offsetFault xs (items (decodedWords opcode i ws)) ≡ offsetFault xs (items (decodedWords opcode (i + size) vs))
   unfolding items offsetFault
   offset-next e p q = ap (λ es. offsetFault xs (items es)) (r .first) ∙ rw e (rw (p, q) refl)
 
-pub offset-none : (xs : List Item) (i : ℕ) (ws : List Word) → entries opcode i ws ≡ [] → offsetFault xs (items (entries opcode i ws)) ≡ missing
+pub offset-none : (xs : List Item) (i : ℕ) (ws : List Word) → decodedWords opcode i ws ≡ [] → offsetFault xs (items (decodedWords opcode i ws)) ≡ missing
 unfolding items offsetFault
 offset-none xs i ws e = ap (λ es. offsetFault xs (items es)) e
 

@@ -9,7 +9,7 @@ use Rattle.instructions.specs.declared.Argument.{Argument}
 use Rattle.instructions.specs.declared.Argument.the-variants.{Absent, Target, Primitive, Within}
 use Rattle.text.specs.declared.Place.{Place}
 use Rattle.text.specs.declared.Place.the-variants.{At as at, Missing as missing}
-use Rattle.instructions.specs.HeldColumns.{kindAt}
+use Rattle.instructions.specs.Kinds.{kindAt}
 use Rattle.instructions.specs.Opcodes.{placeFrom, kindCoded}
 use Rattle.words.specs.Words.{wordBits, Word, whole, cut}
 
@@ -33,9 +33,9 @@ hasArgument (Within r) = true
 -- ---- instructions from words
 
 -- what is read, one after the other: an instruction, or what is no instruction, at its place
-pub data Entry : Type 0 where
-  item : Item → Entry
-  unreadable : ℕ → Entry
+pub data Decoded : Type 0 where
+  item : Item → Decoded
+  unreadable : ℕ → Decoded
 
 -- what the next word is: an opcode, or the argument of the kind k whose opcode is at j
 pub data Due : Type 0 where
@@ -43,25 +43,25 @@ pub data Due : Type 0 where
   argument : ℕ → ℕ → Due
 
 -- the opcode at i, with what follows by what is due: "an opcode outside the 61 kinds"
-unfoldable pub coded : ℕ → (Due → List Entry) → Place → List Entry
+unfoldable pub coded : ℕ → (Due → List Decoded) → Place → List Decoded
 coded i next missing = unreadable i ∷ []
 coded i next (at k) = cond (hasArgument (kindAt k .argument)) (next (argument i k)) (item (itemOf i k (pos 0)) ∷ next opcode)
 
 -- the words from index i on: "a cut-off word or argument", "A cut-off argument counts at its opcode", "Argument words are signed"
-unfoldable pub entries : Due → ℕ → List Word → List Entry
-entries opcode i [] = []
-entries opcode i (cut ∷ ws) = unreadable i ∷ []
-entries opcode i (whole w ∷ ws) = coded i (λ d. entries d (suc i) ws) (kindCoded w)
-entries (argument j k) i [] = unreadable j ∷ []
-entries (argument j k) i (cut ∷ ws) = unreadable j ∷ []
-entries (argument j k) i (whole w ∷ ws) = item (itemOf j k (signed wordBits w)) ∷ entries opcode (suc i) ws
+unfoldable pub decodedWords : Due → ℕ → List Word → List Decoded
+decodedWords opcode i [] = []
+decodedWords opcode i (cut ∷ ws) = unreadable i ∷ []
+decodedWords opcode i (whole w ∷ ws) = coded i (λ d. decodedWords d (suc i) ws) (kindCoded w)
+decodedWords (argument j k) i [] = unreadable j ∷ []
+decodedWords (argument j k) i (cut ∷ ws) = unreadable j ∷ []
+decodedWords (argument j k) i (whole w ∷ ws) = item (itemOf j k (signed wordBits w)) ∷ decodedWords opcode (suc i) ws
 
 -- all words
-unfoldable pub decoded : List Word → List Entry
-decoded ws = entries opcode 0 ws
+unfoldable pub decoded : List Word → List Decoded
+decoded ws = decodedWords opcode 0 ws
 
 -- the instructions among them
-unfoldable pub items : List Entry → List Item
+unfoldable pub items : List Decoded → List Item
 items [] = []
 items (item x ∷ es) = x ∷ items es
 items (unreadable i ∷ es) = items es
@@ -81,7 +81,7 @@ callListed n z Primitive = isPlace n z
 callListed n z (Within r) = true
 
 -- "a 1,025th instruction": k stand before; the index of the earliest word at fault
-unfoldable pub faultFrom : ℕ → ℕ → List Entry → Place
+unfoldable pub faultFrom : ℕ → ℕ → List Decoded → Place
 faultFrom n k [] = missing
 faultFrom n k (unreadable i ∷ es) = at i
 faultFrom n k (item x ∷ es) =
@@ -128,3 +128,7 @@ orOffsets missing xs = offsetFault xs xs
 -- the index of the word that an import refuses, where n primitives are listed
 unfoldable pub codeFault : ℕ → List Word → Place
 codeFault n ws = orOffsets (wordFault n ws) (items (decoded ws))
+
+-- how many words a kind takes
+unfoldable pub sizeOf : ℕ → ℕ
+sizeOf k = cond (hasArgument (kindAt k .argument)) 2 1

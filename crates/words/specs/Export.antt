@@ -6,18 +6,16 @@ use lib.IntN.{ℤ, pos, natAbs, _-ℤ_}
 use lib.ListN.{getD}
 use Rattle.text.specs.Text.{Line, find}
 use Rattle.numbers.specs.Numbers.{residue}
-use Rattle.instructions.specs.Kinds.{kindNames}
+use Rattle.instructions.specs.Kinds.{kindNames, kindAt}
 use Rattle.instructions.specs.declared.Argument.{Argument}
 use Rattle.instructions.specs.declared.Argument.the-variants.{Absent, Target, Primitive, Within}
-use Rattle.instructions.specs.HeldColumns.{kindAt}
 use Rattle.file_format.specs.declared.Section.the-variants.{Primitives as primitives}
 use Rattle.file_format.specs.declared.Role.the-variants.{Names as names}
 use Rattle.file_format.specs.Layout.{body, codeLines, listed}
 use Rattle.file_format.specs.Rows.{op, arg}
 use Rattle.file_format.specs.Routine.{argumentValue, firstAddress}
 use Rattle.words.specs.Words.{wordBits, allBytes}
-use Rattle.words.specs.Decoding.{Item, itemOf, hasArgument}
-use Rattle.words.specs.Held.{sizeOf}
+use Rattle.words.specs.Decoding.{Item, itemOf, hasArgument, sizeOf}
 
 -- a code line: its kind by its place in the table, and its argument, a number, the number of a target's line, or a primitive's place
 pub record Op : Type 0 where

@@ -11,16 +11,12 @@ use Rattle.instructions.specs.declared.Argument.{Argument}
 use Rattle.instructions.specs.declared.Argument.the-variants.{Absent, Target, Primitive, Within}
 use Rattle.text.specs.declared.Place.{Place}
 use Rattle.text.specs.declared.Place.the-variants.{At as at, Missing as missing}
-use Rattle.instructions.specs.HeldColumns.{kindAt}
+use Rattle.instructions.specs.Kinds.{kindAt}
 use Rattle.instructions.specs.Opcodes.{placeFrom, kindCoded}
 use Rattle.words.specs.declared.Head.{Head}
 use Rattle.words.specs.declared.Head.the-variants.{Unreadable as unreadable, Instruction as instruction}
 use Rattle.words.specs.Words.{wordBits, Word, whole, cut}
 use Rattle.words.specs.Decoding.{Item, hasArgument, decoded, faultFrom, isFound}
-
--- how many words a kind takes
-unfoldable pub sizeOf : ℕ → ℕ
-sizeOf k = cond (hasArgument (kindAt k .argument)) 2 1
 
 -- kind k with its argument word
 unfoldable pub withArgument : ℕ → List Word → Head

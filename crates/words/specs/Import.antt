@@ -4,9 +4,9 @@ use mathlib.Core.Bool.{Bool, cond, not, _&&_}
 use mathlib.Core.List.{List, [], _∷_}
 use lib.ListN.{length}
 use Rattle.refusals.specs.declared.Refusal.the-variants.{Layout, BadName, BadWord}
-use Rattle.refusals.specs.declared.Verdict.{Verdict}
-use Rattle.refusals.specs.declared.Verdict.the-variants.{Accepted as accepted, Refused as refused}
-use Rattle.text.specs.Text.{isEmpty, words, Line, lines, all}
+use Rattle.refusals.specs.declared.Acceptance.{Acceptance}
+use Rattle.refusals.specs.declared.Acceptance.the-variants.{Accepted as accepted, Refused as refused}
+use Rattle.text.specs.Text.{isEmpty, lineWords, Line, lines, all}
 use Rattle.text.specs.declared.Place.{Place}
 use Rattle.text.specs.declared.Place.the-variants.{At as at, Missing as missing}
 use Rattle.file_format.specs.declared.Section.the-variants.{Primitives as primitives}
@@ -20,20 +20,20 @@ use Rattle.words.specs.Lines.{codeText}
 
 -- laid out as the line of the file: "words are parted by one space", no 33rd name
 unfoldable pub lineLaidOut : List ℕ → Bool
-lineLaidOut text = all (λ w. not (isEmpty w)) (words text) && namesLaidOut primitives text
+lineLaidOut text = all (λ w. not (isEmpty w)) (lineWords text) && namesLaidOut primitives text
 
 -- 2, then 4, at place 1
-unfoldable pub lineVerdict : List ℕ → Verdict
+unfoldable pub lineVerdict : List ℕ → Acceptance
 lineVerdict text = cond (lineLaidOut text) (cond (wellNamed primitives (list text)) accepted (refused (BadName 1))) (refused (Layout 1))
 
 -- one line, with or without a final line feed
-unfoldable pub oneLine : List Line → Verdict
+unfoldable pub oneLine : List Line → Acceptance
 oneLine [] = refused (Layout 1)
 oneLine (l ∷ []) = lineVerdict (l .text)
 oneLine (l ∷ m ∷ ls) = refused (Layout 1)
 
 -- "refuses its primitives line by 2 or 4 at place 1"
-unfoldable pub primitivesVerdict : List ℕ → Verdict
+unfoldable pub primitivesVerdict : List ℕ → Acceptance
 primitivesVerdict text = oneLine (lines text)
 
 -- the text of the first line
@@ -48,17 +48,17 @@ primitivesOf text = list (firstText (lines text))
 -- ---- the import
 
 -- "New numbers: 12"
-unfoldable pub faultVerdict : Place → Verdict
+unfoldable pub faultVerdict : Place → Acceptance
 faultVerdict missing = accepted
 faultVerdict (at i) = refused (BadWord i)
 
 -- the first verdict, or the second where the first accepts
-unfoldable pub both : Verdict → Verdict → Verdict
+unfoldable pub both : Acceptance → Acceptance → Acceptance
 both accepted v = v
 both (refused r) v = refused r
 
 -- 2 and 4 of the line, then 12
-unfoldable pub importVerdict : List ℕ → List ℕ → Verdict
+unfoldable pub importVerdict : List ℕ → List ℕ → Acceptance
 importVerdict bs line = both (primitivesVerdict line) (faultVerdict (codeFault (length (primitivesOf line)) (wordsOf bs)))
 
 -- what an import makes of words that it accepts

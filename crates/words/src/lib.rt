@@ -6,11 +6,11 @@ ghost use Prim.Native.Nat.{suc, _+_, _*_, _≤_, _<_};
 ghost use lib.IntN.{pos, _+ℤ_};
 ghost use lib.ListN.{length, getD, drop};
 ghost use Rattle.text.specs.Memory.{over};
-ghost use Rattle.instructions.specs.HeldColumns.{kindAt};
+ghost use Rattle.instructions.specs.Kinds.{kindAt};
 ghost use Rattle.instructions.specs.Opcodes.{ByOpcode};
 ghost use Rattle.words.specs.Words.{wordBits, littleEndian, wordsOf, bytesOf};
-ghost use Rattle.words.specs.Decoding.{decoded, items, hasArgument, isPlace, callListed, wordFault, isFound, offsetFault, codeFault};
-ghost use Rattle.words.specs.Held.{sizeOf, withArgument, headOf, Readable, numberIn, Numbered, landsIn};
+ghost use Rattle.words.specs.Decoding.{decoded, items, hasArgument, isPlace, callListed, wordFault, isFound, offsetFault, codeFault, sizeOf};
+ghost use Rattle.words.specs.Held.{withArgument, headOf, Readable, numberIn, Numbered, landsIn};
 
 // What stands at the head of words: a kind by its place in the table with its argument word, or no instruction.
 pub enum Head {

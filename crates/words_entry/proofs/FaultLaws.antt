@@ -16,11 +16,10 @@ use Rattle.machine.specs.Lists.{nth}
 use Rattle.machine.proofs.FetchLaws.{stuck-not}
 use Rattle.instructions.specs.declared.Argument.{Argument}
 use Rattle.instructions.specs.declared.Argument.the-variants.{Absent, Target, Primitive, Within}
-use Rattle.instructions.specs.HeldColumns.{kindAt}
+use Rattle.instructions.specs.Kinds.{kindAt}
 use Rattle.instructions.specs.Opcodes.{placeFrom, kindCoded}
 use Rattle.words.specs.Words.{Word, whole, cut}
-use Rattle.words.specs.Decoding.{Item, itemOf, hasArgument, Entry, item, unreadable, Due, opcode, argument, coded, entries, decoded, items, isPlace, callListed, faultFrom, wordFault, landing, numberAt, isFound, lands, offsetFault, orOffsets, codeFault}
-use Rattle.words.specs.Held.{sizeOf}
+use Rattle.words.specs.Decoding.{Item, itemOf, hasArgument, Decoded, item, unreadable, Due, opcode, argument, coded, decodedWords, decoded, items, isPlace, callListed, faultFrom, wordFault, landing, numberAt, isFound, lands, offsetFault, orOffsets, codeFault, sizeOf}
 use Rattle.words.proofs.HeadLaws.{size-two, size-one}
 use Rattle.words_entry.specs.Faults.{AtFault, WrongOffset, Earliest, Decides}
 
@@ -47,37 +46,37 @@ found-is {lo} {P} {p} {i} h e = le-antisymm (h .0 .before i (e .there)) (e .befo
 
 -- ---- the entries of words stand in rising order
 
-data Rising : ℕ → List Entry → Type 0 where
+data Rising : ℕ → List Decoded → Type 0 where
   none : {lo : ℕ} → Rising lo []
   unread : {lo i : ℕ} → lo ≤ i → Rising lo (unreadable i ∷ [])
-  next : {lo : ℕ} {x : Item} {es : List Entry} → lo ≤ x .index → Rising (x .index + sizeOf (x .kind)) es → Rising lo (item x ∷ es)
+  next : {lo : ℕ} {x : Item} {es : List Decoded} → lo ≤ x .index → Rising (x .index + sizeOf (x .kind)) es → Rising lo (item x ∷ es)
 
 -- where the next word begins an instruction, and where it is the argument of kind k
 abbrev DueAt : ℕ → ℕ → Due → Type 0
 DueAt lo i opcode = lo ≤ i
 DueAt lo i (argument j k) = (lo ≤ j) × (i ≡ suc j) × (sizeOf k ≡ 2)
 
-entries-rise : (lo : ℕ) (d : Due) (i : ℕ) (ws : List Word) → DueAt lo i d → Rising lo (entries d i ws)
-unfolding entries coded
+entries-rise : (lo : ℕ) (d : Due) (i : ℕ) (ws : List Word) → DueAt lo i d → Rising lo (decodedWords d i ws)
+unfolding decodedWords coded
 entries-rise lo opcode i [] h = none
 entries-rise lo opcode i (cut ∷ ws) h = unread h
 entries-rise lo opcode i (whole w ∷ ws) h = go (kindCoded w) (λ k s. entries-rise lo (argument i k) (suc i) ws (h, refl, s)) (entries-rise (suc i) opcode (suc i) ws (omega arith))
   where
-    kind : (k : ℕ) (b : Bool) → hasArgument (kindAt k .argument) ≡ b → (sizeOf k ≡ 2 → Rising lo (entries (argument i k) (suc i) ws)) → Rising (suc i) (entries opcode (suc i) ws) →
-        Rising lo (cond b (entries (argument i k) (suc i) ws) (item (itemOf i k (pos 0)) ∷ entries opcode (suc i) ws))
+    kind : (k : ℕ) (b : Bool) → hasArgument (kindAt k .argument) ≡ b → (sizeOf k ≡ 2 → Rising lo (decodedWords (argument i k) (suc i) ws)) → Rising (suc i) (decodedWords opcode (suc i) ws) →
+        Rising lo (cond b (decodedWords (argument i k) (suc i) ws) (item (itemOf i k (pos 0)) ∷ decodedWords opcode (suc i) ws))
     kind k true e f g = f (size-two k e)
     kind k false e f g =
         let s : suc i ≡ i + sizeOf k = omega (arith, size-one k e) in
-        next {x = itemOf i k (pos 0)} h (subst (λ m. Rising m (entries opcode (suc i) ws)) s g)
+        next {x = itemOf i k (pos 0)} h (subst (λ m. Rising m (decodedWords opcode (suc i) ws)) s g)
 
-    go : (p : Place) → ((k : ℕ) → sizeOf k ≡ 2 → Rising lo (entries (argument i k) (suc i) ws)) → Rising (suc i) (entries opcode (suc i) ws) → Rising lo (coded i (λ d. entries d (suc i) ws) p)
+    go : (p : Place) → ((k : ℕ) → sizeOf k ≡ 2 → Rising lo (decodedWords (argument i k) (suc i) ws)) → Rising (suc i) (decodedWords opcode (suc i) ws) → Rising lo (coded i (λ d. decodedWords d (suc i) ws) p)
     go missing f g = unread h
     go (at k) f g = kind k (hasArgument (kindAt k .argument)) refl (f k) g
 entries-rise lo (argument j k) i [] h = unread (h .0)
 entries-rise lo (argument j k) i (cut ∷ ws) h = unread (h .0)
 entries-rise lo (argument j k) i (whole w ∷ ws) h =
     let s : suc i ≡ j + sizeOf k = omega (arith, h .1, h .2) in
-    next (h .0) (subst (λ m. Rising m (entries opcode (suc i) ws)) s (entries-rise (suc i) opcode (suc i) ws (omega arith)))
+    next (h .0) (subst (λ m. Rising m (decodedWords opcode (suc i) ws)) s (entries-rise (suc i) opcode (suc i) ws (omega arith)))
 
 decoded-rise : (ws : List Word) → Rising 0 (decoded ws)
 unfolding decoded
@@ -107,22 +106,22 @@ listed-not n (pos m) Primitive e p f = f m (ltb-true m n e) refl
 listed-not n (negsuc m) Primitive e p f = let x : _≡_ {A = ℕ} 0 1 = cc in omega arith
 
 -- the fault of an entry before which c stand
-abbrev Fault : ℕ → ℕ → Entry → ℕ → Type 0
+abbrev Fault : ℕ → ℕ → Decoded → ℕ → Type 0
 Fault n c (unreadable j) i = i ≡ j
 Fault n c (item x) i = (Outside n x × (i ≡ suc (x .index))) ⊎ ((1024 ≤ c) × (i ≡ x .index))
 
 -- one among several, before the first of which c stand
-record FaultIn (n c : ℕ) (es : List Entry) (i : ℕ) : Type 0 where
+record FaultIn (n c : ℕ) (es : List Decoded) (i : ℕ) : Type 0 where
   place : ℕ
-  entry : Entry
+  entry : Decoded
   there : nth place es ≡ done entry
   fault : Fault n (c + place) entry i
 
-fault-here : {n c i : ℕ} {e : Entry} {es : List Entry} → Fault n c e i → FaultIn n c (e ∷ es) i
+fault-here : {n c i : ℕ} {e : Decoded} {es : List Decoded} → Fault n c e i → FaultIn n c (e ∷ es) i
 unfolding nth
 fault-here {n} {c} {i} {e} f = let z : c ≡ c + 0 = omega arith in record { place = 0; entry = e; there = refl; fault = subst (λ m. Fault n m e i) z f }
 
-fault-after : {n c i : ℕ} {e : Entry} {es : List Entry} → FaultIn n (suc c) es i → FaultIn n c (e ∷ es) i
+fault-after : {n c i : ℕ} {e : Decoded} {es : List Decoded} → FaultIn n (suc c) es i → FaultIn n c (e ∷ es) i
 unfolding nth
 fault-after {n} {c} {i} f =
     let z : suc c + f .place ≡ c + suc (f .place) = omega arith in
@@ -133,7 +132,7 @@ unfolding nth
 fault-none f = stuck-not (f .entry) (f .there)
 
 -- it is that of the first, or one after it
-fault-or : {n c i : ℕ} {e : Entry} {es : List Entry} → FaultIn n c (e ∷ es) i → Fault n c e i ⊎ FaultIn n (suc c) es i
+fault-or : {n c i : ℕ} {e : Decoded} {es : List Decoded} → FaultIn n c (e ∷ es) i → Fault n c e i ⊎ FaultIn n (suc c) es i
 unfolding nth
 fault-or {n} {c} {i} {e} {es} f = go (f .place) (f .there) (f .fault)
   where
@@ -142,7 +141,7 @@ fault-or {n} {c} {i} {e} {es} f = go (f .place) (f .there) (f .fault)
     go (suc k) t g = let z : c + suc k ≡ suc c + k = omega arith in inr (record { place = k; entry = f .entry; there = t; fault = subst (λ m. Fault n m (f .entry) i) z g })
 
 -- none is before the first entry
-fault-from-low : {n lo i : ℕ} (c : ℕ) {es : List Entry} → Rising lo es → FaultIn n c es i → lo ≤ i
+fault-from-low : {n lo i : ℕ} (c : ℕ) {es : List Decoded} → Rising lo es → FaultIn n c es i → lo ≤ i
 fault-from-low c none f = fault-none f
 fault-from-low {n} {lo} {i} c (unread {i = j} l) f = go (fault-or f)
   where
@@ -157,7 +156,7 @@ fault-from-low {n} {lo} {i} c (next {x = x} {es = es} l r) f = go (fault-or f) (
     go (inr g) ih = omega (arith, ih g)
 
 -- the pass finds the earliest
-fault-found : (n c lo : ℕ) (es : List Entry) → Rising lo es → Finds lo (FaultIn n c es) (faultFrom n c es)
+fault-found : (n c lo : ℕ) (es : List Decoded) → Rising lo es → Finds lo (FaultIn n c es) (faultFrom n c es)
 unfolding faultFrom
 fault-found n c lo [] none = λ j f. fault-none f
 fault-found n c lo (unreadable i ∷ []) (unread l) = (record { there = fault-here refl; before = λ j f. go j (fault-or f) }, l)
@@ -205,7 +204,7 @@ fault-found n c lo (item x ∷ es) (next l r) = first (fault-found n (suc c) (x 
 -- ---- a wrong offset
 
 -- an instruction among those of the entries
-item-among : (k : ℕ) (es : List Entry) {x : Item} → nth k es ≡ done (item x) → (m : ℕ) × (nth m (items es) ≡ done x)
+item-among : (k : ℕ) (es : List Decoded) {x : Item} → nth k es ≡ done (item x) → (m : ℕ) × (nth m (items es) ≡ done x)
 unfolding nth items
 item-among k [] {x} e = stuck-not (item x) e
 item-among zero (item y ∷ es) {x} e = (0, (cc))
@@ -213,7 +212,7 @@ item-among zero (unreadable i ∷ es) {x} e = let z : _≡_ {A = ℕ} 0 1 = cc i
 item-among (suc k) (item y ∷ es) e = let r = item-among k es e in (suc (r .0), r .1)
 item-among (suc k) (unreadable i ∷ es) e = item-among k es e
 
-among-item : (m : ℕ) (es : List Entry) {x : Item} → nth m (items es) ≡ done x → (k : ℕ) × (nth k es ≡ done (item x))
+among-item : (m : ℕ) (es : List Decoded) {x : Item} → nth m (items es) ≡ done x → (k : ℕ) × (nth k es ≡ done (item x))
 unfolding nth items
 among-item m [] {x} e = stuck-not x e
 among-item zero (item y ∷ es) e = (0, (cc))
@@ -309,7 +308,7 @@ astray-or {xs} {ys} {x} {i} a = go (a .place) (a .there)
     go (suc k) t = inr (record { place = k; branch = a .branch; there = t; astray = a .astray; argued = a .argued })
 
 -- none is before the first entry
-astray-low : {xs : List Item} {lo i : ℕ} {es : List Entry} → Rising lo es → AstrayIn xs (items es) i → lo ≤ i
+astray-low : {xs : List Item} {lo i : ℕ} {es : List Decoded} → Rising lo es → AstrayIn xs (items es) i → lo ≤ i
 unfolding items
 astray-low none a = astray-none a
 astray-low (unread l) a = astray-none a
@@ -320,7 +319,7 @@ astray-low {xs} {lo} {i} (next {x = x} {es = es} l r) a = go (astray-or a) (astr
     go (inr g) ih = omega (arith, ih g)
 
 -- the pass finds the earliest
-offset-found : (xs : List Item) (lo : ℕ) (es : List Entry) → Rising lo es → Finds lo (AstrayIn xs (items es)) (offsetFault xs (items es))
+offset-found : (xs : List Item) (lo : ℕ) (es : List Decoded) → Rising lo es → Finds lo (AstrayIn xs (items es)) (offsetFault xs (items es))
 unfolding items offsetFault
 offset-found xs lo [] none = λ j a. astray-none a
 offset-found xs lo (unreadable i ∷ []) (unread l) = λ j a. astray-none a
@@ -357,7 +356,7 @@ module _ (n : ℕ) (w : Word) (ws : List Word) where
   to-fault : (i : ℕ) → FaultIn n 0 (decoded (w ∷ ws)) i → AtFault n (w ∷ ws) i
   to-fault i f = go (f .entry) (f .there) (f .fault)
     where
-      go : (e : Entry) → nth (f .place) (decoded (w ∷ ws)) ≡ done e → Fault n (0 + f .place) e i → AtFault n (w ∷ ws) i
+      go : (e : Decoded) → nth (f .place) (decoded (w ∷ ws)) ≡ done e → Fault n (0 + f .place) e i → AtFault n (w ∷ ws) i
       go (unreadable j) t g = inr (inl (record { place = f .place; there = t ∙ ap (λ m. done (unreadable m)) (sym g) }))
       go (item x) t (inl g) = inr (inr (inl (record { place = f .place; call = x; there = t; calls = g .0 .calls; outside = g .0 .outside; argued = g .1 })))
       go (item x) t (inr g) = inr (inr (inr (record { place = f .place; instruction = x; there = t; many = omega (arith, g .0); coded = g .1 })))

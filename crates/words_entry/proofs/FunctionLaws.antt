@@ -7,8 +7,8 @@ use lib.ListN.{length, length-map}
 use Rattle.refusals.specs.declared.Refusal.{Refusal}
 use Rattle.refusals.specs.declared.Refusal.the-variants.{ReportMemory}
 use Rattle.refusals.specs.Refusals.{place}
-use Rattle.refusals.specs.declared.Verdict.{Verdict}
-use Rattle.refusals.specs.declared.Verdict.the-variants.{Accepted, Refused}
+use Rattle.refusals.specs.declared.Acceptance.{Acceptance}
+use Rattle.refusals.specs.declared.Acceptance.the-variants.{Accepted, Refused}
 use Rattle.text.specs.Text.{Line, lines}
 use Rattle.file_format.specs.declared.RefusedLine.the-variants.{Nowhere as nowhere}
 use Rattle.file_format.specs.declared.Row.the-variants.{Layout as layout-row}
@@ -22,7 +22,7 @@ use Rattle.words.specs.Import.{importVerdict, importText}
 use Rattle.words.specs.Export.{exportBytes}
 use Rattle.words.proofs.ExportLaws.{export-fits}
 use Rattle.words_import.proofs.ImportLaws as imports
-use Rattle.answers.specs.Answers.{reported, refused, ofVerdict}
+use Rattle.answers.specs.Answers.{reported, refused, ofAcceptance}
 use Rattle.answers.proofs.AnswerLaws.{never, lent-short, lent-enough, lent-reported, lent-place, from-reading, place-from, reading-passed}
 use Rattle.words_entry.specs.Answers.{conversionLimit, importAnswer, exportAnswer}
 
@@ -35,30 +35,30 @@ module _ (words primitives : List ℕ) (n : ℕ) where
   import-short = lent-short conversionLimit n _
 
   pub import-refused : 32768 ≤ n → (x : Refusal) → importVerdict words primitives ≡ Refused x → importAnswer words primitives n ≡ refused x
-  unfolding importAnswer ofVerdict
-  import-refused h x e = lent-enough conversionLimit n _ h ∙ ap (ofVerdict (importText words primitives)) e
+  unfolding importAnswer ofAcceptance
+  import-refused h x e = lent-enough conversionLimit n _ h ∙ ap (ofAcceptance (importText words primitives)) e
 
   pub import-made : 32768 ≤ n → importVerdict words primitives ≡ Accepted → importAnswer words primitives n ≡ reported (importText words primitives)
-  unfolding importAnswer ofVerdict
-  import-made h e = lent-enough conversionLimit n _ h ∙ ap (ofVerdict (importText words primitives)) e
+  unfolding importAnswer ofAcceptance
+  import-made h e = lent-enough conversionLimit n _ h ∙ ap (ofAcceptance (importText words primitives)) e
 
   -- a report
   pub import-reported : (bs : List ℕ) → importAnswer words primitives n ≡ reported bs → (1 ≤ length bs) × (length bs ≤ 32768) × (32768 ≤ n)
-  unfolding importAnswer ofVerdict
+  unfolding importAnswer ofAcceptance
   import-reported bs e =
-      let l = lent-reported conversionLimit n (ofVerdict (importText words primitives) (importVerdict words primitives)) bs e in
+      let l = lent-reported conversionLimit n (ofAcceptance (importText words primitives) (importVerdict words primitives)) bs e in
       go (importVerdict words primitives) refl (l .0) (l .1)
     where
-      go : (v : Verdict) → importVerdict words primitives ≡ v → 32768 ≤ n → ofVerdict (importText words primitives) v ≡ reported bs → (1 ≤ length bs) × (length bs ≤ 32768) × (32768 ≤ n)
+      go : (v : Acceptance) → importVerdict words primitives ≡ v → 32768 ≤ n → ofAcceptance (importText words primitives) v ≡ reported bs → (1 ≤ length bs) × (length bs ≤ 32768) × (32768 ≤ n)
       go Accepted q h e = let f : importText words primitives ≡ bs = cc in rw (← f) (imports.import-some words primitives, imports.import-fits words primitives q, h)
       go (Refused r) q h e = never r bs e
 
   -- a refusal
   pub import-place : (r : Refusal) → importAnswer words primitives n ≡ refused r → place r ≤ 2048
-  unfolding importAnswer ofVerdict
-  import-place r = lent-place conversionLimit n (ofVerdict (importText words primitives) (importVerdict words primitives)) 2048 r (go (importVerdict words primitives) refl)
+  unfolding importAnswer ofAcceptance
+  import-place r = lent-place conversionLimit n (ofAcceptance (importText words primitives) (importVerdict words primitives)) 2048 r (go (importVerdict words primitives) refl)
     where
-      go : (v : Verdict) → importVerdict words primitives ≡ v → ofVerdict (importText words primitives) v ≡ refused r → place r ≤ 2048
+      go : (v : Acceptance) → importVerdict words primitives ≡ v → ofAcceptance (importText words primitives) v ≡ refused r → place r ≤ 2048
       go Accepted q e = never r (importText words primitives) (sym e)
       go (Refused x) q e = let f : x ≡ r = cc in imports.import-place words primitives r (q ∙ ap Refused f)
 

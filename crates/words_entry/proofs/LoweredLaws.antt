@@ -9,14 +9,13 @@ use lib.IntN.{ℤ, pos}
 use lib.ListN.{length, getD, take, drop, length-drop}
 use lib.Seq.{length-take-le, drop-drop, drop-append-add, take-at}
 use borrow.Author.Tests.{le-leb}
-use Rattle.text.specs.Text.{bytes, equals, split, words, Line, lines, find, all, distinct}
+use Rattle.text.specs.Text.{bytes, equals, partedBy, lineWords, Line, lines, find, all, distinct}
 use Rattle.text.specs.Decimal.{decimal}
 use Rattle.text.proofs.TextLaws.{Every, none, more, every-append, every-getD, all-every, and-right}
 use Rattle.text.proofs.LineLaws.{endedLine}
 use Rattle.text.proofs.DecimalLaws.{decimal-read}
 use Rattle.numbers.specs.Numbers.{IsNumber, numbers}
-use Rattle.instructions.specs.Kinds.{Kind, addresses, kinds, kindNames, operand}
-use Rattle.instructions.specs.HeldColumns.{kindAt}
+use Rattle.instructions.specs.Kinds.{Kind, addresses, kinds, kindNames, operand, kindAt}
 use Rattle.instructions.specs.declared.Argument.{Argument}
 use Rattle.instructions.specs.declared.Argument.the-variants.{Absent, Target, Primitive, Within}
 use Rattle.machine.specs.Forward.{branches}
@@ -49,11 +48,11 @@ use Rattle.words_entry.proofs.MeantLaws.{relative-zero, said-op, by-ops
 
 -- the third word of a line
 said-arg : {ps : List (List ℕ)} {n k : ℕ} {text : List ℕ} {o : Op} → Every (Free 32) ps → (s : Says ps n k text o) → arg text ≡ s .word
-unfolding words
+unfolding lineWords
 said-arg {k = k} {o = o} free s =
     let name = kindAt (o .kind) .name in
     let e : decimal k ++ bytes " " ++ name ++ bytes " " ++ s .word ≡ decimal k ++ 32 ∷ (name ++ 32 ∷ s .word) = simp append-assoc in
-    ap (λ t. getD (split 32 t) 2 []) (s .line ∙ e)
+    ap (λ t. getD (partedBy 32 t) 2 []) (s .line ∙ e)
     ∙ ap (λ (ws : List (List ℕ)). getD ws 2 []) (split-first 32 (name ++ 32 ∷ s .word) (decimal-free 32 (omega arith) k))
     ∙ ap (λ (ws : List (List ℕ)). getD ws 1 []) (split-first 32 (s .word) (name-free 32 (omega arith) (o .kind)))
     ∙ ap (λ (ws : List (List ℕ)). getD ws 0 []) (split-alone 32 (argued-free 32 (λ q. omega arith) (omega arith) free (s .argued)))
@@ -202,10 +201,10 @@ said-code (next {k} {o = o} s ss) =
 
 -- the lines of a primitives line have no space
 names-parted : (text : List ℕ) → Every (Free 32) (list text)
-unfolding list words
+unfolding list lineWords
 names-parted text = go (equals text (bytes "-"))
   where
-    go : (b : Bool) → Every (Free 32) (cond b [] (split 32 text))
+    go : (b : Bool) → Every (Free 32) (cond b [] (partedBy 32 text))
     go true = none
     go false = split-free 32 text
 

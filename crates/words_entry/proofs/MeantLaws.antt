@@ -5,14 +5,13 @@ use Prim.Native.Nat.{ℕ, _<_}
 use lib.IntN.{ℤ, pos, +ℤ-idr}
 use lib.ListN.{getD}
 use native.Mathlib.Omega.{arith}
-use Rattle.refusals.specs.declared.Verdict.the-variants.{Accepted as accepted}
-use Rattle.text.specs.Text.{bytes, words, split, Line, lines, find}
+use Rattle.refusals.specs.declared.Acceptance.the-variants.{Accepted as accepted}
+use Rattle.text.specs.Text.{bytes, lineWords, partedBy, Line, lines, find}
 use Rattle.text.specs.Decimal.{decimal}
 use Rattle.text.proofs.TextLaws.{Every}
 use Rattle.instructions.specs.declared.Argument.{Argument}
 use Rattle.instructions.specs.declared.Argument.the-variants.{Absent, Target, Primitive, Within}
-use Rattle.instructions.specs.Kinds.{kindNames}
-use Rattle.instructions.specs.HeldColumns.{kindAt}
+use Rattle.instructions.specs.Kinds.{kindNames, kindAt}
 use Rattle.machine.specs.Machine.{instruction, Instruction, priceOf}
 use Rattle.file_format.specs.declared.Section.the-variants.{Kinds as kinds, Primitives as primitives}
 use Rattle.file_format.specs.declared.Column.the-variants.{Extra as extra}
@@ -44,11 +43,11 @@ relative-zero z (Within r) = refl
 
 -- the second word of a line that says o
 pub said-op : {ps : List (List ℕ)} {n k : ℕ} {text : List ℕ} {o : Op} → Says ps n k text o → op text ≡ kindAt (o .kind) .name
-unfolding words
+unfolding lineWords
 said-op {k = k} {o = o} s =
     let name = kindAt (o .kind) .name in
     let e : decimal k ++ bytes " " ++ name ++ bytes " " ++ s .word ≡ decimal k ++ 32 ∷ (name ++ 32 ∷ s .word) = simp append-assoc in
-    ap (λ t. getD (split 32 t) 1 []) (s .line ∙ e)
+    ap (λ t. getD (partedBy 32 t) 1 []) (s .line ∙ e)
     ∙ ap (λ (ws : List (List ℕ)). getD ws 1 []) (split-first 32 (name ++ 32 ∷ s .word) (decimal-free 32 (omega arith) k))
     ∙ ap (λ (ws : List (List ℕ)). getD ws 0 []) (split-first 32 (s .word) (name-free 32 (omega arith) (o .kind)))
 

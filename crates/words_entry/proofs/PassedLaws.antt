@@ -9,15 +9,14 @@ use lib.Dec.{eqb, leb, ltb}
 use lib.IntN.{pos, _+ℤ_}
 use lib.ListN.{length, getD, take, drop, length-append}
 use borrow.Author.Tests.{eq-eqb, le-leb, lt-ltb, leb-true, ltb-true, not-true}
-use Rattle.text.specs.Text.{bytes, isEmpty, equals, split, words, Line, lines, place, among, all}
+use Rattle.text.specs.Text.{bytes, isEmpty, equals, partedBy, lineWords, Line, lines, placeAmong, among, all}
 use Rattle.text.specs.declared.Numeral.the-variants.{Number as number}
 use Rattle.text.specs.Decimal.{numeral, decimal}
 use Rattle.text.proofs.TextLaws.{Every, none, more, every-map, all-every, and-left, and-right, equals-path}
 use Rattle.text.proofs.LineLaws.{endedLine}
 use Rattle.text.proofs.DecimalLaws.{decimal-read}
 use Rattle.numbers.specs.Numbers.{within, same}
-use Rattle.instructions.specs.Kinds.{addresses, kindNames}
-use Rattle.instructions.specs.HeldColumns.{kindAt}
+use Rattle.instructions.specs.Kinds.{addresses, kindNames, kindAt}
 use Rattle.instructions.specs.declared.Argument.{Argument}
 use Rattle.file_format.specs.declared.Section.{Section}
 use Rattle.file_format.specs.declared.Section.the-variants.{Limits as limits, Kinds as kinds, Primitives as primitives, Cells as cells, Fields as fields, Instructions as instructions, Answers as answers}
@@ -137,12 +136,12 @@ module _ {first : ℕ} {ls ms : List Line} (f : Lowers first ls ms) (parted : Ev
   abbrev word : List ℕ
   word = x .says .word
 
-  line-words : words (x .line) ≡ decimal k ∷ op text ∷ word ∷ []
-  unfolding words
+  line-words : lineWords (x .line) ≡ decimal k ∷ op text ∷ word ∷ []
+  unfolding lineWords
   line-words =
       let name = kindAt kind .name in
       let e : decimal k ++ bytes " " ++ name ++ bytes " " ++ word ≡ decimal k ++ 32 ∷ (name ++ 32 ∷ word) = simp append-assoc in
-      ap (split 32) (x .says .line ∙ e)
+      ap (partedBy 32) (x .says .line ∙ e)
       ∙ split-first 32 (name ++ 32 ∷ word) (decimal-free 32 (omega arith) k)
       ∙ ap (λ ws. decimal k ∷ ws) (split-first 32 word (name-free 32 (omega arith) kind))
       ∙ ap₂ (λ v vs. decimal k ∷ v ∷ vs) (x .name) (split-alone 32 (argued-free 32 (λ q. omega arith) (omega arith) parted (x .says .argued)))
@@ -161,7 +160,7 @@ module _ {first : ℕ} {ls ms : List Line} (f : Lowers first ls ms) (parted : Ev
       onArgument (t (arg text)) text ≡ true → onArgument (u (arg (x .line))) (x .line) ≡ true
   unfolding onArgument argumentOf
   on-word t u h e =
-      ap (λ w. argumentOf (u (arg (x .line))) (place w kindNames)) op-is
+      ap (λ w. argumentOf (u (arg (x .line))) (placeAmong w kindNames)) op-is
       ∙ ap (argumentOf (u (arg (x .line)))) (x .placed)
       ∙ ap (λ w. u w takes) arg-is
       ∙ h (x .lowers) (on-kind (t (arg text)) text kind (x .placed) e)
@@ -169,11 +168,11 @@ module _ {first : ℕ} {ls ms : List Line} (f : Lowers first ls ms) (parted : Ev
   line-laid-out : test layout-row ls (code k) l ≡ true → test layout-row ms (code k) (endedLine (x .line)) ≡ true
   unfolding test laidOut codeLaidOut all isNumeral
   line-laid-out h =
-      let spaced = l .ended && all filled (words text) in
+      let spaced = l .ended && all filled (lineWords text) in
       let laid = code-laid-out ls k text (and-right spaced (laidOut ls (code k) text) h) in
-      let old = filled-three (words text) (laid .three) (and-right (l .ended) (all filled (words text)) (and-left spaced (laidOut ls (code k) text) h)) in
-      let p : all filled (words (x .line)) ≡ true = ap (all filled) line-words ∙ rw (decimal-filled k, old .0, word-filled first (x .lowers) (old .1)) refl in
-      let q : eqb (length (words (x .line))) 3 ≡ true = ap (λ ws. eqb (length ws) 3) line-words in
+      let old = filled-three (lineWords text) (laid .three) (and-right (l .ended) (all filled (lineWords text)) (and-left spaced (laidOut ls (code k) text) h)) in
+      let p : all filled (lineWords (x .line)) ≡ true = ap (all filled) line-words ∙ rw (decimal-filled k, old .0, word-filled first (x .lowers) (old .1)) refl in
+      let q : eqb (length (lineWords (x .line))) 3 ≡ true = ap (λ ws. eqb (length ws) 3) line-words in
       let r : isNumeral (numeral (at (x .line))) ≡ true = ap (λ w. isNumeral (numeral w)) at-is ∙ ap isNumeral (decimal-read k) in
       rw (p, lt-ltb k 1024 (x .few), q, r) (on-word argumentLaidOut argumentLaidOut (word-laid-out first) (laid .argument))
 
@@ -287,7 +286,7 @@ last-text r (y ∷ rs) x (more q qs) e (k ∷ hs) l ms h = rw q (last-text r rs 
 
 -- the names line of the code passes in any file
 names-pass : (row : Row) (ls : List Line) → test row ls (names instructions) (endedLine (bytes "AT OP ARG")) ≡ true
-unfolding test laidOut namesLaidOut inRange named wellNamed priced reaches forward onCode allKnown onCells all words split equals
+unfolding test laidOut namesLaidOut inRange named wellNamed priced reaches forward onCode allKnown onCells all lineWords partedBy equals
 names-pass layout-row ls = refl
 names-pass range-row ls = refl
 names-pass name-row ls = refl

@@ -9,8 +9,8 @@ use lib.IntN.{pos}
 use lib.ListN.{length}
 use borrow.Author.Tests.{ltb-true, ltb-false, le-ltb}
 use Rattle.refusals.specs.declared.Refusal.the-variants.{ReportMemory, Layout, BadName, BadWord}
-use Rattle.refusals.specs.declared.Verdict.{Verdict}
-use Rattle.refusals.specs.declared.Verdict.the-variants.{Accepted, Refused}
+use Rattle.refusals.specs.declared.Acceptance.{Acceptance}
+use Rattle.refusals.specs.declared.Acceptance.the-variants.{Accepted, Refused}
 use Rattle.text.specs.Text.{Line, lines}
 use Rattle.text.specs.declared.Place.{Place}
 use Rattle.text.specs.declared.Place.the-variants.{At, Missing}
@@ -32,7 +32,7 @@ use Rattle.words_inverse.specs.Sections.{linesText, replaced, primitivesLine}
 use Rattle.words_inverse.proofs.FileLaws.{replaced-whole}
 use Rattle.words_inverse.proofs.ExportedLaws.{export-imported, export-text, words-imported, words-text}
 use Rattle.words_inverse.proofs.RestoredLaws.{import-exported}
-use Rattle.answers.specs.Answers.{reported, refused, ofVerdict}
+use Rattle.answers.specs.Answers.{reported, refused, ofAcceptance}
 use Rattle.answers.proofs.AnswerLaws.{never, lent-reported, from-reading}
 use Rattle.words_entry.specs.Answers.{conversionLimit, importAnswer, exportAnswer}
 use Rattle.words_entry.specs.Promises.{BeginsAtZero, ExportsImport, ImportsReplace, ImportsExport, ImportRefusedWhere, ImportedWhere, ImportsMean, ExportsTaken, SameWords, LowerBy, ImportsLower}
@@ -60,10 +60,10 @@ exported text words n e =
 
 -- lines that are made are those of words that are accepted
 imported : (words line made : List ℕ) (n : ℕ) → importAnswer words line n ≡ reported made → (importVerdict words line ≡ Accepted) × (made ≡ importText words line)
-unfolding importAnswer ofVerdict
-imported words line made n e = go (importVerdict words line) refl (lent-reported conversionLimit n (ofVerdict (importText words line) (importVerdict words line)) made e .1)
+unfolding importAnswer ofAcceptance
+imported words line made n e = go (importVerdict words line) refl (lent-reported conversionLimit n (ofAcceptance (importText words line) (importVerdict words line)) made e .1)
   where
-    go : (v : Verdict) → importVerdict words line ≡ v → ofVerdict (importText words line) v ≡ reported made → (importVerdict words line ≡ Accepted) × (made ≡ importText words line)
+    go : (v : Acceptance) → importVerdict words line ≡ v → ofAcceptance (importText words line) v ≡ reported made → (importVerdict words line ≡ Accepted) × (made ≡ importText words line)
     go Accepted q f = (q, sym (same-bytes (importText words line) made f))
     go (Refused r) q f = never r made f
 
@@ -119,14 +119,14 @@ module _ (words line : List ℕ) (n : ℕ) where
 
   -- a refusal by 12 is not for the memory, nor for the line
   refused-word : (i : ℕ) → importAnswer words line n ≡ refused (BadWord i) → (conversionLimit ≤ n) × (primitivesVerdict line ≡ Accepted) × (fault ≡ At i)
-  unfolding importAnswer ofVerdict importVerdict both faultVerdict
+  unfolding importAnswer ofAcceptance importVerdict both faultVerdict
   refused-word i = go (ltb n conversionLimit) refl (primitivesVerdict line) refl
     where
-      made : (p : Place) → ofVerdict (importText words line) (faultVerdict p) ≡ refused (BadWord i) → p ≡ At i
+      made : (p : Place) → ofAcceptance (importText words line) (faultVerdict p) ≡ refused (BadWord i) → p ≡ At i
       made Missing e = never (BadWord i) (importText words line) (sym e)
       made (At j) e = ap At (cc)
 
-      go : (b : Bool) → ltb n conversionLimit ≡ b → (v : Verdict) → primitivesVerdict line ≡ v → cond b (refused ReportMemory) (ofVerdict (importText words line) (both v (faultVerdict fault))) ≡ refused (BadWord i) → (conversionLimit ≤ n) × (primitivesVerdict line ≡ Accepted) × (fault ≡ At i)
+      go : (b : Bool) → ltb n conversionLimit ≡ b → (v : Acceptance) → primitivesVerdict line ≡ v → cond b (refused ReportMemory) (ofAcceptance (importText words line) (both v (faultVerdict fault))) ≡ refused (BadWord i) → (conversionLimit ≤ n) × (primitivesVerdict line ≡ Accepted) × (fault ≡ At i)
       go true h v q e = let z : _≡_ {A = ℕ} 0 1 = cc in absurd (omega arith)
       go false h Accepted q e = (ltb-false n conversionLimit h, q, made fault e)
       go false h (Refused r) q e = line-other line i (q ∙ ap Refused (cc))

@@ -6,7 +6,7 @@ use Rattle.text.specs.Text.{lines}
 use Rattle.file_format.specs.Routine.{readBound}
 use Rattle.words.specs.Import.{importVerdict, importText}
 use Rattle.words.specs.Export.{exportBytes}
-use Rattle.answers.specs.Answers.{Answer, reported, lending, ofReading, ofVerdict}
+use Rattle.answers.specs.Answers.{Answer, reported, lending, ofReading, ofAcceptance}
 
 -- "Memory lent for the lines, or for the words, of under 32,768 bytes is refusal 10, checked first"
 abbrev pub conversionLimit : ℕ
@@ -14,7 +14,7 @@ conversionLimit = 32768
 
 -- "An import then refuses its primitives line by 2 or 4 at place 1", and by "12, checked next in an import"; else it makes the lines
 unfoldable pub importAnswer : List ℕ → List ℕ → ℕ → Answer
-importAnswer words primitives n = lending conversionLimit n (ofVerdict (importText words primitives) (importVerdict words primitives))
+importAnswer words primitives n = lending conversionLimit n (ofAcceptance (importText words primitives) (importVerdict words primitives))
 
 -- "An export then has the file's refusals 1 to 6", and 13 after them (document 02 §8); else it makes the words
 unfoldable pub exportAnswer : List ℕ → ℕ → Answer

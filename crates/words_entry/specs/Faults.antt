@@ -7,7 +7,7 @@ use lib.IntN.{pos}
 use Rattle.cells.specs.Try.{done}
 use Rattle.machine.specs.Lists.{nth}
 use Rattle.instructions.specs.declared.Argument.the-variants.{Target, Primitive}
-use Rattle.instructions.specs.HeldColumns.{kindAt}
+use Rattle.instructions.specs.Kinds.{kindAt}
 use Rattle.words.specs.Words.{Word}
 use Rattle.words.specs.Decoding.{Item, item, unreadable, decoded, landing}
 

@@ -5,7 +5,7 @@ use lib.IntN.{ℤ, pos}
 use Rattle.text.specs.Text.{Line, find, indexOf}
 use Rattle.instructions.specs.declared.Argument.{Argument}
 use Rattle.instructions.specs.declared.Argument.the-variants.{Absent, Target, Primitive, Within}
-use Rattle.instructions.specs.HeldColumns.{kindAt}
+use Rattle.instructions.specs.Kinds.{kindAt}
 use Rattle.machine.specs.Machine.{instruction, Instruction, priceOf, Code}
 use Rattle.file_format.specs.declared.Section.the-variants.{Kinds as kinds, Primitives as primitives}
 use Rattle.file_format.specs.declared.Column.the-variants.{Extra as extra}

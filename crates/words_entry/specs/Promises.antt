@@ -7,7 +7,7 @@ use mathlib.Core.Logic.{_↔_}
 use lib.Dec.{ltb}
 use lib.ListN.{length}
 use Rattle.refusals.specs.declared.Refusal.the-variants.{BadWord}
-use Rattle.refusals.specs.declared.Verdict.the-variants.{Accepted as accepted}
+use Rattle.refusals.specs.declared.Acceptance.the-variants.{Accepted as accepted}
 use Rattle.text.specs.Text.{lines, all}
 use Rattle.file_format.specs.declared.Section.the-variants.{Primitives as primitives}
 use Rattle.file_format.specs.declared.Role.the-variants.{Names as names}

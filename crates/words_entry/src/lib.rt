@@ -1,8 +1,8 @@
 // The import and the export on lent memory. The meaning is in specs/.
 use answers::Answer;
 use file_check::Reader;
+use refusals::Acceptance;
 use refusals::Refusal;
-use refusals::Verdict;
 ghost use mathlib.Core.Path.{_≡_};
 ghost use lib.ListN.{length};
 ghost use Rattle.answers.specs.Answers.{memory, answerOf};
@@ -18,11 +18,11 @@ pub fn import(words: &[u8], primitives: &[u8], out: &mut [u8]) -> Answer
     }
     let verdict = words_import::check_import(words, primitives);
     match verdict {
-        Verdict::Accepted => {
+        Acceptance::Accepted => {
             let n = words_import::put_import(words, primitives, out);
             Answer::Reported(n)
         }
-        Verdict::Refused(refusal) => Answer::Refused(refusal),
+        Acceptance::Refused(refusal) => Answer::Refused(refusal),
     }
 }
 
@@ -33,10 +33,10 @@ pub fn export(text: &[u8], out: &mut [u8]) -> Answer
 {
     let verdict = file_entry::check(Reader::Bound, 32768, out.len(), text);
     match verdict {
-        Verdict::Accepted => {
+        Acceptance::Accepted => {
             let length = words_export::put_export(text, out);
             Answer::Reported(length)
         }
-        Verdict::Refused(refusal) => Answer::Refused(refusal),
+        Acceptance::Refused(refusal) => Answer::Refused(refusal),
     }
 }

@@ -16,14 +16,13 @@ use mir.ValLaws.{toZ-ofZ, toZ-pos}
 use borrow.Author.Tests.{le-leb, leb-true, ltb-true, le-ltb}
 use Rattle.numbers.specs.declared.Range.{Range}
 use Rattle.numbers.specs.Numbers.{numbers, within}
-use Rattle.text.specs.Text.{place, indexOf, find}
+use Rattle.text.specs.Text.{placeAmong, indexOf, find}
 use Rattle.text.specs.declared.Place.{Place}
 use Rattle.text.specs.declared.Place.the-variants.{At as at, Missing as missing}
 use Rattle.text.proofs.TextLaws.{and-left, and-right, place-below}
-use Rattle.instructions.specs.Kinds.{addresses, kindNames}
+use Rattle.instructions.specs.Kinds.{addresses, kindNames, kindAt}
 use Rattle.instructions.specs.declared.Argument.{Argument}
 use Rattle.instructions.specs.declared.Argument.the-variants.{Absent, Target, Primitive, Within}
-use Rattle.instructions.specs.HeldColumns.{kindAt}
 use Rattle.file_format.specs.Rows.{value, op, arg, argumentReaches}
 use Rattle.file_format.specs.Routine.{inside, argumentValue}
 use Rattle.file_format.proofs.RangeLaws.{inside-is}
@@ -87,9 +86,9 @@ leads-by text l e q = rw (e, q) l
 -- a place on a line of n names, or 0
 pub place-few : (w : List ℕ) (ws : List (List ℕ)) → find w ws ≤ length ws
 unfolding find
-place-few w ws = go (place w ws) refl
+place-few w ws = go (placeAmong w ws) refl
   where
-    go : (p : Place) → place w ws ≡ p → indexOf p ≤ length ws
+    go : (p : Place) → placeAmong w ws ≡ p → indexOf p ≤ length ws
     go missing e = omega arith
     go (at n) e = omega (arith, place-below 0 w ws e)
 

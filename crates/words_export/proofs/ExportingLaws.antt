@@ -13,13 +13,11 @@ use Rattle.text.specs.Text.{Line, noLine, find}
 use Rattle.text.specs.Memory.{over}
 use Rattle.text.proofs.LineLaws.{line-drop}
 use Rattle.text.proofs.MemoryLaws.{Wrote, wrote-none, wrote-more, wrote-start}
-use Rattle.instructions.specs.Kinds.{kindNames}
-use Rattle.instructions.specs.HeldColumns.{kindAt}
+use Rattle.instructions.specs.Kinds.{kindNames, kindAt}
 use Rattle.numbers.specs.Numbers.{residue}
 use Rattle.file_format.specs.Rows.{op, arg}
 use Rattle.words.specs.Words.{wordBits, bytesOf, allBytes}
-use Rattle.words.specs.Decoding.{itemOf, hasArgument}
-use Rattle.words.specs.Held.{sizeOf}
+use Rattle.words.specs.Decoding.{itemOf, hasArgument, sizeOf}
 use Rattle.words.specs.Export.{Op, opOf, positions, itemsFrom, itemWords, wordsIn, exportOps}
 use Rattle.words.proofs.WordLaws.{bytes-length}
 use Rattle.words.proofs.HeadLaws.{size-small, size-one, size-two}

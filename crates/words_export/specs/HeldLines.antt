@@ -6,9 +6,8 @@ use mathlib.Core.List.{List, map}
 use lib.IntN.{ℤ, pos, _-ℤ_}
 use lib.ListN.{length, getD, take}
 use Rattle.text.specs.Text.{Line, find}
-use Rattle.instructions.specs.Kinds.{addresses, kindNames}
+use Rattle.instructions.specs.Kinds.{addresses, kindNames, kindAt}
 use Rattle.instructions.specs.declared.Argument.{Argument}
-use Rattle.instructions.specs.HeldColumns.{kindAt}
 use Rattle.file_format.specs.Rows.{value, op, arg, argumentReaches}
 use Rattle.file_format.specs.Routine.{inside, argumentValue}
 use Rattle.words.specs.Words.{allBytes}

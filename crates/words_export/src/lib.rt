@@ -10,12 +10,11 @@ ghost use lib.IntN.{pos, natAbs, _-ℤ_};
 ghost use lib.ListN.{length, getD, take, drop};
 ghost use Rattle.text.specs.Text.{noLine, lines, find};
 ghost use Rattle.text.specs.Memory.{over};
-ghost use Rattle.instructions.specs.Kinds.{kindNames};
+ghost use Rattle.instructions.specs.Kinds.{kindNames, kindAt};
 ghost use Rattle.instructions.specs.declared.Argument.the-variants.{Target};
-ghost use Rattle.instructions.specs.HeldColumns.{kindAt};
 ghost use Rattle.file_format.specs.Layout.{list};
 ghost use Rattle.file_format.specs.Rows.{Passes, op};
-ghost use Rattle.words.specs.Held.{sizeOf};
+ghost use Rattle.words.specs.Decoding.{sizeOf};
 ghost use Rattle.words.specs.Export.{positions, exportBytes};
 ghost use Rattle.words_export.specs.HeldLines.{opsIn, linesBytes, lineAt, argumentAt, lineBytes, Indexed, Leads, CodeLeads};
 

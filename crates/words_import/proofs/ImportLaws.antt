@@ -11,9 +11,9 @@ use borrow.Author.Tests.{leb-true, ltb-true}
 use Rattle.refusals.specs.declared.Refusal.{Refusal}
 use Rattle.refusals.specs.declared.Refusal.the-variants.{Layout, BadName, BadWord}
 use Rattle.refusals.specs.Refusals.{place}
-use Rattle.refusals.specs.declared.Verdict.{Verdict}
-use Rattle.refusals.specs.declared.Verdict.the-variants.{Accepted as accepted, Refused as refused}
-use Rattle.text.specs.Text.{isEmpty, words, Line, noLine, lines, all, distinct}
+use Rattle.refusals.specs.declared.Acceptance.{Acceptance}
+use Rattle.refusals.specs.declared.Acceptance.the-variants.{Accepted as accepted, Refused as refused}
+use Rattle.text.specs.Text.{isEmpty, lineWords, Line, noLine, lines, all, distinct}
 use Rattle.text.proofs.TextLaws.{and-left, and-right, all-every, every-map, every-getD}
 use Rattle.text.proofs.LineLaws.{lines-none, lines-some, lines-first}
 use Rattle.text.specs.declared.Place.{Place}
@@ -86,7 +86,7 @@ name-short (c ∷ cs) e = let h = ltb-true (length cs) 8 (and-right (isCapital c
 
 line-few : (w : List ℕ) → lineLaidOut w ≡ true → length (list w) ≤ 32
 unfolding lineLaidOut namesLaidOut
-line-few w e = leb-true _ _ (and-right (all (λ x. not (isEmpty x)) (words w)) (leb (length (list w)) 32) e)
+line-few w e = leb-true _ _ (and-right (all (λ x. not (isEmpty x)) (lineWords w)) (leb (length (list w)) 32) e)
 
 names-short : (ws : List (List ℕ)) → wellNamed primitives ws ≡ true → ShortNames ws
 unfolding wellNamed
@@ -122,7 +122,7 @@ module _ (bs line : List ℕ) where
   unfolding importVerdict both
   import-next e = ap (λ v. both v (faultVerdict (codeFault (length (primitivesOf line)) (wordsOf bs)))) e
 
-  both-pass : (v w : Verdict) → both v w ≡ accepted → (v ≡ accepted) × (w ≡ accepted)
+  both-pass : (v w : Acceptance) → both v w ≡ accepted → (v ≡ accepted) × (w ≡ accepted)
   unfolding both
   both-pass accepted w e = (refl, e)
   both-pass (refused r) w e = not-accepted r e
@@ -178,7 +178,7 @@ module _ (bs line : List ℕ) where
   unfolding importVerdict primitivesVerdict both faultVerdict place
   import-place r = go (oneLine (lines line)) (codeFault (length (primitivesOf line)) (wordsOf bs)) refl refl
     where
-      go : (v : Verdict) (p : Place) → oneLine (lines line) ≡ v → codeFault (length (primitivesOf line)) (wordsOf bs) ≡ p → both v (faultVerdict p) ≡ refused r → place r ≤ 2048
+      go : (v : Acceptance) (p : Place) → oneLine (lines line) ≡ v → codeFault (length (primitivesOf line)) (wordsOf bs) ≡ p → both v (faultVerdict p) ≡ refused r → place r ≤ 2048
       go (refused x) p q h e = omega (arith, line-place (lines line) r (q ∙ e))
       go accepted missing q h e = not-accepted r (sym e)
       go accepted (at i) q h e = let f : BadWord i ≡ r = cc in rw (← f) (code-fault-near (length (primitivesOf line)) (wordsOf bs) i h)

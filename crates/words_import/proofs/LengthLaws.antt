@@ -18,13 +18,12 @@ use Rattle.text.specs.declared.Place.the-variants.{At as at, Missing as missing
 use Rattle.text.proofs.DecimalLaws.{decimal-length}
 use Rattle.instructions.specs.declared.Argument.{Argument}
 use Rattle.instructions.specs.declared.Argument.the-variants.{Absent, Target, Primitive, Within}
-use Rattle.instructions.specs.Kinds.{kinds}
-use Rattle.instructions.specs.HeldColumns.{kindAt}
+use Rattle.instructions.specs.Kinds.{kinds, kindAt}
 use Rattle.instructions.specs.Opcodes.{placeFrom}
 use Rattle.instructions.proofs.ColumnLaws.{column-at}
 use Rattle.instructions.proofs.OpcodeLaws.{place-found}
 use Rattle.words.specs.Words.{Word}
-use Rattle.words.specs.Decoding.{Item, Entry, item, unreadable, decoded, items, faultFrom, landing, numberAt}
+use Rattle.words.specs.Decoding.{Item, Decoded, item, unreadable, decoded, items, faultFrom, landing, numberAt}
 use Rattle.words.specs.Lines.{argumentText, lineText, linesFrom, codeText}
 use Rattle.words.specs.Held.{Readable}
 use Rattle.words.proofs.FaultLaws.{sound-item}
@@ -64,7 +63,7 @@ module _ (ps : List (List ℕ)) (s : ShortNames ps) (xs : List Item) (m : Addres
       omega (arith, parts-length (decimal n) (kindAt (x .kind) .name) (argumentText ps xs x (kindAt (x .kind) .argument)))
 
   -- those of instructions with no fault but in offsets, before which c stand
-  lines-short : (n c : ℕ) (es : List Entry) → Spaced c es → faultFrom n c es ≡ missing → length (linesFrom ps xs c (items es)) ≤ 30 * length (items es)
+  lines-short : (n c : ℕ) (es : List Decoded) → Spaced c es → faultFrom n c es ≡ missing → length (linesFrom ps xs c (items es)) ≤ 30 * length (items es)
   unfolding items linesFrom faultFrom
   lines-short n c [] none e = omega arith
   lines-short n c (unreadable i ∷ es) (unread l) e = let z : _≡_ {A = ℕ} 0 1 = cc in absurd (omega arith)

@@ -4,8 +4,8 @@ use mathlib.Core.Bool.{true, false, cond, _&&_}
 use mathlib.Core.List.{List}
 use Prim.Native.Nat.{ℕ}
 use Rattle.refusals.specs.declared.Refusal.the-variants.{Layout, BadName}
-use Rattle.refusals.specs.declared.Verdict.the-variants.{Accepted as accepted, Refused as refused}
-use Rattle.text.specs.Text.{bytes, equals, words, all, distinct}
+use Rattle.refusals.specs.declared.Acceptance.the-variants.{Accepted as accepted, Refused as refused}
+use Rattle.text.specs.Text.{bytes, equals, lineWords, all, distinct}
 use Rattle.file_format.specs.declared.Section.the-variants.{Primitives as primitives}
 use Rattle.file_format.specs.Layout.{list}
 use Rattle.file_format.specs.Rows.{namesLaidOut, wellNamed, isName}
@@ -14,15 +14,15 @@ use Rattle.file_lines.specs.HeldLines.{wordTest}
 use Rattle.words.specs.Import.{lineLaidOut, lineVerdict}
 
 module _ (text : List ℕ) where
-  pub line-spaced : all (wordTest Filled) (words text) ≡ false → lineVerdict text ≡ refused (Layout 1)
+  pub line-spaced : all (wordTest Filled) (lineWords text) ≡ false → lineVerdict text ≡ refused (Layout 1)
   unfolding wordTest lineLaidOut lineVerdict
   line-spaced e = rw e refl
 
-  pub line-many : all (wordTest Filled) (words text) ≡ true → namesLaidOut primitives text ≡ false → lineVerdict text ≡ refused (Layout 1)
+  pub line-many : all (wordTest Filled) (lineWords text) ≡ true → namesLaidOut primitives text ≡ false → lineVerdict text ≡ refused (Layout 1)
   unfolding wordTest lineLaidOut lineVerdict
   line-many e f = rw (e, f) refl
 
-  module _ (e : all (wordTest Filled) (words text) ≡ true) (f : namesLaidOut primitives text ≡ true) where
+  module _ (e : all (wordTest Filled) (lineWords text) ≡ true) (f : namesLaidOut primitives text ≡ true) where
     laid-out : lineVerdict text ≡ cond (wellNamed primitives (list text)) accepted (refused (BadName 1))
     unfolding wordTest lineLaidOut lineVerdict
     laid-out = rw (e, f) refl
@@ -32,21 +32,21 @@ module _ (text : List ℕ) where
     line-none g = laid-out ∙ rw g refl
 
     module _ (g : equals text (bytes "-") ≡ false) where
-      listed-words : wellNamed primitives (list text) ≡ (all isName (words text) && distinct (words text))
+      listed-words : wellNamed primitives (list text) ≡ (all isName (lineWords text) && distinct (lineWords text))
       unfolding list wellNamed
       listed-words = rw g refl
 
-      named : lineVerdict text ≡ cond (all isName (words text) && distinct (words text)) accepted (refused (BadName 1))
+      named : lineVerdict text ≡ cond (all isName (lineWords text) && distinct (lineWords text)) accepted (refused (BadName 1))
       named = laid-out ∙ ap (λ b. cond b accepted (refused (BadName 1))) listed-words
 
-      pub line-misspelt : all (wordTest Primitive) (words text) ≡ false → lineVerdict text ≡ refused (BadName 1)
+      pub line-misspelt : all (wordTest Primitive) (lineWords text) ≡ false → lineVerdict text ≡ refused (BadName 1)
       unfolding wordTest
       line-misspelt h = named ∙ rw h refl
 
-      pub line-repeated : all (wordTest Primitive) (words text) ≡ true → distinct (words text) ≡ false → lineVerdict text ≡ refused (BadName 1)
+      pub line-repeated : all (wordTest Primitive) (lineWords text) ≡ true → distinct (lineWords text) ≡ false → lineVerdict text ≡ refused (BadName 1)
       unfolding wordTest
       line-repeated h k = named ∙ rw (h, k) refl
 
-      pub line-fine : all (wordTest Primitive) (words text) ≡ true → distinct (words text) ≡ true → lineVerdict text ≡ accepted
+      pub line-fine : all (wordTest Primitive) (lineWords text) ≡ true → distinct (lineWords text) ≡ true → lineVerdict text ≡ accepted
       unfolding wordTest
       line-fine h k = named ∙ rw (h, k) refl

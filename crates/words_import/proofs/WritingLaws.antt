@@ -19,12 +19,12 @@ use Rattle.text.proofs.MemoryLaws.{Wrote, wrote-none, wrote-more}
 use Rattle.instructions.specs.declared.Argument.{Argument}
 use Rattle.instructions.specs.declared.Argument.the-variants.{Absent, Target, Primitive, Within}
 use Rattle.text.specs.declared.Place.the-variants.{At as at, Missing as missing}
-use Rattle.instructions.specs.HeldColumns.{kindAt}
+use Rattle.instructions.specs.Kinds.{kindAt}
 use Rattle.words.specs.declared.Head.the-variants as heads
 use Rattle.words.specs.Words.{Word}
-use Rattle.words.specs.Decoding.{Item, itemOf, opcode, entries, decoded, items, faultFrom}
+use Rattle.words.specs.Decoding.{Item, itemOf, opcode, decodedWords, decoded, items, faultFrom, sizeOf}
 use Rattle.words.specs.Lines.{argumentText, lineText, linesFrom}
-use Rattle.words.specs.Held.{sizeOf, headOf, Readable, numberIn, numberHeld, Numbered}
+use Rattle.words.specs.Held.{headOf, Readable, numberIn, numberHeld, Numbered}
 use Rattle.words.proofs.HeadLaws.{Read, size-small}
 use Rattle.words.proofs.FaultLaws.{fault-unread}
 use Rattle.words.proofs.NumberingLaws.{sound-read}
@@ -71,14 +71,14 @@ written-short ps s {xs} {t} d n i k z h g l =
 -- out holds the lines of the instructions before index i, c of them, over `former` from `start` on, up to e; those of the words ws are left
 pub record Writing (ps : List (List ℕ)) (former : List ℕ) (start : ℕ) (all : List Word) (out : List ℕ) (e i c : ℕ) (ws : List Word) : Type 0 where
   pub listed : ℕ
-  pub sound : faultFrom listed c (entries opcode i ws) ≡ missing
+  pub sound : faultFrom listed c (decodedWords opcode i ws) ≡ missing
   pub near : i ≤ 2 * c
   pub few : c ≤ 1024
   pub made : List ℕ
   pub wrote : Wrote former start made e out
   pub short : e ≤ start + 30 * c
   pub long : length out ≡ length former
-  pub whole : made ++ linesFrom ps (items (decoded all)) c (items (entries opcode i ws)) ≡ linesFrom ps (items (decoded all)) 0 (items (decoded all))
+  pub whole : made ++ linesFrom ps (items (decoded all)) c (items (decodedWords opcode i ws)) ≡ linesFrom ps (items (decoded all)) 0 (items (decoded all))
 
 pub writing-starts : (ps : List (List ℕ)) (former : List ℕ) (start : ℕ) (ws : List Word) → Readable ws → start ≤ length former → Writing ps former start ws former start 0 0 ws
 unfolding decoded
@@ -103,7 +103,7 @@ module _ {ps : List (List ℕ)} {former : List ℕ} {start : ℕ} {all : List Wo
       absurd (omega arith)
 
   -- at the end
-  pub writing-ends : entries opcode i ws ≡ [] → (e ≡ start + length (linesFrom ps (items (decoded all)) 0 (items (decoded all)))) × (out ≡ over former start (linesFrom ps (items (decoded all)) 0 (items (decoded all))))
+  pub writing-ends : decodedWords opcode i ws ≡ [] → (e ≡ start + length (linesFrom ps (items (decoded all)) 0 (items (decoded all)))) × (out ≡ over former start (linesFrom ps (items (decoded all)) 0 (items (decoded all))))
   unfolding items linesFrom
   writing-ends q =
       let m : w .made ≡ linesFrom ps (items (decoded all)) 0 (items (decoded all)) = sym (append-nil (w .made)) ∙ sym (ap (λ es. w .made ++ linesFrom ps (items (decoded all)) c (items es)) q) ∙ w .whole in
@@ -127,7 +127,7 @@ module _ {ps : List (List ℕ)} {former : List ℕ} {start : ℕ} {all : List Wo
         let b = size-small k in
         let y = written-short ps s d c i k z f (o .0) (r .known) in
         let v = w .short in
-        let later = linesFrom ps (items (decoded all)) (suc c) (items (entries opcode (i + sizeOf k) (drop (sizeOf k) ws))) in
+        let later = linesFrom ps (items (decoded all)) (suc c) (items (decodedWords opcode (i + sizeOf k) (drop (sizeOf k) ws))) in
         rw (g, h, add-one c)
         (record {
           listed = w .listed;

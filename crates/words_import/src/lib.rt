@@ -3,8 +3,8 @@ use file_format::Section;
 use file_format::layout;
 use file_lines::WordTest;
 use instructions::Argument;
+use refusals::Acceptance;
 use refusals::Refusal;
-use refusals::Verdict;
 use text::Place;
 use words::Head;
 ghost use mathlib.Core.Path.{_≡_};
@@ -13,13 +13,13 @@ ghost use lib.IntN.{natAbs};
 ghost use mathlib.Core.List.{_++_};
 ghost use lib.ListN.{length, drop};
 ghost use Rattle.text.specs.Memory.{over};
-ghost use Rattle.instructions.specs.HeldColumns.{kindAt};
+ghost use Rattle.instructions.specs.Kinds.{kindAt};
 ghost use Rattle.file_format.specs.Layout.{list};
 ghost use Rattle.words.specs.Words.{wordsOf};
 ghost use Rattle.words.specs.Decoding.{decoded, items, codeFault};
 ghost use Rattle.words.specs.Lines.{integer, linesFrom, codeText};
 ghost use Rattle.words.specs.Import.{lineVerdict, primitivesVerdict, faultVerdict, importVerdict, importText};
-ghost use Rattle.refusals.specs.declared.Verdict.the-variants.{Accepted};
+ghost use Rattle.refusals.specs.declared.Acceptance.the-variants.{Accepted};
 ghost use Rattle.words.specs.Held.{Readable, Numbered};
 ghost use Rattle.words_import.specs.HeldLines.{argumentIn, lineIn, ShortNames};
 
@@ -133,58 +133,58 @@ fn put_code(out: &mut [u8], primitives: &[u8], numbers: &[u16], words: &[u8]) ->
 }
 
 // Whether the primitives line is laid out, and its names are in order: 2, then 4, at place 1.
-fn check_names(line: &[u8]) -> Verdict
+fn check_names(line: &[u8]) -> Acceptance
     ensures { λ r. ⌜ r ≡ lineVerdict (now (line .entry)) ⌝ }
 {
     if !file_lines::all_words(WordTest::Filled, line) {
-        return Verdict::Refused(Refusal::Layout(1));
+        return Acceptance::Refused(Refusal::Layout(1));
     }
     if !file_lines::names_laid_out(Section::Primitives, line) {
-        return Verdict::Refused(Refusal::Layout(1));
+        return Acceptance::Refused(Refusal::Layout(1));
     }
     if text::same(line, b"-") {
-        return Verdict::Accepted;
+        return Acceptance::Accepted;
     }
     if !file_lines::all_words(WordTest::Primitive, line) {
-        return Verdict::Refused(Refusal::BadName(1));
+        return Acceptance::Refused(Refusal::BadName(1));
     }
     if !file_names::distinct(line) {
-        return Verdict::Refused(Refusal::BadName(1));
+        return Acceptance::Refused(Refusal::BadName(1));
     }
-    Verdict::Accepted
+    Acceptance::Accepted
 }
 
 // The primitives line, with or without a final line feed.
-fn check_primitives(text: &[u8]) -> Verdict
+fn check_primitives(text: &[u8]) -> Acceptance
     ensures { λ r. ⌜ r ≡ primitivesVerdict (now (text .entry)) ⌝ }
 {
     if text.len() == 0 {
-        return Verdict::Refused(Refusal::Layout(1));
+        return Acceptance::Refused(Refusal::Layout(1));
     }
     let rest = text::next_lines(text);
     if 0 < rest.len() {
-        return Verdict::Refused(Refusal::Layout(1));
+        return Acceptance::Refused(Refusal::Layout(1));
     }
     check_names(text::first_line(text))
 }
 
 // "New numbers: 12"
-fn fault_verdict(place: Place) -> Verdict
+fn fault_verdict(place: Place) -> Acceptance
     ensures { λ r. ⌜ r ≡ faultVerdict place ⌝ }
 {
     match place {
-        Place::Missing => Verdict::Accepted,
-        Place::At(i) => Verdict::Refused(Refusal::BadWord(i)),
+        Place::Missing => Acceptance::Accepted,
+        Place::At(i) => Acceptance::Refused(Refusal::BadWord(i)),
     }
 }
 
 // Whether an import refuses words or their primitives line.
-pub fn check_import(words: &[u8], primitives: &[u8]) -> Verdict
+pub fn check_import(words: &[u8], primitives: &[u8]) -> Acceptance
     ensures { λ r. ⌜ r ≡ importVerdict (now (words .entry)) (now (primitives .entry)) ⌝ }
 {
     match check_primitives(primitives) {
-        Verdict::Refused(refusal) => Verdict::Refused(refusal),
-        Verdict::Accepted => {
+        Acceptance::Refused(refusal) => Acceptance::Refused(refusal),
+        Acceptance::Accepted => {
             let listed = layout::count_listed(text::first_line(primitives));
             fault_verdict(words::code_fault(listed, words))
         }

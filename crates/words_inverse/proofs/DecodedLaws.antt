@@ -12,12 +12,11 @@ use Rattle.text.specs.declared.Place.{Place}
 use Rattle.text.specs.declared.Place.the-variants.{At as at, Missing as missing}
 use Rattle.text.proofs.TextLaws.{Every, none, more}
 use Rattle.numbers.specs.Numbers.{modulus, half, residue, signed}
-use Rattle.instructions.specs.HeldColumns.{kindAt}
+use Rattle.instructions.specs.Kinds.{kindAt}
 use Rattle.instructions.specs.Opcodes.{kindCoded}
 use Rattle.instructions.proofs.OpcodeLaws.{opcode-of-kind}
 use Rattle.words.specs.Words.{wordBits, Word, whole, cut, littleEndian, wordsOf, bytesOf, allBytes}
-use Rattle.words.specs.Decoding.{Item, itemOf, hasArgument, Entry, item, unreadable, opcode, argument, coded, entries, items, callListed, faultFrom}
-use Rattle.words.specs.Held.{sizeOf}
+use Rattle.words.specs.Decoding.{Item, itemOf, hasArgument, Decoded, item, unreadable, opcode, argument, coded, decodedWords, items, callListed, faultFrom, sizeOf}
 use Rattle.words.specs.Export.{itemWords, wordsIn}
 use Rattle.numbers.proofs.ResidueLaws.{signed-fits}
 use Rattle.words.proofs.HeadLaws.{size-one, size-two}
@@ -37,7 +36,7 @@ pub faulty : {X : Type 0} (i : ℕ) → at i ≡ missing → X
 faulty i e = let z : _≡_ {A = ℕ} 0 1 = cc in absurd (omega arith)
 
 -- the fault of what follows an instruction
-fault-rest : (n c : ℕ) (x : Item) (es : List Entry) → faultFrom n c (item x ∷ es) ≡ missing → faultFrom n (suc c) es ≡ missing
+fault-rest : (n c : ℕ) (x : Item) (es : List Decoded) → faultFrom n c (item x ∷ es) ≡ missing → faultFrom n (suc c) es ≡ missing
 unfolding faultFrom
 fault-rest n c x es e = go (ltb c 1024) (callListed n (x .argument) (kindAt (x .kind) .argument)) e
   where
@@ -48,10 +47,10 @@ fault-rest n c x es e = go (ltb c 1024) (callListed n (x .argument) (kindAt (x .
 
 -- words with no fault hold instructions
 Held : ℕ → List Word → Type 0
-Held i ws = (ns : List ℕ) × (ws ≡ map whole ns) × Holds i ns (items (entries opcode i ws))
+Held i ws = (ns : List ℕ) × (ws ≡ map whole ns) × Holds i ns (items (decodedWords opcode i ws))
 
-sound-holds : (n c i : ℕ) (ws : List Word) → faultFrom n c (entries opcode i ws) ≡ missing → Held i ws
-unfolding Held entries coded items faultFrom
+sound-holds : (n c i : ℕ) (ws : List Word) → faultFrom n c (decodedWords opcode i ws) ≡ missing → Held i ws
+unfolding Held decodedWords coded items faultFrom
 sound-holds n c i [] e = ([], refl, done)
 sound-holds n c i (cut ∷ ws) e = faulty i e
 sound-holds n c i (whole w ∷ []) e = go (kindCoded w) refl e
@@ -61,35 +60,35 @@ sound-holds n c i (whole w ∷ []) e = go (kindCoded w) refl e
     plain-end k true q a f = faulty i f
     plain-end k false q a f = (w ∷ [], refl, alone q a done)
 
-    go : (p : Place) → kindCoded w ≡ p → faultFrom n c (coded i (λ d. entries d (suc i) []) p) ≡ missing
-        → (ns : List ℕ) × (whole w ∷ [] ≡ map whole ns) × Holds i ns (items (coded i (λ d. entries d (suc i) []) p))
+    go : (p : Place) → kindCoded w ≡ p → faultFrom n c (coded i (λ d. decodedWords d (suc i) []) p) ≡ missing
+        → (ns : List ℕ) × (whole w ∷ [] ≡ map whole ns) × Holds i ns (items (coded i (λ d. decodedWords d (suc i) []) p))
     go missing q f = faulty i f
     go (at k) q f = plain-end k (hasArgument (kindAt k .argument)) q refl f
 sound-holds n c i (whole w ∷ v ∷ ws) e = go (kindCoded w) refl e (sound-holds n (suc c) (suc i) (v ∷ ws)) (sound-holds n (suc c) (suc (suc i)) ws)
   where
-    after-two : (k : ℕ) (v : Word) → kindCoded w ≡ at k → hasArgument (kindAt k .argument) ≡ true → faultFrom n c (entries (argument i k) (suc i) (v ∷ ws)) ≡ missing
-        → (faultFrom n (suc c) (entries opcode (suc (suc i)) ws) ≡ missing → Held (suc (suc i)) ws)
-        → (ns : List ℕ) × (whole w ∷ v ∷ ws ≡ map whole ns) × Holds i ns (items (entries (argument i k) (suc i) (v ∷ ws)))
+    after-two : (k : ℕ) (v : Word) → kindCoded w ≡ at k → hasArgument (kindAt k .argument) ≡ true → faultFrom n c (decodedWords (argument i k) (suc i) (v ∷ ws)) ≡ missing
+        → (faultFrom n (suc c) (decodedWords opcode (suc (suc i)) ws) ≡ missing → Held (suc (suc i)) ws)
+        → (ns : List ℕ) × (whole w ∷ v ∷ ws ≡ map whole ns) × Holds i ns (items (decodedWords (argument i k) (suc i) (v ∷ ws)))
     after-two k cut q a f two = faulty i f
     after-two k (whole u) q a f two =
-        let h = two (fault-rest n c (itemOf i k (signed wordBits u)) (entries opcode (suc (suc i)) ws) f) in
+        let h = two (fault-rest n c (itemOf i k (signed wordBits u)) (decodedWords opcode (suc (suc i)) ws) f) in
         (w ∷ u ∷ h .0, ap (λ vs. whole w ∷ whole u ∷ vs) (h .1), paired q a (h .2))
 
     by-argument : (k : ℕ) (b : Bool) → kindCoded w ≡ at k → hasArgument (kindAt k .argument) ≡ b
-        → faultFrom n c (cond b (entries (argument i k) (suc i) (v ∷ ws)) (item (itemOf i k (pos 0)) ∷ entries opcode (suc i) (v ∷ ws))) ≡ missing
-        → (faultFrom n (suc c) (entries opcode (suc i) (v ∷ ws)) ≡ missing → Held (suc i) (v ∷ ws))
-        → (faultFrom n (suc c) (entries opcode (suc (suc i)) ws) ≡ missing → Held (suc (suc i)) ws)
+        → faultFrom n c (cond b (decodedWords (argument i k) (suc i) (v ∷ ws)) (item (itemOf i k (pos 0)) ∷ decodedWords opcode (suc i) (v ∷ ws))) ≡ missing
+        → (faultFrom n (suc c) (decodedWords opcode (suc i) (v ∷ ws)) ≡ missing → Held (suc i) (v ∷ ws))
+        → (faultFrom n (suc c) (decodedWords opcode (suc (suc i)) ws) ≡ missing → Held (suc (suc i)) ws)
         → (ns : List ℕ) × (whole w ∷ v ∷ ws ≡ map whole ns)
-        × Holds i ns (items (cond b (entries (argument i k) (suc i) (v ∷ ws)) (item (itemOf i k (pos 0)) ∷ entries opcode (suc i) (v ∷ ws))))
+        × Holds i ns (items (cond b (decodedWords (argument i k) (suc i) (v ∷ ws)) (item (itemOf i k (pos 0)) ∷ decodedWords opcode (suc i) (v ∷ ws))))
     by-argument k true q a f one two = after-two k v q a f two
     by-argument k false q a f one two =
-        let h = one (fault-rest n c (itemOf i k (pos 0)) (entries opcode (suc i) (v ∷ ws)) f) in
+        let h = one (fault-rest n c (itemOf i k (pos 0)) (decodedWords opcode (suc i) (v ∷ ws)) f) in
         (w ∷ h .0, ap (λ vs. whole w ∷ vs) (h .1), alone q a (h .2))
 
-    go : (p : Place) → kindCoded w ≡ p → faultFrom n c (coded i (λ d. entries d (suc i) (v ∷ ws)) p) ≡ missing
-        → (faultFrom n (suc c) (entries opcode (suc i) (v ∷ ws)) ≡ missing → Held (suc i) (v ∷ ws))
-        → (faultFrom n (suc c) (entries opcode (suc (suc i)) ws) ≡ missing → Held (suc (suc i)) ws)
-        → (ns : List ℕ) × (whole w ∷ v ∷ ws ≡ map whole ns) × Holds i ns (items (coded i (λ d. entries d (suc i) (v ∷ ws)) p))
+    go : (p : Place) → kindCoded w ≡ p → faultFrom n c (coded i (λ d. decodedWords d (suc i) (v ∷ ws)) p) ≡ missing
+        → (faultFrom n (suc c) (decodedWords opcode (suc i) (v ∷ ws)) ≡ missing → Held (suc i) (v ∷ ws))
+        → (faultFrom n (suc c) (decodedWords opcode (suc (suc i)) ws) ≡ missing → Held (suc (suc i)) ws)
+        → (ns : List ℕ) × (whole w ∷ v ∷ ws ≡ map whole ns) × Holds i ns (items (coded i (λ d. decodedWords d (suc i) (v ∷ ws)) p))
     go missing q f one two = faulty i f
     go (at k) q f one two = by-argument k (hasArgument (kindAt k .argument)) q refl f one two
 
@@ -156,14 +155,14 @@ bytes-back (a ∷ b ∷ c ∷ d ∷ bs) (n ∷ ns) (more h (more i (more j (more
 
 -- ---- all
 
-module _ (bs : List ℕ) (small : Every (λ b. b < 256) bs) (n : ℕ) (sound : faultFrom n 0 (entries opcode 0 (wordsOf bs)) ≡ missing) where
-  pub decoded-placed : Placed 0 (items (entries opcode 0 (wordsOf bs)))
+module _ (bs : List ℕ) (small : Every (λ b. b < 256) bs) (n : ℕ) (sound : faultFrom n 0 (decodedWords opcode 0 (wordsOf bs)) ≡ missing) where
+  pub decoded-placed : Placed 0 (items (decodedWords opcode 0 (wordsOf bs)))
   unfolding Held
   decoded-placed =
       let h = sound-holds n 0 0 (wordsOf bs) sound in
       holds-placed (h .2) (bytes-back bs (h .0) small (h .1) .0)
 
-  pub decoded-back : allBytes (wordsIn (items (entries opcode 0 (wordsOf bs)))) ≡ bs
+  pub decoded-back : allBytes (wordsIn (items (decodedWords opcode 0 (wordsOf bs)))) ≡ bs
   unfolding Held
   decoded-back =
       let h = sound-holds n 0 0 (wordsOf bs) sound in

@@ -9,15 +9,14 @@ use lib.Dec.{ltb}
 use lib.IntN.{pos, negsuc, natAbs, _-ℤ_}
 use lib.ListN.{length, length-map}
 use borrow.Author.Tests.{leb-true}
-use Rattle.refusals.specs.declared.Verdict.the-variants.{Accepted as accepted}
-use Rattle.text.specs.Text.{bytes, isEmpty, equals, split, words, Line, linesOf, lines, place, indexOf, find, all}
+use Rattle.refusals.specs.declared.Acceptance.the-variants.{Accepted as accepted}
+use Rattle.text.specs.Text.{bytes, isEmpty, equals, partedBy, lineWords, Line, linesOf, lines, placeAmong, indexOf, find, all}
 use Rattle.text.specs.declared.Place.{Place}
 use Rattle.text.specs.declared.Place.the-variants.{At as at, Missing as missing}
 use Rattle.text.proofs.TextLaws.{Every, none, more, place-below}
 use Rattle.text.proofs.LineLaws.{endedLine, unendedLine}
 use Rattle.numbers.specs.Numbers.{IsNumber, numbers}
-use Rattle.instructions.specs.Kinds.{addresses, kindNames}
-use Rattle.instructions.specs.HeldColumns.{kindAt}
+use Rattle.instructions.specs.Kinds.{addresses, kindNames, kindAt}
 use Rattle.instructions.specs.declared.Argument.{Argument}
 use Rattle.instructions.specs.declared.Argument.the-variants.{Absent, Target, Primitive, Within}
 use Rattle.file_format.specs.declared.Section.the-variants.{Primitives as primitives}
@@ -57,9 +56,9 @@ difference-number a (suc b) h k = go (ltb a (suc b)) refl
 
 find-small : (w : List ℕ) (ws : List (List ℕ)) → find w ws ≤ length ws
 unfolding find
-find-small w ws = go (place w ws) refl
+find-small w ws = go (placeAmong w ws) refl
   where
-    go : (p : Place) → place w ws ≡ p → indexOf p ≤ length ws
+    go : (p : Place) → placeAmong w ws ≡ p → indexOf p ≤ length ws
     go (at k) e = omega (arith, place-below 0 w ws e)
     go missing e = omega arith
 
@@ -113,8 +112,8 @@ role-every P e r (x ∷ rs) (more {x = l} {xs = ls} p ps) = go (isRole r x) (rol
     go false h = h
 
 -- a line with a word on it and no line feed is one line
-one-line : (w : List ℕ) → Free 10 w → all (λ v. not (isEmpty v)) (words w) ≡ true → lines w ≡ unendedLine w ∷ []
-unfolding lines linesOf words split all
+one-line : (w : List ℕ) → Free 10 w → all (λ v. not (isEmpty v)) (lineWords w) ≡ true → lines w ≡ unendedLine w ∷ []
+unfolding lines linesOf lineWords partedBy all
 one-line [] f e = absurd (false≢true e)
 one-line (x ∷ xs) f e = ap linesOf (split-alone 10 f)
 
@@ -130,10 +129,10 @@ module _ (text : List ℕ) (p : Passes (lines text)) where
 
   -- no primitive's name holds a line feed
   pub names-free : Every (Free 10) (listed (names primitives) ls)
-  unfolding listed list words
+  unfolding listed list lineWords
   names-free = go (equals (primitivesLine ls) (bytes "-"))
     where
-      go : (b : Bool) → Every (Free 10) (cond b [] (split 32 (primitivesLine ls)))
+      go : (b : Bool) → Every (Free 10) (cond b [] (partedBy 32 (primitivesLine ls)))
       go true = none
       go false = pieces-every 32 primitives-free
 

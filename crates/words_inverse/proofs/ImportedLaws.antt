@@ -17,11 +17,10 @@ use Rattle.text.specs.Decimal.{decimal}
 use Rattle.text.proofs.TextLaws.{Every, none, more}
 use Rattle.numbers.specs.Numbers.{IsNumber}
 use Rattle.numbers.proofs.SignedLaws.{number-fits}
-use Rattle.instructions.specs.HeldColumns.{kindAt}
+use Rattle.instructions.specs.Kinds.{kindAt}
 use Rattle.instructions.specs.declared.Argument.{Argument}
 use Rattle.instructions.specs.declared.Argument.the-variants.{Absent, Target, Primitive, Within}
-use Rattle.words.specs.Decoding.{Item, itemOf, hasArgument, item, isPlace, callListed, faultFrom, isFound, lands, offsetFault}
-use Rattle.words.specs.Held.{sizeOf}
+use Rattle.words.specs.Decoding.{Item, itemOf, hasArgument, item, isPlace, callListed, faultFrom, isFound, lands, offsetFault, sizeOf}
 use Rattle.words.specs.Lines.{argumentText, lineText, linesFrom}
 use Rattle.words.specs.Export.{Op, positions, argumentWord, itemsFrom}
 use Rattle.words.proofs.HeadLaws.{size-small}

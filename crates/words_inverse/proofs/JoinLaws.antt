@@ -9,7 +9,7 @@ use lib.Dec.{eqb}
 use lib.ListN.{length, getD, set, take, drop}
 use lib.Seq.{set-split}
 use borrow.Author.Tests.{eqb-true, eqb-false, eq-eqb, ne-eqb, not-true}
-use Rattle.text.specs.Text.{bytes, onto, split, words, Line, linesOf, lines, all}
+use Rattle.text.specs.Text.{bytes, onto, partedBy, lineWords, Line, linesOf, lines, all}
 use Rattle.text.proofs.TextLaws.{Every, none, more, every-append, every-map, all-every}
 use Rattle.text.proofs.PieceLaws.{split-some}
 use Rattle.text.proofs.LineLaws.{endedLine}
@@ -37,14 +37,14 @@ join-empty c [] h = absurd (omega arith)
 join-empty c (w ∷ ws) h = refl
 
 -- the pieces of a text make the text
-pub join-split : (c : ℕ) (s : List ℕ) → joined c (split c s) ≡ s
-unfolding split joined
+pub join-split : (c : ℕ) (s : List ℕ) → joined c (partedBy c s) ≡ s
+unfolding partedBy joined
 join-split c [] = refl
 join-split c (x ∷ xs) = go (eqb x c) refl (join-split c xs)
   where
-    go : (b : Bool) → eqb x c ≡ b → joined c (split c xs) ≡ xs → joined c (cond b ([] ∷ split c xs) (onto x (split c xs))) ≡ x ∷ xs
-    go true e ih = join-empty c (split c xs) (split-some c xs) ∙ ap (λ d. d ∷ joined c (split c xs)) (sym (eqb-true x c e)) ∙ ap (λ t. x ∷ t) ih
-    go false e ih = join-onto c x (split c xs) (split-some c xs) ∙ ap (λ t. x ∷ t) ih
+    go : (b : Bool) → eqb x c ≡ b → joined c (partedBy c xs) ≡ xs → joined c (cond b ([] ∷ partedBy c xs) (onto x (partedBy c xs))) ≡ x ∷ xs
+    go true e ih = join-empty c (partedBy c xs) (split-some c xs) ∙ ap (λ d. d ∷ joined c (partedBy c xs)) (sym (eqb-true x c e)) ∙ ap (λ t. x ∷ t) ih
+    go false e ih = join-onto c x (partedBy c xs) (split-some c xs) ∙ ap (λ t. x ∷ t) ih
 
 -- one byte more in front of the first piece
 onto-every : (P : ℕ → Type 0) (x : ℕ) (ps : List (List ℕ)) → P x → Every (Every P) ps → Every (Every P) (onto x ps)
@@ -52,37 +52,37 @@ onto-every P x [] h none = more (more h none) none
 onto-every P x (w ∷ ws) h (more p ps) = more (more h p) ps
 
 -- no piece holds the byte that parts them
-pub split-free : (c : ℕ) (s : List ℕ) → Every (Free c) (split c s)
-unfolding split
+pub split-free : (c : ℕ) (s : List ℕ) → Every (Free c) (partedBy c s)
+unfolding partedBy
 split-free c [] = more none none
 split-free c (x ∷ xs) = go (eqb x c) refl (split-free c xs)
   where
-    go : (b : Bool) → eqb x c ≡ b → Every (Free c) (split c xs) → Every (Free c) (cond b ([] ∷ split c xs) (onto x (split c xs)))
+    go : (b : Bool) → eqb x c ≡ b → Every (Free c) (partedBy c xs) → Every (Free c) (cond b ([] ∷ partedBy c xs) (onto x (partedBy c xs)))
     go true e ih = more none ih
-    go false e ih = onto-every (λ b. b ≡ c → ⊥) x (split c xs) (eqb-false x c e) ih
+    go false e ih = onto-every (λ b. b ≡ c → ⊥) x (partedBy c xs) (eqb-false x c e) ih
 
 -- what holds of each byte of a text holds of each byte of its pieces
-pub pieces-every : {P : ℕ → Type 0} (c : ℕ) {s : List ℕ} → Every P s → Every (Every P) (split c s)
-unfolding split
+pub pieces-every : {P : ℕ → Type 0} (c : ℕ) {s : List ℕ} → Every P s → Every (Every P) (partedBy c s)
+unfolding partedBy
 pieces-every c none = more none none
 pieces-every {P} c (more {x} {xs} h hs) = go (eqb x c) (pieces-every c hs)
   where
-    go : (b : Bool) → Every (Every P) (split c xs) → Every (Every P) (cond b ([] ∷ split c xs) (onto x (split c xs)))
+    go : (b : Bool) → Every (Every P) (partedBy c xs) → Every (Every P) (cond b ([] ∷ partedBy c xs) (onto x (partedBy c xs)))
     go true ih = more none ih
-    go false ih = onto-every P x (split c xs) h ih
+    go false ih = onto-every P x (partedBy c xs) h ih
 
 -- joined pieces are split into the same
-pub split-alone : (c : ℕ) {w : List ℕ} → Free c w → split c w ≡ w ∷ []
-unfolding split
+pub split-alone : (c : ℕ) {w : List ℕ} → Free c w → partedBy c w ≡ w ∷ []
+unfolding partedBy
 split-alone c none = refl
 split-alone c (more {x} {xs} h hs) = rw (ne-eqb x c h, split-alone c hs) refl
 
-pub split-first : (c : ℕ) {w : List ℕ} (t : List ℕ) → Free c w → split c (w ++ c ∷ t) ≡ w ∷ split c t
-unfolding split
+pub split-first : (c : ℕ) {w : List ℕ} (t : List ℕ) → Free c w → partedBy c (w ++ c ∷ t) ≡ w ∷ partedBy c t
+unfolding partedBy
 split-first c t none = rw (eq-eqb c c refl) refl
 split-first c t (more {x} {xs} h hs) = rw (ne-eqb x c h, split-first c t hs) refl
 
-pub split-joined : (c : ℕ) {ps : List (List ℕ)} → 0 < length ps → Every (Free c) ps → split c (joined c ps) ≡ ps
+pub split-joined : (c : ℕ) {ps : List (List ℕ)} → 0 < length ps → Every (Free c) ps → partedBy c (joined c ps) ≡ ps
 unfolding joined
 split-joined c h none = absurd (omega arith)
 split-joined c h (more f none) = split-alone c f
@@ -122,7 +122,7 @@ pieces-text (p ∷ q ∷ ps) h (more k e) = append-assoc p (10 ∷ []) (linesTex
 
 pub text-of-lines : (text : List ℕ) → Every (λ l. l .ended ≡ true) (lines text) → linesText (lines text) ≡ text
 unfolding lines
-text-of-lines text e = pieces-text (split 10 text) (split-some 10 text) e ∙ join-split 10 text
+text-of-lines text e = pieces-text (partedBy 10 text) (split-some 10 text) e ∙ join-split 10 text
 
 -- no line holds a line feed
 pieces-free : (ps : List (List ℕ)) → Every (Free 10) ps → Every (λ l. Free 10 (l .text)) (linesOf ps)
@@ -134,7 +134,7 @@ pieces-free (p ∷ q ∷ ps) (more k ks) = more k (pieces-free (q ∷ ps) ks)
 
 pub lines-free : (text : List ℕ) → Every (λ l. Free 10 (l .text)) (lines text)
 unfolding lines
-lines-free text = pieces-free (split 10 text) (split-free 10 text)
+lines-free text = pieces-free (partedBy 10 text) (split-free 10 text)
 
 -- the lines of a text that is made of lines
 more-lines : (p : List ℕ) (ps : List (List ℕ)) → 0 < length ps → linesOf (p ∷ ps) ≡ endedLine p ∷ linesOf ps
@@ -143,12 +143,12 @@ more-lines p [] h = absurd (omega arith)
 more-lines p (q ∷ ps) h = refl
 
 pub lines-of-text : {ls : List Line} → Every (λ l. Free 10 (l .text)) ls → lines (linesText ls) ≡ map (λ l. endedLine (l .text)) ls
-unfolding lines linesText linesOf split
+unfolding lines linesText linesOf partedBy
 lines-of-text none = refl
 lines-of-text (more {x = l} {xs = ls} h hs) =
-    ap (λ t. linesOf (split 10 t)) (append-assoc (l .text) (10 ∷ []) (linesText ls))
+    ap (λ t. linesOf (partedBy 10 t)) (append-assoc (l .text) (10 ∷ []) (linesText ls))
     ∙ ap linesOf (split-first 10 (linesText ls) h)
-    ∙ more-lines (l .text) (split 10 (linesText ls)) (split-some 10 (linesText ls))
+    ∙ more-lines (l .text) (partedBy 10 (linesText ls)) (split-some 10 (linesText ls))
     ∙ ap (λ ms. endedLine (l .text) ∷ ms) (lines-of-text hs)
 
 -- lines that are ended, by their texts
@@ -168,9 +168,9 @@ text-set ls new k h = ap linesText (set-split ls k (endedLine new) h) ∙ lines-
 -- ---- words
 
 -- a text of three words
-pub words-three : (text : List ℕ) → length (words text) ≡ 3 → text ≡ getD (words text) 0 [] ++ bytes " " ++ getD (words text) 1 [] ++ bytes " " ++ getD (words text) 2 []
-unfolding words joined
-words-three text h = sym (join-split 32 text) ∙ go (split 32 text) h
+pub words-three : (text : List ℕ) → length (lineWords text) ≡ 3 → text ≡ getD (lineWords text) 0 [] ++ bytes " " ++ getD (lineWords text) 1 [] ++ bytes " " ++ getD (lineWords text) 2 []
+unfolding lineWords joined
+words-three text h = sym (join-split 32 text) ∙ go (partedBy 32 text) h
   where
     go : (ws : List (List ℕ)) → length ws ≡ 3 → joined 32 ws ≡ getD ws 0 [] ++ bytes " " ++ getD ws 1 [] ++ bytes " " ++ getD ws 2 []
     go [] e = absurd (omega arith)
@@ -182,6 +182,6 @@ words-three text h = sym (join-split 32 text) ∙ go (split 32 text) h
 -- what stands before the first c, and what stands after it
 pub cut-same : (c : ℕ) {w v : List ℕ} (t u : List ℕ) → Free c w → Free c v → w ++ c ∷ t ≡ v ++ c ∷ u → (w ≡ v) × (t ≡ u)
 cut-same c {w} {v} t u f g e =
-    let q : w ∷ split c t ≡ v ∷ split c u = sym (split-first c t f) ∙ ap (split c) e ∙ split-first c u g in
-    let s : split c t ≡ split c u = cc in
+    let q : w ∷ partedBy c t ≡ v ∷ partedBy c u = sym (split-first c t f) ∙ ap (partedBy c) e ∙ split-first c u g in
+    let s : partedBy c t ≡ partedBy c u = cc in
     ((cc), sym (join-split c t) ∙ ap (joined c) s ∙ join-split c u)

@@ -10,7 +10,7 @@ use lib.IntN.{ℤ, pos, negsuc, _+ℤ_, _-ℤ_}
 use lib.Signed.{mag, leZ, ltZ}
 use lib.ListN.{length, getD, length-append}
 use borrow.Author.Tests.{eqb-true, leb-true, le-leb, ltb-true}
-use Rattle.text.specs.Text.{bytes, equals, Line, place, indexOf, find, among, all, distinct}
+use Rattle.text.specs.Text.{bytes, equals, Line, placeAmong, indexOf, find, among, all, distinct}
 use Rattle.text.specs.declared.Place.the-variants.{At}
 use Rattle.text.specs.declared.Numeral.{Numeral}
 use Rattle.text.specs.declared.Numeral.the-variants.{Misspelt as misspelt, Number as number}
@@ -19,8 +19,7 @@ use Rattle.text.proofs.TextLaws.{Every, none, more, every-map, every-getD, all-
 use Rattle.text.proofs.DecimalLaws.{decimal-digits, decimal-read}
 use Rattle.numbers.specs.declared.Range.{Range}
 use Rattle.numbers.specs.Numbers.{bits, half, IsNumber, within, numbers, same}
-use Rattle.instructions.specs.Kinds.{Kind, addresses, kinds, kindNames}
-use Rattle.instructions.specs.HeldColumns.{kindAt}
+use Rattle.instructions.specs.Kinds.{Kind, addresses, kinds, kindNames, kindAt}
 use Rattle.instructions.specs.declared.Argument.{Argument}
 use Rattle.instructions.specs.declared.Argument.the-variants.{Absent, Target, Primitive, Within}
 use Rattle.file_format.specs.declared.Section.the-variants.{Primitives as primitives}
@@ -129,7 +128,7 @@ module _ (ps : List (List ℕ)) (n : ℕ) (w : List ℕ) where
       rw (inside-is numbers (value w) (number-within (value w) (argument-number s (value w) b r))) (subst (λ v. Argued ps n (Within s) v (value w)) (sym e) within-range)
 
 -- the place of a kind's name, as an index
-kind-place : (w : List ℕ) → among w kindNames ≡ true → place w kindNames ≡ At (find w kindNames)
+kind-place : (w : List ℕ) → among w kindNames ≡ true → placeAmong w kindNames ≡ At (find w kindNames)
 unfolding find
 kind-place w e = let (k, q) = kind-there w e in q ∙ ap (λ p. At (indexOf p)) (sym q)
 
@@ -215,7 +214,7 @@ pub record LowerLine (ps : List (List ℕ)) (n k first : ℕ) (text : List ℕ) 
   pub name : kindAt (opOf ps first text .kind) .name ≡ op text
   pub back : kindAt (opOf ps first text .kind) .argument ≡ Target → (u : ℕ) × (opOf ps first text .value ≡ pos u) × (argumentValue ps (arg text) Target ≡ pos (u + first))
   pub few : k < 1024
-  pub placed : place (op text) kindNames ≡ At (opOf ps first text .kind)
+  pub placed : placeAmong (op text) kindNames ≡ At (opOf ps first text .kind)
   pub lowers : LowerWord first (kindAt (opOf ps first text .kind) .argument) (arg text) (says .word)
   pub short : length line ≤ length text
 

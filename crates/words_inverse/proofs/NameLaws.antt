@@ -9,12 +9,11 @@ use native.Mathlib.Nat.{le-of-suc-le-suc}
 use lib.Dec.{ltb}
 use lib.ListN.{length, getD}
 use borrow.Author.Tests.{eq-eqb, not-true, ltb-true}
-use Rattle.text.specs.Text.{equals, placeFrom, place, indexOf, find, among, all, distinct}
+use Rattle.text.specs.Text.{equals, placeFrom, placeAmong, indexOf, find, among, all, distinct}
 use Rattle.text.specs.declared.Place.{Place}
 use Rattle.text.specs.declared.Place.the-variants.{At, Missing}
 use Rattle.text.proofs.TextLaws.{every-map, every-getD, all-every, and-left, and-right, equals-path, isFound, among-place, place-below}
-use Rattle.instructions.specs.Kinds.{Kind, kinds, kindNames}
-use Rattle.instructions.specs.HeldColumns.{kindAt}
+use Rattle.instructions.specs.Kinds.{Kind, kinds, kindNames, kindAt}
 use Rattle.instructions.proofs.ColumnLaws.{column-at}
 use Rattle.words_inverse.proofs.JoinLaws.{Free}
 
@@ -41,9 +40,9 @@ place-word k w (x ∷ xs) {n} e = go (equals w x) refl e (place-word (suc k) w x
 -- it stands at its place
 pub found-there : (w : List ℕ) (ws : List (List ℕ)) → among w ws ≡ true → (find w ws < length ws) × (getD ws (find w ws) [] ≡ w)
 unfolding find
-found-there w ws e = go (place w ws) refl (sym (among-place 0 w ws) ∙ e)
+found-there w ws e = go (placeAmong w ws) refl (sym (among-place 0 w ws) ∙ e)
   where
-    go : (p : Place) → place w ws ≡ p → isFound p ≡ true → (indexOf p < length ws) × (getD ws (indexOf p) [] ≡ w)
+    go : (p : Place) → placeAmong w ws ≡ p → isFound p ≡ true → (indexOf p < length ws) × (getD ws (indexOf p) [] ≡ w)
     go (At k) q f = let h = place-below 0 w ws q in (omega arith, place-word 0 w ws q .1 k (omega arith))
     go Missing q f = absurd (false≢true f)
 

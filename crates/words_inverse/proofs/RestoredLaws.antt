@@ -8,14 +8,14 @@ use native.Mathlib.Omega.{arith}
 use lib.Dec.{ltb}
 use lib.IntN.{pos}
 use lib.ListN.{length, getD, take, drop, length-map}
-use Rattle.refusals.specs.declared.Verdict.the-variants.{Accepted as accepted}
-use Rattle.text.specs.Text.{bytes, split, words, Line, noLine, lines, all, distinct}
+use Rattle.refusals.specs.declared.Acceptance.the-variants.{Accepted as accepted}
+use Rattle.text.specs.Text.{bytes, partedBy, lineWords, Line, noLine, lines, all, distinct}
 use Rattle.text.specs.declared.Place.the-variants.{At as at, Missing as missing}
 use Rattle.text.specs.Decimal.{numeral, decimal}
 use Rattle.text.proofs.TextLaws.{Every, none, more, and-right}
 use Rattle.text.proofs.LineLaws.{endedLine}
 use Rattle.text.proofs.DecimalLaws.{decimal-read}
-use Rattle.instructions.specs.HeldColumns.{kindAt}
+use Rattle.instructions.specs.Kinds.{kindAt}
 use Rattle.file_format.specs.declared.Section.the-variants.{Primitives as primitives}
 use Rattle.file_format.specs.declared.Role.the-variants.{Names as names}
 use Rattle.file_format.specs.Layout.{body, codeLines, listed}
@@ -24,7 +24,7 @@ use Rattle.file_format.proofs.RowLaws.{passes-named}
 use Rattle.file_format.proofs.AnswerLaws.{first-code}
 use Rattle.file_format.proofs.PassingLaws.{code-some}
 use Rattle.words.specs.Words.{Word, wordsOf, allBytes}
-use Rattle.words.specs.Decoding.{Item, Entry, item, unreadable, decoded, items, callListed, faultFrom, wordFault, lands, offsetFault}
+use Rattle.words.specs.Decoding.{Item, Decoded, item, unreadable, decoded, items, callListed, faultFrom, wordFault, lands, offsetFault}
 use Rattle.words.specs.Lines.{codeText}
 use Rattle.words.specs.Import.{primitivesOf, importVerdict, importText}
 use Rattle.words.specs.Export.{Op, positions, itemsFrom, wordsIn, exportOps, exportBytes}
@@ -48,7 +48,7 @@ unfolding wordFault
 sound-of n [] e = faulty 0 e
 sound-of n (w ∷ ws) e = e
 
-calls-listed : (n c : ℕ) (es : List Entry) → faultFrom n c es ≡ missing → Every (λ x. callListed n (x .argument) (kindAt (x .kind) .argument) ≡ true) (items es)
+calls-listed : (n c : ℕ) (es : List Decoded) → faultFrom n c es ≡ missing → Every (λ x. callListed n (x .argument) (kindAt (x .kind) .argument) ≡ true) (items es)
 unfolding items faultFrom
 calls-listed n c [] e = none
 calls-listed n c (unreadable i ∷ es) e = faulty i e
@@ -101,12 +101,12 @@ said-length (next s ss) = ap suc (said-length ss)
 
 -- its first line is line 0
 pub first-said : {ps : List (List ℕ)} {n : ℕ} {ls : List Line} {os : List Op} → Said ps n 0 ls os → 1 ≤ length ls → firstAt ls ≡ pos 0
-unfolding firstAt words value valueOf
+unfolding firstAt lineWords value valueOf
 first-said end h = absurd (omega arith)
 first-said (next {o} s ss) h =
     let rest = kindAt (o .kind) .name ++ 32 ∷ s .word in
     let e : decimal 0 ++ bytes " " ++ kindAt (o .kind) .name ++ bytes " " ++ s .word ≡ decimal 0 ++ 32 ∷ rest = simp append-assoc in
-    ap (λ t. valueOf (numeral (getD (split 32 t) 0 []))) (s .line ∙ e)
+    ap (λ t. valueOf (numeral (getD (partedBy 32 t) 0 []))) (s .line ∙ e)
     ∙ ap (λ ws. valueOf (numeral (getD ws 0 []))) (split-first 32 rest (decimal-free 32 (omega arith) 0))
     ∙ ap valueOf (decimal-read 0)
 

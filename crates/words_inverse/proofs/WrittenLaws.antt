@@ -13,7 +13,7 @@ use Rattle.text.specs.declared.Place.the-variants.{At as at, Missing as missing
 use Rattle.text.specs.Decimal.{decimal}
 use Rattle.text.proofs.TextLaws.{Every, none, more, every-append}
 use Rattle.text.proofs.LineLaws.{endedLine}
-use Rattle.instructions.specs.HeldColumns.{kindAt}
+use Rattle.instructions.specs.Kinds.{kindAt}
 use Rattle.instructions.specs.declared.Argument.{Argument}
 use Rattle.instructions.specs.declared.Argument.the-variants.{Absent, Target, Primitive, Within}
 use Rattle.instructions.proofs.OpcodeLaws.{place-found}

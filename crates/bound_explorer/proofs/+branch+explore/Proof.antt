@@ -43,8 +43,8 @@ use mir.Val.{SFits}
 use mir.ValLaws.{toZ-ofZ}
 use borrow.Author.Needs.{needs}
 use Rattle.refusals.specs.declared.Refusal.{Refusal}
-use Rattle.refusals.specs.declared.Verdict.{Verdict}
-use Rattle.refusals.specs.declared.Verdict.the-variants.{Accepted, Refused}
+use Rattle.refusals.specs.declared.Acceptance.{Acceptance}
+use Rattle.refusals.specs.declared.Acceptance.the-variants.{Accepted, Refused}
 use Rattle.cells.specs.Try.{done}
 use Rattle.cells.specs.declared.Cell.{Cell}
 use Rattle.cells.specs.Cells.{unknown, range}
@@ -161,7 +161,7 @@ abbrev forked : {t : ℕ} → Forked t → State
 forked s = withStack (s .args .registers) (s .args .stack)
 
 -- an answer is not both
-clash : (v : Verdict) (x : Refusal) → v ≡ Accepted → v ≡ Refused x → ⊥
+clash : (v : Acceptance) (x : Refusal) → v ≡ Accepted → v ≡ Refused x → ⊥
 clash v x e f = let g : Accepted ≡ Refused x = sym e ∙ f in let z : _≡_ {A = ℕ} 0 1 = cc in omega arith
 
 branch-fitting : (t : ℕ) (s : Forked t) → SFits w32 (s .args .line .operand)

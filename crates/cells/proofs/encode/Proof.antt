@@ -9,17 +9,18 @@ use Rattle.numbers.proofs.SignedLaws.{read}
 use Rattle.cells.specs.declared.Cell.{Cell}
 use Rattle.cells.specs.declared.Value.the-variants.{Range, Handle}
 use Rattle.cells.specs.Cells.{results}
-use Rattle.cells.specs.HeldCodes.{cellOf, confineValue, confine}
+use Rattle.cells.specs.HeldCodes.{decodedCell}
+use Rattle.cells.specs.Confined.{confineValue, confine}
 use Rattle.cells.proofs.ComputeLaws.{encoded-handle}
 use borrow.Author.Needs.{needs}
 use Rattle.cells.proofs.encode.Statement.{statement}
 use Rattle.cells.proofs.encode.Tie as tie
 
-of-range : (c : Cell) (l : ℤ) (m x : ℕ) → SFits w32 l → c .value ≡ Range l m → cellOf x ≡ results (read w32 l) m → cellOf x ≡ confine c
+of-range : (c : Cell) (l : ℤ) (m x : ℕ) → SFits w32 l → c .value ≡ Range l m → decodedCell x ≡ results (read w32 l) m → decodedCell x ≡ confine c
 unfolding confine confineValue
 of-range c l m x f p e = e ∙ ap (λ (z : ℤ). results z m) (toZ-ofZ w32 l f) ∙ ap confineValue (sym p)
 
-of-handle : (c : Cell) (k : ℕ) → k < 256 → c .value ≡ Handle k → cellOf (549755813888 + k) ≡ confine c
+of-handle : (c : Cell) (k : ℕ) → k < 256 → c .value ≡ Handle k → decodedCell (549755813888 + k) ≡ confine c
 unfolding confine confineValue
 of-handle c k h p = encoded-handle k h ∙ ap confineValue (sym p)
 

@@ -16,7 +16,7 @@ use Rattle.cells.specs.declared.Unary.{Unary}
 use Rattle.cells.specs.declared.Value.the-variants.{Range}
 use Rattle.cells.specs.Try.{done}
 use Rattle.cells.specs.HeldSmall.{Small}
-use Rattle.cells.specs.Cells.{range, number, calculate₁, results, least₁, range₁, map₁, operate₁}
+use Rattle.cells.specs.Cells.{range, exactly, calculate₁, results, least₁, range₁, map₁, operate₁}
 use Rattle.cells.proofs.AnswerLaws.{entered, operated₁}
 use Rattle.cells.proofs.ComputeLaws.{least-near, near-64, near-small}
 use Rattle.cells.proofs.operate1.Statement.{statement}
@@ -30,7 +30,7 @@ module _ (u : Unary) (i : ℤ) (a : Cell) (l : ℤ) (m : ℕ) (f : SFits w32 i) 
       operated₁ u i a held
       (ap done
       (entered (calculate₁ u i l) p (read-both (calculate₁ u) w32 i l f g)
-      ∙ ap (λ (t : Bool). cond t (number (calculate₁ u i l)) (results (least₁ u i l m) m)) (sym (eq-eqb m 0 e))))
+      ∙ ap (λ (t : Bool). cond t (exactly (calculate₁ u i l)) (results (least₁ u i l m) m)) (sym (eq-eqb m 0 e))))
 
   module _ (few : m < 2 ^ 32) {r : ℤ} (least : r ≡ least₁ u (read w32 i) (read w32 l) m) where
     told : read w64 r ≡ least₁ u i l m
@@ -43,7 +43,7 @@ module _ (u : Unary) (i : ℤ) (a : Cell) (l : ℤ) (m : ℕ) (f : SFits w32 i) 
     unfolding map₁ range₁
     wide held n p =
         operated₁ u i a held
-        (ap done (p ∙ ap (λ (z : ℤ). results z m) told ∙ ap (λ (t : Bool). cond t (number (calculate₁ u i l)) (results (least₁ u i l m) m)) (sym (ne-eqb m 0 n))))
+        (ap done (p ∙ ap (λ (z : ℤ). results z m) told ∙ ap (λ (t : Bool). cond t (exactly (calculate₁ u i l)) (results (least₁ u i l m) m)) (sym (ne-eqb m 0 n))))
 
 results-requires : tie.Need-results-requires
 results-requires c κs =

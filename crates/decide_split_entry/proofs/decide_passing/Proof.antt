@@ -1,7 +1,7 @@
 -- `decide_split_entry::decide_passing` meets its contract. Assumes nothing.
 use mathlib.Core.Path.{_≡_, sym, ap, _∙_}
 use lib.ListN.{length}
-use Rattle.refusals.specs.declared.Verdict.the-variants.{Accepted}
+use Rattle.refusals.specs.declared.Acceptance.the-variants.{Accepted}
 use Rattle.text.specs.Text.{lines}
 use Rattle.file_format.specs.Routine.{routineOf}
 use Rattle.answers.specs.Answers.{memory, answerOf}

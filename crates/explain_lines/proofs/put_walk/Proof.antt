@@ -11,7 +11,7 @@ use Rattle.machine_state.specs.HeldProgram.{firstOf, linesIn, programOf, sizesO
 use Rattle.machine_state.specs.HeldState.{whole}
 use Rattle.report.specs.HeldPath.{decode}
 use Rattle.explain_walk.specs.Walk.{follow}
-use Rattle.explain_lines.specs.Listing.{entries, codeText, listing}
+use Rattle.explain_lines.specs.Listing.{shownLines, codeText, listing}
 use Rattle.explain_lines.specs.Held.{Stands}
 use Rattle.explain_lines.proofs.LineLaws.{line-there}
 use Rattle.explain_lines.proofs.CursorLaws.{stands-first}
@@ -22,7 +22,7 @@ use Rattle.explain_lines.proofs.put_walk.Tie as tie
 abbrev Inv-loop : tie.InvT-loop
 Inv-loop out₀ at body code path e₀ state₀ blocks₀ rest₀ spent₀ sum₀ first left₀ cursor₀ out e state blocks rest spent sum left cursor =
     Writing (programOf code) (sizesOf code) (lines body) (firstOf code) out₀ at
-    (listing (lines body) (firstOf code) (entries (follow (step (programOf code) unknown) (linesIn code) (decode path) (whole (sizesOf code) blocks₀ state₀))))
+    (listing (lines body) (firstOf code) (shownLines (follow (step (programOf code) unknown) (linesIn code) (decode path) (whole (sizesOf code) blocks₀ state₀))))
     out e state blocks rest spent sum left
     × Stands body cursor
 
@@ -42,7 +42,7 @@ walked c = c .before .before .before .before .before .before .before
 loop-holds : tie.Need-loop-holds Inv-loop μ-loop
 loop-holds c =
     let s = c .before .before .before .before in
-    (writing-starts _ _ _ _ _ (s .args .at) (s .args .start) (s .args .fields) (s .args .path) _ (omega (arith, s .pre .1)) (s .pre .0 .1) (s .pre .0 .0 .lines), stands-first (s .args .body .now))
+    (writing-starts _ _ _ _ _ (s .args .at) (s .args .start) (s .args .initial) (s .args .path) _ (omega (arith, s .pre .1)) (s .pre .0 .1) (s .pre .0 .0 .lines), stands-first (s .args .body .now))
 
 walk-requires : tie.Need-walk-requires Inv-loop μ-loop
 walk-requires c κs =

@@ -15,7 +15,7 @@ use borrow.Author.Needs.{needs}
 use Rattle.explain_merge_entry.proofs.explain_routine.Statement.{statement}
 use Rattle.explain_merge_entry.proofs.explain_routine.Tie as tie
 
-places : (s : tie.Start) → length (s .args .routine .fields) ≡ 128
+places : (s : tie.Start) → length (s .args .routine .blocks) ≡ 128
 places s = search (needs, length-images)
 
 sweep-requires : tie.Need-sweep-requires

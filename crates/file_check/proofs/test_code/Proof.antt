@@ -9,7 +9,7 @@ use mir.ValLaws.{toZ-pos}
 use lib.IntN.{pos}
 use lib.ListN.{length, take}
 use lib.Seq.{length-take-le}
-use Rattle.text.specs.Text.{words, place, among}
+use Rattle.text.specs.Text.{lineWords, placeAmong, among}
 use Rattle.text.proofs.ScanLaws.{firstLength}
 use Rattle.text.proofs.PieceLaws.{first-le}
 use Rattle.numbers.specs.Numbers.{within}
@@ -37,11 +37,11 @@ words-are : (c : tie.After-piece-length3) → cut c
 words-are c = (cut-at (c .before .before .before .before .before .before .before .before .before .args .line .now) (c .before .before .before .after-word .result .now) (c .before .after-word2 .result .now) (c .before .before .before .before .piece-length .ensures) (c .before .before .before .after-word .ensures) (c .before .before .piece-length2 .ensures) (c .before .after-word2 .ensures) (c .piece-length3 .ensures), cut-op (c .before .before .before .before .before .before .before .before .before .args .line .now) (c .before .before .before .after-word .result .now) (c .before .after-word2 .result .now) (c .before .before .before .before .piece-length .ensures) (c .before .before .before .after-word .ensures) (c .before .before .piece-length2 .ensures) (c .before .after-word2 .ensures) (c .piece-length3 .ensures), cut-arg (c .before .before .before .before .before .before .before .before .before .args .line .now) (c .before .before .before .after-word .result .now) (c .before .after-word2 .result .now) (c .before .before .before .before .piece-length .ensures) (c .before .before .before .after-word .ensures) (c .before .before .piece-length2 .ensures) (c .before .after-word2 .ensures) (c .piece-length3 .ensures))
 
 after-word-requires : tie.Need-after-word-requires
-unfolding words
+unfolding lineWords
 after-word-requires c κs = c .piece-length .ensures
 
 after-word-requires-2 : tie.Need-after-word-requires-2
-unfolding words
+unfolding lineWords
 after-word-requires-2 c κs = c .piece-length2 .ensures
 
 -- a first word is no longer than its line
@@ -76,7 +76,7 @@ returns c =
     let start = c .before .before .before .before .before .before .before .before .before .before .before .before .before .before .before .before .before .before .before .before in
     let a = start .args in
     let ws = words-are (c .before .before .before .before .before .before .before .before .before .before .before) in
-    let kind = c .before .before .before .before .before .before .before .before .before .kind-in .ensures ∙ ap (λ w. place w kindNames) (ws .1) in
+    let kind = c .before .before .before .before .before .before .before .before .before .kind-in .ensures ∙ ap (λ w. placeAmong w kindNames) (ws .1) in
     (λ ls blocks x. code-tests ls x _ (first-read start) (a .at .k) (a .line .now) (a .at .ended) _ (c .before .before .before .before .test-code .ensures (a .line .now) (ws .0) (ws .2) kind) (c .before .before .before .is-whole .ensures) (c .before .before .all-three .ensures) (c .before .before .before .before .before .before .before .before .names-due .ensures) (λ e. c .is-priced .ensures .0 e ∙ ap (λ w. among w (list (a .kinds .now))) (ws .1)), c .is-priced .ensures .1)
 
 pub test-code-spec : {M : Type 1} → statement M

@@ -7,7 +7,7 @@ use native.Mathlib.Nat.{le-of-lt}
 use lib.ListN.{length}
 use lib.Seq.{length-take-le}
 use borrow.Author.Tests.{not-true, not-false}
-use Rattle.text.specs.Text.{words, all}
+use Rattle.text.specs.Text.{lineWords, all}
 use Rattle.text.proofs.ScanLaws.{firstLength}
 use Rattle.file_lines.specs.HeldLines.{wordTest}
 use Rattle.file_lines.proofs.LineLaws.{all-stop, all-next, all-last}
@@ -16,7 +16,7 @@ use Rattle.file_lines.proofs.all_words.Statement.{statement}
 use Rattle.file_lines.proofs.all_words.Tie as tie
 
 abbrev Inv-loop : tie.InvT-loop
-Inv-loop t line rest₀ e₀ rest e = (e ≡ firstLength 32 rest) × (length rest ≤ length line) × (all (wordTest t) (words line) ≡ all (wordTest t) (words rest))
+Inv-loop t line rest₀ e₀ rest e = (e ≡ firstLength 32 rest) × (length rest ≤ length line) × (all (wordTest t) (lineWords line) ≡ all (wordTest t) (lineWords rest))
 
 abbrev μ-loop : tie.MeasureT-loop
 μ-loop t line rest₀ e₀ rest e = length rest

@@ -1,7 +1,7 @@
 -- `file_lines::code_priced` meets its contract. Assumes nothing.
 use mathlib.Core.Path.{_≡_, refl, sym, ap, _∙_}
 use mathlib.Core.Bool.{cond}
-use Rattle.text.specs.Text.{place}
+use Rattle.text.specs.Text.{placeAmong}
 use Rattle.text.specs.declared.Place.the-variants.{At}
 use Rattle.instructions.specs.Kinds.{kindNames}
 use Rattle.instructions.proofs.ColumnLaws.{kind-below}
@@ -11,7 +11,7 @@ use Rattle.file_lines.proofs.code_priced.Statement.{statement}
 use Rattle.file_lines.proofs.code_priced.Tie as tie
 
 -- OP names the kind at a place
-found : (c : tie.After-known-told) → place (c .before .before .before .before .before .args .op .now) kindNames ≡ At (c .before .kind .given .0 .0)
+found : (c : tie.After-known-told) → placeAmong (c .before .before .before .before .before .args .op .now) kindNames ≡ At (c .before .kind .given .0 .0)
 found c = sym (c .before .before .before .before .before .pre .0) ∙ c .before .kind .given .1
 
 element-copy-out-known : tie.Need-element-copy-out-known

@@ -11,7 +11,7 @@ use lib.ListN.{length, getD}
 use lib.Seq.{length-take-le}
 use borrow.Author.Tests.{not-true, not-false}
 use Rattle.numbers.specs.Numbers.{within}
-use Rattle.text.specs.Text.{words}
+use Rattle.text.specs.Text.{lineWords}
 use Rattle.text.proofs.ScanLaws.{firstLength}
 use Rattle.file_format.specs.Rows.{value, extraRange, extrasInRange}
 use Rattle.file_lines.proofs.ExtraLaws.{extras-stop, extras-next, extras-last}
@@ -20,12 +20,12 @@ use Rattle.file_lines.proofs.extras_in_range.Statement.{statement}
 use Rattle.file_lines.proofs.extras_in_range.Tie as tie
 
 -- the test of an extra, by the name that was read
-named : (above n w : List ℕ) {b : Bool} → n ≡ getD (words above) 0 [] → within (extraRange n) (value w) ≡ b → within (extraRange (getD (words above) 0 [])) (value w) ≡ b
+named : (above n w : List ℕ) {b : Bool} → n ≡ getD (lineWords above) 0 [] → within (extraRange n) (value w) ≡ b → within (extraRange (getD (lineWords above) 0 [])) (value w) ≡ b
 named above n w e h = ap (λ n. within (extraRange n) (value w)) (sym e) ∙ h
 
 abbrev Inv-loop : tie.InvT-loop
 Inv-loop names line above₀ rest₀ e₀ above rest e =
-    (e ≡ firstLength 32 rest) × (length rest ≤ length line) × (extrasInRange (words names) (words line) ≡ extrasInRange (words above) (words rest))
+    (e ≡ firstLength 32 rest) × (length rest ≤ length line) × (extrasInRange (lineWords names) (lineWords line) ≡ extrasInRange (lineWords above) (lineWords rest))
 
 abbrev μ-loop : tie.MeasureT-loop
 μ-loop names line above₀ rest₀ e₀ above rest e = length rest
@@ -39,7 +39,7 @@ slice-aggregate-extra-in-range c = sym (length-take-le _ _ (le-of-lt (c .before 
 returns : tie.Need-returns Inv-loop μ-loop
 returns c =
     let l = c .before .before .before .before .before .loop in
-    sym (l .inv .2 ∙ extras-stop (words (l .above .now)) (l .rest .now) (l .e) (l .inv .0) (c .before .before .before .before .loop-test .taken) (named (l .above .now) _ _ (c .before .before .before .word-at .ensures) (sym (c .before .extra-in-range .ensures) ∙ not-true _ (c .if1 .taken))))
+    sym (l .inv .2 ∙ extras-stop (lineWords (l .above .now)) (l .rest .now) (l .e) (l .inv .0) (c .before .before .before .before .loop-test .taken) (named (l .above .now) _ _ (c .before .before .before .word-at .ensures) (sym (c .before .extra-in-range .ensures) ∙ not-true _ (c .if1 .taken))))
 
 loop-again : tie.Need-loop-again Inv-loop μ-loop
 loop-again c =
@@ -51,7 +51,7 @@ loop-again c =
       c .piece-length2 .ensures,
       omega arith,
       l .inv .2
-          ∙ extras-next (words (l .above .now)) (l .rest .now) (l .e) (l .inv .0) (at-loop-test .loop-test .taken) (named (l .above .now) _ _ (at-word-at .word-at .ensures) (sym (at-extra-in-range .extra-in-range .ensures) ∙ not-false _ (c .before .before .before .if1 .left)))
+          ∙ extras-next (lineWords (l .above .now)) (l .rest .now) (l .e) (l .inv .0) (at-loop-test .loop-test .taken) (named (l .above .now) _ _ (at-word-at .word-at .ensures) (sym (at-extra-in-range .extra-in-range .ensures) ∙ not-false _ (c .before .before .before .if1 .left)))
           ∙ sym (c .before .before .next-names .ensures _),
     )
 
@@ -59,7 +59,7 @@ returns-2 : tie.Need-returns-2 Inv-loop μ-loop
 returns-2 c =
     let l = c .before .before .before .loop in
     c .extra-in-range2 .ensures ∙ ap (λ n. within (extraRange n) (value (l .rest .now))) (c .before .word-at2 .ensures)
-    ∙ sym (l .inv .2 ∙ extras-last (words (l .above .now)) (l .rest .now) (l .e) (l .inv .0) (c .before .before .loop-test .left))
+    ∙ sym (l .inv .2 ∙ extras-last (lineWords (l .above .now)) (l .rest .now) (l .e) (l .inv .0) (c .before .before .loop-test .left))
 
 pub extras-in-range-spec : {M : Type 1} → statement M
 extras-in-range-spec =

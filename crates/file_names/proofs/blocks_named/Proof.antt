@@ -7,7 +7,7 @@ use native.Mathlib.Omega.{arith}
 use native.Mathlib.Nat.{le-of-lt}
 use lib.ListN.{length, take}
 use lib.Seq.{length-take-le}
-use Rattle.text.specs.Text.{words}
+use Rattle.text.specs.Text.{lineWords}
 use Rattle.text.proofs.ScanLaws.{firstLength}
 use Rattle.file_format.specs.Layout.{list}
 use Rattle.file_format.proofs.LayoutLaws.{list-none}
@@ -19,7 +19,7 @@ use Rattle.file_names.proofs.blocks_named.Tie as tie
 
 abbrev Inv-loop : tie.InvT-loop
 Inv-loop line b₀ rest₀ e₀ b rest e =
-    (e ≡ firstLength 32 rest) × (length rest ≤ length line) × (blockSizes (list line) ≡ grow 0 (take (b .count) (b .sizes)) (words rest)) × Own b
+    (e ≡ firstLength 32 rest) × (length rest ≤ length line) × (blockSizes (list line) ≡ grow 0 (take (b .count) (b .sizes)) (lineWords rest)) × Own b
 
 abbrev μ-loop : tie.MeasureT-loop
 μ-loop line b₀ rest₀ e₀ b rest e = length rest

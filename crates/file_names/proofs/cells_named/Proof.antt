@@ -1,5 +1,5 @@
 -- `file_names::cells_named` meets its contract: the words of CELLS are the names of the cells, by computation. Assumes nothing.
-use Rattle.text.specs.Text.{split, words}
+use Rattle.text.specs.Text.{partedBy, lineWords}
 use Rattle.text.specs.Decimal.{digits, decimal}
 use Rattle.file_format.specs.Rows.{stackNames, cellNames}
 use borrow.Author.Needs.{needs}
@@ -7,7 +7,7 @@ use Rattle.file_names.proofs.cells_named.Statement.{statement}
 use Rattle.file_names.proofs.cells_named.Tie as tie
 
 returns : tie.Need-returns
-unfolding split words digits decimal stackNames cellNames
+unfolding partedBy lineWords digits decimal stackNames cellNames
 returns c = c .begins .ensures
 
 pub cells-named-spec : {M : Type 1} → statement M

@@ -7,14 +7,14 @@ use native.Mathlib.Nat.{le-of-lt}
 use lib.ListN.{length}
 use lib.Seq.{length-take-le}
 use borrow.Author.Needs.{needs}
-use Rattle.text.specs.Text.{words, distinct}
+use Rattle.text.specs.Text.{lineWords, distinct}
 use Rattle.text.proofs.ScanLaws.{firstLength}
 use Rattle.file_names.proofs.NameLaws.{distinct-again, distinct-next, distinct-last}
 use Rattle.file_names.proofs.distinct.Statement.{statement}
 use Rattle.file_names.proofs.distinct.Tie as tie
 
 abbrev Inv-loop : tie.InvT-loop
-Inv-loop line rest₀ e₀ rest e = (e ≡ firstLength 32 rest) × (length rest ≤ length line) × (distinct (words line) ≡ distinct (words rest))
+Inv-loop line rest₀ e₀ rest e = (e ≡ firstLength 32 rest) × (length rest ≤ length line) × (distinct (lineWords line) ≡ distinct (lineWords rest))
 
 abbrev μ-loop : tie.MeasureT-loop
 μ-loop line rest₀ e₀ rest e = length rest

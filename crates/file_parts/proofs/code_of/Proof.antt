@@ -1,6 +1,6 @@
 -- `file_parts::code_of` meets its contract. Assumes nothing.
 use native.Mathlib.Omega.{arith}
-use Rattle.instructions.specs.HeldColumns.{kindAt}
+use Rattle.instructions.specs.Kinds.{kindAt}
 use Rattle.file_parts.proofs.EntryLaws.{operation-small, cond-most, coded}
 use borrow.Author.Needs.{needs}
 use Rattle.file_parts.proofs.code_of.Statement.{statement}

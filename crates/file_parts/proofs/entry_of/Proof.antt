@@ -7,8 +7,7 @@ use native.Mathlib.Omega.{arith}
 use mir.Syntax.{w32}
 use mir.ValLaws.{toZ-ofZ}
 use Rattle.text.specs.Text.{find}
-use Rattle.instructions.specs.Kinds.{kindNames, operand}
-use Rattle.instructions.specs.HeldColumns.{kindAt}
+use Rattle.instructions.specs.Kinds.{kindNames, operand, kindAt}
 use Rattle.instructions.proofs.ColumnLaws.{kind-small}
 use Rattle.file_format.specs.Rows.{op}
 use Rattle.file_format.specs.Routine.{argumentValue}

@@ -6,7 +6,7 @@ use native.Mathlib.Omega.{arith}
 use lib.IntN.{pos}
 use lib.ListN.{length, take, drop, length-set}
 use lib.Seq.{take-set-le}
-use Rattle.cells.specs.Cells.{number}
+use Rattle.cells.specs.Cells.{exactly}
 use Rattle.machine_state.proofs.Stack.{length-images}
 use Rattle.file_format.specs.Layout.{list}
 use Rattle.file_format.specs.Routine.{cellsOf}
@@ -39,7 +39,7 @@ loop-again c =
       omega arith,
       rw length-set (l .inv .1),
       take-set-le (start .args .start) (l .filled) _ _ (omega arith) ∙ l .inv .2,
-      fill-past (l .filled) cs (start .args .start) (start .args .from) (l .i) _ (number (pos 0)) (omega arith) (omega arith) (c .cell-at .ensures) (l .inv .3),
+      fill-past (l .filled) cs (start .args .start) (start .args .from) (l .i) _ (exactly (pos 0)) (omega arith) (omega arith) (c .cell-at .ensures) (l .inv .3),
     )
 
 returns : tie.Need-returns Inv-loop μ-loop

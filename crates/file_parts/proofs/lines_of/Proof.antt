@@ -8,7 +8,7 @@ use lib.IntN.{ℤ}
 use lib.ListN.{length, getD, take, drop, length-set}
 use mir.Syntax.{w32}
 use mir.Val.{SFits}
-use Rattle.text.specs.Text.{Line, lines, place}
+use Rattle.text.specs.Text.{Line, lines, placeAmong}
 use Rattle.numbers.proofs.NumberLaws.{signed-back}
 use Rattle.numbers.specs.Numbers.{residue, signed}
 use Rattle.instructions.specs.Kinds.{kindNames}
@@ -53,8 +53,8 @@ kind-in-requires c κs = (c .before .before .before .before .before .before .bef
 find-price-requires : tie.Need-find-price-requires Inv-loop μ-loop
 find-price-requires c κs = (c .before .kind-in .ensures, c .before .before .before .before .before .before .before .before .loop .inv .5)
 
-kind-is : (c : tie.After-kind-in Inv-loop μ-loop) → c .kind-in .result ≡ place (op (c .before .before .before .before .before .first-line .result .now)) kindNames
-kind-is c = c .kind-in .ensures ∙ ap (λ w. place w kindNames) (c .before .before .before .before .word-at .ensures)
+kind-is : (c : tie.After-kind-in Inv-loop μ-loop) → c .kind-in .result ≡ placeAmong (op (c .before .before .before .before .before .first-line .result .now)) kindNames
+kind-is c = c .kind-in .ensures ∙ ap (λ w. placeAmong w kindNames) (c .before .before .before .before .word-at .ensures)
 
 entry-of-requires : tie.Need-entry-of-requires Inv-loop μ-loop
 entry-of-requires c κs =

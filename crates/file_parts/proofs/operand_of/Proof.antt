@@ -5,7 +5,7 @@ use mir.ValLaws.{toZ-ofZ}
 use Rattle.numbers.specs.declared.Range.{Range}
 use Rattle.file_format.specs.Rows.{value}
 use Rattle.file_format.specs.Routine.{inside}
-use Rattle.instructions.specs.HeldColumns.{kindAt}
+use Rattle.instructions.specs.Kinds.{kindAt}
 use Rattle.instructions.proofs.ColumnLaws.{target-range}
 use Rattle.file_parts.proofs.WordLaws.{numbers-fit, addresses-fit}
 use Rattle.file_parts.proofs.EntryLaws.{operand-absent, operand-target, operand-primitive, operand-within}

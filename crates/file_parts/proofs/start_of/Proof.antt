@@ -6,7 +6,7 @@ use mathlib.Core.Logic.{⊎-elim}
 use native.Mathlib.Omega.{arith}
 use lib.IntN.{pos}
 use lib.ListN.{length, getD, take, drop, length-set, length-drop}
-use Rattle.cells.specs.Cells.{number}
+use Rattle.cells.specs.Cells.{exactly}
 use Rattle.file_format.specs.Layout.{list}
 use Rattle.file_format.specs.Routine.{cellsOf}
 use Rattle.file_parts.proofs.FillLaws.{fill-past, fill-all}
@@ -42,7 +42,7 @@ loop-again c =
       rw length-set (l .inv .1),
       l .inv .2,
       l .inv .3,
-      fill-past (l .stack) cs f 1 (l .i) _ (number (pos 0)) (omega arith) (omega arith) (c .cell-at2 .ensures ∙ ap (λ (j : ℕ). getD cs j (number (pos 0))) e) (l .inv .4),
+      fill-past (l .stack) cs f 1 (l .i) _ (exactly (pos 0)) (omega arith) (omega arith) (c .cell-at2 .ensures ∙ ap (λ (j : ℕ). getD cs j (exactly (pos 0))) e) (l .inv .4),
     )
 
 returns : tie.Need-returns Inv-loop μ-loop

@@ -33,7 +33,7 @@ returns c =
     let s = c .before .before in
     let l = c .before .loop in
     let i = l .inv in
-    ((i .first-is, i .lines-are, head-sizes _ _ _ _ _ (l .k) (l .code) i (omega (arith, c .loop-test .left)) (places s), i .blocks-are), λ j h. i .kept j h ∙ head-kept (s .args .first) (s .args .count) (s .args .blocks) (s .args .t1) j h)
+    ((i .first-is, i .lines-are, head-sizes _ _ _ _ _ (l .k) (l .code) i (omega (arith, c .loop-test .left)) (places s), i .blocks-are), λ j h. i .kept j h ∙ head-kept (s .args .first) (s .args .count) (s .args .present) (s .args .t1) j h)
 
 pub with-head-spec : {M : Type 1} → statement M
 with-head-spec =

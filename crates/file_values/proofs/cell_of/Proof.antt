@@ -4,7 +4,7 @@ use lib.IntN.{natAbs}
 use mir.Syntax.{w64}
 use mir.ValLaws.{toZ-ofZ}
 use Rattle.numbers.specs.Numbers.{numbers}
-use Rattle.cells.specs.Cells.{number, between, handle}
+use Rattle.cells.specs.Cells.{exactly, between, handle}
 use Rattle.file_format.specs.Rows.{handles, cellWord}
 use Rattle.file_format.specs.Routine.{inside, cellOf}
 use Rattle.file_values.specs.HeldValues.{clampedCell}
@@ -21,7 +21,7 @@ enum-told c = search needs
 returns : tie.Need-returns
 unfolding cellOf
 returns c =
-    tested cellOf clampedCell cell-of-clamped (cellWord (c .before .before .before .before .before .args .w .now)) (c .before .before .before .cell-word .ensures) (c .before .enum-told .given .1) (c .number .ensures)
+    tested cellOf clampedCell cell-of-clamped (cellWord (c .before .before .before .before .before .args .w .now)) (c .before .before .before .cell-word .ensures) (c .before .enum-told .given .1) (c .exactly .ensures)
 
 returns-2 : tie.Need-returns-2
 unfolding cellOf
@@ -32,7 +32,7 @@ returns-3 : tie.Need-returns-3
 unfolding cellOf
 returns-3 c =
     tested cellOf clampedCell cell-of-clamped (cellWord (c .before .before .before .before .before .before .args .w .now)) (c .before .before .before .before .cell-word .ensures) (c .before .before .z .given .1)
-    (c .number-cell .ensures ∙ ap (λ z. number (inside numbers z)) (toZ-ofZ w64 (c .before .before .z .given .0 .0) (search needs)))
+    (c .number-cell .ensures ∙ ap (λ z. exactly (inside numbers z)) (toZ-ofZ w64 (c .before .before .z .given .0 .0) (search needs)))
 
 returns-4 : tie.Need-returns-4
 unfolding cellOf

@@ -3,7 +3,7 @@ use mathlib.Core.Path.{ap, ap₂, _∙_}
 use mathlib.Core.List.{[]}
 use lib.IntN.{natAbs}
 use lib.ListN.{getD}
-use Rattle.text.specs.Text.{words, lines}
+use Rattle.text.specs.Text.{lineWords, lines}
 use Rattle.file_format.specs.Rows.{firstAddresses}
 use Rattle.file_format.specs.Routine.{inside, naturalIn}
 use Rattle.file_values.proofs.ValueLaws.{first-spelt}
@@ -15,7 +15,7 @@ returns : tie.Need-returns
 returns c =
     let body = c .before .before .before .before .before .args .body .now in
     c .natural-of .ensures
-    ∙ ap₂ naturalIn (c .before .first-addresses .ensures) (c .before .before .word-at .ensures ∙ ap (λ t. getD (words t) 0 []) (c .before .before .before .first-line .ensures))
+    ∙ ap₂ naturalIn (c .before .first-addresses .ensures) (c .before .before .word-at .ensures ∙ ap (λ t. getD (lineWords t) 0 []) (c .before .before .before .first-line .ensures))
     ∙ ap (λ z. natAbs (inside firstAddresses z)) (first-spelt (lines body))
 
 pub first-address-spec : {M : Type 1} → statement M

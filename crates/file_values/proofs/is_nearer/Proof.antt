@@ -7,7 +7,7 @@ use lib.Signed.{ltZ}
 use mir.Syntax.{w64}
 use mir.Val.{SFits, toZ}
 use mir.ValLaws.{toZ-ofZ}
-use Rattle.text.specs.Decimal.{most}
+use Rattle.text.specs.HeldMagnitude.{most}
 use Rattle.text.proofs.NumeralLaws.{natural-read, minus-fits}
 use Rattle.file_values.proofs.ValueLaws.{nearer-above, nearer-below}
 use borrow.Author.Needs.{needs}

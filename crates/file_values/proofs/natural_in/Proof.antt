@@ -6,14 +6,14 @@ use mir.Syntax.{w32, w64}
 use mir.Val.{Fits, toZ}
 use mir.ValLaws.{toZ-pos}
 use Rattle.numbers.specs.declared.Range.{Range}
-use Rattle.numbers.specs.Numbers.{range}
+use Rattle.numbers.specs.Numbers.{naturals}
 use Rattle.file_format.specs.Routine.{naturalIn}
 use borrow.Author.Needs.{needs}
 use Rattle.file_values.proofs.natural_in.Statement.{statement}
 use Rattle.file_values.proofs.natural_in.Tie as tie
 
 -- a range by its ends, of 32 bits each, in 64 bits
-ends : (low high : ℕ) → Fits w32 low → Fits w32 high → _≡_ {A = Range} (record { low = toZ w64 low; high = toZ w64 high }) (range low high)
+ends : (low high : ℕ) → Fits w32 low → Fits w32 high → _≡_ {A = Range} (record { low = toZ w64 low; high = toZ w64 high }) (naturals low high)
 ends low high a b = ap₂ (λ x y. record { low = x; high = y }) (toZ-pos w64 low (omega arith)) (toZ-pos w64 high (omega arith))
 
 natural-of-requires : tie.Need-natural-of-requires

@@ -4,7 +4,7 @@ use Prim.Native.Nat.{suc, _-_}
 use native.Mathlib.Omega.{arith}
 use borrow.Author.Needs.{needs}
 use Rattle.instructions.specs.declared.Argument.the-variants.{Target}
-use Rattle.instructions.specs.HeldColumns.{kindAt}
+use Rattle.instructions.specs.Kinds.{kindAt}
 use Rattle.generate_entry.proofs.RowingLaws.{aims-before, Coding, coding-starts, coding-next, coding-ends, kind-under}
 use Rattle.generate_entry.proofs.put_code.Statement.{statement}
 use Rattle.generate_entry.proofs.put_code.Tie as tie

@@ -7,7 +7,7 @@ use Rattle.text.specs.Text.{bytes}
 use Rattle.text.specs.Decimal.{decimal}
 use Rattle.text.proofs.DecimalLaws.{decimal-length}
 use Rattle.text.proofs.PlaceLaws.{Place, joined, begins, kept, room, next, finished}
-use Rattle.instructions.specs.HeldColumns.{kindAt}
+use Rattle.instructions.specs.Kinds.{kindAt}
 use Rattle.generate_file.specs.File.{argument, lineOf}
 use Rattle.generate_file.proofs.WordLaws.{name-short}
 use Rattle.generate_entry.proofs.CellLaws.{kind-short}

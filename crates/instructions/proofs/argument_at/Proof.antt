@@ -3,7 +3,8 @@
 use mathlib.Core.Path.{sym, ap, _∙_}
 use native.Mathlib.Omega.{arith}
 use borrow.Author.Tests.{ltb-false, not-true}
-use Rattle.instructions.specs.HeldColumns.{kindAt, argumentCode}
+use Rattle.instructions.specs.HeldColumns.{argumentCode}
+use Rattle.instructions.specs.Kinds.{kindAt}
 use Rattle.instructions.proofs.ColumnLaws.{decoded, decoded-is, code-bound}
 use borrow.Author.Needs.{needs}
 use Rattle.instructions.proofs.argument_at.Statement.{statement}

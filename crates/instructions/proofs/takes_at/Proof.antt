@@ -4,8 +4,8 @@ use mathlib.Core.Path.{_≡_, refl, sym}
 use mathlib.Core.Bool.{Bool, true, false, cond}
 use lib.Dec.{eqb, ltb}
 use lib.Bits.{bitAnd}
-use Rattle.instructions.specs.Kinds.{kinds}
-use Rattle.instructions.specs.HeldColumns.{kindAt, argumentCode}
+use Rattle.instructions.specs.Kinds.{kinds, kindAt}
+use Rattle.instructions.specs.HeldColumns.{argumentCode}
 use Rattle.instructions.proofs.NameLaws.{below-at}
 use borrow.Author.Needs.{needs}
 use Rattle.instructions.proofs.takes_at.Statement.{statement}

@@ -4,7 +4,7 @@ use borrow.Author.Needs.{needs}
 use mir.Syntax.{w32}
 use mir.ValLaws.{toZ-ofZ}
 use Rattle.numbers.proofs.SignedLaws.{read}
-use Rattle.cells.specs.Cells.{number}
+use Rattle.cells.specs.Cells.{exactly}
 use Rattle.machine_outcome.specs.declared.Outcome.the-variants.{Gives}
 use Rattle.machine.specs.Machine.{index}
 use Rattle.instructions.specs.HeldColumns.{operations, operationOf}
@@ -38,7 +38,7 @@ returns-4 c = rw (c .before .match .keys4, ← found (c .before .before)) (c .if
 
 returns-5 : tie.Need-returns-5
 unfolding operations operationOf outcome
-returns-5 c = rw (c .before .match .keys5) (ap Gives (c .number .ensures ∙ ap number (same (c .before .before .before))))
+returns-5 c = rw (c .before .match .keys5) (ap Gives (c .exactly .ensures ∙ ap exactly (same (c .before .before .before))))
 
 returns-6 : tie.Need-returns-6
 unfolding operations operationOf outcome

@@ -274,7 +274,7 @@ returns-4 c =
     subst (Meets (s a)) (sym (c .set-field .ensures))
     (set-at a _ _ w (set-within j) (c .before .advance3 .ensures .1)
     (set-known j .1 (next v) w (popped-next (t a) v _ (c .before .before .before .before .pop2 .ensures .0))
-    (loaded-next v (c .before .before .load2 .result) w _ (c .before .before .load2 .ensures .0) (c .before .advance3 .ensures .0) ∙ ap (λ z. load z (view (next v))) (c .before .before .before .number .ensures))))
+    (loaded-next v (c .before .before .load2 .result) w _ (c .before .before .load2 .ensures .0) (c .before .advance3 .ensures .0) ∙ ap (λ z. load z (view (next v))) (c .before .before .before .exactly .ensures))))
 
 -- ---- the accumulator becomes a field
 

@@ -4,20 +4,20 @@ use Prim.Native.Nat.{_≤_, _-_}
 use mathlib.Core.Path.{_≡_, refl}
 use native.Mathlib.Omega.{arith}
 use lib.ListN.{length, take, length-set}
-use Rattle.cells.specs.HeldCodes.{cellsOf}
+use Rattle.cells.specs.HeldCodes.{decodedCells}
 use Rattle.merge_rows.proofs.FillLaws.{decoded-next, decoded-all}
 use borrow.Author.Needs.{needs}
 use Rattle.merge_rows.proofs.decode_fields.Statement.{statement}
 use Rattle.merge_rows.proofs.decode_fields.Tie as tie
 
 abbrev Inv-loop : tie.InvT-loop
-Inv-loop fields blocks₀ i₀ blocks i = (i ≤ 128) × (length blocks ≡ 128) × (take i blocks ≡ cellsOf (take i fields))
+Inv-loop fields blocks₀ i₀ blocks i = (i ≤ 128) × (length blocks ≡ 128) × (take i blocks ≡ decodedCells (take i fields))
 
 abbrev μ-loop : tie.MeasureT-loop
 μ-loop fields blocks₀ i₀ blocks i = 128 - i
 
 loop-holds : tie.Need-loop-holds Inv-loop μ-loop
-unfolding cellsOf
+unfolding decodedCells
 loop-holds c = (omega arith, search needs, refl)
 
 loop-again : tie.Need-loop-again Inv-loop μ-loop

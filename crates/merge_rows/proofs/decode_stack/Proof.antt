@@ -4,20 +4,20 @@ use Prim.Native.Nat.{_≤_, _-_}
 use mathlib.Core.Path.{_≡_, refl}
 use native.Mathlib.Omega.{arith}
 use lib.ListN.{length, take, length-set}
-use Rattle.cells.specs.HeldCodes.{cellsOf}
+use Rattle.cells.specs.HeldCodes.{decodedCells}
 use Rattle.merge_rows.proofs.FillLaws.{decoded-next, decoded-all}
 use borrow.Author.Needs.{needs}
 use Rattle.merge_rows.proofs.decode_stack.Statement.{statement}
 use Rattle.merge_rows.proofs.decode_stack.Tie as tie
 
 abbrev Inv-loop : tie.InvT-loop
-Inv-loop entries stack₀ i₀ stack i = (i ≤ 64) × (length stack ≡ 64) × (take i stack ≡ cellsOf (take i entries))
+Inv-loop entries stack₀ i₀ stack i = (i ≤ 64) × (length stack ≡ 64) × (take i stack ≡ decodedCells (take i entries))
 
 abbrev μ-loop : tie.MeasureT-loop
 μ-loop entries stack₀ i₀ stack i = 64 - i
 
 loop-holds : tie.Need-loop-holds Inv-loop μ-loop
-unfolding cellsOf
+unfolding decodedCells
 loop-holds c = (omega arith, search needs, refl)
 
 loop-again : tie.Need-loop-again Inv-loop μ-loop

@@ -9,7 +9,8 @@ use lib.Seq.{take-all}
 use borrow.Author.Needs.{needs}
 use Rattle.machine_state.specs.HeldProgram.{sizesOf}
 use Rattle.machine_state.specs.HeldState.{blocksOf}
-use Rattle.cells.specs.HeldCodes.{cellsOf, confine}
+use Rattle.cells.specs.HeldCodes.{decodedCells}
+use Rattle.cells.specs.Confined.{confine}
 use borrow.Rule.Slice.PartMut.{same-len-mid}
 use Rattle.merge_rows.proofs.FieldLaws.{Small, small-of, blocks-length, block-encoded, part-length}
 use Rattle.merge_rows.proofs.encode_blocks.Statement.{statement}
@@ -17,7 +18,7 @@ use Rattle.merge_rows.proofs.encode_blocks.Tie as tie
 
 abbrev Inv-loop : tie.InvT-loop
 Inv-loop blocks fields₀ code count k₀ fields k =
-    (k ≤ length (sizesOf code)) × (length fields ≡ 128) × (take k (blocksOf (sizesOf code) (cellsOf fields)) ≡ take k (blocksOf (sizesOf code) (map confine blocks)))
+    (k ≤ length (sizesOf code)) × (length fields ≡ 128) × (take k (blocksOf (sizesOf code) (decodedCells fields)) ≡ take k (blocksOf (sizesOf code) (map confine blocks)))
 
 abbrev μ-loop : tie.MeasureT-loop
 μ-loop blocks fields₀ code count k₀ fields k = count - k
@@ -94,7 +95,7 @@ returns c =
     let l = c .before .loop in
     let start = c .before .before .before .before in
     let e : length (sizesOf (start .args .code .now)) ≡ l .k = omega (arith, c .before .before .count-blocks .ensures, c .loop-test .left, l .inv .0) in
-    sym (take-all (l .k) (blocksOf _ (cellsOf (l .fields))) (rw blocks-length (omega arith))) ∙ l .inv .2 ∙ take-all (l .k) (blocksOf _ (map confine (start .args .blocks))) (rw blocks-length (omega arith))
+    sym (take-all (l .k) (blocksOf _ (decodedCells (l .fields))) (rw blocks-length (omega arith))) ∙ l .inv .2 ∙ take-all (l .k) (blocksOf _ (map confine (start .args .blocks))) (rw blocks-length (omega arith))
 
 pub encode-blocks-spec : {M : Type 1} → statement M
 encode-blocks-spec =

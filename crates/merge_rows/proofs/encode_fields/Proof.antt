@@ -6,20 +6,21 @@ use native.Mathlib.Omega.{arith}
 use lib.ListN.{length, take, drop, length-set, length-drop}
 use lib.Seq.{getD-drop}
 use mathlib.Core.List.{map}
-use Rattle.cells.specs.HeldCodes.{cellsOf, confine}
+use Rattle.cells.specs.HeldCodes.{decodedCells}
+use Rattle.cells.specs.Confined.{confine}
 use Rattle.merge_rows.proofs.FillLaws.{encoded-next, encoded-all}
 use borrow.Author.Needs.{needs}
 use Rattle.merge_rows.proofs.encode_fields.Statement.{statement}
 use Rattle.merge_rows.proofs.encode_fields.Tie as tie
 
 abbrev Inv-loop : tie.InvT-loop
-Inv-loop low fields₀ blocks i₀ fields i = (i ≤ length fields₀) × (length fields ≡ length fields₀) × (cellsOf (take i fields) ≡ map confine (take i (drop low blocks)))
+Inv-loop low fields₀ blocks i₀ fields i = (i ≤ length fields₀) × (length fields ≡ length fields₀) × (decodedCells (take i fields) ≡ map confine (take i (drop low blocks)))
 
 abbrev μ-loop : tie.MeasureT-loop
 μ-loop low fields₀ blocks i₀ fields i = length fields₀ - i
 
 loop-holds : tie.Need-loop-holds Inv-loop μ-loop
-unfolding cellsOf
+unfolding decodedCells
 loop-holds c = (omega arith, refl, refl)
 
 loop-again : tie.Need-loop-again Inv-loop μ-loop

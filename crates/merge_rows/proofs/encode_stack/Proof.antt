@@ -6,20 +6,21 @@ use native.Mathlib.Omega.{arith}
 use lib.ListN.{length, take, drop, length-set, length-drop}
 use lib.Seq.{getD-drop}
 use mathlib.Core.List.{map}
-use Rattle.cells.specs.HeldCodes.{cellsOf, confine}
+use Rattle.cells.specs.HeldCodes.{decodedCells}
+use Rattle.cells.specs.Confined.{confine}
 use Rattle.merge_rows.proofs.FillLaws.{encoded-next, encoded-all}
 use borrow.Author.Needs.{needs}
 use Rattle.merge_rows.proofs.encode_stack.Statement.{statement}
 use Rattle.merge_rows.proofs.encode_stack.Tie as tie
 
 abbrev Inv-loop : tie.InvT-loop
-Inv-loop low entries₀ stack i₀ entries i = (i ≤ length entries₀) × (length entries ≡ length entries₀) × (cellsOf (take i entries) ≡ map confine (take i (drop low stack)))
+Inv-loop low entries₀ stack i₀ entries i = (i ≤ length entries₀) × (length entries ≡ length entries₀) × (decodedCells (take i entries) ≡ map confine (take i (drop low stack)))
 
 abbrev μ-loop : tie.MeasureT-loop
 μ-loop low entries₀ stack i₀ entries i = length entries₀ - i
 
 loop-holds : tie.Need-loop-holds Inv-loop μ-loop
-unfolding cellsOf
+unfolding decodedCells
 loop-holds c = (omega arith, refl, refl)
 
 loop-again : tie.Need-loop-again Inv-loop μ-loop

@@ -10,7 +10,7 @@ use borrow.Author.Needs.{needs}
 use Rattle.machine_state.specs.HeldProgram.{sizesOf}
 use Rattle.machine_state.specs.HeldState.{blocksOf}
 use Rattle.cells.specs.Merge.{mergeCells}
-use Rattle.cells.specs.HeldCodes.{cellsOf}
+use Rattle.cells.specs.HeldCodes.{decodedCells}
 use Rattle.merge_theory.specs.Merge.{mergeLists}
 use Rattle.merge_rows.specs.HeldRows.{ofCells}
 use borrow.Rule.Slice.PartMut.{same-len-mid}
@@ -22,7 +22,7 @@ use Rattle.merge_rows.proofs.merge_blocks.Tie as tie
 
 abbrev Inv-loop : tie.InvT-loop
 Inv-loop held₀ came code count k₀ held k =
-    (k ≤ length (sizesOf code)) × (length held ≡ 128) × Partly (mergeLists mergeCells) [] (mergeLists (mergeLists mergeCells) (blocksOf (sizesOf code) (cellsOf held₀)) (blocksOf (sizesOf code) (cellsOf came))) k (blocksOf (sizesOf code) (cellsOf held)) (blocksOf (sizesOf code) (cellsOf came))
+    (k ≤ length (sizesOf code)) × (length held ≡ 128) × Partly (mergeLists mergeCells) [] (mergeLists (mergeLists mergeCells) (blocksOf (sizesOf code) (decodedCells held₀)) (blocksOf (sizesOf code) (decodedCells came))) k (blocksOf (sizesOf code) (decodedCells held)) (blocksOf (sizesOf code) (decodedCells came))
 
 abbrev μ-loop : tie.MeasureT-loop
 μ-loop held₀ came code count k₀ held k = count - k
@@ -118,7 +118,7 @@ returns-2 : tie.Need-returns-2 Inv-loop μ-loop
 returns-2 c =
     let l = c .before .loop in
     let e : length (sizesOf (c .before .before .before .before .before .args .code .now)) ≡ l .k = omega (arith, c .before .before .count-blocks .ensures, c .loop-test .left, l .inv .0) in
-    sym (all-made (mergeLists mergeCells) [] _ (blocksOf _ (cellsOf (l .held))) _ (l .k) (rw blocks-length e) (rw blocks-length e) (l .inv .2))
+    sym (all-made (mergeLists mergeCells) [] _ (blocksOf _ (decodedCells (l .held))) _ (l .k) (rw blocks-length e) (rw blocks-length e) (l .inv .2))
 
 pub merge-blocks-spec : {M : Type 1} → statement M
 merge-blocks-spec =

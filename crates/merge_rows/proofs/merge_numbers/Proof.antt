@@ -3,7 +3,7 @@ use Prim.Native.Nat.{ℕ}
 use mathlib.Core.Path.{sym, ap, ap₂, _∙_}
 use Rattle.cells.specs.Try.{done}
 use Rattle.cells.specs.HeldAnswers.{ofOperand}
-use Rattle.cells.specs.HeldCodes.{cellOf}
+use Rattle.cells.specs.HeldCodes.{decodedCell}
 use Rattle.cells.specs.Merge.{mergeCells}
 use Rattle.cells.proofs.CodeLaws.{decoded-confined}
 use Rattle.cells.proofs.MergeLaws.{merged-confined, merge-same}
@@ -15,7 +15,7 @@ use Rattle.merge_rows.proofs.merge_numbers.Tie as tie
 returns : tie.Need-returns
 unfolding ofMerged
 returns c =
-    sym (merge-same (cellOf (c .before .args .x))) ∙ ap (λ (n : ℕ). mergeCells (cellOf (c .before .args .x)) (cellOf n)) (c .if1 .taken)
+    sym (merge-same (decodedCell (c .before .args .x))) ∙ ap (λ (n : ℕ). mergeCells (decodedCell (c .before .args .x)) (decodedCell n)) (c .if1 .taken)
 
 merge-requires : tie.Need-merge-requires
 merge-requires c κs = (decoded-confined _ (c .before .decode .ensures), decoded-confined _ (c .decode2 .ensures))

@@ -8,7 +8,7 @@ use lib.ListN.{length, getD, set, length-set}
 use borrow.Author.Tests.{not-true, not-false}
 use borrow.Rule.Slice.PartMut.{putMid}
 use Rattle.cells.specs.Try.{done}
-use Rattle.cells.specs.HeldCodes.{cellOf}
+use Rattle.cells.specs.HeldCodes.{decodedCell}
 use Rattle.cells.specs.Merge.{mergeCells}
 use Rattle.machine_state.specs.HeldProgram.{sizesOf}
 use Rattle.merge_rows.specs.HeldRows.{part, unusedOf, ofMerged, ofCells}
@@ -66,7 +66,7 @@ module _ (c : tie.After-known-told) where
   abbrev x : ℕ
   x = c .before .merged .given .0 .0
 
-  accu : done (cellOf x) ≡ mergeCells (cellOf (getD (row u) 4 0)) (cellOf (getD (came u) 4 0))
+  accu : done (decodedCell x) ≡ mergeCells (decodedCell (getD (row u) 4 0)) (decodedCell (getD (came u) 4 0))
   unfolding ofMerged
   accu = ap ofMerged (sym (c .before .merged .given .1)) ∙ numbers .merge-numbers .ensures
 

@@ -6,7 +6,8 @@ use native.Mathlib.Omega.{arith}
 use lib.ListN.{length, drop, set, length-set, length-drop}
 use lib.Seq.{take-all}
 use borrow.Rule.Slice.PartMut.{putMid}
-use Rattle.cells.specs.HeldCodes.{cellsOf, confine}
+use Rattle.cells.specs.HeldCodes.{decodedCells}
+use Rattle.cells.specs.Confined.{confine}
 use Rattle.machine_state.specs.HeldProgram.{sizesOf}
 use Rattle.merge_rows.specs.HeldRows.{part}
 use Rattle.merge_rows.proofs.PartLaws.{part-length, part-same}
@@ -53,7 +54,7 @@ module _ (m : tie.After-encode-stack) where
     entered : length (putMid (5 + free e) (69 - (5 + free e)) (head e) p) ≡ 197
     entered = part-same (head e) p (5 + free e) 69 (omega (arith, few e)) (omega (arith, long e)) lent ∙ long e
 
-    stack : cellsOf p ≡ map confine (drop (free e) (start e .args .w .state .stack))
+    stack : decodedCells p ≡ map confine (drop (free e) (start e .args .w .state .stack))
     stack =
         m .encode-stack .ensures
         ∙ ap (map confine)

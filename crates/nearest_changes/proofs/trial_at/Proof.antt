@@ -28,7 +28,7 @@ placed c = c .before .before .before .before
 holds : (c : tie.After-known-told) →
     let q = placed c in
     let s = q .before in
-    done (c .before .held .given .0 .0) ≡ numberAt (q .position-of .result) (whole (sizesOf (s .args .code .now)) (s .args .fields) (s .args .start))
+    done (c .before .held .given .0 .0) ≡ numberAt (q .position-of .result) (whole (sizesOf (s .args .code .now)) (s .args .blocks) (s .args .start))
 holds c = sym (ap ofSingle (c .before .held .given .1)) ∙ c .before .before .before .number-at .ensures
 
 changed : (c : tie.After-shifted) →

@@ -15,7 +15,7 @@ use Rattle.nearest_changes.proofs.with_entry.Tie as tie
 present : (c : tie.After-struct-known) → c .before .before .before .before .args .start .free + c .before .before .p .given .0 .0 < 64
 present c =
     let s = c .before .before .before .before in
-    entry-present (sizesOf (s .args .code .now)) (s .args .fields) (s .args .start) (s .pre .1) _ (subst (λ q. Present q (whole (sizesOf (s .args .code .now)) (s .args .fields) (s .args .start))) (c .before .before .p .given .1) (s .pre .2))
+    entry-present (sizesOf (s .args .code .now)) (s .args .blocks) (s .args .start) (s .pre .1) _ (subst (λ q. Present q (whole (sizesOf (s .args .code .now)) (s .args .blocks) (s .args .start))) (c .before .before .p .given .1) (s .pre .2))
 
 enum-told : tie.Need-enum-told
 enum-told c = search needs

@@ -48,11 +48,11 @@ returns c =
     let e = ap (λ h. slot (sizesOf (s .args .code .now)) h (at-p .p .given .0 .1 .0)) (sym (c .before .before .before .handle .ensures)) ∙ sym (c .before .before .slot-of .ensures) ∙ ap ofSlot (c .enum-told3 .given .1) in
     field-present (sizesOf (s .args .code .now)) (s .args .t3) (s .args .start) (fits s) _ _ (subst (λ q. Present q (whole (sizesOf (s .args .code .now)) (s .args .t3) (s .args .start))) (at-p .p .given .1) (s .pre .2)) e
 
-mul-fields : tie.Need-mul-fields
-mul-fields c = omega (arith, within c)
+mul-blocks : tie.Need-mul-blocks
+mul-blocks c = omega (arith, within c)
 
-array-set-from-fields : tie.Need-array-set-from-fields
-array-set-from-fields c = within c
+array-set-from-blocks : tie.Need-array-set-from-blocks
+array-set-from-blocks c = within c
 
 returns-2 : tie.Need-returns-2
 returns-2 c =
@@ -84,8 +84,8 @@ with-field-spec =
     (λ c. search needs)
     (λ c. search needs)
     returns
-    mul-fields
-    array-set-from-fields
+    mul-blocks
+    array-set-from-blocks
     returns-2
     returns-3
     returns-4)

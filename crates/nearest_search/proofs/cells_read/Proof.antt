@@ -6,7 +6,7 @@ use native.Mathlib.Omega.{arith}
 use lib.ListN.{length, getD, length-set}
 use Rattle.machine_state.specs.HeldProgram.{programOf, sizesOf}
 use Rattle.machine_state.specs.HeldState.{whole}
-use Rattle.nearest_changes.specs.Held.{positionOf}
+use Rattle.nearest_changes.specs.Places.{positionOf}
 use Rattle.nearest_search.specs.Held.{isRead}
 use Rattle.nearest_search.proofs.SearchLaws.{one-more}
 use Rattle.nearest_search.proofs.cells_read.Statement.{statement}

@@ -30,7 +30,7 @@ loop-holds : tie.Need-loop-holds Inv-loop μ-loop
 loop-holds c =
     let s = c in
     let x = s .pre .0 in
-    trials-left (sizesOf (s .args .code .now)) (s .args .fields) (s .args .start) (x .explorable .formed) (x .formed .sizes) (omega (arith, sizes-count (s .args .code .now) (x .formed), x .formed .blocks)) _
+    trials-left (sizesOf (s .args .code .now)) (s .args .blocks) (s .args .start) (x .explorable .formed) (x .formed .sizes) (omega (arith, sizes-count (s .args .code .now) (x .formed), x .formed .blocks)) _
 
 array-read-if1 : tie.Need-array-read-if1 Inv-loop μ-loop
 array-read-if1 c = omega arith

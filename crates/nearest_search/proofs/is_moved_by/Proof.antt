@@ -28,7 +28,7 @@ returns : tie.Need-returns
 returns c =
     let s = c .before .before .before .before in
     let a = s .args in
-    let e = whole-replaced (sizesOf (a .code .now)) (a .fields) (c .before .before .with-field .result) (a .start) (c .before .before .before .with-entry .result) (a .p) (a .c)
+    let e = whole-replaced (sizesOf (a .code .now)) (a .blocks) (c .before .before .with-field .result) (a .start) (c .before .before .before .with-entry .result) (a .p) (a .c)
     (c .before .before .before .with-entry .ensures .0) (c .before .before .with-field .ensures .0) in
     c .is-moved .ensures _ (shows-bound _ (a .budget) (c .before .explore .result) _ _ e (c .before .explore .ensures .0 .shows))
 

@@ -25,7 +25,7 @@ returns c =
 -- the number that the cell holds
 holds : (c : tie.After-enum-told) →
     let s = c .before .before .before in
-    done (c .enum-told .given .0 .0) ≡ numberAt (s .args .p) (whole (sizesOf (s .args .code .now)) (s .args .fields) (s .args .start))
+    done (c .enum-told .given .0 .0) ≡ numberAt (s .args .p) (whole (sizesOf (s .args .code .now)) (s .args .blocks) (s .args .start))
 holds c = sym (ap ofSingle (c .enum-told .given .1)) ∙ c .before .before .number-at .ensures
 
 is-moved-by-requires : tie.Need-is-moved-by-requires
@@ -35,7 +35,7 @@ returns-2 : tie.Need-returns-2
 returns-2 c =
     let s = c .before .before .before .before .before in
     read-some _ (s .args .budget) (s .args .figure) _ (s .args .p) _ _ (holds (c .before .before))
-    (c .is-moved-by .ensures ∙ ap (λ x. moved (s .args .figure) (bound (programOf (s .args .code .now)) (s .args .budget) (replaceAt (s .args .p) x (whole (sizesOf (s .args .code .now)) (s .args .fields) (s .args .start))))) (c .before .handle .ensures))
+    (c .is-moved-by .ensures ∙ ap (λ x. moved (s .args .figure) (bound (programOf (s .args .code .now)) (s .args .budget) (replaceAt (s .args .p) x (whole (sizesOf (s .args .code .now)) (s .args .blocks) (s .args .start))))) (c .before .handle .ensures))
 
 pub is-read-spec : {M : Type 1} → statement M
 is-read-spec =

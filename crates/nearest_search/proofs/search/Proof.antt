@@ -16,7 +16,7 @@ explore-requires c κs = let s = c in (s .pre .formed, s .pre .explorable)
 -- what is found shows the bound of the start
 shown : (c : tie.After-explore) →
     let s = c .before in
-    Shows (c .explore .result) (bound (programOf (s .args .code .now)) (s .args .budget) (whole (sizesOf (s .args .code .now)) (s .args .fields) (s .args .start)))
+    Shows (c .explore .result) (bound (programOf (s .args .code .now)) (s .args .budget) (whole (sizesOf (s .args .code .now)) (s .args .blocks) (s .args .start)))
 shown c = shows-bound _ _ _ _ _ refl (c .explore .ensures .0 .shows)
 
 returns : tie.Need-returns

@@ -3,7 +3,7 @@ use mathlib.Core.Path.{_≡_, sym, ap, _∙_}
 use mathlib.Core.List.{[], _∷_}
 use mir.Syntax.{w32}
 use mir.ValLaws.{toZ-ofZ}
-use Rattle.cells.specs.Cells.{number}
+use Rattle.cells.specs.Cells.{exactly}
 use Rattle.machine_state.specs.HeldProgram.{programOf, sizesOf}
 use Rattle.machine_state.specs.HeldState.{whole}
 use Rattle.bound_theory.specs.Tree.{bound}
@@ -34,7 +34,7 @@ change c = c .before .trial .given .0 .0
 
 tried : (c : tie.After-known-told) →
     let s = begun c in
-    change c ∷ [] ≡ trialOf (whole (sizesOf (s .args .code .now)) (s .args .fields) (s .args .start)) (s .args .j)
+    change c ∷ [] ≡ trialOf (whole (sizesOf (s .args .code .now)) (s .args .blocks) (s .args .start)) (s .args .j)
 tried c = sym (ap ofTrial (c .before .trial .given .1)) ∙ c .before .before .before .trial-at .ensures
 
 is-moved-by-requires : tie.Need-is-moved-by-requires
@@ -48,14 +48,14 @@ asked : (c : tie.After-is-moved-by) →
     let told = c .before .before .before in
     let s = begun told in
     let x = change told in
-    c .is-moved-by .result ≡ moved (s .args .figure) (bound (programOf (s .args .code .now)) (s .args .budget) (replaceAt (x .place) (number (x .value)) (whole (sizesOf (s .args .code .now)) (s .args .fields) (s .args .start))))
+    c .is-moved-by .result ≡ moved (s .args .figure) (bound (programOf (s .args .code .now)) (s .args .budget) (replaceAt (x .place) (exactly (x .value)) (whole (sizesOf (s .args .code .now)) (s .args .blocks) (s .args .start))))
 asked c =
     let told = c .before .before .before in
     let s = begun told in
     let x = change told in
     c .is-moved-by .ensures
-    ∙ ap (λ a. moved (s .args .figure) (bound (programOf (s .args .code .now)) (s .args .budget) (replaceAt (x .place) a (whole (sizesOf (s .args .code .now)) (s .args .fields) (s .args .start)))))
-    (c .before .number .ensures ∙ ap number (toZ-ofZ w32 (x .value) (search needs)))
+    ∙ ap (λ a. moved (s .args .figure) (bound (programOf (s .args .code .now)) (s .args .budget) (replaceAt (x .place) a (whole (sizesOf (s .args .code .now)) (s .args .blocks) (s .args .start)))))
+    (c .before .exactly .ensures ∙ ap exactly (toZ-ofZ w32 (x .value) (search needs)))
 
 returns-2 : tie.Need-returns-2
 returns-2 c =

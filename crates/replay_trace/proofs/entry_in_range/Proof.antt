@@ -3,7 +3,7 @@ use mathlib.Core.Path.{sym, ap₂, _∙_}
 use native.Mathlib.Omega.{arith}
 use Rattle.numbers.specs.Numbers.{within}
 use Rattle.file_format.specs.Rows.{value}
-use Rattle.replay_trace.specs.Traces.{cycleRange, cycles, entryInRange}
+use Rattle.replay_trace.specs.Traces.{cycleRange, recordedCycles, entryInRange}
 use Rattle.file_lines.proofs.LineLaws.{and-true, and-false, near-range}
 use borrow.Author.Needs.{needs}
 use Rattle.replay_trace.proofs.entry_in_range.Statement.{statement}
@@ -27,7 +27,7 @@ returns c =
 returns-2 : tie.Need-returns-2
 unfolding entryInRange
 returns-2 c =
-    and-false (within cycleRange (value (cycles (c .before .before .before .before .before .before .args .line .now))))
+    and-false (within cycleRange (value (recordedCycles (c .before .before .before .before .before .before .args .line .now))))
     (sym (c .before .is-within .ensures ∙ ap₂ (λ r w. within r (value w)) (c .before .before .addresses .ensures) (c .before .before .before .before .word-at .ensures)) ∙ c .if1 .left)
 
 pub entry-in-range-spec : {M : Type 1} → statement M

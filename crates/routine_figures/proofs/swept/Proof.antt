@@ -8,7 +8,7 @@ use borrow.Author.Needs.{needs}
 use Rattle.routine_figures.proofs.swept.Statement.{statement}
 use Rattle.routine_figures.proofs.swept.Tie as tie
 
-places : (s : tie.Start) → length (s .args .routine .fields) ≡ 128
+places : (s : tie.Start) → length (s .args .routine .blocks) ≡ 128
 places s = search (needs, length-images)
 
 merge-requires : tie.Need-merge-requires

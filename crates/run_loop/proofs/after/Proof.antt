@@ -50,7 +50,7 @@ goes-small : (c : tie.After-known-told2 Inv-loop μ-loop) → SmallPrice (c .bef
 goes-small c = subst Small (c .before .next2 .given .1) (c .before .before .before .before .step .ensures .1 .1 .0 .1)
 
 loop-holds : tie.Need-loop-holds Inv-loop μ-loop
-loop-holds c = let s = c .before in begins _ _ _ _ (s .args .start) (s .args .fields) (s .pre .1 .formed)
+loop-holds c = let s = c .before in begins _ _ _ _ (s .args .start) (s .args .initial) (s .pre .1 .formed)
 
 step-requires : tie.Need-step-requires Inv-loop μ-loop
 step-requires c κs = let s = c .before .before .before .before in let i = c .before .before .loop .inv in (s .pre .0, i .formed)

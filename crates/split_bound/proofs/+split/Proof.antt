@@ -96,7 +96,7 @@ split-returns-2 : (t : ℕ) → split-lts.Need-returns-2 (split-claims t) (split
 split-returns-2 t c =
     let e = c .before .before .before .before .before .before .before in
     let a = e .before .before .before .args in
-    let w = whole (sizesOf (a .code .now)) (a .fields) (a .start) in
+    let w = whole (sizesOf (a .code .now)) (a .blocks) (a .start) in
     let x = cutIn (a .cuts) (a .i) in
     let d = cut-whole (x .place) (x .number) w (sym (c .before .before .before .before .enum-told .given .1) ∙ c .before .before .before .before .before .before .cut-at .ensures) in
     (shows (c .before .before .split .result) (split-whole (programOf (a .code .now)) x (cutsFrom (a .cuts) (a .i + 1)) w d ∙ ap (λ xs. splits (programOf (a .code .now)) xs w) (sym (cuts-more (a .cuts) (a .i) (left t e)))) (c .before .before .split .ensures .0), c .before .before .split .ensures .1)
@@ -104,23 +104,23 @@ split-returns-2 t c =
 -- the cut divides its cell
 divided : (t : ℕ) (c : split-lts.After-known-told (split-claims t) (split-at t) split.Post)
     → let a = c .before .before .before .before .before .before .before .args in
-    Divides (cutIn (a .cuts) (a .i) .place) (cutIn (a .cuts) (a .i) .number) (whole (sizesOf (a .code .now)) (a .fields) (a .start)) (c .before .parts .given .0 .0) (c .before .parts .given .0 .1 .0)
+    Divides (cutIn (a .cuts) (a .i) .place) (cutIn (a .cuts) (a .i) .number) (whole (sizesOf (a .code .now)) (a .blocks) (a .start)) (c .before .parts .given .0 .0) (c .before .parts .given .0 .1 .0)
 divided t c =
     let a = c .before .before .before .before .before .before .before .args in
-    cut-two (cutIn (a .cuts) (a .i) .place) (cutIn (a .cuts) (a .i) .number) (whole (sizesOf (a .code .now)) (a .fields) (a .start)) _ _
+    cut-two (cutIn (a .cuts) (a .i) .place) (cutIn (a .cuts) (a .i) .number) (whole (sizesOf (a .code .now)) (a .blocks) (a .start)) _ _
     (sym (c .before .parts .given .1) ∙ c .before .before .before .cut-at .ensures)
 
 -- so the bound is the larger of the two cases
 joined : (t : ℕ) (c : split-lts.After-known-told (split-claims t) (split-at t) split.Post)
     → let a = c .before .before .before .before .before .before .before .args in
     let x = cutIn (a .cuts) (a .i) in
-    let w = whole (sizesOf (a .code .now)) (a .fields) (a .start) in
+    let w = whole (sizesOf (a .code .now)) (a .blocks) (a .start) in
     larger (splits (programOf (a .code .now)) (cutsFrom (a .cuts) (a .i + 1)) (below (x .place) (x .number) w)) (splits (programOf (a .code .now)) (cutsFrom (a .cuts) (a .i + 1)) (from (x .place) (x .number) w))
     ≡ splits (programOf (a .code .now)) (cutsFrom (a .cuts) (a .i)) w
 joined t c =
     let e = c .before .before .before .before in
     let a = e .before .before .before .args in
-    let w = whole (sizesOf (a .code .now)) (a .fields) (a .start) in
+    let w = whole (sizesOf (a .code .now)) (a .blocks) (a .start) in
     split-two (programOf (a .code .now)) (cutIn (a .cuts) (a .i)) (cutsFrom (a .cuts) (a .i + 1)) w (divided t c .divided)
     ∙ ap (λ xs. splits (programOf (a .code .now)) xs w) (sym (cuts-more (a .cuts) (a .i) (left t e)))
 
@@ -204,7 +204,7 @@ split-returns-4 t c =
     let d = divided t k in
     let cuts = cutsFrom (a .cuts) (a .i + 1) in
     let x = cutIn (a .cuts) (a .i) in
-    let w = whole (sizesOf (a .code .now)) (a .fields) (a .start) in
+    let w = whole (sizesOf (a .code .now)) (a .blocks) (a .start) in
     let v = splits (programOf (a .code .now)) cuts (below (x .place) (x .number) w) in
     let u = splits (programOf (a .code .now)) cuts (from (x .place) (x .number) w) in
     let h = shows f (ap (splits _ cuts) (m .before .before .before .before .case-at .ensures .is ∙ d .lower)) (m .split2 .ensures .0) in

@@ -17,7 +17,7 @@ position-of-requires c κs = let s = c .before .before in s .pre .2 .places (s .
 returns : tie.Need-returns
 returns c =
     let s = c .before .before .before .before .before in
-    let w = whole (sizesOf (s .args .code .now)) (s .args .fields) (s .args .start) in
+    let w = whole (sizesOf (s .args .code .now)) (s .args .blocks) (s .args .start) in
     c .parts-at .ensures ∙ ap₂ (λ n p. partsAt n (cellAt p w)) (toZ-ofZ w32 (cutIn (s .args .cuts) (s .args .i) .number) (search needs)) (c .before .before .position-of .ensures)
 
 pub cut-at-spec : {M : Type 1} → statement M

@@ -1,6 +1,6 @@
 -- `split_bound::larger` meets its contract. Assumes nothing.
 use mathlib.Core.Path.{sym, ap, _∙_}
-use Rattle.refusals.specs.declared.Verdict.the-variants.{Accepted}
+use Rattle.refusals.specs.declared.Acceptance.the-variants.{Accepted}
 use Rattle.split_bound.specs.Held.{largerBy, largerOf}
 use borrow.Author.Needs.{needs}
 use Rattle.split_bound.proofs.larger.Statement.{statement}

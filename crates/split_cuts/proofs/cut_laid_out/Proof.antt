@@ -3,7 +3,7 @@ use mathlib.Core.Path.{sym, ap, _∙_}
 use mathlib.Core.Bool.{not}
 use lib.ListN.{length}
 use borrow.Author.Tests.{eq-eqb, ne-eqb}
-use Rattle.text.specs.Text.{isEmpty, words}
+use Rattle.text.specs.Text.{isEmpty, lineWords}
 use Rattle.text.specs.Decimal.{numeral}
 use Rattle.file_format.specs.Rows.{isNumeral}
 use Rattle.file_lines.proofs.LineLaws.{and-true, and-false, and-stop, and-through}
@@ -17,7 +17,7 @@ returns : tie.Need-returns
 unfolding cutLaidOut
 returns c =
     let line = c .before .before .before .args .line .now in
-    and-stop _ (not (isEmpty (cellName line))) (isNumeral (numeral (fromWord line))) (ne-eqb (length (words line)) 2 (λ e. c .if1 .taken (c .before .count-words .ensures ∙ e)))
+    and-stop _ (not (isEmpty (cellName line))) (isNumeral (numeral (fromWord line))) (ne-eqb (length (lineWords line)) 2 (λ e. c .if1 .taken (c .before .count-words .ensures ∙ e)))
 
 returns-2 : tie.Need-returns-2
 unfolding cutLaidOut
@@ -25,7 +25,7 @@ returns-2 c =
     let at-if1 = c .before .before .before .before in
     let at-count-words = at-if1 .before in
     let line = at-count-words .before .before .args .line .now in
-    and-through _ _ _ (eq-eqb (length (words line)) 2 (sym (at-count-words .count-words .ensures) ∙ at-if1 .if1 .left))
+    and-through _ _ _ (eq-eqb (length (lineWords line)) 2 (sym (at-count-words .count-words .ensures) ∙ at-if1 .if1 .left))
     (and-true (name-there (c .before .before .before .word-at .ensures) (c .before .if2 .taken))
     (c .is-numeral .ensures ∙ ap (λ w. isNumeral (numeral w)) (c .before .before .word-at2 .ensures)))
 
@@ -35,7 +35,7 @@ returns-3 c =
     let at-if1 = c .before .before .before in
     let at-count-words = at-if1 .before in
     let line = at-count-words .before .before .args .line .now in
-    and-through _ _ _ (eq-eqb (length (words line)) 2 (sym (at-count-words .count-words .ensures) ∙ at-if1 .if1 .left))
+    and-through _ _ _ (eq-eqb (length (lineWords line)) 2 (sym (at-count-words .count-words .ensures) ∙ at-if1 .if1 .left))
     (and-false (isNumeral (numeral (fromWord line))) (name-lacks (c .before .before .word-at .ensures) (c .if2 .left)))
 
 pub cut-laid-out-spec : {M : Type 1} → statement M

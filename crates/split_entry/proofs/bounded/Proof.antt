@@ -11,7 +11,7 @@ use borrow.Author.Needs.{needs}
 use Rattle.split_entry.proofs.bounded.Statement.{statement}
 use Rattle.split_entry.proofs.bounded.Tie as tie
 
-places : (s : tie.Start) → length (s .args .routine .fields) ≡ 128
+places : (s : tie.Start) → length (s .args .routine .blocks) ≡ 128
 places s = search (needs, length-images)
 
 split-requires : tie.Need-split-requires
@@ -24,7 +24,7 @@ split-requires c κs =
 returns : tie.Need-returns
 returns c =
     let r = c .before .before .before .before .before .before .before .before .before .args .routine in (
-      subst (Shows (c .before .split .result)) (ap (λ xs. split (programOf (r .code)) xs (whole (sizesOf (r .code)) (r .fields) (r .start))) (c .before .before .before .before .cuts-of .ensures .0)) (c .before .split .ensures .0),
+      subst (Shows (c .before .split .result)) (ap (λ xs. split (programOf (r .code)) xs (whole (sizesOf (r .code)) (r .blocks) (r .start))) (c .before .before .before .before .cuts-of .ensures .0)) (c .before .split .ensures .0),
       record { cycles = omega (arith, c .before .split .ensures .1 .cycles) },
     )
 

@@ -2,7 +2,7 @@
 use Prim.Native.Nat.{_≤_}
 use mathlib.Core.Path.{_≡_, sym, ap, _∙_}
 use lib.ListN.{length}
-use Rattle.refusals.specs.declared.Verdict.the-variants.{Accepted}
+use Rattle.refusals.specs.declared.Acceptance.the-variants.{Accepted}
 use Rattle.file_format.specs.Routine.{readBound}
 use Rattle.file_check.specs.HeldChecks.{readBy, checkOf}
 use Rattle.file_check.specs.declared.Reader.the-variants.{Bound}

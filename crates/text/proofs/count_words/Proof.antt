@@ -5,14 +5,14 @@ use mathlib.Core.Path.{_≡_, ap}
 use native.Mathlib.Omega.{arith}
 use lib.ListN.{length}
 use borrow.Author.Needs.{needs}
-use Rattle.text.specs.Text.{words}
+use Rattle.text.specs.Text.{lineWords}
 use Rattle.text.proofs.ScanLaws.{firstLength}
 use Rattle.text.proofs.PieceLaws.{words-more, words-last}
 use Rattle.text.proofs.count_words.Statement.{statement}
 use Rattle.text.proofs.count_words.Tie as tie
 
 abbrev Inv-loop : tie.InvT-loop
-Inv-loop line rest₀ n₀ e₀ rest n e = (e ≡ firstLength 32 rest) × (n + length rest ≤ length line + 1) × (length (words line) + 1 ≡ n + length (words rest))
+Inv-loop line rest₀ n₀ e₀ rest n e = (e ≡ firstLength 32 rest) × (n + length rest ≤ length line + 1) × (length (lineWords line) + 1 ≡ n + length (lineWords rest))
 
 abbrev μ-loop : tie.MeasureT-loop
 μ-loop line rest₀ n₀ e₀ rest n e = length rest

@@ -6,8 +6,8 @@ use native.Mathlib.Omega.{arith}
 use native.Mathlib.Numerals.{add-one}
 use lib.ListN.{length, getD, drop}
 use borrow.Author.Needs.{needs}
-use Rattle.text.specs.Decimal.{digitsFrom, most}
-use Rattle.text.specs.HeldMagnitude.{held}
+use Rattle.text.specs.Decimal.{digitsFrom}
+use Rattle.text.specs.HeldMagnitude.{most, held}
 use Rattle.text.proofs.NumeralLaws.{digits-below, digits-above, digits-next, digits-end, held-digits}
 use Rattle.text.proofs.digits.Statement.{statement}
 use Rattle.text.proofs.digits.Tie as tie

@@ -11,7 +11,7 @@ use borrow.Author.Needs.{needs}
 use Rattle.text.specs.declared.Place.{Place}
 use Rattle.text.specs.declared.Place.the-variants.{At, Missing}
 use Rattle.text.specs.declared.Lookup.{Lookup}
-use Rattle.text.specs.Text.{words, lookup}
+use Rattle.text.specs.Text.{lineWords, lookup}
 use Rattle.text.proofs.ScanLaws.{firstLength, lookupFrom, lookup-from, find-here, find-next, find-last}
 use Rattle.text.proofs.find.Statement.{statement}
 use Rattle.text.proofs.find.Tie as tie
@@ -21,7 +21,7 @@ abbrev answer : Place → ℕ → Lookup
 answer p n = record { place = p; looked = n + 1 }
 
 abbrev Inv-loop : tie.InvT-loop
-Inv-loop w text rest₀ k₀ looked₀ e₀ rest k looked e = (e ≡ firstLength 32 rest) × (k + length rest ≤ length text) × (lookup w (words text) ≡ lookupFrom k w (words rest)) × (looked ≡ k)
+Inv-loop w text rest₀ k₀ looked₀ e₀ rest k looked e = (e ≡ firstLength 32 rest) × (k + length rest ≤ length text) × (lookup w (lineWords text) ≡ lookupFrom k w (lineWords rest)) × (looked ≡ k)
 
 abbrev μ-loop : tie.MeasureT-loop
 μ-loop w text rest₀ k₀ looked₀ e₀ rest k looked e = length rest
@@ -29,7 +29,7 @@ abbrev μ-loop : tie.MeasureT-loop
 loop-holds : tie.Need-loop-holds Inv-loop μ-loop
 loop-holds c =
     let a = c .before .before .before .args in
-    (c .piece-length .ensures, omega arith, lookup-from (a .w .now) (words (a .text .now)), refl)
+    (c .piece-length .ensures, omega arith, lookup-from (a .w .now) (lineWords (a .text .now)), refl)
 
 slice-aggregate-same : tie.Need-slice-aggregate-same Inv-loop μ-loop
 slice-aggregate-same c = sym (length-take-le _ _ (le-of-lt (c .before .loop-test .taken)))

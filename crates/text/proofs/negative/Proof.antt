@@ -2,8 +2,8 @@
 use mathlib.Core.Path.{sym, ap, _∙_}
 use native.Mathlib.Omega.{arith}
 use borrow.Author.Needs.{needs}
-use Rattle.text.specs.Decimal.{negative, clamped}
-use Rattle.text.specs.HeldMagnitude.{toNumeral}
+use Rattle.text.specs.Decimal.{negative}
+use Rattle.text.specs.HeldMagnitude.{clamped, toNumeral}
 use Rattle.text.proofs.NumeralLaws.{minus-fits, negative-zero, negative-read}
 use Rattle.text.proofs.negative.Statement.{statement}
 use Rattle.text.proofs.negative.Tie as tie

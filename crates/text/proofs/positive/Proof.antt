@@ -1,8 +1,7 @@
 -- `text::positive` meets its contract. Assumes nothing.
 use mathlib.Core.Path.{sym, ap, _∙_}
 use borrow.Author.Needs.{needs}
-use Rattle.text.specs.Decimal.{clamped}
-use Rattle.text.specs.HeldMagnitude.{toNumeral}
+use Rattle.text.specs.HeldMagnitude.{clamped, toNumeral}
 use Rattle.text.proofs.NumeralLaws.{positive-read}
 use Rattle.text.proofs.positive.Statement.{statement}
 use Rattle.text.proofs.positive.Tie as tie

@@ -1,8 +1,8 @@
 -- `text::read_numeral` meets its contract. Assumes nothing.
 use mathlib.Core.Path.{sym, ap, _∙_}
 use borrow.Author.Needs.{needs}
-use Rattle.text.specs.Decimal.{negative, clamped}
-use Rattle.text.specs.HeldMagnitude.{toNumeral}
+use Rattle.text.specs.Decimal.{negative}
+use Rattle.text.specs.HeldMagnitude.{clamped, toNumeral}
 use Rattle.text.proofs.NumeralLaws.{numeral-none, numeral-positive, numeral-negative}
 use Rattle.text.proofs.read_numeral.Statement.{statement}
 use Rattle.text.proofs.read_numeral.Tie as tie

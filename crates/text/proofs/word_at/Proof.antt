@@ -7,14 +7,14 @@ use native.Mathlib.Omega.{arith}
 use lib.ListN.{length, getD}
 use lib.Seq.{length-take-le}
 use borrow.Author.Needs.{needs}
-use Rattle.text.specs.Text.{words}
+use Rattle.text.specs.Text.{lineWords}
 use Rattle.text.proofs.ScanLaws.{firstLength}
 use Rattle.text.proofs.PieceLaws.{first-le, word-next, word-none, word-here}
 use Rattle.text.proofs.word_at.Statement.{statement}
 use Rattle.text.proofs.word_at.Tie as tie
 
 abbrev Inv-loop : tie.InvT-loop
-Inv-loop line k rest₀ left₀ e₀ rest left e = (e ≡ firstLength 32 rest) × (length rest ≤ length line) × (getD (words line) k [] ≡ getD (words rest) left [])
+Inv-loop line k rest₀ left₀ e₀ rest left e = (e ≡ firstLength 32 rest) × (length rest ≤ length line) × (getD (lineWords line) k [] ≡ getD (lineWords rest) left [])
 
 abbrev μ-loop : tie.MeasureT-loop
 μ-loop line k rest₀ left₀ e₀ rest left e = left

@@ -30,7 +30,7 @@ some : (c : tie.After-put-entry Inv-loop μ-loop) → 0 < test (stepped (c .befo
 some c = stepped (c .before) .before .loop-test .taken
 
 loop-holds : tie.Need-loop-holds Inv-loop μ-loop
-loop-holds c = let s = c .before in writing-starts _ _ _ _ (s .args .at) (s .args .start) (s .args .fields) _ (omega (arith, s .pre .1)) (s .pre .0 .1 .formed) (s .pre .0 .1 .steps)
+loop-holds c = let s = c .before in writing-starts _ _ _ _ (s .args .at) (s .args .start) (s .args .initial) _ (omega (arith, s .pre .1)) (s .pre .0 .1 .formed) (s .pre .0 .1 .steps)
 
 record-step-requires : tie.Need-record-step-requires Inv-loop μ-loop
 record-step-requires c κs = let i = c .before .loop .inv in (c .before .before .before .pre .0 .0, i .formed, omega (arith, i .few, c .loop-test .taken))

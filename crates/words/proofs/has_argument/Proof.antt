@@ -1,6 +1,6 @@
 -- `words::has_argument` meets its contract. Assumes nothing.
 use mathlib.Core.Path.{_∙_}
-use Rattle.instructions.specs.HeldColumns.{kindAt}
+use Rattle.instructions.specs.Kinds.{kindAt}
 use Rattle.words.proofs.HeadLaws.{takes-argument}
 use borrow.Author.Needs.{needs}
 use Rattle.words.proofs.has_argument.Statement.{statement}

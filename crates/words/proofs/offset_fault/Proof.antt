@@ -10,9 +10,9 @@ use mir.Syntax.{w32}
 use mir.ValLaws.{toZ-ofZ}
 use borrow.Author.Needs.{needs}
 use borrow.Author.Tests.{not-true, not-false}
-use Rattle.instructions.specs.HeldColumns.{kindAt}
+use Rattle.instructions.specs.Kinds.{kindAt}
 use Rattle.words.specs.Words.{wordsOf}
-use Rattle.words.specs.Decoding.{itemOf, opcode, entries, decoded, items, lands, offsetFault}
+use Rattle.words.specs.Decoding.{itemOf, opcode, decodedWords, decoded, items, lands, offsetFault}
 use Rattle.words.specs.Held.{landsIn}
 use Rattle.words.proofs.HeadLaws.{Read, size-small, head-read, head-fits, words-some, entries-none}
 use Rattle.words.proofs.OffsetLaws.{Ahead, ahead-starts, ahead-reads, ahead-room, ahead-next, lands-in, offset-here, offset-next, offset-none}
@@ -22,7 +22,7 @@ use Rattle.words.proofs.offset_fault.Tie as tie
 abbrev Inv-loop : tie.InvT-loop
 Inv-loop words numbers coded rest₀ index₀ rest index =
     Ahead index (wordsOf rest)
-    × (offsetFault (items (decoded (wordsOf words))) (items (decoded (wordsOf words))) ≡ offsetFault (items (decoded (wordsOf words))) (items (entries opcode index (wordsOf rest))))
+    × (offsetFault (items (decoded (wordsOf words))) (items (decoded (wordsOf words))) ≡ offsetFault (items (decoded (wordsOf words))) (items (decodedWords opcode index (wordsOf rest))))
 
 abbrev μ-loop : tie.MeasureT-loop
 μ-loop words numbers coded rest₀ index₀ rest index = length rest

@@ -1,7 +1,7 @@
 -- `words::size_of` meets its contract. Assumes nothing.
 use mathlib.Core.Path.{sym, ap, _∙_}
 use mathlib.Core.Bool.{Bool, cond}
-use Rattle.words.specs.Held.{sizeOf}
+use Rattle.words.specs.Decoding.{sizeOf}
 use borrow.Author.Needs.{needs}
 use Rattle.words.proofs.size_of.Statement.{statement}
 use Rattle.words.proofs.size_of.Tie as tie

@@ -10,10 +10,9 @@ use mir.Syntax.{w32}
 use mir.ValLaws.{toZ-ofZ}
 use borrow.Author.Needs.{needs}
 use borrow.Author.Tests.{not-true, not-false}
-use Rattle.instructions.specs.HeldColumns.{kindAt}
+use Rattle.instructions.specs.Kinds.{kindAt}
 use Rattle.words.specs.Words.{wordsOf}
-use Rattle.words.specs.Decoding.{opcode, entries, callListed, faultFrom, wordFault}
-use Rattle.words.specs.Held.{sizeOf}
+use Rattle.words.specs.Decoding.{opcode, decodedWords, callListed, faultFrom, wordFault, sizeOf}
 use Rattle.words.proofs.HeadLaws.{Read, size-small, head-read, head-fits, words-some}
 use Rattle.words.proofs.FaultLaws.{fault-empty, fault-starts, fault-none, fault-unread, fault-many, fault-call, fault-next}
 use Rattle.words.proofs.word_fault.Statement.{statement}
@@ -21,7 +20,7 @@ use Rattle.words.proofs.word_fault.Tie as tie
 
 abbrev Inv-loop : tie.InvT-loop
 Inv-loop listed words coded rest₀ index₀ count₀ rest index count =
-    (wordFault listed (wordsOf words) ≡ faultFrom listed count (entries opcode index (wordsOf rest))) × (4 * index + length rest ≡ length words) × (count ≤ 1024)
+    (wordFault listed (wordsOf words) ≡ faultFrom listed count (decodedWords opcode index (wordsOf rest))) × (4 * index + length rest ≡ length words) × (count ≤ 1024)
 
 abbrev μ-loop : tie.MeasureT-loop
 μ-loop listed words coded rest₀ index₀ count₀ rest index count = length rest

@@ -9,7 +9,7 @@ use lib.ListN.{getD, take, drop}
 use Rattle.text.specs.Text.{noLine, lines, find}
 use Rattle.instructions.specs.Kinds.{kindNames}
 use Rattle.file_format.specs.Rows.{op}
-use Rattle.words.specs.Held.{sizeOf}
+use Rattle.words.specs.Decoding.{sizeOf}
 use Rattle.words.proofs.HeadLaws.{size-small}
 use Rattle.file_parts.proofs.FillLaws.{line-next}
 use Rattle.words_export.specs.HeldLines.{opsIn}

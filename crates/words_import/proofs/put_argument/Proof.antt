@@ -8,7 +8,7 @@ use mir.Val.{ofZ, toZ}
 use mir.ValLaws.{toZ-ofZ}
 use Rattle.text.specs.Text.{bytes}
 use Rattle.text.specs.Decimal.{decimal}
-use Rattle.instructions.specs.HeldColumns.{kindAt}
+use Rattle.instructions.specs.Kinds.{kindAt}
 use Rattle.file_format.specs.Layout.{list}
 use Rattle.words.specs.Lines.{integer}
 use Rattle.words_import.specs.HeldLines.{argumentIn}

@@ -12,7 +12,7 @@ returns c =
     let start = c .before .before .before .before in
     let s = start .args .self in
     let formed = store-formed s (start .pre .0) (start .args .n) in (
-      ap (λ a. done (view (record { at = s .at; accu = a; free = s .free; stack = stored (start .args .n) s .stack }))) (c .number .ensures) ∙ store-is s (start .pre .0) (start .args .n) (start .pre .1),
+      ap (λ a. done (view (record { at = s .at; accu = a; free = s .free; stack = stored (start .args .n) s .stack }))) (c .exactly .ensures) ∙ store-is s (start .pre .0) (start .args .n) (start .pre .1),
       record { free = formed .free; places = formed .places },
     )
 

@@ -6,7 +6,7 @@ use Rattle.machine_state.proofs.registers.Registers.store.Statement.{st
 use Rattle.machine_state.proofs.registers.Registers.store.Tie as tie
 
 returns : tie.Need-returns
-returns c = c .load .ensures ∙ ap (λ a. loaded a (c .before .before .args .self)) (c .before .number .ensures)
+returns c = c .load .ensures ∙ ap (λ a. loaded a (c .before .before .args .self)) (c .before .exactly .ensures)
 
 pub store-spec : {M : Type 1} → statement M
 store-spec = tie.close (tie.spec (λ c κs. search needs) (λ c κs. search needs) returns)
