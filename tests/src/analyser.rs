@@ -54,7 +54,7 @@ extern "C" {
     ) -> u64;
 }
 
-#[link(name = "interrupts", kind = "static")]
+#[link(name = "test_interrupts", kind = "static")]
 extern "C" {
     fn tickbound_test_after(text: *const u8, text_length: usize, n: u64, out: *mut u64, out_length: usize) -> u64;
 }
