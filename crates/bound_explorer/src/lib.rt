@@ -1,7 +1,10 @@
 // The explorer: every way of a routine, under a budget of steps. The meaning is in specs/.
 use bound_figures::Found;
 use bound_figures::Tally;
+use bound_figures::both;
 use cells::Cell;
+use machine_outcome::entry_place;
+use machine_outcome::index_of;
 use machine_state::State;
 use machine_state::code::Fetched;
 use machine_state::code::Line;
@@ -106,11 +109,7 @@ pub fn explore(
             let top = registers.free;
             stack[top] = cells::same(registers.accu);
         }
-        let at = machine_outcome::entry_place(
-            line.code,
-            machine_outcome::index_of(line.operand),
-            registers.free,
-        );
+        let at = entry_place(line.code, index_of(line.operand), registers.free);
         match turns::turn_of(code, line, registers, stack[at]) {
             Turn::Goes(next) => registers = next,
             Turn::Jumps(next) => {
@@ -128,13 +127,7 @@ pub fn explore(
             Turn::Gets(field) => registers = registers.load(blocks[field]).advance(),
             Turn::Opens => {
                 let ways = branch(code, line, registers, stack, blocks, openings, left);
-                return bound_figures::both(
-                    tally,
-                    budget - left,
-                    ways.untaken,
-                    line.extra,
-                    ways.taken,
-                );
+                return both(tally, budget - left, ways.untaken, line.extra, ways.taken);
             }
             Turn::Halts => return bound_figures::finished(tally, budget - left),
             Turn::Stuck => return stuck(registers, budget - left),
