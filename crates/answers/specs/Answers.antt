@@ -1,20 +1,13 @@
 -- The answer of a public function, what the lent memory then holds, and the same in the code's type.
 -- (document 01, Refusal table; demands 1 and 2)
-use Prim.Native.Nat.{ℕ, _≤_}
-use mathlib.Core.Path.{_≡_}
-use mathlib.Core.Bool.{cond}
-use mathlib.Core.List.{List, _++_}
-use mathlib.Core.Option.{Option, some, none}
-use lib.Dec.{ltb}
-use lib.ListN.{length, take, drop}
-use Rattle.refusals.specs.declared.Refusal.{Refusal}
-use Rattle.refusals.specs.declared.Refusal.the-variants.{ReportMemory}
+use Rattle.refusals.specs.Library.{ℕ, _≤_, ltb, length, take, drop, cond, List, _++_, Option, some, none, _≡_}
+use Rattle.file_format.specs.Terms.{Refusal, ReportMemory}
 use Rattle.refusals.specs.declared.Acceptance.{Acceptance}
 use Rattle.refusals.specs.declared.Acceptance.the-variants as verdicts
 use Rattle.file_format.specs.Routine.{Routine, Reading, routine}
 use Rattle.file_format.specs.Routine as readings
-use Rattle.answers.specs.declared.Answer as code
 use Rattle.answers.specs.declared.Answer.the-variants.{Reported, Refused}
+use Rattle.answers.specs.declared.Answer as code
 
 -- a report's bytes, or a refusal
 pub data Answer : Type 0 where

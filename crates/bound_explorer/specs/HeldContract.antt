@@ -1,17 +1,9 @@
 -- The explorer's contract, by the names of its parts.
-use mathlib.Core.Path.{_≡_}
-use mathlib.Core.List.{List}
-use Prim.Native.Nat.{ℕ, _+_, _*_, _^_, _≤_, _<_}
-use lib.IntN.{ℤ}
-use Rattle.cells.specs.declared.Cell.{Cell}
-use Rattle.cells.specs.Cells.{unknown}
-use Rattle.cells.specs.Order.{Allowed}
-use Rattle.machine.specs.Machine.{State, Code, step}
-use Rattle.machine.specs.Order.{Cellwise}
-use Rattle.machine_state.specs.declared.State as states
+use Rattle.refusals.specs.Library.{ℕ, _+_, _*_, _^_, _≤_, _<_, ℤ, List, _≡_}
+use Rattle.bound_theory.specs.Terms.{Report, begin, after, Cell, unknown, Allowed, State, Code, step, Cellwise}
 use Rattle.machine_state.specs.HeldState.{WellFormed, whole}
-use Rattle.bound_theory.specs.Tree.{Report, explore, tree, steps}
-use Rattle.bound_theory.specs.Run.{begin, after}
+use Rattle.machine_state.specs.declared.State as states
+use Rattle.bound_theory.specs.Tree.{explore, tree, steps}
 use Rattle.bound_theory.specs.Promises.{Safe, Exact}
 use Rattle.bound_figures.specs.declared.Found.{Found}
 use Rattle.bound_figures.specs.HeldFigures.{acceptedAs, Shows, walked}

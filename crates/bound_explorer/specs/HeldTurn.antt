@@ -1,21 +1,14 @@
 -- What a turn of the explorer's loop comes to: of the registers and the entry that a line looks at, for every stack and all blocks.
-use mathlib.Core.Path.{_≡_}
-use mathlib.Core.Bool.{cond}
-use mathlib.Core.List.{List}
-use Prim.Native.Nat.{ℕ, _+_, _-_, _≤_, _<_}
-use lib.Dec.{eqb}
-use lib.ListN.{length, getD, set}
-use Rattle.cells.specs.Try.{Try, stuck, done, _>>=_}
-use Rattle.cells.specs.declared.Cell.{Cell}
-use Rattle.cells.specs.Cells.{unknown}
+use Rattle.refusals.specs.Library.{ℕ, _+_, _-_, _≤_, _<_, eqb, length, getD, set, cond, List, _≡_}
+use Rattle.machine.specs.Terms.{Try, done, stuck, _>>=_, Cell, unknown, Code, Instruction, Next, stops, goes, opens, fetch}
 use Rattle.instructions.specs.HeldColumns.{operationOf}
-use Rattle.machine.specs.Machine.{Instruction, Code, fetch, index, Next, stops, goes, opens, withExtra}
-use Rattle.machine_outcome.specs.HeldOutcome.{outcome, resume}
+use Rattle.machine.specs.Machine.{index, withExtra}
 use Rattle.machine_state.specs.declared.registers.Registers.{Registers}
 use Rattle.machine_state.specs.declared.code.Line.{Line}
 use Rattle.machine_state.specs.HeldProgram.{lineOf}
 use Rattle.machine_state.specs.HeldRegisters.{withStack, popped, stored, loaded, advanced, placed}
 use Rattle.machine_state.specs.HeldState.{Fits, whole}
+use Rattle.machine_outcome.specs.HeldOutcome.{outcome, resume}
 use Rattle.bound_explorer.specs.declared.turns.Turn.{Turn}
 use Rattle.bound_explorer.specs.declared.turns.Turn.the-variants.{Goes, Jumps, Stores, Sets, Gets, Opens, Halts, Stuck}
 

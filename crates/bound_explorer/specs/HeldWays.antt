@@ -1,11 +1,8 @@
 -- What the two ways of an unknown branch come to.
-use mathlib.Core.Path.{_≡_}
-use mathlib.Core.List.{List}
-use Prim.Native.Nat.{ℕ, _+_, _-_, _<_}
-use Rattle.refusals.specs.declared.Refusal.the-variants.{Openings}
+use Rattle.refusals.specs.Library.{ℕ, _+_, _-_, _<_, List, _≡_}
+use Rattle.bound_theory.specs.Terms.{Openings, Cell, Code}
 use Rattle.refusals.specs.declared.Acceptance.the-variants.{Accepted}
-use Rattle.cells.specs.declared.Cell.{Cell}
-use Rattle.machine.specs.Machine.{Code, index}
+use Rattle.machine.specs.Machine.{index}
 use Rattle.machine_state.specs.declared.State.{State}
 use Rattle.machine_state.specs.declared.code.Line.{Line}
 use Rattle.bound_figures.specs.HeldFigures.{refusedAs}

@@ -1,14 +1,9 @@
 -- What the explorer's answer stands for: the verdict of the bound, and how many steps were walked.
-use Prim.Native.Nat.{ℕ, zero, suc, _+_, _*_, max, _≤_}
-use mathlib.Core.Bool.{cond}
-use mathlib.Core.List.{List, [], _∷_}
-use mathlib.Core.Path.{_≡_}
-use lib.Dec.{leb}
-use Rattle.refusals.specs.declared.Refusal.{Refusal}
-use Rattle.machine.specs.Machine.{Price}
-use Rattle.bound_theory.specs.Tree.{Decision, N, T, Step, made, not-made, Report, Verdict, accepted, refused}
-use Rattle.refusals.specs.declared.Acceptance as code
+use Rattle.refusals.specs.Library.{ℕ, zero, suc, _+_, _*_, _≤_, max, leb, cond, List, [], _∷_, _≡_}
+use Rattle.bound_theory.specs.Terms.{Refusal, Decision, N, T, Report, Verdict, accepted, refused, Price}
 use Rattle.refusals.specs.declared.Acceptance.the-variants.{Accepted, Refused}
+use Rattle.refusals.specs.declared.Acceptance as code
+use Rattle.bound_theory.specs.Tree.{Step, made, not-made}
 use Rattle.bound_figures.specs.declared.Found.{Found}
 use Rattle.bound_figures.specs.declared.Tally.{Tally}
 

@@ -2,3 +2,4 @@ pub mod Tree
 pub mod Traces
 pub mod Run
 pub mod Promises
+pub mod Terms

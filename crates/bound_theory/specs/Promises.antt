@@ -1,24 +1,11 @@
 -- What is promised of the bound and of the run, as statements. The file Theorems of the crate `theorems` proves each by its name.
-use mathlib.Core.Path.{_≡_}
-use mathlib.Core.Bool.{true, false}
-use mathlib.Core.List.{List}
-use mathlib.Core.Logic.{_↔_}
-use Prim.Native.Nat.{ℕ, suc, _+_, _≤_, _<_}
-use lib.IntN.{ℤ}
-use lib.ListN.{length}
-use Rattle.refusals.specs.declared.Refusal.{Refusal}
-use Rattle.refusals.specs.declared.Refusal.the-variants.{Stuck, Spent}
-use Rattle.cells.specs.declared.Cell.{Cell}
-use Rattle.cells.specs.Order.{Refines, Allowed}
-use Rattle.cells.specs.Cells.{unknown}
-use Rattle.machine.specs.Machine.{State, Next, Code, height, step}
-use Rattle.cells.specs.Try.{Try, done}
-use Rattle.machine.specs.Lists.{nth}
-use Rattle.machine.specs.Order.{Cellwise}
-use Rattle.machine.specs.Forward.{Forward}
-use Rattle.bound_theory.specs.Tree.{tree, steps, levels, verdict, Report, Verdict, accepted, refused, openingLimit, bound}
-use Rattle.bound_theory.specs.Traces.{Move, cost, wordSum, decisions, Transition, Trace, Path, CostMax, RunMax, Finite, Listed}
-use Rattle.bound_theory.specs.Run.{Run, begin, after, isStuck, boundedAfresh, DeterministicTrace, run}
+use Rattle.refusals.specs.Library.{ℕ, suc, _+_, _≤_, _<_, ℤ, length, true, false, List, _↔_, _≡_}
+use Rattle.bound_theory.specs.Terms.{Refusal, Stuck, Spent, Report, Verdict, accepted, refused, bound, openingLimit, Move, cost, wordSum, Transition, CostMax, Run}
+use Rattle.bound_theory.specs.Terms.{begin, after, run, isStuck, Try, done, Cell, unknown, Allowed, Refines, nth, State, Code, Next, step, height, Cellwise}
+use Rattle.bound_theory.specs.Terms.{Forward}
+use Rattle.bound_theory.specs.Tree.{tree, steps, levels, verdict}
+use Rattle.bound_theory.specs.Traces.{decisions, Trace, Path, RunMax, Finite, Listed}
+use Rattle.bound_theory.specs.Run.{boundedAfresh, DeterministicTrace}
 
 -- no figure of the first report is greater than that of the second
 pub record NoGreater (less more : Report) : Type 0 where
@@ -48,6 +35,10 @@ abbrev pub Interruptible : Code → (State → Verdict) → Type 0
 Interruptible c M =
     (t : State) (q : Report) → M t ≡ accepted q →
     (s : State) → Cellwise Allowed s t → (answers : List ℤ) (n : ℕ) → Safe c M q (begin s answers) n (after c n (begin s answers))
+
+-- so of the first bound, with any budget
+abbrev pub BoundInterruptible : Type 0
+BoundInterruptible = (c : Code) (budget : ℕ) → Interruptible c (bound c budget)
 
 -- "STOP is a step, and none follows it: a larger number of steps gives the same state and sums."
 abbrev pub NothingFollows : Type 0

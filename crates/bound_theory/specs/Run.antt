@@ -1,15 +1,8 @@
 -- A run of the plain machine. (document 01, Interrupted runs)
-use mathlib.Core.Path.{_≡_}
-use Prim.Native.Nat.{ℕ, zero, suc, _+_, max}
-use mathlib.Core.Bool.{Bool, true, false, cond}
-use mathlib.Core.List.{List, [], _∷_}
-use lib.Dec.{ltb}
-use lib.IntN.{ℤ, pos}
+use Rattle.refusals.specs.Library.{ℕ, zero, suc, _+_, max, ltb, ℤ, pos, Bool, true, false, cond, List, [], _∷_, _≡_}
+use Rattle.machine.specs.Terms.{Try, done, stuck, Cell, exactly, State, Code, Price, Next, stops, goes, opens, step, height}
 use Rattle.refusals.specs.declared.Refusal.the-variants.{Stuck, Spent}
-use Rattle.cells.specs.Try.{Try, stuck, done}
-use Rattle.cells.specs.declared.Cell.{Cell}
-use Rattle.cells.specs.Cells.{exactly}
-use Rattle.machine.specs.Machine.{State, Price, Next, stops, goes, opens, Code, height, step, takesAnswer}
+use Rattle.machine.specs.Machine.{takesAnswer}
 use Rattle.bound_theory.specs.Tree.{Verdict, accepted, refused}
 use Rattle.bound_theory.specs.Traces.{Move, move}
 

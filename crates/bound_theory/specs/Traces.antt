@@ -1,8 +1,6 @@
 -- Document 000 over an action on states: nondeterministic traces (Definition 7), the maximum cost (Definition 5), the maximum trace
 -- (Definition 11); and, apart from any fuel, which step of the tree has which number.
-use mathlib.Core.Path.{_≡_}
-use mathlib.Core.List.{List, [], _∷_, _++_}
-use Prim.Native.Nat.{ℕ, suc, _+_, max, _≤_, _<_}
+use Rattle.refusals.specs.Library.{ℕ, suc, _+_, _≤_, _<_, max, List, [], _∷_, _++_, _≡_}
 use Rattle.refusals.specs.declared.Refusal.{Refusal}
 use Rattle.refusals.specs.declared.Refusal.the-variants.{Stuck, Openings, Spent}
 use Rattle.cells.specs.Try.{Try, stuck, done}

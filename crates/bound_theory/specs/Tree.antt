@@ -1,14 +1,9 @@
 -- The tree of steps from a state, and the bound's verdict and report on it. (document 01, Exploring)
 -- Everything is over an action on states: in the bound it is `step c unknown`.
-use Prim.Native.Nat.{ℕ, zero, suc, _+_, max}
-use mathlib.Core.Bool.{Bool, true, false}
-use mathlib.Core.List.{List, [], _∷_, _++_}
-use lib.Dec.{leb}
+use Rattle.refusals.specs.Library.{ℕ, zero, suc, _+_, max, leb, Bool, true, false, List, [], _∷_, _++_}
+use Rattle.machine.specs.Terms.{Try, done, stuck, unknown, State, Code, Price, Next, stops, goes, opens, step, height}
 use Rattle.refusals.specs.declared.Refusal.{Refusal}
 use Rattle.refusals.specs.declared.Refusal.the-variants.{Stuck, Openings, Spent}
-use Rattle.cells.specs.Try.{Try, stuck, done}
-use Rattle.cells.specs.Cells.{unknown}
-use Rattle.machine.specs.Machine.{State, Price, Next, stops, goes, opens, Code, height, step}
 
 -- why a step of the tree is not made: it is stuck, it would open one branch too many, or the tree is cut off there
 pub data Reason : Type 0 where

@@ -1,15 +1,10 @@
 -- The number that C gets of an answer of the public functions.
-use Prim.Native.Nat.{ℕ, _+_, _*_, _%_, _≤_, _<_}
-use mathlib.Core.Path.{_≡_}
-use mathlib.Core.Bool.{cond}
-use mathlib.Core.List.{List}
-use mathlib.Core.Option.{Option, some, none}
-use lib.Dec.{ltb}
+use Rattle.refusals.specs.Library.{ℕ, _+_, _*_, _%_, _≤_, _<_, ltb, cond, List, Option, some, none, _≡_}
 use Rattle.refusals.specs.declared.Refusal.{Refusal}
 use Rattle.refusals.specs.Refusals.{number, place}
 use Rattle.answers.specs.Answers.{Answer, reported, refused, answerOf}
-use Rattle.answers.specs.declared.Answer as code
 use Rattle.answers.specs.declared.Answer.the-variants.{Reported, Refused}
+use Rattle.answers.specs.declared.Answer as code
 
 -- an answer as one number: a report's length; for a refusal bit 63, its number from bit 32 on, and the lowest 32 bits of its place
 unfoldable pub wordOf : code.Answer → ℕ

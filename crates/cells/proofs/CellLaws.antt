@@ -22,7 +22,7 @@ use Rattle.cells.specs.declared.Binary.the-variants.{Add, Subtract, Comp
 use Rattle.cells.specs.Try.{Try}
 use Rattle.cells.specs.Cells.{range, high, exactly, unknown, handle, calculate₁, calculate₂, results, least₁, range₁, wider, range₂, map₁, compareHandles, combineHandles, map₂, operate₁, operate₂, conditionIn, condition, handled, block}
 use Rattle.cells.specs.Order.{Refines, same, inside, Allowed, among, same-handle}
-use Rattle.cells.specs.Confined.{confineValue, confine, Confined, Kept}
+use Rattle.cells.specs.HeldConfined.{confineValue, confine, Confined, Kept}
 use Rattle.cells.specs.Covering.{Covered, by-stuck, both, Narrower, zeros, nonzeros, zero-unknown, nonzero-unknown, unknowns, Lawful}
 use Rattle.cells.proofs.Covering.{covered-self}
 use Rattle.cells.proofs.RangeLaws.{Linear, linear, lies, covers, linear-self, linear-trans, linear-one, one-allowed, InBits, fitting-yes, Results, fits, whole, results-is, wrap-bits, wrap-unknown, results-refine, number-refines, one-or-more, high-zero, range₁-refines}

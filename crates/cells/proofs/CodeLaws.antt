@@ -13,7 +13,7 @@ use Rattle.numbers.proofs.IntegerLaws.{difference-is}
 use Rattle.cells.specs.declared.Cell.{Cell}
 use Rattle.cells.specs.Cells.{range, handle}
 use Rattle.cells.specs.HeldCodes.{decodedCell, decodedCells}
-use Rattle.cells.specs.Confined.{confine, Confined, Kept}
+use Rattle.cells.specs.HeldConfined.{confine, Confined, Kept}
 use Rattle.cells.specs.Order.{Pointwise, end, cons}
 use Rattle.cells.proofs.CellLaws.{confined-range, handle-confined, kept-self}
 

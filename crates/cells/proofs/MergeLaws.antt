@@ -18,7 +18,7 @@ use Rattle.cells.specs.Cells.{cell, range, high, between, handle}
 use Rattle.cells.specs.Merge.{lower, upper, mergeValues, mergeCells, Clash, here, there}
 use Rattle.cells.specs.Order as order
 use Rattle.cells.specs.Order.{Refines}
-use Rattle.cells.specs.Confined.{Confined}
+use Rattle.cells.specs.HeldConfined.{Confined}
 use Rattle.cells.specs.Covering.{Covered, by-stuck, both}
 use Rattle.cells.proofs.RangeLaws.{Linear, linear-trans, covers, InBits, bits-down, in-unknown}
 use Rattle.cells.proofs.CellLaws.{Below, ranges, handles, below, confined-range, range-bits, unknown-bits}

@@ -1,10 +1,7 @@
 -- Cells, and all that the machine does with them: nothing above this layer looks inside a cell. (document 01, Cells and machine; document
 -- 02 §12)
-use Prim.Native.Nat.{ℕ, _+_, _-_}
-use mathlib.Core.Bool.{Bool, true, cond, not, _&&_}
-use lib.Dec.{eqb}
-use lib.IntN.{ℤ, pos, negℤ, natAbs, _+ℤ_, _-ℤ_}
-use lib.Signed.{ltZ, leZ}
+use Rattle.refusals.specs.Library.{ℕ, _+_, _-_, eqb, ℤ, pos, natAbs, _+ℤ_, _-ℤ_, leZ, ltZ, Bool, true, cond, not, _&&_}
+use lib.IntN.{negℤ}
 use Rattle.numbers.specs.Numbers.{bits, modulus, wrap, same, holds, bit, within, numbers}
 use Rattle.numbers.specs.declared.Comparison.{Comparison}
 use Rattle.numbers.specs.declared.Comparison.the-variants.{Equal, Unequal, Less, AtMost, Greater, AtLeast}

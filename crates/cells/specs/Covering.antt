@@ -1,7 +1,6 @@
 -- What it is that results agree where cells agree: an action is covered by another where it gives something related whenever the other gives
 -- something. Where the other is not stuck, neither is it. (document 02 §3)
-use mathlib.Core.Path.{_≡_}
-use lib.IntN.{ℤ}
+use Rattle.refusals.specs.Library.{ℤ, _≡_}
 use Rattle.cells.specs.Try.{Try, stuck, done}
 use Rattle.cells.specs.declared.Cell.{Cell}
 use Rattle.cells.specs.declared.Unary.{Unary}

@@ -1,9 +1,5 @@
 -- Cells as numbers, as a table of numbers holds them.
-use Prim.Native.Nat.{ℕ, _-_, _/_, _%_}
-use mathlib.Core.Bool.{cond}
-use mathlib.Core.List.{List, map}
-use lib.Dec.{leb}
-use lib.IntN.{pos, _-ℤ_}
+use Rattle.refusals.specs.Library.{ℕ, _-_, _/_, _%_, leb, pos, _-ℤ_, cond, List, map}
 use Rattle.numbers.specs.Numbers.{bits, modulus, half}
 use Rattle.cells.specs.declared.Cell.{Cell}
 use Rattle.cells.specs.Cells.{range, handle}

@@ -4,7 +4,7 @@ pub mod HeldAnswers
 pub mod Order
 pub mod Covering
 pub mod Merge
-pub mod Confined
+pub mod HeldConfined
 pub mod HeldCodes
 pub mod HeldSmall
 pub mod Promises

@@ -1,10 +1,5 @@
 -- Merging two cells, where ways meet. (document 02 §9 and §12)
-use Prim.Native.Nat.{ℕ}
-use mathlib.Core.Bool.{cond}
-use lib.Dec.{eqb}
-use lib.IntN.{ℤ}
-use lib.Signed.{leZ}
-use mathlib.Core.Path.{_≡_}
+use Rattle.refusals.specs.Library.{ℕ, eqb, ℤ, leZ, cond, _≡_}
 use Rattle.cells.specs.Try.{Try, stuck, done}
 use Rattle.cells.specs.declared.Value.{Value}
 use Rattle.cells.specs.declared.Value.the-variants.{Range, Handle}

@@ -1,10 +1,5 @@
 -- The erasure order of cells, and which plain cells a cell allows.
-use lib.IntN.{ℤ}
-use lib.Signed.{leZ}
-use Prim.Native.Nat.{ℕ}
-use mathlib.Core.Path.{_≡_}
-use mathlib.Core.Bool.{true}
-use mathlib.Core.List.{List, [], _∷_}
+use Rattle.refusals.specs.Library.{ℕ, ℤ, leZ, true, List, [], _∷_, _≡_}
 use Rattle.cells.specs.declared.Cell.{Cell}
 use Rattle.cells.specs.Cells.{range, high, handle}
 

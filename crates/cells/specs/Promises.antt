@@ -1,8 +1,5 @@
 -- What is promised of the operations on ranges, as statements. The file Theorems in proofs/ proves each by its name. (document 02 §12)
-use Prim.Native.Nat.{ℕ, _+_, _<_}
-use mathlib.Core.Path.{_≡_}
-use mathlib.Core.Bool.{true, false}
-use lib.IntN.{ℤ, pos}
+use Rattle.refusals.specs.Library.{ℕ, _+_, _<_, ℤ, pos, true, false, _≡_}
 use Rattle.numbers.specs.Numbers.{IsNumber, holds}
 use Rattle.numbers.specs.declared.Comparison.{Comparison}
 use Rattle.cells.specs.declared.Unary.{Unary}

@@ -9,7 +9,7 @@ ghost use Rattle.cells.specs.Cells.{range, high, exactly, unknown, betwe
 ghost use Rattle.cells.specs.HeldAnswers.{ofOperand, ofTested, ofHandled};
 ghost use Rattle.cells.specs.Merge.{lower, upper, mergeCells};
 ghost use Rattle.cells.specs.HeldCodes.{decodedCell};
-ghost use Rattle.cells.specs.Confined.{confine, Confined};
+ghost use Rattle.cells.specs.HeldConfined.{confine, Confined};
 ghost use Rattle.cells.specs.HeldSmall.{Small};
 
 // "A cell holds a number, an unknown number or a block handle"; "A start or block cell may be `lo..hi`": a range is its least number and

@@ -1,7 +1,5 @@
 -- What an argument of a program says where a number of 32 bits is wanted.
-use mathlib.Core.Bool.{cond}
-use lib.Dec.{ltb}
-use lib.IntN.{pos, negsuc}
+use Rattle.refusals.specs.Library.{ltb, pos, negsuc, cond}
 use Rattle.text.specs.declared.Numeral.{Numeral}
 use Rattle.text.specs.declared.Numeral.the-variants.{Misspelt as misspelt, Number as number}
 use Rattle.console.specs.declared.Given.{Given}

@@ -1,12 +1,10 @@
 -- What a program prints for an answer of the analyser's functions.
-use Prim.Native.Nat.{ℕ, _≤_}
-use mathlib.Core.List.{List}
-use lib.ListN.{length, take}
-use Rattle.report.specs.Report.{refusalText}
+use Rattle.refusals.specs.Library.{ℕ, _≤_, length, take, List}
 use Rattle.answers.specs.Answers.{reported, refused}
-use Rattle.answers.specs.Answers as answers
 use Rattle.answers.specs.declared.Answer.{Answer}
 use Rattle.answers.specs.declared.Answer.the-variants.{Reported, Refused}
+use Rattle.answers.specs.Answers as answers
+use Rattle.report.specs.Report.{refusalText}
 
 -- the report at the start of the memory, or the line of the refusal
 abbrev pub line : Answer → List ℕ → List ℕ

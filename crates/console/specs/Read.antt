@@ -1,12 +1,5 @@
 -- Whether what was read is a whole text.
-use Prim.Native.Nat.{ℕ}
-use mathlib.Core.Path.{_≡_}
-use mathlib.Core.Bool.{Bool, true}
-use mathlib.Core.Logic.{_⊎_}
-use mathlib.Core.List.{List}
-use lib.IntN.{ℤ, pos}
-use lib.ListN.{length}
-use lib.Signed.{nonNeg}
+use Rattle.refusals.specs.Library.{ℕ, ℤ, pos, nonNeg, length, Bool, true, List, _⊎_, _≡_}
 
 -- of n bytes in the memory, by what the last read answered: -1 where it failed, 0 at the end of the input
 pub record Whole (n : ℕ) (isWhole : Bool) (last : ℤ) (memory : List ℕ) : Type 0 where

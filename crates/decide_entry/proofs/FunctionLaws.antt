@@ -21,11 +21,11 @@ use Rattle.report.proofs.DecodeLaws.{report-of}
 use Rattle.answers.specs.Answers.{Answer, reported, refused, memoryLimit, memory, answerOf, reportLength, Delivers}
 use Rattle.answers.specs.declared.Answer as code
 use Rattle.answers.proofs.AnswerLaws.{reading-passed, delivers}
-use Rattle.decide_entry.specs.declared.Source.the-variants.{First, Merging}
-use Rattle.decide_entry.specs.Decision.{decisionText}
+use Rattle.decide_report.specs.declared.Source.the-variants.{First, Merging}
+use Rattle.decide_report.specs.Decision.{decisionText}
 use Rattle.decide_entry.specs.Answers.{forSize, byMerging, decided, decideRoutine, decideAnswer}
 use Rattle.decide_entry.specs.Promises.{KeepsTick, OverTick, UndecidedTick}
-use Rattle.decide_entry.specs.Held.{reportIn, Roomy}
+use Rattle.decide_report.specs.Held.{reportIn, Roomy}
 use Rattle.decide_entry.proofs.PromiseLaws.{keeps, over-tick, undecided-tick, decide-reported}
 
 -- ---- the verdict that figures show

@@ -1,3 +1,2 @@
-pub mod DecisionLaws
 pub mod PromiseLaws
 pub mod FunctionLaws

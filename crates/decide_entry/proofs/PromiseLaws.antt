@@ -24,12 +24,12 @@ use Rattle.report_theory.proofs.SizeLaws.{ticks, bound-limited, merged-limited}
 use Rattle.report.proofs.ReportLaws.{bound-small}
 use Rattle.answers.specs.Answers.{reported, refused, memoryLimit}
 use Rattle.answers.proofs.AnswerLaws.{never, from-reading, place-from}
-use Rattle.decide_entry.specs.declared.Source.{Source}
-use Rattle.decide_entry.specs.declared.Source.the-variants.{First, Merging, Split}
-use Rattle.decide_entry.specs.Decision.{fits, over, undecided, decisionText}
+use Rattle.decide_report.specs.declared.Source.{Source}
+use Rattle.decide_report.specs.declared.Source.the-variants.{First, Merging, Split}
+use Rattle.decide_report.specs.Decision.{fits, over, undecided, decisionText}
 use Rattle.decide_entry.specs.Answers.{forSize, byMerging, decided, decideRoutine, decideAnswer}
 use Rattle.decide_entry.specs.Promises.{Gives, Decided, KeptRuns, KeepsTick, OverTick, UndecidedTick, DecisionsKept}
-use Rattle.decide_entry.proofs.DecisionLaws.{ruled-fits, ruled-over, ruled-undecided, says-ruling, decision-fits, decision-some}
+use Rattle.decide_report.proofs.DecisionLaws.{ruled-fits, ruled-over, ruled-undecided, says-ruling, decision-fits, decision-some}
 
 -- ---- what a decision comes from
 

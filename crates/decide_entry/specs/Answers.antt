@@ -1,17 +1,11 @@
 -- The decision's answer to a routine file and to a length of lent memory. (docs/ROUTINE-FILE.md, The decision)
-use Prim.Native.Nat.{ℕ}
-use mathlib.Core.Bool.{Bool, true, cond}
-use mathlib.Core.List.{List}
-use lib.Dec.{eqb}
-use Rattle.refusals.specs.declared.Refusal.{Refusal}
-use Rattle.refusals.specs.Refusals.{number}
-use Rattle.bound_theory.specs.Tree.{Verdict, bound}
+use Rattle.refusals.specs.Library.{ℕ, eqb, Bool, true, cond, List}
+use Rattle.bound_theory.specs.Terms.{number, Verdict, bound}
+use Rattle.answers.specs.Terms.{Routine, readBound, Answer, reported, refused, lending, ofReading, memoryLimit, Refusal}
 use Rattle.bound_theory.specs.Tree as verdicts
 use Rattle.merge_theory.specs.Merge.{merged}
-use Rattle.file_format.specs.Routine.{Routine, readBound}
-use Rattle.answers.specs.Answers.{Answer, reported, refused, memoryLimit, lending, ofReading}
-use Rattle.decide_entry.specs.declared.Source.the-variants.{First, Merging}
-use Rattle.decide_entry.specs.Decision.{decisionText}
+use Rattle.decide_report.specs.declared.Source.the-variants.{First, Merging}
+use Rattle.decide_report.specs.Decision.{decisionText}
 
 -- the first bound has too much to walk: it refuses by 8 or 9
 unfoldable pub forSize : Refusal → Bool

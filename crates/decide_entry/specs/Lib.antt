@@ -1,4 +1,2 @@
-pub mod Decision
 pub mod Answers
 pub mod Promises
-pub mod Held

@@ -1,31 +1,15 @@
 -- What is promised of the bytes of a decision, as statements. The contract of `decide` has each by its name.
-use Prim.Native.Nat.{ℕ, _≤_, _<_}
-use mathlib.Core.Path.{_≡_}
-use mathlib.Core.Bool.{true, false}
-use mathlib.Core.List.{List, _++_}
-use lib.IntN.{ℤ}
-use Rattle.refusals.specs.declared.Refusal.{Refusal}
-use Rattle.cells.specs.Cells.{unknown}
-use Rattle.cells.specs.Order.{Allowed}
-use Rattle.machine.specs.Machine.{State, Code, height, step}
-use Rattle.machine.specs.Order.{Cellwise}
-use Rattle.bound_theory.specs.Tree.{Report, accepted, refused, bound}
-use Rattle.bound_theory.specs.Traces.{cost, CostMax}
-use Rattle.bound_theory.specs.Run.{Run, begin, after, isStuck}
+use Rattle.refusals.specs.Library.{ℕ, _≤_, _<_, ℤ, true, false, List, _≡_}
+use Rattle.bound_theory.specs.Terms.{Refusal, Report, accepted, refused, bound, cost, CostMax, Run, begin, after, isStuck, unknown, Allowed, State, Code, step, height}
+use Rattle.bound_theory.specs.Terms.{Cellwise}
+use Rattle.answers.specs.Terms.{Routine, routine, readBound, reported}
 use Rattle.bound_theory.specs.Promises.{LargestOver}
 use Rattle.merge_theory.specs.Merge.{merged}
 use Rattle.merge_theory.specs.Ways.{table, MergedPath}
-use Rattle.file_format.specs.Routine.{Routine, routine, readBound}
-use Rattle.report.specs.Report.{space}
-use Rattle.decide_entry.specs.declared.Source.{Source}
-use Rattle.decide_entry.specs.declared.Source.the-variants.{First, Merging, Split}
-use Rattle.decide_entry.specs.Decision.{Ruling, fits, over, undecided, rulingWord, decisionNames, decisionText}
-use Rattle.answers.specs.Answers.{reported}
+use Rattle.decide_report.specs.declared.Source.{Source}
+use Rattle.decide_report.specs.declared.Source.the-variants.{First, Merging, Split}
+use Rattle.decide_report.specs.Decision.{fits, over, undecided, decisionText, Says}
 use Rattle.decide_entry.specs.Answers.{forSize, decideAnswer}
-
--- the bytes say a decision: its word stands first under the line of names
-abbrev pub Says : Ruling → List ℕ → Type 0
-Says d bytes = (rest : List ℕ) × (bytes ≡ decisionNames ++ rulingWord d ++ space ++ rest)
 
 -- the figures q are those of the bound that is named; the merging bound is asked only where the first refuses by 8 or 9, and the bound by cases never
 unfoldable pub Gives : Routine → Source → Report → Type 0

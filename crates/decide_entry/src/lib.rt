@@ -1,31 +1,20 @@
 // Whether a routine fits in its tick, on texts and lent memory. The meaning is in specs/.
 use answers::Answer;
-use bound_figures::Found;
+use decide_report::Source;
 use file_check::Reader;
 use file_reader::Routine;
 use refusals::Acceptance;
 use refusals::Refusal;
 ghost use mathlib.Core.Path.{_≡_};
 ghost use mathlib.Core.Bool.{true};
-ghost use mathlib.Core.List.{_++_};
-ghost use Prim.Native.Nat.{_+_, _≤_};
-ghost use lib.ListN.{length, drop};
-ghost use Rattle.text.specs.Memory.{over};
+ghost use lib.ListN.{length};
 ghost use Rattle.bound_theory.specs.Tree.{bound, refused};
 ghost use Rattle.file_reader.specs.HeldRoutine.{Limited};
 ghost use Rattle.file_entry.specs.Held.{routineIn};
 ghost use Rattle.answers.specs.Answers.{memory, answerOf, reportLength, Delivers};
-ghost use Rattle.decide_entry.specs.Decision.{decisionWords, decisionText};
+ghost use Rattle.decide_report.specs.Held.{Roomy};
 ghost use Rattle.decide_entry.specs.Answers.{forSize, decideRoutine, decideAnswer};
 ghost use Rattle.decide_entry.specs.Promises.{KeepsTick, OverTick, UndecidedTick};
-ghost use Rattle.decide_entry.specs.Held.{reportIn, Roomy};
-
-// The bound that gives the figures of a decision.
-pub enum Source {
-    First,
-    Merging,
-    Split,
-}
 
 // Whether the first bound has too much to walk.
 fn for_size(refusal: Refusal) -> bool
@@ -33,59 +22,6 @@ fn for_size(refusal: Refusal) -> bool
 {
     let number = refusals::number(refusal);
     if number == 8 { true } else { number == 9 }
-}
-
-// Puts what is decided and by which bound over out from `at` on, and answers where it ends.
-fn put_ruling(out: &mut [u8], at: usize, source: Source, tick: u64, cycles: u64) -> usize
-    requires { ⌜ at + length (decisionWords source tick cycles) ≤ length (now out) ⌝ }
-    ensures { λ r. ⌜ r ≡ at + length (decisionWords source tick cycles) ⌝ }
-    ensures { λ _. ⌜ now (out .exit) ≡ over (now (out .entry)) at (decisionWords source tick cycles) ⌝ }
-{
-    match source {
-        Source::First => {
-            if tick < cycles {
-                text::put(out, at, b"OVER FIRST")
-            } else {
-                text::put(out, at, b"FITS FIRST")
-            }
-        }
-        Source::Merging => {
-            if tick < cycles {
-                text::put(out, at, b"UNDECIDED MERGING")
-            } else {
-                text::put(out, at, b"FITS MERGING")
-            }
-        }
-        Source::Split => {
-            if tick < cycles {
-                text::put(out, at, b"UNDECIDED SPLIT")
-            } else {
-                text::put(out, at, b"FITS SPLIT")
-            }
-        }
-    }
-}
-
-// Puts the decision by the figures found at the start of out, and answers its length.
-pub fn put_decision(out: &mut [u8], source: Source, tick: u64, found: Found) -> usize
-    requires { ⌜ length (decisionText source tick (reportIn found)) ≤ length (now out) ⌝ }
-    ensures { λ r. ⌜ r ≡ length (decisionText source tick (reportIn found)) ⌝ }
-    ensures { λ _. ⌜ now (out .exit) ≡ decisionText source tick (reportIn found) ++ drop (length (decisionText source tick (reportIn found))) (now (out .entry)) ⌝ }
-{
-    let steps = found.used as u64;
-    let a = text::put(out, 0, b"DECISION BOUND CYCLES TICK WORDS DEPTH STEPS\n");
-    let b = put_ruling(out, a, source, tick, found.cycles);
-    let c = text::put(out, b, b" ");
-    let d = text::put_decimal(out, c, found.cycles);
-    let e = text::put(out, d, b" ");
-    let f = text::put_decimal(out, e, tick);
-    let g = text::put(out, f, b" ");
-    let h = text::put_decimal(out, g, found.words);
-    let i = text::put(out, h, b" ");
-    let j = text::put_decimal(out, i, found.depth);
-    let k = text::put(out, j, b" ");
-    let l = text::put_decimal(out, k, steps);
-    text::put(out, l, b"\n")
 }
 
 // The decision by the merging bound, where the first bound refuses the routine for its size.
@@ -100,7 +36,7 @@ fn decide_by_merging(refusal: Refusal, routine: Routine, out: &mut [u8]) -> Answ
     let verdict = found.verdict;
     match verdict {
         Acceptance::Accepted => {
-            let n = put_decision(out, Source::Merging, tick, found);
+            let n = decide_report::put_decision(out, Source::Merging, tick, found);
             Answer::Reported(n)
         }
         Acceptance::Refused(_) => Answer::Refused(refusal),
@@ -118,7 +54,7 @@ fn decide_routine(routine: Routine, out: &mut [u8]) -> Answer
     let verdict = found.verdict;
     match verdict {
         Acceptance::Accepted => {
-            let n = put_decision(out, Source::First, tick, found);
+            let n = decide_report::put_decision(out, Source::First, tick, found);
             Answer::Reported(n)
         }
         Acceptance::Refused(refusal) => {

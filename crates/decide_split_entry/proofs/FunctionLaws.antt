@@ -26,10 +26,10 @@ use Rattle.split_theory.specs.Split.{split}
 use Rattle.split_cuts.specs.Cuts.{cutsOf}
 use Rattle.split_entry.specs.Answers.{cutsChecked, checked}
 use Rattle.split_entry.proofs.SizeLaws.{split-limited}
-use Rattle.decide_entry.specs.declared.Source.the-variants.{Split}
-use Rattle.decide_entry.specs.Decision.{decisionText}
-use Rattle.decide_entry.specs.Held.{reportIn, Roomy}
-use Rattle.decide_entry.proofs.DecisionLaws.{decision-fits, decision-some}
+use Rattle.decide_report.specs.declared.Source.the-variants.{Split}
+use Rattle.decide_report.specs.Decision.{decisionText}
+use Rattle.decide_report.specs.Held.{reportIn, Roomy}
+use Rattle.decide_report.proofs.DecisionLaws.{decision-fits, decision-some}
 use Rattle.decide_entry.proofs.FunctionLaws.{shown-accepted, shown-refused}
 use Rattle.decide_split_entry.specs.Answers.{decideCases, decideSplitRoutine, decideSplitAnswer}
 use Rattle.decide_split_entry.specs.Promises.{DecidedByCases}

@@ -25,9 +25,9 @@ use Rattle.split_theory.proofs.Theorems.{split-interruptible, split-exact}
 use Rattle.split_cuts.specs.Cuts.{cutsOf}
 use Rattle.split_entry.specs.Answers.{cutsChecked, checked, casesRoutine, splitRoutine, splitAnswer}
 use Rattle.split_entry.proofs.Theorems.{split-places}
-use Rattle.decide_entry.specs.declared.Source.the-variants.{Split}
-use Rattle.decide_entry.specs.Decision.{fits, undecided, decisionText}
-use Rattle.decide_entry.proofs.DecisionLaws.{ruled-fits, ruled-undecided, says-ruling}
+use Rattle.decide_report.specs.declared.Source.the-variants.{Split}
+use Rattle.decide_report.specs.Decision.{fits, undecided, decisionText}
+use Rattle.decide_report.proofs.DecisionLaws.{ruled-fits, ruled-undecided, says-ruling}
 use Rattle.decide_split_entry.specs.Answers.{decideCases, decideSplitRoutine, decideSplitAnswer}
 use Rattle.decide_split_entry.specs.Promises.{SplitDecisionsKept, SplitDecisionRefused}
 use Rattle.decide_split_entry.proofs.FunctionLaws.{from-decision}

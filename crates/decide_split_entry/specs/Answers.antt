@@ -1,15 +1,13 @@
 -- The answer of the decision by cases to a routine file, to the text of its cuts and to a length of lent memory.
 -- (docs/DECISIONS.md, The bound by cases)
-use Prim.Native.Nat.{ℕ}
-use mathlib.Core.List.{List}
-use Rattle.file_format.specs.Routine.{Routine, readBound}
-use Rattle.answers.specs.Answers.{Answer, memoryLimit, lending, ofReading}
-use Rattle.report_theory.specs.Answers.{ofVerdict}
+use Rattle.refusals.specs.Library.{ℕ, List}
+use Rattle.answers.specs.Terms.{Routine, readBound, Answer, lending, ofReading, memoryLimit}
 use Rattle.split_theory.specs.Split.{split}
 use Rattle.split_cuts.specs.Cuts.{cutsOf}
+use Rattle.report_theory.specs.Answers.{ofVerdict}
+use Rattle.decide_report.specs.declared.Source.the-variants.{Split}
+use Rattle.decide_report.specs.Decision.{decisionText}
 use Rattle.split_entry.specs.Answers.{cutsChecked, checked}
-use Rattle.decide_entry.specs.declared.Source.the-variants.{Split}
-use Rattle.decide_entry.specs.Decision.{decisionText}
 
 -- the answer for a routine under the cuts of a text: the decision by the figures of the bound by cases, or the first case's 14 or 7
 unfoldable pub decideCases : List ℕ → Routine → Answer

@@ -1,22 +1,17 @@
 -- What is promised of the bytes of a decision by cases, in terms of both texts. The contract of `decide_split` has each by its name, and
 -- `proofs/Theorems` proves what is said of all texts.
-use Prim.Native.Nat.{ℕ, _<_}
-use mathlib.Core.Path.{_≡_}
-use mathlib.Core.List.{List}
-use mathlib.Core.Logic.{_↔_}
-use Rattle.refusals.specs.declared.Refusal.{Refusal}
+use Rattle.refusals.specs.Library.{ℕ, _<_, List, _↔_, _≡_}
+use Rattle.answers.specs.Terms.{Routine, readBound, reported, refused, Refusal}
 use Rattle.refusals.specs.declared.Acceptance.the-variants.{Accepted}
 use Rattle.bound_theory.specs.Tree.{Report, accepted}
-use Rattle.file_format.specs.Routine.{Routine, readBound}
 use Rattle.file_format.specs.Routine as readings
-use Rattle.answers.specs.Answers.{reported, refused}
 use Rattle.split_theory.specs.Split.{split}
 use Rattle.split_theory.specs.Promises.{SplitFigures}
 use Rattle.split_cuts.specs.Cuts.{cutsOf}
+use Rattle.decide_report.specs.declared.Source.the-variants.{Split}
+use Rattle.decide_report.specs.Decision.{fits, undecided, decisionText, Says}
+use Rattle.decide_entry.specs.Promises.{KeptRuns}
 use Rattle.split_entry.specs.Answers.{cutsChecked, splitAnswer}
-use Rattle.decide_entry.specs.declared.Source.the-variants.{Split}
-use Rattle.decide_entry.specs.Decision.{fits, undecided, decisionText}
-use Rattle.decide_entry.specs.Promises.{Says, KeptRuns}
 use Rattle.decide_split_entry.specs.Answers.{decideSplitAnswer}
 
 -- the bytes are the decision, with the figures q, on the routine x that the text holds, under the cuts of the second text

@@ -1,6 +1,6 @@
 // Whether a routine fits in its tick by the bound by cases, on texts and lent memory. The meaning is in specs/.
 use answers::Answer;
-use decide_entry::Source;
+use decide_report::Source;
 use file_check::Reader;
 use file_reader::Routine;
 use refusals::Acceptance;
@@ -12,7 +12,7 @@ ghost use Rattle.file_format.specs.Routine.{routineOf};
 ghost use Rattle.file_reader.specs.HeldRoutine.{Limited};
 ghost use Rattle.answers.specs.Answers.{memory, answerOf, reportLength, Delivers};
 ghost use Rattle.file_entry.specs.Held.{routineIn};
-ghost use Rattle.decide_entry.specs.Held.{Roomy};
+ghost use Rattle.decide_report.specs.Held.{Roomy};
 ghost use Rattle.split_entry.specs.Held.{Read};
 ghost use Rattle.decide_split_entry.specs.Answers.{decideCases, decideSplitRoutine, decideSplitAnswer};
 ghost use Rattle.decide_split_entry.specs.Promises.{KeepsTickByCases, UndecidedByCases};
@@ -25,11 +25,11 @@ fn decide_cases(routine: Routine, cuts: &[u8], out: &mut [u8]) -> Answer
     ensures { λ _. ⌜ now (out .exit) ≡ memory (decideCases (now (cuts .entry)) (routineIn routine)) (now (out .entry)) ⌝ }
 {
     let tick = routine.tick;
-    let found = split_entry::bounded(routine, cuts);
+    let found = split_figures::bounded(routine, cuts);
     let verdict = found.verdict;
     match verdict {
         Acceptance::Accepted => {
-            let n = decide_entry::put_decision(out, Source::Split, tick, found);
+            let n = decide_report::put_decision(out, Source::Split, tick, found);
             Answer::Reported(n)
         }
         Acceptance::Refused(refusal) => Answer::Refused(refusal),

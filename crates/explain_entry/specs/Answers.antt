@@ -1,19 +1,11 @@
 -- The answer of an explanation to a routine file and to a length of lent memory: the steps of the worst path.
-use Prim.Native.Nat.{ℕ}
-use mathlib.Core.List.{List, _++_}
-use lib.ListN.{length}
-use Rattle.text.specs.Text.{bytes, Line, lines}
-use Rattle.cells.specs.Cells.{unknown}
-use Rattle.machine.specs.Machine.{step}
-use Rattle.bound_theory.specs.Tree.{Report, Verdict, bound}
+use Rattle.refusals.specs.Library.{ℕ, length, List, _++_}
+use Rattle.bound_theory.specs.Terms.{Report, Verdict, bound, Move, unknown, step}
+use Rattle.answers.specs.Terms.{body, Routine, readBound, Answer, reported, refused, lending, ofReading, bytes, Line, lines}
 use Rattle.bound_theory.specs.Tree as verdicts
-use Rattle.bound_theory.specs.Traces.{Move}
-use Rattle.file_format.specs.Layout.{body}
-use Rattle.file_format.specs.Routine.{Routine, readBound}
 use Rattle.report.specs.Report.{boundText}
 use Rattle.explain_walk.specs.Walk.{follow}
 use Rattle.explain_lines.specs.Listing.{shownLines, listing}
-use Rattle.answers.specs.Answers.{Answer, reported, refused, lending, ofReading}
 
 -- Lent memory under 65,536 bytes is refusal 10
 abbrev pub explanationLimit : ℕ

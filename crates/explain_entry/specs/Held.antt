@@ -1,20 +1,14 @@
 -- What the internal functions are handed.
-use Prim.Native.Nat.{ℕ, _≤_}
-use mathlib.Core.Path.{_≡_}
-use mathlib.Core.List.{List}
-use lib.ListN.{length}
-use Rattle.text.specs.Text.{Line}
-use Rattle.cells.specs.Cells.{unknown}
-use Rattle.machine.specs.Machine.{step}
+use Rattle.refusals.specs.Library.{ℕ, _≤_, length, List, _≡_}
+use Rattle.bound_theory.specs.Terms.{Report, unknown, step}
+use Rattle.answers.specs.Terms.{reported, Line}
 use Rattle.machine_state.specs.HeldProgram.{firstOf, linesIn}
-use Rattle.bound_theory.specs.Tree.{Report}
 use Rattle.bound_figures.specs.declared.Found.{Found}
 use Rattle.file_reader.specs.declared.Routine.{Routine}
 use Rattle.file_entry.specs.Held.{routineIn}
 use Rattle.report.specs.HeldPath.{decode, reportOf}
 use Rattle.explain_walk.specs.Walk.{follow}
 use Rattle.explain_lines.specs.Listing.{shownLines, listing}
-use Rattle.answers.specs.Answers.{reported}
 use Rattle.explain_entry.specs.Answers.{explanationText, explainRoutine}
 
 -- the lines of the walk along a path through the routine that the code's arrays hold

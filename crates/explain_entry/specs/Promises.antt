@@ -1,22 +1,11 @@
 -- What an explanation says, as statements. `proofs/Theorems` proves each by its name.
-use Prim.Native.Nat.{ℕ, suc, _≤_}
-use mathlib.Core.Path.{_≡_}
-use mathlib.Core.List.{List, [], _∷_, _++_}
-use lib.ListN.{length}
-use Rattle.text.specs.Text.{lines}
-use Rattle.cells.specs.Try.{done}
-use Rattle.cells.specs.Cells.{unknown}
-use Rattle.machine.specs.Lists.{nth}
-use Rattle.machine.specs.Machine.{Code, step}
-use Rattle.bound_theory.specs.Tree.{Decision, Report, accepted, bound}
-use Rattle.bound_theory.specs.Traces.{Move, Transition, wordSum}
-use Rattle.file_format.specs.Layout.{body}
-use Rattle.file_format.specs.Routine.{Routine, routine, readBound}
+use Rattle.refusals.specs.Library.{ℕ, suc, List, [], _∷_, _++_, _≡_}
+use Rattle.bound_theory.specs.Terms.{Decision, Report, accepted, bound, Move, wordSum, Transition, done, unknown, nth, Code, step}
+use Rattle.answers.specs.Terms.{body, Routine, routine, readBound, reported, lines}
 use Rattle.report.specs.Report.{boundText}
 use Rattle.explain_walk.specs.Promises.{WorstTrace}
 use Rattle.explain_lines.specs.Listing.{Shown, shownLines, listing}
-use Rattle.answers.specs.Answers.{reported}
-use Rattle.explain_entry.specs.Answers.{explanationLimit, entryNames, explainAnswer}
+use Rattle.explain_entry.specs.Answers.{entryNames, explainAnswer}
 
 -- CYCLES of the last line
 unfoldable pub lastCycles : List Shown → ℕ
@@ -63,7 +52,3 @@ pub record Explains (text bs : List ℕ) (x : Routine) (q : Report) (moves : Lis
 -- so of every explanation
 abbrev pub ExplanationsKept : Type 0
 ExplanationsKept = (text : List ℕ) (n : ℕ) (bs : List ℕ) → explainAnswer text n ≡ reported bs → (x : Routine) × (q : Report) × (moves : List Move) × Explains text bs x q moves
-
--- whatever the text, what is explained fits, and the memory was lent
-abbrev pub ExplanationsFit : Type 0
-ExplanationsFit = (text : List ℕ) (n : ℕ) (bs : List ℕ) → explainAnswer text n ≡ reported bs → (1 ≤ length bs) × (length bs ≤ explanationLimit) × (explanationLimit ≤ n)

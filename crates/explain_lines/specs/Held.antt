@@ -1,8 +1,5 @@
 -- What the internal functions are handed.
-use Prim.Native.Nat.{ℕ, _≤_}
-use mathlib.Core.Path.{_≡_}
-use mathlib.Core.List.{List}
-use lib.ListN.{length, drop}
+use Rattle.refusals.specs.Library.{ℕ, _≤_, length, drop, List, _≡_}
 use Rattle.text.specs.Text.{lines}
 use Rattle.explain_lines.specs.declared.Cursor.{Cursor}
 

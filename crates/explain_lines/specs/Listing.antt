@@ -1,12 +1,8 @@
 -- The lines of a walk: one for each of its moves, `AT OP ARG CYCLES WORDS DEPTH WAY`.
-use Prim.Native.Nat.{ℕ, _+_, _-_}
-use mathlib.Core.List.{List, [], _∷_, _++_}
-use lib.ListN.{getD}
+use Rattle.refusals.specs.Library.{ℕ, _+_, _-_, getD, List, [], _∷_, _++_}
+use Rattle.bound_theory.specs.Terms.{Decision, Move, height}
 use Rattle.text.specs.Text.{Line, noLine}
 use Rattle.text.specs.Decimal.{decimal}
-use Rattle.machine.specs.Machine.{height}
-use Rattle.bound_theory.specs.Tree.{Decision}
-use Rattle.bound_theory.specs.Traces.{Move}
 use Rattle.report.specs.Report.{space, feed, pathText}
 
 -- what a line says of a move: its address, the sums so far, this step included, the height before the step, and the decision "at an

@@ -19,7 +19,8 @@ use Rattle.bound_theory.specs.Traces.{Move}
 use Rattle.bound_figures.specs.declared.Found.{Found}
 use Rattle.bound_figures.specs.HeldFigures.{Shows, acceptedAs}
 use Rattle.merge_theory.specs.Merge.{span, only, merged}
-use Rattle.merge_way.specs.Way.{out, beside, nowhence, wayBack, costliestWay}
+use Rattle.merge_way.specs.Way.{out, nowhence, wayBack, costliestWay}
+use Rattle.merge_way.specs.HeldBeside.{beside}
 use Rattle.merge_way.proofs.Theorems.{kept-beside}
 use Rattle.merge_origins.specs.HeldOrigins.{Keeps}
 use Rattle.file_format.specs.Layout.{body}

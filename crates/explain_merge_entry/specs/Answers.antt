@@ -1,17 +1,13 @@
 -- The answer of an explanation of the merging bound to a routine file and to a length of lent memory: a costliest way through the merged
 -- states.
-use Prim.Native.Nat.{ℕ}
-use mathlib.Core.List.{List, _++_}
-use Rattle.text.specs.Text.{Line, lines}
+use Rattle.refusals.specs.Library.{ℕ, List, _++_}
+use Rattle.answers.specs.Terms.{body, Routine, readBound, Answer, reported, refused, lending, ofReading, Line, lines}
 use Rattle.bound_theory.specs.Tree.{Report, Verdict}
 use Rattle.bound_theory.specs.Tree as verdicts
 use Rattle.merge_theory.specs.Merge.{merged}
 use Rattle.merge_way.specs.Way.{costliestWay}
-use Rattle.file_format.specs.Layout.{body}
-use Rattle.file_format.specs.Routine.{Routine, readBound}
 use Rattle.report.specs.Report.{boundText}
 use Rattle.explain_lines.specs.Listing.{shownLines, listing}
-use Rattle.answers.specs.Answers.{Answer, reported, refused, lending, ofReading}
 use Rattle.explain_entry.specs.Answers.{explanationLimit, entryNames}
 
 -- the merging bound's two lines, then one line for each move of the costliest way, under a line of names; ls are the lines after the layout

@@ -1,18 +1,14 @@
 -- What the internal functions are handed.
-use Prim.Native.Nat.{ℕ, _≤_}
-use mathlib.Core.Path.{_≡_}
-use mathlib.Core.List.{List}
-use lib.ListN.{length}
-use Rattle.text.specs.Text.{Line}
+use Rattle.refusals.specs.Library.{ℕ, _≤_, length, List, _≡_}
+use Rattle.answers.specs.Terms.{reported, Line}
 use Rattle.machine.specs.Forward.{Forward}
 use Rattle.machine.specs.Targets.{Closed}
 use Rattle.machine_state.specs.HeldProgram.{firstOf}
-use Rattle.bound_figures.specs.declared.Found.{Found}
 use Rattle.merge_way.specs.Way.{Origins, origins, costliestWay}
+use Rattle.bound_figures.specs.declared.Found.{Found}
 use Rattle.file_reader.specs.declared.Routine.{Routine}
 use Rattle.file_entry.specs.Held.{routineIn}
 use Rattle.explain_lines.specs.Listing.{shownLines, listing}
-use Rattle.answers.specs.Answers.{reported}
 use Rattle.explain_entry.specs.Held.{reportIn}
 use Rattle.explain_merge_entry.specs.Answers.{mergeExplanationText, explainMergeRoutine}
 

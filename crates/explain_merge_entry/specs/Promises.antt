@@ -1,20 +1,11 @@
 -- What an explanation of the merging bound says, as statements. `proofs/Theorems` proves each by its name.
-use Prim.Native.Nat.{ℕ, _≤_}
-use mathlib.Core.Path.{_≡_}
-use mathlib.Core.List.{List, _++_}
-use mathlib.Core.Logic.{_↔_}
-use lib.ListN.{length}
-use Rattle.refusals.specs.declared.Refusal.{Refusal}
-use Rattle.text.specs.Text.{lines}
-use Rattle.bound_theory.specs.Tree.{Report, accepted}
-use Rattle.bound_theory.specs.Traces.{Move, wordSum}
+use Rattle.refusals.specs.Library.{ℕ, _≤_, List, _++_, _↔_, _≡_}
+use Rattle.bound_theory.specs.Terms.{Report, accepted, Move, wordSum}
+use Rattle.answers.specs.Terms.{body, Routine, routine, readBound, reported, refused, Refusal, lines}
 use Rattle.merge_theory.specs.Merge.{merged}
 use Rattle.merge_way.specs.Promises.{Costliest}
-use Rattle.file_format.specs.Layout.{body}
-use Rattle.file_format.specs.Routine.{Routine, routine, readBound}
 use Rattle.report.specs.Report.{boundText}
 use Rattle.explain_lines.specs.Listing.{shownLines, listing}
-use Rattle.answers.specs.Answers.{reported, refused}
 use Rattle.report_theory.specs.Answers.{mergeAnswer}
 use Rattle.explain_entry.specs.Answers.{explanationLimit, entryNames}
 use Rattle.explain_entry.specs.Promises.{lastCycles, lastWords}
@@ -37,10 +28,6 @@ pub record ExplainsMerge (text bs : List ℕ) (x : Routine) (q : Report) (moves 
 -- so of every explanation of the merging bound
 abbrev pub MergeExplanationsKept : Type 0
 MergeExplanationsKept = (text : List ℕ) (n : ℕ) (bs : List ℕ) → explainMergeAnswer text n ≡ reported bs → (x : Routine) × (q : Report) × (moves : List Move) × ExplainsMerge text bs x q moves
-
--- whatever the text, what is explained fits, and the memory was lent
-abbrev pub MergeExplanationsFit : Type 0
-MergeExplanationsFit = (text : List ℕ) (n : ℕ) (bs : List ℕ) → explainMergeAnswer text n ≡ reported bs → (1 ≤ length bs) × (length bs ≤ explanationLimit) × (explanationLimit ≤ n)
 
 -- where enough is lent, an explanation of the merging bound is refused as that bound is, and begins with its report
 abbrev pub ExplainsMergingBound : Type 0

@@ -1,13 +1,10 @@
 -- The moves of a way by what is kept for their goals, and the lines that are made of it.
-use Prim.Native.Nat.{ℕ, _+_, _<_}
-use mathlib.Core.Path.{_≡_}
-use mathlib.Core.List.{List, [], _∷_, _++_}
-use lib.ListN.{length, getD}
+use Rattle.refusals.specs.Library.{ℕ, _+_, _<_, length, getD, List, [], _∷_, _++_, _≡_}
 use Rattle.text.specs.Text.{Line, noLine}
 use Rattle.bound_theory.specs.Traces.{Move}
+use Rattle.merge_origins.specs.HeldOrigins.{lastAt, IsLast}
 use Rattle.report.specs.HeldPath.{decode}
 use Rattle.explain_lines.specs.Listing.{entryText}
-use Rattle.merge_origins.specs.HeldOrigins.{lastAt, IsLast}
 
 -- what is kept for a goal is a move from the address of a row
 abbrev pub Traced : List ℕ → Type 0

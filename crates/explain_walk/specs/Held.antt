@@ -1,16 +1,9 @@
 -- What a step of the walk by value stands for.
-use Prim.Native.Nat.{ℕ, _<_}
-use mathlib.Core.Path.{_≡_}
-use mathlib.Core.Bool.{Bool, true, false, cond}
-use mathlib.Core.List.{List, [], _∷_}
-use Rattle.cells.specs.declared.Cell.{Cell}
-use Rattle.cells.specs.Cells.{unknown}
-use Rattle.machine.specs.Machine.{State, Price, Code, step}
-use Rattle.machine_state.specs.declared.State as states
+use Rattle.refusals.specs.Library.{ℕ, _<_, Bool, true, false, cond, List, [], _∷_, _≡_}
+use Rattle.bound_theory.specs.Terms.{Decision, Move, move, Cell, unknown, State, Code, Price, step}
 use Rattle.machine_state.specs.HeldState.{WellFormed, whole}
+use Rattle.machine_state.specs.declared.State as states
 use Rattle.machine_step.specs.declared.Price as steps
-use Rattle.bound_theory.specs.Tree.{Decision}
-use Rattle.bound_theory.specs.Traces.{Move, move}
 use Rattle.report.specs.HeldPath.{decode}
 use Rattle.explain_walk.specs.declared.Walked.{Walked}
 use Rattle.explain_walk.specs.Walk.{onward}

@@ -1,15 +1,7 @@
 -- What the walk along PATH is, as a statement. `proofs/Theorems` proves it by its name.
-use Prim.Native.Nat.{ℕ, suc}
-use mathlib.Core.Path.{_≡_}
-use mathlib.Core.List.{List}
-use lib.ListN.{length}
-use Rattle.cells.specs.Try.{done}
-use Rattle.cells.specs.Cells.{unknown}
-use Rattle.machine.specs.Lists.{nth}
-use Rattle.machine.specs.Machine.{State, Code, step}
-use Rattle.machine.specs.Forward.{Forward}
-use Rattle.bound_theory.specs.Tree.{Report, accepted, bound}
-use Rattle.bound_theory.specs.Traces.{Move, cost, decisions, Transition, RunMax}
+use Rattle.refusals.specs.Library.{ℕ, suc, length, List, _≡_}
+use Rattle.bound_theory.specs.Terms.{Report, accepted, bound, Move, cost, Transition, done, unknown, nth, State, Code, step, Forward}
+use Rattle.bound_theory.specs.Traces.{decisions, RunMax}
 use Rattle.explain_walk.specs.Walk.{follow}
 
 -- of the moves from a start, under what the bound reports of it

@@ -1,18 +1,14 @@
 -- What a check of a text says, by the rows of the refusal table.
-use Prim.Native.Nat.{ℕ}
-use mathlib.Core.Path.{_≡_}
-use mathlib.Core.Bool.{Bool, cond}
-use mathlib.Core.List.{List}
-use lib.Dec.{eqb, ltb}
-use Rattle.text.specs.Text.{Line}
-use Rattle.file_format.specs.declared.Row.{Row}
-use Rattle.file_format.specs.declared.Row.the-variants.{Layout as layout-row, Range as range-row, Name as name-row, Price as price-row, Target as target-row, Forward as forward-row, Known as known-row}
-use Rattle.file_format.specs.declared.RefusedLine.{RefusedLine}
-use Rattle.file_format.specs.declared.RefusedLine.the-variants.{Nowhere as nowhere, Line as line}
-use Rattle.file_format.specs.Rows.{refusedLine, Passes}
-use Rattle.file_format.specs.Routine.{Reading, unread, routine, readBound, readRun}
+use Rattle.refusals.specs.Library.{ℕ, eqb, ltb, Bool, cond, List, _≡_}
 use Rattle.refusals.specs.declared.Acceptance.{Acceptance}
 use Rattle.refusals.specs.declared.Acceptance.the-variants.{Accepted, Refused}
+use Rattle.text.specs.Text.{Line}
+use Rattle.file_format.specs.declared.RefusedLine.{RefusedLine}
+use Rattle.file_format.specs.declared.RefusedLine.the-variants.{Nowhere as nowhere, Line as line}
+use Rattle.file_format.specs.declared.Row.{Row}
+use Rattle.file_format.specs.declared.Row.the-variants.{Layout as layout-row, Range as range-row, Name as name-row, Price as price-row, Target as target-row, Forward as forward-row, Known as known-row}
+use Rattle.file_format.specs.Rows.{refusedLine, Passes}
+use Rattle.file_format.specs.Routine.{Reading, unread, routine, readBound, readRun}
 use Rattle.file_check.specs.declared.Reader.{Reader}
 use Rattle.file_check.specs.declared.Reader.the-variants.{Bound, Run}
 use Rattle.file_check.specs.declared.Tests.{Tests}

@@ -1,15 +1,9 @@
 -- What the tests of a row look at, and the lines as a scan meets them.
-use mathlib.Core.Path.{_≡_}
-use mathlib.Core.Bool.{Bool, true, false, cond, _&&_}
-use mathlib.Core.List.{List}
-use mathlib.Core.Logic.{_⊎_}
-use Prim.Native.Nat.{ℕ, _+_, _-_, _<_, _≤_}
-use lib.Dec.{leb, ltb, eqb}
-use lib.ListN.{length, getD}
-use Rattle.text.specs.Text.{bytes, equals, Line}
+use Rattle.refusals.specs.Library.{ℕ, _+_, _-_, _≤_, _<_, eqb, ltb, leb, length, getD, Bool, true, false, cond, _&&_, List, _⊎_, _≡_}
+use Rattle.text.specs.Text.{bytes, Line, equals}
 use Rattle.file_format.specs.declared.Section.the-variants.{Kinds as kinds, Primitives as primitives, Fields as fields, Answers as answers}
-use Rattle.file_format.specs.declared.Role.{Role}
 use Rattle.file_format.specs.declared.Role.the-variants.{Names as names, Values as values, Code as code, Answer as answer}
+use Rattle.file_format.specs.declared.Role.{Role}
 use Rattle.file_format.specs.Layout.{layout, body, codeLines, textAt, listed}
 use Rattle.file_format.specs.Rows.{blockSizes}
 use Rattle.file_format.specs.Routine.{firstAddress}

@@ -1,7 +1,5 @@
 -- What an entry point reads of a text, where so many bytes are lent, and the routine that the code's arrays hold.
-use Prim.Native.Nat.{ℕ}
-use mathlib.Core.Bool.{cond}
-use lib.Dec.{ltb}
+use Rattle.refusals.specs.Library.{ℕ, ltb, cond}
 use Rattle.refusals.specs.declared.Refusal.the-variants.{ReportMemory}
 use Rattle.machine_state.specs.HeldProgram.{programOf, sizesOf}
 use Rattle.machine_state.specs.HeldState.{whole}

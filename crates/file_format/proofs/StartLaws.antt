@@ -12,7 +12,7 @@ use Rattle.numbers.specs.Numbers.{within, numbers}
 use Rattle.numbers.proofs.IntegerLaws.{le-true}
 use Rattle.cells.specs.declared.Cell.{Cell}
 use Rattle.cells.specs.Cells.{exactly, between}
-use Rattle.cells.specs.Confined.{Confined, Kept}
+use Rattle.cells.specs.HeldConfined.{Confined, Kept}
 use Rattle.cells.specs.Order.{Pointwise, end, cons}
 use Rattle.cells.proofs.RangeLaws.{InBits, fitting-true, high-zero}
 use Rattle.cells.proofs.CellLaws.{confined-range, number-confined, unknown-confined, handle-confined, kept-self}

@@ -1,16 +1,10 @@
 -- What each line of a routine file holds. (document 01, The routine file, the table)
-use Prim.Native.Nat.{ℕ, zero, suc}
-use mathlib.Core.Bool.{Bool, false, cond, _&&_, _||_}
-use mathlib.Core.List.{List, [], _∷_, _++_, map}
-use lib.Dec.{eqb}
-use lib.ListN.{length, drop}
-use Rattle.text.specs.Text.{bytes, equals, lineWords, Line}
-use Rattle.file_format.specs.declared.Section.{Section}
-use Rattle.file_format.specs.declared.Section.the-variants.{Limits as limits, Kinds as kinds, Primitives as primitives, Cells as cells, Fields as fields, Instructions as instructions, Answers as answers}
+use Rattle.refusals.specs.Library.{ℕ, zero, suc, eqb, length, drop, Bool, false, cond, _&&_, _||_, List, [], _∷_, _++_, map}
+use Rattle.file_format.specs.Terms.{bytes, Line, lineWords, equals, Section, limits, kinds, primitives, cells, fields, instructions, answers, limit, cycles}
+use Rattle.file_format.specs.Terms.{words-column, extra, cell, names, values}
 use Rattle.file_format.specs.declared.Column.{Column}
-use Rattle.file_format.specs.declared.Column.the-variants.{Limit as limit, Cycles as cycles, Words as words-column, Extra as extra, Cell as cell}
 use Rattle.file_format.specs.declared.Role.{Role}
-use Rattle.file_format.specs.declared.Role.the-variants.{Names as names, Values as values, Code as code, Answer as answer}
+use Rattle.file_format.specs.declared.Role.the-variants.{Code as code, Answer as answer}
 
 -- "Each section is a line of names, then lines of values in that order"
 abbrev pub section : Section → List Column → List Role

@@ -1,34 +1,19 @@
 -- The routine of a text that passes refusals 1 to 6 and 13, and which refusal a text has that does not.
 -- Every definition is total: what a passing text never needs is 0 or empty.
-use Prim.Native.Nat.{ℕ}
-use mathlib.Core.Bool.{cond}
-use mathlib.Core.List.{List, [], _∷_, _++_, map}
-use lib.Dec.{ltb}
-use lib.IntN.{ℤ, pos, natAbs}
-use lib.ListN.{length, getD, take, drop}
-use Rattle.refusals.specs.declared.Refusal.{Refusal}
-use Rattle.refusals.specs.declared.Refusal.the-variants.{TextLength, Layout, OutOfRange, BadName, Unpriced, NoTarget, Backward, UnknownCell}
-use Rattle.text.specs.Text.{Line, lines, find}
-use Rattle.cells.specs.declared.Cell.{Cell}
-use Rattle.cells.specs.Cells.{exactly, between, handle}
-use Rattle.cells.specs.Cells as cells-of
+use Rattle.refusals.specs.Library.{ℕ, ltb, ℤ, pos, natAbs, length, getD, take, drop, cond, List, [], _∷_, _++_, map}
+use Rattle.machine.specs.Terms.{numbers, within, Cell, handle, exactly, between, Argument, Absent, Target, Primitive, Within, kindAt, kindNames, addresses, State, Code}
+use Rattle.machine.specs.Terms.{Instruction, Price}
+use Rattle.file_format.specs.Terms.{Refusal, TextLength, Layout, OutOfRange, BadName, Line, lines, find, Section, limits, kinds, primitives, cells, fields, limit}
+use Rattle.file_format.specs.Terms.{cycles, words-column, extra, cell, names, values, RefusedLine, nowhere, line}
+use Rattle.refusals.specs.declared.Refusal.the-variants.{Unpriced, NoTarget, Backward, UnknownCell}
 use Rattle.numbers.specs.declared.Range.{Range}
-use Rattle.numbers.specs.Numbers.{within, numbers}
-use Rattle.instructions.specs.Kinds.{addresses, kindNames, kindAt}
-use Rattle.instructions.specs.declared.Argument.{Argument}
-use Rattle.instructions.specs.declared.Argument.the-variants.{Absent, Target, Primitive, Within}
-use Rattle.machine.specs.Machine.{instruction, State, Price, Instruction, Prices, priceOf, Code}
-use Rattle.file_format.specs.declared.Section.{Section}
-use Rattle.file_format.specs.declared.Section.the-variants.{Limits as limits, Kinds as kinds, Primitives as primitives, Cells as cells, Fields as fields}
-use Rattle.file_format.specs.declared.Column.the-variants.{Limit as limit, Cycles as cycles, Words as words-column, Extra as extra, Cell as cell}
-use Rattle.file_format.specs.declared.Role.the-variants.{Names as names, Values as values}
+use Rattle.cells.specs.Cells as cells-of
+use Rattle.machine.specs.Machine.{instruction, Prices, priceOf}
 use Rattle.file_format.specs.Layout.{body, codeLines, answerLines, listed}
 use Rattle.file_format.specs.declared.CellWord.{CellWord}
 use Rattle.file_format.specs.declared.CellWord.the-variants.{Wrong as wrong, Unknown as unknown, Known as known, Block as block, Span as span}
 use Rattle.file_format.specs.declared.Row.{Row}
 use Rattle.file_format.specs.declared.Row.the-variants.{Layout as layout-row, Range as range-row, Name as name-row, Price as price-row, Target as target-row, Forward as forward-row, Known as known-row}
-use Rattle.file_format.specs.declared.RefusedLine.{RefusedLine}
-use Rattle.file_format.specs.declared.RefusedLine.the-variants.{Nowhere as nowhere, Line as line}
 use Rattle.file_format.specs.Rows.{value, cellWord, handles, blockSizes, op, arg, firstAddresses, budgets, ticks, cycleCounts, wordCounts, extraCounts, firstAt, refusedLine}
 
 -- a routine: BUDGET and TICK, its code, the state it starts in, its answers

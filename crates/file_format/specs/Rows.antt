@@ -1,36 +1,25 @@
 -- Refusals 2 to 6, 13 and 11: each row of the refusal table is a test of one line, and refuses the earliest line that fails it.
 -- (document 01, The routine file and Refusal table; document 02 §8)
-use Prim.Native.Nat.{ℕ, zero, suc, _+_}
-use mathlib.Core.Path.{_≡_}
-use mathlib.Core.Bool.{Bool, true, false, cond, not, _&&_}
-use mathlib.Core.List.{List, [], _∷_, _++_}
-use lib.Dec.{eqb, leb, ltb}
-use lib.IntN.{ℤ, pos, natAbs, _+ℤ_}
-use lib.Signed.{leZ, ltZ}
-use lib.ListN.{length, getD, take, drop}
-use Rattle.text.specs.Text.{bytes, isEmpty, equals, partedBy, lineWords, Line, placeAmong, among, all, distinct}
-use Rattle.text.specs.declared.Place.{Place}
+use Rattle.refusals.specs.Library.{ℕ, zero, suc, _+_, eqb, ltb, leb, ℤ, pos, natAbs, _+ℤ_, leZ, ltZ, length, getD, take, drop, Bool, true, false, cond, not, _&&_, List}
+use Rattle.refusals.specs.Library.{[], _∷_, _++_, _≡_}
+use Rattle.machine.specs.Terms.{numbers, within, naturals, Argument, Absent, Target, Primitive, Within, kindAt, kindNames, addresses}
+use Rattle.file_format.specs.Terms.{bytes, Line, lineWords, isEmpty, equals, all, decimal, numeral, Place, Section, limits, kinds, primitives, cells, fields}
+use Rattle.file_format.specs.Terms.{instructions, answers, limit, cycles, words-column, extra, cell, names, values, RefusedLine, nowhere, line}
+use Rattle.text.specs.Text.{partedBy, placeAmong, among, distinct}
 use Rattle.text.specs.declared.Place.the-variants.{At, Missing}
 use Rattle.text.specs.declared.Numeral.{Numeral}
 use Rattle.text.specs.declared.Numeral.the-variants.{Misspelt as misspelt, Number as number}
-use Rattle.text.specs.Decimal.{numeral, isDigit, decimal}
+use Rattle.text.specs.Decimal.{isDigit}
 use Rattle.numbers.specs.declared.Range.{Range}
-use Rattle.numbers.specs.Numbers.{naturals, within, numbers, same}
-use Rattle.instructions.specs.Kinds.{addresses, calls, kindNames, kindAt}
-use Rattle.instructions.specs.declared.Argument.{Argument}
-use Rattle.instructions.specs.declared.Argument.the-variants.{Absent, Target, Primitive, Within}
-use Rattle.file_format.specs.declared.Section.{Section}
-use Rattle.file_format.specs.declared.Section.the-variants.{Limits as limits, Kinds as kinds, Primitives as primitives, Cells as cells, Fields as fields, Instructions as instructions, Answers as answers}
+use Rattle.numbers.specs.Numbers.{same}
+use Rattle.instructions.specs.Kinds.{calls}
 use Rattle.file_format.specs.declared.Column.{Column}
-use Rattle.file_format.specs.declared.Column.the-variants.{Limit as limit, Cycles as cycles, Words as words-column, Extra as extra, Cell as cell}
 use Rattle.file_format.specs.declared.Role.{Role}
-use Rattle.file_format.specs.declared.Role.the-variants.{Names as names, Values as values, Code as code, Answer as answer}
+use Rattle.file_format.specs.declared.Role.the-variants.{Code as code, Answer as answer}
 use Rattle.file_format.specs.declared.CellWord.{CellWord}
 use Rattle.file_format.specs.declared.CellWord.the-variants.{Wrong as wrong, Unknown as unknown, Known as known, Block as block, Span as span}
 use Rattle.file_format.specs.declared.Row.{Row}
 use Rattle.file_format.specs.declared.Row.the-variants.{Layout as layout-row, Range as range-row, Name as name-row, Price as price-row, Target as target-row, Forward as forward-row, Known as known-row}
-use Rattle.file_format.specs.declared.RefusedLine.{RefusedLine}
-use Rattle.file_format.specs.declared.RefusedLine.the-variants.{Nowhere as nowhere, Line as line}
 use Rattle.file_format.specs.Layout.{body, codeLines, roles, list, holdsCells, listed}
 
 -- ---- words

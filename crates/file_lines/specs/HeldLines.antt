@@ -1,15 +1,7 @@
 -- What a word of a line is tested for, and what the tests of the rows come to on a code line.
-use Prim.Native.Nat.{ℕ, _<_}
-use mathlib.Core.Path.{_≡_}
-use mathlib.Core.Bool.{Bool, not, cond, _&&_}
-use mathlib.Core.Logic.{_⊎_}
-use lib.Dec.{eqb, ltb}
-use lib.IntN.{ℤ, pos, _+ℤ_}
-use lib.ListN.{length, getD}
-use Rattle.text.specs.declared.Place.{Place}
-use mathlib.Core.List.{List, []}
-use Rattle.text.specs.Text.{isEmpty, among, all}
-use Rattle.text.specs.Decimal.{numeral}
+use Rattle.refusals.specs.Library.{ℕ, _<_, eqb, ltb, ℤ, pos, _+ℤ_, length, getD, Bool, cond, not, _&&_, List, [], _⊎_, _≡_}
+use Rattle.file_format.specs.Terms.{isEmpty, all, numeral, Place}
+use Rattle.text.specs.Text.{among}
 use Rattle.numbers.specs.Numbers.{within}
 use Rattle.instructions.specs.Kinds.{kindNames}
 use Rattle.file_format.specs.Rows.{isNumeral, value, cellWord, isCell, cellInRange, isSingle, cellPresent, isName, cycleCounts, wordCounts, argumentOf, argumentLaidOut, argumentInRange, argumentNamed, argumentReaches, argumentForward, at, arg, onArgument, codeInRange, codeNamed, codeForward}

@@ -1,9 +1,5 @@
 -- What the code holds of the names of the fields.
-use Prim.Native.Nat.{ℕ, suc, _≤_}
-use mathlib.Core.Path.{_≡_}
-use mathlib.Core.Bool.{cond}
-use mathlib.Core.List.{List, [], _∷_}
-use lib.ListN.{getD, take}
+use Rattle.refusals.specs.Library.{ℕ, suc, _≤_, getD, take, cond, List, [], _∷_, _≡_}
 use Rattle.file_format.specs.Rows.{isField, total}
 use Rattle.file_names.specs.declared.Blocks.{Blocks}
 

@@ -1,11 +1,6 @@
 -- What the code's prices and codes stand for. The parts of a routine are those of file_format/specs/Routine.
-use Prim.Native.Nat.{ℕ, _+_, _*_, _%_, _≤_, _<_}
-use mathlib.Core.Path.{_≡_}
-use mathlib.Core.List.{List, []}
-use lib.Dec.{leb}
-use lib.ListN.{length, getD, set}
-use Rattle.text.specs.Text.{find}
-use Rattle.text.specs.declared.Place.{Place}
+use Rattle.refusals.specs.Library.{ℕ, _+_, _*_, _%_, _≤_, _<_, leb, length, getD, set, List, [], _≡_}
+use Rattle.file_format.specs.Terms.{find, Place}
 use Rattle.text.specs.declared.Place.the-variants.{At, Missing}
 use Rattle.numbers.specs.declared.Range.{Range}
 use Rattle.numbers.specs.Numbers.{naturals}

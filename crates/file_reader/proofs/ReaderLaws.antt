@@ -10,7 +10,7 @@ use Rattle.text.specs.Text.{Line}
 use Rattle.numbers.specs.declared.Range.{Range}
 use Rattle.numbers.specs.Numbers.{numbers}
 use Rattle.cells.specs.declared.Cell.{Cell}
-use Rattle.cells.specs.Confined.{Kept}
+use Rattle.cells.specs.HeldConfined.{Kept}
 use Rattle.machine.specs.Machine.{State}
 use Rattle.machine.specs.Order.{Cellwise}
 use Rattle.file_format.proofs.StartLaws.{start-kept}

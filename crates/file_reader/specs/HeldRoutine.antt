@@ -1,11 +1,7 @@
 -- What the code's routine holds.
-use Prim.Native.Nat.{ℕ, _+_, _*_, _%_, _≤_, _<_}
-use mathlib.Core.Path.{_≡_}
-use mathlib.Core.List.{List}
-use lib.IntN.{ℤ}
-use lib.ListN.{length, getD, take}
+use Rattle.refusals.specs.Library.{ℕ, _+_, _*_, _%_, _≤_, _<_, ℤ, length, getD, take, List, _≡_}
 use Rattle.text.specs.Text.{Line}
-use Rattle.cells.specs.Confined.{Kept}
+use Rattle.cells.specs.HeldConfined.{Kept}
 use Rattle.machine.specs.Order.{Cellwise}
 use Rattle.machine_state.specs.HeldProgram.{firstOf, sizesOf, linesFrom, programOf, IsProgram}
 use Rattle.machine_state.specs.HeldState.{WellFormed, whole}

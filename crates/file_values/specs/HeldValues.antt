@@ -1,7 +1,5 @@
 -- What the code holds of a word.
-use Prim.Native.Nat.{ℕ, _<_, _≤_}
-use mathlib.Core.Path.{_≡_}
-use lib.Signed.{mag}
+use Rattle.refusals.specs.Library.{ℕ, _≤_, _<_, mag, _≡_}
 use Rattle.text.specs.HeldMagnitude.{most, clamp}
 use Rattle.numbers.specs.declared.Range.{Range}
 use Rattle.numbers.specs.Numbers.{naturals}

@@ -1,9 +1,6 @@
 -- The answer of the generator to a seed and a length of lent memory. (document 02 §11)
-use Prim.Native.Nat.{ℕ}
-use mathlib.Core.Bool.{cond}
-use lib.Dec.{eqb}
-use Rattle.refusals.specs.declared.Refusal.the-variants.{OutOfRange}
-use Rattle.answers.specs.Answers.{Answer, reported, refused, lending}
+use Rattle.refusals.specs.Library.{ℕ, eqb, cond}
+use Rattle.answers.specs.Terms.{Answer, reported, refused, lending, OutOfRange}
 use Rattle.generate_file.specs.File.{file}
 
 -- "Lent memory under 32,768 bytes is refusal 10, checked before the seed."

@@ -1,5 +1,5 @@
 -- The draws from a seed. (document 02 §11)
-use Prim.Native.Nat.{ℕ, zero, suc, _*_, _/_, _%_, _^_}
+use Rattle.refusals.specs.Library.{ℕ, zero, suc, _*_, _/_, _%_, _^_}
 use lib.Bits.{bitXor}
 
 -- "shift left", "followed by exclusive or with the state before that shift, keeping 32 bits"

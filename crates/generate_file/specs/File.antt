@@ -1,11 +1,6 @@
 -- The file of a seed. (document 02 §11, docs/GENERATOR.md)
-use Prim.Native.Nat.{ℕ, zero, suc, _+_, _-_, _*_, _/_, _%_}
-use mathlib.Core.Bool.{Bool, true, false, cond, _&&_}
-use mathlib.Core.List.{List, [], _∷_, _++_}
-use lib.Dec.{eqb, leb, ltb}
-use lib.ListN.{getD}
-use Rattle.text.specs.Text.{bytes}
-use Rattle.text.specs.Decimal.{decimal}
+use Rattle.refusals.specs.Library.{ℕ, zero, suc, _+_, _-_, _*_, _/_, _%_, eqb, ltb, leb, getD, Bool, true, false, cond, _&&_, List, [], _∷_, _++_}
+use Rattle.file_format.specs.Terms.{bytes, decimal}
 use Rattle.instructions.specs.declared.Argument.{Argument}
 use Rattle.instructions.specs.declared.Argument.the-variants.{Absent, Target, Primitive, Within}
 use Rattle.instructions.specs.Kinds.{kindAt}

@@ -1,9 +1,5 @@
 -- What the code asks of a range that it draws a number of.
-use Prim.Native.Nat.{zero, suc}
-use mathlib.Core.Bool.{Bool, true, false, _&&_}
-use lib.Dec.{ltb}
-use lib.IntN.{ℤ, pos, negsuc}
-use lib.Signed.{mag, nonNeg}
+use Rattle.refusals.specs.Library.{zero, suc, ltb, ℤ, pos, negsuc, mag, nonNeg, Bool, true, false, _&&_}
 use Rattle.numbers.specs.declared.Range.{Range}
 use Rattle.numbers.specs.Numbers.{bits, half}
 

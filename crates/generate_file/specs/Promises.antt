@@ -1,8 +1,5 @@
 -- What is promised of the file of a seed. `proofs/Theorems` proves each by its name. (document 02 §11)
-use Prim.Native.Nat.{ℕ, _≤_}
-use mathlib.Core.Path.{_≡_}
-use mathlib.Core.Logic.{_⊎_}
-use lib.ListN.{length}
+use Rattle.refusals.specs.Library.{ℕ, _≤_, length, _⊎_, _≡_}
 use Rattle.refusals.specs.declared.Refusal.the-variants.{UnknownCell}
 use Rattle.text.specs.Text.{lines}
 use Rattle.file_format.specs.Routine.{unread, routine, routineOf, textLimit, readBound, readRun}

@@ -1,11 +1,6 @@
 -- The words that draws give. (docs/GENERATOR.md)
-use Prim.Native.Nat.{ℕ, zero, suc, _+_, _/_, _%_}
-use mathlib.Core.Bool.{Bool, true, cond, _||_}
-use mathlib.Core.List.{List, [], _++_}
-use lib.Dec.{eqb}
-use lib.IntN.{ℤ, pos, natAbs, _+ℤ_, _-ℤ_}
-use Rattle.text.specs.Text.{bytes}
-use Rattle.text.specs.Decimal.{decimal}
+use Rattle.refusals.specs.Library.{ℕ, zero, suc, _+_, _/_, _%_, eqb, ℤ, pos, natAbs, _+ℤ_, _-ℤ_, Bool, true, cond, _||_, List, [], _++_}
+use Rattle.file_format.specs.Terms.{bytes, decimal}
 use Rattle.numbers.specs.declared.Range.{Range}
 use Rattle.numbers.specs.Numbers.{numbers}
 use Rattle.instructions.specs.Kinds.{kindAt}

@@ -1,8 +1,7 @@
 -- The table by columns of numbers, as the code has it: what stands in each column at a kind.
-use Prim.Native.Nat.{ℕ, _+_, _-_, _*_, _%_, _<_, _≤_}
-use mathlib.Core.Path.{_≡_}
-use mathlib.Core.List.{List, [], _∷_}
-use lib.ListN.{length, getD, take, drop}
+use Rattle.refusals.specs.Library.{ℕ, _+_, _-_, _*_, _%_, _≤_, _<_, length, getD, take, drop, List, [], _∷_, _≡_}
+use Rattle.text.specs.declared.Place.{Place}
+use Rattle.text.specs.declared.Place.the-variants.{At as at, Missing as missing}
 use Rattle.numbers.specs.declared.Range.{Range}
 use Rattle.numbers.specs.Numbers.{naturals}
 use Rattle.numbers.specs.declared.Comparison.{Comparison}
@@ -15,8 +14,8 @@ use Rattle.instructions.specs.declared.Argument.{Argument}
 use Rattle.instructions.specs.declared.Argument.the-variants.{Absent, Target, Primitive, Within}
 use Rattle.instructions.specs.declared.Operation.{Operation}
 use Rattle.instructions.specs.declared.Operation.the-variants.{Nothing, Access, Drop, Assign, Constant, GetField, SetField, Branch, BranchIf, BranchIfNot, Call, Stop, Alter, Combine}
-use Rattle.instructions.specs.Kinds.{addresses, kindNames}
-use Rattle.instructions.specs.Kinds.{kindAt}
+use Rattle.instructions.specs.Kinds.{addresses, kindNames, kindAt}
+use Rattle.instructions.specs.Opcodes.{kindCoded}
 
 -- where each of the given words begins in a text of them, parted by single spaces, from s on; at the end, where one more would
 abbrev pub startsFrom : ℕ → List (List ℕ) → List ℕ
@@ -107,3 +106,12 @@ operations =
 -- the operation of a code
 unfoldable pub operationOf : ℕ → Operation
 operationOf k = getD operations k Stop
+
+-- a place as the code holds it: 61 where there is none
+unfoldable pub codedPlace : Place → ℕ
+codedPlace (at k) = k
+codedPlace missing = 61
+
+-- t holds at each opcode below 144 the place of its kind
+pub record ByOpcode (t : List ℕ) : Type 0 where
+  pub at-opcode : (n : ℕ) → n < 144 → getD t n 0 ≡ codedPlace (kindCoded n)

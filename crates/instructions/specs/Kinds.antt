@@ -1,9 +1,5 @@
 -- The 61 instruction kinds as one table. (document 01, Cells and machine)
-use Prim.Native.Nat.{ℕ}
-use Prim.Native.String.{String}
-use mathlib.Core.Bool.{Bool, true, false}
-use mathlib.Core.List.{List, [], _∷_, map}
-use lib.IntN.{ℤ, pos}
+use Rattle.refusals.specs.Library.{ℕ, String, ℤ, pos, getD, Bool, true, false, List, [], _∷_, map}
 use Rattle.text.specs.Text.{bytes}
 use Rattle.numbers.specs.Numbers.{naturals, numbers}
 use Rattle.numbers.specs.declared.Range.{Range}
@@ -14,7 +10,6 @@ use Rattle.instructions.specs.declared.Argument.{Argument}
 use Rattle.instructions.specs.declared.Argument.the-variants.{Absent, Target, Primitive, Within}
 use Rattle.instructions.specs.declared.Operation.{Operation}
 use Rattle.instructions.specs.declared.Operation.the-variants.{Nothing, Access, Drop, Assign, Constant, GetField, SetField, Branch, BranchIf, BranchIfNot, Call, Stop, Alter, Combine}
-use lib.ListN.{getD}
 
 -- that a kind calls a primitive, and so takes an answer
 abbrev pub calls : Argument → Bool

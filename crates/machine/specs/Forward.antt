@@ -1,7 +1,5 @@
 -- Code without jumps backwards: "A branch to its own address or a lower one is refused" (document 02 §8)
-use Prim.Native.Nat.{ℕ, _<_}
-use mathlib.Core.Path.{_≡_}
-use mathlib.Core.Bool.{Bool, true, false}
+use Rattle.refusals.specs.Library.{ℕ, _<_, Bool, true, false, _≡_}
 use Rattle.cells.specs.Try.{done}
 use Rattle.instructions.specs.declared.Operation.{Operation}
 use Rattle.instructions.specs.declared.Operation.the-variants.{Nothing, Access, Drop, Assign, Constant, GetField, SetField, Branch, BranchIf, BranchIfNot, Call, Stop, Alter, Combine}

@@ -5,3 +5,4 @@ pub mod Forward
 pub mod Targets
 pub mod Covering
 pub mod Promises
+pub mod Terms

@@ -1,6 +1,5 @@
 -- Entries of a list by their number from 0, stuck where there is no such entry.
-use Prim.Native.Nat.{ℕ, zero, suc}
-use mathlib.Core.List.{List, [], _∷_}
+use Rattle.refusals.specs.Library.{ℕ, zero, suc, List, [], _∷_}
 use Rattle.cells.specs.Try.{Try, stuck, done, _>>=_}
 
 module _ {A : Type 0} where

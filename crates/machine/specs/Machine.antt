@@ -1,10 +1,5 @@
 -- The machine: its state, its code, and the one step that the bound and the run share. (document 01, Cells and machine)
-use Prim.Native.Nat.{ℕ, suc, _+_, _-_}
-use mathlib.Core.Bool.{Bool, true, false, cond}
-use mathlib.Core.List.{List, _∷_}
-use lib.Dec.{ltb}
-use lib.IntN.{ℤ, pos, negsuc, natAbs}
-use lib.ListN.{length}
+use Rattle.refusals.specs.Library.{ℕ, suc, _+_, _-_, ltb, ℤ, pos, negsuc, natAbs, length, Bool, true, false, cond, List, _∷_}
 use Rattle.cells.specs.Try.{Try, stuck, done, _>>=_}
 use Rattle.cells.specs.declared.Cell.{Cell}
 use Rattle.cells.specs.Cells.{exactly, operate₁, operate₂, condition, block}

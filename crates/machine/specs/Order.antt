@@ -1,5 +1,5 @@
 -- A relation of cells, carried to states cell by cell: "the same blocks with as many fields in each", as many stack entries.
-use mathlib.Core.Path.{_≡_}
+use Rattle.refusals.specs.Library.{_≡_}
 use Rattle.cells.specs.declared.Cell.{Cell}
 use Rattle.cells.specs.Order.{Pointwise}
 use Rattle.machine.specs.Machine.{State}

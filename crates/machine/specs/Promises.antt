@@ -1,16 +1,16 @@
 -- What is promised of the step, as statements. The file Theorems in proofs/ proves each by its name.
-use Prim.Native.Nat.{_<_, ℕ}
-use mathlib.Core.Path.{_≡_}
-use lib.IntN.{ℤ, pos}
-use Rattle.cells.specs.Try.{done}
-use Rattle.cells.specs.declared.Cell.{Cell}
-use Rattle.cells.specs.Cells.{range, unknown}
-use Rattle.cells.specs.Order.{Refines, Allowed}
+use Rattle.refusals.specs.Library.{ℕ, _<_, ℤ, pos, _≡_}
+use Rattle.machine.specs.Terms.{done, Cell, unknown, range, Allowed, Refines, State, Code, Price, opens, step, Cellwise}
 use Rattle.cells.specs.Covering.{Covered}
 use Rattle.cells.specs.Promises.{Of}
-use Rattle.machine.specs.Machine.{State, Price, opens, Code, step}
-use Rattle.machine.specs.Order.{Cellwise}
 use Rattle.machine.specs.Covering.{NextCovered}
+
+-- the order in which a state knows more is one
+abbrev pub OrderReflexive : Type 0
+OrderReflexive = (s : State) → Cellwise Refines s s
+
+abbrev pub OrderTransitive : Type 0
+OrderTransitive = (s t u : State) → Cellwise Refines s t → Cellwise Refines t u → Cellwise Refines s u
 
 -- "Cells that agree must still give results that agree, for users who leave the numbers unknown." (document 02 §3): where the step from t is not
 -- stuck, neither is that from a state that refines t, and what they lead to is related

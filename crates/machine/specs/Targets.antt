@@ -1,8 +1,5 @@
 -- Code whose branches stay inside it: refusal 6, "target not an address of the code"
-use Prim.Native.Nat.{ℕ, _+_, _<_}
-use mathlib.Core.Path.{_≡_}
-use mathlib.Core.Bool.{true}
-use lib.ListN.{length}
+use Rattle.refusals.specs.Library.{ℕ, _+_, _<_, length, true, _≡_}
 use Rattle.cells.specs.Try.{done}
 use Rattle.machine.specs.Machine.{index, Instruction, Code, fetch}
 use Rattle.machine.specs.Forward.{branches}

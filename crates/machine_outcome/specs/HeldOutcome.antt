@@ -1,20 +1,13 @@
 -- What an operation comes to before the state is changed, in the code's own type: the step and the explorer share it, and each changes its
 -- own state and blocks.
-use Prim.Native.Nat.{ℕ, _≤_, _<_}
-use mathlib.Core.Path.{_≡_}
-use mathlib.Core.Bool.{Bool, true, false, cond}
-use lib.Dec.{leb, ltb}
-use lib.IntN.{ℤ, pos}
-use Rattle.cells.specs.Try.{Try, stuck, done, _>>=_}
-use Rattle.cells.specs.declared.Cell.{Cell}
+use Rattle.refusals.specs.Library.{ℕ, _≤_, _<_, ltb, leb, ℤ, pos, Bool, true, false, cond, _≡_}
+use Rattle.machine.specs.Terms.{Try, done, stuck, _>>=_, Cell, IsZero, IsNonzero, IsUnknown, exactly, condition, Operation, Nothing, Access, Drop, Assign, Constant}
+use Rattle.machine.specs.Terms.{Alter, Combine, GetField, SetField, Branch, BranchIf, BranchIfNot, Call, Stop, State, Price, Next, stops, goes, opens, jump}
 use Rattle.cells.specs.declared.Condition.{Condition}
-use Rattle.cells.specs.declared.Condition.the-variants.{IsZero, IsNonzero, IsUnknown}
-use Rattle.cells.specs.Cells.{exactly, operate₁, operate₂, condition}
-use Rattle.instructions.specs.declared.Operation.{Operation}
-use Rattle.instructions.specs.declared.Operation.the-variants.{Nothing, Access, Drop, Assign, Constant, GetField, SetField, Branch, BranchIf, BranchIfNot, Call, Stop, Alter, Combine}
+use Rattle.cells.specs.Cells.{operate₁, operate₂}
+use Rattle.machine.specs.Machine.{index, withExtra, load, pop, store, getField, setField}
 use Rattle.machine_outcome.specs.declared.Outcome.{Outcome}
 use Rattle.machine_outcome.specs.declared.Outcome.the-variants.{Gives, Operates, Stores, Sets, Gets, Goes, Jumps, Opens, Halts, Stuck}
-use Rattle.machine.specs.Machine.{State, Price, Next, stops, goes, opens, index, withExtra, jump, load, pop, store, getField, setField}
 
 -- the entry that an operation looks at: entry n, or the top
 unfoldable pub entryOf : Operation → ℕ → ℕ

@@ -1,18 +1,12 @@
 -- A routine's program as one list of words, as the run and the explorer are lent it: its first address, how many lines it has, how many
 -- blocks, the sizes of eight blocks, and five words for each line.
-use mathlib.Core.Path.{_≡_}
-use mathlib.Core.List.{List, [], _∷_}
-use Prim.Native.Nat.{ℕ, zero, suc, _+_, _*_, _%_, _≤_, _<_}
-use lib.Dec.{leb}
-use lib.IntN.{ℤ}
-use lib.ListN.{length, getD, drop, take}
+use Rattle.refusals.specs.Library.{ℕ, zero, suc, _+_, _*_, _%_, _≤_, _<_, leb, ℤ, length, getD, take, drop, List, [], _∷_, _≡_}
+use Rattle.machine.specs.Terms.{Try, done, stuck, Code, Instruction}
 use Rattle.numbers.specs.Numbers.{signed}
-use Rattle.cells.specs.Try.{Try, stuck, done}
+use Rattle.instructions.specs.HeldColumns.{operationOf}
 use Rattle.machine_state.specs.declared.code.Line.{Line}
 use Rattle.machine_state.specs.declared.code.Fetched.{Fetched}
 use Rattle.machine_state.specs.declared.code.Fetched.the-variants.{Is, Outside}
-use Rattle.machine.specs.Machine.{Instruction, Code}
-use Rattle.instructions.specs.HeldColumns.{operationOf}
 
 -- the head of a program, its words 0 to 10
 abbrev pub firstOf : List ℕ → ℕ

@@ -1,9 +1,6 @@
 -- The state beside its stack, and what each of its methods makes of it.
-use Prim.Native.Nat.{ℕ, _+_, _-_}
-use mathlib.Core.List.{List}
-use lib.IntN.{pos}
-use Rattle.cells.specs.declared.Cell.{Cell}
-use Rattle.cells.specs.Cells.{exactly}
+use Rattle.refusals.specs.Library.{ℕ, _+_, _-_, pos, List}
+use Rattle.machine.specs.Terms.{Cell, exactly}
 use Rattle.machine_state.specs.declared.State.{State}
 use Rattle.machine_state.specs.declared.registers.Registers.{Registers}
 

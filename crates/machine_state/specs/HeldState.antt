@@ -1,17 +1,11 @@
 -- What the code's state stands for.
-use Prim.Native.Nat.{ℕ, _+_, _*_, _≤_}
-use mathlib.Core.Path.{_≡_}
-use mathlib.Core.Bool.{cond}
-use mathlib.Core.List.{List, [], _∷_}
-use lib.Dec.{ltb}
-use lib.ListN.{length, getD, drop, take}
-use Rattle.cells.specs.Try.{Try, stuck, done, _>>=_}
-use Rattle.cells.specs.declared.Cell.{Cell}
+use Rattle.refusals.specs.Library.{ℕ, _+_, _*_, _≤_, ltb, length, getD, take, drop, cond, List, [], _∷_, _≡_}
+use Rattle.machine.specs.Terms.{Try, done, stuck, _>>=_, Cell, State}
 use Rattle.cells.specs.Cells.{block}
-use Rattle.machine_state.specs.declared.State as code
+use Rattle.machine.specs.Machine.{stackLimit, reblock}
 use Rattle.machine_state.specs.declared.Slot.{Slot}
 use Rattle.machine_state.specs.declared.Slot.the-variants.{At, Lacks}
-use Rattle.machine.specs.Machine.{State, stackLimit, reblock}
+use Rattle.machine_state.specs.declared.State as code
 
 -- the state without its blocks: the first `free` cells of the array are unused, then comes the top, "entry 0 on top"
 abbrev pub view : code.State → State

@@ -1,15 +1,11 @@
 -- What a line comes to, of cells and numbers alone: the outcome of its operation, once the operation on cells is made and the field is found.
-use mathlib.Core.List.{List}
-use Prim.Native.Nat.{ℕ}
-use lib.IntN.{ℤ}
-use Rattle.cells.specs.Try.{Try, stuck, done}
-use Rattle.cells.specs.declared.Cell.{Cell}
-use Rattle.instructions.specs.declared.Operation.{Operation}
+use Rattle.refusals.specs.Library.{ℕ, ℤ, List}
+use Rattle.machine.specs.Terms.{Try, done, stuck, Cell, Operation}
 use Rattle.machine.specs.Machine.{index}
-use Rattle.machine_outcome.specs.declared.Outcome.{Outcome}
-use Rattle.machine_outcome.specs.declared.Outcome.the-variants as outcomes
-use Rattle.machine_outcome.specs.HeldOutcome.{drops, operated}
 use Rattle.machine_state.specs.HeldState.{slot}
+use Rattle.machine_outcome.specs.declared.Outcome.{Outcome}
+use Rattle.machine_outcome.specs.HeldOutcome.{drops, operated}
+use Rattle.machine_outcome.specs.declared.Outcome.the-variants as outcomes
 use Rattle.machine_step.specs.declared.effects.Effect.{Effect}
 use Rattle.machine_step.specs.declared.effects.Effect.the-variants.{Gives, Stores, Sets, Gets, Goes, Jumps, Opens, Halts, Stuck}
 

@@ -1,19 +1,13 @@
 -- What a step by value stands for.
-use mathlib.Core.Path.{_≡_}
-use mathlib.Core.Bool.{Bool}
-use mathlib.Core.List.{List}
-use Prim.Native.Nat.{ℕ, _<_}
-use lib.ListN.{set}
-use Rattle.cells.specs.Try.{Try, stuck, done}
-use Rattle.cells.specs.declared.Cell.{Cell}
+use Rattle.refusals.specs.Library.{ℕ, _<_, set, Bool, List, _≡_}
+use Rattle.machine.specs.Terms.{Try, done, stuck, Cell, State, Price, Next, stops, goes, opens, jump}
 use Rattle.machine_state.specs.declared.State as states
-use Rattle.machine.specs.Machine.{State, Price, Next, stops, goes, opens, jump}
-use Rattle.machine_step.specs.declared.Price as code
-use Rattle.machine_step.specs.declared.Next as code-next
 use Rattle.machine_step.specs.declared.Next.the-variants.{Stuck, Stops, Goes, Opens}
 use Rattle.machine_step.specs.declared.Update.{Update}
 use Rattle.machine_step.specs.declared.Update.the-variants.{Nothing, Field}
 use Rattle.machine_step.specs.declared.Stepped.{Stepped}
+use Rattle.machine_step.specs.declared.Price as code
+use Rattle.machine_step.specs.declared.Next as code-next
 
 -- a price by its cycles and its words
 abbrev pub ofPrice : code.Price → Price

@@ -1,15 +1,9 @@
 -- What the numbers beside the rows stand for: for each goal the last move of the costliest way that has come to it.
-use Prim.Native.Nat.{ℕ, _+_, _*_, _<_}
-use mathlib.Core.Path.{_≡_}
-use mathlib.Core.Bool.{cond}
-use mathlib.Core.List.{List}
-use lib.Dec.{eqb, ltb}
-use lib.ListN.{length, getD}
-use Rattle.machine.specs.Machine.{height}
-use Rattle.bound_theory.specs.Traces.{Move}
+use Rattle.refusals.specs.Library.{ℕ, _+_, _*_, _<_, eqb, ltb, length, getD, cond, List, _≡_}
+use Rattle.bound_theory.specs.Terms.{Move, height}
 use Rattle.machine_step.specs.declared.Price.{Price}
-use Rattle.bound_figures.specs.HeldFigures.{encode}
 use Rattle.merge_way.specs.Way.{out, to, Kept, nothing, kept, Origins}
+use Rattle.bound_figures.specs.HeldFigures.{encode}
 use Rattle.merge_origins.specs.declared.Last.{Last}
 
 -- six numbers for each of 1,026 goals: the 1,025 rows, and STOP

@@ -13,7 +13,7 @@ use Rattle.machine_state.specs.HeldState.{blocksOf}
 use Rattle.cells.specs.Merge.{mergeCells}
 use Rattle.merge_theory.specs.Merge.{mergeLists}
 use Rattle.cells.specs.HeldCodes.{decodedCells}
-use Rattle.cells.specs.Confined.{confine}
+use Rattle.cells.specs.HeldConfined.{confine}
 use Rattle.machine_state.specs.HeldProgram.{sizesOf, IsProgram}
 use Rattle.machine_state.proofs.ProgramLaws.{sizes-count}
 use Rattle.merge_rows.proofs.ZipLaws.{Partly, one-made, none-merged}

@@ -8,7 +8,7 @@ use lib.ListN.{length, getD, take, set}
 use lib.Seq.{take-all, take-suc, take-suc-set}
 use Rattle.cells.specs.declared.Cell.{Cell}
 use Rattle.cells.specs.HeldCodes.{decodedCell, decodedCells}
-use Rattle.cells.specs.Confined.{confine}
+use Rattle.cells.specs.HeldConfined.{confine}
 use Rattle.cells.proofs.CodeLaws.{cells-append}
 
 map-append : (xs ys : List Cell) → map confine (xs ++ ys) ≡ map confine xs ++ map confine ys

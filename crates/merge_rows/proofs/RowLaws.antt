@@ -12,7 +12,7 @@ use borrow.Author.Tests.{ltb-true, ltb-false}
 use Rattle.cells.specs.Try.{Try, stuck, done}
 use Rattle.cells.specs.declared.Cell.{Cell}
 use Rattle.cells.specs.HeldCodes.{decodedCell, decodedCells}
-use Rattle.cells.specs.Confined.{confine, Kept}
+use Rattle.cells.specs.HeldConfined.{confine, Kept}
 use Rattle.cells.specs.Order.{Pointwise, end, cons}
 use Rattle.cells.proofs.CodeLaws.{cells-drop, cells-length, code-confined, codes-kept, kept-all}
 use Rattle.cells.proofs.CellLaws.{kept-self}

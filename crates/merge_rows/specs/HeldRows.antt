@@ -1,16 +1,8 @@
 -- What the numbers of the table stand for: what has come to an address.
-use Prim.Native.Nat.{ℕ, zero, suc, _+_, _*_, _-_}
-use mathlib.Core.Path.{_≡_}
-use mathlib.Core.Bool.{Bool, true, false, cond}
-use mathlib.Core.List.{List}
-use lib.Dec.{eqb, ltb}
-use lib.ListN.{length, getD, take, drop}
-use Rattle.cells.specs.Try.{Try, stuck, done}
-use Rattle.cells.specs.declared.Cell.{Cell}
+use Rattle.refusals.specs.Library.{ℕ, zero, suc, _+_, _-_, _*_, eqb, ltb, length, getD, take, drop, Bool, true, false, cond, List, _≡_}
+use Rattle.machine.specs.Terms.{Try, done, stuck, Cell, State, Price, Cellwise}
 use Rattle.cells.specs.HeldCodes.{decodedCell, decodedCells}
-use Rattle.cells.specs.Confined.{Kept}
-use Rattle.machine.specs.Machine.{State, Price}
-use Rattle.machine.specs.Order.{Cellwise}
+use Rattle.cells.specs.HeldConfined.{Kept}
 use Rattle.machine_state.specs.HeldProgram.{linesIn}
 use Rattle.machine_state.specs.HeldState.{WellFormed, blocksOf, whole}
 use Rattle.merge_theory.specs.Merge.{Arrival, arrival, Slot, empty, unlike, held, join}

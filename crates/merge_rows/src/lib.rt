@@ -8,7 +8,7 @@ ghost use Prim.Native.Nat.{ℕ, _+_, _<_, _≤_};
 ghost use lib.ListN.{length, getD, take, drop};
 ghost use Rattle.cells.specs.Merge.{mergeCells};
 ghost use Rattle.cells.specs.HeldCodes.{decodedCell, decodedCells};
-ghost use Rattle.cells.specs.Confined.{confine};
+ghost use Rattle.cells.specs.HeldConfined.{confine};
 ghost use Rattle.machine_state.specs.HeldProgram.{firstOf, sizesOf, IsProgram};
 ghost use Rattle.machine_state.specs.HeldState.{blocksOf};
 ghost use Rattle.merge_theory.specs.Merge.{mergeLists, mergeStates, settle, larger, join};

@@ -13,7 +13,7 @@ use Rattle.refusals.specs.declared.Acceptance.the-variants.{Accepted, Refused}
 use Rattle.cells.specs.Try.{Try, stuck, done}
 use Rattle.cells.specs.declared.Cell.{Cell}
 use Rattle.cells.specs.Cells.{unknown}
-use Rattle.cells.specs.Confined.{Kept}
+use Rattle.cells.specs.HeldConfined.{Kept}
 use Rattle.cells.proofs.CellLaws.{kept-lawful, unknown-kept}
 use Rattle.machine.specs.Machine.{State, Price, Next, stops, goes, opens, Code, height, jump, sum, reblock, step}
 use Rattle.machine.specs.Order.{Cellwise}

@@ -21,7 +21,8 @@ use Rattle.bound_figures.specs.declared.Found.{Found}
 use Rattle.bound_figures.specs.HeldFigures.{acceptedAs, encode, Shows}
 use Rattle.merge_theory.specs.Merge.{Slot, empty, join, Table, slot, nowhere, span, only, none, visit, sweep, merged}
 use Rattle.merge_theory.specs.Ways.{sends}
-use Rattle.merge_way.specs.Way.{Origins, departs, beside, nowhence}
+use Rattle.merge_way.specs.Way.{Origins, departs, nowhence}
+use Rattle.merge_way.specs.HeldBeside.{beside}
 use Rattle.merge_origins.specs.HeldOrigins.{Goals, Keeps}
 use Rattle.merge_origins.proofs.KeptLaws.{zeros}
 use Rattle.merge_rows.specs.declared.Way.{Way}

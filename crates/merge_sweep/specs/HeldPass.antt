@@ -1,21 +1,16 @@
 -- One address of the pass: what is asked before it, and what holds after it.
-use Prim.Native.Nat.{ℕ, _+_, _*_, _<_, _≤_}
-use mathlib.Core.Path.{_≡_}
-use mathlib.Core.Bool.{Bool, true, false}
-use mathlib.Core.List.{List}
-use Rattle.refusals.specs.declared.Refusal.{Refusal}
+use Rattle.refusals.specs.Library.{ℕ, _+_, _*_, _≤_, _<_, Bool, true, false, List, _≡_}
+use Rattle.bound_theory.specs.Terms.{Refusal, Report, Verdict, refused, Price}
 use Rattle.refusals.specs.declared.Acceptance.the-variants.{Refused}
-use Rattle.machine.specs.Machine.{Price}
-use Rattle.bound_theory.specs.Tree.{Report, Verdict, refused}
 use Rattle.machine_step.specs.declared.Price as code
+use Rattle.merge_theory.specs.Merge.{Slot, empty, unlike, held, Table, slot}
 use Rattle.bound_figures.specs.declared.Found.{Found}
 use Rattle.bound_figures.specs.HeldFigures.{acceptedAs}
-use Rattle.merge_theory.specs.Merge.{Slot, empty, unlike, held, Table, slot}
 use Rattle.merge_rows.specs.declared.Way.{Way}
+use Rattle.merge_rows.specs.HeldRows.{Formed, Numeric, Rows, arrivalOf, slotAt, waiting}
 use Rattle.merge_sweep.specs.declared.Mark.{Mark}
 use Rattle.merge_sweep.specs.declared.Mark.the-variants.{Nothing, Unlike, Is}
 use Rattle.merge_sweep.specs.declared.Pass.{Pass}
-use Rattle.merge_rows.specs.HeldRows.{Formed, Numeric, Rows, arrivalOf, slotAt, waiting}
 
 -- what the code's answer stands for
 unfoldable pub cameAs : List ℕ → Mark → Way → Slot

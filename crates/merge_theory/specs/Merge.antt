@@ -1,16 +1,10 @@
 -- The second bound: it "goes through the addresses in rising order and merges the states where ways meet". (document 02 §9)
 -- Everything is over an action on states: in the bound it is `step c unknown`.
-use Prim.Native.Nat.{ℕ, zero, suc, _+_, _-_, max}
-use mathlib.Core.Bool.{cond}
-use mathlib.Core.List.{List, [], _∷_}
-use lib.Dec.{eqb}
-use lib.ListN.{length}
-use Rattle.refusals.specs.declared.Refusal.the-variants.{Stuck, NoMeeting}
-use Rattle.cells.specs.Try.{Try, stuck, done, _>>=_}
-use Rattle.cells.specs.Cells.{unknown}
+use Rattle.refusals.specs.Library.{ℕ, zero, suc, _+_, _-_, max, eqb, length, cond, List, [], _∷_}
+use Rattle.bound_theory.specs.Terms.{Stuck, NoMeeting, Report, Verdict, accepted, refused, Try, done, stuck, _>>=_, unknown, State, Code, Price, Next, stops, goes, opens}
+use Rattle.bound_theory.specs.Terms.{step, height, jump}
 use Rattle.cells.specs.Merge.{mergeCells}
-use Rattle.machine.specs.Machine.{State, Price, Next, stops, goes, opens, Code, height, jump, sum, step}
-use Rattle.bound_theory.specs.Tree.{Report, Verdict, accepted, refused}
+use Rattle.machine.specs.Machine.{sum}
 
 -- two lists merged entry by entry; stuck where their lengths differ: "when stack heights differ at a meeting"
 unfoldable pub mergeLists : {A : Type 0} → (A → A → Try A) → List A → List A → Try (List A)

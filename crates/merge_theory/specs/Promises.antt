@@ -1,20 +1,9 @@
 -- What is promised of the merging bound, as statements. The file Theorems in proofs/ proves each by its name. (document 02 §9)
-use mathlib.Core.Path.{_≡_}
-use mathlib.Core.List.{List, []}
-use mathlib.Core.Logic.{_⊎_, _↔_}
-use Prim.Native.Nat.{ℕ, _≤_}
-use lib.IntN.{ℤ}
-use Rattle.refusals.specs.Refusals.{number}
-use Rattle.refusals.specs.declared.Refusal.{Refusal}
-use Rattle.cells.specs.Cells.{unknown}
-use Rattle.cells.specs.Order.{Allowed}
-use Rattle.machine.specs.Machine.{State, Price, Code, height, step}
-use Rattle.machine.specs.Order.{Cellwise}
-use Rattle.machine.specs.Forward.{Forward}
+use Rattle.refusals.specs.Library.{ℕ, _≤_, ℤ, List, [], _⊎_, _↔_, _≡_}
+use Rattle.bound_theory.specs.Terms.{Refusal, number, Report, accepted, refused, bound, Move, cost, wordSum, CostMax, run, unknown, Allowed, State, Code, Price, step}
+use Rattle.bound_theory.specs.Terms.{height, Cellwise, Forward}
 use Rattle.machine.specs.Targets.{Closed}
-use Rattle.bound_theory.specs.Tree.{Report, accepted, refused, bound}
-use Rattle.bound_theory.specs.Traces.{Move, cost, wordSum, Trace, Path, CostMax}
-use Rattle.bound_theory.specs.Run.{run}
+use Rattle.bound_theory.specs.Traces.{Trace, Path}
 use Rattle.bound_theory.specs.Promises.{NoGreater, Interruptible, Monotone, LargestOver}
 use Rattle.merge_theory.specs.Merge.{Arrival, empty, unlike, held, slot, Table, span, merged}
 use Rattle.merge_theory.specs.Ways.{table, Among, Together, Unlike, MergedPath, Arrives, Fault, FirstFault, LargestMerged, count}

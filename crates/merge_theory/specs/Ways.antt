@@ -1,16 +1,11 @@
 -- What comes to each address, and the ways through the merged states: what the figures and the refusals of the merging bound are of.
 -- (document 02 §9)
-use mathlib.Core.Path.{_≡_}
-use mathlib.Core.List.{List, [], _∷_}
-use Prim.Native.Nat.{ℕ, zero, suc, _+_, _≤_, _<_}
-use Rattle.refusals.specs.declared.Refusal.{Refusal}
-use Rattle.refusals.specs.declared.Refusal.the-variants.{Stuck, NoMeeting}
-use Rattle.cells.specs.Try.{Try, stuck, done}
-use Rattle.cells.specs.Cells.{unknown}
+use Rattle.refusals.specs.Library.{ℕ, zero, suc, _+_, _≤_, _<_, List, [], _∷_, _≡_}
+use Rattle.bound_theory.specs.Terms.{Refusal, Stuck, NoMeeting, Move, move, Transition, Try, done, stuck, unknown, Refines, State, Code, Price, Next, stops, step, height}
+use Rattle.bound_theory.specs.Terms.{jump}
 use Rattle.cells.specs.Merge.{Clash}
-use Rattle.cells.specs.Order.{Refines, Pointwise}
-use Rattle.machine.specs.Machine.{State, Price, Next, stops, Code, height, jump, sum, step}
-use Rattle.bound_theory.specs.Traces.{Move, move, Transition}
+use Rattle.cells.specs.Order.{Pointwise}
+use Rattle.machine.specs.Machine.{sum}
 use Rattle.merge_theory.specs.Merge.{Arrival, arrival, Slot, empty, unlike, held, slot, Table, send, span, only}
 
 -- a step that is stuck has no ways

@@ -24,8 +24,10 @@ use Rattle.merge_theory.specs.Merge.{Arrival, arrival, Slot, empty, unlike, hel
 use Rattle.merge_theory.specs.Ways.{table, Among, MergedPath, stop, go-on, Arrives, begins, follows}
 use Rattle.merge_theory.specs.Promises.{Gathered}
 use Rattle.merge_theory.proofs.Theorems.{table-gathered, merged-exact}
-use Rattle.merge_way.specs.Way.{spentIn, spentAt, Goal, out, to, Kept, nothing, kept, origins, wayBack, costliestWay, point, linesFrom}
-use Rattle.merge_way.specs.Promises.{MergedTrace, here, further, Leaves, ends, leads, Before, itself, more, lower, Costliest, lineAt}
+use Rattle.merge_way.specs.Way.{spentIn, spentAt, Goal, out, to, Kept, nothing, kept, origins, wayBack, costliestWay}
+use Rattle.merge_way.specs.HeldBeside.{point, linesFrom}
+use Rattle.merge_way.specs.Promises.{MergedTrace, here, further, Leaves, ends, leads, Before, itself, more, lower, Costliest}
+use Rattle.merge_way.specs.HeldBeside.{lineAt}
 use Rattle.merge_way.specs.Promises as promises
 use Rattle.merge_way.proofs.OriginLaws.{move-at, Has, Genuine, kept-sound, kept-first}
 

@@ -29,7 +29,8 @@ use Rattle.merge_theory.specs.Merge.{nowhere, span, only, none, slot, merged}
 use Rattle.merge_theory.proofs.SweepLaws.{Within, below-empty, Tables, arrive-law, Less, Verdicts, refused-there, accepted-both, sweep-law}
 use Rattle.merge_theory.proofs.AssessLaws.{free}
 use Rattle.merge_theory.proofs.TableLaws.{refines-both}
-use Rattle.narrowing_ranges.specs.Former.{whole, formerValue, former, formerState, comparesUnknown, forget, formerStep, formerBound, formerMerged, WholeIsUnknown, BoundNotAboveFormer, MergedNotAboveFormer}
+use Rattle.narrowing_ranges.specs.Former.{whole, formerValue, former, formerState, comparesUnknown, forget, formerStep, formerBound, formerMerged, BoundNotAboveFormer, MergedNotAboveFormer}
+use Rattle.cells.specs.HeldConfined.{Confined}
 
 -- ---- cells
 
@@ -48,6 +49,10 @@ unknown-in-whole l m = done-covered (cell-merging .right unknown (range l m) unk
 whole-in-unknown : (l : ℤ) (m : ℕ) → Refines (range l m) unknown → Refines (whole (Range l m)) unknown
 unfolding whole mergeCells mergeValues
 whole-in-unknown l m h = done-covered (cell-merging .least (range l m) unknown unknown h same)
+
+-- of numbers of 31 bits `whole` is `?`
+abbrev pub WholeIsUnknown : Type 0
+WholeIsUnknown = (low : ℤ) (more : ℕ) → Confined (range low more) → whole (Range low more) ≡ unknown
 
 pub whole-is-unknown : WholeIsUnknown
 whole-is-unknown l m c = refines-both _ _ (whole-in-unknown l m (covers (in-unknown l m (range-bits c)))) (unknown-in-whole l m)

@@ -7,7 +7,7 @@ use Rattle.cells.specs.declared.Value.{Value}
 use Rattle.cells.specs.declared.Value.the-variants.{Range, Handle}
 use Rattle.cells.specs.declared.Cell.{Cell}
 use Rattle.cells.specs.Cells.{cell, range, unknown}
-use Rattle.cells.specs.Confined.{Confined, Kept}
+use Rattle.cells.specs.HeldConfined.{Confined, Kept}
 use Rattle.cells.specs.Order.{Refines, same, Pointwise, end, cons}
 use Rattle.cells.proofs.RangeLaws.{covers, in-unknown, one-or-more}
 use Rattle.cells.proofs.CellLaws.{range-bits}
@@ -20,7 +20,7 @@ use Rattle.merge_theory.specs.Merge.{merged}
 use Rattle.merge_theory.proofs.Theorems.{merged-monotone}
 use Rattle.file_format.specs.Routine.{routineOf}
 use Rattle.file_format.proofs.StartLaws.{start-kept}
-use Rattle.narrowing_ranges.specs.Former.{WholeIsUnknown, BoundNotAboveFormer, MergedNotAboveFormer}
+use Rattle.narrowing_ranges.specs.Former.{BoundNotAboveFormer, MergedNotAboveFormer}
 use Rattle.narrowing_ranges.specs.Ranges.{widenValue, widen, widenState, BoundNeverAbove, MergedNeverAbove}
 use Rattle.narrowing_ranges.proofs.FormerLaws as former-laws
 
@@ -61,7 +61,7 @@ boundNeverAbove ls budget = never-above (bound (routineOf ls .code) budget) (pro
 pub mergedNeverAbove : MergedNeverAbove
 mergedNeverAbove ls = never-above (merged (routineOf ls .code)) (merged-monotone (routineOf ls .code)) (routineOf ls .start) (start-kept ls)
 
-pub whole-is-unknown : WholeIsUnknown
+pub whole-is-unknown : former-laws.WholeIsUnknown
 whole-is-unknown = former-laws.whole-is-unknown
 
 pub bound-not-above-former : BoundNotAboveFormer

@@ -1,26 +1,12 @@
 -- The bounds as they were before ranges, over the same step and the same sweep: a cell is a single number, `?` or a handle.
 -- "never above the former ones with `?` for each wider range, where both are accepted" (document 02 §12)
-use Prim.Native.Nat.{ℕ}
-use mathlib.Core.Path.{_≡_}
-use mathlib.Core.Bool.{Bool, true, false, cond, _||_}
-use mathlib.Core.List.{map}
-use lib.Dec.{eqb, ltb}
-use lib.IntN.{ℤ}
-use Rattle.numbers.specs.Numbers.{numbers}
-use Rattle.cells.specs.Try.{Try, stuck, done, _>>=_}
-use Rattle.cells.specs.declared.Value.{Value}
-use Rattle.cells.specs.declared.Value.the-variants.{Range, Handle}
-use Rattle.cells.specs.declared.Cell.{Cell}
-use Rattle.cells.specs.declared.Binary.{Binary}
-use Rattle.cells.specs.declared.Binary.the-variants.{Add, Subtract, Compare}
-use Rattle.cells.specs.Cells.{range, high, unknown, between, handle}
+use Rattle.refusals.specs.Library.{ℕ, eqb, ltb, Bool, true, false, cond, _||_, map, _≡_}
+use Rattle.bound_theory.specs.Terms.{Report, Verdict, accepted, bound, openingLimit, numbers, Try, done, stuck, _>>=_, Value, Range, Handle, Cell, Binary, Add, Subtract}
+use Rattle.bound_theory.specs.Terms.{Compare, unknown, handle, range, between, high, Operation, Nothing, Access, Drop, Assign, Constant, Alter, Combine, GetField}
+use Rattle.bound_theory.specs.Terms.{SetField, Branch, BranchIf, BranchIfNot, Call, Stop, nth, State, Code, Next, stops, goes, opens, fetch}
 use Rattle.cells.specs.Merge.{lower, upper}
-use Rattle.cells.specs.Confined.{Confined}
-use Rattle.instructions.specs.declared.Operation.{Operation}
-use Rattle.instructions.specs.declared.Operation.the-variants.{Nothing, Access, Drop, Assign, Constant, GetField, SetField, Branch, BranchIf, BranchIfNot, Call, Stop, Alter, Combine}
-use Rattle.machine.specs.Lists.{nth}
-use Rattle.machine.specs.Machine.{State, Next, stops, goes, opens, Code, fetch, load, execute}
-use Rattle.bound_theory.specs.Tree.{Report, Verdict, accepted, openingLimit, explore, bound}
+use Rattle.machine.specs.Machine.{load, execute}
+use Rattle.bound_theory.specs.Tree.{explore}
 use Rattle.bound_theory.specs.Promises.{NoGreater}
 use Rattle.merge_theory.specs.Merge.{sweep, span, only, none, merged}
 
@@ -95,10 +81,6 @@ unfoldable pub formerMerged : Code → State → Verdict
 formerMerged c s = sweep (formerStep c) (span c s) (s .at) (only s) none
 
 -- ---- the promises
-
--- of numbers of 31 bits `whole` is `?`
-abbrev pub WholeIsUnknown : Type 0
-WholeIsUnknown = (low : ℤ) (more : ℕ) → Confined (range low more) → whole (Range low more) ≡ unknown
 
 -- where a former bound accepts, this one does, and its report is not above: for every code, BUDGET and start
 abbrev pub BoundNotAboveFormer : Type 0

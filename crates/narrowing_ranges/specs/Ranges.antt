@@ -1,16 +1,7 @@
 -- The reports of a routine with ranges beside those of the same routine with `?` for each wider range. (document 02 §12)
-use Prim.Native.Nat.{ℕ}
-use mathlib.Core.Path.{_≡_}
-use mathlib.Core.Bool.{cond}
-use mathlib.Core.List.{List, map}
-use lib.Dec.{eqb}
+use Rattle.refusals.specs.Library.{ℕ, eqb, cond, List, map, _≡_}
+use Rattle.bound_theory.specs.Terms.{Report, accepted, bound, Value, Range, Handle, Cell, unknown, handle, range, State}
 use Rattle.text.specs.Text.{Line}
-use Rattle.cells.specs.declared.Value.{Value}
-use Rattle.cells.specs.declared.Value.the-variants.{Range, Handle}
-use Rattle.cells.specs.declared.Cell.{Cell}
-use Rattle.cells.specs.Cells.{range, unknown, handle}
-use Rattle.machine.specs.Machine.{State}
-use Rattle.bound_theory.specs.Tree.{Report, accepted, bound}
 use Rattle.bound_theory.specs.Promises.{NoGreater}
 use Rattle.merge_theory.specs.Merge.{merged}
 use Rattle.file_format.specs.Routine.{routineOf}

@@ -1,20 +1,8 @@
 -- What is promised of both bounds where a start knows more, and where it knows all. The file Theorems in proofs/ proves each by its name.
 -- (document 02 §14)
-use mathlib.Core.Path.{_≡_}
-use mathlib.Core.List.{List}
-use mathlib.Core.Logic.{_⊎_, _↔_}
-use Prim.Native.Nat.{ℕ, _≤_, _<_}
-use lib.IntN.{ℤ}
-use Rattle.refusals.specs.declared.Refusal.{Refusal}
-use Rattle.refusals.specs.declared.Refusal.the-variants.{Spent}
-use Rattle.cells.specs.Try.{done}
-use Rattle.cells.specs.declared.Cell.{Cell}
-use Rattle.cells.specs.Order.{Refines, Allowed}
-use Rattle.instructions.specs.declared.Operation.the-variants.{Call}
-use Rattle.machine.specs.Machine.{State, Instruction, Code, fetch}
-use Rattle.machine.specs.Order.{Cellwise}
-use Rattle.bound_theory.specs.Tree.{Report, accepted, refused, bound}
-use Rattle.bound_theory.specs.Run.{begin, after, run}
+use Rattle.refusals.specs.Library.{ℕ, _≤_, _<_, ℤ, List, _⊎_, _↔_, _≡_}
+use Rattle.bound_theory.specs.Terms.{Refusal, Spent, Report, accepted, refused, bound, begin, after, run, done, Cell, Allowed, Refines, Call, State, Code, Instruction}
+use Rattle.bound_theory.specs.Terms.{fetch, Cellwise}
 use Rattle.bound_theory.specs.Promises.{Monotone}
 use Rattle.merge_theory.specs.Merge.{merged}
 use Rattle.merge_theory.specs.Promises.{OfSinglePass}

@@ -19,7 +19,7 @@ use Rattle.nearest_changes.specs.declared.Position.the-variants.{Accu, E
 use Rattle.nearest_changes.specs.declared.Change.{Change}
 use Rattle.nearest_changes.specs.Places.{Earlier, accu-entry, accu-field, entries, entry-field, blocks, fields, from, fieldsFrom, positions}
 use Rattle.nearest_changes.specs.Changes.{numberAt, change, changeTo, changesOf, changesAt, changesBy, changes, applied, first, nearest}
-use Rattle.nearest_changes.specs.Promises.{Direction, downwards, upwards, moveBy, ChangeBy, Before, smaller, earlier, down-first, Nearest, NoneMoves, FoundNearest, NoneFound}
+use Rattle.nearest_changes.specs.Promises.{Direction, downwards, upwards, moveBy, ChangeBy, Before, smaller, earlier, down-first}
 use Rattle.nearest_changes.proofs.FirstLaws.{flatMap-append, flatMap-map, not-both, append-some, append-none, none-append, Least, from-some, from-none, none-from}
 use Rattle.nearest_changes.proofs.PlaceLaws.{entry-absent, field-absent}
 
@@ -314,6 +314,26 @@ module _ (t : Change → Bool) (s : State) (n : ℕ) where
       accu (inr (a, h)) = rest a (append-some t es fs x h)
 
 -- ---- all changes
+
+-- the change x moves, and no change before it does
+pub record Nearest (moves : State → Bool) (s : State) (x : Change) : Type 0 where
+  pub amount : ℕ
+  pub direction : Direction
+  pub change : ChangeBy s amount direction x
+  pub alters : moves (applied x s) ≡ true
+  pub first : (m : ℕ) (e : Direction) (y : Change) → ChangeBy s m e y → Before m (y .place) e amount (x .place) direction → moves (applied y s) ≡ false
+
+-- no change moves
+abbrev pub NoneMoves : (State → Bool) → State → Type 0
+NoneMoves moves s = (n : ℕ) (d : Direction) (x : Change) → ChangeBy s n d x → moves (applied x s) ≡ false
+
+-- the change that is found is the nearest
+abbrev pub FoundNearest : Type 0
+FoundNearest = (moves : State → Bool) (s : State) (x : Change) → nearest moves s ≡ some x → Nearest moves s x
+
+-- none is found exactly where none moves
+abbrev pub NoneFound : Type 0
+NoneFound = (moves : State → Bool) (s : State) → (nearest moves s ≡ none → NoneMoves moves s) × (NoneMoves moves s → nearest moves s ≡ none)
 
 pub found-nearest : FoundNearest
 unfolding nearest changes moveBy

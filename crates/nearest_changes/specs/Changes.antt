@@ -1,13 +1,7 @@
 -- The changes of one cell of a start, in the order in which they are tried, and the first that moves a bound. (document 02, §13)
-use Prim.Native.Nat.{ℕ}
-use mathlib.Core.Bool.{Bool, cond}
-use mathlib.Core.List.{List, [], _∷_, _++_, flatMap}
-use mathlib.Core.Option.{Option, some, none}
-use lib.IntN.{ℤ, pos, _+ℤ_, _-ℤ_}
-use Rattle.numbers.specs.Numbers.{within, numbers}
-use Rattle.cells.specs.Try.{Try, stuck, done, _>>=_}
-use Rattle.cells.specs.Cells.{exactly}
-use Rattle.machine.specs.Machine.{State}
+use Rattle.refusals.specs.Library.{ℕ, ℤ, pos, _+ℤ_, _-ℤ_, Bool, cond, List, [], _∷_, _++_, Option, some, none}
+use Rattle.machine.specs.Terms.{numbers, within, Try, done, stuck, _>>=_, exactly, State}
+use mathlib.Core.List.{flatMap}
 use Rattle.nearest_changes.specs.declared.Position.{Position}
 use Rattle.nearest_changes.specs.declared.Change.{Change}
 use Rattle.nearest_changes.specs.Single.{single}

@@ -1,22 +1,14 @@
 -- What the code's values stand for.
-use Prim.Native.Nat.{ℕ, _+_, _-_, _/_, _%_}
-use mathlib.Core.Path.{_≡_}
-use mathlib.Core.Bool.{cond}
-use mathlib.Core.List.{List, [], _∷_}
-use lib.Dec.{eqb}
-use lib.IntN.{ℤ, pos, _+ℤ_, _-ℤ_}
-use Rattle.cells.specs.Try.{Try, stuck, done}
-use Rattle.cells.specs.declared.Cell.{Cell}
-use Rattle.machine.specs.Machine.{State}
+use Rattle.refusals.specs.Library.{ℕ, _+_, _-_, _/_, _%_, eqb, ℤ, pos, _+ℤ_, _-ℤ_, cond, List, [], _∷_, _≡_}
+use Rattle.machine.specs.Terms.{Try, done, stuck, Cell, State}
 use Rattle.nearest_changes.specs.declared.Position.{Position}
 use Rattle.nearest_changes.specs.declared.Single.{Single}
 use Rattle.nearest_changes.specs.declared.Single.the-variants.{Number, Other}
 use Rattle.nearest_changes.specs.declared.Trial.{Trial}
 use Rattle.nearest_changes.specs.declared.Trial.the-variants.{Of, Nothing}
 use Rattle.nearest_changes.specs.declared.Change.{Change}
-use Rattle.nearest_changes.specs.Places.{cellAt}
+use Rattle.nearest_changes.specs.Places.{cellAt, positionOf}
 use Rattle.nearest_changes.specs.Changes.{numberAt, changeTo}
-use Rattle.nearest_changes.specs.Places.{positionOf}
 
 -- the number that is held, or stuck
 abbrev pub ofSingle : Single → Try ℤ

@@ -1,15 +1,9 @@
 -- The cells of a start by their places in the file. (document 02, §13)
-use Prim.Native.Nat.{ℕ, zero, suc, _<_, _-_, _/_, _%_}
-use mathlib.Core.List.{List, [], _∷_, _++_, map}
-use lib.ListN.{length, getD, set}
-use Rattle.cells.specs.Try.{Try, _>>=_, done}
-use Rattle.cells.specs.declared.Cell.{Cell}
-use Rattle.machine.specs.Lists.{nth}
-use Rattle.machine.specs.Machine.{State, height, load, restack, reblock}
+use Rattle.refusals.specs.Library.{ℕ, zero, suc, _-_, _/_, _%_, _<_, eqb, ltb, length, getD, set, cond, List, [], _∷_, _++_, map}
+use Rattle.machine.specs.Terms.{Try, done, _>>=_, Cell, nth, State, height}
+use Rattle.machine.specs.Machine.{load, restack, reblock}
 use Rattle.nearest_changes.specs.declared.Position.{Position}
 use Rattle.nearest_changes.specs.declared.Position.the-variants.{Accu, Entry, Field}
-use mathlib.Core.Bool.{cond}
-use lib.Dec.{eqb, ltb}
 
 -- the cell at a place; stuck where the start has none there
 unfoldable pub cellAt : Position → State → Try Cell

@@ -1,11 +1,6 @@
 -- "cells that hold one number" (document 02, §13): a range of one
-use mathlib.Core.Bool.{cond}
-use lib.Dec.{eqb}
-use lib.IntN.{ℤ}
-use Rattle.cells.specs.Try.{Try, stuck, done}
-use Rattle.cells.specs.declared.Value.{Value}
-use Rattle.cells.specs.declared.Value.the-variants.{Range, Handle}
-use Rattle.cells.specs.declared.Cell.{Cell}
+use Rattle.refusals.specs.Library.{eqb, ℤ, cond}
+use Rattle.machine.specs.Terms.{Try, done, stuck, Value, Range, Handle, Cell}
 
 -- the number of a range of one; stuck for a wider range and for a handle
 unfoldable pub singleIn : Value → Try ℤ

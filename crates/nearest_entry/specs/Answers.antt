@@ -1,13 +1,8 @@
 -- The answer of the search for the nearest number that moves the bound, to a routine file and to a length of lent report memory.
 -- (document 02, §13)
-use Prim.Native.Nat.{ℕ}
-use mathlib.Core.List.{List, _++_}
-use mathlib.Core.Option.{Option, some, none}
-use Rattle.text.specs.Text.{bytes}
-use Rattle.text.specs.Decimal.{decimal}
+use Rattle.refusals.specs.Library.{ℕ, List, _++_, Option, some, none}
+use Rattle.answers.specs.Terms.{Routine, readBound, Answer, reported, refused, lending, ofReading, memoryLimit, bytes, decimal}
 use Rattle.words.specs.Lines.{integer}
-use Rattle.file_format.specs.Routine.{Routine, readBound}
-use Rattle.answers.specs.Answers.{Answer, reported, refused, memoryLimit, lending, ofReading}
 use Rattle.nearest_changes.specs.declared.Position.{Position}
 use Rattle.nearest_changes.specs.declared.Position.the-variants.{Accu, Entry, Field}
 use Rattle.nearest_changes.specs.declared.Change.{Change}

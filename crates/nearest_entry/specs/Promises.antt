@@ -1,18 +1,10 @@
 -- What is promised of the answers to a text, as statements. `proofs/Theorems` proves each by its name. (document 02, §13)
-use Prim.Native.Nat.{ℕ, _≤_}
-use mathlib.Core.Path.{_≡_}
-use mathlib.Core.List.{List, _++_, map}
-use mathlib.Core.Logic.{_⊎_}
-use mathlib.Core.Option.{none}
-use lib.ListN.{length}
-use Rattle.text.specs.Text.{lines}
+use Rattle.refusals.specs.Library.{ℕ, _≤_, length, List, _++_, map, _⊎_, none, _≡_}
+use Rattle.answers.specs.Terms.{listed, Routine, readBound, reported, lines, cells, fields, names}
 use Rattle.bound_theory.specs.Tree.{Report}
-use Rattle.file_format.specs.declared.Section.the-variants.{Cells as cells, Fields as fields}
+use Rattle.file_format.specs.Routine.{textLimit}
 use Rattle.file_format.specs.declared.Role.the-variants.{Names as names}
-use Rattle.file_format.specs.Layout.{listed}
-use Rattle.file_format.specs.Routine.{Routine, textLimit, readBound}
 use Rattle.file_format.specs.Routine as readings
-use Rattle.answers.specs.Answers.{reported}
 use Rattle.nearest_changes.specs.declared.Change.{Change}
 use Rattle.nearest_changes.specs.Places.{positions}
 use Rattle.nearest_changes.specs.Promises.{Direction, ChangeBy}

@@ -1,16 +1,7 @@
 -- A routine file with the value of one cell replaced, and the routine that is tried. (document 02, §13)
-use Prim.Native.Nat.{ℕ, suc, _<_}
-use mathlib.Core.Path.{_≡_}
-use mathlib.Core.List.{List, [], _++_}
-use lib.IntN.{ℤ}
-use lib.ListN.{length, getD, set, take, drop}
-use Rattle.text.specs.Text.{bytes, Line}
-use Rattle.file_format.specs.declared.Section.{Section}
-use Rattle.file_format.specs.declared.Section.the-variants.{Cells as cells, Fields as fields}
+use Rattle.refusals.specs.Library.{ℕ, suc, _<_, ℤ, length, getD, take, drop, set, List, [], _++_, _≡_}
+use Rattle.answers.specs.Terms.{listed, Routine, bytes, Line, Section, cells, fields, cell, names, values}
 use Rattle.file_format.specs.declared.Column.the-variants.{Cell as cell}
-use Rattle.file_format.specs.declared.Role.the-variants.{Names as names, Values as values}
-use Rattle.file_format.specs.Layout.{listed}
-use Rattle.file_format.specs.Routine.{Routine}
 use Rattle.words.specs.Lines.{integer}
 use Rattle.words_inverse.specs.Sections.{linesText, joined}
 use Rattle.nearest_changes.specs.declared.Position.{Position}

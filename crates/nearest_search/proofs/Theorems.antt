@@ -17,7 +17,7 @@ use Rattle.nearest_changes.specs.Changes.{applied, nearest}
 use Rattle.nearest_changes.specs.Promises as changes
 use Rattle.nearest_changes.proofs.Theorems.{found-nearest, none-found}
 use Rattle.nearest_search.specs.Search.{moved, found, refused-by, searchFrom, search}
-use Rattle.nearest_search.specs.Promises.{Moves, other-cycles, now-refused, MovedFirst, NeverMoved, FoundMoves, NoneMoves, RefusedAlike}
+use Rattle.nearest_search.specs.Promises.{Moves, other-cycles, now-refused, MovedFirst, NeverMoved, FoundMoves, NoneMoves}
 
 -- ---- the bound refuses by 7, 8 and 9 alone
 
@@ -109,6 +109,12 @@ none-moves c budget s = (λ e. forth (bound c budget s) refl e, back)
 
     back : (q : Report) → NeverMoved c budget s q → searchFrom c budget s (bound c budget s) ≡ found none
     back q h = rw (h .reports) (ap found (none-found (moving c budget q) s .1 (λ n d x a. unmoved c budget q (applied x s) (h .still n d x a))))
+
+-- "A file that is refused to begin with is refused the same way here."
+abbrev pub RefusedAlike : Type 0
+RefusedAlike =
+    (c : Code) (budget : ℕ) (s : State) (r : Refusal) →
+    (search c budget s ≡ refused-by r → bound c budget s ≡ refused r) × (bound c budget s ≡ refused r → search c budget s ≡ refused-by r)
 
 pub refused-alike : RefusedAlike
 unfolding search searchFrom

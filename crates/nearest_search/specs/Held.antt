@@ -1,18 +1,8 @@
 -- What the code's values stand for, and what is asked of them.
-use Prim.Native.Nat.{ℕ, _<_}
-use mathlib.Core.Path.{_≡_}
-use mathlib.Core.Bool.{Bool, false}
-use mathlib.Core.List.{List}
-use mathlib.Core.Option.{Option, some, none}
-use lib.IntN.{ℤ}
-use lib.ListN.{getD}
-use Rattle.cells.specs.Try.{Try, stuck, done}
-use Rattle.cells.specs.declared.Cell.{Cell}
-use Rattle.cells.specs.Cells.{handle}
-use Rattle.machine.specs.Machine.{State, Code}
-use Rattle.machine_state.specs.declared.State as states
+use Rattle.refusals.specs.Library.{ℕ, _<_, ℤ, getD, Bool, false, List, Option, some, none, _≡_}
+use Rattle.bound_theory.specs.Terms.{Report, Verdict, accepted, bound, Try, done, stuck, Cell, handle, State, Code}
 use Rattle.machine_state.specs.HeldProgram.{IsProgram}
-use Rattle.bound_theory.specs.Tree.{Report, Verdict, accepted, bound}
+use Rattle.machine_state.specs.declared.State as states
 use Rattle.bound_figures.specs.declared.Found.{Found}
 use Rattle.bound_figures.specs.HeldFigures.{Shows}
 use Rattle.bound_explorer.specs.HeldContract.{Explorable}

@@ -1,16 +1,10 @@
 -- What is promised of the search, as statements. `proofs/Theorems` proves each by its name. (document 02, §13)
-use Prim.Native.Nat.{ℕ}
-use mathlib.Core.Path.{_≡_}
-use mathlib.Core.Logic.{_⊎_}
-use mathlib.Core.Option.{some, none}
-use Rattle.refusals.specs.declared.Refusal.{Refusal}
-use Rattle.refusals.specs.Refusals.{number}
-use Rattle.machine.specs.Machine.{State, Code}
-use Rattle.bound_theory.specs.Tree.{Report, Verdict, accepted, refused, bound}
+use Rattle.refusals.specs.Library.{ℕ, _⊎_, some, none, _≡_}
+use Rattle.bound_theory.specs.Terms.{Refusal, number, Report, Verdict, accepted, refused, bound, State, Code}
 use Rattle.nearest_changes.specs.declared.Change.{Change}
 use Rattle.nearest_changes.specs.Changes.{applied}
 use Rattle.nearest_changes.specs.Promises.{Direction, ChangeBy, Before}
-use Rattle.nearest_search.specs.Search.{found, refused-by, search}
+use Rattle.nearest_search.specs.Search.{found, search}
 
 -- a verdict "alters CYCLES or makes the routine refused by 7, 8 or 9", against a report q
 pub data Moves (q : Report) : Verdict → Type 0 where
@@ -40,9 +34,3 @@ abbrev pub NoneMoves : Type 0
 NoneMoves =
     (c : Code) (budget : ℕ) (s : State) →
     (search c budget s ≡ found none → (q : Report) × NeverMoved c budget s q) × ((q : Report) → NeverMoved c budget s q → search c budget s ≡ found none)
-
--- "A file that is refused to begin with is refused the same way here."
-abbrev pub RefusedAlike : Type 0
-RefusedAlike =
-    (c : Code) (budget : ℕ) (s : State) (r : Refusal) →
-    (search c budget s ≡ refused-by r → bound c budget s ≡ refused r) × (bound c budget s ≡ refused r → search c budget s ≡ refused-by r)

@@ -1,11 +1,6 @@
 -- The nearest number that moves the first bound. (document 02, §13)
-use Prim.Native.Nat.{ℕ}
-use mathlib.Core.Bool.{Bool, true, not}
-use mathlib.Core.Option.{Option}
-use lib.Dec.{eqb}
-use Rattle.refusals.specs.declared.Refusal.{Refusal}
-use Rattle.machine.specs.Machine.{State, Code}
-use Rattle.bound_theory.specs.Tree.{Verdict, accepted, refused, bound}
+use Rattle.refusals.specs.Library.{ℕ, eqb, Bool, true, not, Option}
+use Rattle.bound_theory.specs.Terms.{Refusal, Verdict, accepted, refused, bound, State, Code}
 use Rattle.nearest_changes.specs.declared.Change.{Change}
 use Rattle.nearest_changes.specs.Changes.{nearest}
 

@@ -1,10 +1,6 @@
 -- Numbers: "Numbers are signed, .. two's complement, and wrap." (document 01, Cells and machine); "Numbers are 31 bits on the card."
 -- (document 02, §7)
-use Prim.Native.Nat.{ℕ, suc, _-_, _^_, _%_, _<_}
-use mathlib.Core.Bool.{Bool, true, false, cond, not}
-use lib.Dec.{ltb, eqb}
-use lib.IntN.{ℤ, pos, negsuc}
-use lib.Signed.{mag, ltZ, leZ}
+use Rattle.refusals.specs.Library.{ℕ, suc, _-_, _%_, _^_, _<_, eqb, ltb, ℤ, pos, negsuc, leZ, ltZ, mag, Bool, true, false, cond, not}
 use Rattle.numbers.specs.declared.Comparison.{Comparison}
 use Rattle.numbers.specs.declared.Comparison.the-variants.{Equal, Unequal, Less, AtMost, Greater, AtLeast}
 use Rattle.numbers.specs.declared.Range.{Range}

@@ -1,13 +1,7 @@
 -- What the code answers when it makes the copy.
-use Prim.Native.Nat.{ℕ}
-use mathlib.Core.Bool.{cond}
-use mathlib.Core.List.{List}
-use lib.Dec.{ltb}
-use lib.ListN.{length}
-use Rattle.refusals.specs.declared.Refusal.the-variants.{TextLength, BadName}
-use Rattle.text.specs.Text.{lines}
-use Rattle.file_format.specs.Routine.{textLimit, readBound}
-use Rattle.answers.specs.Answers.{Answer, reported, refused, ofReading}
+use Rattle.refusals.specs.Library.{ℕ, ltb, length, cond, List}
+use Rattle.answers.specs.Terms.{readBound, Answer, reported, refused, ofReading, TextLength, BadName, lines}
+use Rattle.file_format.specs.Routine.{textLimit}
 use Rattle.preview_copy.specs.Patch.{inCode, patched}
 
 -- a copy that is no longer than a text may be

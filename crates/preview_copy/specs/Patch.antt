@@ -1,9 +1,5 @@
 -- A routine file with one instruction replaced. (document 02 §10)
-use Prim.Native.Nat.{ℕ, suc, _+_, _-_}
-use mathlib.Core.Bool.{Bool, _&&_}
-use mathlib.Core.List.{List, _++_}
-use lib.Dec.{leb, ltb}
-use lib.ListN.{length, getD, take, drop}
+use Rattle.refusals.specs.Library.{ℕ, suc, _+_, _-_, ltb, leb, length, getD, take, drop, Bool, _&&_, List, _++_}
 use Rattle.text.specs.Text.{bytes, Line, noLine}
 use Rattle.machine.specs.Machine.{Code}
 use Rattle.file_format.specs.Layout.{layout}

@@ -1,21 +1,11 @@
 -- What is promised of a patched copy, as statements. `proofs/Theorems` proves each by its name. (document 02 §10)
-use Prim.Native.Nat.{ℕ, _-_}
-use mathlib.Core.Path.{_≡_}
-use mathlib.Core.Bool.{true, not}
-use mathlib.Core.List.{List, _++_}
-use mathlib.Core.Logic.{_↔_}
-use lib.Dec.{eqb}
-use lib.ListN.{length, getD}
-use Rattle.text.specs.Text.{bytes, Line, noLine, lines, all}
-use Rattle.text.specs.Decimal.{decimal}
-use Rattle.cells.specs.Try.{done}
-use Rattle.machine.specs.Machine.{Instruction, Code, fetch}
-use Rattle.file_format.specs.declared.Section.the-variants.{Kinds as kinds, Primitives as primitives}
+use Rattle.refusals.specs.Library.{ℕ, _-_, eqb, length, getD, true, not, List, _++_, _↔_, _≡_}
+use Rattle.machine.specs.Terms.{done, Code, Instruction, fetch}
+use Rattle.answers.specs.Terms.{listed, Routine, readBound, bytes, Line, lines, all, noLine, decimal, kinds, primitives, extra, values}
+use Rattle.file_format.specs.Rows.{op, arg}
+use Rattle.file_format.specs.Routine.{priceList, instructionOf, codeIn}
 use Rattle.file_format.specs.declared.Column.the-variants.{Extra as extra}
 use Rattle.file_format.specs.declared.Role.the-variants.{Values as values}
-use Rattle.file_format.specs.Layout.{listed}
-use Rattle.file_format.specs.Rows.{op, arg}
-use Rattle.file_format.specs.Routine.{Routine, priceList, instructionOf, codeIn, readBound}
 use Rattle.file_format.specs.Routine as readings
 use Rattle.preview_copy.specs.Patch.{inCode, lineOf, patched}
 

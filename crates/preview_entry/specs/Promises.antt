@@ -1,9 +1,6 @@
 -- What is promised of the answers of a preview, as a statement.
-use Prim.Native.Nat.{ℕ}
-use mathlib.Core.Path.{_≡_}
-use mathlib.Core.List.{List}
-use Rattle.text.specs.Text.{lines}
-use Rattle.answers.specs.Answers.{reported}
+use Rattle.refusals.specs.Library.{ℕ, List, _≡_}
+use Rattle.answers.specs.Terms.{reported, lines}
 use Rattle.preview_copy.specs.Patch.{patched}
 use Rattle.report_theory.specs.Promises.{SafeReport, ExactReport}
 use Rattle.preview_entry.specs.Answers.{previewAnswer}

@@ -1,5 +1,5 @@
 -- The refusal table of document 01, and the new numbers of document 02: the number and the place of each refusal.
-use Prim.Native.Nat.{ℕ}
+use Rattle.refusals.specs.Library.{ℕ}
 use Rattle.refusals.specs.declared.Refusal.{Refusal}
 use Rattle.refusals.specs.declared.Refusal.the-variants.{ReportMemory, TextLength, Layout, OutOfRange, BadName, Unpriced, NoTarget, Backward, UnknownCell, Stuck, Openings, Spent, BadWord, NoMeeting}
 

@@ -1,11 +1,6 @@
 -- What is promised of code at other addresses, as statements. `proofs/Theorems` proves each by its name. (document 02, §2)
-use Prim.Native.Nat.{ℕ}
-use mathlib.Core.Path.{_≡_}
-use mathlib.Core.List.{List}
-use lib.IntN.{ℤ}
-use Rattle.machine.specs.Machine.{State, Code}
-use Rattle.bound_theory.specs.Tree.{bound}
-use Rattle.bound_theory.specs.Run.{run}
+use Rattle.refusals.specs.Library.{ℕ, ℤ, List, _≡_}
+use Rattle.bound_theory.specs.Terms.{bound, run, State, Code}
 use Rattle.merge_theory.specs.Merge.{merged}
 use Rattle.relocation_theory.specs.Raised.{raiseCode, raiseState, raiseVerdict}
 

@@ -1,14 +1,11 @@
 -- Code, a state and a verdict at addresses that are higher by f: an import makes its lines "from address 0", wherever the written file
 -- begins. (document 02, §2)
-use Prim.Native.Nat.{ℕ, _+_}
-use mathlib.Core.Bool.{cond}
-use mathlib.Core.List.{map}
-use lib.IntN.{pos}
-use Rattle.refusals.specs.declared.Refusal.{Refusal}
-use Rattle.refusals.specs.declared.Refusal.the-variants.{ReportMemory, TextLength, Layout, OutOfRange, BadName, Unpriced, NoTarget, Backward, UnknownCell, Stuck, Openings, Spent, BadWord, NoMeeting}
-use Rattle.machine.specs.Machine.{index, State, Instruction, Code, jump}
+use Rattle.refusals.specs.Library.{ℕ, _+_, pos, cond, map}
+use Rattle.bound_theory.specs.Terms.{Refusal, ReportMemory, TextLength, Layout, OutOfRange, BadName, BadWord, Stuck, Openings, Spent, NoMeeting, Verdict, accepted}
+use Rattle.bound_theory.specs.Terms.{refused, State, Code, Instruction, jump}
+use Rattle.refusals.specs.declared.Refusal.the-variants.{Unpriced, NoTarget, Backward, UnknownCell}
+use Rattle.machine.specs.Machine.{index}
 use Rattle.machine.specs.Forward.{branches}
-use Rattle.bound_theory.specs.Tree.{Verdict, accepted, refused}
 
 -- an instruction: "Targets are addresses", and no other operand is one
 unfoldable pub raiseInstruction : ℕ → Instruction → Instruction

@@ -1,12 +1,9 @@
 -- The answer of a replay to a routine file, to a card's trace and to a length of lent report memory. (document 02, §4)
-use Prim.Native.Nat.{ℕ}
-use mathlib.Core.List.{List, _++_}
-use Rattle.text.specs.Text.{bytes}
-use Rattle.text.specs.Decimal.{decimal}
-use Rattle.file_format.specs.Routine.{Routine, readRun}
+use Rattle.refusals.specs.Library.{ℕ, List, _++_}
+use Rattle.answers.specs.Terms.{Routine, readRun, Answer, lending, ofReading, memoryLimit, bytes, decimal}
+use Rattle.answers.specs.Answers.{ofAcceptance}
 use Rattle.replay_trace.specs.Traces.{traceAcceptance, entries}
 use Rattle.replay_steps.specs.Replay.{Outcome, agreed, differed, replay}
-use Rattle.answers.specs.Answers.{Answer, memoryLimit, lending, ofReading, ofAcceptance}
 
 -- "It prints `DIFFERS` and that line's number, or `AGREES`."
 unfoldable pub outcomeText : Outcome → List ℕ

@@ -1,6 +1,5 @@
 -- What the internal functions are handed.
-use Prim.Native.Nat.{ℕ}
-use mathlib.Core.List.{List}
+use Rattle.refusals.specs.Library.{ℕ, List}
 use Rattle.machine_state.specs.HeldProgram.{programOf, sizesOf}
 use Rattle.machine_state.specs.HeldState.{whole}
 use Rattle.file_reader.specs.declared.Routine.{Routine}

@@ -1,21 +1,11 @@
 -- What is promised of what a replay prints, in terms of both texts. `proofs/Theorems` proves it by its name. (document 02 §4)
-use Prim.Native.Nat.{ℕ, _+_, _<_, _≤_}
-use mathlib.Core.Path.{_≡_}
-use mathlib.Core.List.{List, _++_}
-use lib.ListN.{length, take}
-use Rattle.text.specs.Text.{bytes}
-use Rattle.text.specs.Decimal.{decimal}
-use Rattle.cells.specs.Order.{Allowed}
-use Rattle.machine.specs.Machine.{State}
-use Rattle.machine.specs.Order.{Cellwise}
-use Rattle.bound_theory.specs.Tree.{Report, accepted, bound}
-use Rattle.bound_theory.specs.Run.{begin, after}
+use Rattle.refusals.specs.Library.{ℕ, _+_, _≤_, _<_, length, take, List, _++_, _≡_}
+use Rattle.bound_theory.specs.Terms.{Report, accepted, bound, begin, after, Allowed, State, Cellwise}
+use Rattle.answers.specs.Terms.{Routine, readRun, reported, bytes, decimal}
 use Rattle.merge_theory.specs.Merge.{merged}
-use Rattle.file_format.specs.Routine.{Routine, readRun}
 use Rattle.file_format.specs.Routine as readings
 use Rattle.replay_trace.specs.Traces.{Entry, entries}
 use Rattle.replay_steps.specs.Promises.{Agrees, FirstDiffers, spent}
-use Rattle.answers.specs.Answers.{reported}
 use Rattle.replay_entry.specs.Answers.{replayAnswer}
 
 -- what holds of the steps es that a trace records where it agrees with the run of the routine x

@@ -1,15 +1,9 @@
 -- What the replay's values in code stand for.
-use Prim.Native.Nat.{ℕ, suc, _≤_}
-use mathlib.Core.Path.{_≡_}
-use mathlib.Core.Bool.{Bool, true, false}
-use mathlib.Core.List.{List}
-use lib.IntN.{ℤ}
-use lib.ListN.{drop}
-use Rattle.machine.specs.Machine.{Code}
-use Rattle.cells.specs.declared.Cell.{Cell}
-use Rattle.machine_state.specs.declared.State as states
+use Rattle.refusals.specs.Library.{ℕ, suc, _≤_, ℤ, drop, Bool, true, false, List, _≡_}
+use Rattle.bound_theory.specs.Terms.{Run, Cell, Code}
 use Rattle.machine_state.specs.HeldState.{WellFormed, whole}
-use Rattle.bound_theory.specs.Run.{Run, once}
+use Rattle.machine_state.specs.declared.State as states
+use Rattle.bound_theory.specs.Run.{once}
 use Rattle.replay_steps.specs.declared.Held.{Held}
 use Rattle.replay_steps.specs.declared.Replayed.{Replayed}
 use Rattle.replay_steps.specs.declared.Replayed.the-variants.{Agrees, Differs}

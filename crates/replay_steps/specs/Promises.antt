@@ -1,15 +1,6 @@
 -- What a replay says, as statements. `proofs/Theorems` proves each by its name. (document 02, §4)
-use Prim.Native.Nat.{ℕ, _+_, _≤_, _<_}
-use mathlib.Core.Path.{_≡_}
-use mathlib.Core.Bool.{true, false}
-use mathlib.Core.List.{List, [], _∷_}
-use lib.IntN.{ℤ}
-use lib.ListN.{length, getD, take}
-use Rattle.cells.specs.Order.{Allowed}
-use Rattle.machine.specs.Machine.{State, Code}
-use Rattle.machine.specs.Order.{Cellwise}
-use Rattle.bound_theory.specs.Tree.{Report, accepted, bound}
-use Rattle.bound_theory.specs.Run.{begin, after}
+use Rattle.refusals.specs.Library.{ℕ, _+_, _≤_, _<_, ℤ, length, getD, take, true, false, List, [], _∷_, _≡_}
+use Rattle.bound_theory.specs.Terms.{Report, accepted, bound, begin, after, Allowed, State, Code, Cellwise}
 use Rattle.replay_trace.specs.Traces.{Entry}
 use Rattle.replay_steps.specs.Replay.{agrees, agreed, differed, replay}
 

@@ -1,11 +1,7 @@
 -- The replay of a card's trace on the plain machine. (document 02, §4)
-use Prim.Native.Nat.{ℕ, suc, _-_}
-use mathlib.Core.Bool.{Bool, cond, not, _&&_}
-use mathlib.Core.List.{List, [], _∷_}
-use lib.Dec.{eqb, leb}
-use lib.IntN.{ℤ}
+use Rattle.refusals.specs.Library.{ℕ, suc, _-_, eqb, leb, ℤ, Bool, cond, not, _&&_, List, [], _∷_}
 use Rattle.machine.specs.Machine.{State, Code}
-use Rattle.bound_theory.specs.Run.{Run, begin, once, isStuck}
+use Rattle.bound_theory.specs.Run.{Run, begin, isStuck, once}
 use Rattle.replay_trace.specs.Traces.{Entry}
 
 -- the run makes a step more: "A line after STOP differs, and so does a line where the machine is stuck."

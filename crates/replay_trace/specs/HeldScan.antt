@@ -1,6 +1,5 @@
 -- The tests of a line as the code takes them.
-use Prim.Native.Nat.{ℕ}
-use mathlib.Core.Bool.{Bool}
+use Rattle.refusals.specs.Library.{ℕ, Bool}
 use Rattle.text.specs.Text.{Line}
 use Rattle.replay_trace.specs.declared.LineTest.{LineTest}
 use Rattle.replay_trace.specs.declared.LineTest.the-variants.{Layout as layout-test, Range as range-test}

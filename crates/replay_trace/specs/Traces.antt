@@ -1,16 +1,9 @@
 -- The text of a card's trace: which refusal it has, and the steps that it records. (document 02, §4)
 -- Every definition is total: what an accepted text never needs is 0 or empty.
-use Prim.Native.Nat.{ℕ, zero, suc}
-use mathlib.Core.Bool.{Bool, true, cond, _&&_}
-use mathlib.Core.List.{List, [], _∷_, map}
-use lib.Dec.{eqb, ltb}
-use lib.ListN.{length, getD, drop}
-use Rattle.refusals.specs.declared.Refusal.{Refusal}
-use Rattle.refusals.specs.declared.Refusal.the-variants.{TextLength, Layout, OutOfRange}
+use Rattle.refusals.specs.Library.{ℕ, zero, suc, eqb, ltb, length, getD, drop, Bool, true, cond, _&&_, List, [], _∷_, map}
+use Rattle.file_format.specs.Terms.{Refusal, TextLength, Layout, OutOfRange, bytes, Line, lines, lineWords, equals, numeral}
 use Rattle.refusals.specs.declared.Acceptance.{Acceptance}
 use Rattle.refusals.specs.declared.Acceptance.the-variants.{Accepted as accepted, Refused as refused}
-use Rattle.text.specs.Text.{bytes, equals, lineWords, Line, lines}
-use Rattle.text.specs.Decimal.{numeral}
 use Rattle.numbers.specs.declared.Range.{Range}
 use Rattle.numbers.specs.Numbers.{naturals, within}
 use Rattle.instructions.specs.Kinds.{addresses}

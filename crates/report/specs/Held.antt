@@ -1,10 +1,7 @@
 -- What is asked of a report, and what is answered of the figures found.
-use Prim.Native.Nat.{ℕ, _≤_}
-use mathlib.Core.Path.{_≡_}
-use mathlib.Core.List.{List}
-use lib.ListN.{length}
-use Rattle.refusals.specs.declared.Acceptance as code
+use Rattle.refusals.specs.Library.{ℕ, _≤_, length, List, _≡_}
 use Rattle.refusals.specs.declared.Acceptance.the-variants.{Accepted, Refused}
+use Rattle.refusals.specs.declared.Acceptance as code
 use Rattle.bound_figures.specs.declared.Found.{Found}
 use Rattle.answers.specs.Answers.{Answer, reported, refused}
 use Rattle.report.specs.Report.{boundText}

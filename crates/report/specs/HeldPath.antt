@@ -1,9 +1,6 @@
 -- The report that the explorer's figures stand for: its path is one number (`encode` in the specs of `bound_figures`).
-use Prim.Native.Nat.{ℕ, zero, suc, _/_, _%_}
-use mathlib.Core.Bool.{cond}
-use mathlib.Core.List.{List, [], _∷_}
-use lib.Dec.{eqb, ltb}
-use Rattle.bound_theory.specs.Tree.{Report, Decision, N, T}
+use Rattle.refusals.specs.Library.{ℕ, zero, suc, _/_, _%_, eqb, ltb, cond, List, [], _∷_}
+use Rattle.bound_theory.specs.Tree.{Decision, N, T, Report}
 
 -- the decision of a bit: 0 is not taken
 abbrev pub decision : ℕ → Decision

@@ -1,14 +1,7 @@
 -- What is printed: a report, a run's report, a refusal. (document 01, The printed report)
-use Prim.Native.Nat.{ℕ, _+_, _*_, _/_, _%_, _≤_}
-use mathlib.Core.Path.{_≡_}
-use mathlib.Core.Bool.{cond}
-use mathlib.Core.List.{List, [], _∷_, _++_, map}
-use lib.Dec.{ltb}
-use Rattle.refusals.specs.Refusals.{number, place}
-use Rattle.refusals.specs.declared.Refusal.{Refusal}
-use Rattle.text.specs.Text.{bytes}
-use Rattle.text.specs.Decimal.{decimal}
-use Rattle.bound_theory.specs.Tree.{Report, Decision, N, T}
+use Rattle.refusals.specs.Library.{ℕ, _+_, _*_, _/_, _%_, _≤_, ltb, cond, List, [], _∷_, _++_, map, _≡_}
+use Rattle.bound_theory.specs.Terms.{Refusal, number, place, Decision, N, T, Report}
+use Rattle.answers.specs.Terms.{bytes, decimal}
 
 -- "SHARE is CYCLES × 1000 / TICK to the nearest whole number": its whole part where less than a half is left over, and 1 more where more
 -- than a half is; "SHARE at an exact half goes to the even whole number" (document 02 §6): 1 more where the whole part is odd
@@ -25,6 +18,10 @@ pub record Rounded (tick cycles share : ℕ) : Type 0 where
   pub not-below : 2 * (cycles * 1000) ≤ 2 * tick * share + tick
   pub even-above : 2 * tick * share ≡ 2 * (cycles * 1000) + tick → share % 2 ≡ 0
   pub even-below : 2 * (cycles * 1000) ≡ 2 * tick * share + tick → share % 2 ≡ 0
+
+-- SHARE is that number, and no other number is
+abbrev pub ShareNearest : Type 0
+ShareNearest = (tick cycles : ℕ) → 1 ≤ tick → Rounded tick cycles (share tick cycles) × ((n : ℕ) → Rounded tick cycles n → n ≡ share tick cycles)
 
 -- the letter of a decision: N or T
 abbrev pub letter : Decision → ℕ

@@ -44,7 +44,7 @@ use Rattle.answers.specs.Answers.{reported, refused, memoryLimit, lending, ofRe
 use Rattle.answers.proofs.AnswerLaws.{never, from-reading, place-from, reading-passed}
 use Rattle.report_theory.proofs.SizeLaws.{code-length, ticks, bound-limited, merged-limited, run-limited}
 use Rattle.report_theory.specs.Answers.{ofVerdict, boundRoutine, mergeRoutine, runRoutine, boundAnswer, mergeAnswer, runAnswer}
-use Rattle.report_theory.specs.Promises.{BoundReported, MergeReported, NearestShare, WithinReport, RunAccepted, FilledIn, FilledCells, ReportsKept, MergesKept, RunsKept, AnswersIrrelevant, PassingIsAscii, PassingIsSinglePass}
+use Rattle.report_theory.specs.Promises.{BoundReported, MergeReported, NearestShare, WithinReport, RunAccepted, FilledIn, FilledCells, AnswersIrrelevant, PassingIsAscii, PassingIsSinglePass, SafeReport, SafeMerge, AboveMerge, ExactReport, ExactMerge}
 
 -- ---- what a report comes from
 
@@ -68,6 +68,19 @@ nearest-share : (text : List ℕ) (x : Routine) → readBound text ≡ readings.
 nearest-share text x e q = let p = read-passes text x e in share-nearest (x .tick) (q .cycles) (rw (p .1) (tick-positive (p .0)))
 
 -- ---- demands 2 and 3
+
+-- demands 2 and 3
+abbrev pub ReportsKept : Type 0
+ReportsKept = (text : List ℕ) (n : ℕ) (bytes : List ℕ) → boundAnswer text n ≡ reported bytes → SafeReport text bytes × ExactReport text bytes
+
+abbrev pub MergesKept : Type 0
+MergesKept = (text : List ℕ) (n : ℕ) (bytes : List ℕ) → mergeAnswer text n ≡ reported bytes → SafeMerge text bytes × ExactMerge text bytes × AboveMerge text bytes
+
+-- every run of a file that fills in a bounded one is accepted, and within its report
+abbrev pub RunsKept : Type 0
+RunsKept =
+    ((text : List ℕ) (n : ℕ) (bytes : List ℕ) → runAnswer text n ≡ reported bytes → WithinReport text bytes)
+    × ((text : List ℕ) (n : ℕ) → RunAccepted text n (reportLength (answerOf (runAnswer text n))))
 
 pub reports-kept : ReportsKept
 unfolding boundAnswer boundRoutine bound

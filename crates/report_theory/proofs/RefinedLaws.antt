@@ -20,9 +20,10 @@ use Rattle.answers.specs.Answers.{memoryLimit}
 use Rattle.answers.proofs.AnswerLaws.{reading-passed}
 use Rattle.report_theory.specs.Answers.{ofVerdict, boundRoutine, mergeRoutine, runRoutine, boundAnswer, mergeAnswer, runAnswer}
 use Rattle.report_theory.specs.Promises.{BoundReported, MergeReported}
-use Rattle.report_theory.specs.Refined.{NarrowedTexts, RunsKnown, BoundsRefined, MergesRefined}
+use Rattle.report_theory.specs.Refined.{NarrowedTexts, RunsKnown, MonotoneReport, MonotoneMerge, KnownReport, KnownMerge}
 use Rattle.report_theory.proofs.AnswerLaws.{reports-kept, merges-kept}
 use Rattle.report_theory.proofs.KnownLaws.{plain-read}
+use Rattle.answers.specs.Terms.{reported}
 
 -- ---- a file that knows more
 
@@ -52,6 +53,12 @@ runs-known text x = (
 run-answered : (text : List ℕ) (x : Routine) (n : ℕ) (v : Verdict) → readRun text ≡ readings.routine x → memoryLimit ≤ n → run (x .code) (x .budget) (x .start) (x .answers) ≡ v → runAnswer text n ≡ ofVerdict runText v
 unfolding runAnswer runRoutine
 run-answered text x n v reads lent e = reading-passed runRoutine (readRun text) memoryLimit n lent x reads ∙ ap (ofVerdict runText) e
+
+abbrev pub BoundsRefined : Type 0
+BoundsRefined = (text : List ℕ) (n : ℕ) (bytes : List ℕ) → boundAnswer text n ≡ reported bytes → MonotoneReport text bytes × KnownReport text bytes
+
+abbrev pub MergesRefined : Type 0
+MergesRefined = (text : List ℕ) (n : ℕ) (bytes : List ℕ) → mergeAnswer text n ≡ reported bytes → MonotoneMerge text bytes × KnownMerge text bytes
 
 pub bounds-refined : BoundsRefined
 unfolding ofVerdict

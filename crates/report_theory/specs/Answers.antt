@@ -1,13 +1,10 @@
 -- The answer of the bound, of the merging bound and of the run to a text and a length of lent report memory.
 -- (document 01, Refusal table; demands 1 and 2)
-use Prim.Native.Nat.{ℕ}
-use mathlib.Core.List.{List}
-use Rattle.bound_theory.specs.Tree.{Report, Verdict, bound}
+use Rattle.refusals.specs.Library.{ℕ, List}
+use Rattle.bound_theory.specs.Terms.{Report, Verdict, bound, run}
+use Rattle.answers.specs.Terms.{Routine, readBound, readRun, Answer, reported, refused, lending, ofReading, memoryLimit}
 use Rattle.bound_theory.specs.Tree as verdicts
-use Rattle.bound_theory.specs.Run.{run}
 use Rattle.merge_theory.specs.Merge.{merged}
-use Rattle.file_format.specs.Routine.{Routine, readBound, readRun}
-use Rattle.answers.specs.Answers.{Answer, reported, refused, memoryLimit, lending, ofReading}
 use Rattle.report.specs.Report.{boundText, runText}
 
 -- of a verdict: the text of its report, or its refusal

@@ -1,27 +1,14 @@
 -- When a call of the bound, of the merging bound and of the run is refused, by which number and at which place: refused in the listed cases
 -- and in no other (demand 2). (document 01, Refusal table; document 02 §8 and §9)
-use Prim.Native.Nat.{ℕ, _≤_, _<_}
-use mathlib.Core.Path.{_≡_}
-use mathlib.Core.Bool.{true, false}
-use mathlib.Core.List.{List, _∷_}
-use mathlib.Core.Logic.{_↔_}
-use lib.ListN.{length}
-use Rattle.refusals.specs.declared.Refusal.{Refusal}
-use Rattle.refusals.specs.declared.Refusal.the-variants.{ReportMemory, TextLength, Stuck, Spent}
-use Rattle.refusals.specs.Refusals.{number, place}
-use Rattle.text.specs.Text.{Line, lines}
-use Rattle.cells.specs.Cells.{unknown}
-use Rattle.machine.specs.Machine.{step}
-use Rattle.bound_theory.specs.Tree.{openingLimit}
+use Rattle.refusals.specs.Library.{ℕ, _≤_, _<_, length, true, false, List, _∷_, _↔_, _≡_}
+use Rattle.bound_theory.specs.Terms.{Refusal, ReportMemory, TextLength, Stuck, Spent, number, place, openingLimit, Run, begin, after, isStuck, unknown, step}
+use Rattle.answers.specs.Terms.{Routine, refused, memoryLimit, Line, lines, nowhere, line}
 use Rattle.bound_theory.specs.Traces.{Listed}
-use Rattle.bound_theory.specs.Run.{Run, begin, after, isStuck}
 use Rattle.merge_theory.specs.Promises.{Decides}
-use Rattle.file_format.specs.declared.RefusedLine.the-variants.{Nowhere as nowhere, Line as line}
 use Rattle.file_format.specs.Rows.{refusedLine}
-use Rattle.file_format.specs.Routine.{Routine, routineOf, Check, boundChecks, runChecks, textLimit}
-use Rattle.answers.specs.Answers.{refused, memoryLimit}
-use Rattle.answers.specs.declared.Answer as code
+use Rattle.file_format.specs.Routine.{routineOf, Check, boundChecks, runChecks, textLimit}
 use Rattle.answers.specs.declared.Answer.the-variants.{Refused}
+use Rattle.answers.specs.declared.Answer as code
 use Rattle.report_theory.specs.Answers.{boundAnswer, mergeAnswer, runAnswer}
 
 -- "Checked in the order of the rows, each over the whole file, earliest line first": no row before refuses a line, and n is the earliest that

@@ -1,44 +1,37 @@
 -- What is promised of the answers of the bound, of the merging bound and of the run to a text, as statements.
-use mathlib.Core.Path.{_≡_}
-use mathlib.Core.Bool.{true}
-use mathlib.Core.List.{List}
-use mathlib.Core.Option.{Option, some}
-use mathlib.Core.Logic.{_⊎_}
-use Prim.Native.Nat.{ℕ, _≤_}
-use lib.Dec.{ltb}
-use lib.IntN.{ℤ}
-use lib.ListN.{length, take}
-use Rattle.refusals.specs.declared.Refusal.{Refusal}
-use Rattle.refusals.specs.Refusals.{number}
-use Rattle.text.specs.Text.{lines, all}
-use Rattle.cells.specs.Order.{Allowed}
-use Rattle.machine.specs.Machine.{State}
-use Rattle.machine.specs.Order.{Cellwise}
-use Rattle.machine.specs.Forward.{Forward}
+use Rattle.refusals.specs.Library.{ℕ, _≤_, ltb, ℤ, length, take, true, List, _⊎_, Option, some, _≡_}
+use Rattle.bound_theory.specs.Terms.{Refusal, number, Report, Verdict, accepted, bound, openingLimit, begin, after, run, Allowed, State, Cellwise, Forward}
+use Rattle.answers.specs.Terms.{body, codeLines, Routine, readBound, readRun, reported, refused, memoryLimit, lines, all}
 use Rattle.machine.specs.Targets.{Closed}
-use Rattle.bound_theory.specs.Tree.{openingLimit, Report, accepted, bound}
-use Rattle.bound_theory.specs.Run.{begin, after, run}
 use Rattle.bound_theory.specs.Promises.{Exact, Safe, NoGreater, SinglePass}
 use Rattle.merge_theory.specs.Merge.{Table, merged}
 use Rattle.merge_theory.specs.Promises.{NotSmaller, CoversPaths, Gathered, MergedFigures}
-use Rattle.file_format.specs.Layout.{layout, body, codeLines}
-use Rattle.file_format.specs.Routine.{Routine, readBound, readRun}
+use Rattle.file_format.specs.Layout.{layout}
 use Rattle.file_format.specs.Routine as readings
 use Rattle.report.specs.Report.{share, Rounded, boundText, runText}
-use Rattle.answers.specs.Answers.{reported, refused, memoryLimit, answerOf, reportLength}
-use Rattle.report_theory.specs.Answers.{boundAnswer, mergeAnswer, runAnswer}
+use Rattle.report_theory.specs.Answers.{boundAnswer, mergeAnswer}
 
--- the bytes are the bound's report, with the figures q, of the routine x that the text holds
-pub record BoundReported (text bytes : List ℕ) (x : Routine) (q : Report) : Type 0 where
+-- a bound of a routine that was read: its verdict from each start. The first bound; and the merging bound, which "takes no BUDGET" (document 02 §9)
+abbrev pub Bounding : Type 0
+Bounding = Routine → State → Verdict
+
+abbrev pub exploring : Bounding
+exploring x = bound (x .code) (x .budget)
+
+abbrev pub merging : Bounding
+merging x = merged (x .code)
+
+-- the bytes are a report of the bound M, with the figures q, of the routine x that the text holds
+pub record ReportedBy (M : Bounding) (text bytes : List ℕ) (x : Routine) (q : Report) : Type 0 where
   pub reads : readBound text ≡ readings.routine x
-  pub accepts : bound (x .code) (x .budget) (x .start) ≡ accepted q
+  pub accepts : M x (x .start) ≡ accepted q
   pub prints : bytes ≡ boundText (x .tick) q
 
--- the bytes are the merging bound's report, likewise
-pub record MergeReported (text bytes : List ℕ) (x : Routine) (q : Report) : Type 0 where
-  pub reads : readBound text ≡ readings.routine x
-  pub accepts : merged (x .code) (x .start) ≡ accepted q
-  pub prints : bytes ≡ boundText (x .tick) q
+abbrev pub BoundReported : List ℕ → List ℕ → Routine → Report → Type 0
+BoundReported = ReportedBy exploring
+
+abbrev pub MergeReported : List ℕ → List ℕ → Routine → Report → Type 0
+MergeReported = ReportedBy merging
 
 -- the bytes are the run's report, likewise
 pub record RunReported (text bytes : List ℕ) (y : Routine) (r : Report) : Type 0 where
@@ -46,18 +39,13 @@ pub record RunReported (text bytes : List ℕ) (y : Routine) (r : Report) : Type
   pub accepts : run (y .code) (y .budget) (y .start) (y .answers) ≡ accepted r
   pub prints : bytes ≡ runText r
 
--- demand 3, of the routine x under its report q: starts from any memory that has the file's cells and no others, agrees with each known
--- one and holds some number in each unknown one; it is fed any list of input answers and interrupted after any number of steps, 0 included
-abbrev pub SafeRuns : Routine → Report → Type 0
-SafeRuns x q =
+-- demand 3, of the routine x under its report q, with the afresh bound being the bound M: starts from any memory that has the file's cells and no
+-- others, agrees with each known one and holds some number in each unknown one; it is fed any list of input answers and interrupted after any
+-- number of steps, 0 included
+abbrev pub SafeRuns : Bounding → Routine → Report → Type 0
+SafeRuns M x q =
     (s : State) → Cellwise Allowed s (x .start) → (answers : List ℤ) (n : ℕ) →
-    Safe (x .code) (bound (x .code) (x .budget)) q (begin s answers) n (after (x .code) n (begin s answers))
-
--- the same under a report of the merging bound, "with the afresh bound being this one" (document 02 §9)
-abbrev pub SafeMergedRuns : Routine → Report → Type 0
-SafeMergedRuns x q =
-    (s : State) → Cellwise Allowed s (x .start) → (answers : List ℤ) (n : ℕ) →
-    Safe (x .code) (merged (x .code)) q (begin s answers) n (after (x .code) n (begin s answers))
+    Safe (x .code) (M x) q (begin s answers) n (after (x .code) n (begin s answers))
 
 -- two files: y is x with numbers for its `?`, and with any answers
 pub record FilledIn (y x : Routine) : Type 0 where
@@ -73,8 +61,15 @@ pub record FilledCells (y x : Routine) : Type 0 where
 -- ---- as the public functions promise it, of a text and of the bytes that they report
 
 -- demand 3
+abbrev pub SafeBy : Bounding → List ℕ → List ℕ → Type 0
+SafeBy M text bytes = (x : Routine) × (q : Report) × ReportedBy M text bytes x q × SafeRuns M x q
+
 abbrev pub SafeReport : List ℕ → List ℕ → Type 0
-SafeReport text bytes = (x : Routine) × (q : Report) × BoundReported text bytes x q × SafeRuns x q
+SafeReport = SafeBy exploring
+
+-- "with the afresh bound being this one" (document 02 §9)
+abbrev pub SafeMerge : List ℕ → List ℕ → Type 0
+SafeMerge = SafeBy merging
 
 -- "SHARE is CYCLES × 1000 / TICK to the nearest whole number", "at an exact half .. to the even" (document 02 §6): no other number is
 abbrev pub NearestShare : Routine → Report → Type 0
@@ -83,10 +78,6 @@ NearestShare x q = Rounded (x .tick) (q .cycles) (share (x .tick) (q .cycles))
 -- demand 2
 abbrev pub ExactReport : List ℕ → List ℕ → Type 0
 ExactReport text bytes = (x : Routine) × (q : Report) × BoundReported text bytes x q × Exact (x .code) openingLimit (x .start) q × NearestShare x q
-
--- the same of the merging bound
-abbrev pub SafeMerge : List ℕ → List ℕ → Type 0
-SafeMerge text bytes = (x : Routine) × (q : Report) × MergeReported text bytes x q × SafeMergedRuns x q
 
 -- its figures are those of the ways through the merged states, by the table of what comes to each address; `OneTable` says that there is one
 abbrev pub ExactMerge : List ℕ → List ℕ → Type 0
@@ -118,19 +109,6 @@ RunAccepted text lent told =
     × ((x : Routine) (q : Report) → merged (x .code) (x .start) ≡ accepted q → FilledCells y x → q .steps ≤ y .budget → (n : ℕ) × (told ≡ some n))
 
 -- ---- of all texts
-
--- demands 2 and 3
-abbrev pub ReportsKept : Type 0
-ReportsKept = (text : List ℕ) (n : ℕ) (bytes : List ℕ) → boundAnswer text n ≡ reported bytes → SafeReport text bytes × ExactReport text bytes
-
-abbrev pub MergesKept : Type 0
-MergesKept = (text : List ℕ) (n : ℕ) (bytes : List ℕ) → mergeAnswer text n ≡ reported bytes → SafeMerge text bytes × ExactMerge text bytes × AboveMerge text bytes
-
--- every run of a file that fills in a bounded one is accepted, and within its report
-abbrev pub RunsKept : Type 0
-RunsKept =
-    ((text : List ℕ) (n : ℕ) (bytes : List ℕ) → runAnswer text n ≡ reported bytes → WithinReport text bytes)
-    × ((text : List ℕ) (n : ℕ) → RunAccepted text n (reportLength (answerOf (runAnswer text n))))
 
 -- "Once a file passes 1 to 6, the bound does not depend on ANSWER.": two files with the same lines up to the last code line
 abbrev pub AnswersIrrelevant : Type 0

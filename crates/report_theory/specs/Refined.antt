@@ -1,19 +1,12 @@
 -- Two files of one routine, one of which knows more, and a file that knows all: what is promised of the reports on them, as statements.
 -- `proofs/RefinedLaws` proves each by its name. (document 02 §14)
-use mathlib.Core.Path.{_≡_}
-use mathlib.Core.List.{List, []}
-use mathlib.Core.Logic.{_↔_}
-use Prim.Native.Nat.{ℕ, _≤_, _<_}
-use Rattle.refusals.specs.declared.Refusal.the-variants.{Spent}
-use Rattle.cells.specs.Order.{Refines}
-use Rattle.machine.specs.Order.{Cellwise}
-use Rattle.bound_theory.specs.Tree.{Report}
+use Rattle.refusals.specs.Library.{ℕ, _≤_, _<_, List, [], _↔_, _≡_}
+use Rattle.bound_theory.specs.Terms.{Spent, Report, Refines, Cellwise}
+use Rattle.answers.specs.Terms.{Routine, readBound, readRun, Answer, reported, refused, memoryLimit}
 use Rattle.bound_theory.specs.Promises.{NoGreater}
 use Rattle.narrowing_theory.specs.Promises.{Plain, NoCalls}
-use Rattle.file_format.specs.Routine.{Routine, readBound, readRun}
 use Rattle.file_format.specs.Routine as readings
 use Rattle.report.specs.Report.{runText}
-use Rattle.answers.specs.Answers.{Answer, reported, refused, memoryLimit}
 use Rattle.report_theory.specs.Answers.{boundAnswer, mergeAnswer, runAnswer}
 use Rattle.report_theory.specs.Promises.{BoundReported, MergeReported}
 
@@ -60,9 +53,3 @@ KnownMerge text bytes =
 -- does `?`." (document 02 §12): what the run reads is what the bound reads with a single number or a handle in every cell, and nothing else
 abbrev pub RunsKnown : Type 0
 RunsKnown = (text : List ℕ) (x : Routine) → (readRun text ≡ readings.routine x) ↔ ((readBound text ≡ readings.routine x) × Plain (x .start))
-
-abbrev pub BoundsRefined : Type 0
-BoundsRefined = (text : List ℕ) (n : ℕ) (bytes : List ℕ) → boundAnswer text n ≡ reported bytes → MonotoneReport text bytes × KnownReport text bytes
-
-abbrev pub MergesRefined : Type 0
-MergesRefined = (text : List ℕ) (n : ℕ) (bytes : List ℕ) → mergeAnswer text n ≡ reported bytes → MonotoneMerge text bytes × KnownMerge text bytes

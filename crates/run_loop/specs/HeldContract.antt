@@ -1,17 +1,10 @@
 -- What is asked of the run, and what is promised of it.
-use Prim.Native.Nat.{ℕ, _≤_}
-use mathlib.Core.Path.{_≡_}
-use mathlib.Core.List.{List, []}
-use lib.IntN.{ℤ}
-use Rattle.refusals.specs.declared.Acceptance as code
+use Rattle.refusals.specs.Library.{ℕ, _≤_, ℤ, List, [], _≡_}
+use Rattle.bound_theory.specs.Terms.{Report, Verdict, accepted, refused, bound, Run, begin, Allowed, State, Code, Cellwise}
 use Rattle.refusals.specs.declared.Acceptance.the-variants.{Accepted, Refused}
-use Rattle.cells.specs.Order.{Allowed}
-use Rattle.machine.specs.Machine.{State, Code}
-use Rattle.machine.specs.Order.{Cellwise}
-use Rattle.machine_state.specs.declared.State as states
+use Rattle.refusals.specs.declared.Acceptance as code
 use Rattle.machine_state.specs.HeldState.{WellFormed}
-use Rattle.bound_theory.specs.Tree.{Report, Verdict, accepted, refused, bound}
-use Rattle.bound_theory.specs.Run.{Run, begin}
+use Rattle.machine_state.specs.declared.State as states
 use Rattle.bound_theory.specs.Promises.{NoGreater, Safe}
 use Rattle.run_loop.specs.declared.Ran.{Ran}
 

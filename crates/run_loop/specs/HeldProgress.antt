@@ -1,13 +1,8 @@
 -- What a run so far stands for in code.
-use Prim.Native.Nat.{ℕ}
-use mathlib.Core.Bool.{Bool}
-use mathlib.Core.List.{List}
-use lib.IntN.{ℤ}
-use lib.ListN.{drop}
-use Rattle.cells.specs.declared.Cell.{Cell}
+use Rattle.refusals.specs.Library.{ℕ, ℤ, drop, Bool, List}
+use Rattle.bound_theory.specs.Terms.{Run, Cell}
 use Rattle.machine_state.specs.declared.State.{State}
 use Rattle.machine_state.specs.HeldState.{whole}
-use Rattle.bound_theory.specs.Run.{Run}
 use Rattle.run_loop.specs.declared.Progress.{Progress}
 
 -- the run, with blocks of the sizes ns, over the listed answers

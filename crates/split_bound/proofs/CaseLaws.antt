@@ -11,7 +11,7 @@ use Rattle.refusals.specs.declared.Acceptance.the-variants.{Accepted, Refused}
 use Rattle.cells.specs.Try.{Try, stuck, done}
 use Rattle.cells.specs.declared.Value.{Value}
 use Rattle.cells.specs.declared.Cell.{Cell}
-use Rattle.cells.specs.Confined.{Kept}
+use Rattle.cells.specs.HeldConfined.{Kept}
 use Rattle.machine.specs.Machine.{State, Code, load, restack, reblock}
 use Rattle.machine.specs.Order.{Cellwise}
 use Rattle.machine_state.specs.declared.State as states

@@ -1,17 +1,9 @@
 -- What the internal functions are handed, and what they answer.
-use Prim.Native.Nat.{ℕ, _+_, _≤_, max}
-use mathlib.Core.Path.{_≡_}
-use mathlib.Core.Bool.{cond}
-use mathlib.Core.List.{List}
-use lib.IntN.{ℤ}
-use lib.ListN.{length}
+use Rattle.refusals.specs.Library.{ℕ, _+_, _≤_, max, ℤ, length, cond, List, _≡_}
+use Rattle.machine.specs.Terms.{Try, done, stuck, Value, Cell, Cellwise}
 use Rattle.refusals.specs.declared.Acceptance.{Acceptance}
 use Rattle.refusals.specs.declared.Acceptance.the-variants.{Accepted, Refused}
-use Rattle.cells.specs.Try.{Try, stuck, done}
-use Rattle.cells.specs.declared.Value.{Value}
-use Rattle.cells.specs.declared.Cell.{Cell}
-use Rattle.cells.specs.Confined.{Kept}
-use Rattle.machine.specs.Order.{Cellwise}
+use Rattle.cells.specs.HeldConfined.{Kept}
 use Rattle.machine_state.specs.declared.State.{State}
 use Rattle.machine_state.specs.HeldProgram.{firstOf, linesIn, sizesOf, IsProgram}
 use Rattle.machine_state.specs.HeldState.{WellFormed, whole}

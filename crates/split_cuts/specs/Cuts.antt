@@ -1,25 +1,18 @@
 -- The text of the cuts: which refusal it has, and the cuts that it lists. (docs/DECISIONS.md, The bound by cases)
 -- Every definition is total: what an accepted text never needs is 0 or empty.
-use Prim.Native.Nat.{ℕ, zero, suc}
-use mathlib.Core.Bool.{Bool, true, cond, not, _&&_}
-use mathlib.Core.List.{List, [], _∷_, map}
-use lib.Dec.{eqb, ltb}
-use lib.IntN.{ℤ}
-use lib.ListN.{length, getD, drop}
-use Rattle.refusals.specs.declared.Refusal.the-variants.{TextLength, Layout, OutOfRange, BadName}
+use Rattle.refusals.specs.Library.{ℕ, zero, suc, eqb, ltb, ℤ, length, getD, drop, Bool, true, cond, not, _&&_, List, [], _∷_, map}
+use Rattle.answers.specs.Terms.{TextLength, Layout, OutOfRange, BadName, bytes, Line, lines, lineWords, isEmpty, equals, find, numeral, RefusedLine, line}
 use Rattle.refusals.specs.declared.Acceptance.{Acceptance}
 use Rattle.refusals.specs.declared.Acceptance.the-variants.{Accepted as accepted, Refused as refused}
-use Rattle.text.specs.Text.{bytes, isEmpty, equals, lineWords, Line, lines, find, among}
-use Rattle.text.specs.Decimal.{numeral}
+use Rattle.text.specs.Text.{among}
 use Rattle.numbers.specs.Numbers.{within, numbers}
-use Rattle.file_format.specs.declared.RefusedLine.{RefusedLine}
-use Rattle.file_format.specs.declared.RefusedLine.the-variants.{Line as line}
 use Rattle.file_format.specs.Rows.{isNumeral, value}
 use Rattle.file_format.specs.Routine.{inside}
+use Rattle.file_format.specs.declared.RefusedLine.the-variants.{Line as line}
 use Rattle.replay_trace.specs.Traces.{earliest, refusedAt}
 use Rattle.nearest_changes.specs.Places.{positionOf, allPositions}
-use Rattle.nearest_entry.specs.Answers.{nameOf}
 use Rattle.split_theory.specs.Split.{Cut}
+use Rattle.nearest_entry.specs.Answers.{nameOf}
 
 -- a text of its own, of at most 4,096 bytes
 abbrev pub cutsLimit : ℕ

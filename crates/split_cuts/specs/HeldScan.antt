@@ -1,7 +1,5 @@
 -- The tests of a line as the code takes them.
-use Prim.Native.Nat.{ℕ}
-use mathlib.Core.Bool.{Bool}
-use mathlib.Core.List.{List}
+use Rattle.refusals.specs.Library.{ℕ, Bool, List}
 use Rattle.text.specs.Text.{Line}
 use Rattle.split_cuts.specs.declared.LineTest.{LineTest}
 use Rattle.split_cuts.specs.declared.LineTest.the-variants.{Layout as layout-test, Range as range-test, Name as name-test}

@@ -27,9 +27,11 @@ use Rattle.split_theory.specs.Split.{split}
 use Rattle.split_theory.proofs.Theorems.{split-interruptible, split-exact, split-cases, split-not-above, split-among, split-monotone, split-refused}
 use Rattle.split_cuts.specs.Cuts.{cutsOf}
 use Rattle.split_entry.specs.Answers.{cutsChecked, checked, casesRoutine, splitRoutine, splitAnswer}
-use Rattle.split_entry.specs.Promises.{SplitReported, by-memory, by-file, by-cuts, by-case, SplitRefusal, SplitsKept, SplitAccepted, SplitsRefused, SplitsFit, SplitPlaces}
+use Rattle.split_entry.specs.Promises.{SplitReported, by-memory, by-file, by-cuts, by-case, SplitRefusal, SplitsKept, SplitAccepted, SplitsRefused}
 use Rattle.split_entry.proofs.FunctionLaws.{cuts-passed, split-passed, from-split, split-reported, split-refusal-place}
 use Rattle.split_entry.proofs.NameLaws.{cuts-alike}
+use Rattle.refusals.specs.Library.{length}
+use Rattle.bound_theory.specs.Terms.{Refusal, place}
 
 -- a report of a routine under cuts that pass
 answers : (text cuts : List ℕ) (x : Routine) → readBound text ≡ readings.routine x → cutsChecked text cuts ≡ Accepted → (r : Report) → split (x .code) (cutsOf cuts) (x .start) ≡ accepted r →
@@ -110,6 +112,13 @@ splits-refused text cuts n r e = go (ltb n memoryLimit) refl (readBound text) re
     go true h m q e = let g : ReportMemory ≡ r = cc in by-memory (ltb-true n memoryLimit h) (sym g)
     go false h (readings.unread y) q e = let g : y ≡ r = cc in by-file (ltb-false n memoryLimit h) (q ∙ ap readings.unread g)
     go false h (readings.routine x) q e = routine (ltb-false n memoryLimit h) x q (cutsChecked text cuts) refl e
+
+-- a report has from 1 to 128 bytes, and no place is above 62,000
+abbrev pub SplitsFit : Type 0
+SplitsFit = (text cuts : List ℕ) (n : ℕ) (bytes : List ℕ) → splitAnswer text cuts n ≡ reported bytes → (1 ≤ length bytes) × (length bytes ≤ memoryLimit) × (memoryLimit ≤ n)
+
+abbrev pub SplitPlaces : Type 0
+SplitPlaces = (text cuts : List ℕ) (n : ℕ) (r : Refusal) → splitAnswer text cuts n ≡ refused r → place r ≤ 62000
 
 pub splits-fit : SplitsFit
 splits-fit text cuts n bytes e = split-reported text cuts n bytes e

@@ -1,19 +1,14 @@
 -- The answer of the bound by cases to a routine file, to the text of its cuts and to a length of lent memory.
 -- (docs/DECISIONS.md, The bound by cases)
-use Prim.Native.Nat.{ℕ}
-use mathlib.Core.List.{List, _++_}
+use Rattle.refusals.specs.Library.{ℕ, List, _++_}
+use Rattle.answers.specs.Terms.{listed, Routine, readBound, Answer, refused, lending, ofReading, memoryLimit, Line, lines, cells, fields, names}
 use Rattle.refusals.specs.declared.Acceptance.{Acceptance}
 use Rattle.refusals.specs.declared.Acceptance.the-variants.{Accepted, Refused}
-use Rattle.text.specs.Text.{Line, lines}
-use Rattle.file_format.specs.declared.Section.the-variants.{Cells as cells, Fields as fields}
 use Rattle.file_format.specs.declared.Role.the-variants.{Names as names}
-use Rattle.file_format.specs.Layout.{listed}
-use Rattle.file_format.specs.Routine.{Routine, readBound}
-use Rattle.report.specs.Report.{boundText}
-use Rattle.answers.specs.Answers.{Answer, refused, memoryLimit, lending, ofReading}
-use Rattle.report_theory.specs.Answers.{ofVerdict}
 use Rattle.split_theory.specs.Split.{split}
 use Rattle.split_cuts.specs.Cuts.{cutsAcceptance, cutsOf}
+use Rattle.report.specs.Report.{boundText}
+use Rattle.report_theory.specs.Answers.{ofVerdict}
 
 -- the names of the cells of a routine file: those on its lines 10 and 12
 unfoldable pub cellsNamed : List Line → List (List ℕ)

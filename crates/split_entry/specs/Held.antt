@@ -1,10 +1,8 @@
 -- What the internal functions are handed.
-use mathlib.Core.Path.{_≡_}
-use mathlib.Core.List.{List}
-use Prim.Native.Nat.{ℕ}
+use Rattle.refusals.specs.Library.{ℕ, List, _≡_}
 use Rattle.text.specs.Text.{lines}
+use Rattle.file_format.specs.Routine.{readBound, routineOf}
 use Rattle.file_format.specs.Rows.{Passes}
-use Rattle.file_format.specs.Routine.{routineOf, readBound}
 use Rattle.file_format.specs.Routine as readings
 
 -- a text that passes, and its routine

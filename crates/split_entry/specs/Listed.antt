@@ -1,20 +1,12 @@
 -- When a call of the bound by cases is refused, by which number and at which place: in the listed cases and in no other.
 -- (docs/DECISIONS.md, The bound by cases)
-use Prim.Native.Nat.{ℕ, _≤_, _<_}
-use mathlib.Core.Path.{_≡_}
-use mathlib.Core.List.{List}
-use mathlib.Core.Logic.{_↔_}
-use lib.ListN.{length}
-use Rattle.refusals.specs.declared.Refusal.{Refusal}
-use Rattle.refusals.specs.declared.Refusal.the-variants.{TextLength, Layout, OutOfRange, BadName}
-use Rattle.text.specs.Text.{lines}
-use Rattle.file_format.specs.declared.RefusedLine.the-variants.{Nowhere as nowhere, Line as line}
-use Rattle.file_format.specs.Routine.{Routine, boundChecks}
+use Rattle.refusals.specs.Library.{ℕ, _≤_, _<_, length, List, _↔_, _≡_}
+use Rattle.answers.specs.Terms.{Routine, refused, Refusal, TextLength, Layout, OutOfRange, BadName, lines, nowhere, line}
+use Rattle.file_format.specs.Routine.{boundChecks}
 use Rattle.replay_trace.specs.Traces.{earliest}
-use Rattle.answers.specs.Answers.{refused}
-use Rattle.report_theory.specs.Listed.{ListedCase}
 use Rattle.split_theory.specs.Promises.{FirstRefused}
 use Rattle.split_cuts.specs.Cuts.{cutsLimit, lineInRange, lineNamed, layoutFault, cutsOf}
+use Rattle.report_theory.specs.Listed.{ListedCase}
 use Rattle.split_entry.specs.Answers.{cellsNamed, splitAnswer}
 
 -- "of the cuts 1 at place 0, then 2, 3 and 4, each over the whole text, with the line of the cuts as the place": beside the names ns of the

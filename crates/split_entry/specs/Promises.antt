@@ -1,31 +1,19 @@
 -- What is promised of the bytes of the bound by cases, in terms of both texts. `proofs/Theorems` proves each by its name.
-use Prim.Native.Nat.{ℕ, _≤_, _<_}
-use mathlib.Core.Path.{_≡_}
-use mathlib.Core.List.{List}
-use lib.IntN.{ℤ}
-use lib.ListN.{length}
-use Rattle.refusals.specs.declared.Refusal.{Refusal}
-use Rattle.refusals.specs.declared.Refusal.the-variants.{ReportMemory}
+use Rattle.refusals.specs.Library.{ℕ, _≤_, _<_, List, _≡_}
+use Rattle.bound_theory.specs.Terms.{Refusal, ReportMemory, Report, accepted, Allowed, State, Cellwise}
+use Rattle.answers.specs.Terms.{Routine, readBound, reported, refused, memoryLimit}
 use Rattle.refusals.specs.declared.Acceptance.the-variants.{Accepted, Refused}
-use Rattle.refusals.specs.Refusals.{place}
-use Rattle.cells.specs.Order.{Allowed}
-use Rattle.machine.specs.Machine.{State}
-use Rattle.machine.specs.Order.{Cellwise}
-use Rattle.bound_theory.specs.Tree.{Report, accepted}
+use Rattle.bound_theory.specs.Promises.{NoGreater}
 use Rattle.bound_theory.specs.Tree as verdicts
-use Rattle.bound_theory.specs.Run.{begin, after}
-use Rattle.bound_theory.specs.Promises.{Safe, NoGreater}
 use Rattle.merge_theory.specs.Merge.{merged}
-use Rattle.file_format.specs.Routine.{Routine, readBound}
 use Rattle.file_format.specs.Routine as readings
-use Rattle.report.specs.Report.{boundText}
-use Rattle.answers.specs.Answers.{reported, refused, memoryLimit}
-use Rattle.report_theory.specs.Answers.{mergeAnswer}
-use Rattle.report_theory.specs.Promises.{MergeReported, NearestShare}
-use Rattle.report_theory.specs.Refined.{NarrowedTexts}
 use Rattle.split_theory.specs.Split.{Cut, split, Case}
 use Rattle.split_theory.specs.Promises.{Among, SplitFigures}
 use Rattle.split_cuts.specs.Cuts.{cutsOf}
+use Rattle.report.specs.Report.{boundText}
+use Rattle.report_theory.specs.Answers.{mergeAnswer}
+use Rattle.report_theory.specs.Promises.{MergeReported, SafeRuns, NearestShare}
+use Rattle.report_theory.specs.Refined.{NarrowedTexts}
 use Rattle.split_entry.specs.Answers.{cutsChecked, splitAnswer}
 
 -- the bytes are the report, with the figures q, of the routine x that the text holds, under the cuts of the second text
@@ -37,10 +25,7 @@ pub record SplitReported (text cuts bytes : List ℕ) (x : Routine) (q : Report)
 
 -- demand 3, with the afresh bound being this one under the same cuts
 abbrev pub SafeSplit : List ℕ → List ℕ → List ℕ → Type 0
-SafeSplit text cuts bytes =
-    (x : Routine) × (q : Report) × SplitReported text cuts bytes x q
-    × ((s : State) → Cellwise Allowed s (x .start) → (answers : List ℤ) (n : ℕ) →
-    Safe (x .code) (split (x .code) (cutsOf cuts)) q (begin s answers) n (after (x .code) n (begin s answers)))
+SafeSplit text cuts bytes = (x : Routine) × (q : Report) × SplitReported text cuts bytes x q × SafeRuns (λ y. split (y .code) (cutsOf cuts)) x q
 
 -- every plain start that the file allows is in one case, and in no other; each figure is the largest over the cases, and attained
 abbrev pub ExactSplit : List ℕ → List ℕ → List ℕ → Type 0
@@ -94,10 +79,3 @@ SplitAccepted =
 -- refused where a case is, and as it is
 abbrev pub SplitsRefused : Type 0
 SplitsRefused = (text cuts : List ℕ) (n : ℕ) (r : Refusal) → splitAnswer text cuts n ≡ refused r → SplitRefusal text cuts n r
-
--- a report has from 1 to 128 bytes, and no place is above 62,000
-abbrev pub SplitsFit : Type 0
-SplitsFit = (text cuts : List ℕ) (n : ℕ) (bytes : List ℕ) → splitAnswer text cuts n ≡ reported bytes → (1 ≤ length bytes) × (length bytes ≤ memoryLimit) × (memoryLimit ≤ n)
-
-abbrev pub SplitPlaces : Type 0
-SplitPlaces = (text cuts : List ℕ) (n : ℕ) (r : Refusal) → splitAnswer text cuts n ≡ refused r → place r ≤ 62000

@@ -1,6 +1,5 @@
 // The bound by cases on texts and lent memory. The meaning is in specs/.
 use answers::Answer;
-use bound_figures::Found;
 use file_check::Reader;
 use file_format::Role;
 use file_format::Section;
@@ -11,15 +10,12 @@ ghost use mathlib.Core.Path.{_≡_};
 ghost use Prim.Native.Nat.{_≤_};
 ghost use lib.ListN.{length};
 ghost use Rattle.text.specs.Text.{lines};
-ghost use Rattle.bound_figures.specs.HeldFigures.{Shows};
 ghost use Rattle.file_format.specs.Routine.{routineOf};
 ghost use Rattle.file_reader.specs.HeldRoutine.{Limited};
 ghost use Rattle.answers.specs.Answers.{memory, answerOf, reportLength, Delivers};
 ghost use Rattle.file_entry.specs.Held.{routineIn};
-ghost use Rattle.report.specs.Held.{Shareable, Printable};
+ghost use Rattle.report.specs.Held.{Printable};
 ghost use Rattle.report_theory.specs.Listed.{Refuses, ListedAlone};
-ghost use Rattle.split_theory.specs.Split.{split};
-ghost use Rattle.split_cuts.specs.Cuts.{cutsOf};
 ghost use Rattle.split_entry.specs.Answers.{cutsChecked, casesRoutine, splitRoutine, splitAnswer};
 ghost use Rattle.split_entry.specs.Promises.{SafeSplit, ExactSplit, BelowMerge, MoreCuts, MonotoneSplit};
 ghost use Rattle.split_entry.specs.Listed.{CasesRefused};
@@ -34,20 +30,6 @@ pub fn check(text: &[u8], cuts: &[u8]) -> Acceptance
     split_cuts::check_cuts(cuts, cells, fields)
 }
 
-// The routine's bound by the cases of an accepted text of cuts.
-pub fn bounded(routine: Routine, cuts: &[u8]) -> Found
-    requires { ⌜ Limited routine × (length (lines (now cuts)) ≤ 17) ⌝ }
-    ensures { λ r. ⌜ Shows r (split (routineIn routine .code) (cutsOf (now (cuts .entry))) (routineIn routine .start)) ⌝ }
-    ensures { λ r. ⌜ Shareable r ⌝ }
-{
-    let code = routine.code;
-    let blocks = routine.blocks;
-    let start = routine.start;
-    let held = split_cuts::cuts_of(cuts);
-    let mut rows = [0; 201925];
-    split_bound::split(&code, held, 0, start, blocks, &mut rows)
-}
-
 // The answer to a routine and to an accepted text of cuts.
 fn split_routine(routine: Routine, cuts: &[u8], out: &mut [u8]) -> Answer
     requires { ⌜ Limited routine × (length (lines (now cuts)) ≤ 17) ⌝ }
@@ -56,7 +38,7 @@ fn split_routine(routine: Routine, cuts: &[u8], out: &mut [u8]) -> Answer
     ensures { λ _. ⌜ now (out .exit) ≡ memory (casesRoutine (now (cuts .entry)) (routineIn routine)) (now (out .entry)) ⌝ }
 {
     let tick = routine.tick;
-    let found = bounded(routine, cuts);
+    let found = split_figures::bounded(routine, cuts);
     report::put_found(found, tick, out)
 }
 

@@ -13,7 +13,7 @@ use Rattle.cells.specs.declared.Value.the-variants.{Range, Handle}
 use Rattle.cells.specs.declared.Cell.{Cell}
 use Rattle.cells.specs.Cells.{cell, range, high, between}
 use Rattle.cells.specs.Order.{Refines, same, Allowed, among, same-handle}
-use Rattle.cells.specs.Confined.{Confined, Kept}
+use Rattle.cells.specs.HeldConfined.{Confined, Kept}
 use Rattle.cells.proofs.RangeLaws.{Linear, linear, covers, bits-down}
 use Rattle.cells.proofs.CellLaws as cell-laws
 use Rattle.cells.proofs.CellLaws.{Below, ranges, handles, allowed-refines, range-bits, confined-range, kept-self}

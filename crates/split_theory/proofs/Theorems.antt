@@ -5,11 +5,57 @@ use mathlib.Core.Path.{refl}
 use Rattle.bound_theory.specs.Run.{begin, after, run}
 use Rattle.bound_theory.proofs.RunLaws.{stopped-verdict}
 use Rattle.merge_theory.proofs.Theorems.{merged-interruptible, merged-refused-where}
-use Rattle.split_theory.specs.Split.{largest}
-use Rattle.split_theory.specs.Promises.{SplitCovers, SplitKept, SplitPlain, SplitInterruptible, ChosenInterruptible, SplitNotAbove, SplitMonotone, SplitMore, SplitAmong, RunWithinSplit, SplitCases, SplitExact, SplitRefused, SplitAcceptedWhere, SplitRefusedWhere}
+use Rattle.split_theory.specs.Split.{largest, divides, below, from, Cut, split, Case}
+use Rattle.split_theory.specs.Promises.{SplitInterruptible, SplitNotAbove, SplitMonotone, SplitAmong, SplitCases, SplitExact, SplitRefused, SplitRefusedWhere}
 use Rattle.split_theory.proofs.CutLaws.{parts, apart, parts-kept}
 use Rattle.split_theory.proofs.SplitLaws.{monotone, not-above, more-cuts, plain, among-cuts, chosen}
 use Rattle.split_theory.proofs.CaseLaws.{covers, in-one, each-within, attained, refused-by, all-accepted, to-first, from-first}
+use Rattle.refusals.specs.Library.{ℕ, _≤_, ℤ, true, List, _++_, _⊎_, _↔_, _≡_}
+use Rattle.bound_theory.specs.Terms.{Allowed, Refines, State, Code, Cellwise, Report, accepted}
+use Rattle.cells.specs.HeldConfined.{Kept}
+use Rattle.bound_theory.specs.Promises.{NoGreater, Interruptible}
+use Rattle.merge_theory.specs.Merge.{merged}
+use Rattle.merge_theory.specs.Promises.{OfSinglePass}
+use Rattle.nearest_changes.specs.declared.Position.{Position}
+
+-- the two cases of a cut have, together, all starts and no others, and none is in both
+pub record Cases (p : Position) (n : ℤ) (s : State) : Type 0 where
+  pub covers : (t : State) → Cellwise Allowed t s → Cellwise Allowed t (below p n s) ⊎ Cellwise Allowed t (from p n s)
+  pub lower : Cellwise Refines (below p n s) s
+  pub upper : Cellwise Refines (from p n s) s
+  pub apart : (t : State) → Cellwise Allowed t (below p n s) → Cellwise Allowed t (from p n s) → ⊥
+
+abbrev pub SplitCovers : Type 0
+SplitCovers = (p : Position) (n : ℤ) (s : State) → divides p n s ≡ true → Cases p n s
+
+-- the numbers of both cases are of 31 bits where those of the start are
+abbrev pub SplitKept : Type 0
+SplitKept = (p : Position) (n : ℤ) (s : State) → divides p n s ≡ true → Cellwise Kept s s → Cellwise Kept (below p n s) (below p n s) × Cellwise Kept (from p n s) (from p n s)
+
+-- of a plain start every cut leaves the merging bound
+abbrev pub SplitPlain : Type 0
+SplitPlain = (c : Code) (cuts : List Cut) (s : State) → Cellwise Allowed s s → split c cuts s ≡ merged c s
+
+-- the same of cuts that are chosen by the start, in any way
+abbrev pub ChosenInterruptible : Type 0
+ChosenInterruptible = OfSinglePass (λ c. (choose : State → List Cut) → Interruptible c (λ s. split c (choose s) s))
+
+-- further cuts never cost more
+abbrev pub SplitMore : Type 0
+SplitMore =
+    (c : Code) (cuts more : List Cut) (s : State) (q : Report) → split c cuts s ≡ accepted q →
+    (r : Report) × (split c (cuts ++ more) s ≡ accepted r) × NoGreater r q
+
+-- a run of a start that t allows is, under a BUDGET of at least STEPS, refused by neither 7 nor 9 and within the report's four figures
+abbrev pub RunWithinSplit : Type 0
+RunWithinSplit =
+    OfSinglePass (λ c. (cuts : List Cut) (t : State) (q : Report) → split c cuts t ≡ accepted q → (budget : ℕ) → q .steps ≤ budget →
+    (s : State) → Cellwise Allowed s t → (answers : List ℤ) → (r : Report) × (run c budget s answers ≡ accepted r) × NoGreater r q)
+
+abbrev pub SplitAcceptedWhere : Type 0
+SplitAcceptedWhere =
+    (c : Code) (cuts : List Cut) (s : State) →
+    ((q : Report) × (split c cuts s ≡ accepted q)) ↔ ((u : State) → Case cuts s u → (r : Report) × (merged c u ≡ accepted r))
 
 pub split-covers : SplitCovers
 split-covers p n s h = let (l, u) = parts p n s h in record { covers = covers p n s h; lower = l; upper = u; apart = apart p n s h }

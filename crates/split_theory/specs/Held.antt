@@ -1,9 +1,5 @@
 -- What the code's cuts stand for.
-use Prim.Native.Nat.{ℕ, zero, suc, _-_, _<_, _≤_}
-use mathlib.Core.Path.{_≡_}
-use mathlib.Core.List.{List, [], _∷_}
-use lib.IntN.{ℤ, pos}
-use lib.ListN.{length, getD}
+use Rattle.refusals.specs.Library.{ℕ, zero, suc, _-_, _≤_, _<_, ℤ, pos, length, getD, List, [], _∷_, _≡_}
 use Rattle.nearest_changes.specs.Places.{positionOf}
 use Rattle.split_theory.specs.declared.Cuts.{Cuts}
 use Rattle.split_theory.specs.Split.{Cut}

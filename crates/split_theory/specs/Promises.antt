@@ -1,48 +1,14 @@
 -- What is promised of the bound by cases, as statements. `proofs/Theorems` proves each by its name.
-use mathlib.Core.Path.{_≡_}
-use mathlib.Core.Bool.{true, false}
-use mathlib.Core.List.{List, [], _∷_, _++_}
-use Prim.Native.Nat.{ℕ, _≤_}
-use mathlib.Core.Logic.{_⊎_, _↔_}
-use lib.IntN.{ℤ}
-use Rattle.cells.specs.Order.{Refines, Allowed}
-use Rattle.cells.specs.Confined.{Kept}
-use Rattle.machine.specs.Machine.{State, Code}
-use Rattle.machine.specs.Order.{Cellwise}
-use Rattle.refusals.specs.declared.Refusal.{Refusal}
-use Rattle.bound_theory.specs.Tree.{Report, accepted, refused}
-use Rattle.bound_theory.specs.Run.{run}
+use Rattle.refusals.specs.Library.{ℕ, true, false, List, [], _∷_, _↔_, _≡_}
+use Rattle.bound_theory.specs.Terms.{Refusal, Report, accepted, refused, Allowed, State, Code, Cellwise}
 use Rattle.bound_theory.specs.Promises.{NoGreater, Interruptible, Monotone}
 use Rattle.merge_theory.specs.Merge.{merged}
 use Rattle.merge_theory.specs.Promises.{OfSinglePass, Decides}
-use Rattle.nearest_changes.specs.declared.Position.{Position}
 use Rattle.split_theory.specs.Split.{divides, below, from, Cut, split, Case}
-
--- the two cases of a cut have, together, all starts and no others, and none is in both
-pub record Cases (p : Position) (n : ℤ) (s : State) : Type 0 where
-  pub covers : (t : State) → Cellwise Allowed t s → Cellwise Allowed t (below p n s) ⊎ Cellwise Allowed t (from p n s)
-  pub lower : Cellwise Refines (below p n s) s
-  pub upper : Cellwise Refines (from p n s) s
-  pub apart : (t : State) → Cellwise Allowed t (below p n s) → Cellwise Allowed t (from p n s) → ⊥
-
-abbrev pub SplitCovers : Type 0
-SplitCovers = (p : Position) (n : ℤ) (s : State) → divides p n s ≡ true → Cases p n s
-
--- the numbers of both cases are of 31 bits where those of the start are
-abbrev pub SplitKept : Type 0
-SplitKept = (p : Position) (n : ℤ) (s : State) → divides p n s ≡ true → Cellwise Kept s s → Cellwise Kept (below p n s) (below p n s) × Cellwise Kept (from p n s) (from p n s)
-
--- of a plain start every cut leaves the merging bound
-abbrev pub SplitPlain : Type 0
-SplitPlain = (c : Code) (cuts : List Cut) (s : State) → Cellwise Allowed s s → split c cuts s ≡ merged c s
 
 -- Demand 3, with the afresh bound being this one, by the same cuts
 abbrev pub SplitInterruptible : Type 0
 SplitInterruptible = OfSinglePass (λ c. (cuts : List Cut) → Interruptible c (split c cuts))
-
--- the same of cuts that are chosen by the start, in any way
-abbrev pub ChosenInterruptible : Type 0
-ChosenInterruptible = OfSinglePass (λ c. (choose : State → List Cut) → Interruptible c (λ s. split c (choose s) s))
 
 -- where merging accepts, cases accept, and no figure is greater
 abbrev pub SplitNotAbove : Type 0
@@ -51,12 +17,6 @@ SplitNotAbove = (c : Code) (cuts : List Cut) (s : State) (q : Report) → merged
 -- knowing more never costs more, by the same cuts
 abbrev pub SplitMonotone : Type 0
 SplitMonotone = (c : Code) (cuts : List Cut) → Monotone (split c cuts)
-
--- further cuts never cost more
-abbrev pub SplitMore : Type 0
-SplitMore =
-    (c : Code) (cuts more : List Cut) (s : State) (q : Report) → split c cuts s ≡ accepted q →
-    (r : Report) × (split c (cuts ++ more) s ≡ accepted r) × NoGreater r q
 
 -- x is one of the cuts
 pub data Among (x : Cut) : List Cut → Type 0 where
@@ -68,12 +28,6 @@ abbrev pub SplitAmong : Type 0
 SplitAmong =
     (c : Code) (cuts all : List Cut) → ((x : Cut) → Among x cuts → Among x all) → (s : State) (q : Report) → split c cuts s ≡ accepted q →
     (r : Report) × (split c all s ≡ accepted r) × NoGreater r q
-
--- a run of a start that t allows is, under a BUDGET of at least STEPS, refused by neither 7 nor 9 and within the report's four figures
-abbrev pub RunWithinSplit : Type 0
-RunWithinSplit =
-    OfSinglePass (λ c. (cuts : List Cut) (t : State) (q : Report) → split c cuts t ≡ accepted q → (budget : ℕ) → q .steps ≤ budget →
-    (s : State) → Cellwise Allowed s t → (answers : List ℤ) → (r : Report) × (run c budget s answers ≡ accepted r) × NoGreater r q)
 
 -- every plain start is in one case, and in no other
 abbrev pub SplitCases : Type 0
@@ -99,11 +53,6 @@ SplitExact = (c : Code) (cuts : List Cut) (s : State) (q : Report) → split c c
 -- refused where a case is, and as it is
 abbrev pub SplitRefused : Type 0
 SplitRefused = (c : Code) (cuts : List Cut) (s : State) (x : Refusal) → split c cuts s ≡ refused x → (u : State) × Case cuts s u × (merged c u ≡ refused x)
-
-abbrev pub SplitAcceptedWhere : Type 0
-SplitAcceptedWhere =
-    (c : Code) (cuts : List Cut) (s : State) →
-    ((q : Report) × (split c cuts s ≡ accepted q)) ↔ ((u : State) → Case cuts s u → (r : Report) × (merged c u ≡ accepted r))
 
 -- "or the refusal of the first that is refused, the numbers below first": every case before has no address with a 14 or a 7
 pub data FirstRefused (c : Code) (r : Refusal) : List Cut → State → Type 0 where

@@ -1,18 +1,7 @@
 -- The bound by cases: cells of a start are cut at numbers, each case is bounded by merging, and the largest figures are reported.
 -- (docs/DECISIONS.md, The bound by cases)
-use Prim.Native.Nat.{max}
-use mathlib.Core.Path.{_≡_}
-use mathlib.Core.Bool.{Bool, true, false, cond, _&&_}
-use mathlib.Core.List.{List, [], _∷_}
-use lib.IntN.{ℤ, pos, _-ℤ_}
-use lib.Signed.{ltZ, leZ}
-use Rattle.cells.specs.Try.{Try, stuck, done}
-use Rattle.cells.specs.declared.Value.{Value}
-use Rattle.cells.specs.declared.Value.the-variants.{Range, Handle}
-use Rattle.cells.specs.declared.Cell.{Cell}
-use Rattle.cells.specs.Cells.{high, between, handle}
-use Rattle.machine.specs.Machine.{State, Code}
-use Rattle.bound_theory.specs.Tree.{Report, Verdict, accepted, refused}
+use Rattle.refusals.specs.Library.{max, ℤ, pos, _-ℤ_, leZ, ltZ, Bool, true, false, cond, _&&_, List, [], _∷_, _≡_}
+use Rattle.bound_theory.specs.Terms.{Report, Verdict, accepted, refused, Try, done, stuck, Value, Range, Handle, Cell, handle, between, high, State, Code}
 use Rattle.merge_theory.specs.Merge.{merged}
 use Rattle.nearest_changes.specs.declared.Position.{Position}
 use Rattle.nearest_changes.specs.Places.{cellAt, replaceAt}

@@ -1,8 +1,5 @@
 -- Files with what the bound or the run prints for them: the cases that document 01 marks with a star, then others of documents 01 and 02.
-use Prim.Native.Nat.{ℕ}
-use Prim.Native.String.{String}
-use mathlib.Core.Bool.{Bool, true, false}
-use mathlib.Core.List.{List, [], _∷_, _++_}
+use Rattle.refusals.specs.Library.{ℕ, String, Bool, true, false, List, [], _∷_, _++_}
 use Rattle.text.specs.Text.{bytes, equals}
 use Rattle.report_theory.specs.Answers.{boundAnswer, runAnswer}
 use Rattle.console.specs.Line.{printed}

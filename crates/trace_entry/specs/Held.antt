@@ -1,21 +1,15 @@
 -- What the internal functions are handed, and what a step by value stands for.
-use Prim.Native.Nat.{ℕ, suc, _≤_}
-use mathlib.Core.Path.{_≡_}
-use mathlib.Core.Bool.{true, false}
-use mathlib.Core.List.{List}
-use lib.IntN.{ℤ}
-use lib.ListN.{length}
-use Rattle.cells.specs.declared.Cell.{Cell}
-use Rattle.machine.specs.Machine.{Code}
-use Rattle.machine_state.specs.declared.State as states
+use Rattle.refusals.specs.Library.{ℕ, suc, _≤_, ℤ, length, true, false, List, _≡_}
+use Rattle.bound_theory.specs.Terms.{Run, Cell, Code}
 use Rattle.machine_state.specs.HeldState.{WellFormed}
-use Rattle.bound_theory.specs.Run.{Run, once}
+use Rattle.machine_state.specs.declared.State as states
+use Rattle.bound_theory.specs.Run.{once}
+use Rattle.answers.specs.Answers.{Answer, reported}
+use Rattle.file_reader.specs.declared.Routine.{Routine}
+use Rattle.file_entry.specs.Held.{routineIn}
 use Rattle.replay_trace.specs.Traces.{Entry}
 use Rattle.replay_steps.specs.Replay.{goesOn, stepCost}
 use Rattle.replay_steps.specs.Held.{Stands}
-use Rattle.file_reader.specs.declared.Routine.{Routine}
-use Rattle.file_entry.specs.Held.{routineIn}
-use Rattle.answers.specs.Answers.{Answer, reported}
 use Rattle.trace_theory.specs.Trace.{trace}
 use Rattle.trace_entry.specs.declared.Recorded.{Recorded}
 

@@ -1,19 +1,13 @@
 -- What is promised of the bytes of a trace, as statements. The contract of `trace` has the first, and `proofs/Theorems` proves the others by
 -- their names.
-use Prim.Native.Nat.{ℕ, _≤_}
-use mathlib.Core.Path.{_≡_}
-use mathlib.Core.List.{List}
-use lib.ListN.{length}
-use Rattle.text.specs.Text.{bytes}
-use Rattle.bound_theory.specs.Tree.{Report, accepted}
-use Rattle.bound_theory.specs.Run.{run}
-use Rattle.file_format.specs.Routine.{Routine, routine, readRun}
+use Rattle.refusals.specs.Library.{ℕ, _≤_, List, _≡_}
+use Rattle.bound_theory.specs.Terms.{Report, accepted, run}
+use Rattle.answers.specs.Terms.{Routine, routine, readRun, reported, memoryLimit, bytes}
 use Rattle.replay_trace.specs.Traces.{entries}
-use Rattle.answers.specs.Answers.{reported, memoryLimit}
 use Rattle.replay_entry.specs.Answers.{replayAnswer}
 use Rattle.trace_theory.specs.Trace.{trace, traceText}
 use Rattle.trace_theory.specs.Promises.{Adds}
-use Rattle.trace_entry.specs.Answers.{traceMemory, traceAnswer}
+use Rattle.trace_entry.specs.Answers.{traceAnswer}
 
 -- the bytes are the trace of the run of the routine x that the text holds, with the figures q of that run
 pub record Traced (text bs : List ℕ) (x : Routine) (q : Report) : Type 0 where
@@ -34,7 +28,3 @@ TracesRun text bs = (x : Routine) × (q : Report) × Traced text bs x q
 -- whatever the text
 abbrev pub TracesKept : Type 0
 TracesKept = (text : List ℕ) (n : ℕ) (bs : List ℕ) → traceAnswer text n ≡ reported bs → TracesRun text bs
-
--- it fits (1,024 lines of at most 5 and 6 digits in 32,768 bytes), and the memory was lent
-abbrev pub TracesFit : Type 0
-TracesFit = (text : List ℕ) (n : ℕ) (bs : List ℕ) → traceAnswer text n ≡ reported bs → (1 ≤ length bs) × (length bs ≤ traceMemory) × (traceMemory ≤ n)

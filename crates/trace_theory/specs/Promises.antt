@@ -1,13 +1,6 @@
 -- What the trace of a run says, as statements. `proofs/Theorems` proves each by its name.
-use Prim.Native.Nat.{ℕ}
-use mathlib.Core.Path.{_≡_}
-use mathlib.Core.Bool.{true}
-use mathlib.Core.List.{List}
-use lib.IntN.{ℤ}
-use lib.ListN.{length}
-use Rattle.machine.specs.Machine.{State, Code}
-use Rattle.bound_theory.specs.Tree.{Report, accepted}
-use Rattle.bound_theory.specs.Run.{begin, after, run}
+use Rattle.refusals.specs.Library.{ℕ, ℤ, length, true, List, _≡_}
+use Rattle.bound_theory.specs.Terms.{Report, accepted, begin, after, run, State, Code}
 use Rattle.replay_trace.specs.Traces.{Entry}
 use Rattle.replay_steps.specs.Replay.{agreed, replay}
 use Rattle.replay_steps.specs.Promises.{spent}

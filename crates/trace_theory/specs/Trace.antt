@@ -1,10 +1,6 @@
 -- The trace of a run: what a card would record of it. (docs/ROUTINE-FILE.md, The trace of a run)
-use Prim.Native.Nat.{ℕ, zero, suc}
-use mathlib.Core.Bool.{cond}
-use mathlib.Core.List.{List, [], _∷_, _++_}
-use lib.IntN.{ℤ}
-use Rattle.text.specs.Text.{bytes}
-use Rattle.text.specs.Decimal.{decimal}
+use Rattle.refusals.specs.Library.{ℕ, zero, suc, ℤ, cond, List, [], _∷_, _++_}
+use Rattle.file_format.specs.Terms.{bytes, decimal}
 use Rattle.machine.specs.Machine.{State, Code}
 use Rattle.bound_theory.specs.Run.{Run, begin, once}
 use Rattle.replay_trace.specs.Traces.{Entry}

@@ -1,16 +1,10 @@
 -- What the code holds of words: the instruction at their head, and for each index the instruction whose opcode stands there.
-use Prim.Native.Nat.{ℕ}
-use mathlib.Core.Path.{_≡_}
-use mathlib.Core.Bool.{Bool, true, cond}
-use mathlib.Core.List.{List, [], _∷_, map}
-use lib.Dec.{ltb}
-use lib.IntN.{ℤ, pos, negsuc}
-use lib.ListN.{getD}
+use Rattle.refusals.specs.Library.{ℕ, ltb, ℤ, pos, negsuc, getD, Bool, true, cond, List, [], _∷_, map, _≡_}
+use Rattle.text.specs.declared.Place.{Place}
+use Rattle.text.specs.declared.Place.the-variants.{At as at, Missing as missing}
 use Rattle.numbers.specs.Numbers.{signed}
 use Rattle.instructions.specs.declared.Argument.{Argument}
 use Rattle.instructions.specs.declared.Argument.the-variants.{Absent, Target, Primitive, Within}
-use Rattle.text.specs.declared.Place.{Place}
-use Rattle.text.specs.declared.Place.the-variants.{At as at, Missing as missing}
 use Rattle.instructions.specs.Kinds.{kindAt}
 use Rattle.instructions.specs.Opcodes.{placeFrom, kindCoded}
 use Rattle.words.specs.declared.Head.{Head}

@@ -1,17 +1,14 @@
 -- What an import answers to words and a primitives line. (document 02, §2)
-use Prim.Native.Nat.{ℕ}
-use mathlib.Core.Bool.{Bool, cond, not, _&&_}
-use mathlib.Core.List.{List, [], _∷_}
-use lib.ListN.{length}
-use Rattle.refusals.specs.declared.Refusal.the-variants.{Layout, BadName, BadWord}
+use Rattle.refusals.specs.Library.{ℕ, length, Bool, cond, not, _&&_, List, [], _∷_}
+use Rattle.file_format.specs.Terms.{Layout, BadName, Line, lines, lineWords, isEmpty, all, Place}
+use Rattle.refusals.specs.declared.Refusal.the-variants.{BadWord}
 use Rattle.refusals.specs.declared.Acceptance.{Acceptance}
 use Rattle.refusals.specs.declared.Acceptance.the-variants.{Accepted as accepted, Refused as refused}
-use Rattle.text.specs.Text.{isEmpty, lineWords, Line, lines, all}
-use Rattle.text.specs.declared.Place.{Place}
 use Rattle.text.specs.declared.Place.the-variants.{At as at, Missing as missing}
 use Rattle.file_format.specs.declared.Section.the-variants.{Primitives as primitives}
 use Rattle.file_format.specs.Layout.{list}
 use Rattle.file_format.specs.Rows.{namesLaidOut, wellNamed}
+use Rattle.file_format.specs.declared.Section.the-variants.{Primitives as primitives}
 use Rattle.words.specs.Words.{wordsOf}
 use Rattle.words.specs.Decoding.{decoded, items, codeFault}
 use Rattle.words.specs.Lines.{codeText}

@@ -1,8 +1,5 @@
 -- The lines that an import makes: "the AT lines under their names line, from address 0". (document 02, §2)
-use Prim.Native.Nat.{ℕ, suc}
-use mathlib.Core.List.{List, [], _∷_, _++_}
-use lib.IntN.{ℤ, pos, negsuc, natAbs}
-use lib.ListN.{getD}
+use Rattle.refusals.specs.Library.{ℕ, suc, ℤ, pos, negsuc, natAbs, getD, List, [], _∷_, _++_}
 use Rattle.text.specs.Text.{bytes, indexOf}
 use Rattle.text.specs.Decimal.{decimal}
 use Rattle.instructions.specs.declared.Argument.{Argument}

@@ -1,6 +1,5 @@
 -- "32-bit little-endian words" (document 02, §2)
-use Prim.Native.Nat.{ℕ, _+_, _*_, _/_, _%_}
-use mathlib.Core.List.{List, [], _∷_, _++_}
+use Rattle.refusals.specs.Library.{ℕ, _+_, _*_, _/_, _%_, List, [], _∷_, _++_}
 
 -- the width of a word
 abbrev pub wordBits : ℕ

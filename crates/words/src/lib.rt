@@ -7,7 +7,7 @@ ghost use lib.IntN.{pos, _+ℤ_};
 ghost use lib.ListN.{length, getD, drop};
 ghost use Rattle.text.specs.Memory.{over};
 ghost use Rattle.instructions.specs.Kinds.{kindAt};
-ghost use Rattle.instructions.specs.Opcodes.{ByOpcode};
+ghost use Rattle.instructions.specs.HeldColumns.{ByOpcode};
 ghost use Rattle.words.specs.Words.{wordBits, littleEndian, wordsOf, bytesOf};
 ghost use Rattle.words.specs.Decoding.{decoded, items, hasArgument, isPlace, callListed, wordFault, isFound, offsetFault, codeFault, sizeOf};
 ghost use Rattle.words.specs.Held.{withArgument, headOf, Readable, numberIn, Numbered, landsIn};

@@ -1,12 +1,10 @@
 -- The answer of an import to words and a primitives line, and that of an export to a routine file, with a length of lent memory.
 -- (document 02, §2)
-use Prim.Native.Nat.{ℕ}
-use mathlib.Core.List.{List}
-use Rattle.text.specs.Text.{lines}
-use Rattle.file_format.specs.Routine.{readBound}
+use Rattle.refusals.specs.Library.{ℕ, List}
+use Rattle.answers.specs.Terms.{readBound, Answer, reported, lending, ofReading, lines}
+use Rattle.answers.specs.Answers.{ofAcceptance}
 use Rattle.words.specs.Import.{importVerdict, importText}
 use Rattle.words.specs.Export.{exportBytes}
-use Rattle.answers.specs.Answers.{Answer, reported, lending, ofReading, ofAcceptance}
 
 -- "Memory lent for the lines, or for the words, of under 32,768 bytes is refusal 10, checked first"
 abbrev pub conversionLimit : ℕ

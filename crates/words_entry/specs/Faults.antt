@@ -1,13 +1,6 @@
 -- The words that an import refuses by 12, each under the words that name it. (document 02, §2)
-use Prim.Native.Nat.{ℕ, suc, _<_, _≤_}
-use mathlib.Core.Path.{_≡_}
-use mathlib.Core.Logic.{_⊎_}
-use mathlib.Core.List.{List, []}
-use lib.IntN.{pos}
-use Rattle.cells.specs.Try.{done}
-use Rattle.machine.specs.Lists.{nth}
-use Rattle.instructions.specs.declared.Argument.the-variants.{Target, Primitive}
-use Rattle.instructions.specs.Kinds.{kindAt}
+use Rattle.refusals.specs.Library.{ℕ, suc, _≤_, _<_, pos, List, [], _⊎_, _≡_}
+use Rattle.machine.specs.Terms.{done, Target, Primitive, kindAt, nth}
 use Rattle.words.specs.Words.{Word}
 use Rattle.words.specs.Decoding.{Item, item, unreadable, decoded, landing}
 

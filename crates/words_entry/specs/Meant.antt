@@ -1,18 +1,13 @@
 -- The code that words hold, at the prices of a file. (document 02, §2)
-use Prim.Native.Nat.{ℕ}
-use mathlib.Core.List.{List, map}
-use lib.IntN.{ℤ, pos}
-use Rattle.text.specs.Text.{Line, find, indexOf}
-use Rattle.instructions.specs.declared.Argument.{Argument}
-use Rattle.instructions.specs.declared.Argument.the-variants.{Absent, Target, Primitive, Within}
-use Rattle.instructions.specs.Kinds.{kindAt}
-use Rattle.machine.specs.Machine.{instruction, Instruction, priceOf, Code}
-use Rattle.file_format.specs.declared.Section.the-variants.{Kinds as kinds, Primitives as primitives}
-use Rattle.file_format.specs.declared.Column.the-variants.{Extra as extra}
-use Rattle.file_format.specs.declared.Role.the-variants.{Values as values}
-use Rattle.file_format.specs.Layout.{listed}
+use Rattle.refusals.specs.Library.{ℕ, ℤ, pos, List, map}
+use Rattle.machine.specs.Terms.{Argument, Absent, Target, Primitive, Within, kindAt, Code, Instruction}
+use Rattle.answers.specs.Terms.{listed, Line, find, kinds, primitives, extra, values}
+use Rattle.text.specs.Text.{indexOf}
+use Rattle.machine.specs.Machine.{instruction, priceOf}
 use Rattle.file_format.specs.Rows.{extraCounts}
 use Rattle.file_format.specs.Routine.{naturalAt, PriceList, priceList, prices}
+use Rattle.file_format.specs.declared.Column.the-variants.{Extra as extra}
+use Rattle.file_format.specs.declared.Role.the-variants.{Values as values}
 use Rattle.words.specs.Words.{wordsOf}
 use Rattle.words.specs.Decoding.{Item, decoded, items, landing, numberAt}
 

@@ -1,25 +1,17 @@
 -- What is promised of an import and an export together, as statements. `proofs/Theorems` proves each by its name. (document 02, §2)
-use Prim.Native.Nat.{ℕ, _≤_}
-use mathlib.Core.Path.{_≡_}
-use mathlib.Core.Bool.{true}
-use mathlib.Core.List.{List}
-use mathlib.Core.Logic.{_↔_}
-use lib.Dec.{ltb}
-use lib.ListN.{length}
-use Rattle.refusals.specs.declared.Refusal.the-variants.{BadWord}
+use Rattle.refusals.specs.Library.{ℕ, _≤_, ltb, length, true, List, _↔_, _≡_}
+use Rattle.bound_theory.specs.Terms.{BadWord, bound, run}
+use Rattle.answers.specs.Terms.{listed, body, Routine, routine, readBound, readRun, reported, refused, lines, all, primitives, names}
 use Rattle.refusals.specs.declared.Acceptance.the-variants.{Accepted as accepted}
-use Rattle.text.specs.Text.{lines, all}
+use Rattle.refusals.specs.declared.Acceptance.the-variants.{Accepted as accepted}
+use Rattle.refusals.specs.declared.Acceptance.the-variants.{Accepted as accepted}
+use Rattle.merge_theory.specs.Merge.{merged}
+use Rattle.file_format.specs.Routine.{firstAddress}
 use Rattle.file_format.specs.declared.Section.the-variants.{Primitives as primitives}
 use Rattle.file_format.specs.declared.Role.the-variants.{Names as names}
-use Rattle.file_format.specs.Layout.{body, listed}
-use Rattle.file_format.specs.Routine.{Routine, routine, firstAddress, readBound, readRun}
 use Rattle.words.specs.Words.{wordsOf}
 use Rattle.words.specs.Import.{primitivesVerdict, primitivesOf}
 use Rattle.words_inverse.specs.Sections.{codeSection, replaced, primitivesLine}
-use Rattle.answers.specs.Answers.{reported, refused}
-use Rattle.bound_theory.specs.Tree.{bound}
-use Rattle.bound_theory.specs.Run.{run}
-use Rattle.merge_theory.specs.Merge.{merged}
 use Rattle.relocation_theory.specs.Raised.{raiseVerdict}
 use Rattle.words_entry.specs.Answers.{conversionLimit, importAnswer, exportAnswer}
 use Rattle.words_entry.specs.Faults.{AtFault, WrongOffset, Decides}

@@ -1,10 +1,5 @@
 -- Code lines as the code of the export reads and writes them: by their texts, and by the indices of all opcodes.
-use Prim.Native.Nat.{ℕ, _≤_, _<_}
-use mathlib.Core.Path.{_≡_}
-use mathlib.Core.Bool.{true}
-use mathlib.Core.List.{List, map}
-use lib.IntN.{ℤ, pos, _-ℤ_}
-use lib.ListN.{length, getD, take}
+use Rattle.refusals.specs.Library.{ℕ, _≤_, _<_, ℤ, pos, _-ℤ_, length, getD, take, true, List, map, _≡_}
 use Rattle.text.specs.Text.{Line, find}
 use Rattle.instructions.specs.Kinds.{addresses, kindNames, kindAt}
 use Rattle.instructions.specs.declared.Argument.{Argument}

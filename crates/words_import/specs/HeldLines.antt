@@ -1,8 +1,5 @@
 -- A line of code as the code of the import writes it: by the table of positions, and by what an instruction consists of.
-use Prim.Native.Nat.{ℕ, suc, _≤_}
-use mathlib.Core.List.{List, [], _++_}
-use lib.IntN.{ℤ, pos, natAbs, _+ℤ_}
-use lib.ListN.{length, getD}
+use Rattle.refusals.specs.Library.{ℕ, suc, _≤_, ℤ, pos, natAbs, _+ℤ_, length, getD, List, [], _++_}
 use Rattle.text.specs.Text.{bytes, indexOf}
 use Rattle.text.specs.Decimal.{decimal}
 use Rattle.instructions.specs.declared.Argument.{Argument}

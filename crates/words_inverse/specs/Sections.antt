@@ -1,11 +1,11 @@
 -- The section of the code as a file holds it: what an import makes anew. (document 02, §2)
-use Prim.Native.Nat.{ℕ, suc, _-_}
-use mathlib.Core.List.{List, [], _∷_, _++_}
-use lib.ListN.{length, take, drop}
+use Rattle.refusals.specs.Library.{ℕ, suc, _-_, length, take, drop, List, [], _∷_, _++_}
 use Rattle.text.specs.Text.{bytes, Line}
 use Rattle.file_format.specs.declared.Section.the-variants.{Primitives as primitives}
 use Rattle.file_format.specs.declared.Role.the-variants.{Names as names}
 use Rattle.file_format.specs.Layout.{layout, body, codeLines, textAt}
+use Rattle.file_format.specs.declared.Section.the-variants.{Primitives as primitives}
+use Rattle.file_format.specs.declared.Role.the-variants.{Names as names}
 
 -- the bytes of lines that each end in a line feed
 unfoldable pub linesText : List Line → List ℕ

@@ -10,7 +10,7 @@ use Rattle.cells.specs.declared.Cell.{Cell}
 use Rattle.cells.specs.declared.Value.the-variants.{Range, Handle}
 use Rattle.cells.specs.Cells.{results}
 use Rattle.cells.specs.HeldCodes.{decodedCell}
-use Rattle.cells.specs.Confined.{confineValue, confine}
+use Rattle.cells.specs.HeldConfined.{confineValue, confine}
 use Rattle.cells.proofs.ComputeLaws.{encoded-handle}
 use borrow.Author.Needs.{needs}
 use Rattle.cells.proofs.encode.Statement.{statement}

@@ -17,7 +17,7 @@ use Rattle.cells.specs.declared.Value.the-variants.{Range, Handle}
 use Rattle.cells.specs.Try.{stuck, done}
 use Rattle.cells.specs.Cells.{cell, high, between, handle}
 use Rattle.cells.specs.Merge.{lower, upper, mergeValues}
-use Rattle.cells.specs.Confined.{Confined}
+use Rattle.cells.specs.HeldConfined.{Confined}
 use Rattle.cells.proofs.AnswerLaws.{merged-values}
 use Rattle.cells.proofs.RangeLaws.{InBits}
 use Rattle.cells.proofs.CellLaws.{range-bits}

@@ -1,6 +1,7 @@
 -- `instructions::coded_kinds` meets its contract: the list is that of the definition, by computation. Assumes nothing.
 use Rattle.instructions.specs.Kinds.{kinds, opcodes}
-use Rattle.instructions.specs.Opcodes.{placeFrom, kindCoded, codedPlace}
+use Rattle.instructions.specs.Opcodes.{placeFrom, kindCoded}
+use Rattle.instructions.specs.HeldColumns.{codedPlace}
 use Rattle.instructions.proofs.OpcodeLaws.{by-opcode}
 use Rattle.instructions.proofs.coded_kinds.Statement.{statement}
 use Rattle.instructions.proofs.coded_kinds.Tie as tie

@@ -7,7 +7,7 @@ use lib.ListN.{length, drop, set, length-set, length-drop}
 use lib.Seq.{take-all}
 use borrow.Rule.Slice.PartMut.{putMid}
 use Rattle.cells.specs.HeldCodes.{decodedCells}
-use Rattle.cells.specs.Confined.{confine}
+use Rattle.cells.specs.HeldConfined.{confine}
 use Rattle.machine_state.specs.HeldProgram.{sizesOf}
 use Rattle.merge_rows.specs.HeldRows.{part}
 use Rattle.merge_rows.proofs.PartLaws.{part-length, part-same}

@@ -8,7 +8,7 @@ use Rattle.refusals.specs.declared.Refusal.the-variants.{Stuck}
 use Rattle.cells.specs.declared.Cell.{Cell}
 use Rattle.cells.specs.Try.{Try, done}
 use Rattle.cells.specs.Cells.{unknown}
-use Rattle.cells.specs.Confined.{Kept}
+use Rattle.cells.specs.HeldConfined.{Kept}
 use Rattle.machine.specs.Machine.{State, Next, stops, goes, opens, jump, height, step}
 use Rattle.machine.specs.Order.{Cellwise}
 use Rattle.machine_state.specs.HeldProgram.{firstOf, programOf, sizesOf}

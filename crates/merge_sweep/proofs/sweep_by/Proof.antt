@@ -9,7 +9,8 @@ use Rattle.machine_state.proofs.ProgramLaws.{code-count, code-first}
 use Rattle.cells.specs.Cells.{unknown}
 use Rattle.machine.specs.Machine.{step}
 use Rattle.merge_theory.specs.Merge.{span, only, merged}
-use Rattle.merge_way.specs.Way.{beside, nowhence}
+use Rattle.merge_way.specs.Way.{nowhence}
+use Rattle.merge_way.specs.HeldBeside.{beside}
 use Rattle.merge_sweep.proofs.SweepLaws.{Going, begins, goes-on, ends, not-accepted, finishes, finishes-kept, figures-all}
 use borrow.Author.Needs.{needs}
 use Rattle.merge_sweep.proofs.sweep_by.Statement.{statement}

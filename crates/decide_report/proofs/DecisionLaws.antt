@@ -13,10 +13,9 @@ use Rattle.text.proofs.DecimalLaws.{decimal-length}
 use Rattle.bound_theory.specs.Tree.{Report}
 use Rattle.report.specs.Report.{space}
 use Rattle.report.proofs.ReportLaws.{Small}
-use Rattle.decide_entry.specs.declared.Source.{Source}
-use Rattle.decide_entry.specs.declared.Source.the-variants.{First, Merging, Split}
-use Rattle.decide_entry.specs.Decision.{Ruling, fits, over, undecided, ruling, rulingWord, sourceWord, decisionNames, decisionWords, decisionText}
-use Rattle.decide_entry.specs.Promises.{Says}
+use Rattle.decide_report.specs.declared.Source.{Source}
+use Rattle.decide_report.specs.declared.Source.the-variants.{First, Merging, Split}
+use Rattle.decide_report.specs.Decision.{Ruling, fits, over, undecided, ruling, rulingWord, sourceWord, decisionNames, decisionWords, decisionText, Says}
 
 -- ---- what is decided
 

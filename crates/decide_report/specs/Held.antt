@@ -1,12 +1,9 @@
 -- What the internal functions are handed.
-use Prim.Native.Nat.{ℕ, _≤_}
-use mathlib.Core.Path.{_≡_}
-use mathlib.Core.List.{List}
-use lib.ListN.{length}
+use Rattle.refusals.specs.Library.{ℕ, _≤_, length, List, _≡_}
 use Rattle.bound_theory.specs.Tree.{Report}
 use Rattle.bound_figures.specs.declared.Found.{Found}
-use Rattle.report.specs.HeldPath.{reportOf}
 use Rattle.answers.specs.Answers.{Answer, reported}
+use Rattle.report.specs.HeldPath.{reportOf}
 
 -- the report that the figures found stand for
 abbrev pub reportIn : Found → Report

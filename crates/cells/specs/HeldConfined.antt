@@ -1,5 +1,5 @@
 -- Cells whose numbers all have as many bits as numbers have.
-use mathlib.Core.Path.{_≡_}
+use Rattle.refusals.specs.Library.{_≡_}
 use Rattle.cells.specs.declared.Value.{Value}
 use Rattle.cells.specs.declared.Value.the-variants.{Range, Handle}
 use Rattle.cells.specs.declared.Cell.{Cell}

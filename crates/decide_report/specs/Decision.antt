@@ -1,14 +1,10 @@
 -- What is decided of a routine by the cycles of a bound and by TICK, and how that is printed. (docs/ROUTINE-FILE.md, The decision)
-use Prim.Native.Nat.{ℕ}
-use mathlib.Core.Bool.{cond}
-use mathlib.Core.List.{List, _++_}
-use lib.Dec.{ltb}
-use Rattle.text.specs.Text.{bytes}
-use Rattle.text.specs.Decimal.{decimal}
+use Rattle.refusals.specs.Library.{ℕ, ltb, cond, List, _++_, _≡_}
+use Rattle.file_format.specs.Terms.{bytes, decimal}
 use Rattle.bound_theory.specs.Tree.{Report}
 use Rattle.report.specs.Report.{space, feed}
-use Rattle.decide_entry.specs.declared.Source.{Source}
-use Rattle.decide_entry.specs.declared.Source.the-variants.{First, Merging, Split}
+use Rattle.decide_report.specs.declared.Source.{Source}
+use Rattle.decide_report.specs.declared.Source.the-variants.{First, Merging, Split}
 
 -- column DECISION
 pub data Ruling : Type 0 where
@@ -46,3 +42,7 @@ unfoldable pub decisionText : Source → ℕ → Report → List ℕ
 decisionText s tick q =
     decisionNames ++ decisionWords s tick (q .cycles) ++ space ++ decimal (q .cycles) ++ space ++ decimal tick ++ space ++ decimal (q .words) ++ space ++ decimal (q .depth) ++ space
     ++ decimal (q .steps) ++ feed
+
+-- the bytes say a decision: its word stands first under the line of names
+abbrev pub Says : Ruling → List ℕ → Type 0
+Says d bytes = (rest : List ℕ) × (bytes ≡ decisionNames ++ rulingWord d ++ space ++ rest)

@@ -1,15 +1,15 @@
--- `decide_entry::put_decision` meets its contract: the parts of the decision one after the other. Assumes nothing.
+-- `decide_report::put_decision` meets its contract: the parts of the decision one after the other. Assumes nothing.
 use Prim.Native.Nat.{ℕ, _≤_}
 use mathlib.Core.List.{List, [], _∷_}
 use lib.ListN.{length}
 use Rattle.text.specs.Decimal.{decimal}
 use Rattle.report.specs.Report.{space, feed}
 use Rattle.report.specs.HeldPath.{reportOf}
-use Rattle.decide_entry.specs.Decision.{decisionNames, decisionWords, decisionText}
+use Rattle.decide_report.specs.Decision.{decisionNames, decisionWords, decisionText}
 use Rattle.text.proofs.PlaceLaws.{Place, joined, begins-first, kept, room, next, finished-first}
 use borrow.Author.Needs.{needs}
-use Rattle.decide_entry.proofs.put_decision.Statement.{statement}
-use Rattle.decide_entry.proofs.put_decision.Tie as tie
+use Rattle.decide_report.proofs.put_decision.Statement.{statement}
+use Rattle.decide_report.proofs.put_decision.Tie as tie
 
 -- the parts of the decision
 abbrev parts : tie.Start → List (List ℕ)

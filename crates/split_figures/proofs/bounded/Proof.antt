@@ -1,4 +1,4 @@
--- `split_entry::bounded` meets its contract. Assumes nothing.
+-- `split_figures::bounded` meets its contract. Assumes nothing.
 use mathlib.Core.Path.{_≡_, refl, ap, subst}
 use native.Mathlib.Omega.{arith}
 use lib.ListN.{length}
@@ -8,8 +8,8 @@ use Rattle.machine_state.proofs.Stack.{length-images}
 use Rattle.bound_figures.specs.HeldFigures.{Shows}
 use Rattle.split_theory.specs.Split.{split}
 use borrow.Author.Needs.{needs}
-use Rattle.split_entry.proofs.bounded.Statement.{statement}
-use Rattle.split_entry.proofs.bounded.Tie as tie
+use Rattle.split_figures.proofs.bounded.Statement.{statement}
+use Rattle.split_figures.proofs.bounded.Tie as tie
 
 places : (s : tie.Start) → length (s .args .routine .blocks) ≡ 128
 places s = search (needs, length-images)

@@ -2,10 +2,10 @@
 use mathlib.Core.Path.{ap}
 use native.Mathlib.Omega.{arith}
 use lib.ListN.{length}
-use Rattle.decide_entry.proofs.DecisionLaws.{words-over, words-fit-first, words-undecided, words-fit-merging, words-undecided-split, words-fit-split}
+use Rattle.decide_report.proofs.DecisionLaws.{words-over, words-fit-first, words-undecided, words-fit-merging, words-undecided-split, words-fit-split}
 use borrow.Author.Needs.{needs}
-use Rattle.decide_entry.proofs.put_ruling.Statement.{statement}
-use Rattle.decide_entry.proofs.put_ruling.Tie as tie
+use Rattle.decide_report.proofs.put_ruling.Statement.{statement}
+use Rattle.decide_report.proofs.put_ruling.Tie as tie
 
 put-requires : tie.Need-put-requires
 put-requires c κs =
