@@ -1,13 +1,17 @@
--- Laws of the words that a line lists, and of the code lines among the lines after the layout. Assumes nothing.
+-- Laws of the words that a line lists, and of the code lines among the lines after the layout, of which the heading of the answers is none. Assumes nothing.
 use Prim.Native.Nat.{ℕ, suc, _+_, _<_, _≤_}
-use mathlib.Core.Path.{_≡_, refl, sym, ap, _∙_}
-use mathlib.Core.Bool.{Bool, true, false, cond}
-use mathlib.Core.List.{List, [], _∷_}
+use mathlib.Core.Path.{_≡_, refl, sym, ap, subst, _∙_}
+use mathlib.Core.Bool.{Bool, true, false, cond, false≢true}
+use mathlib.Core.List.{List, [], _∷_, _++_}
 use native.Mathlib.Omega.{arith}
+use lib.Dec.{eqb}
 use lib.ListN.{length, getD, take, drop}
+use borrow.Author.Tests.{eqb-true}
 use Rattle.text.specs.Text.{bytes, equals, lineWords, Line, lines, noLine}
+use Rattle.text.specs.Decimal.{digitsFrom, natural, numeral}
 use Rattle.text.proofs.PieceLaws.{words-length}
 use Rattle.text.proofs.LineLaws.{lines-first, lines-none}
+use Rattle.file_format.specs.Rows.{isNumeral}
 use Rattle.file_format.specs.Layout.{list, isAnswer, upToAnswer, pastAnswer, codeLines, answerLines}
 
 pub list-length : (s : List ℕ) → length (list s) ≤ length s + 1
@@ -70,3 +74,13 @@ module _ (s : List ℕ) (text : List ℕ) (h : 0 < length s) (t : text ≡ getD 
 pub code-end : (s : List ℕ) → length s ≡ 0 → length (upToAnswer (lines s)) ≡ 0
 unfolding upToAnswer
 code-end s h = rw (lines-none s (omega arith)) refl
+
+-- a text that begins with a number is not ANSWER
+pub number-first : (w : List ℕ) (r : List ℕ) → isNumeral (numeral w) ≡ true → equals (w ++ r) (bytes "ANSWER") ≡ false
+unfolding isNumeral numeral natural digitsFrom equals
+number-first [] r e = absurd (false≢true e)
+number-first (d ∷ ds) r e = go (eqb d 65) refl
+  where
+    go : (b : Bool) → eqb d 65 ≡ b → cond b (equals (ds ++ r) (bytes "NSWER")) false ≡ false
+    go true q = absurd (false≢true (subst (λ x. isNumeral (numeral (x ∷ ds)) ≡ true) (eqb-true d 65 q) e))
+    go false q = refl

@@ -12,6 +12,7 @@ use types.Run.{OneOf, miss}
 use denote.Enum.Declared.{tagOf}
 use borrow.Author.Tests.{eq-eqb, ne-eqb}
 use Rattle.text.specs.Text.{bytes, equals, lineWords, Line, noLine}
+use Rattle.text.proofs.TextLaws.{Every, none, more}
 use Rattle.instructions.specs.Kinds.{addresses}
 use Rattle.file_format.specs.declared.Section.{Section}
 use Rattle.file_format.specs.declared.Column.{Column}
@@ -119,3 +120,16 @@ at-first (suc k) e = absurd (omega arith)
 pub at-later : (k : ℕ) → (k ≡ 0 → ⊥) → addresses ≡ atRange k
 at-later zero e = absurd (e refl)
 at-later (suc k) e = refl
+
+-- ---- the line of a role
+
+-- what holds of every line holds of the one that has a role
+pub role-every : (P : List ℕ → Type 0) → P [] → (r : Role) (rs : List Role) {ls : List Line} → Every (λ l. P (l .text)) ls → P (textAt r rs ls)
+unfolding textAt
+role-every P e r [] h = e
+role-every P e r (x ∷ rs) none = e
+role-every P e r (x ∷ rs) (more {x = l} {xs = ls} p ps) = go (isRole r x) (role-every P e r rs ps)
+  where
+    go : (b : Bool) → P (textAt r rs ls) → P (cond b (l .text) (textAt r rs ls))
+    go true h = p
+    go false h = h

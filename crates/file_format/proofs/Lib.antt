@@ -11,3 +11,5 @@ pub mod BranchLaws
 pub mod PlaceLaws
 pub mod StartLaws
 pub mod KnownLaws
+pub mod CellLaws
+pub mod OtherFileLaws

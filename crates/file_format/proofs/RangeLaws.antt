@@ -1,18 +1,21 @@
--- What the ranges of a passing text say of its routine: prices, limits and the height of the start are small. Assumes nothing.
-use Prim.Native.Nat.{ℕ, _+_, _≤_, min, zero-le}
+-- What the ranges of a passing text say of its routine: prices, limits and the height of the start are small, and an argument is a number
+-- of the machine. Assumes nothing.
+use Prim.Native.Nat.{ℕ, _+_, _-_, _<_, _≤_, min, zero-le}
 use mathlib.Core.Path.{_≡_, refl, ap, _∙_}
-use mathlib.Core.Bool.{Bool, true, false, cond, false≢true}
+use mathlib.Core.Bool.{Bool, true, false, cond, _&&_, false≢true}
 use mathlib.Core.List.{List, [], _∷_, map}
 use native.Mathlib.Omega.{arith}
-use lib.Dec.{eqb}
+use lib.Dec.{eqb, ltb}
 use lib.IntN.{ℤ, pos, negsuc, natAbs}
-use lib.Signed.{leZ}
+use lib.Signed.{mag, leZ}
 use lib.ListN.{length, getD, take, length-map, length-take, length-drop}
-use borrow.Author.Tests.{leb-true, eqb-true}
-use Rattle.text.specs.Text.{Line, find}
-use Rattle.text.proofs.TextLaws.{Every, more, and-left, and-right, cond-left, cond-right}
+use borrow.Author.Tests.{leb-true, le-leb, ltb-true, eqb-true}
+use Rattle.text.specs.Text.{Line, find, all}
+use Rattle.text.proofs.TextLaws.{Every, more, all-every, every-getD, and-left, and-right, cond-left, cond-right}
 use Rattle.numbers.specs.declared.Range.{Range}
-use Rattle.numbers.specs.Numbers.{naturals, within}
+use Rattle.numbers.specs.Numbers.{bits, half, IsNumber, naturals, within, numbers}
+use Rattle.instructions.specs.Kinds.{Kind, kindAt}
+use Rattle.instructions.specs.Kinds as table
 use Rattle.instructions.specs.declared.Argument.{Argument}
 use Rattle.instructions.specs.declared.Argument.the-variants.{Absent, Target, Primitive, Within}
 use Rattle.machine.specs.Machine.{Price, Instruction, instruction, Prices, priceOf, withExtra}
@@ -160,3 +163,38 @@ start-low {ls} p =
     let l = cells-few ls p in
     let e = cells-counted p in
     simp length-drop (omega arith)
+
+-- ---- numbers of the machine
+
+pub number-within : (z : ℤ) → IsNumber z → within numbers z ≡ true
+number-within (pos n) h = let k = h .fits in le-leb n (half bits - 1) (omega arith)
+number-within (negsuc n) h = let k = h .fits in rw (le-leb n (half bits - 1) (omega arith)) refl
+
+between : (low high z : ℤ) → mag low < half bits → mag high < half bits → leZ low z ≡ true → leZ z high ≡ true → mag z < half bits
+between low (pos b) (pos n) l h e f = let q = leb-true n b f in omega arith
+between low (negsuc b) (pos n) l h e f = absurd (false≢true f)
+between (pos a) high (negsuc n) l h e f = absurd (false≢true e)
+between (negsuc a) high (negsuc n) l h e f = let q = leb-true n a e in omega arith
+
+-- the ends of a kind's range are numbers: computed for the whole table
+abbrev pub bounded : Argument → Bool
+bounded Absent = true
+bounded Target = true
+bounded Primitive = true
+bounded (Within r) = ltb (mag (r .low)) (half bits) && ltb (mag (r .high)) (half bits)
+
+pub kind-bounded : (k : ℕ) → bounded (kindAt k .argument) ≡ true
+unfolding table.kinds kindAt all
+kind-bounded k = every-getD (all-every (λ (r : Kind). bounded (r .argument)) table.kinds refl) refl k
+
+-- so that an argument within its range is one
+pub argument-number : (r : Range) (z : ℤ) → bounded (Within r) ≡ true → within r z ≡ true → IsNumber z
+argument-number r z b e =
+    record {
+      fits =
+          between (r .low) (r .high) z
+          (ltb-true (mag (r .low)) (half bits) (and-left (ltb (mag (r .low)) (half bits)) (ltb (mag (r .high)) (half bits)) b))
+          (ltb-true (mag (r .high)) (half bits) (and-right (ltb (mag (r .low)) (half bits)) (ltb (mag (r .high)) (half bits)) b))
+          (within-low r z e)
+          (within-high r z e);
+    }

@@ -5,13 +5,13 @@ use Rattle.refusals.specs.Library.{[], _∷_, _++_, _≡_}
 use Rattle.machine.specs.Terms.{numbers, within, naturals, Argument, Absent, Target, Primitive, Within, kindAt, kindNames, addresses}
 use Rattle.file_format.specs.Terms.{bytes, Line, lineWords, isEmpty, equals, all, decimal, numeral, Place, Section, limits, kinds, primitives, cells, fields}
 use Rattle.file_format.specs.Terms.{instructions, answers, limit, cycles, words-column, extra, cell, names, values, RefusedLine, nowhere, line}
+use Rattle.numbers.specs.declared.Range.{Range}
+use Rattle.numbers.specs.Numbers.{same}
 use Rattle.text.specs.Text.{partedBy, placeAmong, among, distinct}
 use Rattle.text.specs.declared.Place.the-variants.{At, Missing}
 use Rattle.text.specs.declared.Numeral.{Numeral}
 use Rattle.text.specs.declared.Numeral.the-variants.{Misspelt as misspelt, Number as number}
 use Rattle.text.specs.Decimal.{isDigit}
-use Rattle.numbers.specs.declared.Range.{Range}
-use Rattle.numbers.specs.Numbers.{same}
 use Rattle.instructions.specs.Kinds.{calls}
 use Rattle.file_format.specs.declared.Column.{Column}
 use Rattle.file_format.specs.declared.Role.{Role}

@@ -1,8 +1,8 @@
 -- What a word of a line is tested for, and what the tests of the rows come to on a code line.
 use Rattle.refusals.specs.Library.{ℕ, _<_, eqb, ltb, ℤ, pos, _+ℤ_, length, getD, Bool, cond, not, _&&_, List, [], _⊎_, _≡_}
 use Rattle.file_format.specs.Terms.{isEmpty, all, numeral, Place}
-use Rattle.text.specs.Text.{among}
 use Rattle.numbers.specs.Numbers.{within}
+use Rattle.text.specs.Text.{among}
 use Rattle.instructions.specs.Kinds.{kindNames}
 use Rattle.file_format.specs.Rows.{isNumeral, value, cellWord, isCell, cellInRange, isSingle, cellPresent, isName, cycleCounts, wordCounts, argumentOf, argumentLaidOut, argumentInRange, argumentNamed, argumentReaches, argumentForward, at, arg, onArgument, codeInRange, codeNamed, codeForward}
 use Rattle.file_lines.specs.declared.Tested.{Tested}

@@ -1,9 +1,9 @@
 -- What the code's prices and codes stand for. The parts of a routine are those of file_format/specs/Routine.
 use Rattle.refusals.specs.Library.{ℕ, _+_, _*_, _%_, _≤_, _<_, leb, length, getD, set, List, [], _≡_}
 use Rattle.file_format.specs.Terms.{find, Place}
-use Rattle.text.specs.declared.Place.the-variants.{At, Missing}
 use Rattle.numbers.specs.declared.Range.{Range}
 use Rattle.numbers.specs.Numbers.{naturals}
+use Rattle.text.specs.declared.Place.the-variants.{At, Missing}
 use Rattle.instructions.specs.Kinds.{Kind, calls, kindNames, kindAt}
 use Rattle.instructions.specs.HeldColumns.{operationCode}
 use Rattle.file_format.specs.Layout.{list}

@@ -116,7 +116,7 @@ fn put_number(out: &mut [u8], at: usize, d: u32) -> usize
         return text::put_decimal(out, at, (d / 4 % 8) as u64);
     }
     let z = number_in(numbers::number_range(), d);
-    words_import::put_integer(out, at, z)
+    text::put_integer(out, at, z)
 }
 
 // Puts a cell that may be unknown.
@@ -211,7 +211,7 @@ fn put_argument(out: &mut [u8], at: usize, n: usize, k: usize, kind: usize, d: u
         }
         Argument::Within(range) => {
             let z = number_in(range, d);
-            words_import::put_integer(out, at, z)
+            text::put_integer(out, at, z)
         }
     }
 }

@@ -21,16 +21,15 @@ use Rattle.instructions.specs.Kinds.{kinds, kindNames, kindAt}
 use Rattle.instructions.specs.declared.Argument.{Argument}
 use Rattle.instructions.specs.declared.Argument.the-variants.{Absent, Target, Primitive, Within}
 use Rattle.instructions.proofs.ColumnLaws.{column-at, names-count}
-use Rattle.words_import.proofs.IntegerLaws.{integer-length}
+use Rattle.text.proofs.IntegerLaws.{integer-length}
 use Rattle.file_format.specs.declared.Section.the-variants.{Kinds as kinds-section, Primitives as primitives-section}
 use Rattle.file_format.specs.declared.Role.the-variants.{Names as names, Code as code}
 use Rattle.file_format.specs.declared.Row.the-variants.{Layout as layout-row, Range as range-row, Name as name-row, Price as price-row, Target as target-row, Forward as forward-row}
 use Rattle.file_format.specs.Layout.{isAnswer, body, codeLines, listed}
 use Rattle.file_format.specs.Rows.{isNumeral, value, at, op, arg, argumentOf, onArgument, argumentLaidOut, argumentInRange, argumentNamed, argumentReaches, argumentForward, atRange, codeLaidOut, laidOut, codeInRange, inRange, codeNamed, named, firstAt, onCode, priced, reaches, codeForward, forward, test}
-use Rattle.words_inverse.proofs.SpellingLaws.{integer-read}
-use Rattle.words_inverse.proofs.JoinLaws.{Free, text-free, split-alone, split-first}
-use Rattle.words_inverse.proofs.NameLaws.{kind-name, name-known}
-use Rattle.words_inverse.proofs.LineLaws.{decimal-free}
+use Rattle.text.proofs.SpellingLaws.{integer-read, decimal-free}
+use Rattle.text.proofs.JoinLaws.{Free, text-free, split-alone, split-first}
+use Rattle.instructions.proofs.KindNameLaws.{kind-name, name-known}
 use Rattle.generate_file.specs.Draws.{after}
 use Rattle.generate_file.specs.Words.{numberIn}
 use Rattle.generate_file.specs.File.{count, kindOf, primitives, target, argument, lineOf, codeLine}

@@ -9,7 +9,7 @@ use borrow.Author.Tests.{eq-eqb, leb-true, not-true}
 use lib.IntN.{pos}
 use lib.ListN.{length, length-append, getD}
 use Rattle.text.specs.Text as texts
-use Rattle.text.specs.Text.{bytes, isEmpty, equals, partedBy, lineWords, Line, lines, among, all, distinct}
+use Rattle.text.specs.Text.{bytes, isEmpty, equals, partedBy, lineWords, Line, lines, among, all, distinct, linesText}
 use Rattle.text.specs.Decimal as decimals
 use Rattle.text.proofs.TextLaws.{Every, none, more, every-map, every-append, all-every, and-left, and-right}
 use Rattle.text.proofs.LineLaws.{endedLine}
@@ -26,9 +26,8 @@ use Rattle.file_format.specs.Layout.{layout, body, upToAnswer, codeLines, codeR
 use Rattle.file_format.specs.Rows as rows
 use Rattle.file_format.specs.Rows.{firstAt, value, blockSizes, valuesLaidOut, columnLaidOut, columnInRange, laidOut, inRange, test, Passes}
 use Rattle.file_format.proofs.RowLaws.{Covered, rest, passed}
-use Rattle.words_inverse.specs.Sections.{linesText}
-use Rattle.words_inverse.proofs.JoinLaws.{Free, text-free, lines-of-text}
-use Rattle.words_inverse.proofs.RowLaws.{covered-row}
+use Rattle.text.proofs.JoinLaws.{Free, text-free, lines-of-text}
+use Rattle.file_format.proofs.OtherFileLaws.{covered-row}
 use Rattle.generate_file.specs.declared.Column.{Column}
 use Rattle.generate_file.specs.declared.Column.the-variants.{Names, Limits, Cycles, Words, Extras, Handles}
 use Rattle.generate_file.specs.Words.{rowFrom, row}

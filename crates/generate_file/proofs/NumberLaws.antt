@@ -15,7 +15,7 @@ use Rattle.numbers.specs.Numbers.{bits, half, IsNumber, within, numbers}
 use Rattle.instructions.specs.Kinds.{Kind, kinds, kindAt}
 use Rattle.instructions.specs.declared.Argument.{Argument}
 use Rattle.instructions.specs.declared.Argument.the-variants.{Absent, Target, Primitive, Within}
-use Rattle.words_inverse.proofs.LineLaws.{argument-number}
+use Rattle.file_format.proofs.RangeLaws.{argument-number}
 use Rattle.generate_file.specs.Words.{below, sizeOf, numberIn}
 use Rattle.generate_file.specs.Held.{startsLow, sound}
 

@@ -1,35 +1,34 @@
 -- Laws of the lines of values: a row is read as the words it was made of, and each of them is spelt, in its range and present.
 -- Assumes nothing.
-use mathlib.Core.Path.{_≡_, refl, sym, ap, subst, _∙_}
+use mathlib.Core.Path.{_≡_, refl, sym, ap, _∙_}
 use mathlib.Core.Bool.{Bool, true, false, cond, not, _&&_, _||_, false≢true}
 use mathlib.Core.List.{List, [], _∷_}
-use Prim.Native.Nat.{ℕ, zero, suc, _+_, _/_, _%_, _≤_}
+use Prim.Native.Nat.{ℕ, zero, suc, _/_, _%_, _≤_}
 use native.Mathlib.Omega.{arith}
 use lib.Dec.{eqb}
 use lib.IntN.{ℤ, pos}
-use lib.ListN.{length, getD, take, drop}
+use lib.ListN.{length, getD, drop}
 use borrow.Author.Tests.{eqb-true, le-leb, lt-ltb}
 use Rattle.text.specs.Text.{bytes, isEmpty, equals, partedBy, lineWords, among, all}
-use Rattle.text.specs.declared.Numeral.the-variants.{Misspelt as misspelt, Number as number}
-use Rattle.text.specs.Decimal.{digitsFrom, natural, numeral, decimal}
+use Rattle.text.specs.declared.Numeral.the-variants.{Number as number}
+use Rattle.text.specs.Decimal.{numeral, decimal, integer}
 use Rattle.text.proofs.TextLaws.{Every, none, more, every-map, every-append, equals-path}
 use Rattle.text.proofs.DecimalLaws.{decimal-read}
 use Rattle.numbers.specs.Numbers.{naturals, within, numbers}
 use Rattle.instructions.specs.Kinds.{kinds, kindNames, kindAt}
-use Rattle.words.specs.Lines.{integer}
-use Rattle.file_format.specs.declared.CellWord.the-variants.{Unknown as unknown, Known as known, Block as block}
+use Rattle.file_format.specs.declared.CellWord.the-variants.{Block as block}
 use Rattle.file_format.specs.declared.Column.the-variants.{Limit as limit, Cycles as cycles, Words as words-column, Extra as extra, Cell as cell}
 use Rattle.file_format.specs.Layout.{list}
-use Rattle.file_format.specs.Rows.{isNumeral, valueOf, value, knownOf, blockOf, spanOf, stop, spanned, hashed, cellWord, isCell, cellInRange, cellPresent, extraCounts, noExtra, extraRange, extrasInRange, columnInRange, columnLaidOut}
-use Rattle.words_inverse.proofs.SpellingLaws.{integer-read}
-use Rattle.words_inverse.proofs.JoinLaws.{Free, split-alone, split-first}
-use Rattle.words_inverse.proofs.LineLaws.{decimal-free}
+use Rattle.file_format.specs.Rows.{isNumeral, valueOf, value, blockOf, hashed, cellWord, isCell, cellInRange, cellPresent, extraCounts, noExtra, extraRange, extrasInRange, columnInRange, columnLaidOut}
+use Rattle.text.proofs.SpellingLaws.{integer-read, decimal-free, integer-free}
+use Rattle.text.proofs.JoinLaws.{Free, split-alone, split-first}
 use Rattle.generate_file.specs.declared.Column.{Column}
 use Rattle.generate_file.specs.declared.Column.the-variants.{Names, Limits, Cycles, Words, Extras, Handles, Known, Open}
 use Rattle.generate_file.specs.Draws.{next}
 use Rattle.generate_file.specs.Words.{numberIn, spread, amount, handleWord, numberWord, openWord, word}
 use Rattle.generate_file.proofs.NumberLaws.{numbers-sound, number-within}
-use Rattle.generate_file.proofs.WordLaws.{Plain, integer-free, amount-under, spaced, rowWords, row-every, plain-word}
+use Rattle.file_format.proofs.CellLaws.{spelt-cell}
+use Rattle.generate_file.proofs.WordLaws.{Plain, amount-under, spaced, rowWords, row-every, plain-word}
 
 -- ---- words with spaces between them
 
@@ -181,33 +180,6 @@ pub record Fit (w : List ℕ) : Type 0 where
   pub laid : isCell (cellWord w) ≡ true
   pub ranged : cellInRange (cellWord w) ≡ true
   pub present : cellPresent 2 (cellWord w) ≡ true
-
-not-spelt : {X : Type 0} (z : ℤ) → misspelt ≡ number z → X
-not-spelt z e = let q : _≡_ {A = ℕ} 0 1 = cc in absurd (omega arith)
-
--- without a full stop it is no range
-past : (w : List ℕ) → getD w (length w) 0 ≡ 0
-past [] = refl
-past (x ∷ w) = past w
-
-spanned-alone : (w : List ℕ) → Free 46 w → spanned w ≡ knownOf (numeral w)
-unfolding spanned
-spanned-alone w h =
-    let e : stop w ≡ length w = ap (λ ws. length (getD ws 0 [])) (split-alone 46 h) in
-    let p : eqb (getD w (stop w) 0) 46 ≡ false = ap (λ (k : ℕ). eqb (getD w k 0) 46) e ∙ ap (λ (b : ℕ). eqb b 46) (past w) in
-    ap (λ (b : Bool). cond (b && eqb (getD w (stop w + 1) 0) 46) (spanOf (numeral (take (stop w) w)) (numeral (drop (stop w + 2) w))) (knownOf (numeral w))) p
-
--- a number is no `?`, no handle and no range
-spelt-cell : (w : List ℕ) (z : ℤ) → Free 46 w → numeral w ≡ number z → cellWord w ≡ known z
-unfolding cellWord hashed knownOf equals numeral natural digitsFrom
-spelt-cell [] z h e = not-spelt z e
-spelt-cell (d ∷ ds) z h e = go (eqb d 63) refl (eqb d 35) refl
-  where
-    go : (a : Bool) → eqb d 63 ≡ a → (b : Bool) → eqb d 35 ≡ b
-        → cond (cond a (equals ds []) false) unknown (cond b (blockOf (numeral ds)) (spanned (d ∷ ds))) ≡ known z
-    go true p b q = not-spelt z (subst (λ x. numeral (x ∷ ds) ≡ number z) (eqb-true d 63 p) e)
-    go false p true q = not-spelt z (subst (λ x. numeral (x ∷ ds) ≡ number z) (eqb-true d 35 q) e)
-    go false p false q = spanned-alone (d ∷ ds) h ∙ ap knownOf e
 
 fit-number : (w : List ℕ) (z : ℤ) → Free 46 w → numeral w ≡ number z → within numbers z ≡ true → Fit w
 unfolding isCell cellInRange cellPresent

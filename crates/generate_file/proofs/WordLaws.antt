@@ -5,23 +5,21 @@ use mathlib.Core.List.{List, [], _∷_, _++_, append-assoc, append-nil}
 use Prim.Native.Nat.{ℕ, zero, suc, _+_, _-_, _*_, _/_, _%_, _<_, _≤_}
 use native.Mathlib.Omega.{arith}
 use lib.Dec.{eqb, leb}
-use lib.IntN.{ℤ, pos, negsuc}
+use lib.IntN.{ℤ, pos}
 use lib.ListN.{length, length-append}
 use borrow.Author.Tests.{leb-true}
 use Rattle.text.specs.Text.{bytes, isEmpty, all}
 use Rattle.text.specs.declared.Numeral.the-variants.{Number as number}
-use Rattle.text.specs.Decimal.{numeral, decimal}
+use Rattle.text.specs.Decimal.{numeral, decimal, integer}
 use Rattle.text.proofs.TextLaws.{Every, none, more, every-append, every-getD, all-every}
 use Rattle.text.proofs.DecimalLaws.{decimal-length, decimal-read}
 use Rattle.numbers.specs.Numbers.{numbers}
 use Rattle.numbers.proofs.SignedLaws.{number-fits}
 use Rattle.instructions.specs.Kinds.{Kind, kinds, kindAt}
-use Rattle.words.specs.Lines.{integer}
-use Rattle.words_import.proofs.IntegerLaws.{integer-length}
-use Rattle.words_inverse.proofs.SpellingLaws.{integer-read}
-use Rattle.words_inverse.proofs.JoinLaws.{Free, text-free}
-use Rattle.words_inverse.proofs.NameLaws.{name-free}
-use Rattle.words_inverse.proofs.LineLaws.{decimal-free}
+use Rattle.text.proofs.IntegerLaws.{integer-length}
+use Rattle.text.proofs.SpellingLaws.{integer-read, decimal-free, integer-free}
+use Rattle.text.proofs.JoinLaws.{Free, text-free}
+use Rattle.instructions.proofs.KindNameLaws.{name-free}
 use Rattle.generate_file.specs.declared.Column.{Column}
 use Rattle.generate_file.specs.declared.Column.the-variants.{Names, Limits, Cycles, Words, Extras, Handles, Known, Open}
 use Rattle.generate_file.specs.Draws.{next}
@@ -42,11 +40,6 @@ spelt-some : (w : List ℕ) (z : ℤ) → numeral w ≡ number z → isEmpty w �
 unfolding numeral
 spelt-some [] z e = let q : _≡_ {A = ℕ} 0 1 = cc in absurd (omega arith)
 spelt-some (d ∷ ds) z e = refl
-
-pub integer-free : (c : ℕ) → (45 ≡ c → ⊥) → c < 48 → (z : ℤ) → Free c (integer z)
-unfolding integer
-integer-free c m h (pos n) = decimal-free c h n
-integer-free c m h (negsuc n) = more {x = 45} m (decimal-free c h (suc n))
 
 pub plain-integer : (z : ℤ) → length (integer z) ≤ 11 → Plain (integer z)
 plain-integer z h = record {

@@ -1,10 +1,10 @@
 -- The file of a seed. (document 02 §11, docs/GENERATOR.md)
 use Rattle.refusals.specs.Library.{ℕ, zero, suc, _+_, _-_, _*_, _/_, _%_, eqb, ltb, leb, getD, Bool, true, false, cond, _&&_, List, [], _∷_, _++_}
-use Rattle.file_format.specs.Terms.{bytes, decimal}
+use Rattle.text.specs.Text.{bytes}
+use Rattle.text.specs.Decimal.{decimal, integer}
 use Rattle.instructions.specs.declared.Argument.{Argument}
 use Rattle.instructions.specs.declared.Argument.the-variants.{Absent, Target, Primitive, Within}
 use Rattle.instructions.specs.Kinds.{kindAt}
-use Rattle.words.specs.Lines.{integer}
 use Rattle.generate_file.specs.declared.Column.{Column}
 use Rattle.generate_file.specs.declared.Column.the-variants.{Names, Limits, Cycles, Words, Extras, Handles, Known, Open}
 use Rattle.generate_file.specs.Draws.{after}

@@ -1,10 +1,10 @@
 -- The words that draws give. (docs/GENERATOR.md)
 use Rattle.refusals.specs.Library.{ℕ, zero, suc, _+_, _/_, _%_, eqb, ℤ, pos, natAbs, _+ℤ_, _-ℤ_, Bool, true, cond, _||_, List, [], _++_}
-use Rattle.file_format.specs.Terms.{bytes, decimal}
 use Rattle.numbers.specs.declared.Range.{Range}
 use Rattle.numbers.specs.Numbers.{numbers}
+use Rattle.text.specs.Text.{bytes}
+use Rattle.text.specs.Decimal.{decimal, integer}
 use Rattle.instructions.specs.Kinds.{kindAt}
-use Rattle.words.specs.Lines.{integer}
 use Rattle.generate_file.specs.declared.Column.{Column}
 use Rattle.generate_file.specs.declared.Column.the-variants.{Names, Limits, Cycles, Words, Extras, Handles, Known, Open}
 use Rattle.generate_file.specs.Draws.{next}

@@ -2,3 +2,4 @@ pub mod Examples
 pub mod ColumnLaws
 pub mod OpcodeLaws
 pub mod NameLaws
+pub mod KindNameLaws

@@ -1,9 +1,9 @@
 -- The 61 instruction kinds as one table. (document 01, Cells and machine)
 use Rattle.refusals.specs.Library.{ℕ, String, ℤ, pos, getD, Bool, true, false, List, [], _∷_, map}
-use Rattle.text.specs.Text.{bytes}
 use Rattle.numbers.specs.Numbers.{naturals, numbers}
 use Rattle.numbers.specs.declared.Range.{Range}
 use Rattle.numbers.specs.declared.Comparison.the-variants.{Equal, Unequal, Less, AtMost, Greater, AtLeast}
+use Rattle.text.specs.Text.{bytes}
 use Rattle.cells.specs.declared.Unary.the-variants.{Offset, Negate, Complement}
 use Rattle.cells.specs.declared.Binary.the-variants.{Add, Subtract, Compare}
 use Rattle.instructions.specs.declared.Argument.{Argument}

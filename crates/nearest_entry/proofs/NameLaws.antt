@@ -25,8 +25,8 @@ use Rattle.file_format.specs.Routine.{cellsOf, blocksInLine, startOf, routineOf
 use Rattle.file_format.proofs.RowLaws.{passes-laid-out, passes-named, lists-path}
 use Rattle.file_format.proofs.RangeLaws.{cells-few, values-counted}
 use Rattle.file_format.proofs.PassingLaws.{fields-total}
-use Rattle.words_inverse.proofs.JoinLaws.{cut-same}
-use Rattle.words_inverse.proofs.LineLaws.{decimal-free}
+use Rattle.text.proofs.JoinLaws.{cut-same}
+use Rattle.text.proofs.SpellingLaws.{decimal-free}
 use Rattle.nearest_changes.specs.declared.Position.{Position}
 use Rattle.nearest_changes.specs.declared.Position.the-variants.{Accu, Entry, Field}
 use Rattle.nearest_changes.specs.Places.{from, fieldsFrom, positions}

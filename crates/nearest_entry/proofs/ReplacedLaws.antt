@@ -9,8 +9,8 @@ use lib.IntN.{ℤ}
 use lib.ListN.{length, getD, set, drop, length-set, length-map, length-drop, length-append, List·getD-append}
 use lib.Seq.{drop-set-lt, drop-set-add, take-set-lt, take-set-le, getD-append-add}
 use borrow.Author.Tests.{eq-eqb, ltb-true, ltb-false, not-true}
-use Rattle.text.specs.Text.{bytes, isEmpty, equals, partedBy, lineWords, Line, lines, all}
-use Rattle.text.specs.Decimal.{digitsFrom, natural, numeral}
+use Rattle.text.specs.Text.{bytes, isEmpty, equals, partedBy, lineWords, Line, lines, all, linesText, joined}
+use Rattle.text.specs.Decimal.{digitsFrom, natural, numeral, integer}
 use Rattle.text.proofs.TextLaws.{Every, none, and-left, and-right, equals-path}
 use Rattle.text.proofs.LineLaws.{endedLine}
 use Rattle.numbers.specs.Numbers.{numbers, IsNumber}
@@ -33,14 +33,11 @@ use Rattle.file_format.specs.Routine.{inside, priceList, codeIn, cellOf, cellsO
 use Rattle.file_format.proofs.RowLaws.{Covered, rest, passed, row-covered, First, passes-laid-out, passes-spaced, passes-range, passes-named, lines-ended, passes-read}
 use Rattle.file_format.proofs.RangeLaws.{inside-is, values-counted}
 use Rattle.file_format.proofs.PassingLaws.{code-some, code-among, fields-total}
-use Rattle.file_format.proofs.LayoutLaws.{list-none, list-words}
-use Rattle.words.specs.Lines.{integer}
-use Rattle.words_inverse.specs.Sections.{linesText, joined}
-use Rattle.words_inverse.proofs.JoinLaws.{Free, split-free, pieces-every, split-joined, joined-every, every-set, lines-free, lines-set, text-set}
-use Rattle.words_inverse.proofs.RowLaws.{covered-row, test-other}
-use Rattle.words_inverse.proofs.ExportedLaws.{role-every}
-use Rattle.words_inverse.proofs.LineLaws.{integer-free}
-use Rattle.words_inverse.proofs.CellLaws.{integer-cell}
+use Rattle.file_format.proofs.LayoutLaws.{list-none, list-words, role-every}
+use Rattle.text.proofs.JoinLaws.{Free, split-free, pieces-every, split-joined, joined-every, every-set, lines-free, lines-set, text-set}
+use Rattle.file_format.proofs.OtherFileLaws.{covered-row, test-other}
+use Rattle.text.proofs.SpellingLaws.{integer-free}
+use Rattle.file_format.proofs.CellLaws.{integer-cell}
 use Rattle.nearest_changes.specs.declared.Position.{Position}
 use Rattle.nearest_changes.specs.declared.Position.the-variants.{Accu, Entry, Field}
 use Rattle.nearest_changes.specs.Places.{replaceAt, from, fieldsFrom}

@@ -58,7 +58,7 @@ fn put_change(out: &mut [u8], change: Change) -> usize
     let p = change.place;
     let a = put_name(out, p);
     let b = text::put(out, a, b" ");
-    let c = words_import::put_integer(out, b, change.value);
+    let c = text::put_integer(out, b, change.value);
     text::put(out, c, b"\n")
 }
 

@@ -3,3 +3,4 @@ pub mod NumberLaws
 pub mod SignedLaws
 pub mod IntegerLaws
 pub mod ResidueLaws
+pub mod MagnitudeLaws

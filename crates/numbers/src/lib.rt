@@ -1,6 +1,6 @@
 // Signed numbers of 31 bits that wrap. The meaning is in specs/.
 ghost use mathlib.Core.Path.{_≡_};
-ghost use lib.IntN.{negℤ, _+ℤ_, _-ℤ_};
+ghost use lib.IntN.{natAbs, negℤ, _+ℤ_, _-ℤ_};
 ghost use Rattle.numbers.specs.Numbers.{wrap, holds, bit, within, numbers, residue, signed};
 
 // "EQ, NEQ, LTINT, LEINT, GTINT, GEINT"
@@ -124,4 +124,15 @@ pub fn word_of(z: i32) -> u32
         return (w + WORDS) as u32;
     }
     w as u32
+}
+
+// How far a number is from 0.
+pub fn magnitude(z: i32) -> u64
+    ensures { λ r. ⌜ r ≡ natAbs z ⌝ }
+{
+    let w = z as i64;
+    if w < 0 {
+        return (-w) as u64;
+    }
+    w as u64
 }

@@ -10,7 +10,7 @@ use lib.Seq.{length-take-le, drop-cons, drop-drop, take-append-seam, getD-take, 
 use borrow.Author.Tests.{lt-ltb, le-ltb, lt-leb, le-leb}
 use Rattle.refusals.specs.declared.Refusal.{Refusal}
 use Rattle.refusals.specs.declared.Refusal.the-variants.{TextLength, BadName}
-use Rattle.text.specs.Text.{bytes, lineWords, Line, noLine, lines}
+use Rattle.text.specs.Text.{bytes, lineWords, Line, noLine, lines, linesText}
 use Rattle.text.specs.Decimal.{numeral}
 use Rattle.text.proofs.TextLaws.{Every, none, more}
 use Rattle.text.proofs.LineLaws.{line-drop}
@@ -24,8 +24,7 @@ use Rattle.file_format.proofs.RowLaws.{laid-out, lines-ended, passes-read}
 use Rattle.file_format.proofs.CodeLaws.{CodeLaidOut, code-laid-out}
 use Rattle.file_format.proofs.CodeLineLaws.{code-take}
 use Rattle.file_format.proofs.PassingLaws.{Coded, none as no-code, next, code-passed, code-among}
-use Rattle.words_inverse.specs.Sections.{linesText}
-use Rattle.words_inverse.proofs.JoinLaws.{lines-append, text-of-lines, words-three}
+use Rattle.text.proofs.JoinLaws.{lines-append, text-of-lines, words-three}
 use Rattle.answers.specs.Answers.{Answer, reported, refused, ofReading, memory, answerOf}
 use Rattle.answers.specs.declared.Answer.the-variants.{Reported, Refused}
 use Rattle.preview_copy.specs.Patch.{inCode, patchedAt, patched}

@@ -8,7 +8,7 @@ use native.Mathlib.Omega.{arith}
 use lib.Dec.{eqb}
 use lib.ListN.{length, getD, set, length-set, length-map}
 use lib.Seq.{drop-set-add, getD-drop}
-use Rattle.text.specs.Text.{bytes, equals, partedBy, lineWords, Line, noLine, lines, all}
+use Rattle.text.specs.Text.{bytes, equals, partedBy, lineWords, Line, noLine, lines, all, linesText}
 use Rattle.text.proofs.TextLaws.{none, every-append, every-left, every-getD}
 use Rattle.text.proofs.LineLaws.{endedLine}
 use Rattle.file_format.specs.declared.Section.{Section}
@@ -20,9 +20,9 @@ use Rattle.file_format.specs.Layout.{layout, isAnswer, body, upToAnswer, pastAn
 use Rattle.file_format.specs.Rows.{at, op, arg, firstAt, value, Passes}
 use Rattle.file_format.specs.Routine.{PriceList, priceList, instructionOf, codeIn, routineOf}
 use Rattle.file_format.proofs.RowLaws.{lines-ended}
-use Rattle.words_inverse.specs.Sections.{linesText}
-use Rattle.words_inverse.proofs.LineLaws.{number-first, decimal-free}
-use Rattle.words_inverse.proofs.JoinLaws.{Free, text-free, split-free, lines-free, lines-set, text-set, split-first}
+use Rattle.file_format.proofs.CodeLineLaws.{number-first}
+use Rattle.text.proofs.SpellingLaws.{decimal-free}
+use Rattle.text.proofs.JoinLaws.{Free, text-free, split-free, lines-free, lines-set, text-set, split-first}
 use Rattle.preview_copy.specs.Patch.{patchedAt}
 use Rattle.preview_copy.specs.Promises.{newInstruction, OneReplaced}
 use Rattle.preview_copy.proofs.PatchLaws.{CodeLine, InCode, line-there, line-coded}

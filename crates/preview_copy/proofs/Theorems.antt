@@ -12,15 +12,14 @@ use Rattle.cells.specs.Try.{stuck, done}
 use Rattle.machine.specs.Lists.{nth}
 use Rattle.machine.specs.Machine.{Instruction, fetch}
 use Rattle.machine.proofs.FetchLaws.{from-first, fetch-below}
-use Rattle.text.specs.Text.{bytes, Line, noLine, lines}
+use Rattle.text.specs.Text.{bytes, Line, noLine, lines, linesText}
 use Rattle.text.proofs.TextLaws.{Every, none, more, and-left, and-right}
 use Rattle.text.proofs.LineLaws.{endedLine}
 use Rattle.file_format.specs.Layout.{layout, body, codeLines}
 use Rattle.file_format.specs.Rows.{op, arg}
 use Rattle.file_format.specs.Routine.{Routine, codeIn, routineOf}
 use Rattle.file_format.proofs.RowLaws.{read-passes, lines-ended}
-use Rattle.words_inverse.specs.Sections.{linesText}
-use Rattle.words_inverse.proofs.JoinLaws.{text-of-lines}
+use Rattle.text.proofs.JoinLaws.{text-of-lines}
 use Rattle.preview_copy.specs.Patch.{inCode, patchedAt, patched}
 use Rattle.preview_copy.specs.Promises.{InCodeWhere, CopyReplacesOne, SameInstructionKeeps}
 use Rattle.preview_copy.proofs.PatchLaws.{code-count, line-there, line-coded}

@@ -1,11 +1,10 @@
 -- A routine file with one instruction replaced. (document 02 §10)
 use Rattle.refusals.specs.Library.{ℕ, suc, _+_, _-_, ltb, leb, length, getD, take, drop, Bool, _&&_, List, _++_}
-use Rattle.text.specs.Text.{bytes, Line, noLine}
+use Rattle.text.specs.Text.{bytes, Line, noLine, linesText}
 use Rattle.machine.specs.Machine.{Code}
 use Rattle.file_format.specs.Layout.{layout}
 use Rattle.file_format.specs.Rows.{at}
 use Rattle.file_format.specs.Routine.{codeIn}
-use Rattle.words_inverse.specs.Sections.{linesText}
 
 -- whether an address is one of the code
 unfoldable pub inCode : Code → ℕ → Bool

@@ -4,8 +4,8 @@ use Rattle.refusals.specs.Library.{ℕ, zero, suc, eqb, ltb, ℤ, length, getD,
 use Rattle.answers.specs.Terms.{TextLength, Layout, OutOfRange, BadName, bytes, Line, lines, lineWords, isEmpty, equals, find, numeral, RefusedLine, line}
 use Rattle.refusals.specs.declared.Acceptance.{Acceptance}
 use Rattle.refusals.specs.declared.Acceptance.the-variants.{Accepted as accepted, Refused as refused}
-use Rattle.text.specs.Text.{among}
 use Rattle.numbers.specs.Numbers.{within, numbers}
+use Rattle.text.specs.Text.{among}
 use Rattle.file_format.specs.Rows.{isNumeral, value}
 use Rattle.file_format.specs.Routine.{inside}
 use Rattle.file_format.specs.declared.RefusedLine.the-variants.{Line as line}

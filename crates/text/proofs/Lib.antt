@@ -5,5 +5,8 @@ pub mod LineLaws
 pub mod DecimalLaws
 pub mod NumeralLaws
 pub mod ClampLaws
+pub mod JoinLaws
+pub mod SpellingLaws
+pub mod IntegerLaws
 pub mod MemoryLaws
 pub mod PlaceLaws

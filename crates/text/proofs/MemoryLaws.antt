@@ -85,3 +85,11 @@ wrote-more {d} {r} {o} {at} {e} w t {e′} {o′} p = record {
 -- what is written from the start on stands before what the memory held there
 pub wrote-start : {d r o : List ℕ} {e : ℕ} → Wrote d 0 r e o → (e ≡ length r) × (o ≡ r ++ drop (length r) d)
 wrote-start {d} {r} w = let z : 0 + length r ≡ length r = omega arith in (w .ends ∙ z, w .holds ∙ ap (λ (n : ℕ). r ++ drop n d) z)
+
+-- ---- a text that is put, by another name
+
+pub room-as : {t u : List ℕ} {n : ℕ} (at : ℕ) → t ≡ u → at + length t ≤ n → at + length u ≤ n
+room-as at e h = rw e at h
+
+pub put-as : {t u o : List ℕ} {e : ℕ} (d : List ℕ) (at : ℕ) → t ≡ u → (e ≡ at + length u) × (o ≡ over d at u) → (e ≡ at + length t) × (o ≡ over d at t)
+put-as d at q p = (p .0 ∙ ap (λ x. at + length x) (sym q), p .1 ∙ ap (over d at) (sym q))

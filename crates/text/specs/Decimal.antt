@@ -1,6 +1,6 @@
 -- "Numbers are decimal, no leading zero, no `-0`." (document 01, The routine file)
-use Rattle.refusals.specs.Library.{ℕ, zero, suc, _+_, _-_, _*_, _/_, _%_, eqb, ltb, leb, pos, negsuc, Bool, true, false, cond, List, [], _∷_, _++_, _≡_}
-use Rattle.text.specs.Text.{isEmpty}
+use Rattle.refusals.specs.Library.{ℕ, zero, suc, _+_, _-_, _*_, _/_, _%_, eqb, ltb, leb, ℤ, pos, negsuc, Bool, true, false, cond, List, [], _∷_, _++_, _≡_}
+use Rattle.text.specs.Text.{bytes, isEmpty}
 use Rattle.text.specs.declared.Numeral.{Numeral}
 use Rattle.text.specs.declared.Numeral.the-variants.{Misspelt as misspelt, Number as number}
 
@@ -39,6 +39,11 @@ digits (suc fuel) false n = digits fuel (ltb (n / 10) 10) (n / 10) ++ ((48 + n %
 -- n in decimal; the fuel is enough, since n has at most n + 1 digits
 unfoldable pub decimal : ℕ → List ℕ
 decimal n = let m = n in digits (suc m) (ltb m 10) m
+
+-- an integer in decimal
+unfoldable pub integer : ℤ → List ℕ
+integer (pos n) = decimal n
+integer (negsuc n) = bytes "-" ++ decimal (suc n)
 
 -- reading a decimal number that was written gives it back
 abbrev pub WrittenReadsBack : Type 0

@@ -1,6 +1,6 @@
 -- A text is the list of its bytes. Lines end in a line feed (byte 10), and words are parted by one space (byte 32).
 -- Nothing here knows how long a text may be.
-use Rattle.refusals.specs.Library.{ℕ, suc, String, eqb, Bool, true, false, cond, not, _&&_, List, [], _∷_}
+use Rattle.refusals.specs.Library.{ℕ, suc, String, eqb, Bool, true, false, cond, not, _&&_, List, [], _∷_, _++_}
 use Prim.Native.Char.{code}
 use Prim.Native.String.{[] as ends, _∷_ as _then_}
 use Rattle.text.specs.declared.Lookup.{Lookup}
@@ -34,6 +34,12 @@ unfoldable pub partedBy : ℕ → List ℕ → List (List ℕ)
 partedBy c [] = [] ∷ []
 partedBy c (x ∷ xs) = cond (eqb x c) ([] ∷ partedBy c xs) (onto x (partedBy c xs))
 
+-- pieces with the byte c between them
+unfoldable pub joined : ℕ → List (List ℕ) → List ℕ
+joined c [] = []
+joined c (w ∷ []) = w
+joined c (w ∷ v ∷ ws) = w ++ c ∷ joined c (v ∷ ws)
+
 -- "words are parted by one space": an empty word shows a space too many
 unfoldable pub lineWords : List ℕ → List (List ℕ)
 lineWords line = partedBy 32 line
@@ -56,6 +62,11 @@ linesOf (p ∷ q ∷ ps) = record { text = p; ended = true } ∷ linesOf (q ∷ 
 -- "Each line ends in a line feed"
 unfoldable pub lines : List ℕ → List Line
 lines text = linesOf (partedBy 10 text)
+
+-- the bytes of lines that each end in a line feed
+unfoldable pub linesText : List Line → List ℕ
+linesText [] = []
+linesText (l ∷ ls) = l .text ++ bytes "\n" ++ linesText ls
 
 -- where the first of the given words is w, counted from k, if it is one of them
 abbrev pub placeFrom : ℕ → List ℕ → List (List ℕ) → Place

@@ -4,7 +4,7 @@ ghost use mathlib.Core.List.{[]};
 ghost use mathlib.Core.Path.{_≡_};
 ghost use Rattle.text.specs.Text.{equals, partedBy, lineWords, lines, noLine, lookup, indexOf, among};
 ghost use Prim.Native.Nat.{suc, _+_, _-_, _*_, _≤_, min};
-ghost use Rattle.text.specs.Decimal.{digitsFrom, natural, negative, numeral, decimal};
+ghost use Rattle.text.specs.Decimal.{digitsFrom, natural, negative, numeral, decimal, integer};
 ghost use Rattle.text.specs.HeldMagnitude.{most, clamped, held, toNumeral};
 ghost use Rattle.text.specs.Memory.{over};
 
@@ -346,4 +346,17 @@ pub fn put_decimal(out: &mut [u8], at: usize, n: u64) -> usize
     let e = put_decimal(out, at, n / 10);
     out[e] = 48 + (n % 10) as u8;
     e + 1
+}
+
+// Puts an integer in decimal over out from `at` on, and answers where it ends.
+pub fn put_integer(out: &mut [u8], at: usize, z: i32) -> usize
+    requires { ⌜ at + length (integer z) ≤ length (now out) ⌝ }
+    ensures { λ r. ⌜ r ≡ at + length (integer z) ⌝ }
+    ensures { λ _. ⌜ now (out .exit) ≡ over (now (out .entry)) at (integer z) ⌝ }
+{
+    if z < 0 {
+        let e = put(out, at, b"-");
+        return put_decimal(out, e, numbers::magnitude(z));
+    }
+    put_decimal(out, at, numbers::magnitude(z))
 }

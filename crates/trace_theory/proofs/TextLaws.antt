@@ -8,7 +8,7 @@ use lib.IntN.{pos, natAbs}
 use lib.ListN.{length, getD, drop, length-append}
 use borrow.Author.Tests.{lt-ltb, le-leb, leb-true}
 use Rattle.refusals.specs.declared.Acceptance.the-variants.{Accepted}
-use Rattle.text.specs.Text.{bytes, equals, lineWords, Line, lines, all}
+use Rattle.text.specs.Text.{bytes, equals, lineWords, Line, lines, all, linesText}
 use Rattle.text.specs.Decimal.{numeral, decimal}
 use Rattle.text.proofs.TextLaws.{Every, none, more, every-append, every-map, cond-left}
 use Rattle.text.proofs.LineLaws.{endedLine}
@@ -19,8 +19,7 @@ use Rattle.file_format.specs.declared.RefusedLine.the-variants.{Nowhere as nowh
 use Rattle.file_format.specs.Rows.{isNumeral, valueOf, value, at}
 use Rattle.file_format.specs.Routine.{naturalIn}
 use Rattle.file_format.proofs.RangeLaws.{inside-is}
-use Rattle.words_inverse.specs.Sections.{linesText}
-use Rattle.words_inverse.proofs.JoinLaws.{Free, text-free, split-alone, split-first, lines-of-text}
+use Rattle.text.proofs.JoinLaws.{Free, text-free, split-alone, split-first, lines-of-text}
 use Rattle.replay_trace.specs.Traces.{entryLimit, cycleRange, Entry, recordedCycles, entryLaidOut, textLaidOut, lineLaidOut, entryInRange, textInRange, lineInRange, earliest, traceAcceptance, entryOf, entries}
 use Rattle.replay_trace.proofs.TraceLaws.{check-accepted}
 use Rattle.trace_theory.specs.Trace.{entryText, entriesText, traceNames, traceText}

@@ -59,5 +59,5 @@ Examples =
     × (importVerdict (published) (text.bytes "READ\n-") ≡ Refused (Layout 1))
 
 pub examples : Examples
-unfolding published text.equals text.partedBy text.lineWords text.linesOf text.lines decimals.digits decimals.decimal table.kinds table.opcodes table.kindAt opcodes.placeFrom opcodes.kindCoded layout.list words.wordsOf words.bytesOf words.allBytes decoding.coded decoding.decodedWords decoding.decoded decoding.items decoding.numberAt lines.integer lines.argumentText lines.lineText lines.linesFrom lines.codeText import-of.primitivesOf import-of.importText op decoding.sizeOf export-of.positions export-of.argumentWord export-of.itemsFrom export-of.itemWords export-of.wordsIn export-of.exportOps text.among text.all text.distinct rows.isName rows.namesLaidOut rows.wellNamed decoding.isPlace decoding.callListed decoding.faultFrom decoding.wordFault decoding.lands decoding.offsetFault decoding.orOffsets decoding.codeFault import-of.lineLaidOut import-of.lineVerdict import-of.oneLine import-of.primitivesVerdict import-of.faultVerdict import-of.both import-of.importVerdict
+unfolding published text.equals text.partedBy text.lineWords text.linesOf text.lines decimals.digits decimals.decimal table.kinds table.opcodes table.kindAt opcodes.placeFrom opcodes.kindCoded layout.list words.wordsOf words.bytesOf words.allBytes decoding.coded decoding.decodedWords decoding.decoded decoding.items decoding.numberAt decimals.integer lines.argumentText lines.lineText lines.linesFrom lines.codeText import-of.primitivesOf import-of.importText op decoding.sizeOf export-of.positions export-of.argumentWord export-of.itemsFrom export-of.itemWords export-of.wordsIn export-of.exportOps text.among text.all text.distinct rows.isName rows.namesLaidOut rows.wellNamed decoding.isPlace decoding.callListed decoding.faultFrom decoding.wordFault decoding.lands decoding.offsetFault decoding.orOffsets decoding.codeFault import-of.lineLaidOut import-of.lineVerdict import-of.oneLine import-of.primitivesVerdict import-of.faultVerdict import-of.both import-of.importVerdict
 examples = (refl, refl, refl, refl, refl, refl, refl, refl, refl, refl, refl, refl, refl)

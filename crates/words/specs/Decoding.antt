@@ -1,8 +1,8 @@
 -- The instructions that words hold, with their positions, and what is wrong with words: refusal 12. (document 02, §2)
 use Rattle.refusals.specs.Library.{ℕ, suc, ltb, ℤ, pos, negsuc, _+ℤ_, Bool, true, false, cond, List, [], _∷_, map}
+use Rattle.numbers.specs.Numbers.{signed}
 use Rattle.text.specs.declared.Place.{Place}
 use Rattle.text.specs.declared.Place.the-variants.{At as at, Missing as missing}
-use Rattle.numbers.specs.Numbers.{signed}
 use Rattle.instructions.specs.declared.Argument.{Argument}
 use Rattle.instructions.specs.declared.Argument.the-variants.{Absent, Target, Primitive, Within}
 use Rattle.instructions.specs.Kinds.{kindAt}

@@ -1,7 +1,7 @@
 -- What an export makes of code lines: the inverse of the import. (document 02, §2)
 use Rattle.refusals.specs.Library.{ℕ, suc, _+_, ℤ, pos, natAbs, _-ℤ_, getD, cond, List, [], _∷_, _++_, map}
-use Rattle.text.specs.Text.{Line, find}
 use Rattle.numbers.specs.Numbers.{residue}
+use Rattle.text.specs.Text.{Line, find}
 use Rattle.instructions.specs.Kinds.{kindNames, kindAt}
 use Rattle.instructions.specs.declared.Argument.{Argument}
 use Rattle.instructions.specs.declared.Argument.the-variants.{Absent, Target, Primitive, Within}
@@ -10,6 +10,8 @@ use Rattle.file_format.specs.declared.Role.the-variants.{Names as names}
 use Rattle.file_format.specs.Layout.{body, codeLines, listed}
 use Rattle.file_format.specs.Rows.{op, arg}
 use Rattle.file_format.specs.Routine.{argumentValue, firstAddress}
+use Rattle.file_format.specs.declared.Section.the-variants.{Primitives as primitives}
+use Rattle.file_format.specs.declared.Role.the-variants.{Names as names}
 use Rattle.file_format.specs.declared.Section.the-variants.{Primitives as primitives}
 use Rattle.file_format.specs.declared.Role.the-variants.{Names as names}
 use Rattle.words.specs.Words.{wordBits, allBytes}

@@ -1,8 +1,8 @@
 -- What the code holds of words: the instruction at their head, and for each index the instruction whose opcode stands there.
 use Rattle.refusals.specs.Library.{ℕ, ltb, ℤ, pos, negsuc, getD, Bool, true, cond, List, [], _∷_, map, _≡_}
+use Rattle.numbers.specs.Numbers.{signed}
 use Rattle.text.specs.declared.Place.{Place}
 use Rattle.text.specs.declared.Place.the-variants.{At as at, Missing as missing}
-use Rattle.numbers.specs.Numbers.{signed}
 use Rattle.instructions.specs.declared.Argument.{Argument}
 use Rattle.instructions.specs.declared.Argument.the-variants.{Absent, Target, Primitive, Within}
 use Rattle.instructions.specs.Kinds.{kindAt}

@@ -1,16 +1,11 @@
 -- The lines that an import makes: "the AT lines under their names line, from address 0". (document 02, §2)
-use Rattle.refusals.specs.Library.{ℕ, suc, ℤ, pos, negsuc, natAbs, getD, List, [], _∷_, _++_}
+use Rattle.refusals.specs.Library.{ℕ, suc, natAbs, getD, List, [], _∷_, _++_}
 use Rattle.text.specs.Text.{bytes, indexOf}
-use Rattle.text.specs.Decimal.{decimal}
+use Rattle.text.specs.Decimal.{decimal, integer}
 use Rattle.instructions.specs.declared.Argument.{Argument}
 use Rattle.instructions.specs.declared.Argument.the-variants.{Absent, Target, Primitive, Within}
 use Rattle.instructions.specs.Kinds.{kindAt}
 use Rattle.words.specs.Decoding.{Item, landing, numberAt}
-
--- an integer in decimal
-unfoldable pub integer : ℤ → List ℕ
-integer (pos n) = decimal n
-integer (negsuc n) = bytes "-" ++ decimal (suc n)
 
 -- ARG, where ps are the primitives and xs all instructions: the address of a target, the name of a primitive, a number
 unfoldable pub argumentText : List (List ℕ) → List Item → Item → Argument → List ℕ

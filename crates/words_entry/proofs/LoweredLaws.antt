@@ -9,7 +9,7 @@ use lib.IntN.{ℤ, pos}
 use lib.ListN.{length, getD, take, drop, length-drop}
 use lib.Seq.{length-take-le, drop-drop, drop-append-add, take-at}
 use borrow.Author.Tests.{le-leb}
-use Rattle.text.specs.Text.{bytes, equals, partedBy, lineWords, Line, lines, find, all, distinct}
+use Rattle.text.specs.Text.{bytes, equals, partedBy, lineWords, Line, lines, find, all, distinct, linesText}
 use Rattle.text.specs.Decimal.{decimal}
 use Rattle.text.proofs.TextLaws.{Every, none, more, every-append, every-getD, all-every, and-right}
 use Rattle.text.proofs.LineLaws.{endedLine}
@@ -28,15 +28,16 @@ use Rattle.file_format.specs.Layout.{section, layout, isAnswer, body, upToAnswe
 use Rattle.file_format.specs.Rows.{isNumeral, isTarget, value, valueOf, op, arg, isName, wellNamed, named, extraCounts, firstAt, Passes}
 use Rattle.file_format.specs.Routine.{inside, naturalAt, PriceList, priceList, prices, argumentValue, instructionOf, firstAddress, codeIn, startOf, routineOf}
 use Rattle.file_format.proofs.RowLaws.{passes-named, lines-ended}
-use Rattle.file_format.proofs.RangeLaws.{inside-is}
+use Rattle.file_format.proofs.RangeLaws.{inside-is, number-within}
 use Rattle.file_format.proofs.PassingLaws.{code-some, code-few, code-among}
 use Rattle.file_format.proofs.AnswerLaws.{first-code}
 use Rattle.words.specs.Export.{Op, relative, opOf, exportOps, exportBytes}
-use Rattle.words_inverse.specs.Sections.{linesText, linesBefore, sectionLength, replaced}
-use Rattle.words_inverse.proofs.JoinLaws.{Free, text-free, split-alone, split-first, split-free, lines-append, lines-free, lines-of-text, ended-lines}
-use Rattle.words_inverse.proofs.SpellingLaws.{integer-read}
-use Rattle.words_inverse.proofs.NameLaws.{kind-found, name-found, name-free}
-use Rattle.words_inverse.proofs.LineLaws.{Argued, absent, target, primitive, within-range, Says, LowerLine, number-within, number-first, decimal-free, argued-free}
+use Rattle.words_inverse.specs.Sections.{linesBefore, sectionLength, replaced}
+use Rattle.text.proofs.JoinLaws.{Free, text-free, split-alone, split-first, split-free, lines-append, lines-free, lines-of-text, ended-lines}
+use Rattle.text.proofs.SpellingLaws.{integer-read, decimal-free}
+use Rattle.instructions.proofs.KindNameLaws.{kind-found, name-found, name-free}
+use Rattle.words_inverse.proofs.LineLaws.{Argued, absent, target, primitive, within-range, Says, LowerLine, argued-free}
+use Rattle.file_format.proofs.CodeLineLaws.{number-first}
 use Rattle.words_inverse.proofs.ImportedLaws.{Said, end, next}
 use Rattle.words_inverse.proofs.ExportedLaws.{Lower, ends, follows, lower-said, names-free, ops, counted, ops-numbers, file-lower}
 use Rattle.words_inverse.proofs.RestoredLaws.{every-take, every-drop, first-said, said-length}

@@ -25,9 +25,10 @@ use Rattle.words.specs.Decoding.{Item, decoded, items}
 use Rattle.words.specs.Import.{primitivesOf, importVerdict, importText}
 use Rattle.words.specs.Export.{Op, relative, opOf}
 use Rattle.words_inverse.specs.Sections.{codeSection}
-use Rattle.words_inverse.proofs.JoinLaws.{split-first}
-use Rattle.words_inverse.proofs.LineLaws.{Says, decimal-free}
-use Rattle.words_inverse.proofs.NameLaws.{name-free}
+use Rattle.text.proofs.JoinLaws.{split-first}
+use Rattle.words_inverse.proofs.LineLaws.{Says}
+use Rattle.text.proofs.SpellingLaws.{decimal-free}
+use Rattle.instructions.proofs.KindNameLaws.{name-free}
 use Rattle.words_inverse.proofs.ImportedLaws.{Said, end, next}
 use Rattle.words_inverse.proofs.WrittenLaws.{valueSaid, opSaid}
 use Rattle.words_inverse.proofs.RestoredLaws.{said-again, begins, same-ops}

@@ -9,7 +9,7 @@ use lib.Dec.{eqb, leb, ltb}
 use lib.IntN.{pos, _+ℤ_}
 use lib.ListN.{length, getD, take, drop, length-append}
 use borrow.Author.Tests.{eq-eqb, le-leb, lt-ltb, leb-true, ltb-true, not-true}
-use Rattle.text.specs.Text.{bytes, isEmpty, equals, partedBy, lineWords, Line, lines, placeAmong, among, all}
+use Rattle.text.specs.Text.{bytes, isEmpty, equals, partedBy, lineWords, Line, lines, placeAmong, among, all, linesText}
 use Rattle.text.specs.declared.Numeral.the-variants.{Number as number}
 use Rattle.text.specs.Decimal.{numeral, decimal}
 use Rattle.text.proofs.TextLaws.{Every, none, more, every-map, all-every, and-left, and-right, equals-path}
@@ -34,11 +34,12 @@ use Rattle.file_format.proofs.CodeLaws.{code-laid-out, on-kind}
 use Rattle.file_format.proofs.PassingLaws.{Coded, covered-body, code-passed, first-natural}
 use Rattle.file_format.proofs.PassingLaws as coded
 use Rattle.words.specs.Export.{opOf}
-use Rattle.words_inverse.specs.Sections.{linesText, linesBefore, replaced}
-use Rattle.words_inverse.proofs.JoinLaws.{Free, split-alone, split-first}
-use Rattle.words_inverse.proofs.NameLaws.{name-free}
-use Rattle.words_inverse.proofs.RowLaws.{covered-row, isCode, test-other}
-use Rattle.words_inverse.proofs.LineLaws.{LowerWord, kept, moved, LowerLine, decimal-free, argued-free}
+use Rattle.words_inverse.specs.Sections.{linesBefore, replaced}
+use Rattle.text.proofs.JoinLaws.{Free, split-alone, split-first}
+use Rattle.instructions.proofs.KindNameLaws.{name-free}
+use Rattle.file_format.proofs.OtherFileLaws.{covered-row, isCode, test-other}
+use Rattle.words_inverse.proofs.LineLaws.{LowerWord, kept, moved, LowerLine, argued-free}
+use Rattle.text.proofs.SpellingLaws.{decimal-free}
 use Rattle.words_inverse.proofs.FileLaws.{section-text, replaced-whole}
 use Rattle.words_inverse.proofs.ExportedLaws.{Lower, ends, follows}
 use Rattle.words_entry.proofs.LoweredLaws.{front, said-code}

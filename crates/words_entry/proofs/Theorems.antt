@@ -11,7 +11,7 @@ use borrow.Author.Tests.{ltb-true, ltb-false, le-ltb}
 use Rattle.refusals.specs.declared.Refusal.the-variants.{ReportMemory, Layout, BadName, BadWord}
 use Rattle.refusals.specs.declared.Acceptance.{Acceptance}
 use Rattle.refusals.specs.declared.Acceptance.the-variants.{Accepted, Refused}
-use Rattle.text.specs.Text.{Line, lines}
+use Rattle.text.specs.Text.{Line, lines, linesText}
 use Rattle.text.specs.declared.Place.{Place}
 use Rattle.text.specs.declared.Place.the-variants.{At, Missing}
 use Rattle.text.proofs.TextLaws.{every-map, all-every}
@@ -28,7 +28,7 @@ use Rattle.words.specs.Decoding.{codeFault}
 use Rattle.words.specs.Import.{lineLaidOut, lineVerdict, oneLine, primitivesVerdict, primitivesOf, faultVerdict, both, importVerdict, importText}
 use Rattle.words_import.proofs.ImportLaws.{import-next, import-line, import-sound}
 use Rattle.words.specs.Export.{exportBytes}
-use Rattle.words_inverse.specs.Sections.{linesText, replaced, primitivesLine}
+use Rattle.words_inverse.specs.Sections.{replaced, primitivesLine}
 use Rattle.words_inverse.proofs.FileLaws.{replaced-whole}
 use Rattle.words_inverse.proofs.ExportedLaws.{export-imported, export-text, words-imported, words-text}
 use Rattle.words_inverse.proofs.RestoredLaws.{import-exported}

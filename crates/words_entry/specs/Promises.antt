@@ -5,6 +5,7 @@ use Rattle.answers.specs.Terms.{listed, body, Routine, routine, readBound, read
 use Rattle.refusals.specs.declared.Acceptance.the-variants.{Accepted as accepted}
 use Rattle.refusals.specs.declared.Acceptance.the-variants.{Accepted as accepted}
 use Rattle.refusals.specs.declared.Acceptance.the-variants.{Accepted as accepted}
+use Rattle.refusals.specs.declared.Acceptance.the-variants.{Accepted as accepted}
 use Rattle.merge_theory.specs.Merge.{merged}
 use Rattle.file_format.specs.Routine.{firstAddress}
 use Rattle.file_format.specs.declared.Section.the-variants.{Primitives as primitives}

@@ -29,7 +29,7 @@ use Rattle.words.specs.Held.{Readable}
 use Rattle.words.proofs.FaultLaws.{sound-item}
 use Rattle.words.proofs.IndexLaws.{Spaced, none, unread, next, decoded-spaced, items-few}
 use Rattle.words_import.specs.HeldLines.{ShortNames}
-use Rattle.words_import.proofs.IntegerLaws.{integer-length}
+use Rattle.text.proofs.IntegerLaws.{integer-length}
 use Rattle.words_import.proofs.LineLaws.{parts-length}
 
 -- ---- `1023 PUSHCONSTINT -2147483648` and a line feed are 30 bytes

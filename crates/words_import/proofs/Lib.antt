@@ -1,4 +1,3 @@
-pub mod IntegerLaws
 pub mod LineLaws
 pub mod LengthLaws
 pub mod WritingLaws

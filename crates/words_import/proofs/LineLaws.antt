@@ -1,28 +1,18 @@
 -- Laws of a line of code as it is written: its ARG by what the kind takes, and how long it is. Assumes nothing.
 use mathlib.Core.Path.{_≡_, refl, sym, ap, _∙_}
 use mathlib.Core.List.{List, [], _++_}
-use Prim.Native.Nat.{ℕ, suc, _+_, _≤_}
+use Prim.Native.Nat.{ℕ, suc, _+_}
 use native.Mathlib.Omega.{arith}
 use lib.IntN.{ℤ, pos, natAbs, _+ℤ_}
 use lib.ListN.{length, getD, length-append}
 use Rattle.numbers.specs.declared.Range.{Range}
 use Rattle.text.specs.Text.{bytes, indexOf}
-use Rattle.text.specs.Decimal.{decimal}
-use Rattle.text.specs.Memory.{over}
+use Rattle.text.specs.Decimal.{decimal, integer}
 use Rattle.instructions.specs.declared.Argument.{Argument}
 use Rattle.instructions.specs.declared.Argument.the-variants.{Absent, Target, Primitive, Within}
 use Rattle.text.specs.declared.Place.{Place}
-use Rattle.words.specs.Lines.{integer}
 use Rattle.words.specs.Held.{numberIn}
 use Rattle.words_import.specs.HeldLines.{argumentIn}
-
--- ---- a text that is put, by another name
-
-pub room-as : {t u : List ℕ} {n : ℕ} (at : ℕ) → t ≡ u → at + length t ≤ n → at + length u ≤ n
-room-as at e h = rw e at h
-
-pub put-as : {t u o : List ℕ} {e : ℕ} (d : List ℕ) (at : ℕ) → t ≡ u → (e ≡ at + length u) × (o ≡ over d at u) → (e ≡ at + length t) × (o ≡ over d at t)
-put-as d at q p = (p .0 ∙ ap (λ x. at + length x) (sym q), p .1 ∙ ap (over d at) (sym q))
 
 -- ---- ARG
 

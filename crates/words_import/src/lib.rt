@@ -9,7 +9,6 @@ use text::Place;
 use words::Head;
 ghost use mathlib.Core.Path.{_≡_};
 ghost use Prim.Native.Nat.{_+_, _*_, _≤_, _<_};
-ghost use lib.IntN.{natAbs};
 ghost use mathlib.Core.List.{_++_};
 ghost use lib.ListN.{length, drop};
 ghost use Rattle.text.specs.Memory.{over};
@@ -17,35 +16,11 @@ ghost use Rattle.instructions.specs.Kinds.{kindAt};
 ghost use Rattle.file_format.specs.Layout.{list};
 ghost use Rattle.words.specs.Words.{wordsOf};
 ghost use Rattle.words.specs.Decoding.{decoded, items, codeFault};
-ghost use Rattle.words.specs.Lines.{integer, linesFrom, codeText};
+ghost use Rattle.words.specs.Lines.{linesFrom, codeText};
 ghost use Rattle.words.specs.Import.{lineVerdict, primitivesVerdict, faultVerdict, importVerdict, importText};
 ghost use Rattle.refusals.specs.declared.Acceptance.the-variants.{Accepted};
 ghost use Rattle.words.specs.Held.{Readable, Numbered};
 ghost use Rattle.words_import.specs.HeldLines.{argumentIn, lineIn, ShortNames};
-
-// How far a number is from 0.
-fn magnitude(z: i32) -> u64
-    ensures { λ r. ⌜ r ≡ natAbs z ⌝ }
-{
-    let w = z as i64;
-    if w < 0 {
-        return (-w) as u64;
-    }
-    w as u64
-}
-
-// Puts an integer in decimal over out from `at` on, and answers where it ends.
-pub fn put_integer(out: &mut [u8], at: usize, z: i32) -> usize
-    requires { ⌜ at + length (integer z) ≤ length (now out) ⌝ }
-    ensures { λ r. ⌜ r ≡ at + length (integer z) ⌝ }
-    ensures { λ _. ⌜ now (out .exit) ≡ over (now (out .entry)) at (integer z) ⌝ }
-{
-    if z < 0 {
-        let e = text::put(out, at, b"-");
-        return text::put_decimal(out, e, magnitude(z));
-    }
-    text::put_decimal(out, at, magnitude(z))
-}
 
 // Puts ARG over out from `at` on, and answers where it ends.
 fn put_argument(
@@ -68,10 +43,10 @@ fn put_argument(
             text::put_decimal(out, at, n as u64)
         }
         Argument::Primitive => {
-            let name = layout::listed_at(primitives, magnitude(argument) as usize);
+            let name = layout::listed_at(primitives, numbers::magnitude(argument) as usize);
             text::put(out, at, name)
         }
-        Argument::Within(_) => put_integer(out, at, argument),
+        Argument::Within(_) => text::put_integer(out, at, argument),
     }
 }
 

@@ -10,24 +10,24 @@ use lib.IntN.{pos, negsuc, natAbs, _-ℤ_}
 use lib.ListN.{length, length-map}
 use borrow.Author.Tests.{leb-true}
 use Rattle.refusals.specs.declared.Acceptance.the-variants.{Accepted as accepted}
-use Rattle.text.specs.Text.{bytes, isEmpty, equals, partedBy, lineWords, Line, linesOf, lines, placeAmong, indexOf, find, all}
+use Rattle.text.specs.Text.{bytes, isEmpty, equals, partedBy, lineWords, Line, linesOf, lines, placeAmong, indexOf, find, all, linesText}
 use Rattle.text.specs.declared.Place.{Place}
 use Rattle.text.specs.declared.Place.the-variants.{At as at, Missing as missing}
-use Rattle.text.proofs.TextLaws.{Every, none, more, place-below}
+use Rattle.text.proofs.TextLaws.{Every, none, place-below}
 use Rattle.text.proofs.LineLaws.{endedLine, unendedLine}
 use Rattle.numbers.specs.Numbers.{IsNumber, numbers}
 use Rattle.instructions.specs.Kinds.{addresses, kindNames, kindAt}
 use Rattle.instructions.specs.declared.Argument.{Argument}
 use Rattle.instructions.specs.declared.Argument.the-variants.{Absent, Target, Primitive, Within}
 use Rattle.file_format.specs.declared.Section.the-variants.{Primitives as primitives}
-use Rattle.file_format.specs.declared.Role.{Role}
 use Rattle.file_format.specs.declared.Role.the-variants.{Names as names}
 use Rattle.file_format.specs.declared.Row.the-variants.{Layout as layout-row, Range as range-row, Name as name-row, Target as target-row}
-use Rattle.file_format.specs.Layout.{layout, body, codeLines, isRole, list, textAt, listed}
+use Rattle.file_format.specs.Layout.{layout, body, codeLines, list, listed}
 use Rattle.file_format.specs.Rows.{value, op, arg, namesLaidOut, laidOut, named, firstAt, test, Passes}
 use Rattle.file_format.specs.Routine.{inside, argumentValue, firstAddress}
+use Rattle.file_format.proofs.LayoutLaws.{role-every}
 use Rattle.file_format.proofs.RowLaws.{passes-laid-out, passes-spaced, passes-named}
-use Rattle.file_format.proofs.RangeLaws.{natural-inside, inside-keeps, every-mapped}
+use Rattle.file_format.proofs.RangeLaws.{natural-inside, inside-keeps, every-mapped, argument-number}
 use Rattle.file_format.proofs.PassingLaws.{Coded, code-passed, code-some, code-few, first-natural, first-small}
 use Rattle.file_format.proofs.PassingLaws as coded
 use Rattle.words.specs.Words.{wordsOf, allBytes}
@@ -38,10 +38,10 @@ use Rattle.words.specs.Export.{Op, relative, opOf, wordsIn, exportOps, exportBy
 use Rattle.words.proofs.FaultLaws.{fault-starts}
 use Rattle.words.proofs.OffsetLaws.{fault-then}
 use Rattle.words.proofs.ExportLaws.{Placed, export-fits, bytes-entries, bytes-decoded}
-use Rattle.words_inverse.specs.Sections.{linesText, codeSection, primitivesLine}
-use Rattle.words_inverse.proofs.JoinLaws.{Free, pieces-every, split-alone, lines-free}
+use Rattle.words_inverse.specs.Sections.{codeSection, primitivesLine}
+use Rattle.text.proofs.JoinLaws.{Free, pieces-every, split-alone, lines-free}
 use Rattle.words_inverse.proofs.FileLaws.{section-text}
-use Rattle.words_inverse.proofs.LineLaws.{argument-number, code-said, LowerLine, code-lower}
+use Rattle.words_inverse.proofs.LineLaws.{code-said, LowerLine, code-lower}
 use Rattle.words_inverse.proofs.ImportedLaws.{Said, end, next, exported, all-placed, lines-made, no-fault, no-offset-fault}
 
 -- ---- the value of an argument is a number
@@ -99,17 +99,6 @@ all-lower ls b {k} (l ∷ ms) (coded.next p₂ c₂) (coded.next p₃ c₃) (cod
 pub lower-said : {ps : List (List ℕ)} {n first k : ℕ} {ls ms : List Line} → Lower ps n first k ls ms → Said ps n k ms (map (λ l. opOf ps first (l .text)) ls)
 lower-said ends = end
 lower-said (follows x r) = next (x .says) (lower-said r)
-
--- what holds of every line holds of the one that has a role
-pub role-every : (P : List ℕ → Type 0) → P [] → (r : Role) (rs : List Role) {ls : List Line} → Every (λ l. P (l .text)) ls → P (textAt r rs ls)
-unfolding textAt
-role-every P e r [] h = e
-role-every P e r (x ∷ rs) none = e
-role-every P e r (x ∷ rs) (more {x = l} {xs = ls} p ps) = go (isRole r x) (role-every P e r rs ps)
-  where
-    go : (b : Bool) → P (textAt r rs ls) → P (cond b (l .text) (textAt r rs ls))
-    go true h = p
-    go false h = h
 
 -- a line with a word on it and no line feed is one line
 one-line : (w : List ℕ) → Free 10 w → all (λ v. not (isEmpty v)) (lineWords w) ≡ true → lines w ≡ unendedLine w ∷ []

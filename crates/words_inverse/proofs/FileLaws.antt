@@ -7,7 +7,7 @@ use Prim.Native.Nat.{ℕ, _+_, _<_, _≤_}
 use native.Mathlib.Omega.{arith}
 use lib.ListN.{length, getD, take, drop, take-append-drop}
 use lib.Seq.{drop-cons}
-use Rattle.text.specs.Text.{bytes, Line, noLine, lines}
+use Rattle.text.specs.Text.{bytes, Line, noLine, lines, linesText}
 use Rattle.text.proofs.TextLaws.{equals-path}
 use Rattle.file_format.specs.declared.Section.the-variants.{Instructions as instructions}
 use Rattle.file_format.specs.declared.Role.{Role}
@@ -17,8 +17,8 @@ use Rattle.file_format.specs.Layout.{layout, body, codeLines, bodyRoles, roles,
 use Rattle.file_format.specs.Rows.{namesLaidOut, laidOut, test, Passes}
 use Rattle.file_format.proofs.RowLaws.{Covered, passed, row-covered, passes-laid-out, lines-ended}
 use Rattle.file_format.proofs.CodeLineLaws.{code-take}
-use Rattle.words_inverse.specs.Sections.{linesText, linesBefore, sectionLength, codeSection, replaced}
-use Rattle.words_inverse.proofs.JoinLaws.{lines-append, text-of-lines}
+use Rattle.words_inverse.specs.Sections.{linesBefore, sectionLength, codeSection, replaced}
+use Rattle.text.proofs.JoinLaws.{lines-append, text-of-lines}
 
 -- ---- the names line of the code
 

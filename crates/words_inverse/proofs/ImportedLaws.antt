@@ -11,7 +11,7 @@ use lib.ListN.{length, getD}
 use mir.Syntax.{w32}
 use mir.Val.{SFits}
 use borrow.Author.Tests.{lt-ltb}
-use Rattle.text.specs.Text.{bytes, Line, indexOf}
+use Rattle.text.specs.Text.{bytes, Line, indexOf, linesText}
 use Rattle.text.specs.declared.Place.the-variants.{Missing as missing}
 use Rattle.text.specs.Decimal.{decimal}
 use Rattle.text.proofs.TextLaws.{Every, none, more}
@@ -26,7 +26,6 @@ use Rattle.words.specs.Export.{Op, positions, argumentWord, itemsFrom}
 use Rattle.words.proofs.HeadLaws.{size-small}
 use Rattle.words.proofs.ExportLaws.{Placed, with-word, plain, target-back}
 use Rattle.words.proofs.ExportLaws as placed
-use Rattle.words_inverse.specs.Sections.{linesText}
 use Rattle.words_inverse.proofs.LineLaws.{Argued, absent, target, primitive, within-range, Says}
 
 -- the lines from number k on say the given

@@ -1,10 +1,5 @@
-pub mod SpellingLaws
-pub mod JoinLaws
 pub mod FileLaws
-pub mod NameLaws
-pub mod RowLaws
 pub mod LineLaws
-pub mod CellLaws
 pub mod ImportedLaws
 pub mod ExportedLaws
 pub mod DecodedLaws

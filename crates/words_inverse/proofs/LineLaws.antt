@@ -5,21 +5,21 @@ use mathlib.Core.Bool.{Bool, true, false, cond, _&&_, false≢true}
 use mathlib.Core.List.{List, [], _∷_, _++_, append-assoc}
 use Prim.Native.Nat.{ℕ, zero, suc, _+_, _-_, _<_, _≤_}
 use native.Mathlib.Omega.{arith}
-use lib.Dec.{eqb, leb, ltb}
+use lib.Dec.{leb, ltb}
 use lib.IntN.{ℤ, pos, negsuc, _+ℤ_, _-ℤ_}
-use lib.Signed.{mag, leZ, ltZ}
+use lib.Signed.{leZ, ltZ}
 use lib.ListN.{length, getD, length-append}
-use borrow.Author.Tests.{eqb-true, leb-true, le-leb, ltb-true}
-use Rattle.text.specs.Text.{bytes, equals, Line, placeAmong, indexOf, find, among, all, distinct}
+use borrow.Author.Tests.{eqb-true, leb-true, ltb-true}
+use Rattle.text.specs.Text.{bytes, Line, placeAmong, indexOf, find, among, distinct}
 use Rattle.text.specs.declared.Place.the-variants.{At}
 use Rattle.text.specs.declared.Numeral.{Numeral}
 use Rattle.text.specs.declared.Numeral.the-variants.{Misspelt as misspelt, Number as number}
-use Rattle.text.specs.Decimal.{digitsFrom, natural, numeral, decimal}
-use Rattle.text.proofs.TextLaws.{Every, none, more, every-map, every-getD, all-every, and-left, and-right, cond-left, equals-path}
-use Rattle.text.proofs.DecimalLaws.{decimal-digits, decimal-read}
+use Rattle.text.specs.Decimal.{numeral, decimal, integer}
+use Rattle.text.proofs.TextLaws.{Every, none, more, every-getD, and-left, and-right, equals-path}
+use Rattle.text.proofs.DecimalLaws.{decimal-read}
 use Rattle.numbers.specs.declared.Range.{Range}
-use Rattle.numbers.specs.Numbers.{bits, half, IsNumber, within, numbers, same}
-use Rattle.instructions.specs.Kinds.{Kind, addresses, kinds, kindNames, kindAt}
+use Rattle.numbers.specs.Numbers.{within, numbers, same}
+use Rattle.instructions.specs.Kinds.{addresses, kindNames, kindAt}
 use Rattle.instructions.specs.declared.Argument.{Argument}
 use Rattle.instructions.specs.declared.Argument.the-variants.{Absent, Target, Primitive, Within}
 use Rattle.file_format.specs.declared.Section.the-variants.{Primitives as primitives}
@@ -30,12 +30,11 @@ use Rattle.file_format.specs.Rows.{isNumeral, valueOf, value, at, op, arg, isTa
 use Rattle.file_format.specs.Routine.{inside, argumentValue, firstAddress}
 use Rattle.file_format.proofs.RowLaws.{laid-out}
 use Rattle.file_format.proofs.CodeLaws.{code-laid-out, code-named, kind-there, on-kind}
-use Rattle.file_format.proofs.RangeLaws.{within-low, within-high, inside-is}
-use Rattle.words.specs.Lines.{integer}
+use Rattle.file_format.proofs.RangeLaws.{within-low, inside-is, bounded, kind-bounded, number-within, argument-number}
 use Rattle.words.specs.Export.{Op, relative, opOf}
-use Rattle.words_inverse.proofs.SpellingLaws.{spelt-back, integer-read, lower-short}
-use Rattle.words_inverse.proofs.JoinLaws.{Free, words-three, cut-same}
-use Rattle.words_inverse.proofs.NameLaws.{found-there, distinct-places, kind-name, name-known, name-free}
+use Rattle.text.proofs.SpellingLaws.{spelt-back, integer-read, lower-short, decimal-free, integer-free}
+use Rattle.text.proofs.JoinLaws.{Free, words-three, cut-same}
+use Rattle.instructions.proofs.KindNameLaws.{found-there, distinct-places, kind-name, name-known, name-free}
 
 -- ---- what a line says
 
@@ -54,39 +53,6 @@ pub record Says (ps : List (List ℕ)) (n k : ℕ) (text : List ℕ) (o : Op) : 
   pub argued : Argued ps n (kindAt (o .kind) .argument) word (o .value)
 
 -- ---- numbers
-
-pub number-within : (z : ℤ) → IsNumber z → within numbers z ≡ true
-number-within (pos n) h = let k = h .fits in le-leb n (half bits - 1) (omega arith)
-number-within (negsuc n) h = let k = h .fits in rw (le-leb n (half bits - 1) (omega arith)) refl
-
-between : (low high z : ℤ) → mag low < half bits → mag high < half bits → leZ low z ≡ true → leZ z high ≡ true → mag z < half bits
-between low (pos b) (pos n) l h e f = let q = leb-true n b f in omega arith
-between low (negsuc b) (pos n) l h e f = absurd (false≢true f)
-between (pos a) high (negsuc n) l h e f = absurd (false≢true e)
-between (negsuc a) high (negsuc n) l h e f = let q = leb-true n a e in omega arith
-
--- the ends of a kind's range are numbers: computed for the whole table
-abbrev bounded : Argument → Bool
-bounded Absent = true
-bounded Target = true
-bounded Primitive = true
-bounded (Within r) = ltb (mag (r .low)) (half bits) && ltb (mag (r .high)) (half bits)
-
-kind-bounded : (k : ℕ) → bounded (kindAt k .argument) ≡ true
-unfolding kinds kindAt all
-kind-bounded k = every-getD (all-every (λ (r : Kind). bounded (r .argument)) kinds refl) refl k
-
--- so that an argument within its range is one
-pub argument-number : (r : Range) (z : ℤ) → bounded (Within r) ≡ true → within r z ≡ true → IsNumber z
-argument-number r z b e =
-    record {
-      fits =
-          between (r .low) (r .high) z
-          (ltb-true (mag (r .low)) (half bits) (and-left (ltb (mag (r .low)) (half bits)) (ltb (mag (r .high)) (half bits)) b))
-          (ltb-true (mag (r .high)) (half bits) (and-right (ltb (mag (r .low)) (half bits)) (ltb (mag (r .high)) (half bits)) b))
-          (within-low r z e)
-          (within-high r z e);
-    }
 
 spelt : (w : List ℕ) → isNumeral (numeral w) ≡ true → numeral w ≡ number (value w)
 unfolding isNumeral value valueOf
@@ -315,29 +281,9 @@ module _ (ls : List Line) (begins : pos (firstAddress (body ls)) ≡ firstAt (bo
         short = subst (λ v. length (decimal k ++ bytes " " ++ kindAt i .name ++ bytes " " ++ x .word) ≤ length v) (sym t) (line-short (decimal k) (kindAt i .name) (x .word) (decimal (first + k)) w (lower-short k (first + k) (omega arith)) (word-short (x .lowers)));
       }
 
--- a text that begins with a number is not ANSWER
-pub number-first : (w : List ℕ) (r : List ℕ) → isNumeral (numeral w) ≡ true → equals (w ++ r) (bytes "ANSWER") ≡ false
-unfolding isNumeral numeral natural digitsFrom equals
-number-first [] r e = absurd (false≢true e)
-number-first (d ∷ ds) r e = go (eqb d 65) refl
-  where
-    go : (b : Bool) → eqb d 65 ≡ b → cond b (equals (ds ++ r) (bytes "NSWER")) false ≡ false
-    go true q = absurd (false≢true (subst (λ x. isNumeral (numeral (x ∷ ds)) ≡ true) (eqb-true d 65 q) e))
-    go false q = refl
-
 -- ---- a line is known by what it says
 
--- no digit is a space or a line feed
-pub decimal-free : (c : ℕ) → c < 48 → (n : ℕ) → Free c (decimal n)
-decimal-free c k n = every-map (λ d e q. let h = leb-true 48 d (cond-left (leb 48 d) (leb d 57) e) in omega arith) (decimal-digits n)
-
--- a byte that is neither a minus nor a digit
-pub integer-free : (c : ℕ) → (45 ≡ c → ⊥) → c < 48 → (z : ℤ) → Free c (integer z)
-unfolding integer
-integer-free c m h (pos n) = decimal-free c h n
-integer-free c m h (negsuc n) = more m (decimal-free c h (suc n))
-
--- nor in a primitive's name
+-- a byte that is neither a minus nor a digit, nor in a primitive's name
 pub argued-free : (c : ℕ) → (45 ≡ c → ⊥) → c < 48 → {ps : List (List ℕ)} {n : ℕ} {a : Argument} {w : List ℕ} {z : ℤ} → Every (Free c) ps → Argued ps n a w z → Free c w
 argued-free c m h f absent = more m none
 argued-free c m h f (target {t} k) = decimal-free c h t

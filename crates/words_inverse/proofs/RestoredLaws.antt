@@ -9,7 +9,7 @@ use lib.Dec.{ltb}
 use lib.IntN.{pos}
 use lib.ListN.{length, getD, take, drop, length-map}
 use Rattle.refusals.specs.declared.Acceptance.the-variants.{Accepted as accepted}
-use Rattle.text.specs.Text.{bytes, partedBy, lineWords, Line, noLine, lines, all, distinct}
+use Rattle.text.specs.Text.{bytes, partedBy, lineWords, Line, noLine, lines, all, distinct, linesText}
 use Rattle.text.specs.declared.Place.the-variants.{At as at, Missing as missing}
 use Rattle.text.specs.Decimal.{numeral, decimal}
 use Rattle.text.proofs.TextLaws.{Every, none, more, and-right}
@@ -32,10 +32,11 @@ use Rattle.words.proofs.OffsetLaws.{fault-then}
 use Rattle.words.proofs.ExportLaws.{Placed, with-word, plain}
 use Rattle.words.proofs.ExportLaws as placed
 use Rattle.words_import.proofs.ImportLaws.{import-sound, import-words}
-use Rattle.words_inverse.specs.Sections.{linesText, linesBefore, sectionLength, codeSection}
-use Rattle.words_inverse.proofs.JoinLaws.{Free, text-free, split-first, lines-free, lines-of-text}
+use Rattle.words_inverse.specs.Sections.{linesBefore, sectionLength, codeSection}
+use Rattle.text.proofs.JoinLaws.{Free, text-free, split-first, lines-free, lines-of-text}
 use Rattle.words_inverse.proofs.FileLaws.{section-lines}
-use Rattle.words_inverse.proofs.LineLaws.{decimal-free, says-one}
+use Rattle.words_inverse.proofs.LineLaws.{says-one}
+use Rattle.text.proofs.SpellingLaws.{decimal-free}
 use Rattle.words_inverse.proofs.ImportedLaws.{Said, end, next}
 use Rattle.words_inverse.proofs.ExportedLaws.{names-free, ops, file-said, counted}
 use Rattle.words_inverse.proofs.DecodedLaws.{faulty, decoded-placed, decoded-back}

@@ -7,7 +7,7 @@ use native.Mathlib.Omega.{arith}
 use lib.IntN.{ℤ, pos, negsuc, natAbs, _+ℤ_, _-ℤ_, +ℤ-comm, +ℤ-negℤ-cancel}
 use lib.ListN.{length, getD, length-map}
 use borrow.Author.Tests.{ltb-true}
-use Rattle.text.specs.Text.{bytes, Line, indexOf, all}
+use Rattle.text.specs.Text.{bytes, Line, indexOf, all, linesText}
 use Rattle.text.specs.declared.Place.{Place}
 use Rattle.text.specs.declared.Place.the-variants.{At as at, Missing as missing}
 use Rattle.text.specs.Decimal.{decimal}
@@ -22,10 +22,10 @@ use Rattle.words.specs.Lines.{argumentText, lineText, linesFrom, codeText}
 use Rattle.words.specs.Export.{Op, positions, argumentWord, itemsFrom}
 use Rattle.words.proofs.ExportLaws.{Placed, with-word, plain}
 use Rattle.words.proofs.ExportLaws as placed
-use Rattle.words_inverse.specs.Sections.{linesText}
-use Rattle.words_inverse.proofs.JoinLaws.{Free, text-free}
-use Rattle.words_inverse.proofs.NameLaws.{name-free}
-use Rattle.words_inverse.proofs.LineLaws.{Argued, absent, target, primitive, within-range, Says, decimal-free, argued-free}
+use Rattle.text.proofs.JoinLaws.{Free, text-free}
+use Rattle.instructions.proofs.KindNameLaws.{name-free}
+use Rattle.words_inverse.proofs.LineLaws.{Argued, absent, target, primitive, within-range, Says, argued-free}
+use Rattle.text.proofs.SpellingLaws.{decimal-free}
 use Rattle.words_inverse.proofs.ImportedLaws.{Said, end, next}
 
 module _ (xs : List Item) where

@@ -1,22 +1,13 @@
 -- The section of the code as a file holds it: what an import makes anew. (document 02, §2)
-use Rattle.refusals.specs.Library.{ℕ, suc, _-_, length, take, drop, List, [], _∷_, _++_}
-use Rattle.text.specs.Text.{bytes, Line}
+use Rattle.refusals.specs.Library.{ℕ, suc, _-_, length, take, drop, List, _++_}
+use Rattle.text.specs.Text.{Line, linesText}
 use Rattle.file_format.specs.declared.Section.the-variants.{Primitives as primitives}
 use Rattle.file_format.specs.declared.Role.the-variants.{Names as names}
 use Rattle.file_format.specs.Layout.{layout, body, codeLines, textAt}
 use Rattle.file_format.specs.declared.Section.the-variants.{Primitives as primitives}
 use Rattle.file_format.specs.declared.Role.the-variants.{Names as names}
-
--- the bytes of lines that each end in a line feed
-unfoldable pub linesText : List Line → List ℕ
-linesText [] = []
-linesText (l ∷ ls) = l .text ++ bytes "\n" ++ linesText ls
-
--- pieces with the byte c between them, as the words of a line are parted by a space
-unfoldable pub joined : ℕ → List (List ℕ) → List ℕ
-joined c [] = []
-joined c (w ∷ []) = w
-joined c (w ∷ v ∷ ws) = w ++ c ∷ joined c (v ∷ ws)
+use Rattle.file_format.specs.declared.Section.the-variants.{Primitives as primitives}
+use Rattle.file_format.specs.declared.Role.the-variants.{Names as names}
 
 -- how many lines stand before `AT OP ARG`, the last line of the layout
 abbrev pub linesBefore : ℕ

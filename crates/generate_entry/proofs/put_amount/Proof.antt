@@ -2,7 +2,7 @@
 use mathlib.Core.Path.{sym, ap}
 use Prim.Native.Nat.{_+_}
 use native.Mathlib.Omega.{arith}
-use Rattle.words_import.proofs.LineLaws.{put-as}
+use Rattle.text.proofs.MemoryLaws.{put-as}
 use Rattle.text.specs.Decimal.{decimal}
 use Rattle.text.proofs.DecimalLaws.{decimal-length}
 use Rattle.generate_file.proofs.NumberLaws.{below-under}

@@ -2,9 +2,9 @@
 use mathlib.Core.Path.{sym, ap, _∙_}
 use Prim.Native.Nat.{_/_, _%_}
 use native.Mathlib.Omega.{arith}
-use Rattle.words_import.proofs.LineLaws.{put-as}
+use Rattle.text.proofs.MemoryLaws.{put-as}
 use Rattle.text.proofs.DecimalLaws.{decimal-length}
-use Rattle.words.specs.Lines.{integer}
+use Rattle.text.specs.Decimal.{integer}
 use Rattle.generate_file.specs.Words.{numberIn}
 use Rattle.generate_entry.proofs.CellLaws.{integer-as, integer-room, range-sound, small-number, any-number}
 use borrow.Author.Needs.{needs}

@@ -9,7 +9,7 @@ use mir.Val.{ofZ, toZ}
 use mir.ValLaws.{toZ-ofZ}
 use Rattle.text.specs.Text.{bytes}
 use Rattle.text.proofs.PlaceLaws.{Place, joined, begins-first, room, room-as, next, next-as, finished-first}
-use Rattle.words.specs.Lines.{integer}
+use Rattle.text.specs.Decimal.{integer}
 use Rattle.nearest_entry.specs.Answers.{nameOf, lineOf}
 use borrow.Author.Needs.{needs}
 use Rattle.nearest_entry.proofs.put_change.Statement.{statement}

@@ -13,9 +13,9 @@ use Rattle.text.specs.Text.{equals, placeFrom, placeAmong, indexOf, find, among
 use Rattle.text.specs.declared.Place.{Place}
 use Rattle.text.specs.declared.Place.the-variants.{At, Missing}
 use Rattle.text.proofs.TextLaws.{every-map, every-getD, all-every, and-left, and-right, equals-path, isFound, among-place, place-below}
 use Rattle.instructions.specs.Kinds.{Kind, kinds, kindNames, kindAt}
 use Rattle.instructions.proofs.ColumnLaws.{column-at}
-use Rattle.words_inverse.proofs.JoinLaws.{Free}
+use Rattle.text.proofs.JoinLaws.{Free}
 
 -- ---- a name among others
 

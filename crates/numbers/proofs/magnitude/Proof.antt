@@ -1,10 +1,10 @@
--- `words_import::magnitude` meets its contract. Assumes nothing.
+-- `numbers::magnitude` meets its contract. Assumes nothing.
 use mathlib.Core.Path.{ap}
 use lib.IntN.{natAbs}
-use Rattle.numbers.proofs.SignedLaws.{cast-fits}
-use Rattle.words_import.proofs.IntegerLaws.{wide-is, minus-fits, minus-cast, minus-is, wide-cast}
-use Rattle.words_import.proofs.magnitude.Statement.{statement}
-use Rattle.words_import.proofs.magnitude.Tie as tie
+use Rattle.numbers.proofs.SignedLaws.{cast-fits, wide-is}
+use Rattle.numbers.proofs.MagnitudeLaws.{minus-fits, minus-cast, minus-is, wide-cast}
+use Rattle.numbers.proofs.magnitude.Statement.{statement}
+use Rattle.numbers.proofs.magnitude.Tie as tie
 
 cast-w : tie.Need-cast-w
 cast-w c = cast-fits (c .args .z) (c .fits .z)

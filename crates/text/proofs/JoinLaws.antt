@@ -9,11 +9,10 @@ use lib.Dec.{eqb}
 use lib.ListN.{length, getD, set, take, drop}
 use lib.Seq.{set-split}
 use borrow.Author.Tests.{eqb-true, eqb-false, eq-eqb, ne-eqb, not-true}
-use Rattle.text.specs.Text.{bytes, onto, partedBy, lineWords, Line, linesOf, lines, all}
+use Rattle.text.specs.Text.{bytes, onto, partedBy, joined, lineWords, Line, linesOf, lines, linesText, all}
 use Rattle.text.proofs.TextLaws.{Every, none, more, every-append, every-map, all-every}
 use Rattle.text.proofs.PieceLaws.{split-some}
 use Rattle.text.proofs.LineLaws.{endedLine}
-use Rattle.words_inverse.specs.Sections.{linesText, joined}
 
 -- ---- pieces
 

@@ -1,5 +1,5 @@
--- Laws of spelling: a rightly spelt number is its value in decimal, an integer that was written is read back, and a lower number is written
--- with no more digits. Assumes nothing.
+-- Laws of spelling: a rightly spelt number is its value in decimal, an integer that was written is read back and holds no byte but a
+-- minus and digits, and a lower number is written with no more digits. Assumes nothing.
 use mathlib.Core.Path.{_≡_, refl, sym, ap, _∙_}
 use mathlib.Core.Bool.{Bool, true, false, cond}
 use mathlib.Core.List.{List, [], _∷_, _++_, append-assoc, append-nil}
@@ -9,13 +9,13 @@ use lib.Dec.{eqb, leb, ltb}
 use lib.IntN.{ℤ, pos, negsuc}
 use lib.ListN.{length}
 use borrow.Author.Tests.{leb-true, ltb-true, ltb-false, eqb-true, eqb-false, ne-eqb}
 use Rattle.text.specs.Text.{isEmpty}
 use Rattle.text.specs.declared.Numeral.{Numeral}
 use Rattle.text.specs.declared.Numeral.the-variants.{Misspelt as misspelt, Number as number}
-use Rattle.text.specs.Decimal.{isDigit, digitsFrom, natural, negative, numeral, decimal}
-use Rattle.text.proofs.TextLaws.{cond-left, cond-right, Every, none, more}
+use Rattle.text.specs.Decimal.{isDigit, digitsFrom, natural, negative, numeral, decimal, integer}
+use Rattle.text.proofs.TextLaws.{cond-left, cond-right, Every, none, more, every-map}
 use Rattle.text.proofs.DecimalLaws.{decimal-one, decimal-more, decimal-length-one, decimal-length-more, decimal-digits, decimal-read}
-use Rattle.words.specs.Lines.{integer}
+use Rattle.text.proofs.JoinLaws.{Free}
 
 not-spelt : {X : Type 0} (z : ℤ) → misspelt ≡ number z → X
 not-spelt z e = let q : _≡_ {A = ℕ} 0 1 = cc in absurd (omega arith)
@@ -131,3 +131,15 @@ lower-from (suc fuel) m n h l = go (ltb m 10) refl (ltb n 10) refl (lower-from f
 
 pub lower-short : (m n : ℕ) → m ≤ n → length (decimal m) ≤ length (decimal n)
 lower-short m n h = lower-from (suc n) m n (omega arith) h
+
+-- ---- what stands in a number
+
+-- no digit is a space or a line feed
+pub decimal-free : (c : ℕ) → c < 48 → (n : ℕ) → Free c (decimal n)
+decimal-free c k n = every-map (λ d e q. let h = leb-true 48 d (cond-left (leb 48 d) (leb d 57) e) in omega arith) (decimal-digits n)
+
+-- a byte that is neither a minus nor a digit
+pub integer-free : (c : ℕ) → (45 ≡ c → ⊥) → c < 48 → (z : ℤ) → Free c (integer z)
+unfolding integer
+integer-free c m h (pos n) = decimal-free c h n
+integer-free c m h (negsuc n) = more m (decimal-free c h (suc n))
