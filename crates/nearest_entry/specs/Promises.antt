@@ -3,7 +3,6 @@ use Rattle.refusals.specs.Library.{ℕ, _≤_, length, List, _++_, map, _⊎_, 
 use Rattle.answers.specs.Terms.{listed, Routine, readBound, reported, lines, cells, fields, names}
 use Rattle.bound_theory.specs.Tree.{Report}
 use Rattle.file_format.specs.Routine.{textLimit}
-use Rattle.file_format.specs.declared.Role.the-variants.{Names as names}
 use Rattle.file_format.specs.Routine as readings
 use Rattle.nearest_changes.specs.declared.Change.{Change}
 use Rattle.nearest_changes.specs.Places.{positions}

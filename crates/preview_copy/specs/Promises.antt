@@ -4,8 +4,6 @@ use Rattle.machine.specs.Terms.{done, Code, Instruction, fetch}
 use Rattle.answers.specs.Terms.{listed, Routine, readBound, bytes, Line, lines, all, noLine, decimal, kinds, primitives, extra, values}
 use Rattle.file_format.specs.Rows.{op, arg}
 use Rattle.file_format.specs.Routine.{priceList, instructionOf, codeIn}
-use Rattle.file_format.specs.declared.Column.the-variants.{Extra as extra}
-use Rattle.file_format.specs.declared.Role.the-variants.{Values as values}
 use Rattle.file_format.specs.Routine as readings
 use Rattle.preview_copy.specs.Patch.{inCode, lineOf, patched}
 

@@ -8,7 +8,6 @@ use Rattle.numbers.specs.Numbers.{within, numbers}
 use Rattle.text.specs.Text.{among}
 use Rattle.file_format.specs.Rows.{isNumeral, value}
 use Rattle.file_format.specs.Routine.{inside}
-use Rattle.file_format.specs.declared.RefusedLine.the-variants.{Line as line}
 use Rattle.replay_trace.specs.Traces.{earliest, refusedAt}
 use Rattle.nearest_changes.specs.Places.{positionOf, allPositions}
 use Rattle.split_theory.specs.Split.{Cut}

@@ -4,7 +4,6 @@ use Rattle.refusals.specs.Library.{ℕ, List, _++_}
 use Rattle.answers.specs.Terms.{listed, Routine, readBound, Answer, refused, lending, ofReading, memoryLimit, Line, lines, cells, fields, names}
 use Rattle.refusals.specs.declared.Acceptance.{Acceptance}
 use Rattle.refusals.specs.declared.Acceptance.the-variants.{Accepted, Refused}
-use Rattle.file_format.specs.declared.Role.the-variants.{Names as names}
 use Rattle.split_theory.specs.Split.{split}
 use Rattle.split_cuts.specs.Cuts.{cutsAcceptance, cutsOf}
 use Rattle.report.specs.Report.{boundText}

@@ -10,10 +10,6 @@ use Rattle.file_format.specs.declared.Role.the-variants.{Names as names}
 use Rattle.file_format.specs.Layout.{body, codeLines, listed}
 use Rattle.file_format.specs.Rows.{op, arg}
 use Rattle.file_format.specs.Routine.{argumentValue, firstAddress}
-use Rattle.file_format.specs.declared.Section.the-variants.{Primitives as primitives}
-use Rattle.file_format.specs.declared.Role.the-variants.{Names as names}
-use Rattle.file_format.specs.declared.Section.the-variants.{Primitives as primitives}
-use Rattle.file_format.specs.declared.Role.the-variants.{Names as names}
 use Rattle.words.specs.Words.{wordBits, allBytes}
 use Rattle.words.specs.Decoding.{Item, itemOf, hasArgument, sizeOf}
 

@@ -8,8 +8,6 @@ use Rattle.text.specs.declared.Place.the-variants.{At as at, Missing as missing
 use Rattle.file_format.specs.declared.Section.the-variants.{Primitives as primitives}
 use Rattle.file_format.specs.Layout.{list}
 use Rattle.file_format.specs.Rows.{namesLaidOut, wellNamed}
-use Rattle.file_format.specs.declared.Section.the-variants.{Primitives as primitives}
-use Rattle.file_format.specs.declared.Section.the-variants.{Primitives as primitives}
 use Rattle.words.specs.Words.{wordsOf}
 use Rattle.words.specs.Decoding.{decoded, items, codeFault}
 use Rattle.words.specs.Lines.{codeText}

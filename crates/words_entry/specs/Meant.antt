@@ -6,8 +6,6 @@ use Rattle.text.specs.Text.{indexOf}
 use Rattle.machine.specs.Machine.{instruction, priceOf}
 use Rattle.file_format.specs.Rows.{extraCounts}
 use Rattle.file_format.specs.Routine.{naturalAt, PriceList, priceList, prices}
-use Rattle.file_format.specs.declared.Column.the-variants.{Extra as extra}
-use Rattle.file_format.specs.declared.Role.the-variants.{Values as values}
 use Rattle.words.specs.Words.{wordsOf}
 use Rattle.words.specs.Decoding.{Item, decoded, items, landing, numberAt}
 

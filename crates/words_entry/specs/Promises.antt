@@ -3,13 +3,8 @@ use Rattle.refusals.specs.Library.{ℕ, _≤_, ltb, length, true, List, _↔_, 
 use Rattle.bound_theory.specs.Terms.{BadWord, bound, run}
 use Rattle.answers.specs.Terms.{listed, body, Routine, routine, readBound, readRun, reported, refused, lines, all, primitives, names}
 use Rattle.refusals.specs.declared.Acceptance.the-variants.{Accepted as accepted}
-use Rattle.refusals.specs.declared.Acceptance.the-variants.{Accepted as accepted}
-use Rattle.refusals.specs.declared.Acceptance.the-variants.{Accepted as accepted}
-use Rattle.refusals.specs.declared.Acceptance.the-variants.{Accepted as accepted}
 use Rattle.merge_theory.specs.Merge.{merged}
 use Rattle.file_format.specs.Routine.{firstAddress}
-use Rattle.file_format.specs.declared.Section.the-variants.{Primitives as primitives}
-use Rattle.file_format.specs.declared.Role.the-variants.{Names as names}
 use Rattle.words.specs.Words.{wordsOf}
 use Rattle.words.specs.Import.{primitivesVerdict, primitivesOf}
 use Rattle.words_inverse.specs.Sections.{codeSection, replaced, primitivesLine}

@@ -4,10 +4,6 @@ use Rattle.text.specs.Text.{Line, linesText}
 use Rattle.file_format.specs.declared.Section.the-variants.{Primitives as primitives}
 use Rattle.file_format.specs.declared.Role.the-variants.{Names as names}
 use Rattle.file_format.specs.Layout.{layout, body, codeLines, textAt}
-use Rattle.file_format.specs.declared.Section.the-variants.{Primitives as primitives}
-use Rattle.file_format.specs.declared.Role.the-variants.{Names as names}
-use Rattle.file_format.specs.declared.Section.the-variants.{Primitives as primitives}
-use Rattle.file_format.specs.declared.Role.the-variants.{Names as names}
 
 -- how many lines stand before `AT OP ARG`, the last line of the layout
 abbrev pub linesBefore : ℕ
