@@ -6,16 +6,19 @@ use mathlib.Core.List.{List}
 use Prim.Native.Nat.{ℕ, suc, _+_, _-_, _*_, _≤_, _<_}
 use native.Mathlib.Omega.{arith}
 use lib.Dec.{ltb}
+use lib.IntN.{pos}
 use lib.ListN.{length, getD, set, length-set}
 use borrow.Author.Tests.{ltb-true, ltb-false}
 use Rattle.refusals.specs.declared.Refusal.{Refusal}
 use Rattle.refusals.specs.declared.Refusal.the-variants as refusals
 use Rattle.refusals.specs.declared.Acceptance.{Acceptance}
 use Rattle.refusals.specs.declared.Acceptance.the-variants.{Accepted, Refused}
-use Rattle.cells.specs.Try.{Try, stuck, done}
+use Rattle.cells.specs.Try.{Try, stuck, done, _>>=_}
 use Rattle.cells.specs.declared.Cell.{Cell}
+use Rattle.instructions.specs.HeldColumns.{operationOf}
 use Rattle.machine.specs.Machine.{height, Next, goes, opens, index, withExtra, reblock}
 use Rattle.machine.specs.Machine as machine
+use Rattle.machine_outcome.specs.HeldOutcome.{drops, operated}
 use Rattle.machine_state.specs.declared.State.{State}
 use Rattle.machine_state.specs.declared.registers.Registers.{Registers}
 use Rattle.machine_state.specs.declared.code.Line.{Line}
@@ -27,14 +30,14 @@ use Rattle.bound_figures.specs.declared.Tally.{Tally}
 use Rattle.bound_figures.specs.HeldFigures.{moreOf, jumpedOf, joinedOf, bothOf, finishedOf, refusedAs, Summable}
 use Rattle.bound_figures.proofs.PartLaws.{first-refused, second-refused, both-accepted}
 use Rattle.bound_explorer.specs.declared.turns.Turn as code
-use Rattle.bound_explorer.specs.declared.turns.Turn.the-variants.{Goes, Jumps, Stores, Sets, Gets, Opens, Halts, Stuck}
+use Rattle.bound_explorer.specs.declared.turns.Turn.the-variants.{Goes, Jumps, Reads, Stores, Combines, Gets, Sets, Opens, Halts, Stuck}
 use Rattle.bound_explorer.specs.declared.Ways.{Ways}
-use Rattle.bound_explorer.specs.HeldContract.{Explores, SafeUnder, ExactFor, Bounded}
+use Rattle.bound_explorer.specs.HeldContract.{Explores, Bounded}
 use Rattle.bound_explorer.specs.HeldTurn.{turned, Within}
 use Rattle.bound_explorer.specs.HeldWays.{WaysExplored}
 use Rattle.bound_explorer.proofs.LoopLaws as loop
 use Rattle.bound_explorer.proofs.TurnLaws as turns
-use Rattle.bound_explorer.proofs.ReturnLaws.{path-fits, refused-bounded, finished-bounded, joined-bounded, safe-under, exact-for}
+use Rattle.bound_explorer.proofs.ReturnLaws.{path-fits, refused-bounded, finished-bounded, joined-bounded}
 
 module _ (ps : List ℕ) (o budget : ℕ) (fs₀ : List Cell) (s₀ : State) where
   abbrev act : machine.State → Try Next
@@ -51,20 +54,16 @@ module _ (ps : List ℕ) (o budget : ℕ) (fs₀ : List Cell) (s₀ : State) whe
     pub grown : t′ ≡ moreOf t (lineOf l .price) (64 - s .free)
     pub at : r .at ≡ s .at
     pub formed : WellFormed (withStack r st)
-    pub leads : act (whole (sizesOf ps) fs s) ≡ turned (sizesOf ps) l r fs st d x
-    pub within : Within r fs x
+    pub leads : act (whole (sizesOf ps) fs s) ≡ turned (sizesOf ps) (lineOf l .price) (l .extra) (operationOf (l .code)) (l .operand) r fs st d x
+    pub within : Within (operationOf (l .code)) r fs x
 
   -- what is promised of an answer
   pub record Kept (r : Found) : Type 0 where
     pub explored : Explores (programOf ps) (sizesOf ps) fs₀ s₀ o budget r
-    pub safe : SafeUnder (programOf ps) o budget (whole (sizesOf ps) fs₀ s₀) r
-    pub exact : ExactFor (programOf ps) o (whole (sizesOf ps) fs₀ s₀) r
     pub bounded : Bounded o budget r
 
   shown : (r r′ : Found) → r ≡ r′ → loop.Shown act o budget (whole (sizesOf ps) fs₀ s₀) r′ → Bounded o budget r → Kept r
-  shown r r′ e h m =
-      let x : Explores (programOf ps) (sizesOf ps) fs₀ s₀ o budget r = rw e (record { shows = h .shows; counts = h .counts }) in
-      record { explored = x; safe = safe-under _ _ _ _ _ _ r x; exact = exact-for _ _ _ _ _ _ r x; bounded = m }
+  shown r r′ e h m = record { explored = rw e (record { shows = h .shows; counts = h .counts }); bounded = m }
 
 module _ {ps : List ℕ} {o budget : ℕ} {fs₀ : List Cell} {s₀ : State} where
   -- ---- the ways out that need no outcome
@@ -100,11 +99,11 @@ module _ {ps : List ℕ} {o budget : ℕ} {fs₀ : List Cell} {s₀ : State} whe
         turns.again ps o budget fs₀ s₀ fs s left t (a .turn) (a .some) (withExtra (l .extra) (lineOf l .price)) jumped-small t″
         (g ∙ ap (λ x. jumpedOf x (l .extra)) (a .grown) ∙ loop.jumped-more t (lineOf l .price) (l .extra) (64 - s .free)) fs′ v
 
-    made : (y : code.Turn) → x ≡ y → (act ps o budget fs₀ s₀) (whole (sizesOf ps) fs s) ≡ turned (sizesOf ps) l r fs st d y
-    made y e = a .leads ∙ ap (turned (sizesOf ps) l r fs st d) e
+    made : (y : code.Turn) → x ≡ y → (act ps o budget fs₀ s₀) (whole (sizesOf ps) fs s) ≡ turned (sizesOf ps) (lineOf l .price) (l .extra) (operationOf (l .code)) (l .operand) r fs st d y
+    made y e = a .leads ∙ ap (turned (sizesOf ps) (lineOf l .price) (l .extra) (operationOf (l .code)) (l .operand) r fs st d) e
 
-    room : (y : code.Turn) → x ≡ y → Within r fs y
-    room y e = subst (Within r fs) e (a .within)
+    room : (y : code.Turn) → x ≡ y → Within (operationOf (l .code)) r fs y
+    room y e = subst (Within (operationOf (l .code)) r fs) e (a .within)
 
     pub goes-on : (v : Registers) → x ≡ Goes v → Turn ps o budget fs₀ s₀ fs (withStack v st) (left - 1) t′
     unfolding turned
@@ -124,25 +123,54 @@ module _ {ps : List ℕ} {o budget : ℕ} {fs₀ : List Cell} {s₀ : State} whe
         (subst (λ v. Turn ps o budget fs₀ s₀ fs (withStack v (set st i (r .accu))) (left - 1) t′) (sym g)
         (again fs (withStack (advanced (stored r)) (set st i (r .accu))) (made (Stores i) e) (record { free = a .formed .free; places = length-set st _ _ ∙ a .formed .places }) (a .turn .fits) refl))
 
-    pub set-place : (j : ℕ) (c : Cell) → x ≡ Sets j c → (j < length fs) × (r .free + 1 ≤ 64)
-    set-place j c e = room (Sets j c) e
+    -- a cell in the accumulator
+    loads : (c : Cell) (w : Registers) → (act ps o budget fs₀ s₀) (whole (sizesOf ps) fs s) ≡ done (goes (lineOf l .price) (whole (sizesOf ps) fs (withStack (advanced (loaded c w)) st))) → w .free ≤ 64 → (v : Registers) → v ≡ advanced (loaded c w) → Turn ps o budget fs₀ s₀ fs (withStack v st) (left - 1) t′
+    loads c w e h v g =
+        subst (λ v. Turn ps o budget fs₀ s₀ fs (withStack v st) (left - 1) t′) (sym g)
+        (again fs (withStack (advanced (loaded c w)) st) e (record { free = h; places = a .formed .places }) (a .turn .fits) refl)
 
-    pub sets-on : (j : ℕ) (c : Cell) → x ≡ Sets j c → (v : Registers) (c′ : Cell) → v ≡ advanced (stored (popped 1 r)) → c′ ≡ c → Turn ps o budget fs₀ s₀ (set fs j c′) (withStack v st) (left - 1) t′
+    pub read-place : (k : ℕ) → x ≡ Reads k → k < 64
+    read-place k e = room (Reads k) e
+
+    pub reads-on : (k : ℕ) → x ≡ Reads k → (v : Registers) → v ≡ advanced (loaded (getD st k d) r) → Turn ps o budget fs₀ s₀ fs (withStack v st) (left - 1) t′
     unfolding turned
-    sets-on j c e v c′ g h =
+    reads-on k e v g = loads (getD st k d) r (made (Reads k) e) (a .formed .free) v g
+
+    pub combine-place : x ≡ Combines → (r .free + 1 ≤ 64) × (drops (operationOf (l .code)) 0 ≡ 1)
+    combine-place e = room Combines e
+
+    module _ (e : x ≡ Combines) (m : Try Cell) (given : m ≡ operated (operationOf (l .code)) (pos 0) (r .accu) (getD st (r .free) d)) where
+      combined : (act ps o budget fs₀ s₀) (whole (sizesOf ps) fs s) ≡ (m >>= λ c. done (goes (lineOf l .price) (whole (sizesOf ps) fs (withStack (advanced (loaded c (popped 1 r))) st))))
+      unfolding turned
+      combined = made Combines e ∙ ap (λ m. m >>= λ c. done (goes (lineOf l .price) (whole (sizesOf ps) fs (withStack (advanced (loaded c (popped 1 r))) st)))) (sym given)
+
+      pub combines-on : (c : Cell) → m ≡ done c → (v : Registers) → v ≡ advanced (loaded c (popped 1 r)) → Turn ps o budget fs₀ s₀ fs (withStack v st) (left - 1) t′
+      unfolding _>>=_
+      combines-on c h v g = loads c (popped 1 r) (combined ∙ ap (λ m. m >>= λ c. done (goes (lineOf l .price) (whole (sizesOf ps) fs (withStack (advanced (loaded c (popped 1 r))) st)))) h) (combine-place e .0) v g
+
+      pub combines-nothing : m ≡ stuck → (q : Found) → q ≡ refusedAs (refusals.Stuck (r .at)) (budget - (left - 1)) → Kept ps o budget fs₀ s₀ q
+      unfolding _>>=_
+      combines-nothing h q g =
+          stuck-out (a .turn) (a .some) (combined ∙ ap (λ m. m >>= λ c. done (goes (lineOf l .price) (whole (sizesOf ps) fs (withStack (advanced (loaded c (popped 1 r))) st)))) h) q
+          (g ∙ ap (λ y. refusedAs (refusals.Stuck y) (budget - (left - 1))) (a .at))
+
+    pub set-place : (j : ℕ) → x ≡ Sets j → (j < length fs) × (r .free + 1 ≤ 64)
+    set-place j e = room (Sets j) e
+
+    pub sets-on : (j : ℕ) → x ≡ Sets j → (v : Registers) (c : Cell) → v ≡ advanced (stored (popped 1 r)) → c ≡ getD st (r .free) d → Turn ps o budget fs₀ s₀ (set fs j c) (withStack v st) (left - 1) t′
+    unfolding turned
+    sets-on j e v c g h =
         subst (λ c. Turn ps o budget fs₀ s₀ (set fs j c) (withStack v st) (left - 1) t′) (sym h)
-        (subst (λ v. Turn ps o budget fs₀ s₀ (set fs j c) (withStack v st) (left - 1) t′) (sym g)
-        (again (set fs j c) (withStack (advanced (stored (popped 1 r))) st) (made (Sets j c) e) (record { free = set-place j c e .1; places = a .formed .places })
-        (record { few = a .turn .fits .few; room = simp length-set (a .turn .fits .room) }) (length-set fs j c)))
+        (subst (λ v. Turn ps o budget fs₀ s₀ (set fs j (getD st (r .free) d)) (withStack v st) (left - 1) t′) (sym g)
+        (again (set fs j (getD st (r .free) d)) (withStack (advanced (stored (popped 1 r))) st) (made (Sets j) e) (record { free = set-place j e .1; places = a .formed .places })
+        (record { few = a .turn .fits .few; room = simp length-set (a .turn .fits .room) }) (length-set fs j (getD st (r .free) d))))
 
     pub get-place : (j : ℕ) → x ≡ Gets j → j < length fs
     get-place j e = room (Gets j) e
 
     pub gets-on : (j : ℕ) → x ≡ Gets j → (v : Registers) → v ≡ advanced (loaded (getD fs j d) r) → Turn ps o budget fs₀ s₀ fs (withStack v st) (left - 1) t′
     unfolding turned
-    gets-on j e v g =
-        subst (λ v. Turn ps o budget fs₀ s₀ fs (withStack v st) (left - 1) t′) (sym g)
-        (again fs (withStack (advanced (loaded (getD fs j d) r)) st) (made (Gets j) e) (record { free = a .formed .free; places = a .formed .places }) (a .turn .fits) refl)
+    gets-on j e v g = loads (getD fs j d) r (made (Gets j) e) (a .formed .free) v g
 
     -- ---- the arms that return
 

@@ -28,10 +28,10 @@ shift t n (accepted q) = accepted (record { cycles = t .cycles + q .cycles; word
 reports : (q r : Report) → q .cycles ≡ r .cycles → q .words ≡ r .words → q .depth ≡ r .depth → q .steps ≡ r .steps → q .path ≡ r .path → accepted q ≡ accepted r
 reports q r a b c d e = λ i. accepted (record { cycles = a i; words = b i; depth = c i; steps = d i; path = e i })
 
-shift-zero : (v : bounds.Verdict) → shift zeroTally 0 v ≡ v
+shift-zero : (budget : ℕ) (v : bounds.Verdict) → shift (zeroTally budget) 0 v ≡ v
 unfolding shift
-shift-zero (refused x) = refl
-shift-zero (accepted q) = reports _ q (omega arith) (omega arith) (omega arith) (omega arith) refl
+shift-zero budget (refused x) = refl
+shift-zero budget (accepted q) = reports _ q (omega arith) (omega arith) (omega arith) (omega arith) refl
 
 shift-before : (t : Tally) (n : ℕ) (s : State) (p : Price) (v : bounds.Verdict) → shift t n (before s p v) ≡ shift (moreOf t p (height s)) (suc n) v
 unfolding shift before moreOf
@@ -82,6 +82,15 @@ joined-found t n s p x r r′ f g e d =
     (ap (λ b. cond b (2 * encode (r′ .path) + 1) (2 * encode (r .path))) (leb-after (p .cycles) x (r .cycles) (r′ .cycles))
     ∙ sym (worse-path (leb (p .cycles + r .cycles) (p .cycles + x + r′ .cycles)) (r .path) (r′ .path))))
 
+-- what is left after one step more, and after the extra
+pub left-more : (t t′ : Tally) (p : Price) (h : ℕ) → t′ ≡ moreOf t p h → t′ .left ≡ t .left - 1
+unfolding moreOf
+left-more t t′ p h e = ap (λ (x : Tally). x .left) e
+
+pub left-jumped : (t t′ : Tally) (x : ℕ) → t′ ≡ jumpedOf t x → t′ .left ≡ t .left
+unfolding jumpedOf
+left-jumped t t′ x e = ap (λ (y : Tally). y .left) e
+
 -- a step at a price, and then the extra
 pub jumped-more : (t : Tally) (p : Price) (x h : ℕ) → jumpedOf (moreOf t p h) x ≡ moreOf t (withExtra x p) h
 unfolding jumpedOf moreOf withExtra
@@ -110,10 +119,10 @@ module _ (act : State → Try Next) (o budget : ℕ) (start : State) where
     pub shows : Shows r (explore act o budget start)
     pub counts : r .used ≡ used act o budget start
 
-  pub begins : Inv start budget zeroTally
+  pub begins : Inv start budget (zeroTally budget)
   begins =
       let e : budget - budget ≡ 0 = omega arith in
-      record { total = sym (ap (λ n. shift zeroTally n (explore act o budget start)) e ∙ shift-zero (explore act o budget start)); spent = omega arith; within = omega arith }
+      record { total = sym (ap (λ n. shift (zeroTally budget) n (explore act o budget start)) e ∙ shift-zero budget (explore act o budget start)); spent = omega arith; within = omega arith }
 
   pub spent-shown : (s : State) (left : ℕ) (t : Tally) → Inv s left t → left ≤ 0 → Shown (refusedAs (Spent (s .at)) budget)
   unfolding refusedAs

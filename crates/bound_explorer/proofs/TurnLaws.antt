@@ -78,7 +78,7 @@ module _ (ps : List ℕ) (o budget : ℕ) (fs₀ : List Cell) (s₀ : State) whe
     pub cycles : t .cycles ≤ 8589934592 * (budget - left)
     pub words : t .words ≤ 4294967296 * (budget - left)
 
-  pub starts : WellFormed s₀ → Fits (sizesOf ps) fs₀ → Turn fs₀ s₀ budget zeroTally
+  pub starts : WellFormed s₀ → Fits (sizesOf ps) fs₀ → Turn fs₀ s₀ budget (zeroTally budget)
   starts formed fits =
       record { inv = loop.begins act o budget (whole (sizesOf ps) fs₀ s₀); formed = formed; fits = fits; size = refl; cycles = omega arith; words = omega arith }
 

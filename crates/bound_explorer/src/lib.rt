@@ -3,8 +3,7 @@ use bound_figures::Found;
 use bound_figures::Tally;
 use bound_figures::both;
 use cells::Cell;
-use machine_outcome::entry_place;
-use machine_outcome::index_of;
+use cells::Operand;
 use machine_state::State;
 use machine_state::code::Fetched;
 use machine_state::code::Line;
@@ -58,8 +57,7 @@ fn branch(
             taken: over,
         };
     }
-    let mut state = State::of(registers, stack).advance();
-    let untaken = explore(code, state, blocks, openings - 1, left);
+    let untaken = walk(code, registers.advance(), stack, blocks, openings - 1, left);
     let verdict = untaken.verdict;
     if let Acceptance::Refused(refusal) = verdict {
         let taken = bound_figures::refused(refusal, 0);
@@ -70,20 +68,82 @@ fn branch(
     }
     let rest = left - untaken.used;
     let target = machine_outcome::index_of(line.operand);
-    state = state.jump(target);
-    let taken = explore(code, state, blocks, openings - 1, rest);
+    let taken = walk(
+        code,
+        registers.jump(target),
+        stack,
+        blocks,
+        openings - 1,
+        rest,
+    );
     Ways {
         untaken: untaken,
         taken: taken,
     }
 }
 
-// Every way from `start`: a loop of steps, and a call for each way of an unknown branch. The cells of the stack and of the blocks are written
-// in place, where a method would copy the array; the registers stand beside them.
+// Every way from `registers` with `stack`: a loop of steps, and a call for each way of an unknown branch. The cells of the stack and of the
+// blocks are written in place, where a method would copy the array; the registers stand beside them.
+fn walk(
+    code: &[u32; 5131],
+    mut registers: Registers,
+    mut stack: [Cell; 64],
+    mut blocks: [Cell; 128],
+    openings: usize,
+    budget: usize,
+) -> Found
+    requires { ⌜ IsProgram (now code) ⌝ }
+    requires { ⌜ Explorable (withStack registers stack) openings budget ⌝ }
+    ensures { λ r. ⌜ Explores (programOf (now (code .entry))) (sizesOf (now (code .entry))) blocks (withStack registers stack) openings budget r ⌝ }
+    ensures { λ r. ⌜ Bounded openings budget r ⌝ }
+{
+    let mut tally = bound_figures::nothing(budget);
+    while 0 < tally.left {
+        let Fetched::Is(line) = turns::reachable(code, registers) else {
+            return stuck(registers, budget - tally.left + 1);
+        };
+        tally = bound_figures::more(tally, line.cycles, line.words, 64 - registers.free);
+        if line.pushes {
+            registers = registers.push();
+            stack[registers.top()] = cells::same(registers.accu);
+        }
+        let top = registers.top();
+        match turns::turn_of(code, line, registers) {
+            Turn::Goes(next) => registers = next,
+            Turn::Jumps(next) => {
+                tally = bound_figures::jumped(tally, line.extra);
+                registers = next;
+            }
+            Turn::Reads(entry) => registers = registers.load(stack[entry]).advance(),
+            Turn::Stores(entry) => {
+                stack[entry] = cells::same(registers.accu);
+                registers = registers.store().advance();
+            }
+            Turn::Combines => match turns::combined(line.code, registers.accu, stack[top]) {
+                Operand::Is(c) => registers = registers.pop(1).load(c).advance(),
+                Operand::Stuck => return stuck(registers, budget - tally.left),
+            },
+            Turn::Gets(field) => registers = registers.load(blocks[field]).advance(),
+            Turn::Sets(field) => {
+                blocks[field] = cells::same(stack[top]);
+                registers = registers.pop(1).store().advance();
+            }
+            Turn::Opens => {
+                let w = branch(code, line, registers, stack, blocks, openings, tally.left);
+                return both(tally, budget - tally.left, w.untaken, line.extra, w.taken);
+            }
+            Turn::Halts => return bound_figures::finished(tally, budget - tally.left),
+            Turn::Stuck => return stuck(registers, budget - tally.left),
+        }
+    }
+    bound_figures::refused(Refusal::Spent(registers.at), budget)
+}
+
+// Every way from `start`.
 pub fn explore(
     code: &[u32; 5131],
     start: State,
-    mut blocks: [Cell; 128],
+    blocks: [Cell; 128],
     openings: usize,
     budget: usize,
 ) -> Found
@@ -94,44 +154,6 @@ pub fn explore(
     ensures exact { λ r. ⌜ ExactFor (programOf (now (code .entry))) openings (whole (sizesOf (now (code .entry))) blocks start) r ⌝ }
     ensures { λ r. ⌜ Bounded openings budget r ⌝ }
 {
-    let mut stack = start.stack;
-    let mut registers = start.registers();
-    let mut left = budget;
-    let mut tally = bound_figures::nothing();
-    while 0 < left {
-        left = left - 1;
-        let Fetched::Is(line) = turns::reachable(code, registers) else {
-            return stuck(registers, budget - left);
-        };
-        tally = bound_figures::more(tally, line.cycles, line.words, 64 - registers.free);
-        if line.pushes {
-            registers = registers.push();
-            let top = registers.free;
-            stack[top] = cells::same(registers.accu);
-        }
-        let at = entry_place(line.code, index_of(line.operand), registers.free);
-        match turns::turn_of(code, line, registers, stack[at]) {
-            Turn::Goes(next) => registers = next,
-            Turn::Jumps(next) => {
-                tally = bound_figures::jumped(tally, line.extra);
-                registers = next;
-            }
-            Turn::Stores(entry) => {
-                stack[entry] = cells::same(registers.accu);
-                registers = registers.store().advance();
-            }
-            Turn::Sets(field, c) => {
-                blocks[field] = cells::same(c);
-                registers = registers.pop(1).store().advance();
-            }
-            Turn::Gets(field) => registers = registers.load(blocks[field]).advance(),
-            Turn::Opens => {
-                let ways = branch(code, line, registers, stack, blocks, openings, left);
-                return both(tally, budget - left, ways.untaken, line.extra, ways.taken);
-            }
-            Turn::Halts => return bound_figures::finished(tally, budget - left),
-            Turn::Stuck => return stuck(registers, budget - left),
-        }
-    }
-    bound_figures::refused(Refusal::Spent(registers.at), budget)
+    let stack = start.stack;
+    walk(code, start.registers(), stack, blocks, openings, budget)
 }

@@ -1,5 +1,5 @@
 -- What the explorer's answer stands for: the verdict of the bound, and how many steps were walked.
-use Rattle.refusals.specs.Library.{ℕ, zero, suc, _+_, _*_, _≤_, max, leb, cond, List, [], _∷_, _≡_}
+use Rattle.refusals.specs.Library.{ℕ, zero, suc, _+_, _-_, _*_, _≤_, max, leb, cond, List, [], _∷_, _≡_}
 use Rattle.bound_theory.specs.Terms.{Refusal, Decision, N, T, Report, Verdict, accepted, refused, Price}
 use Rattle.refusals.specs.declared.Acceptance.the-variants.{Accepted, Refused}
 use Rattle.refusals.specs.declared.Acceptance as code
@@ -31,17 +31,17 @@ walked (suc b) (not-made r a ∷ xs) = 1
 
 -- ---- the parts of the explorer
 
--- no step yet
-abbrev pub zeroTally : Tally
-zeroTally = record { cycles = 0; words = 0; depth = 0 }
+-- no step yet of a budget
+abbrev pub zeroTally : ℕ → Tally
+zeroTally budget = record { left = budget; cycles = 0; words = 0; depth = 0 }
 
--- the steps since the last branch, with one more of price p from a state of height h
+-- the steps since the last branch, with one more of price p from a state of height h, and one less left
 unfoldable pub moreOf : Tally → Price → ℕ → Tally
-moreOf t p h = record { cycles = t .cycles + p .cycles; words = t .words + p .words; depth = max (t .depth) h }
+moreOf t p h = record { left = t .left - 1; cycles = t .cycles + p .cycles; words = t .words + p .words; depth = max (t .depth) h }
 
 -- the same where its last step is a branch that jumps, and the extra x is paid
 unfoldable pub jumpedOf : Tally → ℕ → Tally
-jumpedOf t x = record { cycles = t .cycles + x; words = t .words; depth = t .depth }
+jumpedOf t x = record { left = t .left; cycles = t .cycles + x; words = t .words; depth = t .depth }
 
 -- the larger of two costs decides: "T where both ways cost the same cycles"
 unfoldable pub decidedOf : ℕ → ℕ → ℕ → ℕ → ℕ

@@ -2,7 +2,7 @@
 use refusals::Acceptance;
 use refusals::Refusal;
 ghost use mathlib.Core.Path.{_≡_};
-ghost use Prim.Native.Nat.{_≤_, max};
+ghost use Prim.Native.Nat.{_<_, _≤_, max};
 ghost use Rattle.bound_figures.specs.HeldFigures.{zeroTally, price, moreOf, jumpedOf, decidedOf, joinedOf, bothOf, finishedOf, refusedAs, Summable};
 
 // What exploring comes to: the verdict, the steps walked, and where it is accepted the figures of the report.
@@ -16,18 +16,20 @@ pub struct Found {
     pub path: u64,
 }
 
-// What the steps since the last branch come to.
+// What the steps since the last branch come to, and how many are left of the budget.
 pub struct Tally {
+    pub left: usize,
     pub cycles: u64,
     pub words: u64,
     pub depth: u64,
 }
 
-// No step yet.
-pub fn nothing() -> Tally
-    ensures { λ r. ⌜ r ≡ zeroTally ⌝ }
+// No step yet of a budget.
+pub fn nothing(budget: usize) -> Tally
+    ensures { λ r. ⌜ r ≡ zeroTally budget ⌝ }
 {
     Tally {
+        left: budget,
         cycles: 0,
         words: 0,
         depth: 0,
@@ -51,13 +53,14 @@ fn decided(k: u64, l: u64, p: u64, q: u64) -> u64
 
 // One step more, from a state of height `h`.
 pub fn more(t: Tally, cycles: u32, words: u32, h: usize) -> Tally
-    requires { ⌜ (t .cycles ≤ 8589934592000000) × (t .words ≤ 4294967296000000) ⌝ }
+    requires { ⌜ (0 < t .left) × ((t .cycles ≤ 8589934592000000) × (t .words ≤ 4294967296000000)) ⌝ }
     ensures { λ r. ⌜ r ≡ moreOf t (price cycles words) h ⌝ }
 {
     let c = t.cycles + (cycles as u64);
     let w = t.words + (words as u64);
     let depth = larger(t.depth, h as u64);
     Tally {
+        left: t.left - 1,
         cycles: c,
         words: w,
         depth: depth,
@@ -71,6 +74,7 @@ pub fn jumped(t: Tally, extra: u32) -> Tally
 {
     let c = t.cycles + (extra as u64);
     Tally {
+        left: t.left,
         cycles: c,
         words: t.words,
         depth: t.depth,

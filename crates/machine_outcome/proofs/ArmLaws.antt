@@ -1,7 +1,6 @@
 -- The arms of a step, for the step by value and for the explorer's loop: what is known once the outcome is, what each outcome asks of the
 -- stack, and what the step leads to in each arm. Assumes nothing.
 use mathlib.Core.Path.{_≡_, sym, subst, ap, _∙_}
-use mathlib.Core.Bool.{true}
 use mathlib.Core.List.{List}
 use Prim.Native.Nat.{ℕ, _+_, _-_, _≤_, _<_}
 use native.Mathlib.Omega.{arith}
@@ -15,7 +14,7 @@ use Rattle.instructions.specs.declared.Operation.{Operation}
 use Rattle.machine_outcome.specs.declared.Outcome.{Outcome}
 use Rattle.machine_outcome.specs.declared.Outcome.the-variants.{Gives, Operates, Stores, Sets, Gets, Goes, Jumps, Opens, Halts, Stuck}
 use Rattle.machine.specs.Machine.{Price, Next, stops, goes, opens, withExtra, Code, fetch, index, pop, store, load, jump, advance, prepare, step}
-use Rattle.machine_outcome.specs.HeldOutcome.{entryOf, drops, isOnCells, operated, outcome, resume, Room}
+use Rattle.machine_outcome.specs.HeldOutcome.{entryOf, drops, operated, outcome, resume, Room}
 use Rattle.machine_outcome.proofs.TurnLaws as turn
 use Rattle.instructions.specs.HeldColumns.{operationOf}
 use Rattle.instructions.proofs.ColumnLaws.{getD-any}
@@ -37,7 +36,7 @@ pub record Arm (m : Try Next) (ns : List ℕ) (fs : List Cell) (p : Price) (y : 
 
 -- the arm of a step from s at the line l, where the code looks at the place i of the array
 pub arm : (c : Code) (r : Cell) (ns : List ℕ) (fs : List Cell) (s u : State) (l : Line) → fetch c (s .at) ≡ done (lineOf l) → prepare (l .pushes) (advance (whole ns fs s)) ≡ done (whole ns fs u) → WellFormed u → Fits ns fs →
-    (n i : ℕ) (e d : Cell) (out : Outcome) → n ≡ index (l .operand) → (i < 64) × (u .free + entryOf (operationOf (l .code)) n < 64 → i ≡ u .free + entryOf (operationOf (l .code)) n) → e ≡ getD (u .stack) i d →
+    (n i : ℕ) (e d : Cell) (out : Outcome) → n ≡ index (l .operand) → (u .free + entryOf (operationOf (l .code)) n < 64 → i ≡ u .free + entryOf (operationOf (l .code)) n) → e ≡ getD (u .stack) i d →
     out ≡ outcome (operationOf (l .code)) (l .operand) r (64 - u .free) (u .accu) e → Arm (step c r (whole ns fs s)) ns fs (lineOf l .price) (l .extra) (operationOf (l .code)) (l .operand) r u n e out
 arm c r ns fs s u l found ready formed fits n i e d out is place at g = record {
   formed = formed;
@@ -54,8 +53,8 @@ arm c r ns fs s u l found ready formed fits n i e d out is place at g = record {
 
     entry : entryOf (operationOf (l .code)) (index (l .operand)) < 64 - u .free → e ≡ getD (view u .stack) (entryOf (operationOf (l .code)) (index (l .operand))) e
     entry h =
-        let j : i ≡ u .free + entryOf (operationOf (l .code)) n = place .1 (omega (arith, same)) in
-        at ∙ getD-any (u .stack) i d e (omega (arith, place .0, formed .places))
+        let j : i ≡ u .free + entryOf (operationOf (l .code)) n = place (omega (arith, same)) in
+        at ∙ getD-any (u .stack) i d e (omega (arith, j, same, h, formed .places))
         ∙ ap (λ k. getD (u .stack) k e) (j ∙ ap (λ k. u .free + k) same)
         ∙ sym (getD-drop (u .free) (u .stack) (entryOf (operationOf (l .code)) (index (l .operand))) e)
 
@@ -73,9 +72,6 @@ module _ {m : Try Next} {ns : List ℕ} {fs : List Cell} {p : Price} {y : ℕ} {
 
   pub operate-room : (k : ℕ) → out ≡ Operates → k ≡ drops o n → u .free + k ≤ 64
   operate-room k g d = omega (arith, asks Operates g .0, same-drops, a .formed .free)
-
-  pub on-cells : out ≡ Operates → isOnCells o ≡ true
-  on-cells g = asks Operates g .1
 
   pub store-room : out ≡ Stores → u .free + n < 64
   store-room g = omega (arith, asks Stores g, a .index-is, a .formed .free)

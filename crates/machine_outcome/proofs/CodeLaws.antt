@@ -75,6 +75,17 @@ on-two-cells k e p q r = go (ltb k 15) refl
         absurd (omega arith)
     go false l = ltb-false k 15 l
 
+-- a code of an operation that pops the entry it works on
+pub two-cells : (k : ℕ) → drops (operationOf k) 0 ≡ 1 → 15 ≤ k
+unfolding operations operationOf drops row
+two-cells k e = go (ltb k 15) refl
+  where
+    go : (t : Bool) → ltb k 15 ≡ t → 15 ≤ k
+    go true l =
+        let none : drops (operationOf k) 0 ≡ 0 = agree (λ k. drops (operationOf k) 0) (λ k. 0) 15 refl k (ltb-true k 15 l) in
+        absurd (omega (arith, e, none))
+    go false l = ltb-false k 15 l
+
 -- what a code that is neither 2 nor 13 nor one of those drops
 pub drops-none : (k n : ℕ) → (k ≡ 2 → ⊥) → (k ≡ 13 → ⊥) → k < 15 → drops (operationOf k) n ≡ 0
 unfolding operations operationOf drops row

@@ -22,6 +22,13 @@ impl Registers {
         self
     }
 
+    // The place of the top entry.
+    pub fn top(self) -> usize
+        ensures { λ r. ⌜ r ≡ self .free ⌝ }
+    {
+        self.free
+    }
+
     // Without the first `n` entries.
     pub fn pop(mut self, n: usize) -> Self
         requires { ⌜ self .free + n ≤ 64 ⌝ }

@@ -20,7 +20,7 @@ use Rattle.machine_state.specs.declared.State as states
 use Rattle.machine_state.specs.HeldState.{whole}
 use Rattle.cells.specs.declared.Cell.{Cell}
 use Rattle.bound_figures.specs.declared.Found.{Found}
-use Rattle.bound_figures.specs.HeldFigures.{encode, Shows, acceptedAs, finishedOf}
+use Rattle.bound_figures.specs.HeldFigures.{encode, Shows, acceptedAs, zeroTally, finishedOf}
 use Rattle.run_loop.specs.declared.Progress.{Progress}
 use Rattle.run_loop.specs.HeldProgress.{ofProgress}
 use Rattle.bound_explorer.specs.HeldContract.{Explores}
@@ -35,7 +35,7 @@ use Rattle.test_interrupts.specs.declared.Told.{Told}
 -- ---- bounded afresh
 
 -- after STOP
-pub afresh-stopped : (M : State → Verdict) (s : State) (stopped : Bool) → stopped ≡ true → Shows (finishedOf (record { cycles = 0; words = 0; depth = 0 }) 0) (boundedAfresh M stopped s)
+pub afresh-stopped : (M : State → Verdict) (s : State) (stopped : Bool) → stopped ≡ true → Shows (finishedOf (zeroTally 0) 0) (boundedAfresh M stopped s)
 unfolding boundedAfresh finishedOf acceptedAs encode
 afresh-stopped M s stopped e = rw e refl
 

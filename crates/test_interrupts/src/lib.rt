@@ -1,6 +1,5 @@
 // For the comparison in tests/ only: a run of a routine file, interrupted after a number of steps and bounded afresh. The meaning is in specs/.
 use bound_figures::Found;
-use bound_figures::Tally;
 use cells::Cell;
 use file_check::Reader;
 use file_reader::Routine;
@@ -36,12 +35,7 @@ fn afresh(
     ensures { λ r. ⌜ Shows r (boundedAfresh (bound (programOf (now (code .entry))) budget) stopped (whole (sizesOf (now (code .entry))) blocks state)) ⌝ }
 {
     if stopped {
-        let nothing = Tally {
-            cycles: 0,
-            words: 0,
-            depth: 0,
-        };
-        return bound_figures::finished(nothing, 0);
+        return bound_figures::finished(bound_figures::nothing(0), 0);
     }
     bound_explorer::explore(code, state, blocks, 32, budget)
 }

@@ -6,7 +6,7 @@ use Rattle.bound_figures.proofs.more.Tie as tie
 
 returns : tie.Need-returns
 unfolding moreOf
-returns c = simp (c .larger .ensures)
+returns c = simp (c .before .larger .ensures)
 
 pub more-spec : {M : Type 1} → statement M
-more-spec = tie.close (tie.spec (λ c. search needs) (λ c. search needs) (λ c κs. search needs) returns)
+more-spec = tie.close (tie.spec (λ c. search needs) (λ c. search needs) (λ c κs. search needs) (λ c. search needs) returns)

@@ -128,7 +128,7 @@ module _ (a : tie.After-effect-of) where
   arm =
       arms.arm (code s) (s .args .answer) (sizes s) (s .args .blocks) (s .args .t3) (next t) l (sym (found (lined a))) (rises (sizes s) (s .args .blocks) l (s .args .t3) t prepared)
       (record { free = prepared .formed .free; places = prepared .formed .places }) (fits s) n (settled a .entry-place .result) entry (range (pos 0) 0) out
-      (settled a .before .index-of .ensures .0 ∙ ap index (toZ-ofZ w32 _ fitting)) (settled a .entry-place .ensures) refl refl
+      (settled a .before .index-of .ensures .0 ∙ ap index (toZ-ofZ w32 _ fitting)) (settled a .entry-place .ensures .1) refl refl
 
   -- what the step leads to, once the effect is known
   led : (f : Effect) → a .effect-of .result ≡ f → Leads arm f
