@@ -25,7 +25,7 @@ use Rattle.file_format.specs.Rows.{equalLists, blockSizes, total, wellNamed, te
 use Rattle.file_names.specs.declared.Blocks.{Blocks}
 use Rattle.file_names.specs.HeldNames.{BlocksOf}
 use Rattle.file_lines.specs.HeldLines.{wordTest, isWhole}
-use Rattle.file_lines.specs.declared.WordTest.the-variants.{Filled, Present, Kind, Primitive}
+use Rattle.file_lines.specs.declared.WordTest.the-variants.{Filled, Present, Primitive}
 use Rattle.file_lines.proofs.LineLaws.{and-true, and-false, and-through, and-stop}
 use Rattle.file_format.proofs.Section.{the-type}
 use Rattle.file_format.proofs.Role as roles
@@ -194,14 +194,6 @@ module _ (text : List ℕ) where
   named-fixed fields o = absurd (miss (0 ∷ 5 ∷ 6 ∷ []) 4 tt o)
   named-fixed instructions o = refl
   named-fixed answers o = refl
-
-  pub named-kinds : {a r : Bool} → a ≡ all (wordTest Kind) (lineWords text) → a ≡ true → r ≡ distinct (lineWords text) → r ≡ wellNamed kinds (lineWords text)
-  unfolding wellNamed wordTest
-  named-kinds q e h = and-true (sym q ∙ e) h
-
-  pub unnamed-kinds : {a : Bool} → a ≡ all (wordTest Kind) (lineWords text) → a ≡ false → false ≡ wellNamed kinds (lineWords text)
-  unfolding wellNamed wordTest
-  unnamed-kinds q e = and-false (distinct (lineWords text)) (sym q ∙ e)
 
   pub named-primitives : {a r : Bool} → a ≡ all (wordTest Primitive) (lineWords text) → a ≡ true → r ≡ distinct (lineWords text) → r ≡ wellNamed primitives (lineWords text)
   unfolding wellNamed wordTest

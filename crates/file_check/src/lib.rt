@@ -2,7 +2,9 @@
 use file_format::Role;
 use file_format::Section;
 use file_format::layout;
+use file_lines::CodeWords;
 use file_lines::WordTest;
+use instructions::Argument;
 use refusals::Acceptance;
 use refusals::Refusal;
 use text::Place;
@@ -13,15 +15,16 @@ ghost use mathlib.Core.Logic.{_⊎_};
 ghost use Prim.Native.Nat.{ℕ, _≤_};
 ghost use lib.ListN.{length};
 ghost use Rattle.text.specs.Text.{Line, lines, placeAmong, among};
+ghost use Rattle.text.specs.declared.Place.the-variants.{At};
 ghost use Rattle.file_format.specs.declared.Role.the-variants.{Names, Code};
 ghost use Rattle.file_format.specs.declared.Section.the-variants.{Fields};
 ghost use Rattle.file_format.specs.declared.Row.{Row};
 ghost use Rattle.file_format.specs.declared.Row.the-variants.{Layout, Name, Price};
 ghost use Rattle.file_format.specs.Layout.{list, listed};
+ghost use Rattle.file_format.specs.HeldLayout.{Starts};
 ghost use Rattle.file_format.specs.Rows.{wellNamed, laidOut, inRange, named, allKnown, blockSizes, test, refusedLine};
-ghost use Rattle.instructions.specs.Kinds.{kindNames};
-ghost use Rattle.instructions.specs.HeldColumns.{Keyed, Begins, Joined};
-ghost use Rattle.file_lines.specs.HeldLines.{PricesKept};
+ghost use Rattle.instructions.specs.Kinds.{kindNames, kindAt};
+ghost use Rattle.file_lines.specs.HeldLines.{Cut, PricesKept};
 ghost use Rattle.file_check.specs.HeldScan.{Context, Other, HeadingBefore, lineWith, isHeading, roleOf, headingAfter, missing};
 ghost use Rattle.file_check.specs.HeldChecks.{readBy, checkOf, Due, testedBy, keptBy, keptAfter, refusedAt};
 
@@ -32,15 +35,16 @@ pub enum Reader {
 }
 
 // Row 2 on a line that is not code.
-fn laid_out(text: &[u8], role: Role, line: &[u8]) -> bool
+fn laid_out(text: &[u8], places: &[usize; 15], role: Role, line: &[u8]) -> bool
     requires { ⌜ Other role ⌝ }
+    requires { ⌜ Starts (now text) (now places) ⌝ }
     ensures { λ r. ⌜ r ≡ laidOut (lines (now (text .entry))) role (now (line .entry)) ⌝ }
 {
     match role {
         Role::Names(s) => file_lines::names_laid_out(s, line),
         Role::Values(s, c) => file_lines::values_laid_out(
             c,
-            layout::text_of(text, Role::Names(s)),
+            layout::line_in(text, places, Role::Names(s)),
             line,
         ),
         Role::Code(_) => true,
@@ -49,15 +53,16 @@ fn laid_out(text: &[u8], role: Role, line: &[u8]) -> bool
 }
 
 // Row 3 on a line that is not code.
-fn in_range(text: &[u8], role: Role, line: &[u8]) -> bool
+fn in_range(text: &[u8], places: &[usize; 15], role: Role, line: &[u8]) -> bool
     requires { ⌜ Other role ⌝ }
+    requires { ⌜ Starts (now text) (now places) ⌝ }
     ensures { λ r. ⌜ r ≡ inRange (lines (now (text .entry))) role (now (line .entry)) ⌝ }
 {
     match role {
         Role::Names(_) => true,
         Role::Values(s, c) => file_lines::values_in_range(
             c,
-            layout::text_of(text, Role::Names(s)),
+            layout::line_in(text, places, Role::Names(s)),
             line,
         ),
         Role::Code(_) => true,
@@ -73,13 +78,7 @@ fn well_named(s: Section, line: &[u8]) -> bool
         return true;
     }
     match s {
-        Section::Kinds => {
-            if file_lines::all_words(WordTest::Kind, line) {
-                file_names::distinct(line)
-            } else {
-                false
-            }
-        }
+        Section::Kinds => file_lines::kinds_named(line),
         Section::Primitives => {
             if file_lines::all_words(WordTest::Primitive, line) {
                 file_names::distinct(line)
@@ -116,8 +115,9 @@ fn all_known(role: Role, line: &[u8]) -> bool
 }
 
 // Row 2 on a line that is not code, which a line feed ends or not.
-fn laid_out_line(text: &[u8], role: Role, line: &[u8], ended: bool) -> bool
+fn laid_out_line(text: &[u8], places: &[usize; 15], role: Role, line: &[u8], ended: bool) -> bool
     requires { ⌜ Other role ⌝ }
+    requires { ⌜ Starts (now text) (now places) ⌝ }
     ensures { λ r. ⌜ r ≡ test Layout (lines (now (text .entry))) role (lineWith (now (line .entry)) ended) ⌝ }
 {
     if !ended {
@@ -126,7 +126,7 @@ fn laid_out_line(text: &[u8], role: Role, line: &[u8], ended: bool) -> bool
     if !file_lines::all_words(WordTest::Filled, line) {
         return false;
     }
-    laid_out(text, role, line)
+    laid_out(text, places, role, line)
 }
 
 // What the rows look at in a text beside a line: the number of blocks, the first address, the number of code lines.
@@ -148,13 +148,21 @@ struct Tests {
 }
 
 // The rows on a line that is not code.
-fn test_line(text: &[u8], blocks: usize, role: Role, line: &[u8], ended: bool) -> Tests
+fn test_line(
+    text: &[u8],
+    places: &[usize; 15],
+    blocks: usize,
+    role: Role,
+    line: &[u8],
+    ended: bool,
+) -> Tests
     requires { ⌜ Other role ⌝ }
     requires { ⌜ (blocks ≡ length (blockSizes (listed (Names Fields) (lines (now text))))) × (blocks ≤ 8) ⌝ }
+    requires { ⌜ Starts (now text) (now places) ⌝ }
     ensures { λ r. ⌜ ((row : Row) → testedBy row r ≡ test row (lines (now (text .entry))) role (lineWith (now (line .entry)) ended)) ⌝ }
 {
-    let layout = laid_out_line(text, role, line, ended);
-    let range = in_range(text, role, line);
+    let layout = laid_out_line(text, places, role, line, ended);
+    let range = in_range(text, places, role, line);
     let name = named(blocks, role, line);
     let known = all_known(role, line);
     Tests {
@@ -222,31 +230,29 @@ fn code_line(counts: Counts, k: usize, ended: bool, due: bool) -> CodeLine
     }
 }
 
-// The rows on a code line, which is cut into its words once. What rows 4 and 5 look for on other lines is looked for only where they are due: no
-// wrong name stands before. The last three are the tables of `instructions::kind_in`.
+// The rows on a code line that is cut into its words, of a kind that takes `takes`. What rows 4 and 5 look for on other lines is looked for only
+// where they are due: no wrong name stands before.
 fn test_code(
     kinds: &[u8],
     primitives: &[u8],
     at: CodeLine,
     line: &[u8],
+    words: CodeWords,
+    takes: Argument,
     prices: &mut [u8; 61],
-    keyed: &[u8; 256],
-    starts: &[u16; 62],
-    table: &[u8],
 ) -> Tests
     requires { ⌜ (at .first ≤ 60000) × (at .count ≤ 32768) × (at .k ≤ 32768) ⌝ }
     requires { ⌜ PricesKept (list (now kinds)) (now prices) ⌝ }
-    requires { ⌜ Keyed (now keyed) × Begins (now starts) × Joined (now table) ⌝ }
+    requires { ⌜ Cut (now line) words × ((i : ℕ) → words .kind ≡ At i → takes ≡ kindAt i .argument) ⌝ }
     ensures tests { λ r. ⌜ ((ls : List Line) (blocks : ℕ) → Context ls (now (kinds .entry)) (now (primitives .entry)) blocks (at .first) (at .count) → (row : Row) → Due row ls → ((row ≡ Name) ⊎ (row ≡ Price) → at .due ≡ true) → testedBy row r ≡ test row ls (Code (at .k)) (lineWith (now (line .entry)) (at .ended))) ⌝ }
     ensures kept { λ _. ⌜ PricesKept (list (now (kinds .entry))) (now (prices .exit)) ⌝ }
 {
-    let e = text::piece_length(line, b' ');
+    let kind = words.kind;
+    let e = words.at;
+    let f = words.op;
+    let g = words.arg;
     let rest = file_lines::after_word(line, e);
-    let f = text::piece_length(rest, b' ');
     let last = file_lines::after_word(rest, f);
-    let g = text::piece_length(last, b' ');
-    let op = &rest[..f];
-    let kind = instructions::kind_in(keyed, starts, table, op);
     let names = names_due(primitives, at.due);
     let tested = file_lines::test_code(
         at.first as i64,
@@ -254,11 +260,12 @@ fn test_code(
         names,
         at.k,
         kind,
+        takes,
         &line[..e],
         &last[..g],
     );
     let layout = all_three(at.ended, file_lines::is_whole(line, e, f, g), tested.layout);
-    let price = is_priced(kinds, prices, kind, op, at.due);
+    let price = is_priced(kinds, prices, kind, &rest[..f], at.due);
     Tests {
         layout: layout,
         range: tested.range,
@@ -392,14 +399,23 @@ fn misses(i: usize, heading: usize) -> bool
 }
 
 // One scan of the lines: the earliest line that each row refuses. It ends at the first line that row 2 refuses.
-fn scan(text: &[u8], kinds: &[u8], primitives: &[u8], counts: Counts) -> Earliest
-    requires { ⌜ length (now text) ≤ 32768 ⌝ }
+fn scan(
+    text: &[u8],
+    places: &[usize; 15],
+    kinds: &[u8],
+    primitives: &[u8],
+    counts: Counts,
+) -> Earliest
+    requires { ⌜ (length (now text) ≤ 32768) × Starts (now text) (now places) ⌝ }
     requires { ⌜ Context (lines (now text)) (now kinds) (now primitives) (counts .blocks) (counts .first) (counts .count) ⌝ }
     ensures { λ r. ⌜ ((row : Row) → Due row (lines (now (text .entry))) → refusedAt (keptBy row r) ≡ refusedLine row (lines (now (text .entry)))) ⌝ }
 {
     let keyed = instructions::keyed_kinds();
     let starts = instructions::name_starts();
     let table = instructions::all_names();
+    let codes = instructions::argument_codes();
+    let lows = instructions::range_lows();
+    let highs = instructions::range_highs();
     let mut prices = [0u8; 61];
     let mut kept = none_refused();
     let mut rest = text;
@@ -412,18 +428,12 @@ fn scan(text: &[u8], kinds: &[u8], primitives: &[u8], counts: Counts) -> Earlies
         let due = kept.name == 0;
         let tests = if let Role::Code(k) = role {
             let at = code_line(counts, k, ended, due);
-            test_code(
-                kinds,
-                primitives,
-                at,
-                line,
-                &mut prices,
-                &keyed,
-                &starts,
-                &table,
-            )
+            let words = file_lines::cut_code(line, &keyed, &starts, &table);
+            let kind = words.kind;
+            let takes = instructions::argument_in(&codes, &lows, &highs, kind);
+            test_code(kinds, primitives, at, line, words, takes, &mut prices)
         } else {
-            test_line(text, counts.blocks, role, line, ended)
+            test_line(text, places, counts.blocks, role, line, ended)
         };
         let more = keep(kept, tests, (passed + 1) as u32);
         kept = more;
@@ -443,15 +453,17 @@ fn scan(text: &[u8], kinds: &[u8], primitives: &[u8], counts: Counts) -> Earlies
 fn check_rows(
     reader: Reader,
     text: &[u8],
+    places: &[usize; 15],
     kinds: &[u8],
     primitives: &[u8],
     counts: Counts,
 ) -> Acceptance
     requires { ⌜ length (now text) ≤ 32768 ⌝ }
     requires { ⌜ Context (lines (now text)) (now kinds) (now primitives) (counts .blocks) (counts .first) (counts .count) ⌝ }
+    requires { ⌜ Starts (now text) (now places) ⌝ }
     ensures { λ r. ⌜ r ≡ checkOf (readBy reader (now (text .entry))) ⌝ }
 {
-    let refused = scan(text, kinds, primitives, counts);
+    let refused = scan(text, places, kinds, primitives, counts);
     if 0 < refused.layout {
         return Acceptance::Refused(Refusal::Layout(refused.layout));
     }
@@ -486,12 +498,13 @@ pub fn check(reader: Reader, text: &[u8]) -> Acceptance
     if 32768 < text.len() {
         return Acceptance::Refused(Refusal::TextLength);
     }
-    let kinds = layout::text_of(text, Role::Names(Section::Kinds));
-    let primitives = layout::text_of(text, Role::Names(Section::Primitives));
-    let fields = layout::text_of(text, Role::Names(Section::Fields));
+    let places = layout::starts_of(text);
+    let kinds = layout::line_in(text, &places, Role::Names(Section::Kinds));
+    let primitives = layout::line_in(text, &places, Role::Names(Section::Primitives));
+    let fields = layout::line_in(text, &places, Role::Names(Section::Fields));
     let named = file_names::blocks_named(fields);
     let blocks = named.count;
-    let body = layout::body_of(text);
+    let body = layout::body_in(text, &places);
     let first = file_values::first_address(body);
     let count = layout::count_code(body);
     let counts = Counts {
@@ -499,5 +512,5 @@ pub fn check(reader: Reader, text: &[u8]) -> Acceptance
         first: first,
         count: count,
     };
-    check_rows(reader, text, kinds, primitives, counts)
+    check_rows(reader, text, &places, kinds, primitives, counts)
 }

@@ -1,18 +1,22 @@
 -- Which line of the layout holds a role, what a line lists, and the range of AT. Assumes nothing.
-use Prim.Native.Nat.{ℕ, zero, suc, _+_, _<_}
-use mathlib.Core.Path.{_≡_, refl, sym, ap, ap₂, _∙_}
+use Prim.Native.Nat.{ℕ, zero, suc, _+_, _-_, _<_, _≤_}
+use mathlib.Core.Path.{_≡_, refl, sym, ap, ap₂, subst, _∙_}
 use mathlib.Core.Bool.{Bool, true, false, cond, _||_}
 use mathlib.Core.List.{List, [], _∷_}
+use mathlib.Core.Logic.{⊎-elim}
 use native.Mathlib.Omega.{arith}
+use native.Mathlib.Nat.{eq-or-lt-of-le}
 use native.Mathlib.Numerals.{add-one}
 use lib.Dec.{eqb}
-use lib.ListN.{length, getD, drop}
-use lib.Seq.{drop-cons}
+use lib.ListN.{length, getD, set, take, drop, length-drop, drop-of-length-le}
+use lib.Seq.{drop-cons, drop-drop, take-all, getD-set-same, getD-set-other}
 use types.Run.{OneOf, miss}
 use denote.Enum.Declared.{tagOf}
-use borrow.Author.Tests.{eq-eqb, ne-eqb}
-use Rattle.text.specs.Text.{bytes, equals, lineWords, Line, noLine}
+use borrow.Author.Tests.{eqb-true, eqb-false, eq-eqb, ne-eqb}
+use Rattle.text.specs.Text.{bytes, equals, lineWords, Line, lines, noLine}
 use Rattle.text.proofs.TextLaws.{Every, none, more}
+use Rattle.text.proofs.ScanLaws.{firstLength}
+use Rattle.text.proofs.LineLaws.{next-more, next-none}
 use Rattle.instructions.specs.Kinds.{addresses}
 use Rattle.file_format.specs.declared.Section.{Section}
 use Rattle.file_format.specs.declared.Column.{Column}
@@ -133,3 +137,40 @@ role-every P e r (x ∷ rs) (more {x = l} {xs = ls} p ps) = go (isRole r x) (rol
     go : (b : Bool) → P (textAt r rs ls) → P (cond b (l .text) (textAt r rs ls))
     go true h = p
     go false h = h
+
+-- ---- where lines begin
+
+-- what is left from a place on, as the code takes it: `&s[a..]`
+pub rest-from : (a : ℕ) (s : List ℕ) → take (length s - a) (drop a s) ≡ drop a s
+rest-from a s = take-all (length s - a) (drop a s) (rw length-drop (omega arith))
+
+module _ (text : List ℕ) (at n : ℕ) (q : n ≡ firstLength 10 (drop at text)) where
+  pub next-begins : n < length (drop at text) → lines (drop (at + n + 1) text) ≡ drop 1 (lines (drop at text))
+  next-begins h =
+      let e : at + n + 1 ≡ at + (n + 1) = omega arith in
+      ap (λ k. lines (drop k text)) e ∙ ap lines (sym (drop-drop (n + 1) at text)) ∙ ap lines (sym (rest-from (n + 1) (drop at text))) ∙ next-more (drop at text) n q h
+
+  pub none-begins : length (drop at text) ≤ n → lines (drop (length text) text) ≡ drop 1 (lines (drop at text))
+  none-begins h =
+      let all : length text ≤ length text = omega arith in
+      ap lines (drop-of-length-le text all) ∙ next-none (drop at text) n q h
+
+-- one more place is put down
+pub starts-more : (text : List ℕ) (starts : List ℕ) (i at : ℕ) → i < length layout → length starts ≡ 15
+    → ((j : ℕ) → j ≤ i → (getD starts j 0 ≤ length text) × (lines (drop (getD starts j 0) text) ≡ drop j (lines text)))
+    → at ≤ length text → lines (drop at text) ≡ drop 1 (drop i (lines text))
+    → (j : ℕ) → j ≤ i + 1 → (getD (set starts (i + 1) at) j 0 ≤ length text) × (lines (drop (getD (set starts (i + 1) at) j 0) text) ≡ drop j (lines text))
+starts-more text starts i at h s k a e j l = go (eqb j (i + 1)) refl
+  where
+    go : (b : Bool) → eqb j (i + 1) ≡ b → (getD (set starts (i + 1) at) j 0 ≤ length text) × (lines (drop (getD (set starts (i + 1) at) j 0) text) ≡ drop j (lines text))
+    go true q =
+        let z : j ≡ i + 1 = eqb-true j (i + 1) q in
+        let v : at ≡ getD (set starts (i + 1) at) j 0 = sym (ap (λ m. getD (set starts (i + 1) at) m 0) z ∙ getD-set-same starts (i + 1) at 0 (omega arith)) in
+        subst (λ x. (x ≤ length text) × (lines (drop x text) ≡ drop j (lines text))) v (a, e ∙ drop-drop 1 i (lines text) ∙ ap (λ m. drop m (lines text)) (sym z))
+    go false q =
+        let o = eqb-false j (i + 1) q in
+        let v : getD starts j 0 ≡ getD (set starts (i + 1) at) j 0 = sym (getD-set-other starts (i + 1) j at 0 o) in
+        subst (λ x. (x ≤ length text) × (lines (drop x text) ≡ drop j (lines text))) v (k j (less (⊎-elim (λ (z : j ≡ i + 1). absurd (o z)) (λ (z : j < i + 1). z) (eq-or-lt-of-le l))))
+      where
+        less : j < i + 1 → j ≤ i
+        less z = omega arith

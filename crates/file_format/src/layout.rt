@@ -8,12 +8,13 @@ use text::Lookup;
 use text::Place;
 ghost use mathlib.Core.Path.{_≡_};
 ghost use mathlib.Core.List.{[]};
-ghost use Prim.Native.Nat.{_<_};
-ghost use lib.ListN.{length, getD};
+ghost use Prim.Native.Nat.{_<_, _≤_};
+ghost use lib.ListN.{length, getD, drop};
 ghost use Rattle.text.specs.Text.{lines, lookup, find, among};
 ghost use Rattle.instructions.specs.Kinds.{addresses};
 ghost use Rattle.file_format.specs.declared.Role.the-variants.{Code};
 ghost use Rattle.file_format.specs.Layout.{layout, body, codeLines, list, sectionPlace, columnPlace, isNames, isValues, isRole, holdsCells, textAt};
+ghost use Rattle.file_format.specs.HeldLayout.{Starts};
 ghost use Rattle.file_format.specs.Rows.{handles, firstAddresses, atRange, budgets, ticks, cycleCounts, extraCounts, noExtra, wordCounts};
 
 // ---- the lines
@@ -134,6 +135,60 @@ pub fn text_of(text: &[u8], role: Role) -> &[u8]
         i += 1;
     }
     &text[..0]
+}
+
+// Where the next line of a text begins, where a line begins at `at`; the end of the text where there is none.
+fn next_start(text: &[u8], at: usize) -> usize
+    requires { ⌜ at ≤ length (now text) ⌝ }
+    ensures inside { λ r. ⌜ r ≤ length (now (text .entry)) ⌝ }
+    ensures lines { λ r. ⌜ lines (drop r (now (text .entry))) ≡ drop 1 (lines (drop at (now (text .entry)))) ⌝ }
+{
+    let rest = &text[at..];
+    let e = text::piece_length(rest, b'\n');
+    if e < rest.len() {
+        return at + e + 1;
+    }
+    text.len()
+}
+
+// Where each line of the layout begins in a text, and where the lines after it do, to be lent to `line_in` and `body_in`.
+pub fn starts_of(text: &[u8]) -> [usize; 15]
+    ensures { λ r. ⌜ Starts (now (text .entry)) r ⌝ }
+{
+    let mut starts = [0usize; 15];
+    let mut at = 0;
+    let mut i = 0;
+    while i < LINES {
+        at = next_start(text, at);
+        i += 1;
+        starts[i] = at;
+    }
+    starts
+}
+
+// The text of the line of the layout that holds a role, by where the lines begin; no bytes where there is no such line.
+pub fn line_in<'a>(text: &'a [u8], starts: &[usize; 15], role: Role) -> &'a [u8]
+    requires { ⌜ Starts (now text) (now starts) ⌝ }
+    ensures { λ r. ⌜ now r ≡ textAt role layout (lines (now (text .entry))) ⌝ }
+{
+    let mut i = 0;
+    while i < LINES {
+        if is_role(role, role_at(i)) {
+            let at = starts[i];
+            return text::first_line(&text[at..]);
+        }
+        i += 1;
+    }
+    &text[..0]
+}
+
+// The lines after the layout, by where they begin.
+pub fn body_in<'a>(text: &'a [u8], starts: &[usize; 15]) -> &'a [u8]
+    requires { ⌜ Starts (now text) (now starts) ⌝ }
+    ensures { λ r. ⌜ lines (now r) ≡ body (lines (now (text .entry))) ⌝ }
+{
+    let at = starts[LINES];
+    &text[at..]
 }
 
 // The lines after the layout.

@@ -3,3 +3,4 @@ pub mod CodeLaws
 pub mod WholeLaws
 pub mod ExtraLaws
 pub mod PriceLaws
+pub mod SeenLaws

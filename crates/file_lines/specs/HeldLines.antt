@@ -1,13 +1,15 @@
 -- What a word of a line is tested for, and what the tests of the rows come to on a code line.
-use Rattle.refusals.specs.Library.{ℕ, _<_, eqb, ltb, ℤ, pos, _+ℤ_, length, getD, Bool, cond, not, _&&_, List, [], _⊎_, _≡_}
+use Rattle.refusals.specs.Library.{ℕ, _<_, eqb, ltb, ℤ, pos, _+ℤ_, length, getD, set, Bool, false, cond, not, _&&_, List, [], _⊎_, _≡_}
 use Rattle.file_format.specs.Terms.{isEmpty, all, numeral, Place}
 use Rattle.numbers.specs.Numbers.{within}
-use Rattle.text.specs.Text.{among}
+use Rattle.text.specs.declared.Place.the-variants.{At, Missing}
+use Rattle.text.specs.Text.{placeAmong, among}
 use Rattle.instructions.specs.Kinds.{kindNames}
-use Rattle.file_format.specs.Rows.{isNumeral, value, cellWord, isCell, cellInRange, isSingle, cellPresent, isName, cycleCounts, wordCounts, argumentOf, argumentLaidOut, argumentInRange, argumentNamed, argumentReaches, argumentForward, at, arg, onArgument, codeInRange, codeNamed, codeForward}
+use Rattle.file_format.specs.Rows.{isNumeral, value, cellWord, isCell, cellInRange, isSingle, cellPresent, isName, cycleCounts, wordCounts, argumentOf, argumentLaidOut, argumentInRange, argumentNamed, argumentReaches, argumentForward, at, op, arg, onArgument, codeInRange, codeNamed, codeForward}
+use Rattle.file_lines.specs.declared.CodeWords.{CodeWords}
 use Rattle.file_lines.specs.declared.Tested.{Tested}
 use Rattle.file_lines.specs.declared.WordTest.{WordTest}
-use Rattle.file_lines.specs.declared.WordTest.the-variants.{Filled, Numeral, Cycles, Words, Cell, CellRange, Present, Known, Kind, Primitive}
+use Rattle.file_lines.specs.declared.WordTest.the-variants.{Filled, Numeral, Cycles, Words, Cell, CellRange, Present, Known, Primitive}
 
 -- each test as the definition of the routine file has it
 unfoldable pub wordTest : WordTest → List ℕ → Bool
@@ -19,12 +21,28 @@ wordTest Cell w = isCell (cellWord w)
 wordTest CellRange w = cellInRange (cellWord w)
 wordTest (Present n) w = cellPresent n (cellWord w)
 wordTest Known w = isSingle (cellWord w)
-wordTest Kind w = among w kindNames
 wordTest Primitive w = isName w
 
 -- whether the words of a line are three, and none is empty
 unfoldable pub isWhole : List (List ℕ) → Bool
 isWhole ws = all (wordTest Filled) ws && eqb (length ws) 3
+
+-- how many bytes the words of a code line have, and the kind that OP names, by its place
+pub record Cut (line : List ℕ) (c : CodeWords) : Type 0 where
+  pub kind : c .kind ≡ placeAmong (op line) kindNames
+  pub at-length : c .at ≡ length (at line)
+  pub op-length : c .op ≡ length (op line)
+  pub arg-length : c .arg ≡ length (arg line)
+
+-- what is kept of the kinds that were seen: 1 for each of them, else 0. Whether the kind at a place is there and none of them
+unfoldable pub isNew : List ℕ → Place → Bool
+isNew seen (At k) = eqb (getD seen k 0) 0
+isNew seen Missing = false
+
+-- the same with that kind
+unfoldable pub marked : List ℕ → Place → List ℕ
+marked seen (At k) = set seen k 1
+marked seen Missing = seen
 
 -- the tests of the argument w of the kind at a place, on code line k, where the code has n addresses from `first` on and the primitives are ps
 pub record ArgumentTests (first : ℤ) (n : ℕ) (ps : List (List ℕ)) (k : ℕ) (w : List ℕ) (p : Place) (t : Tested) : Type 0 where

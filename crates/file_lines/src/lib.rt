@@ -5,6 +5,7 @@ use file_format::Section;
 use file_format::layout;
 use instructions::Argument;
 use numbers::Range;
+use text::Numeral;
 use text::Place;
 ghost use mathlib.Core.Bool.{true, cond, _&&_};
 ghost use mathlib.Core.Path.{_≡_};
@@ -15,19 +16,21 @@ ghost use lib.ListN.{length, getD, drop};
 ghost use lib.Dec.{ltb};
 ghost use Rattle.text.specs.Text.{lineWords, placeAmong, among, all};
 ghost use Rattle.text.specs.Decimal.{numeral};
+ghost use Rattle.text.specs.HeldMagnitude.{clamped};
 ghost use Rattle.text.specs.declared.Place.the-variants.{At};
 ghost use Rattle.numbers.specs.Numbers.{within, numbers, same};
-ghost use Rattle.instructions.specs.Kinds.{kindNames};
-ghost use Rattle.instructions.specs.HeldColumns.{rangeOf};
+ghost use Rattle.instructions.specs.Kinds.{kindNames, kindAt};
+ghost use Rattle.instructions.specs.HeldColumns.{Keyed, Begins, Joined, rangeOf};
 ghost use Rattle.instructions.specs.declared.Argument.the-variants.{Target};
 ghost use Rattle.file_format.specs.declared.Column.the-variants.{Limit};
+ghost use Rattle.file_format.specs.declared.Section.the-variants.{Kinds};
 ghost use Rattle.file_format.specs.Layout.{list};
-ghost use Rattle.file_format.specs.Rows.{isNumeral, value, at, op, arg, argumentLaidOut, argumentInRange, argumentNamed, argumentReaches, argumentForward, firstAddresses, extraRange, extrasInRange, columnInRange, columnLaidOut, onCells, namesLaidOut, valuesLaidOut};
+ghost use Rattle.file_format.specs.Rows.{isNumeral, value, at, op, arg, argumentLaidOut, argumentInRange, argumentNamed, argumentReaches, argumentForward, firstAddresses, extraRange, extrasInRange, columnInRange, columnLaidOut, onCells, namesLaidOut, valuesLaidOut, wellNamed};
 ghost use Rattle.file_values.specs.HeldValues.{Near};
-ghost use Rattle.file_lines.specs.HeldLines.{wordTest, isWhole, ArgumentTests, CodeTests, PricesKept};
+ghost use Rattle.file_lines.specs.HeldLines.{wordTest, isWhole, isNew, marked, Cut, ArgumentTests, CodeTests, PricesKept};
 
 // What a word is tested for: that it is not empty, spells a number, one of a price's cycles or words, a cell, a cell in range, a
-// handle of one of the blocks that are present, a cell that holds one number or a handle, the name of a kind, a name that a primitive may have.
+// handle of one of the blocks that are present, a cell that holds one number or a handle, a name that a primitive may have.
 pub enum WordTest {
     Filled,
     Numeral,
@@ -37,7 +40,6 @@ pub enum WordTest {
     CellRange,
     Present(u8),
     Known,
-    Kind,
     Primitive,
 }
 
@@ -55,7 +57,6 @@ fn word_passes(t: WordTest, w: &[u8]) -> bool
         WordTest::CellRange => file_values::cell_in_range(w),
         WordTest::Present(n) => file_values::cell_present(n as usize, w),
         WordTest::Known => file_values::is_single(w),
-        WordTest::Kind => instructions::is_kind(w),
         WordTest::Primitive => file_names::is_name(w),
     }
 }
@@ -101,6 +102,42 @@ pub fn names_laid_out(s: Section, line: &[u8]) -> bool
         Section::Instructions => text::same(line, b"AT OP ARG"),
         Section::Answers => text::same(line, b"ANSWER"),
     }
+}
+
+// Whether the kind at a place is there and was not seen, and that it is seen now.
+fn mark(seen: &mut [u8; 61], kind: Place) -> bool
+    requires { ⌜ ((i : ℕ) → kind ≡ At i → i < 61) ⌝ }
+    ensures new { λ r. ⌜ r ≡ isNew (now (seen .entry)) kind ⌝ }
+    ensures marked { λ _. ⌜ now (seen .exit) ≡ marked (now (seen .entry)) kind ⌝ }
+{
+    let Place::At(k) = kind else {
+        return false;
+    };
+    let before = seen[k];
+    seen[k] = 1;
+    before == 0
+}
+
+// Whether the words of a line name kinds, and none stands twice: by the kinds' places, with no word compared with another.
+pub fn kinds_named(line: &[u8]) -> bool
+    ensures { λ r. ⌜ r ≡ wellNamed Kinds (lineWords (now (line .entry))) ⌝ }
+{
+    let keyed = instructions::keyed_kinds();
+    let starts = instructions::name_starts();
+    let names = instructions::all_names();
+    let mut seen = [0u8; 61];
+    let mut rest = line;
+    let mut e = text::piece_length(rest, b' ');
+    while e < rest.len() {
+        let kind = instructions::kind_in(&keyed, &starts, &names, &rest[..e]);
+        if !mark(&mut seen, kind) {
+            return false;
+        }
+        rest = &rest[e + 1..];
+        e = text::piece_length(rest, b' ');
+    }
+    let last = instructions::kind_in(&keyed, &starts, &names, rest);
+    mark(&mut seen, last)
 }
 
 // ---- lines of values
@@ -252,26 +289,27 @@ pub struct Tested {
     pub forward: bool,
 }
 
-// Row 2 on an argument.
-fn argument_laid_out(a: Argument, w: &[u8]) -> bool
+// Row 2 on the argument w, of which n was read as a number.
+fn argument_laid_out(a: Argument, w: &[u8], n: Numeral) -> bool
+    requires { ⌜ n ≡ clamped (numeral (now w)) ⌝ }
     ensures { λ r. ⌜ r ≡ argumentLaidOut (now (w .entry)) a ⌝ }
 {
     match a {
         Argument::Absent => text::same(w, b"-"),
-        Argument::Target => file_values::is_numeral(w),
+        Argument::Target => file_values::is_spelt(n),
         Argument::Primitive => !text::same(w, b"-"),
-        Argument::Within(_) => file_values::is_numeral(w),
+        Argument::Within(_) => file_values::is_spelt(n),
     }
 }
 
-// Row 3 on an argument.
-fn argument_in_range(a: Argument, w: &[u8]) -> bool
+// Row 3 on an argument that was read as n.
+fn argument_in_range(a: Argument, n: Numeral) -> bool
     requires { ⌜ Near (rangeOf a) ⌝ }
-    ensures { λ r. ⌜ r ≡ argumentInRange (now (w .entry)) a ⌝ }
+    ensures { λ r. ⌜ ((w : List ℕ) → n ≡ clamped (numeral w) → r ≡ argumentInRange w a) ⌝ }
 {
     match a {
-        Argument::Target => file_values::is_within(layout::addresses(), w),
-        Argument::Within(r) => file_values::is_within(r, w),
+        Argument::Target => file_values::is_read_within(layout::addresses(), n),
+        Argument::Within(r) => file_values::is_read_within(r, n),
         _ => true,
     }
 }
@@ -286,58 +324,67 @@ fn argument_named(primitives: &[u8], a: Argument, w: &[u8]) -> bool
     layout::is_listed(w, primitives)
 }
 
-// Whether w is one of the n addresses from `first` on.
-fn is_reached(first: i64, n: usize, w: &[u8]) -> bool
+// Whether the number that was read is one of the `count` addresses from `first` on.
+fn is_reached(first: i64, count: usize, n: Numeral) -> bool
     requires { ⌜ within firstAddresses first ≡ true ⌝ }
-    requires { ⌜ n ≤ 32768 ⌝ }
-    ensures { λ r. ⌜ r ≡ argumentReaches first n (now (w .entry)) Target ⌝ }
+    requires { ⌜ count ≤ 32768 ⌝ }
+    ensures { λ r. ⌜ ((w : List ℕ) → n ≡ clamped (numeral w) → r ≡ argumentReaches first count w Target) ⌝ }
 {
-    if n == 0 {
+    if count == 0 {
         return false;
     }
-    let last = first + ((n - 1) as i64);
-    file_values::is_within(
+    let last = first + ((count - 1) as i64);
+    file_values::is_read_within(
         Range {
             low: first,
             high: last,
         },
-        w,
+        n,
     )
 }
 
-// Row 6 on an argument, where the code has n addresses from `first` on.
-fn argument_reaches(first: i64, n: usize, a: Argument, w: &[u8]) -> bool
+// Row 6 on an argument that was read as n, where the code has `count` addresses from `first` on.
+fn argument_reaches(first: i64, count: usize, a: Argument, n: Numeral) -> bool
     requires { ⌜ within firstAddresses first ≡ true ⌝ }
-    requires { ⌜ n ≤ 32768 ⌝ }
-    ensures { λ r. ⌜ r ≡ argumentReaches first n (now (w .entry)) a ⌝ }
+    requires { ⌜ count ≤ 32768 ⌝ }
+    ensures { λ r. ⌜ ((w : List ℕ) → n ≡ clamped (numeral w) → r ≡ argumentReaches first count w a) ⌝ }
 {
     let Argument::Target = a else {
         return true;
     };
-    is_reached(first, n, w)
+    is_reached(first, count, n)
 }
 
-// Row 13 on an argument of code line k, where the first address is `first`.
-fn argument_forward(first: i64, k: usize, a: Argument, w: &[u8]) -> bool
+// Row 13 on an argument of code line k that was read as n, where the first address is `first`.
+fn argument_forward(first: i64, k: usize, a: Argument, n: Numeral) -> bool
     requires { ⌜ within firstAddresses first ≡ true ⌝ }
     requires { ⌜ k ≤ 32768 ⌝ }
-    ensures { λ r. ⌜ r ≡ argumentForward (first +ℤ pos k) (now (w .entry)) a ⌝ }
+    ensures { λ r. ⌜ ((w : List ℕ) → n ≡ clamped (numeral w) → r ≡ argumentForward (first +ℤ pos k) w a) ⌝ }
 {
     let Argument::Target = a else {
         return true;
     };
     let own = first + (k as i64);
-    file_values::is_above(own, w)
+    file_values::is_read_above(own, n)
 }
 
-// The argument w of the kind at a place, on code line k, where the code has n addresses from `first` on: no test fails where OP is unknown.
-fn test_argument(first: i64, n: usize, primitives: &[u8], k: usize, kind: Place, w: &[u8]) -> Tested
+// The argument w of the kind at a place, which takes a, on code line k, where the code has `count` addresses from `first` on: no test fails
+// where OP is unknown. The word is read as a number once.
+fn test_argument(
+    first: i64,
+    count: usize,
+    primitives: &[u8],
+    k: usize,
+    kind: Place,
+    a: Argument,
+    w: &[u8],
+) -> Tested
     requires { ⌜ within firstAddresses first ≡ true ⌝ }
-    requires { ⌜ (n ≤ 32768) × (k ≤ 32768) ⌝ }
-    requires { ⌜ ((i : ℕ) → kind ≡ At i → i < 61) ⌝ }
-    ensures { λ r. ⌜ ArgumentTests first n (list (now (primitives .entry))) k (now (w .entry)) kind r ⌝ }
+    requires { ⌜ (count ≤ 32768) × (k ≤ 32768) ⌝ }
+    requires { ⌜ ((i : ℕ) → kind ≡ At i → (i < 61) × (a ≡ kindAt i .argument)) ⌝ }
+    ensures { λ r. ⌜ ArgumentTests first count (list (now (primitives .entry))) k (now (w .entry)) kind r ⌝ }
 {
-    let Place::At(i) = kind else {
+    let Place::At(_) = kind else {
         return Tested {
             layout: true,
             range: true,
@@ -346,12 +393,12 @@ fn test_argument(first: i64, n: usize, primitives: &[u8], k: usize, kind: Place,
             forward: true,
         };
     };
-    let a = instructions::argument_at(i);
-    let layout = argument_laid_out(a, w);
-    let range = argument_in_range(a, w);
+    let n = text::read_numeral(w);
+    let layout = argument_laid_out(a, w, n);
+    let range = argument_in_range(a, n);
     let name = argument_named(primitives, a, w);
-    let target = argument_reaches(first, n, a, w);
-    let forward = argument_forward(first, k, a, w);
+    let target = argument_reaches(first, count, a, n);
+    let forward = argument_forward(first, k, a, n);
     Tested {
         layout: layout,
         range: range,
@@ -377,46 +424,48 @@ fn is_known(kind: Place) -> bool
     true
 }
 
-// Whether the address w is that of code line k.
-fn is_address(first: i64, k: usize, w: &[u8]) -> bool
+// Whether the address that was read as n is that of code line k.
+fn is_address(first: i64, k: usize, n: Numeral) -> bool
     requires { ⌜ within firstAddresses first ≡ true ⌝ }
     requires { ⌜ k ≤ 32768 ⌝ }
-    ensures { λ r. ⌜ r ≡ same (value (now (w .entry))) (first +ℤ pos k) ⌝ }
+    ensures { λ r. ⌜ ((w : List ℕ) → n ≡ clamped (numeral w) → r ≡ same (value w) (first +ℤ pos k)) ⌝ }
 {
     let own = first + (k as i64);
-    file_values::is_within(
+    file_values::is_read_within(
         Range {
             low: own,
             high: own,
         },
-        w,
+        n,
     )
 }
 
-// Code line k with the address `own` and the argument w, whose OP names the kind at a place, where the code has n addresses from `first` on and `primitives` is the
-// line of their names.
+// Code line k with the address `own` and the argument w, whose OP names the kind at a place, which takes a, where the code has `count`
+// addresses from `first` on and `primitives` is the line of their names.
 pub fn test_code(
     first: i64,
-    n: usize,
+    count: usize,
     primitives: &[u8],
     k: usize,
     kind: Place,
+    a: Argument,
     own: &[u8],
     w: &[u8],
 ) -> Tested
     requires { ⌜ within firstAddresses first ≡ true ⌝ }
-    requires { ⌜ (n ≤ 32768) × (k ≤ 32768) ⌝ }
-    requires { ⌜ ((i : ℕ) → kind ≡ At i → i < 61) ⌝ }
-    ensures { λ r. ⌜ ((line : List ℕ) → now (own .entry) ≡ at line → now (w .entry) ≡ arg line → kind ≡ placeAmong (op line) kindNames → CodeTests first n (list (now (primitives .entry))) k line r) ⌝ }
+    requires { ⌜ (count ≤ 32768) × (k ≤ 32768) ⌝ }
+    requires { ⌜ ((i : ℕ) → kind ≡ At i → (i < 61) × (a ≡ kindAt i .argument)) ⌝ }
+    ensures { λ r. ⌜ ((line : List ℕ) → now (own .entry) ≡ at line → now (w .entry) ≡ arg line → kind ≡ placeAmong (op line) kindNames → CodeTests first count (list (now (primitives .entry))) k line r) ⌝ }
 {
-    let argument = test_argument(first, n, primitives, k, kind, w);
-    let spelt = both(k < 1024, file_values::is_numeral(own));
+    let argument = test_argument(first, count, primitives, k, kind, a, w);
+    let n = text::read_numeral(own);
+    let spelt = both(k < 1024, file_values::is_spelt(n));
     let layout = both(spelt, argument.layout);
     let range = both(
-        file_values::is_within(layout::at_range(k), own),
+        file_values::is_read_within(layout::at_range(k), n),
         argument.range,
     );
-    let known = both(is_address(first, k, own), is_known(kind));
+    let known = both(is_address(first, k, n), is_known(kind));
     let name = both(known, argument.name);
     Tested {
         layout: layout,
@@ -424,6 +473,33 @@ pub fn test_code(
         name: name,
         target: argument.target,
         forward: argument.forward,
+    }
+}
+
+// The words of a code line: the kind that OP names, by its place, and how many bytes AT, OP and ARG have.
+pub struct CodeWords {
+    pub kind: Place,
+    pub at: usize,
+    pub op: usize,
+    pub arg: usize,
+}
+
+// Cuts a code line into its words. The last three are the tables of `instructions::kind_in`.
+pub fn cut_code(line: &[u8], keyed: &[u8; 256], starts: &[u16; 62], names: &[u8]) -> CodeWords
+    requires { ⌜ Keyed (now keyed) × Begins (now starts) × Joined (now names) ⌝ }
+    ensures { λ r. ⌜ Cut (now (line .entry)) r ⌝ }
+{
+    let e = text::piece_length(line, b' ');
+    let rest = after_word(line, e);
+    let f = text::piece_length(rest, b' ');
+    let last = after_word(rest, f);
+    let g = text::piece_length(last, b' ');
+    let kind = instructions::kind_in(keyed, starts, names, &rest[..f]);
+    CodeWords {
+        kind: kind,
+        at: e,
+        op: f,
+        arg: g,
     }
 }
 

@@ -5,13 +5,14 @@ use file_format::layout;
 use numbers::Range;
 use text::Numeral;
 ghost use mathlib.Core.Path.{_≡_};
-ghost use Prim.Native.Nat.{_<_, _≤_};
+ghost use mathlib.Core.List.{List};
+ghost use Prim.Native.Nat.{ℕ, _<_, _≤_};
 ghost use lib.Dec.{ltb};
 ghost use lib.IntN.{natAbs};
 ghost use lib.Signed.{mag, ltZ};
 ghost use Rattle.text.specs.Text.{lines};
 ghost use Rattle.text.specs.Decimal.{numeral};
-ghost use Rattle.text.specs.HeldMagnitude.{most, clamp};
+ghost use Rattle.text.specs.HeldMagnitude.{most, clamp, clamped};
 ghost use Rattle.numbers.specs.Numbers.{naturals, within, numbers};
 ghost use Rattle.cells.specs.Cells.{exactly, between, handle};
 ghost use Rattle.file_format.specs.Rows.{isNumeral, value, knownOf, blockOf, spanOf, spanned, cellWord, isCell, handles, spanInRange, cellInRange, isSingle, cellPresent};
@@ -20,24 +21,39 @@ ghost use Rattle.file_values.specs.HeldValues.{Near, NaturalRange, clamp
 
 // ---- numbers
 
-// Whether w spells a number.
-pub fn is_numeral(w: &[u8]) -> bool
-    ensures { λ r. ⌜ r ≡ isNumeral (numeral (now (w .entry))) ⌝ }
+// Whether a number is spelt, by what was read of a word.
+pub fn is_spelt(n: Numeral) -> bool
+    ensures { λ r. ⌜ ((w : List ℕ) → n ≡ clamped (numeral w) → r ≡ isNumeral (numeral w)) ⌝ }
 {
-    match text::read_numeral(w) {
+    match n {
         Numeral::Misspelt => false,
         Numeral::Number(_) => true,
     }
 }
 
-// What is held of the number that w spells; 0 where it spells none.
-fn held_value(w: &[u8]) -> i64
-    ensures { λ r. ⌜ r ≡ clamp (value (now (w .entry))) ⌝ }
+// Whether w spells a number.
+pub fn is_numeral(w: &[u8]) -> bool
+    ensures { λ r. ⌜ r ≡ isNumeral (numeral (now (w .entry))) ⌝ }
 {
-    match text::read_numeral(w) {
+    is_spelt(text::read_numeral(w))
+}
+
+// What is held of the number that was read; 0 where none is spelt.
+fn value_read(n: Numeral) -> i64
+    ensures { λ r. ⌜ ((w : List ℕ) → n ≡ clamped (numeral w) → r ≡ clamp (value w)) ⌝ }
+{
+    match n {
         Numeral::Misspelt => 0,
         Numeral::Number(z) => z,
     }
+}
+
+// Whether the number that was read is within a range.
+pub fn is_read_within(range: Range, n: Numeral) -> bool
+    requires { ⌜ Near range ⌝ }
+    ensures { λ r. ⌜ ((w : List ℕ) → n ≡ clamped (numeral w) → r ≡ within range (value w)) ⌝ }
+{
+    numbers::within(range, value_read(n))
 }
 
 // Whether the number that w spells is within a range.
@@ -45,15 +61,15 @@ pub fn is_within(range: Range, w: &[u8]) -> bool
     requires { ⌜ Near range ⌝ }
     ensures { λ r. ⌜ r ≡ within range (value (now (w .entry))) ⌝ }
 {
-    numbers::within(range, held_value(w))
+    is_read_within(range, text::read_numeral(w))
 }
 
-// Whether the number that w spells is above another.
-pub fn is_above(low: i64, w: &[u8]) -> bool
+// Whether the number that was read is above another.
+pub fn is_read_above(low: i64, n: Numeral) -> bool
     requires { ⌜ mag low < most ⌝ }
-    ensures { λ r. ⌜ r ≡ ltZ low (value (now (w .entry))) ⌝ }
+    ensures { λ r. ⌜ ((w : List ℕ) → n ≡ clamped (numeral w) → r ≡ ltZ low (value w)) ⌝ }
 {
-    low < held_value(w)
+    low < value_read(n)
 }
 
 // A number of a range; one outside it counts 0.
@@ -67,7 +83,7 @@ pub fn number_in(range: Range, w: &[u8]) -> i64
     requires { ⌜ Near range ⌝ }
     ensures { λ r. ⌜ r ≡ inside range (value (now (w .entry))) ⌝ }
 {
-    inside(range, held_value(w))
+    inside(range, value_read(text::read_numeral(w)))
 }
 
 // A natural number of a range.

@@ -13,6 +13,7 @@ use lib.ListN.{length, getD, List·getD-map}
 use mir.Syntax.{Width}
 use mir.Val.{ofZ, toZ}
 use Rattle.text.specs.Text.{placeAmong, find}
+use Rattle.text.specs.declared.Place.{Place}
 use Rattle.text.specs.declared.Place.the-variants.{At}
 use Rattle.text.proofs.TextLaws.{place-below, find-below}
 use Rattle.numbers.specs.declared.Range.{Range}
@@ -52,6 +53,15 @@ natural-at f k l = column-at f (λ x. x) f 0 refl k l
 
 pub integer-at : (w : Width) (f : Kind → ℤ) → map (λ x. toZ w (ofZ w x)) (map f kinds) ≡ map f kinds → (k : ℕ) → k < 61 → toZ w (ofZ w (getD (map f kinds) k (pos 0))) ≡ f (kindAt k)
 integer-at w f e k l = column-at f (λ x. toZ w (ofZ w x)) f (pos 0) e k l
+
+-- what stands in such a column, as it is read back
+pub read-back : (w : Width) (f : Kind → ℤ) → map (λ x. toZ w (ofZ w x)) (map f kinds) ≡ map f kinds → (k : ℕ) → k < 61 → {x : ℤ} → x ≡ f (kindAt k) → toZ w (ofZ w x) ≡ f (kindAt k)
+unfolding kinds
+read-back w f e k l q = ap (λ z. toZ w (ofZ w z)) (q ∙ sym (column-at f (λ x. x) f (pos 0) refl k l)) ∙ integer-at w f e k l
+
+-- a place holds one kind
+pub one-place : {p : Place} {j k : ℕ} → p ≡ At j → p ≡ At k → j ≡ k
+one-place e f = cc
 
 -- the argument with a code and a range
 abbrev pub decoded : ℕ → Range → Argument

@@ -1,5 +1,5 @@
 -- The table by columns of numbers, as the code has it: what stands in each column at a kind.
-use Rattle.refusals.specs.Library.{ℕ, _+_, _-_, _*_, _%_, _≤_, _<_, length, getD, take, drop, List, [], _∷_, _≡_}
+use Rattle.refusals.specs.Library.{ℕ, _+_, _-_, _*_, _%_, _≤_, _<_, ℤ, pos, length, getD, take, drop, List, [], _∷_, _≡_}
 use Rattle.numbers.specs.declared.Range.{Range}
 use Rattle.numbers.specs.Numbers.{naturals}
 use Rattle.numbers.specs.declared.Comparison.{Comparison}
@@ -57,6 +57,18 @@ rangeOf Absent = naturals 0 0
 rangeOf (Within r) = r
 rangeOf Target = addresses
 rangeOf Primitive = naturals 0 0
+
+-- t holds the code of what each kind takes
+pub record Codes (t : List ℕ) : Type 0 where
+  pub at-kind : (k : ℕ) → k < 61 → getD t k 0 ≡ argumentCode (kindAt k .argument)
+
+-- t holds the lower end of the range of each kind
+pub record Lows (t : List ℤ) : Type 0 where
+  pub at-kind : (k : ℕ) → k < 61 → getD t k (pos 0) ≡ rangeOf (kindAt k .argument) .low
+
+-- t holds the upper end
+pub record Highs (t : List ℤ) : Type 0 where
+  pub at-kind : (k : ℕ) → k < 61 → getD t k (pos 0) ≡ rangeOf (kindAt k .argument) .high
 
 -- the code of each comparison
 unfoldable pub comparisonCode : Comparison → ℕ

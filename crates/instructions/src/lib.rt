@@ -3,12 +3,12 @@ ghost use mathlib.Core.Path.{_≡_};
 ghost use Prim.Native.Nat.{ℕ, _+_, _≤_, _<_};
 ghost use lib.Dec.{ltb};
 ghost use lib.ListN.{length};
-ghost use Rattle.text.specs.Text.{equals, placeAmong, among};
+ghost use Rattle.text.specs.Text.{equals, placeAmong};
 ghost use Rattle.text.specs.Memory.{over};
+ghost use Rattle.text.specs.declared.Place.the-variants.{At};
 ghost use Rattle.instructions.specs.Kinds.{kindNames, calls, kindAt};
-ghost use Rattle.instructions.specs.HeldColumns.{nameStart, nameKey, Keyed, Begins, Joined, argumentCode, rangeOf, operationCode};
+ghost use Rattle.instructions.specs.HeldColumns.{nameStart, nameKey, Keyed, Begins, Joined, argumentCode, rangeOf, Codes, Lows, Highs, operationCode, ByOpcode};
 ghost use Rattle.instructions.specs.Opcodes.{kindCoded};
-ghost use Rattle.instructions.specs.HeldColumns.{ByOpcode};
 use cells::Binary;
 use cells::Unary;
 use numbers::Range;
@@ -99,6 +99,47 @@ pub fn argument_at(k: usize) -> Argument
     match argument_code_at(k) {
         arguments::ABSENT => Argument::Absent,
         arguments::WITHIN => Argument::Within(range_at(k)),
+        arguments::TARGET => Argument::Target,
+        _ => Argument::Primitive,
+    }
+}
+
+// What each kind takes, by its code, to be lent to `argument_in`.
+pub fn argument_codes() -> [u8; 61]
+    ensures { λ r. ⌜ Codes r ⌝ }
+{
+    columns::ARGUMENTS
+}
+
+// The lower ends of the ranges, to be lent to `argument_in`.
+pub fn range_lows() -> [i64; 61]
+    ensures { λ r. ⌜ Lows r ⌝ }
+{
+    columns::LOWS
+}
+
+// The upper ends, to be lent to `argument_in`.
+pub fn range_highs() -> [i64; 61]
+    ensures { λ r. ⌜ Highs r ⌝ }
+{
+    columns::HIGHS
+}
+
+// What the kind at a place takes, by tables that are lent; nothing where there is no kind.
+pub fn argument_in(codes: &[u8; 61], lows: &[i64; 61], highs: &[i64; 61], kind: Place) -> Argument
+    requires { ⌜ Codes (now codes) × Lows (now lows) × Highs (now highs) ⌝ }
+    requires { ⌜ ((k : ℕ) → kind ≡ At k → k < 61) ⌝ }
+    ensures { λ r. ⌜ ((k : ℕ) → kind ≡ At k → r ≡ kindAt k .argument) ⌝ }
+{
+    let Place::At(k) = kind else {
+        return Argument::Absent;
+    };
+    match codes[k] {
+        arguments::ABSENT => Argument::Absent,
+        arguments::WITHIN => Argument::Within(Range {
+            low: lows[k],
+            high: highs[k],
+        }),
         arguments::TARGET => Argument::Target,
         _ => Argument::Primitive,
     }
@@ -231,16 +272,6 @@ pub fn kind_named(w: &[u8]) -> Place
     let starts = name_starts();
     let names = all_names();
     kind_in(&keyed, &starts, &names, w)
-}
-
-// Whether a word names a kind.
-pub fn is_kind(w: &[u8]) -> bool
-    ensures { λ r. ⌜ r ≡ among (now (w .entry)) kindNames ⌝ }
-{
-    let Place::At(_) = kind_named(w) else {
-        return false;
-    };
-    true
 }
 
 // The opcode of a kind.

@@ -13,10 +13,11 @@ returns c = check-long _ _ (c .if1 .taken)
 
 check-rows-requires : tie.Need-check-rows-requires
 check-rows-requires c κs =
-    let found = c .before .before .before in
-    let short = c .before .before .before .before .before .before .before .if1 .left in
+    let found = c .before .before .before .before .before in
+    let placed = c .before .before .before .before .before .before .before .before .before .before .before .before in
+    let short = placed .before .if1 .left in
     let eight : length (found .blocks-named .result .sizes) ≡ 8 = search (found .blocks-named .ok, needs, length-images) in
-    (short, context-found _ _ _ _ _ short (c .before .before .before .before .before .before .text-of .ensures) (c .before .before .before .before .before .text-of2 .ensures) (c .before .before .before .before .text-of3 .ensures) _ (found .blocks-named .ensures) eight (c .before .before .body-of .ensures) _ _ (c .before .first-address .ensures) (c .count-code .ensures))
+    (short, (context-found _ _ _ _ _ short (c .before .before .before .before .before .before .before .before .before .before .line-in .ensures) (c .before .before .before .before .before .before .before .before .line-in2 .ensures) (c .before .before .before .before .before .before .line-in3 .ensures) _ (found .blocks-named .ensures) eight (c .before .before .before .body-in .ensures) _ _ (c .before .before .first-address .ensures) (c .before .count-code .ensures), placed .starts-of .ensures))
 
 returns-2 : tie.Need-returns-2
 returns-2 c = c .check-rows .ensures
@@ -26,6 +27,7 @@ check-spec =
     tie.close
     (tie.spec
     returns
+    (λ c κs. search needs)
     (λ c κs. search needs)
     (λ c κs. search needs)
     (λ c κs. search needs)

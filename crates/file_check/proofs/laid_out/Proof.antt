@@ -14,10 +14,10 @@ returns c = let a = c .before .before .before .before .before .before .args in a
 returns-2 : tie.Need-returns-2
 returns-2 c =
     let a = c .before .before .before .before .before .before .before .args in
-    arm (λ o. laidOut (lines (a .text .now)) o (a .line .now)) (c .before .before .before .role2 .given .1) (laid-values (lines (a .text .now)) (a .line .now) _ _ _ _ (c .before .text-of .ensures) (c .values-laid-out .ensures))
+    arm (λ o. laidOut (lines (a .text .now)) o (a .line .now)) (c .before .before .before .role2 .given .1) (laid-values (lines (a .text .now)) (a .line .now) _ _ _ _ (c .before .line-in .ensures) (c .values-laid-out .ensures))
 
 returns-3 : tie.Need-returns-3
-returns-3 c = code-other _ _ (c .enum-told .given .1) (c .before .before .before .before .pre)
+returns-3 c = code-other _ _ (c .enum-told .given .1) (c .before .before .before .before .pre .0)
 
 returns-4 : tie.Need-returns-4
 unfolding laidOut

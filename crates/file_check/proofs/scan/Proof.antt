@@ -9,6 +9,7 @@ use native.Mathlib.Omega.{arith}
 use lib.Dec.{eqb}
 use lib.ListN.{length}
 use Rattle.text.specs.Text.{lines}
+use Rattle.instructions.proofs.ColumnLaws.{kind-below}
 use Rattle.file_format.specs.declared.Row.{Row}
 use Rattle.file_format.specs.declared.Row.the-variants.{Layout, Name, Price}
 use Rattle.file_format.specs.declared.RefusedLine.{RefusedLine}
@@ -30,12 +31,12 @@ use Rattle.file_check.proofs.scan.Statement.{statement}
 use Rattle.file_check.proofs.scan.Tie as tie
 
 abbrev Inv-loop : tie.InvT-loop
-Inv-loop text kinds primitives counts keyed starts table prices₀ kept₀ rest₀ passed₀ heading₀ prices kept rest passed heading =
+Inv-loop text places kinds primitives counts keyed starts table codes lows highs prices₀ kept₀ rest₀ passed₀ heading₀ prices kept rest passed heading =
     PricesKept (list kinds) prices × HeadingBefore passed heading × (passed + length rest ≤ length text)
     × ((row : Row) → Due row (lines text) → Keeps row text rest passed heading (keptBy row kept))
 
 abbrev μ-loop : tie.MeasureT-loop
-μ-loop text kinds primitives counts keyed starts table prices₀ kept₀ rest₀ passed₀ heading₀ prices kept rest passed heading = length rest
+μ-loop text places kinds primitives counts keyed starts table codes lows highs prices₀ kept₀ rest₀ passed₀ heading₀ prices kept rest passed heading = length rest
 
 loop-holds : tie.Need-loop-holds Inv-loop μ-loop
 loop-holds c = (none-kept-yet _, heading-start, omega arith, λ row d. keeps-start row _ (c .none-refused .ensures row))
@@ -48,32 +49,48 @@ role-of-requires c κs = c .before .before .before .loop .inv .1
 
 -- the number of a line is small
 small : (c : tie.In-loop Inv-loop μ-loop) → c .before .loop .passed ≤ 32768
-small c = let q = c .before .loop .inv .2 in let r = c .before .before .before .before .before .before .before .before .before .pre .0 in omega arith
+small c = let q = c .before .loop .inv .2 in let r = c .before .before .before .before .before .before .before .before .before .before .before .before .pre .0 .0 in omega arith
+
+slice-aggregate-cut-code : tie.Need-slice-aggregate-cut-code Inv-loop μ-loop
+slice-aggregate-cut-code c = search (c .before .before .before .before .before .before .before .before .before .before .before .before .before .before .before .before .before .all-names .ok, needs)
+
+cut-code-requires : tie.Need-cut-code-requires Inv-loop μ-loop
+cut-code-requires c κs =
+    let n = c .before .before .before .before .before .before .before .before .before .before .before .before .before .before .before .before .before in
+    (n .before .before .keyed-kinds .ensures, n .before .name-starts .ensures, n .all-names .ensures)
+
+argument-in-requires : tie.Need-argument-in-requires Inv-loop μ-loop
+argument-in-requires c κs =
+    let h = c .before .before .before .before .before .before .before .before .before .before .before .before .before .before .before .before .before .before in
+    ((h .before .before .argument-codes .ensures, h .before .range-lows .ensures, h .range-highs .ensures), λ k e. kind-below _ (sym (c .before .before .before .cut-code .ensures .kind) ∙ e))
 
 test-code-requires : tie.Need-test-code-requires Inv-loop μ-loop
 test-code-requires c κs =
-    let x = c .before .before .before .before .before .before .before .before .before .before .before .before .before .before .before .before .before .before .before .before .before .pre .1 in
-    let k = small-code _ _ (c .before .before .before .before .before .before .role .given .1) (subst Small (sym (c .before .before .before .before .before .before .before .before .before .role-of .ensures)) (role-small _ _ _ (small (c .before .before .before .before .before .before .before .before .before .before .before .before)))) in
-    (subst (λ (a : CodeLine). (a .first ≤ 60000) × (a .count ≤ 32768) × (a .k ≤ 32768)) (sym (c .before .before .before .before .code-line .ensures)) (address-low x, x .few-lines, k), (c .before .before .before .before .before .before .before .before .before .before .before .before .before .loop .inv .0, (c .before .before .before .before .before .before .before .before .before .before .before .before .before .before .before .before .before .keyed-kinds .ensures, c .before .before .before .before .before .before .before .before .before .before .before .before .before .before .before .before .name-starts .ensures, c .before .before .before .before .before .before .before .before .before .before .before .before .before .before .before .all-names .ensures)))
+    let line = c .before .before .before .before .before .before .before .before .before in
+    let role = line .before .before in
+    let l = role .before .before .before .before .before .before .before in
+    let x = l .before .before .before .before .before .before .before .before .before .before .before .pre .1 in
+    let k = small-code _ _ (role .role .given .1) (subst Small (sym (role .before .before .before .role-of .ensures)) (role-small _ _ _ (small (role .before .before .before .before .before .before)))) in
+    (subst (λ (a : CodeLine). (a .first ≤ 60000) × (a .count ≤ 32768) × (a .k ≤ 32768)) (sym (line .code-line .ensures)) (address-low x, x .few-lines, k), (l .loop .inv .0, (c .before .before .before .before .before .cut-code .ensures, c .before .argument-in .ensures)))
 
 test-line-requires : tie.Need-test-line-requires Inv-loop μ-loop
-test-line-requires c κs = let x = c .before .before .before .before .before .before .before .before .before .before .before .before .before .before .pre .1 in (not-code (c .before .before .role-of .result) (c .match .keys2), (x .blocks-named, x .few-blocks))
+test-line-requires c κs = let s = c .before .before .before .before .before .before .before .before .before .before .before .before .before .before .before .before .before .pre in let x = s .1 in (not-code (c .before .before .role-of .result) (c .match .keys2), ((x .blocks-named, x .few-blocks), s .0 .1))
 
 -- rows 4 and 5 are due as long as row 4 refuses nothing
-names-due : (c : tie.In-loop Inv-loop μ-loop) (row : Row) → Due row (lines (c .before .before .before .before .before .before .before .before .before .args .text .now)) → keptBy row (c .before .loop .kept) ≡ 0 → (row ≡ Name) ⊎ (row ≡ Price) → eqb (c .before .loop .kept .name) 0 ≡ true
+names-due : (c : tie.In-loop Inv-loop μ-loop) (row : Row) → Due row (lines (c .before .before .before .before .before .before .before .before .before .before .before .before .args .text .now)) → keptBy row (c .before .loop .kept) ≡ 0 → (row ≡ Name) ⊎ (row ≡ Price) → eqb (c .before .loop .kept .name) 0 ≡ true
 names-due c row d z =
     ⊎-elim (λ (e : row ≡ Name). eq-eqb (c .before .loop .kept .name) 0 (subst (λ r. keptBy r (c .before .loop .kept) ≡ 0) e z))
-    (λ (e : row ≡ Price). let p = subst (λ r. Due r (lines (c .before .before .before .before .before .before .before .before .before .args .text .now))) e d in none-kept (c .before .loop .inv .3 Name (p .0, p .1)) (p .2))
+    (λ (e : row ≡ Price). let p = subst (λ r. Due r (lines (c .before .before .before .before .before .before .before .before .before .before .before .before .args .text .now))) e d in none-kept (c .before .loop .inv .3 Name (p .0, p .1)) (p .2))
 
 -- what the tests of a line come to, and what is kept of the prices
-tested : (c : tie.At-match-came Inv-loop μ-loop) → PricesKept (list (c .before .before .before .before .before .before .before .before .before .before .before .before .before .before .args .kinds .now)) (c .match .prices)
-    × ((row : Row) → Due row (lines (c .before .before .before .before .before .before .before .before .before .before .before .before .before .before .args .text .now)) → keptBy row (c .before .before .before .before .before .before .loop .kept) ≡ 0 → testedBy row (c .match .tests) ≡ test row (lines (c .before .before .before .before .before .before .before .before .before .before .before .before .before .before .args .text .now)) (c .before .before .role-of .result) (lineWith (c .before .before .before .before .first-line .result .now) (c .before .before .before .line-ends .result)))
+tested : (c : tie.At-match-came Inv-loop μ-loop) → PricesKept (list (c .before .before .before .before .before .before .before .before .before .before .before .before .before .before .before .before .before .args .kinds .now)) (c .match .prices)
+    × ((row : Row) → Due row (lines (c .before .before .before .before .before .before .before .before .before .before .before .before .before .before .before .before .before .args .text .now)) → keptBy row (c .before .before .before .before .before .before .loop .kept) ≡ 0 → testedBy row (c .match .tests) ≡ test row (lines (c .before .before .before .before .before .before .before .before .before .before .before .before .before .before .before .before .before .args .text .now)) (c .before .before .role-of .result) (lineWith (c .before .before .before .before .first-line .result .now) (c .before .before .before .line-ends .result)))
 tested c =
-    let ls = lines (c .before .before .before .before .before .before .before .before .before .before .before .before .before .before .args .text .now) in
+    let ls = lines (c .before .before .before .before .before .before .before .before .before .before .before .before .before .before .before .before .before .args .text .now) in
     let l = lineWith (c .before .before .before .before .first-line .result .now) (c .before .before .before .line-ends .result) in
     ⊎-elim
-    (λ w. (subst (PricesKept (list (c .before .before .before .before .before .before .before .before .before .before .before .before .before .before .args .kinds .now))) (sym (w .9)) (w .8 .ensures .1), λ row d z. ap (testedBy row) (w .10) ∙ code-tests-at ls (c .before .before .before .before .first-line .result .now) (w .8 .result) (w .3 .ensures) (w .8 .ensures .0 ls) _ (c .before .before .before .before .before .before .before .before .before .before .before .before .before .before .pre .1) row d (names-due (c .before .before .before .before .before) row d z) ∙ ap (λ o. test row ls o l) (sym (w .1 .given .1))))
-    (λ w. (subst (PricesKept (list (c .before .before .before .before .before .before .before .before .before .before .before .before .before .before .args .kinds .now))) (sym (w .2)) (c .before .before .before .before .before .before .loop .inv .0), λ row d z. ap (testedBy row) (w .3) ∙ w .1 .ensures row))
+    (λ w. (subst (PricesKept (list (c .before .before .before .before .before .before .before .before .before .before .before .before .before .before .before .before .before .args .kinds .now))) (sym (w .14)) (w .13 .ensures .1), λ row d z. ap (testedBy row) (w .15) ∙ code-tests-at ls (c .before .before .before .before .first-line .result .now) (w .13 .result) (w .3 .ensures) (w .13 .ensures .0 ls) _ (c .before .before .before .before .before .before .before .before .before .before .before .before .before .before .before .before .before .pre .1) row d (names-due (c .before .before .before .before .before) row d z) ∙ ap (λ o. test row ls o l) (sym (w .1 .given .1))))
+    (λ w. (subst (PricesKept (list (c .before .before .before .before .before .before .before .before .before .before .before .before .before .before .before .before .before .args .kinds .now))) (sym (w .2)) (c .before .before .before .before .before .before .loop .inv .0), λ row d z. ap (testedBy row) (w .3) ∙ w .1 .ensures row))
     (c .match .came)
 
 add-keep : tie.Need-add-keep Inv-loop μ-loop
@@ -87,7 +104,7 @@ never e f = let z : _≡_ {A = ℕ} 0 1 = cc in absurd (omega arith)
 
 returns : tie.Need-returns Inv-loop μ-loop
 returns c =
-    let ls = lines (c .before .before .before .before .before .before .before .before .before .before .before .before .before .before .before .before .before .args .text .now) in
+    let ls = lines (c .before .before .before .before .before .before .before .before .before .before .before .before .before .before .before .before .before .before .before .before .args .text .now) in
     let e : refusedLine Layout ls ≡ line (c .before .before .keep .result .layout) =
     keeps-done (c .before .before .before .before .before .before .before .before .before .loop .inv .3 Layout tt) (c .before .before .before .before .before .before .before .before .loop-test .taken) (c .before .before .before .before .before .before .before .first-line .ensures) (c .before .before .before .before .before .before .line-ends .ensures) (c .before .before .before .before .before .role-of .ensures) (tested (c .before .before .before) .1 Layout tt) (c .before .before .keep .ensures Layout) (c .if1 .taken) in
     λ row d. ⊎-elim (λ (q : row ≡ Layout). subst (λ r. refusedAt (keptBy r (c .before .before .keep .result)) ≡ refusedLine r ls) (sym q) (refused-some e (c .if1 .taken))) (λ (q : refusedLine Layout ls ≡ nowhere). never e q) (due-after-layout row ls d)
@@ -118,7 +135,7 @@ misses-requires c κs = c .before .loop .inv .1
 
 -- also where no line is left
 ended : (c : tie.After-loop Inv-loop μ-loop) → c .before .loop .passed ≤ 32768
-ended c = let q = c .before .loop .inv .2 in let r = c .before .before .before .before .before .before .before .before .before .pre .0 in omega arith
+ended c = let q = c .before .loop .inv .2 in let r = c .before .before .before .before .before .before .before .before .before .before .before .before .pre .0 .0 in omega arith
 
 add-keep-2 : tie.Need-add-keep-2 Inv-loop μ-loop
 add-keep-2 c = let s = ended (c .before .before) in omega arith
@@ -139,13 +156,18 @@ scan-spec =
     (λ c κs. search needs)
     (λ c κs. search needs)
     (λ c κs. search needs)
+    (λ c κs. search needs)
+    (λ c κs. search needs)
+    (λ c κs. search needs)
     loop-holds
     (λ c κs. search needs)
     line-ends-requires
     role-of-requires
     (λ c. search needs)
     (λ c κs. search needs)
-    (λ c. search needs)
+    slice-aggregate-cut-code
+    cut-code-requires
+    argument-in-requires
     test-code-requires
     test-line-requires
     add-keep

@@ -9,7 +9,7 @@ returns : tie.Need-returns
 returns c =
     let start = c .before .before .before .before .before .before in
     let a = start .args in
-    other-tests (lines (a .text .now)) (a .role) (start .pre .0) (a .line .now) (a .ended) (c .before .before .before .laid-out-line .ensures) (c .before .before .in-range .ensures) (c .before .named .ensures _ (start .pre .1 .0)) (c .all-known .ensures)
+    other-tests (lines (a .text .now)) (a .role) (start .pre .0) (a .line .now) (a .ended) (c .before .before .before .laid-out-line .ensures) (c .before .before .in-range .ensures) (c .before .named .ensures _ (start .pre .1 .0 .0)) (c .all-known .ensures)
 
 pub test-line-spec : {M : Type 1} → statement M
 test-line-spec =

@@ -10,22 +10,22 @@ use Rattle.file_lines.proofs.argument_forward.Statement.{statement}
 use Rattle.file_lines.proofs.argument_forward.Tie as tie
 
 returns : tie.Need-returns
-returns c = let a = c .before .before .args in no-jump (a .first +ℤ pos (a .k)) (a .w .now) (a .a) (c .match .keys2)
+returns c = λ w e. let a = c .before .args in no-jump (a .first +ℤ pos (a .k)) w (a .a) (c .match .keys2)
 
 add-own : tie.Need-add-own
-add-own c = let start = c .before .before .before in sum-fits (start .args .first) (start .args .k) (start .pre .0) (start .pre .1)
+add-own c = let start = c .before .before in sum-fits (start .args .first) (start .args .k) (start .pre .0) (start .pre .1)
 
-is-above-requires : tie.Need-is-above-requires
-is-above-requires c κs = let start = c .before .before .before in own-near (start .args .first) (start .args .k) (start .pre .0) (start .pre .1)
+is-read-above-requires : tie.Need-is-read-above-requires
+is-read-above-requires c κs = let start = c .before .before in own-near (start .args .first) (start .args .k) (start .pre .0) (start .pre .1)
 
 returns-2 : tie.Need-returns-2
 unfolding argumentForward
-returns-2 c =
-    let start = c .before .before .before .before in
+returns-2 c = λ w e.
+    let start = c .before .before .before in
     let a = start .args in
-    arm (argumentForward (a .first +ℤ pos (a .k)) (a .w .now)) (c .before .enum-told .given .1)
-    (c .is-above .ensures ∙ ap (λ z. argumentForward z (a .w .now) Target) (own-is (a .first) (a .k) (start .pre .0) (start .pre .1)))
+    arm (argumentForward (a .first +ℤ pos (a .k)) w) (c .before .enum-told .given .1)
+    (c .is-read-above .ensures w e ∙ ap (λ z. argumentForward z w Target) (own-is (a .first) (a .k) (start .pre .0) (start .pre .1)))
 
 pub argument-forward-spec : {M : Type 1} → statement M
 argument-forward-spec =
-    tie.close (tie.spec (λ c. search needs) returns (λ c. search needs) add-own is-above-requires returns-2)
+    tie.close (tie.spec (λ c. search needs) returns (λ c. search needs) add-own is-read-above-requires returns-2)

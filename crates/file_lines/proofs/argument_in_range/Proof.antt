@@ -11,25 +11,23 @@ use borrow.Author.Needs.{needs}
 use Rattle.file_lines.proofs.argument_in_range.Statement.{statement}
 use Rattle.file_lines.proofs.argument_in_range.Tie as tie
 
-is-within-requires : tie.Need-is-within-requires
-is-within-requires c κs = near-range 0 62000 (omega arith) (omega arith) (c .addresses .ensures)
+is-read-within-requires : tie.Need-is-read-within-requires
+is-read-within-requires c κs = near-range 0 62000 (omega arith) (omega arith) (c .addresses .ensures)
 
-is-within-requires-2 : tie.Need-is-within-requires-2
+is-read-within-requires-2 : tie.Need-is-read-within-requires-2
 unfolding rangeOf
-is-within-requires-2 c κs = subst Near (ap rangeOf (c .before .a .given .1)) (c .before .before .before .before .pre)
+is-read-within-requires-2 c κs = subst Near (ap rangeOf (c .before .a .given .1)) (c .before .before .before .pre)
 
 returns : tie.Need-returns
 unfolding argumentInRange
-returns c =
-    let w = c .before .before .before .before .before .args .w .now in
-    arm (argumentInRange w) (c .before .before .enum-told .given .1) (c .is-within .ensures ∙ ap (λ r. within r (value w)) (c .before .addresses .ensures))
+returns c = λ w e. arm (argumentInRange w) (c .before .before .enum-told .given .1) (c .is-read-within .ensures w e ∙ ap (λ r. within r (value w)) (c .before .addresses .ensures))
 
 returns-2 : tie.Need-returns-2
 unfolding argumentInRange
-returns-2 c = arm (argumentInRange (c .before .before .before .before .before .args .w .now)) (c .before .before .a .given .1) (c .is-within2 .ensures)
+returns-2 c = λ w e. arm (argumentInRange w) (c .before .before .a .given .1) (c .is-read-within2 .ensures w e)
 
 returns-3 : tie.Need-returns-3
-returns-3 c = no-number (c .before .before .args .w .now) (c .before .before .args .a) (c .match .keys3)
+returns-3 c = λ w e. no-number w (c .before .args .a) (c .match .keys3)
 
 pub argument-in-range-spec : {M : Type 1} → statement M
 argument-in-range-spec =
@@ -37,9 +35,9 @@ argument-in-range-spec =
     (tie.spec
     (λ c. search needs)
     (λ c κs. search needs)
-    is-within-requires
+    is-read-within-requires
     (λ c. search needs)
-    is-within-requires-2
+    is-read-within-requires-2
     returns
     returns-2
     returns-3)

@@ -13,7 +13,7 @@ returns c = arm (argumentLaidOut (c .before .before .before .before .before .arg
 
 returns-2 : tie.Need-returns-2
 unfolding argumentLaidOut
-returns-2 c = arm (argumentLaidOut (c .before .before .before .before .args .w .now)) (c .before .enum-told2 .given .1) (c .is-numeral .ensures)
+returns-2 c = arm (argumentLaidOut (c .before .before .before .before .args .w .now)) (c .before .enum-told2 .given .1) (c .is-spelt .ensures _ (c .before .before .before .before .pre))
 
 returns-3 : tie.Need-returns-3
 unfolding argumentLaidOut
@@ -21,7 +21,7 @@ returns-3 c = arm (argumentLaidOut (c .before .before .before .before .before .a
 
 returns-4 : tie.Need-returns-4
 unfolding argumentLaidOut
-returns-4 c = arm (argumentLaidOut (c .before .before .before .before .args .w .now)) (c .before .enum-told4 .given .1) (c .is-numeral2 .ensures)
+returns-4 c = arm (argumentLaidOut (c .before .before .before .before .args .w .now)) (c .before .enum-told4 .given .1) (c .is-spelt2 .ensures _ (c .before .before .before .before .pre))
 
 pub argument-laid-out-spec : {M : Type 1} → statement M
 argument-laid-out-spec =

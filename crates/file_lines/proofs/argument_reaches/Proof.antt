@@ -11,14 +11,14 @@ use Rattle.file_lines.proofs.argument_reaches.Statement.{statement}
 use Rattle.file_lines.proofs.argument_reaches.Tie as tie
 
 returns : tie.Need-returns
-returns c = let a = c .before .before .args in no-target (a .first) (a .n) (a .w .now) (a .a) (c .match .keys2)
+returns c = λ w e. let a = c .before .args in no-target (a .first) (a .count) w (a .a) (c .match .keys2)
 
 returns-2 : tie.Need-returns-2
-returns-2 c =
-    let start = c .before .before .before .before in
+returns-2 c = λ w e.
+    let start = c .before .before .before in
     let a = start .args in
-    arm (argumentReaches (a .first) (a .n) (a .w .now)) (c .before .enum-told .given .1)
-    (c .is-reached .ensures ∙ ap (λ z. argumentReaches z (a .n) (a .w .now) Target) (toZ-ofZ w64 (a .first) (start .fits .first)))
+    arm (argumentReaches (a .first) (a .count) w) (c .before .enum-told .given .1)
+    (c .is-reached .ensures w e ∙ ap (λ z. argumentReaches z (a .count) w Target) (toZ-ofZ w64 (a .first) (start .fits .first)))
 
 pub argument-reaches-spec : {M : Type 1} → statement M
 argument-reaches-spec = tie.close (tie.spec (λ c. search needs) returns (λ c κs. search needs) returns-2)

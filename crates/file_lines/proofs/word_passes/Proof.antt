@@ -61,12 +61,7 @@ returns-8 c =
 returns-9 : tie.Need-returns-9
 unfolding wordTest
 returns-9 c =
-    arm (λ t. wordTest t (c .before .before .before .before .args .w .now)) (c .before .enum-told8 .given .1) (c .is-kind .ensures)
-
-returns-10 : tie.Need-returns-10
-unfolding wordTest
-returns-10 c =
-    arm (λ t. wordTest t (c .before .before .before .before .args .w .now)) (c .before .enum-told9 .given .1) (c .is-name .ensures)
+    arm (λ t. wordTest t (c .before .before .before .before .args .w .now)) (c .before .enum-told8 .given .1) (c .is-name .ensures)
 
 pub word-passes-spec : {M : Type 1} → statement M
 word-passes-spec =
@@ -92,8 +87,6 @@ word-passes-spec =
     (λ c κs. search needs)
     (λ c. search needs)
     (λ c κs. search needs)
-    (λ c. search needs)
-    (λ c κs. search needs)
     returns
     returns-2
     returns-3
@@ -102,5 +95,4 @@ word-passes-spec =
     returns-6
     returns-7
     returns-8
-    returns-9
-    returns-10)
+    returns-9)

@@ -1,20 +1,10 @@
 -- `file_values::is_within` meets its contract. Assumes nothing.
-use mathlib.Core.Path.{ap, _∙_}
-use mir.Syntax.{w64}
-use mir.ValLaws.{toZ-ofZ}
-use Rattle.numbers.specs.Numbers.{within}
-use Rattle.file_format.specs.Rows.{value}
-use Rattle.file_values.proofs.ValueLaws.{within-clamp}
 use borrow.Author.Needs.{needs}
 use Rattle.file_values.proofs.is_within.Statement.{statement}
 use Rattle.file_values.proofs.is_within.Tie as tie
 
 returns : tie.Need-returns
-returns c =
-    let start = c .before .before .before in
-    c .within .ensures
-    ∙ ap (within (start .args .range)) (toZ-ofZ w64 _ (search needs) ∙ c .before .held-value .ensures)
-    ∙ within-clamp (start .args .range) (value (start .args .w .now)) (start .pre)
+returns c = c .is-read-within .ensures _ (c .before .read-numeral .ensures)
 
 pub is-within-spec : {M : Type 1} → statement M
 is-within-spec = tie.close (tie.spec (λ c κs. search needs) (λ c κs. search needs) returns)

@@ -11,11 +11,11 @@ use Rattle.file_values.proofs.number_in.Tie as tie
 
 returns : tie.Need-returns
 returns c =
-    let start = c .before .before .before in
+    let start = c .before .before .before .before in
     toZ-ofZ w64 _ (search needs)
     ∙ c .inside .ensures
-    ∙ ap (inside (start .args .range)) (toZ-ofZ w64 _ (search needs) ∙ c .before .held-value .ensures)
+    ∙ ap (inside (start .args .range)) (toZ-ofZ w64 _ (search needs) ∙ c .before .value-read .ensures _ (c .before .before .read-numeral .ensures))
     ∙ inside-clamp (start .args .range) (value (start .args .w .now)) (start .pre)
 
 pub number-in-spec : {M : Type 1} → statement M
-number-in-spec = tie.close (tie.spec (λ c κs. search needs) (λ c κs. search needs) returns)
+number-in-spec = tie.close (tie.spec (λ c κs. search needs) (λ c κs. search needs) (λ c κs. search needs) returns)
