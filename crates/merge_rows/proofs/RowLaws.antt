@@ -14,7 +14,7 @@ use Rattle.cells.specs.declared.Cell.{Cell}
 use Rattle.cells.specs.HeldCodes.{decodedCell, decodedCells}
 use Rattle.cells.specs.HeldConfined.{confine, Kept}
 use Rattle.cells.specs.Order.{Pointwise, end, cons}
-use Rattle.cells.proofs.CodeLaws.{cells-drop, cells-length, code-confined, codes-kept, kept-all}
+use Rattle.cells.proofs.CodeLaws.{cells-length, code-confined, codes-kept, kept-all}
 use Rattle.cells.proofs.CellLaws.{kept-self}
 use Rattle.machine.specs.Machine.{State, Price, reblock}
 use Rattle.machine_state.specs.HeldState.{blocksOf, whole}
@@ -22,7 +22,7 @@ use Rattle.merge_theory.specs.Merge.{Arrival, arrival, Slot, empty, unlike, hel
 use Rattle.merge_rows.specs.declared.Way.{Way}
 use Rattle.merge_rows.specs.HeldRows.{Formed, Numeric, part, unusedOf, arrivalOf, stateIn, priceIn, arrivalIn, marked, slotIn}
 use Rattle.merge_rows.proofs.FieldLaws.{blocks-map}
-use Rattle.merge_rows.proofs.PartLaws.{part-end, part-length, part-same, part-written, part-before, start-kept}
+use Rattle.merge_rows.proofs.PartLaws.{part-length, part-same, part-written, part-before, start-kept}
 
 -- ---- the unused places of a stack
 
@@ -172,7 +172,7 @@ module _ (ns : List ℕ) (w : Way) (r p q : List ℕ) (x : ℕ) (rl : length r �
       (blocks ∙ blocks-map confine ns (w .blocks) ∙ kept-blocks (numeric .blocks)))
       (ap₂ price (way-at 2 (omega arith)) (way-at 3 (omega arith)))
 
-module _ (at : ℕ) (r : List ℕ) (a : Cell) (f : ℕ) (st bl : List Cell) (rl : length r ≡ 197) (free : f ≡ unusedOf (getD r 1 0)) (stack : st ≡ decodedCells (part 5 69 r)) (blocks : bl ≡ decodedCells (part 69 197 r)) where
+module _ (at : ℕ) (r : List ℕ) (a : Cell) (f : ℕ) (st bl : List Cell) (rl : length r ≡ 197) (free : f ≡ unusedOf (getD r 1 0)) (full : length st ≡ 64) (stack : drop f st ≡ decodedCells (part (5 + f) 69 r)) (blocks : bl ≡ decodedCells (part 69 197 r)) where
   -- the way that is read of a row
   abbrev read : Way
   read = record { state = record { at = at; accu = a; free = f; stack = st }; blocks = bl; cycles = getD r 2 0; words = getD r 3 0 }
@@ -180,16 +180,12 @@ module _ (at : ℕ) (r : List ℕ) (a : Cell) (f : ℕ) (st bl : List Cell) (rl 
   pub take-holds : (ns : List ℕ) → a ≡ decodedCell (getD r 4 0) → arrivalOf ns read ≡ arrivalIn ns at r
   unfolding stateIn priceIn arrivalOf whole reblock
   take-holds ns accu =
-      let u = unusedOf (getD r 1 0) in
-      let u≤ = unused-most (getD r 1 0) in
       ap (λ (s : State). arrival s (priceIn r))
-      (states at accu
-      (ap₂ drop free stack ∙ sym (cells-drop u (part 5 69 r)) ∙ ap decodedCells (part-end 5 69 u r (omega arith) (omega arith)))
-      (ap (blocksOf ns) blocks))
+      (states at accu (stack ∙ ap (λ (k : ℕ). decodedCells (part (5 + k) 69 r)) free) (ap (blocksOf ns) blocks))
 
   pub take-formed : Formed read
   take-formed = record {
-    state = record { free = rw free (unused-most (getD r 1 0)); places = ap length stack ∙ cells-length (part 5 69 r) ∙ part-length 5 69 r (omega arith) };
+    state = record { free = rw free (unused-most (getD r 1 0)); places = full };
     fields = ap length blocks ∙ cells-length (part 69 197 r) ∙ part-length 69 197 r (omega arith);
   }
 
@@ -198,7 +194,7 @@ module _ (at : ℕ) (r : List ℕ) (a : Cell) (f : ℕ) (st bl : List Cell) (rl 
   take-numeric ns accu = record {
     at = refl;
     accu = rw accu (kept-self (code-confined (getD r 4 0)));
-    stack = rw stack (kept-drop f (codes-kept (part 5 69 r)));
+    stack = rw stack (codes-kept (part (5 + f) 69 r));
     blocks = rw blocks (blocks-kept ns (codes-kept (part 69 197 r)));
   }
 

@@ -61,16 +61,16 @@ fn encode_blocks(blocks: [Cell; 128], fields: &mut [u64], code: &[u32; 5131])
     }
 }
 
-// The cells of a stack.
-fn decode_stack(entries: &[u64]) -> [Cell; 64]
-    requires { ⌜ length (now entries) ≡ 64 ⌝ }
-    ensures { λ r. ⌜ r ≡ decodedCells (now (entries .entry)) ⌝ }
+// A stack whose cells from the place `low` on are those of the numbers; the places before it are unused.
+fn decode_stack(entries: &[u64], low: usize) -> [Cell; 64]
+    requires { ⌜ low + length (now entries) ≡ 64 ⌝ }
+    ensures { λ r. ⌜ (length r ≡ 64) × (drop low r ≡ decodedCells (now (entries .entry))) ⌝ }
 {
     let none = cells::unknown();
     let mut stack = [none; 64];
     let mut i = 0;
-    while i < 64 {
-        stack[i] = cells::decode(entries[i]);
+    while i < entries.len() {
+        stack[low + i] = cells::decode(entries[i]);
         i += 1;
     }
     stack
@@ -185,7 +185,8 @@ pub fn take(at: usize, row: &[u64]) -> Way
 {
     let accu = cells::decode(row[4]);
     let free = unused(row[1]);
-    let stack = decode_stack(&row[5..69]);
+    let first = 5 + free;
+    let stack = decode_stack(&row[first..69], free);
     let s = State {
         at: at,
         accu: accu,
