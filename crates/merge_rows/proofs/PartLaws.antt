@@ -30,15 +30,6 @@ as-end i e l h k =
     ∙ ap (drop i) (take-add i (e - i) l)
     ∙ drop-at (take i l) (take (e - i) (drop i l)) i (length-take-le i l (omega arith))
 
--- the end of a part
-pub part-end : (i e n : ℕ) (l : List ℕ) → i + n ≤ e → e ≤ length l → drop n (part i e l) ≡ part (i + n) e l
-part-end i e n l h k =
-    let t : n + (e - (i + n)) ≡ e - i = omega arith in
-    ap (λ (j : ℕ). drop n (take j (drop i l))) (sym t)
-    ∙ ap (drop n) (take-add n (e - (i + n)) (drop i l))
-    ∙ drop-at (take n (drop i l)) (take (e - (i + n)) (drop n (drop i l))) n (length-take-le n (drop i l) (rw length-drop (omega arith)))
-    ∙ ap (take (e - (i + n))) (drop-drop n i l)
-
 pub part-length : (i e : ℕ) (l : List ℕ) → e ≤ length l → length (part i e l) ≡ e - i
 part-length i e l h = length-take-le (e - i) (drop i l) (rw length-drop (omega arith))
 
