@@ -12,15 +12,16 @@ use lib.Pow.{pow-mono, pow-lt}
 use Rattle.refusals.specs.declared.Refusal.{Refusal}
 use Rattle.refusals.specs.declared.Acceptance.the-variants.{Accepted, Refused}
 use Rattle.cells.specs.declared.Cell.{Cell}
-use Rattle.machine.specs.Machine.{Code}
+use Rattle.cells.specs.Cells.{unknown}
+use Rattle.machine.specs.Machine.{Code, step, reblock}
 use Rattle.machine_state.specs.declared.State.{State}
-use Rattle.machine_state.specs.HeldState.{whole}
+use Rattle.machine_state.specs.HeldState.{view, blocksOf, whole}
 use Rattle.bound_theory.specs.Tree.{Decision, N, T, Report, accepted, refused}
 use Rattle.bound_theory.specs.Tree as bounds
 use Rattle.bound_theory.proofs.PromiseLaws.{interruptible, exact}
 use Rattle.bound_figures.specs.declared.Found.{Found}
 use Rattle.bound_figures.specs.declared.Tally.{Tally}
-use Rattle.bound_figures.specs.HeldFigures.{encode, acceptedAs, Shows, decidedOf, joinedOf, finishedOf, refusedAs}
+use Rattle.bound_figures.specs.HeldFigures.{encode, acceptedAs, Shows, walked, decidedOf, joinedOf, finishedOf, refusedAs}
 use Rattle.bound_figures.proofs.PartLaws.{encode-positive}
 use Rattle.bound_explorer.specs.HeldContract.{Explores, SafeUnder, ExactFor, Bounded}
 
@@ -97,6 +98,14 @@ accepted-verdict (refused x) r q h e =
     absurd (omega arith)
 
 -- ---- the contract
+
+-- what is explored is the state that the code's one stands for
+pub explores-at : (c : Code) (ns : List ℕ) (fs : List Cell) (s s′ : State) (o budget : ℕ) (r : Found) → view s ≡ view s′ → Explores c ns fs s o budget r → Explores c ns fs s′ o budget r
+unfolding whole
+explores-at c ns fs s s′ o budget r e h = record {
+  shows = subst (λ m. Shows r (bounds.explore (step c unknown) o budget (reblock (blocksOf ns fs) m))) e (h .shows);
+  counts = h .counts ∙ ap (λ m. walked budget (bounds.steps (bounds.tree (step c unknown) budget o (reblock (blocksOf ns fs) m)))) e;
+}
 
 module _ (c : Code) (ns : List ℕ) (fs : List Cell) (start : State) (o budget : ℕ) (r : Found) (h : Explores c ns fs start o budget r) where
   pub safe-under : SafeUnder c o budget (whole ns fs start) r

@@ -57,7 +57,8 @@ fn branch(
             taken: over,
         };
     }
-    let untaken = walk(code, registers.advance(), stack, blocks, openings - 1, left);
+    let mut state = State::of(registers, stack).advance();
+    let untaken = explore(code, state, blocks, openings - 1, left);
     let verdict = untaken.verdict;
     if let Acceptance::Refused(refusal) = verdict {
         let taken = bound_figures::refused(refusal, 0);
@@ -68,22 +69,16 @@ fn branch(
     }
     let rest = left - untaken.used;
     let target = machine_outcome::index_of(line.operand);
-    let taken = walk(
-        code,
-        registers.jump(target),
-        stack,
-        blocks,
-        openings - 1,
-        rest,
-    );
+    state = state.jump(target);
+    let taken = explore(code, state, blocks, openings - 1, rest);
     Ways {
         untaken: untaken,
         taken: taken,
     }
 }
 
-// Every way from `registers` with `stack`: a loop of steps, and a call for each way of an unknown branch. The cells of the stack and of the
-// blocks are written in place, where a method would copy the array; the registers stand beside them.
+// Every way from `registers` with `stack`: a loop of steps up to an unknown branch. The cells of the stack and of the blocks are written in
+// place, where a method would copy the array; the registers stand beside them.
 fn walk(
     code: &[u32; 5131],
     mut registers: Registers,
@@ -139,7 +134,8 @@ fn walk(
     bound_figures::refused(Refusal::Spent(registers.at), budget)
 }
 
-// Every way from `start`.
+// Every way from `start`: it is taken apart into its registers and its stack for the loop, and put together again for each way of an unknown
+// branch, where the explorer calls itself.
 pub fn explore(
     code: &[u32; 5131],
     start: State,

@@ -8,7 +8,7 @@ ghost use lib.ListN.{length, getD};
 ghost use Rattle.cells.specs.Try.{done};
 ghost use Rattle.machine.specs.Machine.{push, pop, store, load, advance, jump};
 ghost use Rattle.machine_state.specs.HeldProgram.{sizesOf, IsProgram};
-ghost use Rattle.machine_state.specs.HeldRegisters.{registersOf};
+ghost use Rattle.machine_state.specs.HeldRegisters.{registersOf, withStack};
 ghost use Rattle.machine_state.specs.HeldState.{view, WellFormed, slot, ofSlot};
 
 pub mod code;
@@ -104,6 +104,19 @@ impl State {
     {
         self.at = place;
         self
+    }
+
+    // Of these registers, with this stack.
+    pub fn of(registers: Registers, stack: [Cell; 64]) -> Self
+        ensures { λ r. ⌜ r ≡ withStack registers stack ⌝ }
+    {
+        let accu = cells::same(registers.accu);
+        State {
+            at: registers.at,
+            accu: accu,
+            free: registers.free,
+            stack: stack,
+        }
     }
 
     // What stands beside the stack.

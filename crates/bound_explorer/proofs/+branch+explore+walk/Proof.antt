@@ -1,14 +1,17 @@
--- `walk` and `branch` meet their contracts: a branch has one opening less for each of its ways, and the loop goes on with a smaller
--- budget. Assumes nothing.
+-- `explore`, `walk` and `branch` meet their contracts: a branch has one opening less for each of its ways, and the loop goes on with a
+-- smaller budget. Assumes nothing.
 use Prim.Native.Nat.{ℕ, _+_, _-_, _*_, _≤_, _<_}
 use borrow.Fn.Kinds.{In}
 use borrow.Fn.PlainCycle.{Measures, is, falls, and}
 use Rattle.bound_explorer.proofs.branch.Reads as branch
 use Rattle.bound_explorer.proofs.branch.Kinds as branch-kinds
-use Rattle.bound_explorer.proofs.+branch+walk.Lts-branch as branch-lts
+use Rattle.bound_explorer.proofs.+branch+explore+walk.Lts-branch as branch-lts
+use Rattle.bound_explorer.proofs.explore.Reads as explore
+use Rattle.bound_explorer.proofs.explore.Kinds as explore-kinds
+use Rattle.bound_explorer.proofs.+branch+explore+walk.Lts-explore as explore-lts
 use Rattle.bound_explorer.proofs.walk.Reads as walk
 use Rattle.bound_explorer.proofs.walk.Kinds as walk-kinds
-use Rattle.bound_explorer.proofs.+branch+walk.Lts-walk as walk-lts
+use Rattle.bound_explorer.proofs.+branch+explore+walk.Lts-walk as walk-lts
 use Rattle.bound_explorer.proofs.stuck.Reads as stuck-reads
 use Rattle.bound_explorer.proofs.turns.combined.Reads as combined-reads
 use Rattle.bound_explorer.proofs.turns.reachable.Reads as reachable-reads
@@ -21,15 +24,18 @@ use Rattle.bound_figures.proofs.nothing.Reads as nothing-reads
 use Rattle.bound_figures.proofs.refused.Reads as refused-reads
 use Rattle.cells.proofs.same.Reads as same-reads
 use Rattle.machine_outcome.proofs.index_of.Reads as index-of-reads
+use Rattle.machine_state.proofs.State.advance.Reads as State-advance-reads
+use Rattle.machine_state.proofs.State.jump.Reads as jump-reads
+use Rattle.machine_state.proofs.State.of.Reads as of-reads
+use Rattle.machine_state.proofs.State.registers.Reads as registers-reads
 use Rattle.machine_state.proofs.registers.Registers.advance.Reads as advance-reads
-use Rattle.machine_state.proofs.registers.Registers.jump.Reads as jump-reads
 use Rattle.machine_state.proofs.registers.Registers.load.Reads as load-reads
 use Rattle.machine_state.proofs.registers.Registers.pop.Reads as pop-reads
 use Rattle.machine_state.proofs.registers.Registers.push.Reads as push-reads
 use Rattle.machine_state.proofs.registers.Registers.store.Reads as store-reads
 use Rattle.machine_state.proofs.registers.Registers.top.Reads as top-reads
-use Rattle.bound_explorer.proofs.+branch+walk.{statement}
-use Rattle.bound_explorer.proofs.+branch+walk.Tie.{close}
+use Rattle.bound_explorer.proofs.+branch+explore+walk.{statement}
+use Rattle.bound_explorer.proofs.+branch+explore+walk.Tie.{close}
 use mathlib.Core.Path.{_≡_, refl, sym, ap, subst, _∙_}
 use mathlib.Core.Bool.{true}
 use mathlib.Core.List.{List}
@@ -48,14 +54,14 @@ use Rattle.cells.specs.Try.{Try, done}
 use Rattle.cells.specs.HeldAnswers.{ofOperand}
 use Rattle.cells.specs.declared.Cell.{Cell}
 use Rattle.cells.specs.Cells.{unknown, range}
-use Rattle.machine.specs.Machine.{index, fetch}
+use Rattle.machine.specs.Machine.{index, fetch, jump, advance}
 use Rattle.instructions.specs.HeldColumns.{operationOf}
 use Rattle.machine_outcome.specs.HeldOutcome.{entryOf, operated, outcome}
 use Rattle.machine_outcome.proofs.ArmLaws as arms
 use Rattle.machine_state.specs.declared.State.{State}
 use Rattle.machine_state.specs.declared.code.Line.{Line}
 use Rattle.machine_state.specs.HeldRegisters.{withStack, stored, loaded, advanced}
-use Rattle.machine_state.specs.HeldRegisters as registers
+use Rattle.machine_state.specs.HeldState.{view, WellFormed}
 use Rattle.machine_state.specs.HeldProgram.{programOf, sizesOf, lineOf, ofFetched, Known}
 use Rattle.machine_state.proofs.ProgramLaws.{fetch-within, fits-all}
 use Rattle.machine_state.proofs.Stack.{length-images}
@@ -69,22 +75,32 @@ use Rattle.bound_explorer.specs.HeldWays.{placed, WaysExplored}
 use Rattle.bound_explorer.proofs.LoopLaws.{left-more, left-jumped}
 use Rattle.bound_explorer.proofs.MadeLaws.{leads, within}
 use Rattle.bound_explorer.proofs.ReachLaws.{line-there}
-use Rattle.bound_explorer.proofs.TurnLaws.{Prepared, pushes, keeps, Turn, starts, unreached}
-use Rattle.bound_explorer.proofs.ReturnLaws.{refused-bounded}
+use Rattle.bound_explorer.proofs.TurnLaws.{rises, Prepared, pushes, keeps, Turn, starts, unreached}
+use Rattle.bound_explorer.proofs.ReturnLaws.{refused-bounded, explores-at, safe-under, exact-for}
 use Rattle.bound_explorer.proofs.ArmLaws.{Arm, Kept, goes-on, jumps-on, tally-small, read-place, reads-on, store-place, stores-on, combine-place, combines-on, combines-nothing, set-place, sets-on, get-place, gets-on, spent-out, stuck-out, stops-short, halts-out, both-out, sums}
 
--- twice the number of openings, and one more for the walk: a branch is called with as many as there are, and calls with one less
+-- three times the number of openings, one more for the walk and two for the explorer: a branch is called with as many openings as there are,
+-- and calls with one less
 abbrev μ-branch : Measures 1 branch-kinds.ps ℕ
-μ-branch κs a = 2 * a .1 .1 .1 .1 .1 .0
+μ-branch κs a = 3 * a .1 .1 .1 .1 .1 .0
+
+abbrev μ-explore : Measures 1 explore-kinds.ps ℕ
+μ-explore κs a = 3 * a .1 .1 .1 .0 + 2
 
 abbrev μ-walk : Measures 1 walk-kinds.ps ℕ
-μ-walk κs a = 2 * a .1 .1 .1 .1 .0 + 1
+μ-walk κs a = 3 * a .1 .1 .1 .1 .0 + 1
 
 abbrev branch-at : ℕ → In 1 branch-kinds.ps
 branch-at t = and 1 branch-kinds.ps (is 1 branch-kinds.ps μ-branch t) branch.Pre
 
 abbrev branch-below : ℕ → In 1 branch-kinds.ps
 branch-below t = and 1 branch-kinds.ps (falls 1 branch-kinds.ps _<_ μ-branch t) branch.Pre
+
+abbrev explore-at : ℕ → In 1 explore-kinds.ps
+explore-at t = and 1 explore-kinds.ps (is 1 explore-kinds.ps μ-explore t) explore.Pre
+
+abbrev explore-below : ℕ → In 1 explore-kinds.ps
+explore-below t = and 1 explore-kinds.ps (falls 1 explore-kinds.ps _<_ μ-explore t) explore.Pre
 
 abbrev walk-at : ℕ → In 1 walk-kinds.ps
 walk-at t = and 1 walk-kinds.ps (is 1 walk-kinds.ps μ-walk t) walk.Pre
@@ -96,14 +112,24 @@ abbrev branch-claims : ℕ → branch-lts.Claims
 branch-claims t = (
   refused-reads.Asked,
   refused-reads.Learnt,
-  advance-reads.Asked,
-  advance-reads.Learnt,
-  walk-below t,
-  walk.Post,
+  of-reads.Asked,
+  of-reads.Learnt,
+  State-advance-reads.Asked,
+  State-advance-reads.Learnt,
+  explore-below t,
+  explore.Post,
   index-of-reads.Asked,
   index-of-reads.Learnt,
   jump-reads.Asked,
   jump-reads.Learnt,
+)
+
+abbrev explore-claims : ℕ → explore-lts.Claims
+explore-claims t = (
+  registers-reads.Asked,
+  registers-reads.Learnt,
+  walk-below t,
+  walk.Post,
 )
 
 abbrev walk-claims : ℕ → walk-lts.Claims
@@ -169,13 +195,14 @@ clash v x e f = let g : Accepted ≡ Refused x = sym e ∙ f in let z : _≡_ {A
 branch-fitting : (t : ℕ) (s : Forked t) → SFits w32 (s .args .line .operand)
 branch-fitting t s = search needs
 
--- what is asked for a way of a branch, at any address and with any budget that is left
-lowered : (s : State) (a o left rest : ℕ) → rest ≤ left → Explorable s o left → Explorable (placed a s) (o - 1) rest
-lowered s a o left rest h x = record {
-  formed = record { free = x .formed .free; places = x .formed .places };
-  budget-fits = omega (arith, h, x .budget-fits);
-  openings-fit = omega (arith, x .openings-fit);
-}
+-- the state at the next address, as `advance` gives it
+next-is : (s v : State) → view v ≡ advance (view s) → view v ≡ view (placed (s .at + 1) s)
+next-is s v e = e ∙ sym (rises s)
+
+-- the state at the target, as `jump` gives it from there
+target-is : (s v w : State) (n k : ℕ) → view v ≡ advance (view s) → view w ≡ jump n (view v) → n ≡ k → view w ≡ view (placed k s)
+unfolding advance jump
+target-is s v w n k e g h = g ∙ ap (jump n) e ∙ ap (λ a. view (placed a s)) h
 
 branch-returns : (t : ℕ) → branch-lts.Need-returns (branch-claims t) (branch-at t) branch.Post
 branch-returns t c =
@@ -189,53 +216,76 @@ branch-returns t c =
     }
 
 branch-advance-requires : (t : ℕ) → branch-lts.Need-advance-requires (branch-claims t) (branch-at t) branch.Post
-branch-advance-requires t c κs = c .before .pre .1 .1 .1
-
-branch-sub-walk : (t : ℕ) → branch-lts.Need-sub-walk (branch-claims t) (branch-at t) branch.Post
-branch-sub-walk t c = omega (arith, c .before .if1 .left)
-
-branch-walk-requires : (t : ℕ) → branch-lts.Need-walk-requires (branch-claims t) (branch-at t) branch.Post
-branch-walk-requires t c κs =
+branch-advance-requires t c κs =
     let s : Forked t = c .before .before in
-    (omega (arith, c .before .if1 .left, s .pre .0), (s .pre .1 .0, subst (λ r. Explorable (withStack r (s .args .stack)) (s .args .openings - 1) (s .args .left)) (sym (c .advance .ensures)) (lowered (forked s) (s .args .registers .at + 1) (s .args .openings) (s .args .left) (s .args .left) (omega arith) (s .pre .1 .1 .0))))
+    let f : c .of .result .at ≡ s .args .registers .at = ap (λ x. x .at) (c .of .ensures) in
+    (subst WellFormed (sym (c .of .ensures)) (s .pre .1 .1 .0 .formed), omega (arith, s .pre .1 .1 .1))
+
+branch-sub-explore : (t : ℕ) → branch-lts.Need-sub-explore (branch-claims t) (branch-at t) branch.Post
+branch-sub-explore t c = omega (arith, c .before .before .if1 .left)
+
+branch-explore-requires : (t : ℕ) → branch-lts.Need-explore-requires (branch-claims t) (branch-at t) branch.Post
+branch-explore-requires t c κs =
+    let s : Forked t = c .before .before .before in
+    (omega (arith, c .before .before .if1 .left, s .pre .0), (s .pre .1 .0, record { formed = c .advance .ensures .1; budget-fits = s .pre .1 .1 .0 .budget-fits; openings-fit = omega (arith, s .pre .1 .1 .0 .openings-fit) }))
 
 branch-returns-2 : (t : ℕ) → branch-lts.Need-returns-2 (branch-claims t) (branch-at t) branch.Post
 branch-returns-2 t c =
-    let s : Forked t = c .before .before .before .before .before .before .before in
-    let x = c .before .before .before .before .walk in
+    let s : Forked t = c .before .before .before .before .before .before .before .before in
+    let x = c .before .before .before .before .explore in
     let refuses = c .before .before .verdict .given .1 in
     record {
-      over = λ z. absurd (c .before .before .before .before .before .before .if1 .left z);
-      first = λ z. subst (λ r. Explores (programOf (s .args .code .now)) (sizesOf (s .args .code .now)) (s .args .blocks) (withStack r (s .args .stack)) (s .args .openings - 1) (s .args .left) (x .result)) (c .before .before .before .before .before .advance .ensures) (x .ensures .0);
+      over = λ z. absurd (c .before .before .before .before .before .before .before .if1 .left z);
+      first = λ z. explores-at _ _ _ _ _ _ _ _ (next-is (forked s) (c .before .before .before .before .before .advance .result) (c .before .before .before .before .before .advance .ensures .0 ∙ ap (λ x. advance (view x)) (c .before .before .before .before .before .before .of .ensures))) (x .ensures .0);
       second = λ z e. absurd (clash _ _ e refuses);
-      first-bounded = x .ensures .1;
+      first-bounded = x .ensures .1 .1 .1;
       second-bounded = refused-bounded _ _ 0 _ _ (c .refused2 .ensures) (omega arith);
     }
 
 branch-sub-rest : (t : ℕ) → branch-lts.Need-sub-rest (branch-claims t) (branch-at t) branch.Post
-branch-sub-rest t c = c .before .before .before .walk .ensures .1 .used
+branch-sub-rest t c = c .before .before .before .explore .ensures .1 .1 .1 .used
 
-branch-sub-walk-2 : (t : ℕ) → branch-lts.Need-sub-walk-2 (branch-claims t) (branch-at t) branch.Post
-branch-sub-walk-2 t c = omega (arith, c .before .before .before .before .before .before .before .before .if1 .left)
+branch-jump-requires : (t : ℕ) → branch-lts.Need-jump-requires (branch-claims t) (branch-at t) branch.Post
+branch-jump-requires t c κs = c .before .before .before .before .before .before .advance .ensures .1
 
-branch-walk-requires-2 : (t : ℕ) → branch-lts.Need-walk-requires-2 (branch-claims t) (branch-at t) branch.Post
-branch-walk-requires-2 t c κs =
-    let s : Forked t = c .before .before .before .before .before .before .before .before .before in
-    (omega (arith, c .before .before .before .before .before .before .before .before .if1 .left, s .pre .0), (s .pre .1 .0, subst (λ r. Explorable (withStack r (s .args .stack)) (s .args .openings - 1) (s .args .left - c .before .before .before .before .before .before .walk .result .used)) (sym (c .jump .ensures)) (lowered (forked s) (c .before .index-of .result) (s .args .openings) (s .args .left) (s .args .left - c .before .before .before .before .before .before .walk .result .used) (omega arith) (s .pre .1 .1 .0))))
+branch-sub-explore-2 : (t : ℕ) → branch-lts.Need-sub-explore-2 (branch-claims t) (branch-at t) branch.Post
+branch-sub-explore-2 t c = omega (arith, c .before .before .before .before .before .before .before .before .before .if1 .left)
+
+branch-explore-requires-2 : (t : ℕ) → branch-lts.Need-explore-requires-2 (branch-claims t) (branch-at t) branch.Post
+branch-explore-requires-2 t c κs =
+    let s : Forked t = c .before .before .before .before .before .before .before .before .before .before in
+    (omega (arith, c .before .before .before .before .before .before .before .before .before .if1 .left, s .pre .0), (s .pre .1 .0, record { formed = c .jump .ensures .1; budget-fits = omega (arith, s .pre .1 .1 .0 .budget-fits); openings-fit = omega (arith, s .pre .1 .1 .0 .openings-fit) }))
 
 branch-returns-3 : (t : ℕ) → branch-lts.Need-returns-3 (branch-claims t) (branch-at t) branch.Post
 branch-returns-3 t c =
-    let s : Forked t = c .before .before .before .before .before .before .before .before .before .before in
-    let x = c .before .before .before .before .before .before .before .walk in
-    let y = c .walk2 in
-    let target : c .before .jump .result ≡ registers.placed (index (s .args .line .operand)) (s .args .registers) = c .before .jump .ensures ∙ ap (λ n. registers.placed n (s .args .registers)) (c .before .before .index-of .ensures .0 ∙ ap index (toZ-ofZ w32 _ (branch-fitting t s))) in
+    let s : Forked t = c .before .before .before .before .before .before .before .before .before .before .before in
+    let x = c .before .before .before .before .before .before .before .explore in
+    let y = c .explore2 in
+    let v = c .before .before .before .before .before .before .before .before .advance in
+    let e = v .ensures .0 ∙ ap (λ x. advance (view x)) (c .before .before .before .before .before .before .before .before .before .of .ensures) in
     record {
-      over = λ z. absurd (c .before .before .before .before .before .before .before .before .before .if1 .left z);
-      first = λ z. subst (λ r. Explores (programOf (s .args .code .now)) (sizesOf (s .args .code .now)) (s .args .blocks) (withStack r (s .args .stack)) (s .args .openings - 1) (s .args .left) (x .result)) (c .before .before .before .before .before .before .before .before .advance .ensures) (x .ensures .0);
-      second = λ z d. subst (λ r. Explores (programOf (s .args .code .now)) (sizesOf (s .args .code .now)) (s .args .blocks) (withStack r (s .args .stack)) (s .args .openings - 1) (s .args .left - x .result .used) (y .result)) target (y .ensures .0);
-      first-bounded = x .ensures .1;
-      second-bounded = y .ensures .1;
+      over = λ z. absurd (c .before .before .before .before .before .before .before .before .before .before .if1 .left z);
+      first = λ z. explores-at _ _ _ _ _ _ _ _ (next-is (forked s) (v .result) e) (x .ensures .0);
+      second = λ z d. explores-at _ _ _ _ _ _ _ _ (target-is (forked s) (v .result) (c .before .jump .result) _ _ e (c .before .jump .ensures .0) (c .before .before .index-of .ensures .0 ∙ ap index (toZ-ofZ w32 _ (branch-fitting t s)))) (y .ensures .0);
+      first-bounded = x .ensures .1 .1 .1;
+      second-bounded = y .ensures .1 .1 .1;
     }
+
+-- ---- the state taken apart, and put together again
+
+same : (t : ℕ) (c : explore-lts.After-registers (explore-claims t) (explore-at t) explore.Post) → withStack (c .registers .result) (c .before .before .args .start .stack) ≡ c .before .before .args .start
+same t c = ap (λ r. withStack r (c .before .before .args .start .stack)) (c .registers .ensures)
+
+explore-walk-requires : (t : ℕ) → explore-lts.Need-walk-requires (explore-claims t) (explore-at t) explore.Post
+explore-walk-requires t c κs =
+    let s = c .before .before in
+    (omega (arith, s .pre .0), (s .pre .1 .0, subst (λ x. Explorable x (s .args .openings) (s .args .budget)) (sym (same t c)) (s .pre .1 .1)))
+
+explore-returns : (t : ℕ) → explore-lts.Need-returns (explore-claims t) (explore-at t) explore.Post
+explore-returns t c =
+    let s = c .before .before .before in
+    let x = subst (λ y. Explores (programOf (s .args .code .now)) (sizesOf (s .args .code .now)) (s .args .blocks) y (s .args .openings) (s .args .budget) (c .walk .result)) (same t (c .before)) (c .walk .ensures .0) in
+    (x, (safe-under _ _ _ _ _ _ _ x, (exact-for _ _ _ _ _ _ _ x, c .walk .ensures .1)))
 
 -- ---- places in a turn, and what is known there
 
@@ -670,25 +720,30 @@ walk-returns-5 t c =
 walk-returns-6 : (t : ℕ) → walk-lts.Need-returns-6 (walk-claims t) (walk-at t) walk.Post Inv-loop μ-loop
 walk-returns-6 t c = kept t (c .before .before .before .before) _ (spent-out (c .before .before .before .loop .inv) (omega (arith, c .before .if1 .left)) _ (c .refused .ensures))
 
-pub +branch+walk-spec : {M : Type 1} → statement M
-+branch+walk-spec =
-    close μ-branch μ-walk
+pub +branch+explore+walk-spec : {M : Type 1} → statement M
++branch+explore+walk-spec =
+    close μ-branch μ-explore μ-walk
     (λ t. branch-lts.spec (branch-claims t) (branch-at t) branch.Post
     (λ c κs. search needs)
     (branch-returns t)
+    (λ c κs. search needs)
     (branch-advance-requires t)
-    (branch-sub-walk t)
-    (branch-walk-requires t)
+    (branch-sub-explore t)
+    (branch-explore-requires t)
     (λ c. search needs)
     (λ c κs. search needs)
     (branch-returns-2 t)
     (λ c. search needs)
     (branch-sub-rest t)
     (λ c κs. search needs)
-    (λ c κs. search needs)
-    (branch-sub-walk-2 t)
-    (branch-walk-requires-2 t)
+    (branch-jump-requires t)
+    (branch-sub-explore-2 t)
+    (branch-explore-requires-2 t)
     (branch-returns-3 t))
+    (λ t. explore-lts.spec (explore-claims t) (explore-at t) explore.Post
+    (λ c κs. search needs)
+    (explore-walk-requires t)
+    (explore-returns t))
     λ t. walk-lts.spec (walk-claims t) (walk-at t) walk.Post Inv-loop μ-loop
     (λ c κs. search needs)
     (walk-loop-holds t)
