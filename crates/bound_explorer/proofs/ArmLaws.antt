@@ -29,11 +29,11 @@ use Rattle.bound_figures.specs.declared.Found.{Found}
 use Rattle.bound_figures.specs.declared.Tally.{Tally}
 use Rattle.bound_figures.specs.HeldFigures.{moreOf, jumpedOf, joinedOf, bothOf, finishedOf, refusedAs, Summable}
 use Rattle.bound_figures.proofs.PartLaws.{first-refused, second-refused, both-accepted}
-use Rattle.bound_explorer.specs.declared.turns.Turn as code
-use Rattle.bound_explorer.specs.declared.turns.Turn.the-variants.{Goes, Jumps, Reads, Stores, Combines, Gets, Sets, Opens, Halts, Stuck}
+use Rattle.bound_turns.specs.declared.Turn as code
+use Rattle.bound_turns.specs.declared.Turn.the-variants.{Goes, Jumps, Reads, Stores, Combines, Gets, Sets, Opens, Halts, Stuck}
 use Rattle.bound_explorer.specs.declared.Ways.{Ways}
 use Rattle.bound_explorer.specs.HeldContract.{Explores, Bounded}
-use Rattle.bound_explorer.specs.HeldTurn.{turned, Within}
+use Rattle.bound_turns.specs.HeldTurn.{turned, Within}
 use Rattle.bound_explorer.specs.HeldWays.{WaysExplored}
 use Rattle.bound_explorer.proofs.LoopLaws as loop
 use Rattle.bound_explorer.proofs.TurnLaws as turns

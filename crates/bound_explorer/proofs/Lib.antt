@@ -1,5 +1,3 @@
-pub mod MadeLaws
-pub mod ReachLaws
 pub mod UsedLaws
 pub mod LoopLaws
 pub mod TurnLaws

@@ -25,7 +25,7 @@ use Rattle.machine_state.specs.HeldProgram.{programOf, sizesOf}
 use Rattle.machine_state.proofs.StateLaws.{height-is, pushed, push-is, push-formed, advance-whole}
 use Rattle.bound_figures.specs.declared.Tally.{Tally}
 use Rattle.bound_figures.specs.HeldFigures.{zeroTally, moreOf}
-use Rattle.bound_explorer.specs.HeldTurn.{reached}
+use Rattle.bound_turns.specs.HeldTurn.{reached}
 use Rattle.bound_explorer.proofs.LoopLaws as loop
 
 -- ---- the push, and the next address

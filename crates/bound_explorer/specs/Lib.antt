@@ -1,3 +1,2 @@
 pub mod HeldContract
-pub mod HeldTurn
 pub mod HeldWays

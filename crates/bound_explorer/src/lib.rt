@@ -2,6 +2,7 @@
 use bound_figures::Found;
 use bound_figures::Tally;
 use bound_figures::both;
+use bound_turns::Turn;
 use cells::Cell;
 use cells::Operand;
 use machine_state::State;
@@ -10,7 +11,6 @@ use machine_state::code::Line;
 use machine_state::registers::Registers;
 use refusals::Acceptance;
 use refusals::Refusal;
-use turns::Turn;
 ghost use mathlib.Core.Path.{_≡_};
 ghost use Prim.Native.Nat.{_<_};
 ghost use Rattle.refusals.specs.declared.Refusal.the-variants.{Stuck};
@@ -20,8 +20,6 @@ ghost use Rattle.machine_state.specs.HeldState.{whole};
 ghost use Rattle.machine_state.specs.HeldProgram.{programOf, sizesOf, IsProgram};
 ghost use Rattle.bound_explorer.specs.HeldContract.{Explorable, Explores, SafeUnder, ExactFor, Bounded};
 ghost use Rattle.bound_explorer.specs.HeldWays.{WaysExplored};
-
-pub mod turns;
 
 // What the two ways of a branch come to.
 pub struct Ways {
@@ -94,7 +92,7 @@ fn walk(
 {
     let mut tally = bound_figures::nothing(budget);
     while 0 < tally.left {
-        let Fetched::Is(line) = turns::reachable(code, registers) else {
+        let Fetched::Is(line) = bound_turns::reachable(code, registers) else {
             return stuck(registers, budget - tally.left + 1);
         };
         tally = bound_figures::more(tally, line.cycles, line.words, 64 - registers.free);
@@ -103,7 +101,7 @@ fn walk(
             stack[registers.top()] = cells::same(registers.accu);
         }
         let top = registers.top();
-        match turns::turn_of(code, line, registers) {
+        match bound_turns::turn_of(code, line, registers) {
             Turn::Goes(next) => registers = next,
             Turn::Jumps(next) => {
                 tally = bound_figures::jumped(tally, line.extra);
@@ -114,7 +112,7 @@ fn walk(
                 stack[entry] = cells::same(registers.accu);
                 registers = registers.store().advance();
             }
-            Turn::Combines => match turns::combined(line.code, registers.accu, stack[top]) {
+            Turn::Combines => match bound_turns::combined(line.code, registers.accu, stack[top]) {
                 Operand::Is(c) => registers = registers.pop(1).load(c).advance(),
                 Operand::Stuck => return stuck(registers, budget - tally.left),
             },

@@ -13,9 +13,9 @@ use Rattle.bound_explorer.proofs.walk.Reads as walk
 use Rattle.bound_explorer.proofs.walk.Kinds as walk-kinds
 use Rattle.bound_explorer.proofs.+branch+explore+walk.Lts-walk as walk-lts
 use Rattle.bound_explorer.proofs.stuck.Reads as stuck-reads
-use Rattle.bound_explorer.proofs.turns.combined.Reads as combined-reads
-use Rattle.bound_explorer.proofs.turns.reachable.Reads as reachable-reads
-use Rattle.bound_explorer.proofs.turns.turn_of.Reads as turn-of-reads
+use Rattle.bound_turns.proofs.combined.Reads as combined-reads
+use Rattle.bound_turns.proofs.reachable.Reads as reachable-reads
+use Rattle.bound_turns.proofs.turn_of.Reads as turn-of-reads
 use Rattle.bound_figures.proofs.both.Reads as both-reads
 use Rattle.bound_figures.proofs.finished.Reads as finished-reads
 use Rattle.bound_figures.proofs.jumped.Reads as jumped-reads
@@ -69,12 +69,12 @@ use Rattle.bound_figures.specs.declared.Found.{Found}
 use Rattle.bound_figures.specs.declared.Tally.{Tally}
 use Rattle.bound_figures.specs.HeldFigures.{jumpedOf, bothOf, finishedOf, refusedAs, Summable}
 use Rattle.bound_explorer.specs.declared.Ways.{Ways}
-use Rattle.bound_explorer.specs.HeldTurn.{turned, Within}
+use Rattle.bound_turns.specs.HeldTurn.{turned, Within}
 use Rattle.bound_explorer.specs.HeldContract.{Explorable, Explores, Bounded}
 use Rattle.bound_explorer.specs.HeldWays.{placed, WaysExplored}
 use Rattle.bound_explorer.proofs.LoopLaws.{left-more, left-jumped}
-use Rattle.bound_explorer.proofs.MadeLaws.{leads, within}
-use Rattle.bound_explorer.proofs.ReachLaws.{line-there}
+use Rattle.bound_turns.proofs.MadeLaws.{leads, within}
+use Rattle.bound_turns.proofs.ReachLaws.{line-there}
 use Rattle.bound_explorer.proofs.TurnLaws.{rises, Prepared, pushes, keeps, Turn, starts, unreached}
 use Rattle.bound_explorer.proofs.ReturnLaws.{refused-bounded, explores-at, safe-under, exact-for}
 use Rattle.bound_explorer.proofs.ArmLaws.{Arm, Kept, goes-on, jumps-on, tally-small, read-place, reads-on, store-place, stores-on, combine-place, combines-on, combines-nothing, set-place, sets-on, get-place, gets-on, spent-out, stuck-out, stops-short, halts-out, both-out, sums}
