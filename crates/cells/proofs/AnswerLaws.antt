@@ -11,7 +11,6 @@ use Rattle.cells.specs.declared.Cell.{Cell}
 use Rattle.cells.specs.declared.Unary.{Unary}
 use Rattle.cells.specs.declared.Binary.{Binary}
 use Rattle.cells.specs.Cells.{range, exactly, map₁, compareHandles, combineHandles, map₂, operate₁, operate₂}
-use Rattle.cells.specs.Merge.{mergeValues, mergeCells}
 use Rattle.cells.specs.Try.{Try}
 
 -- r is the wrapped result of the operation d
@@ -35,7 +34,3 @@ compared c j k p e = e ∙ ap (λ d. compareHandles d j k) (sym p)
 
 pub combined : (b : Binary) (j k : ℕ) {d : Binary} {m : Try Cell} → b ≡ d → m ≡ combineHandles d j k → m ≡ combineHandles b j k
 combined b j k p e = e ∙ ap (λ d. combineHandles d j k) (sym p)
-
-pub merged-values : (a c : Cell) {v w : Value} {m : Try Cell} → a .value ≡ v → c .value ≡ w → m ≡ mergeValues v w → m ≡ mergeCells a c
-unfolding mergeCells
-merged-values a c {w = w} p q e = e ∙ ap (λ v. mergeValues v w) (sym p) ∙ ap (mergeValues (a .value)) (sym q)

@@ -1,7 +1,7 @@
 -- Ranges in the code's 64 bits: what is computed fits, and is read back. Assumes nothing.
 use mathlib.Core.Path.{_≡_, refl, sym, ap, ap₂, subst, _∙_}
 use mathlib.Core.Bool.{Bool, true, false, cond}
-use Prim.Native.Nat.{ℕ, _+_, _-_, _*_, _/_, _%_, _^_, _<_, _≤_}
+use Prim.Native.Nat.{ℕ, _+_, _-_, _/_, _%_, _^_, _<_, _≤_}
 use native.Mathlib.Omega.{arith}
 use lib.Dec.{T}
 use lib.IntN.{ℤ, pos, negsuc, negℤ, natAbs, _+ℤ_, _-ℤ_, +ℤ-idl}
@@ -9,15 +9,13 @@ use lib.Signed.{mag, nonNeg, leZ, ltZ}
 use mir.Syntax.{w32, w64}
 use mir.Val.{SFits, toZ}
 use mir.ValLaws.{toZ-ofZ, toZ-pos}
-use borrow.Author.Tests.{le-leb, lt-leb}
 use Rattle.numbers.specs.Numbers.{bits, half, modulus, numbers}
 use Rattle.numbers.proofs.SignedLaws.{read}
-use Rattle.numbers.proofs.IntegerLaws.{over, under, sum-is, difference-is, negate-is, le-yes, le-no, lt-true, lt-false, equal-by, mag-over}
+use Rattle.numbers.proofs.IntegerLaws.{over, under, sum-is, difference-is, negate-is, le-yes, le-no, lt-true, lt-false, mag-over}
 use Rattle.cells.specs.declared.Cell.{Cell}
 use Rattle.cells.specs.declared.Unary.{Unary}
 use Rattle.cells.specs.declared.Unary.the-variants.{Offset, Negate, Complement}
-use Rattle.cells.specs.Cells.{range, high, unknown, between, handle, calculate₁, results, least₁}
-use Rattle.cells.specs.HeldCodes.{decodedCell}
+use Rattle.cells.specs.Cells.{range, high, unknown, between, calculate₁, results, least₁}
 use Rattle.cells.specs.HeldSmall.{Small}
 use Rattle.cells.proofs.RangeLaws.{InBits, Results, fits, whole, results-is}
 
@@ -206,37 +204,6 @@ counted low h e g = rw e (go (low +ℤ pos (half bits)) (shifted-unsigned low 0 
     go : (z : ℤ) → Unsigned z (2 ^ 32) → over z + (under low + 0) ≡ over low + half bits + under z → Counted low z
     go (pos n) u s = record { sign = u .sign; few = u .few; is = omega arith }
     go (negsuc n) u s = absurd (u .sign)
-
-pub encoded-wide : decodedCell 2147483647 ≡ unknown
-unfolding decodedCell
-encoded-wide = refl
-
-pub encoded-range : (low : ℤ) (more l : ℕ) → l + under low ≡ over low + half bits → l + more ≤ modulus bits - 1 → decodedCell (l * 2147483648 + (l + more)) ≡ results low more
-unfolding decodedCell
-encoded-range low more l e h =
-    let x = l * 2147483648 + (l + more) in
-    let q : x / modulus bits ≡ l = omega arith in
-    let r : x % modulus bits ≡ l + more = omega arith in
-    let b : InBits low more = record { above = omega arith; below = omega arith } in
-    let s = difference-is (pos l) (pos (half bits)) in
-    let z : pos l -ℤ pos (half bits) ≡ low = equal-by (pos l -ℤ pos (half bits)) low (omega arith) in
-    let m : l + more - l ≡ more = omega arith in
-    rw (q, r) (rw (le-leb l (l + more) (omega arith)) (ap₂ range z m ∙ results-inner low more b))
-
-pub encoded-handle : (k : ℕ) → k < 256 → decodedCell (549755813888 + k) ≡ handle k
-unfolding decodedCell
-encoded-handle k h =
-    let x = 549755813888 + k in
-    let e : x % 256 ≡ k = omega arith in
-    rw (lt-leb (x / modulus bits) (x % modulus bits) (omega arith)) (ap handle e)
-
-pub decoded-handle : (x : ℕ) → x % 2147483648 < x / 2147483648 → handle (x % 256) ≡ decodedCell x
-unfolding decodedCell
-decoded-handle x h = rw (lt-leb (x / modulus bits) (x % modulus bits) h) refl
-
-pub decoded-range : (x : ℕ) → x / 2147483648 ≤ x % 2147483648 → range (pos (x / 2147483648) -ℤ pos 1073741824) (x % 2147483648 - x / 2147483648) ≡ decodedCell x
-unfolding decodedCell
-decoded-range x h = rw (le-leb (x / modulus bits) (x % modulus bits) h) refl
 
 pub decoded-fits : (x : ℕ) → x / 2147483648 ≤ x % 2147483648 → SFits w32 (pos (x / 2147483648) -ℤ pos 1073741824)
 decoded-fits x h =

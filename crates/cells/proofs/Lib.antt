@@ -3,8 +3,6 @@ pub mod RangeLaws
 pub mod JudgeLaws
 pub mod CellLaws
 pub mod AllowLaws
-pub mod MergeLaws
 pub mod AnswerLaws
 pub mod ComputeLaws
-pub mod CodeLaws
 pub mod Theorems

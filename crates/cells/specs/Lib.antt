@@ -3,8 +3,6 @@ pub mod Cells
 pub mod HeldAnswers
 pub mod Order
 pub mod Covering
-pub mod Merge
 pub mod HeldConfined
-pub mod HeldCodes
 pub mod HeldSmall
 pub mod Promises

@@ -7,9 +7,6 @@ ghost use lib.Signed.{mag};
 ghost use Rattle.numbers.specs.Numbers.{wrap, bit, within, numbers};
 ghost use Rattle.cells.specs.Cells.{range, high, exactly, unknown, between, handle, calculate₁, calculate₂, results, least₁, range₁, always, negated, judged, wider, range₂, compareHandles, combineHandles, operate₁, operate₂, condition, block};
 ghost use Rattle.cells.specs.HeldAnswers.{ofOperand, ofTested, ofHandled};
-ghost use Rattle.cells.specs.Merge.{lower, upper, mergeCells};
-ghost use Rattle.cells.specs.HeldCodes.{decodedCell};
-ghost use Rattle.cells.specs.HeldConfined.{confine, Confined};
 ghost use Rattle.cells.specs.HeldSmall.{Small};
 
 // "A cell holds a number, an unknown number or a block handle"; "A start or block cell may be `lo..hi`": a range is its least number and
@@ -139,7 +136,7 @@ fn calculate2(b: Binary, m: i32, n: i32) -> i32
 }
 
 // The greatest number of a range.
-fn high(low: i32, more: u32) -> i64
+pub fn high(low: i32, more: u32) -> i64
     ensures { λ r. ⌜ r ≡ high low more ⌝ }
 {
     low as i64 + more as i64
@@ -342,85 +339,4 @@ pub fn block(a: Cell) -> Handled
         return Handled::Stuck;
     };
     Handled::Block(k)
-}
-
-fn lower(m: i32, n: i32) -> i32
-    ensures { λ r. ⌜ r ≡ lower m n ⌝ }
-{
-    if m <= n { m } else { n }
-}
-
-fn upper(m: i32, n: i32) -> i32
-    ensures { λ r. ⌜ r ≡ upper m n ⌝ }
-{
-    if m <= n { n } else { m }
-}
-
-// "A merge takes the smallest range that covers both."; a handle and anything else cannot be merged. (document 02 §9 and §12)
-pub fn merge(a: Cell, b: Cell) -> Operand
-    requires { ⌜ Confined a × Confined b ⌝ }
-    ensures { λ r. ⌜ ofOperand r ≡ mergeCells a b ⌝ }
-{
-    let left = a.value;
-    let right = b.value;
-    match left {
-        Value::Range(low, more) => match right {
-            Value::Range(low2, more2) => {
-                let high = upper(high(low, more) as i32, high(low2, more2) as i32);
-                Operand::Is(between(lower(low, low2), high))
-            }
-            Value::Handle(_) => Operand::Stuck,
-        },
-        Value::Handle(j) => match right {
-            Value::Range(_, _) => Operand::Stuck,
-            Value::Handle(k) => {
-                if j == k {
-                    Operand::Is(handle(j))
-                } else {
-                    Operand::Stuck
-                }
-            }
-        },
-    }
-}
-
-// A range as a number: its least and its greatest number, counted from the lowest on.
-fn encode_range(low: i32, more: u32) -> u64
-    ensures { λ r. ⌜ decodedCell r ≡ results low more ⌝ }
-{
-    if low < numbers::LOWEST {
-        return numbers::OTHERS as u64;
-    }
-    let least = (low as i64 + 1073741824) as u64;
-    let greatest = least + more as u64;
-    if greatest > numbers::OTHERS as u64 {
-        return numbers::OTHERS as u64;
-    }
-    least * 2147483648 + greatest
-}
-
-// A cell as a number.
-pub fn encode(c: Cell) -> u64
-    ensures { λ r. ⌜ decodedCell r ≡ confine c ⌝ }
-{
-    let value = c.value;
-    match value {
-        Value::Range(low, more) => encode_range(low, more),
-        Value::Handle(k) => 549755813888 + k as u64,
-    }
-}
-
-// The cell that a number stands for: any number stands for one.
-pub fn decode(x: u64) -> Cell
-    ensures { λ r. ⌜ r ≡ decodedCell x ⌝ }
-{
-    let least = x / 2147483648;
-    let greatest = x % 2147483648;
-    if greatest < least {
-        return handle((x % 256) as u8);
-    }
-    let low = least as i64 - 1073741824;
-    Cell {
-        value: Value::Range(low as i32, (greatest - least) as u32),
-    }
 }

@@ -16,7 +16,7 @@ use Rattle.cells.specs.HeldConfined.{Confined, Kept}
 use Rattle.cells.specs.Order.{Pointwise, end, cons}
 use Rattle.cells.proofs.RangeLaws.{InBits, fitting-true, high-zero}
 use Rattle.cells.proofs.CellLaws.{confined-range, number-confined, unknown-confined, handle-confined, kept-self}
-use Rattle.cells.proofs.MergeLaws.{between-is}
+use Rattle.merge_cells.proofs.MergeLaws.{between-is}
 use Rattle.machine.specs.Order.{Cellwise}
 use Rattle.file_format.specs.declared.Section.the-variants.{Cells as cells, Fields as fields}
 use Rattle.file_format.specs.declared.Column.the-variants.{Cell as cell}

@@ -10,14 +10,14 @@ use borrow.Rule.Slice.PartMut.{putMid, take-put}
 use Rattle.cells.specs.Try.{Try, stuck, done}
 use Rattle.cells.specs.declared.Cell.{Cell}
 use Rattle.machine_state.specs.HeldState.{blocksOf}
-use Rattle.cells.specs.Merge.{mergeCells}
+use Rattle.merge_cells.specs.Merge.{mergeCells}
 use Rattle.merge_theory.specs.Merge.{mergeLists}
-use Rattle.cells.specs.HeldCodes.{decodedCells}
+use Rattle.merge_cells.specs.HeldCodes.{decodedCells}
 use Rattle.cells.specs.HeldConfined.{confine}
 use Rattle.machine_state.specs.HeldProgram.{sizesOf, IsProgram}
 use Rattle.machine_state.proofs.ProgramLaws.{sizes-count}
 use Rattle.merge_rows.proofs.ZipLaws.{Partly, one-made, none-merged}
-use Rattle.cells.proofs.CodeLaws.{cells-length, cells-append, cells-take, cells-drop}
+use Rattle.merge_cells.proofs.CodeLaws.{cells-length, cells-append, cells-take, cells-drop}
 
 pub blocks-length : (ns : List ℕ) (fs : List Cell) → length (blocksOf ns fs) ≡ length ns
 unfolding blocksOf

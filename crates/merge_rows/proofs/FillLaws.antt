@@ -7,9 +7,9 @@ use native.Mathlib.Numerals.{add-one}
 use lib.ListN.{length, getD, take, set}
 use lib.Seq.{take-all, take-suc, take-suc-set}
 use Rattle.cells.specs.declared.Cell.{Cell}
-use Rattle.cells.specs.HeldCodes.{decodedCell, decodedCells}
+use Rattle.merge_cells.specs.HeldCodes.{decodedCell, decodedCells}
 use Rattle.cells.specs.HeldConfined.{confine}
-use Rattle.cells.proofs.CodeLaws.{cells-append}
+use Rattle.merge_cells.proofs.CodeLaws.{cells-append}
 
 map-append : (xs ys : List Cell) → map confine (xs ++ ys) ≡ map confine xs ++ map confine ys
 map-append [] ys = refl

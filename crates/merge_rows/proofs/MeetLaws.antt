@@ -9,9 +9,9 @@ use lib.Seq.{getD-set-same, getD-set-other, take-set-le, drop-set-lt}
 use borrow.Rule.Slice.PartMut.{putMid}
 use Rattle.cells.specs.Try.{Try, stuck, done, _>>=_}
 use Rattle.cells.specs.declared.Cell.{Cell}
-use Rattle.cells.specs.Merge.{mergeCells}
-use Rattle.cells.specs.HeldCodes.{decodedCell, decodedCells}
-use Rattle.cells.proofs.CodeLaws.{cells-length}
+use Rattle.merge_cells.specs.Merge.{mergeCells}
+use Rattle.merge_cells.specs.HeldCodes.{decodedCell, decodedCells}
+use Rattle.merge_cells.proofs.CodeLaws.{cells-length}
 use Rattle.machine.specs.Machine.{State}
 use Rattle.machine_state.specs.HeldState.{blocksOf}
 use Rattle.merge_theory.specs.Merge.{mergeLists, mergeStates}

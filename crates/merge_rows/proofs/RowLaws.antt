@@ -11,10 +11,10 @@ use borrow.Rule.Slice.PartMut.{putMid}
 use borrow.Author.Tests.{ltb-true, ltb-false}
 use Rattle.cells.specs.Try.{Try, stuck, done}
 use Rattle.cells.specs.declared.Cell.{Cell}
-use Rattle.cells.specs.HeldCodes.{decodedCell, decodedCells}
+use Rattle.merge_cells.specs.HeldCodes.{decodedCell, decodedCells}
 use Rattle.cells.specs.HeldConfined.{confine, Kept}
 use Rattle.cells.specs.Order.{Pointwise, end, cons}
-use Rattle.cells.proofs.CodeLaws.{cells-length, code-confined, codes-kept, kept-all}
+use Rattle.merge_cells.proofs.CodeLaws.{cells-length, code-confined, codes-kept, kept-all}
 use Rattle.cells.proofs.CellLaws.{kept-self}
 use Rattle.machine.specs.Machine.{State, Price, reblock}
 use Rattle.machine_state.specs.HeldState.{blocksOf, whole}

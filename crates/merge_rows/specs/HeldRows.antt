@@ -1,7 +1,7 @@
 -- What the numbers of the table stand for: what has come to an address.
 use Rattle.refusals.specs.Library.{ℕ, zero, suc, _+_, _-_, _*_, eqb, ltb, length, getD, take, drop, Bool, true, false, cond, List, _≡_}
 use Rattle.machine.specs.Terms.{Try, done, stuck, Cell, State, Price, Cellwise}
-use Rattle.cells.specs.HeldCodes.{decodedCell, decodedCells}
+use Rattle.merge_cells.specs.HeldCodes.{decodedCell, decodedCells}
 use Rattle.cells.specs.HeldConfined.{Kept}
 use Rattle.machine_state.specs.HeldProgram.{linesIn}
 use Rattle.machine_state.specs.HeldState.{WellFormed, blocksOf, whole}

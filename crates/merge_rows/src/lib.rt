@@ -6,8 +6,8 @@ ghost use mathlib.Core.Path.{_≡_};
 ghost use mathlib.Core.List.{List, map};
 ghost use Prim.Native.Nat.{ℕ, _+_, _<_, _≤_};
 ghost use lib.ListN.{length, getD, take, drop};
-ghost use Rattle.cells.specs.Merge.{mergeCells};
-ghost use Rattle.cells.specs.HeldCodes.{decodedCell, decodedCells};
+ghost use Rattle.merge_cells.specs.Merge.{mergeCells};
+ghost use Rattle.merge_cells.specs.HeldCodes.{decodedCell, decodedCells};
 ghost use Rattle.cells.specs.HeldConfined.{confine};
 ghost use Rattle.machine_state.specs.HeldProgram.{firstOf, sizesOf, IsProgram};
 ghost use Rattle.machine_state.specs.HeldState.{blocksOf};
@@ -29,7 +29,7 @@ fn encode_stack(stack: [Cell; 64], low: usize, entries: &mut [u64])
 {
     let mut i = 0;
     while i < entries.len() {
-        entries[i] = cells::encode(stack[low + i]);
+        entries[i] = merge_cells::encode(stack[low + i]);
         i += 1;
     }
 }
@@ -41,7 +41,7 @@ fn encode_fields(blocks: [Cell; 128], low: usize, fields: &mut [u64])
 {
     let mut i = 0;
     while i < fields.len() {
-        fields[i] = cells::encode(blocks[low + i]);
+        fields[i] = merge_cells::encode(blocks[low + i]);
         i += 1;
     }
 }
@@ -70,7 +70,7 @@ fn decode_stack(entries: &[u64], low: usize) -> [Cell; 64]
     let mut stack = [none; 64];
     let mut i = 0;
     while i < entries.len() {
-        stack[low + i] = cells::decode(entries[i]);
+        stack[low + i] = merge_cells::decode(entries[i]);
         i += 1;
     }
     stack
@@ -85,7 +85,7 @@ fn decode_fields(fields: &[u64]) -> [Cell; 128]
     let mut blocks = [none; 128];
     let mut i = 0;
     while i < 128 {
-        blocks[i] = cells::decode(fields[i]);
+        blocks[i] = merge_cells::decode(fields[i]);
         i += 1;
     }
     blocks
@@ -111,11 +111,11 @@ fn merge_numbers(x: u64, y: u64) -> Merged
     if x == y {
         return Merged::Is(x);
     }
-    let merged = cells::merge(cells::decode(x), cells::decode(y));
+    let merged = merge_cells::merge(merge_cells::decode(x), merge_cells::decode(y));
     let Operand::Is(c) = merged else {
         return Merged::Unlike;
     };
-    let z = cells::encode(c);
+    let z = merge_cells::encode(c);
     Merged::Is(z)
 }
 
@@ -166,7 +166,7 @@ fn put(row: &mut [u64], code: &[u32; 5131], w: Way)
     let s = w.state;
     let stack = s.stack;
     let blocks = w.blocks;
-    let accu = cells::encode(s.accu);
+    let accu = merge_cells::encode(s.accu);
     row[0] = 1;
     row[1] = s.free as u64;
     row[2] = w.cycles;
@@ -183,7 +183,7 @@ pub fn take(at: usize, row: &[u64]) -> Way
     ensures { λ r. ⌜ ((ns : List ℕ) → arrivalOf ns r ≡ arrivalIn ns at (now (row .entry))) ⌝ }
     ensures { λ r. ⌜ (Formed r × ((ns : List ℕ) → Numeric ns r)) × (r .state .at ≡ at) ⌝ }
 {
-    let accu = cells::decode(row[4]);
+    let accu = merge_cells::decode(row[4]);
     let free = unused(row[1]);
     let first = 5 + free;
     let stack = decode_stack(&row[first..69], free);

@@ -9,7 +9,7 @@ use Rattle.refusals.specs.declared.Refusal.the-variants.{Stuck, NoMeeting}
 use Rattle.cells.specs.Try.{_>>=_}
 use Rattle.cells.specs.declared.Cell.{Cell}
 use Rattle.cells.specs.Cells.{exactly, unknown, between, handle, calculate₂, results, range₂, wider, map₂, operate₂, conditionIn, condition}
-use Rattle.cells.specs.Merge.{mergeValues, mergeCells}
+use Rattle.merge_cells.specs.Merge.{mergeValues, mergeCells}
 use Rattle.instructions.specs.Kinds.{kinds, kindNames, operand, kindAt}
 use Rattle.machine.specs.Lists.{nth, without}
 use Rattle.machine.specs.Machine.{instruction, State, Instruction, Code, fetch, height, jump, load, restack, push, pop, advance, ahead, withExtra, ways, perform, prepare, execute, step}

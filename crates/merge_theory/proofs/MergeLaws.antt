@@ -7,7 +7,7 @@ use lib.ListN.{length}
 use Rattle.cells.specs.Try.{Try, done, _>>=_}
 use Rattle.cells.specs.Order.{Refines, same, Pointwise, end, cons}
 use Rattle.cells.specs.Covering.{Covered, by-stuck, both}
-use Rattle.cells.proofs.MergeLaws.{Merging, cell-merging}
+use Rattle.merge_cells.proofs.MergeLaws.{Merging, cell-merging}
 use Rattle.machine.specs.Machine.{State, height}
 use Rattle.machine.specs.Order.{Cellwise}
 use Rattle.machine.proofs.StateLaws.{cellwise-refl}

@@ -11,9 +11,9 @@ use lib.ListN.{length}
 use borrow.Author.Tests.{eqb-true, eqb-false, ltb-true, ltb-false}
 use Rattle.cells.specs.Try.{Try, stuck, done, _>>=_}
 use Rattle.cells.specs.Order.{Pointwise, end, cons}
-use Rattle.cells.specs.Merge.{mergeCells, Clash}
+use Rattle.merge_cells.specs.Merge.{mergeCells, Clash}
 use Rattle.cells.specs.Covering.{Covered, by-stuck, both}
-use Rattle.cells.proofs.MergeLaws.{cells-clash, clash-down}
+use Rattle.merge_cells.proofs.MergeLaws.{cells-clash, clash-down}
 use Rattle.machine.specs.Machine.{State, Price, height}
 use Rattle.merge_theory.specs.Merge.{mergeLists, mergeStates, Arrival, Slot, empty, unlike, held, larger, settle, join, slot}
 use Rattle.merge_theory.specs.Ways as ways

@@ -11,7 +11,7 @@ use Rattle.cells.specs.Try.{Try, stuck, done, _>>=_}
 use Rattle.cells.specs.declared.Cell.{Cell}
 use Rattle.cells.specs.declared.Value.{Value}
 use Rattle.cells.specs.Cells.{cell, range, unknown}
-use Rattle.cells.specs.Merge.{mergeCells}
+use Rattle.merge_cells.specs.Merge.{mergeCells}
 use Rattle.cells.specs.Order.{Refines, Pointwise, end, cons}
 use Rattle.cells.proofs.RangeLaws.{Linear}
 use Rattle.cells.proofs.CellLaws.{Below, ranges, handles, below}

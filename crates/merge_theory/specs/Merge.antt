@@ -3,7 +3,7 @@
 use Rattle.refusals.specs.Library.{ℕ, zero, suc, _+_, _-_, max, eqb, length, cond, List, [], _∷_}
 use Rattle.bound_theory.specs.Terms.{Stuck, NoMeeting, Report, Verdict, accepted, refused, Try, done, stuck, _>>=_, unknown, State, Code, Price, Next, stops, goes, opens}
 use Rattle.bound_theory.specs.Terms.{step, height, jump}
-use Rattle.cells.specs.Merge.{mergeCells}
+use Rattle.merge_cells.specs.Merge.{mergeCells}
 use Rattle.machine.specs.Machine.{sum}
 
 -- two lists merged entry by entry; stuck where their lengths differ: "when stack heights differ at a meeting"

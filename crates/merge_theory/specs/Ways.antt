@@ -3,7 +3,7 @@
 use Rattle.refusals.specs.Library.{ℕ, zero, suc, _+_, _≤_, _<_, List, [], _∷_, _≡_}
 use Rattle.bound_theory.specs.Terms.{Refusal, Stuck, NoMeeting, Move, move, Transition, Try, done, stuck, unknown, Refines, State, Code, Price, Next, stops, step, height}
 use Rattle.bound_theory.specs.Terms.{jump}
-use Rattle.cells.specs.Merge.{Clash}
+use Rattle.merge_cells.specs.Merge.{Clash}
 use Rattle.cells.specs.Order.{Pointwise}
 use Rattle.machine.specs.Machine.{sum}
 use Rattle.merge_theory.specs.Merge.{Arrival, arrival, Slot, empty, unlike, held, slot, Table, send, span, only}

@@ -9,7 +9,7 @@ use Rattle.numbers.specs.Numbers.{wrap, holds, numbers}
 use Rattle.cells.specs.Try.{_>>=_}
 use Rattle.cells.specs.declared.Cell.{Cell}
 use Rattle.cells.specs.Cells.{range, exactly, unknown, between, calculate₂, always, negated, judged, wider, range₂, map₂, operate₂, conditionIn, condition}
-use Rattle.cells.specs.Merge.{mergeValues, mergeCells}
+use Rattle.merge_cells.specs.Merge.{mergeValues, mergeCells}
 use Rattle.instructions.specs.Kinds.{kinds, kindNames, operand, kindAt}
 use Rattle.machine.specs.Lists.{nth, without}
 use Rattle.machine.specs.Machine.{instruction, State, Instruction, Code, fetch, height, jump, load, restack, pop, advance, ahead, withExtra, ways, perform, prepare, execute, step}

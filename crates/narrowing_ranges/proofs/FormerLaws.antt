@@ -10,12 +10,12 @@ use Rattle.cells.specs.declared.Value.{Value}
 use Rattle.cells.specs.declared.Value.the-variants.{Range, Handle}
 use Rattle.cells.specs.declared.Cell.{Cell}
 use Rattle.cells.specs.Cells.{cell, range, unknown}
-use Rattle.cells.specs.Merge.{mergeValues, mergeCells}
+use Rattle.merge_cells.specs.Merge.{mergeValues, mergeCells}
 use Rattle.cells.specs.Order.{Refines, same, Pointwise, end, cons}
 use Rattle.cells.specs.Covering.{Covered, by-stuck, both}
 use Rattle.cells.proofs.RangeLaws.{covers, in-unknown, one-or-more}
 use Rattle.cells.proofs.CellLaws.{refines-trans, refines-lawful, range-bits}
-use Rattle.cells.proofs.MergeLaws.{cell-merging}
+use Rattle.merge_cells.proofs.MergeLaws.{cell-merging}
 use Rattle.instructions.specs.declared.Operation.{Operation}
 use Rattle.machine.specs.Machine.{State, Next, Instruction, Code, fetch, load, execute, step}
 use Rattle.machine.specs.Order.{Cellwise}

@@ -4,7 +4,7 @@ use Rattle.refusals.specs.Library.{ℕ, eqb, ltb, Bool, true, false, cond, _||_
 use Rattle.bound_theory.specs.Terms.{Report, Verdict, accepted, bound, openingLimit, numbers, Try, done, stuck, _>>=_, Value, Range, Handle, Cell, Binary, Add, Subtract}
 use Rattle.bound_theory.specs.Terms.{Compare, unknown, handle, range, between, high, Operation, Nothing, Access, Drop, Assign, Constant, Alter, Combine, GetField}
 use Rattle.bound_theory.specs.Terms.{SetField, Branch, BranchIf, BranchIfNot, Call, Stop, nth, State, Code, Next, stops, goes, opens, fetch}
-use Rattle.cells.specs.Merge.{lower, upper}
+use Rattle.merge_cells.specs.Merge.{lower, upper}
 use Rattle.machine.specs.Machine.{load, execute}
 use Rattle.bound_theory.specs.Tree.{explore}
 use Rattle.bound_theory.specs.Promises.{NoGreater}

@@ -13,7 +13,7 @@ use Rattle.cells.specs.Try.{done, _>>=_}
 use Rattle.cells.specs.declared.Cell.{Cell}
 use Rattle.cells.specs.Cells.{exactly, unknown, between, conditionIn, condition}
 use Rattle.cells.specs.Order.{Refines, inside, end}
-use Rattle.cells.specs.Merge.{mergeValues, mergeCells}
+use Rattle.merge_cells.specs.Merge.{mergeValues, mergeCells}
 use Rattle.cells.proofs.CellLaws.{allowed-lawful}
 use Rattle.instructions.specs.Kinds.{kinds, kindNames, operand, kindAt}
 use Rattle.instructions.specs.declared.Operation.{Operation}

@@ -9,7 +9,7 @@ use lib.ListN.{length-map}
 use borrow.Author.Tests.{eqb-true, eqb-false, eq-eqb, ne-eqb}
 use Rattle.cells.specs.Try.{Try, stuck, done, _>>=_}
 use Rattle.cells.specs.declared.Cell.{Cell}
-use Rattle.cells.specs.Merge.{mergeCells}
+use Rattle.merge_cells.specs.Merge.{mergeCells}
 use Rattle.machine.specs.Machine.{State, Price, Next, stops, goes, opens, Code, height, jump, sum}
 use Rattle.bound_theory.specs.Tree.{Report, Verdict}
 use Rattle.merge_theory.specs.Merge.{mergeLists, mergeStates, Arrival, arrival, Slot, empty, unlike, held, larger, settle, join, slot, Table, nowhere, arrive, send, reach, finish, carry, visit, sweep, span, only}

@@ -17,7 +17,7 @@ use Rattle.cells.specs.HeldConfined.{Confined, Kept}
 use Rattle.cells.proofs.RangeLaws.{Linear, linear, covers, bits-down}
 use Rattle.cells.proofs.CellLaws as cell-laws
 use Rattle.cells.proofs.CellLaws.{Below, ranges, handles, allowed-refines, range-bits, confined-range, kept-self}
-use Rattle.cells.proofs.MergeLaws.{between-is}
+use Rattle.merge_cells.proofs.MergeLaws.{between-is}
 use Rattle.cells.proofs.AllowLaws.{refines-where}
 use Rattle.machine.specs.Machine.{State}
 use Rattle.machine.specs.Order.{Cellwise}

@@ -8,7 +8,7 @@ use Rattle.bound_theory.specs.Tree.{Report}
 use Rattle.bound_theory.specs.Promises.{NoGreater}
 use Rattle.cells.specs.declared.Cell.{Cell}
 use Rattle.merge_theory.specs.Merge as merges
-use Rattle.cells.specs.Merge as cell-merges
+use Rattle.merge_cells.specs.Merge as cell-merges
 use Rattle.cells.specs.Order.{Refines}
 use Rattle.machine.specs.Order.{Cellwise}
 use Rattle.narrowing_theory.proofs.Examples as states

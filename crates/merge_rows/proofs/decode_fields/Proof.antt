@@ -4,7 +4,7 @@ use Prim.Native.Nat.{_≤_, _-_}
 use mathlib.Core.Path.{_≡_, refl}
 use native.Mathlib.Omega.{arith}
 use lib.ListN.{length, take, length-set}
-use Rattle.cells.specs.HeldCodes.{decodedCells}
+use Rattle.merge_cells.specs.HeldCodes.{decodedCells}
 use Rattle.merge_rows.proofs.FillLaws.{decoded-next, decoded-all}
 use borrow.Author.Needs.{needs}
 use Rattle.merge_rows.proofs.decode_fields.Statement.{statement}

@@ -5,7 +5,7 @@ use mathlib.Core.Path.{_≡_, refl, ap, _∙_}
 use native.Mathlib.Omega.{arith}
 use lib.ListN.{length, take, drop, length-set, length-drop}
 use lib.Seq.{drop-set-add}
-use Rattle.cells.specs.HeldCodes.{decodedCells}
+use Rattle.merge_cells.specs.HeldCodes.{decodedCells}
 use Rattle.merge_rows.proofs.FillLaws.{decoded-next, decoded-all}
 use borrow.Author.Needs.{needs}
 use Rattle.merge_rows.proofs.decode_stack.Statement.{statement}

@@ -9,7 +9,7 @@ use lib.Seq.{take-all}
 use borrow.Author.Needs.{needs}
 use Rattle.machine_state.specs.HeldProgram.{sizesOf}
 use Rattle.machine_state.specs.HeldState.{blocksOf}
-use Rattle.cells.specs.HeldCodes.{decodedCells}
+use Rattle.merge_cells.specs.HeldCodes.{decodedCells}
 use Rattle.cells.specs.HeldConfined.{confine}
 use borrow.Rule.Slice.PartMut.{same-len-mid}
 use Rattle.merge_rows.proofs.FieldLaws.{Small, small-of, blocks-length, block-encoded, part-length}

@@ -6,7 +6,7 @@ use native.Mathlib.Omega.{arith}
 use lib.ListN.{length, take, drop, length-set, length-drop}
 use lib.Seq.{getD-drop}
 use mathlib.Core.List.{map}
-use Rattle.cells.specs.HeldCodes.{decodedCells}
+use Rattle.merge_cells.specs.HeldCodes.{decodedCells}
 use Rattle.cells.specs.HeldConfined.{confine}
 use Rattle.merge_rows.proofs.FillLaws.{encoded-next, encoded-all}
 use borrow.Author.Needs.{needs}

@@ -9,8 +9,8 @@ use lib.ListN.{length, getD, take, drop}
 use borrow.Author.Needs.{needs}
 use Rattle.machine_state.specs.HeldProgram.{sizesOf}
 use Rattle.machine_state.specs.HeldState.{blocksOf}
-use Rattle.cells.specs.Merge.{mergeCells}
-use Rattle.cells.specs.HeldCodes.{decodedCells}
+use Rattle.merge_cells.specs.Merge.{mergeCells}
+use Rattle.merge_cells.specs.HeldCodes.{decodedCells}
 use Rattle.merge_theory.specs.Merge.{mergeLists}
 use Rattle.merge_rows.specs.HeldRows.{ofCells}
 use borrow.Rule.Slice.PartMut.{same-len-mid}

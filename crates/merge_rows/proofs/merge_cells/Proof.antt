@@ -4,10 +4,10 @@ use Prim.Native.Nat.{_-_, _≤_}
 use mathlib.Core.Path.{_≡_, refl, sym, ap, ap₂, _∙_}
 use native.Mathlib.Omega.{arith}
 use lib.ListN.{length, length-set}
-use Rattle.cells.specs.Merge.{mergeCells}
-use Rattle.cells.specs.HeldCodes.{decodedCell, decodedCells}
+use Rattle.merge_cells.specs.Merge.{mergeCells}
+use Rattle.merge_cells.specs.HeldCodes.{decodedCell, decodedCells}
 use Rattle.merge_theory.specs.Merge.{mergeLists}
-use Rattle.cells.proofs.CodeLaws.{cells-length, cells-at, cells-set}
+use Rattle.merge_cells.proofs.CodeLaws.{cells-length, cells-at, cells-set}
 use Rattle.merge_rows.specs.HeldRows.{ofMerged}
 use Rattle.merge_rows.proofs.ZipLaws.{Partly, none-made, one-made, none-merged, all-made}
 use borrow.Author.Needs.{needs}

@@ -3,10 +3,10 @@ use Prim.Native.Nat.{ℕ}
 use mathlib.Core.Path.{sym, ap, ap₂, _∙_}
 use Rattle.cells.specs.Try.{done}
 use Rattle.cells.specs.HeldAnswers.{ofOperand}
-use Rattle.cells.specs.HeldCodes.{decodedCell}
-use Rattle.cells.specs.Merge.{mergeCells}
-use Rattle.cells.proofs.CodeLaws.{decoded-confined}
-use Rattle.cells.proofs.MergeLaws.{merged-confined, merge-same}
+use Rattle.merge_cells.specs.HeldCodes.{decodedCell}
+use Rattle.merge_cells.specs.Merge.{mergeCells}
+use Rattle.merge_cells.proofs.CodeLaws.{decoded-confined}
+use Rattle.merge_cells.proofs.MergeLaws.{merged-confined, merge-same}
 use Rattle.merge_rows.specs.HeldRows.{ofMerged}
 use borrow.Author.Needs.{needs}
 use Rattle.merge_rows.proofs.merge_numbers.Statement.{statement}

@@ -8,8 +8,8 @@ use lib.ListN.{length, getD, set, length-set}
 use borrow.Author.Tests.{not-true, not-false}
 use borrow.Rule.Slice.PartMut.{putMid}
 use Rattle.cells.specs.Try.{done}
-use Rattle.cells.specs.HeldCodes.{decodedCell}
-use Rattle.cells.specs.Merge.{mergeCells}
+use Rattle.merge_cells.specs.HeldCodes.{decodedCell}
+use Rattle.merge_cells.specs.Merge.{mergeCells}
 use Rattle.machine_state.specs.HeldProgram.{sizesOf}
 use Rattle.merge_rows.specs.HeldRows.{part, unusedOf, ofMerged, ofCells}
 use Rattle.merge_rows.proofs.PartLaws.{part-length}

@@ -6,7 +6,7 @@ use native.Mathlib.Omega.{arith}
 use lib.ListN.{length, drop, set, length-set, length-drop}
 use lib.Seq.{take-all}
 use borrow.Rule.Slice.PartMut.{putMid}
-use Rattle.cells.specs.HeldCodes.{decodedCells}
+use Rattle.merge_cells.specs.HeldCodes.{decodedCells}
 use Rattle.cells.specs.HeldConfined.{confine}
 use Rattle.machine_state.specs.HeldProgram.{sizesOf}
 use Rattle.merge_rows.specs.HeldRows.{part}

@@ -1,4 +1,4 @@
--- `cells::encode_range` meets its contract. Assumes nothing.
+-- `merge_cells::encode_range` meets its contract. Assumes nothing.
 use mathlib.Core.Path.{refl, _∙_}
 use lib.IntN.{ℤ, _+ℤ_}
 use lib.Signed.{ltZ}
@@ -7,10 +7,11 @@ use mir.ValLaws.{toZ-ofZ}
 use native.Mathlib.Omega.{arith}
 use Rattle.numbers.specs.Numbers.{numbers}
 use Rattle.numbers.proofs.SignedLaws.{cast-fits, wide-is}
-use Rattle.cells.proofs.ComputeLaws.{operands-fit, operands-read, shifted-fits, counted, encoded-wide, encoded-range, results-below, results-past, tested}
+use Rattle.cells.proofs.ComputeLaws.{operands-fit, operands-read, shifted-fits, counted, results-below, results-past, tested}
+use Rattle.merge_cells.proofs.CodeLaws.{encoded-wide, encoded-range}
 use borrow.Author.Needs.{needs}
-use Rattle.cells.proofs.encode_range.Statement.{statement}
-use Rattle.cells.proofs.encode_range.Tie as tie
+use Rattle.merge_cells.proofs.encode_range.Statement.{statement}
+use Rattle.merge_cells.proofs.encode_range.Tie as tie
 
 returns : tie.Need-returns
 returns c =

@@ -10,18 +10,18 @@ use lib.IntN.{ℤ, pos, natAbs, _-ℤ_}
 use lib.Signed.{leZ}
 use borrow.Author.Tests.{eqb-true, eqb-false, eq-eqb, ne-eqb}
 use Rattle.numbers.proofs.IntegerLaws.{over, under, sum-is, le-true, le-false, le-yes, distance-is}
 use Rattle.cells.specs.Try.{Try, stuck, done}
 use Rattle.cells.specs.declared.Value.{Value}
 use Rattle.cells.specs.declared.Value.the-variants.{Range, Handle}
 use Rattle.cells.specs.declared.Cell.{Cell}
 use Rattle.cells.specs.Cells.{cell, range, high, between, handle}
-use Rattle.cells.specs.Merge.{lower, upper, mergeValues, mergeCells, Clash, here, there}
+use Rattle.merge_cells.specs.Merge.{lower, upper, mergeValues, mergeCells, Clash, here, there}
 use Rattle.cells.specs.Order as order
 use Rattle.cells.specs.Order.{Refines}
 use Rattle.cells.specs.HeldConfined.{Confined}
 use Rattle.cells.specs.Covering.{Covered, by-stuck, both}
 use Rattle.cells.proofs.RangeLaws.{Linear, linear-trans, covers, InBits, bits-down, in-unknown}
 use Rattle.cells.proofs.CellLaws.{Below, ranges, handles, below, confined-range, range-bits, unknown-bits}
 
 -- what merging by f must do, for an order R
 pub record Merging {A : Type 0} (R : A → A → Type 0) (f : A → A → Try A) : Type 0 where
@@ -266,3 +266,9 @@ values-same (Handle k) = ap (λ (t : Bool). cond t (done (handle k)) stuck) (eq-
 pub merge-same : (a : Cell) → mergeCells a a ≡ done a
 unfolding mergeCells
 merge-same a = values-same (a .value)
+
+-- ---- what the code gives
+
+pub merged-values : (a c : Cell) {v w : Value} {m : Try Cell} → a .value ≡ v → c .value ≡ w → m ≡ mergeValues v w → m ≡ mergeCells a c
+unfolding mergeCells
+merged-values a c {w = w} p q e = e ∙ ap (λ v. mergeValues v w) (sym p) ∙ ap (mergeValues (a .value)) (sym q)

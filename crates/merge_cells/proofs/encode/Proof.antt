@@ -1,4 +1,4 @@
--- `cells::encode` meets its contract. Assumes nothing.
+-- `merge_cells::encode` meets its contract. Assumes nothing.
 use mathlib.Core.Path.{_≡_, sym, ap, _∙_}
 use Prim.Native.Nat.{ℕ, _+_, _<_}
 use lib.IntN.{ℤ}
@@ -6,15 +6,15 @@ use mir.Syntax.{w32}
 use mir.Val.{SFits}
 use mir.ValLaws.{toZ-ofZ}
 use Rattle.numbers.proofs.SignedLaws.{read}
 use Rattle.cells.specs.declared.Cell.{Cell}
 use Rattle.cells.specs.declared.Value.the-variants.{Range, Handle}
 use Rattle.cells.specs.Cells.{results}
-use Rattle.cells.specs.HeldCodes.{decodedCell}
+use Rattle.merge_cells.specs.HeldCodes.{decodedCell}
 use Rattle.cells.specs.HeldConfined.{confineValue, confine}
-use Rattle.cells.proofs.ComputeLaws.{encoded-handle}
+use Rattle.merge_cells.proofs.CodeLaws.{encoded-handle}
 use borrow.Author.Needs.{needs}
-use Rattle.cells.proofs.encode.Statement.{statement}
-use Rattle.cells.proofs.encode.Tie as tie
+use Rattle.merge_cells.proofs.encode.Statement.{statement}
+use Rattle.merge_cells.proofs.encode.Tie as tie
 
 of-range : (c : Cell) (l : ℤ) (m x : ℕ) → SFits w32 l → c .value ≡ Range l m → decodedCell x ≡ results (read w32 l) m → decodedCell x ≡ confine c
 unfolding confine confineValue

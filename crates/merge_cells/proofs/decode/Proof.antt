@@ -1,4 +1,4 @@
--- `cells::decode` meets its contract. Assumes nothing.
+-- `merge_cells::decode` meets its contract. Assumes nothing.
 use mathlib.Core.Path.{refl, ap, _∙_}
 use lib.IntN.{ℤ, pos, _-ℤ_}
 use mir.Syntax.{w32}
@@ -6,11 +6,12 @@ use mir.ValLaws.{toZ-ofZ}
 use native.Mathlib.Omega.{arith}
 use Rattle.numbers.proofs.SignedLaws.{read}
 use Prim.Native.Nat.{_/_, _%_, _-_}
 use Rattle.cells.specs.Cells.{range}
-use Rattle.cells.proofs.ComputeLaws.{operands-fit, operands-read, pos-is, decoded-fits, widened, decoded-handle, decoded-range}
+use Rattle.cells.proofs.ComputeLaws.{operands-fit, operands-read, pos-is, decoded-fits, widened}
+use Rattle.merge_cells.proofs.CodeLaws.{decoded-handle, decoded-range}
 use borrow.Author.Needs.{needs}
-use Rattle.cells.proofs.decode.Statement.{statement}
-use Rattle.cells.proofs.decode.Tie as tie
+use Rattle.merge_cells.proofs.decode.Statement.{statement}
+use Rattle.merge_cells.proofs.decode.Tie as tie
 
 returns : tie.Need-returns
 returns c = c .handle .ensures ∙ decoded-handle _ (c .before .if1 .taken)

@@ -1,4 +1,4 @@
--- `cells::merge` meets its contract. Assumes nothing.
+-- `merge_cells::merge` meets its contract. Assumes nothing.
 use mathlib.Core.Path.{_≡_, refl, sym, ap, ap₂, subst, _∙_}
 use mathlib.Core.Bool.{Bool, true, false, cond}
 use Prim.Native.Nat.{ℕ}
@@ -11,20 +11,20 @@ use mir.ValLaws.{toZ-ofZ}
 use borrow.Author.Tests.{eq-eqb, ne-eqb}
 use Rattle.numbers.proofs.SignedLaws.{read, read-both}
 use Rattle.numbers.proofs.IntegerLaws.{sum-is}
 use Rattle.cells.specs.declared.Cell.{Cell}
 use Rattle.cells.specs.declared.Value.{Value}
 use Rattle.cells.specs.declared.Value.the-variants.{Range, Handle}
 use Rattle.cells.specs.Try.{stuck, done}
 use Rattle.cells.specs.Cells.{cell, high, between, handle}
-use Rattle.cells.specs.Merge.{lower, upper, mergeValues}
+use Rattle.merge_cells.specs.Merge.{lower, upper, mergeValues}
 use Rattle.cells.specs.HeldConfined.{Confined}
-use Rattle.cells.proofs.AnswerLaws.{merged-values}
+use Rattle.merge_cells.proofs.MergeLaws.{merged-values}
 use Rattle.cells.proofs.RangeLaws.{InBits}
 use Rattle.cells.proofs.CellLaws.{range-bits}
 use Rattle.cells.proofs.ComputeLaws.{bits-fit, bits-few, high-told}
 use borrow.Author.Needs.{needs}
-use Rattle.cells.proofs.merge.Statement.{statement}
-use Rattle.cells.proofs.merge.Tie as tie
+use Rattle.merge_cells.proofs.merge.Statement.{statement}
+use Rattle.merge_cells.proofs.merge.Tie as tie
 
 -- a range that is confined to numbers, as the code has it
 module _ (a : Cell) (l : ℤ) (m : ℕ) (held : a .value ≡ Range l m) (c : Confined a) (f : SFits w32 l) where

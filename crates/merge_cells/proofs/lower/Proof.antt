@@ -1,12 +1,12 @@
--- `cells::lower` meets its contract. Assumes nothing.
+-- `merge_cells::lower` meets its contract. Assumes nothing.
 use mathlib.Core.Path.{sym, ap, _∙_}
 use mathlib.Core.Bool.{Bool, cond}
 use lib.Signed.{leZ}
 use mir.Syntax.{w32}
 use mir.ValLaws.{toZ-ofZ}
 use Rattle.numbers.proofs.SignedLaws.{read-both}
-use Rattle.cells.proofs.lower.Statement.{statement}
-use Rattle.cells.proofs.lower.Tie as tie
+use Rattle.merge_cells.proofs.lower.Statement.{statement}
+use Rattle.merge_cells.proofs.lower.Tie as tie
 
 returns : tie.Need-returns
 returns c = toZ-ofZ w32 _ (c .before .fits .m) ∙ ap (λ (t : Bool). cond t (c .before .args .m) (c .before .args .n)) (sym (c .if1 .taken) ∙ read-both leZ w32 _ _ (c .before .fits .m) (c .before .fits .n))
