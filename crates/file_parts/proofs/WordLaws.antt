@@ -5,8 +5,11 @@ use mathlib.Core.List.{List, []}
 use native.Mathlib.Omega.{arith}
 use lib.Dec.{lit<}
 use lib.IntN.{pos}
-use lib.ListN.{length, getD, drop, length-map, List·getD-map}
+use lib.ListN.{length, getD, take, drop, length-map, List·getD-map}
+use lib.Seq.{length-take-le}
 use Rattle.text.specs.Text.{equals}
+use Rattle.text.proofs.ScanLaws.{firstLength}
+use Rattle.text.proofs.PieceLaws.{first-le}
 use Rattle.numbers.specs.declared.Range.{Range}
 use Rattle.numbers.specs.Numbers.{IsNumber, numbers}
 use Rattle.cells.specs.declared.Cell.{Cell}
@@ -16,6 +19,10 @@ use Rattle.machine.specs.Machine.{State}
 use Rattle.file_format.specs.Rows.{cellWord, hashed}
 use Rattle.file_format.specs.Routine.{cellOf, cellsOf, startOf}
 use Rattle.file_values.specs.HeldValues.{Near}
+
+-- a first word is no longer than its line
+pub fitting : (l : List ℕ) {n : ℕ} → n ≡ firstLength 32 l → n ≡ length (take n l)
+fitting l {n} e = sym (length-take-le n l (omega (arith, first-le 32 l, e)))
 
 -- a range of numbers
 

@@ -4,6 +4,7 @@ use file_format::Column;
 use file_format::Role;
 use file_format::Section;
 use file_format::layout;
+use file_lines::CodeWords;
 use instructions::Argument;
 use machine_state::State;
 use numbers::Range;
@@ -15,7 +16,7 @@ ghost use Prim.Native.Nat.{ℕ, _+_, _*_, _%_, _≤_, _<_};
 ghost use lib.Dec.{ltb};
 ghost use lib.IntN.{pos};
 ghost use lib.ListN.{length, getD, take, drop};
-ghost use Rattle.text.specs.Text.{lines, placeAmong, find};
+ghost use Rattle.text.specs.Text.{lines, placeAmong, indexOf, find};
 ghost use Rattle.text.specs.declared.Place.the-variants.{At};
 ghost use Rattle.numbers.specs.Numbers.{IsNumber, numbers, residue};
 ghost use Rattle.cells.specs.Cells.{exactly};
@@ -26,9 +27,10 @@ ghost use Rattle.file_format.specs.declared.Section.the-variants.{Kinds, Primit
 ghost use Rattle.file_format.specs.declared.Column.the-variants.{Extra};
 ghost use Rattle.file_format.specs.declared.Role.the-variants.{Values};
 ghost use Rattle.file_format.specs.Layout.{list, listed};
-ghost use Rattle.file_format.specs.Rows.{value, total, op};
+ghost use Rattle.file_format.specs.Rows.{value, total, op, arg};
 ghost use Rattle.file_format.specs.Routine.{inside, naturalAt, PriceList, priceList, argumentValue, instructionOf, cellsOf, blocksInLine, startOf};
 ghost use Rattle.file_values.specs.HeldValues.{NaturalRange};
+ghost use Rattle.file_lines.specs.HeldLines.{Cut};
 ghost use Rattle.file_parts.specs.HeldParts.{PriceRange, pricesOn, Coded, slotOf, PriceAt, KindsKept, putLine};
 
 // ---- the words of a line
@@ -137,12 +139,12 @@ fn code_of(k: usize) -> u8
     operation + pushed + called
 }
 
-// The operand of kind k with the argument w.
-fn operand_of(k: usize, w: &[u8]) -> i32
-    requires { ⌜ k < 61 ⌝ }
+// The operand of kind k, which takes `takes`, with the argument w.
+fn operand_of(k: usize, takes: Argument, w: &[u8]) -> i32
+    requires { ⌜ (k < 61) × (takes ≡ kindAt k .argument) ⌝ }
     ensures { λ r. ⌜ ((ps : List (List ℕ)) → r ≡ operand (kindAt k) (argumentValue ps (now (w .entry)) (kindAt k .argument))) ⌝ }
 {
-    match instructions::argument_at(k) {
+    match takes {
         Argument::Absent => instructions::fixed_at(k),
         Argument::Target => number_of(instructions::range_at(k), w),
         Argument::Primitive => instructions::fixed_at(k),
@@ -230,25 +232,51 @@ fn place_called(called: bool, primitives: &[u8], w: &[u8]) -> usize
     0
 }
 
-// The entry of a code line whose OP names the kind at a place, by its slot and the three lines of the primitives' prices.
+// The word OP of a code line that is cut into its words.
+fn op_in(line: &[u8], cut: CodeWords) -> &[u8]
+    requires { ⌜ Cut (now line) cut ⌝ }
+    ensures { λ r. ⌜ now r ≡ op (now (line .entry)) ⌝ }
+{
+    let e = cut.at;
+    let f = cut.op;
+    let rest = file_lines::after_word(line, e);
+    &rest[..f]
+}
+
+// The word ARG of such a line.
+fn arg_in(line: &[u8], cut: CodeWords) -> &[u8]
+    requires { ⌜ Cut (now line) cut ⌝ }
+    ensures { λ r. ⌜ now r ≡ arg (now (line .entry)) ⌝ }
+{
+    let e = cut.at;
+    let f = cut.op;
+    let g = cut.arg;
+    let rest = file_lines::after_word(line, e);
+    let last = file_lines::after_word(rest, f);
+    &last[..g]
+}
+
+// The entry of a code line that is cut into its words, of a kind that takes `takes`, by the kind's slot and the three lines of the primitives'
+// prices.
 fn entry_of(
     kept: &[u32; 310],
     slot: usize,
-    kind: Place,
+    takes: Argument,
     primitives: &[u8],
     cycles: &[u8],
     words: &[u8],
     text: &[u8],
+    cut: CodeWords,
 ) -> Entry
-    requires { ⌜ kind ≡ placeAmong (op (now text)) kindNames ⌝ }
+    requires { ⌜ Cut (now text) cut × (takes ≡ kindAt (indexOf (cut .kind)) .argument) ⌝ }
     requires { ⌜ (slot + 5 ≤ 310) × (getD (now kept) (slot + 2) 0 ≤ 65535) × (getD (now kept) (slot + 3) 0 ≤ 65535) ⌝ }
     ensures { λ r. ⌜ ((ks : PriceList) (xs : List (List ℕ)) → PriceAt ks xs (op (now (text .entry))) (now (kept .entry)) slot → (lineOf (line (r .code) (r .operand) (r .cycles) (r .words) (r .extra)) ≡ instructionOf ks xs (pricesOn (now (primitives .entry)) (now (cycles .entry)) (now (words .entry))) (now (text .entry))) × (r .code % 32 ≤ 22)) ⌝ }
 {
-    let arg = text::word_at(text, 2);
-    let k = text::index_of(kind);
-    let called = instructions::calls_at(k);
+    let arg = arg_in(text, cut);
+    let kind = cut.kind;
+    let operand = operand_of(text::index_of(kind), takes, arg);
+    let called = 64 <= kept[slot];
     let j = place_called(called, primitives, arg);
-    let operand = operand_of(k, arg);
     let more_cycles = price_called(layout::cycle_counts(), called, cycles, j);
     let more_words = price_called(layout::word_counts(), called, words, j);
     Entry {
@@ -283,6 +311,9 @@ pub fn lines_of(text: &[u8], body: &[u8], count: usize) -> [u32; 5131]
     let keyed = instructions::keyed_kinds();
     let starts = instructions::name_starts();
     let table = instructions::all_names();
+    let codes = instructions::argument_codes();
+    let lows = instructions::range_lows();
+    let highs = instructions::range_highs();
     let kinds = layout::text_of(text, Role::Names(Section::Kinds));
     let kind_cycles = layout::text_of(text, Role::Values(Section::Kinds, Column::Cycles));
     let kind_words = layout::text_of(text, Role::Values(Section::Kinds, Column::Words));
@@ -296,8 +327,9 @@ pub fn lines_of(text: &[u8], body: &[u8], count: usize) -> [u32; 5131]
     let mut n = 0;
     while n < count {
         let line = text::first_line(rest);
-        let op = text::word_at(line, 1);
-        let kind = instructions::kind_in(&keyed, &starts, &table, op);
+        let cut = file_lines::cut_code(line, &keyed, &starts, &table);
+        let kind = cut.kind;
+        let op = op_in(line, cut);
         let slot = find_price(
             &mut kept,
             kinds,
@@ -307,7 +339,9 @@ pub fn lines_of(text: &[u8], body: &[u8], count: usize) -> [u32; 5131]
             kind,
             op,
         );
-        let entry = entry_of(&kept, slot, kind, primitives, cycles, words, line);
+        let k = text::index_of(kind);
+        let takes = instructions::argument_in(&codes, &lows, &highs, Place::At(k));
+        let entry = entry_of(&kept, slot, takes, primitives, cycles, words, line, cut);
         put_entry(&mut code, n, entry);
         let next = text::after_line(rest, line.len());
         rest = next;

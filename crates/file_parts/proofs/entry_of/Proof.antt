@@ -1,5 +1,5 @@
 -- `file_parts::entry_of` meets its contract. Assumes nothing.
-use Prim.Native.Nat.{ℕ, _+_, _<_}
+use Prim.Native.Nat.{ℕ, _+_}
 use mathlib.Core.Path.{_≡_, refl, sym, ap, ap₂, subst, _∙_}
 use mathlib.Core.List.{List}
 use lib.ListN.{getD}
@@ -17,36 +17,34 @@ use borrow.Author.Needs.{needs}
 use Rattle.file_parts.proofs.entry_of.Statement.{statement}
 use Rattle.file_parts.proofs.entry_of.Tie as tie
 
+-- the kind that OP names
 kind-is : (c : tie.After-index-of) → c .index-of .result ≡ find (op (c .before .before .before .before .before .before .args .text .now)) kindNames
-kind-is c = found kindNames _ _ _ (c .index-of .ensures) (c .before .before .before .before .before .before .pre .0) refl
-
-kind-low : (c : tie.After-index-of) → c .index-of .result < 61
-kind-low c = omega (arith, kind-is c, kind-small (op (c .before .before .before .before .before .before .args .text .now)))
-
-calls-at-requires : tie.Need-calls-at-requires
-calls-at-requires c κs = kind-low c
+kind-is c = found kindNames _ _ _ (c .index-of .ensures) (c .before .before .before .before .before .before .pre .0 .0 .kind) refl
 
 operand-of-requires : tie.Need-operand-of-requires
-operand-of-requires c κs = kind-low (c .before .before)
+operand-of-requires c κs =
+    let start = c .before .before .before .before .before .before in
+    (omega (arith, kind-is c, kind-small (op (start .args .text .now))), start .pre .0 .1 ∙ ap (λ k. kindAt k .argument) (sym (c .index-of .ensures)))
 
 returns : tie.Need-returns
 returns c =
     let at-kind = c .before .before .before .before .before .before .before .before .before .before .before in
-    let start = c .before .before .before .before .before .before .before .before .before .before .before .before .before .before .before .before .before in
+    let start = at-kind .before .before .before .before .before .before in
     let a = start .args in
     let k = at-kind .index-of .result in
     let text = a .text .now in
     let ps = pricesOn (a .primitives .now) (a .cycles .now) (a .words .now) in
-    let w = c .before .before .before .before .before .before .before .before .before .before .before .before .word-at .ensures in
-    let called = c .before .before .before .before .before .before .before .before .before .before .calls-at .ensures in
-    let j = c .before .before .before .before .before .before .before .before .before .place-called .ensures in
+    let w = at-kind .before .arg-in .ensures in
+    let o = c .before .before .before .before .before .before .before .before .before .before .operand-of in
+    let j = c .before .before .before .before .before .before .before .before .place-called .ensures in
     λ ks xs p.
+    let coded : Coded (kindAt k) (getD (a .kept .now) (a .slot) 0) = subst (λ o. Coded (kindAt o) (getD (a .kept .now) (a .slot) 0)) (sym (kind-is at-kind)) (p .coded) in
     let r : Read ks xs ps text (kindAt k) _ _ _ _ _ =
     record {
-      coded = subst (λ o. Coded (kindAt o) (getD (a .kept .now) (a .slot) 0)) (sym (kind-is at-kind)) (p .coded);
-      operand = λ ns. toZ-ofZ w32 (c .before .before .before .before .before .before .before .before .operand-of .result) (search (c .before .before .before .before .before .before .before .before .operand-of .ok, needs)) ∙ c .before .before .before .before .before .before .before .before .operand-of .ensures ns ∙ ap (λ (v : List ℕ). operand (kindAt k) (argumentValue ns v (kindAt k .argument))) w;
-      cycles = ap₂ _+_ (p .cycles) (called-price (ps .names) (ps .cycles) called (c .before .before .before .before .before .before .before .cycle-counts .ensures) w j (c .before .before .before .before .before .before .price-called .ensures .0));
-      words = ap₂ _+_ (p .words) (called-price (ps .names) (ps .words) called (c .before .before .before .before .before .word-counts .ensures) w j (c .before .before .before .before .price-called2 .ensures .0));
+      coded = coded;
+      operand = λ ns. toZ-ofZ w32 (o .result) (search (o .ok, needs)) ∙ o .ensures ns ∙ ap (λ (v : List ℕ). operand (kindAt k) (argumentValue ns v (kindAt k .argument))) w;
+      cycles = ap₂ _+_ (p .cycles) (called-price (ps .names) (ps .cycles) (coded .calls) (c .before .before .before .before .before .before .before .cycle-counts .ensures) w j (c .before .before .before .before .before .before .price-called .ensures .0));
+      words = ap₂ _+_ (p .words) (called-price (ps .names) (ps .words) (coded .calls) (c .before .before .before .before .before .word-counts .ensures) w j (c .before .before .before .before .price-called2 .ensures .0));
       extra = p .extra;
     } in
     (entry-is ks xs ps text (kindAt k) _ _ _ _ _ r (ap kindAt (kind-is at-kind)), code-small ks xs ps text (kindAt k) _ _ _ _ _ r)
@@ -57,9 +55,10 @@ entry-of-spec =
     (tie.spec
     (λ c κs. search needs)
     (λ c κs. search needs)
-    calls-at-requires
-    (λ c κs. search needs)
     operand-of-requires
+    (λ c. search needs)
+    (λ c. search needs)
+    (λ c κs. search needs)
     (λ c κs. search needs)
     (λ c κs. search needs)
     (λ c κs. search needs)
