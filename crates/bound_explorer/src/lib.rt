@@ -1,6 +1,5 @@
 // The explorer: every way of a routine, under a budget of steps. The meaning is in specs/.
 use bound_figures::Found;
-use bound_figures::Tally;
 use bound_figures::both;
 use bound_turns::Turn;
 use cells::Cell;

@@ -1,11 +1,9 @@
 // Cells, and the operations on them. The meaning is in specs/.
 use numbers::Comparison;
 ghost use mathlib.Core.Path.{_≡_};
-ghost use Prim.Native.Nat.{_<_, _^_};
-ghost use lib.IntN.{pos, _+ℤ_};
-ghost use lib.Signed.{mag};
-ghost use Rattle.numbers.specs.Numbers.{wrap, bit, within, numbers};
-ghost use Rattle.cells.specs.Cells.{range, high, exactly, unknown, between, handle, calculate₁, calculate₂, results, least₁, range₁, always, negated, judged, wider, range₂, compareHandles, combineHandles, operate₁, operate₂, condition, block};
+ghost use Prim.Native.Nat.{_<_};
+ghost use Rattle.numbers.specs.Numbers.{wrap, bit, numbers};
+ghost use Rattle.cells.specs.Cells.{high, exactly, unknown, between, handle, calculate₁, calculate₂, results, least₁, always, negated, judged, wider, range₂, compareHandles, combineHandles, operate₁, operate₂, condition, block};
 ghost use Rattle.cells.specs.HeldAnswers.{ofOperand, ofTested, ofHandled};
 ghost use Rattle.cells.specs.HeldSmall.{Small};
 

@@ -24,7 +24,8 @@ use Rattle.file_format.specs.Layout.{layout, list, textAt, listed}
 use Rattle.file_format.specs.Rows.{equalLists, blockSizes, total, wellNamed, test, isNumeral, valuesLaidOut, laidOut, codeLaidOut, argumentLaidOut, at, onCells, onCode, codeNamed, named, op, arg, onArgument, argumentReaches, priced, reaches, codeForward, forward, firstAddresses, columnInRange, inRange, allKnown}
 use Rattle.file_names.specs.declared.Blocks.{Blocks}
 use Rattle.file_names.specs.HeldNames.{BlocksOf}
-use Rattle.file_lines.specs.HeldLines.{wordTest, isWhole}
+use Rattle.file_lines.specs.HeldLines.{wordTest}
+use Rattle.file_code.specs.HeldCode.{isWhole}
 use Rattle.file_lines.specs.declared.WordTest.the-variants.{Filled, Present, Primitive}
 use Rattle.file_lines.proofs.LineLaws.{and-true, and-false, and-through, and-stop}
 use Rattle.file_format.proofs.Section.{the-type}
@@ -35,8 +36,8 @@ use Rattle.file_check.specs.declared.CodeLine.{CodeLine}
 use Rattle.file_check.specs.HeldScan.{Context, Small, Other, lineWith}
 use Rattle.file_check.specs.HeldChecks.{Due, testedBy}
 use Rattle.file_check.proofs.FoundLaws.{address-is}
-use Rattle.file_lines.specs.declared.Tested.{Tested}
-use Rattle.file_lines.specs.HeldLines.{CodeTests}
+use Rattle.file_code.specs.declared.Tested.{Tested}
+use Rattle.file_code.specs.HeldCode.{CodeTests}
 use Rattle.file_format.specs.declared.Row.{Row}
 use Rattle.file_check.proofs.ArmLaws.{not-true, not-false}
 

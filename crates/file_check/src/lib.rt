@@ -1,8 +1,8 @@
 // The rows of the refusal table over the lines of a text. The meaning is in specs/.
+use file_code::CodeWords;
 use file_format::Role;
 use file_format::Section;
 use file_format::layout;
-use file_lines::CodeWords;
 use file_lines::WordTest;
 use instructions::Argument;
 use refusals::Acceptance;
@@ -24,7 +24,7 @@ ghost use Rattle.file_format.specs.Layout.{list, listed};
 ghost use Rattle.file_format.specs.HeldLayout.{Starts};
 ghost use Rattle.file_format.specs.Rows.{wellNamed, laidOut, inRange, named, allKnown, blockSizes, test, refusedLine};
 ghost use Rattle.instructions.specs.Kinds.{kindNames, kindAt};
-ghost use Rattle.file_lines.specs.HeldLines.{Cut, PricesKept};
+ghost use Rattle.file_code.specs.HeldCode.{Cut, PricesKept};
 ghost use Rattle.file_check.specs.HeldScan.{Context, Other, HeadingBefore, lineWith, isHeading, roleOf, headingAfter, missing};
 ghost use Rattle.file_check.specs.HeldChecks.{readBy, checkOf, Due, testedBy, keptBy, keptAfter, refusedAt};
 
@@ -184,7 +184,7 @@ fn is_priced(kinds: &[u8], prices: &mut [u8; 61], kind: Place, op: &[u8], due: b
     ensures kept { λ _. ⌜ PricesKept (list (now (kinds .entry))) (now (prices .exit)) ⌝ }
 {
     if due {
-        return file_lines::code_priced(kinds, prices, kind, op);
+        return file_code::code_priced(kinds, prices, kind, op);
     }
     true
 }
@@ -251,10 +251,10 @@ fn test_code(
     let e = words.at;
     let f = words.op;
     let g = words.arg;
-    let rest = file_lines::after_word(line, e);
-    let last = file_lines::after_word(rest, f);
+    let rest = file_code::after_word(line, e);
+    let last = file_code::after_word(rest, f);
     let names = names_due(primitives, at.due);
-    let tested = file_lines::test_code(
+    let tested = file_code::test_code(
         at.first as i64,
         at.count,
         names,
@@ -264,7 +264,7 @@ fn test_code(
         &line[..e],
         &last[..g],
     );
-    let layout = all_three(at.ended, file_lines::is_whole(line, e, f, g), tested.layout);
+    let layout = all_three(at.ended, file_code::is_whole(line, e, f, g), tested.layout);
     let price = is_priced(kinds, prices, kind, &rest[..f], at.due);
     Tests {
         layout: layout,
@@ -428,7 +428,7 @@ fn scan(
         let due = kept.name == 0;
         let tests = if let Role::Code(k) = role {
             let at = code_line(counts, k, ended, due);
-            let words = file_lines::cut_code(line, &keyed, &starts, &table);
+            let words = file_code::cut_code(line, &keyed, &starts, &table);
             let kind = words.kind;
             let takes = instructions::argument_in(&codes, &lows, &highs, kind);
             test_code(kinds, primitives, at, line, words, takes, &mut prices)

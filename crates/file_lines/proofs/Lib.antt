@@ -1,6 +1,4 @@
 pub mod LineLaws
-pub mod CodeLaws
-pub mod WholeLaws
 pub mod ExtraLaws
-pub mod PriceLaws
+pub mod KindLaws
 pub mod SeenLaws

@@ -19,8 +19,8 @@ use Rattle.instructions.proofs.ColumnLaws.{kind-below}
 use Rattle.file_format.specs.declared.Section.the-variants.{Kinds}
 use Rattle.file_format.specs.Rows.{wellNamed}
 use Rattle.file_lines.specs.HeldLines.{isNew, marked}
-use Rattle.file_lines.proofs.CodeLaws.{name-known, name-unknown}
-use Rattle.file_lines.proofs.PriceLaws.{word-found}
+use Rattle.file_lines.proofs.KindLaws.{name-known, name-unknown}
+use Rattle.file_lines.proofs.KindLaws.{word-found}
 
 -- whether each word names a kind that is neither marked nor named by a word before it
 unfoldable pub allNew : List ℕ → List (List ℕ) → Bool

@@ -17,7 +17,7 @@ use Rattle.instructions.specs.Kinds.{kindNames, kindAt}
 use Rattle.instructions.proofs.ColumnLaws.{kind-below}
 use Rattle.file_format.specs.Rows.{cycleCounts, wordCounts, extraCounts}
 use Rattle.file_format.specs.Routine.{PriceList, naturalAt}
-use Rattle.file_lines.proofs.PriceLaws.{word-found}
+use Rattle.file_lines.proofs.KindLaws.{word-found}
 use Rattle.file_parts.specs.HeldParts.{Coded, slotOf, KindPrice, PriceAt, KindsKept, putLine}
 use Rattle.file_parts.proofs.EntryLaws.{found, natural-small, put-kept, word-0, word-1, word-2, word-3, word-4}
 

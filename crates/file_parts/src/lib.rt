@@ -1,10 +1,10 @@
 // The parts of the routine that a text holds, as arrays by value. The meaning is in specs/ here and of `file_format`.
 use cells::Cell;
+use file_code::CodeWords;
 use file_format::Column;
 use file_format::Role;
 use file_format::Section;
 use file_format::layout;
-use file_lines::CodeWords;
 use instructions::Argument;
 use machine_state::State;
 use numbers::Range;
@@ -30,7 +30,7 @@ ghost use Rattle.file_format.specs.Layout.{list, listed};
 ghost use Rattle.file_format.specs.Rows.{value, total, op, arg};
 ghost use Rattle.file_format.specs.Routine.{inside, naturalAt, PriceList, priceList, argumentValue, instructionOf, cellsOf, blocksInLine, startOf};
 ghost use Rattle.file_values.specs.HeldValues.{NaturalRange};
-ghost use Rattle.file_lines.specs.HeldLines.{Cut};
+ghost use Rattle.file_code.specs.HeldCode.{Cut};
 ghost use Rattle.file_parts.specs.HeldParts.{PriceRange, pricesOn, Coded, slotOf, PriceAt, KindsKept, putLine};
 
 // ---- the words of a line
@@ -239,7 +239,7 @@ fn op_in(line: &[u8], cut: CodeWords) -> &[u8]
 {
     let e = cut.at;
     let f = cut.op;
-    let rest = file_lines::after_word(line, e);
+    let rest = file_code::after_word(line, e);
     &rest[..f]
 }
 
@@ -251,8 +251,8 @@ fn arg_in(line: &[u8], cut: CodeWords) -> &[u8]
     let e = cut.at;
     let f = cut.op;
     let g = cut.arg;
-    let rest = file_lines::after_word(line, e);
-    let last = file_lines::after_word(rest, f);
+    let rest = file_code::after_word(line, e);
+    let last = file_code::after_word(rest, f);
     &last[..g]
 }
 
@@ -327,7 +327,7 @@ pub fn lines_of(text: &[u8], body: &[u8], count: usize) -> [u32; 5131]
     let mut n = 0;
     while n < count {
         let line = text::first_line(rest);
-        let cut = file_lines::cut_code(line, &keyed, &starts, &table);
+        let cut = file_code::cut_code(line, &keyed, &starts, &table);
         let kind = cut.kind;
         let op = op_in(line, cut);
         let slot = find_price(

@@ -16,8 +16,8 @@ use Rattle.file_format.specs.declared.RefusedLine.{RefusedLine}
 use Rattle.file_format.specs.declared.RefusedLine.the-variants.{Nowhere as nowhere, Line as line}
 use Rattle.file_format.specs.Layout.{list}
 use Rattle.file_format.specs.Rows.{test, refusedLine}
-use Rattle.file_lines.specs.HeldLines.{PricesKept}
-use Rattle.file_lines.proofs.PriceLaws.{none-kept-yet}
+use Rattle.file_code.specs.HeldCode.{PricesKept}
+use Rattle.file_code.proofs.PriceLaws.{none-kept-yet}
 use Rattle.file_check.specs.declared.CodeLine.{CodeLine}
 use Rattle.file_check.specs.HeldScan.{Small, HeadingBefore, lineWith}
 use Rattle.file_check.specs.HeldChecks.{Due, testedBy, keptBy, refusedAt}

@@ -17,7 +17,7 @@ use Rattle.instructions.specs.Kinds.{kindNames}
 use Rattle.instructions.proofs.ColumnLaws.{kind-below}
 use Rattle.file_format.specs.Layout.{list}
 use Rattle.file_format.specs.Rows.{at, op, arg, firstAddresses}
-use Rattle.file_lines.proofs.WholeLaws.{cut-at, cut-op, cut-arg}
+use Rattle.file_code.proofs.WholeLaws.{cut-at, cut-op, cut-arg}
 use Rattle.file_check.proofs.ContextLaws.{first-within, code-tests}
 use borrow.Author.Needs.{needs}
 use Rattle.file_check.proofs.test_code.Statement.{statement}
