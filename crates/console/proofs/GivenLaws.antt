@@ -9,9 +9,9 @@ use lib.Signed.{nonNeg, ltZ}
 use borrow.Author.Tests.{lt-ltb, le-ltb, ltb-true, ltb-false}
 use mir.Syntax.{w32, w64}
 use mir.Val.{Fits, SFits}
-use Rattle.text.specs.HeldMagnitude.{most, clamp, clamped}
-use Rattle.text.specs.declared.Numeral.{Numeral}
-use Rattle.text.specs.declared.Numeral.the-variants as numerals
+use Rattle.text_decimals.specs.HeldMagnitude.{most, clamp, clamped}
+use Rattle.text_decimals.specs.declared.Numeral.{Numeral}
+use Rattle.text_decimals.specs.declared.Numeral.the-variants as numerals
 use Rattle.console.specs.declared.Given.the-variants.{Number, Wrong}
 use Rattle.console.specs.HeldGiven.{given}
 

@@ -7,7 +7,7 @@ use native.Mathlib.Omega.{arith}
 use lib.ListN.{length, take, drop, length-append}
 use lib.Seq.{take-append-seam, length-take-le}
 use Rattle.io.specs.Counts.{Counts}
-use Rattle.text.proofs.DecimalLaws.{decimal-length}
+use Rattle.text_decimals.proofs.DecimalLaws.{decimal-length}
 use Rattle.refusals.specs.declared.Refusal.{Refusal}
 use Rattle.refusals.specs.Refusals.{number, place}
 use Rattle.report.specs.Report.{refusalLine, refusalText}

@@ -3,11 +3,11 @@ use answers::Answer;
 use libc::STDERR_FILENO;
 use libc::STDIN_FILENO;
 use libc::STDOUT_FILENO;
-use text::Numeral;
+use text_decimals::Numeral;
 ghost use mathlib.Core.Path.{_≡_};
 ghost use lib.ListN.{take};
 ghost use Rattle.io.specs.Counts.{Counts};
-ghost use Rattle.text.specs.Decimal.{numeral};
+ghost use Rattle.text_decimals.specs.Decimal.{numeral};
 ghost use Rattle.console.specs.HeldGiven.{given};
 ghost use Rattle.console.specs.Read.{Whole};
 ghost use Rattle.console.specs.Line.{line, Held};
@@ -29,7 +29,7 @@ pub enum Given {
 pub fn number_of(word: &[u8]) -> Given
     ensures { λ r. ⌜ r ≡ given (numeral (now (word .entry))) ⌝ }
 {
-    let Numeral::Number(z) = text::read_numeral(word) else {
+    let Numeral::Number(z) = text_decimals::read_numeral(word) else {
         return Given::Wrong;
     };
     if z < 0 || 4294967295 < z {

@@ -9,7 +9,7 @@ use lib.Dec.{ltb}
 use lib.ListN.{length, getD, length-append}
 use borrow.Author.Tests.{lt-ltb, le-ltb, ltb-true, ltb-false}
 use Rattle.text.specs.Text.{bytes}
-use Rattle.text.proofs.DecimalLaws.{decimal-length}
+use Rattle.text_decimals.proofs.DecimalLaws.{decimal-length}
 use Rattle.bound_theory.specs.Tree.{Report}
 use Rattle.report.specs.Report.{space}
 use Rattle.report.proofs.ReportLaws.{Small}

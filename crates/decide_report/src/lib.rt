@@ -4,7 +4,7 @@ ghost use mathlib.Core.Path.{_≡_};
 ghost use mathlib.Core.List.{_++_};
 ghost use Prim.Native.Nat.{_+_, _≤_};
 ghost use lib.ListN.{length, drop};
-ghost use Rattle.text.specs.Memory.{over};
+ghost use Rattle.text_decimals.specs.Memory.{over};
 ghost use Rattle.decide_report.specs.Decision.{decisionWords, decisionText};
 ghost use Rattle.decide_report.specs.Held.{reportIn};
 
@@ -24,23 +24,23 @@ fn put_ruling(out: &mut [u8], at: usize, source: Source, tick: u64, cycles: u64)
     match source {
         Source::First => {
             if tick < cycles {
-                text::put(out, at, b"OVER FIRST")
+                text_decimals::put(out, at, b"OVER FIRST")
             } else {
-                text::put(out, at, b"FITS FIRST")
+                text_decimals::put(out, at, b"FITS FIRST")
             }
         }
         Source::Merging => {
             if tick < cycles {
-                text::put(out, at, b"UNDECIDED MERGING")
+                text_decimals::put(out, at, b"UNDECIDED MERGING")
             } else {
-                text::put(out, at, b"FITS MERGING")
+                text_decimals::put(out, at, b"FITS MERGING")
             }
         }
         Source::Split => {
             if tick < cycles {
-                text::put(out, at, b"UNDECIDED SPLIT")
+                text_decimals::put(out, at, b"UNDECIDED SPLIT")
             } else {
-                text::put(out, at, b"FITS SPLIT")
+                text_decimals::put(out, at, b"FITS SPLIT")
             }
         }
     }
@@ -53,17 +53,17 @@ pub fn put_decision(out: &mut [u8], source: Source, tick: u64, found: Found) -> 
     ensures { λ _. ⌜ now (out .exit) ≡ decisionText source tick (reportIn found) ++ drop (length (decisionText source tick (reportIn found))) (now (out .entry)) ⌝ }
 {
     let steps = found.used as u64;
-    let a = text::put(out, 0, b"DECISION BOUND CYCLES TICK WORDS DEPTH STEPS\n");
+    let a = text_decimals::put(out, 0, b"DECISION BOUND CYCLES TICK WORDS DEPTH STEPS\n");
     let b = put_ruling(out, a, source, tick, found.cycles);
-    let c = text::put(out, b, b" ");
-    let d = text::put_decimal(out, c, found.cycles);
-    let e = text::put(out, d, b" ");
-    let f = text::put_decimal(out, e, tick);
-    let g = text::put(out, f, b" ");
-    let h = text::put_decimal(out, g, found.words);
-    let i = text::put(out, h, b" ");
-    let j = text::put_decimal(out, i, found.depth);
-    let k = text::put(out, j, b" ");
-    let l = text::put_decimal(out, k, steps);
-    text::put(out, l, b"\n")
+    let c = text_decimals::put(out, b, b" ");
+    let d = text_decimals::put_decimal(out, c, found.cycles);
+    let e = text_decimals::put(out, d, b" ");
+    let f = text_decimals::put_decimal(out, e, tick);
+    let g = text_decimals::put(out, f, b" ");
+    let h = text_decimals::put_decimal(out, g, found.words);
+    let i = text_decimals::put(out, h, b" ");
+    let j = text_decimals::put_decimal(out, i, found.depth);
+    let k = text_decimals::put(out, j, b" ");
+    let l = text_decimals::put_decimal(out, k, steps);
+    text_decimals::put(out, l, b"\n")
 }

@@ -8,7 +8,7 @@ use Rattle.refusals.specs.declared.Refusal.{Refusal}
 use Rattle.refusals.specs.declared.Acceptance.the-variants as verdicts
 use Rattle.refusals.specs.declared.Acceptance.the-variants.{Accepted}
 use Rattle.text.specs.Text.{Line, lines}
-use Rattle.text.proofs.MemoryLaws.{Wrote}
+use Rattle.text_decimals.proofs.MemoryLaws.{Wrote}
 use Rattle.cells.specs.Cells.{unknown}
 use Rattle.machine.specs.Machine.{step}
 use Rattle.machine_state.specs.HeldProgram.{firstOf, programOf}

@@ -10,7 +10,7 @@ ghost use mathlib.Core.List.{_++_};
 ghost use Prim.Native.Nat.{_+_, _≤_};
 ghost use lib.ListN.{length, drop};
 ghost use Rattle.text.specs.Text.{lines};
-ghost use Rattle.text.specs.Memory.{over};
+ghost use Rattle.text_decimals.specs.Memory.{over};
 ghost use Rattle.file_reader.specs.HeldRoutine.{Limited};
 ghost use Rattle.file_entry.specs.Held.{routineIn};
 ghost use Rattle.answers.specs.Answers.{memory, answerOf};
@@ -46,7 +46,7 @@ fn put_explanation(out: &mut [u8], body: &[u8], routine: Routine, found: Found) 
         steps,
         found.path,
     );
-    let b = text::put(out, a, b"AT OP ARG CYCLES WORDS DEPTH WAY\n");
+    let b = text_decimals::put(out, a, b"AT OP ARG CYCLES WORDS DEPTH WAY\n");
     put_steps(routine, found.path, body, out, b)
 }
 

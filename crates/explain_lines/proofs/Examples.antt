@@ -2,7 +2,7 @@
 use mathlib.Core.Path.{_≡_, refl}
 use mathlib.Core.List.{[], _∷_}
 use Rattle.text.specs.Text.{bytes, partedBy, linesOf, lines}
-use Rattle.text.specs.Decimal.{digits, decimal}
+use Rattle.text_decimals.specs.Decimal.{digits, decimal}
 use Rattle.bound_theory.specs.Tree.{N}
 use Rattle.report.specs.Report.{pathText}
 use Rattle.explain_lines.specs.Listing.{codeText, entryText, listing}

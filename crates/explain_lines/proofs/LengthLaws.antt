@@ -8,7 +8,7 @@ use lib.Dec.{eqb}
 use lib.ListN.{length, getD, drop, length-append}
 use lib.Seq.{drop-drop}
 use Rattle.text.specs.Text.{onto, partedBy, Line, noLine, linesOf, lines}
-use Rattle.text.proofs.DecimalLaws.{decimal-length}
+use Rattle.text_decimals.proofs.DecimalLaws.{decimal-length}
 use Rattle.cells.specs.Try.{Try, done}
 use Rattle.cells.specs.Cells.{unknown}
 use Rattle.machine.specs.Machine.{State, Price, Instruction, Code, fetch, Next, height, step}

@@ -5,7 +5,7 @@ use mathlib.Core.List.{List}
 use native.Mathlib.Omega.{arith}
 use lib.ListN.{length, getD, length-append}
 use Rattle.text.specs.Text.{Line, noLine}
-use Rattle.text.specs.Decimal.{decimal}
+use Rattle.text_decimals.specs.Decimal.{decimal}
 use Rattle.bound_theory.specs.Tree.{Decision}
 use Rattle.report.specs.Report.{pathText}
 use Rattle.explain_lines.specs.Listing.{codeText, entryText}

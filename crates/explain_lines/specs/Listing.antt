@@ -2,7 +2,7 @@
 use Rattle.refusals.specs.Library.{ℕ, _+_, _-_, getD, List, [], _∷_, _++_}
 use Rattle.bound_theory.specs.Terms.{Decision, Move, height}
 use Rattle.text.specs.Text.{Line, noLine}
-use Rattle.text.specs.Decimal.{decimal}
+use Rattle.text_decimals.specs.Decimal.{decimal}
 use Rattle.report.specs.Report.{space, feed, pathText}
 
 -- what a line says of a move: its address, the sums so far, this step included, the height before the step, and the decision "at an

@@ -5,7 +5,7 @@ ghost use mathlib.Core.Path.{_≡_};
 ghost use Prim.Native.Nat.{_+_, _-_, _≤_};
 ghost use lib.ListN.{length, getD, drop};
 ghost use Rattle.text.specs.Text.{noLine, lines};
-ghost use Rattle.text.specs.Memory.{over};
+ghost use Rattle.text_decimals.specs.Memory.{over};
 ghost use Rattle.cells.specs.Cells.{unknown};
 ghost use Rattle.machine.specs.Machine.{step};
 ghost use Rattle.machine_state.specs.HeldProgram.{firstOf, linesIn, programOf, sizesOf, IsProgram};
@@ -88,16 +88,16 @@ pub fn put_entry(
     ensures { λ r. ⌜ r ≡ at + length (entryText (now (line .entry)) cycles words depth (decode way)) ⌝ }
     ensures { λ _. ⌜ now (out .exit) ≡ over (now (out .entry)) at (entryText (now (line .entry)) cycles words depth (decode way)) ⌝ }
 {
-    let a = text::put(out, at, line);
-    let b = text::put(out, a, b" ");
-    let c = text::put_decimal(out, b, cycles);
-    let d = text::put(out, c, b" ");
-    let e = text::put_decimal(out, d, words);
-    let f = text::put(out, e, b" ");
-    let g = text::put_decimal(out, f, depth);
-    let h = text::put(out, g, b" ");
+    let a = text_decimals::put(out, at, line);
+    let b = text_decimals::put(out, a, b" ");
+    let c = text_decimals::put_decimal(out, b, cycles);
+    let d = text_decimals::put(out, c, b" ");
+    let e = text_decimals::put_decimal(out, d, words);
+    let f = text_decimals::put(out, e, b" ");
+    let g = text_decimals::put_decimal(out, f, depth);
+    let h = text_decimals::put(out, g, b" ");
     let i = report::put_path(out, h, way);
-    text::put(out, i, b"\n")
+    text_decimals::put(out, i, b"\n")
 }
 
 // Puts the lines of the walk along `path` over out from `at` on, and answers where they end.

@@ -10,7 +10,7 @@ ghost use mathlib.Core.List.{_++_};
 ghost use Prim.Native.Nat.{_+_, _≤_};
 ghost use lib.ListN.{length, drop};
 ghost use Rattle.text.specs.Text.{lines};
-ghost use Rattle.text.specs.Memory.{over};
+ghost use Rattle.text_decimals.specs.Memory.{over};
 ghost use Rattle.machine_state.specs.HeldProgram.{firstOf};
 ghost use Rattle.file_reader.specs.HeldRoutine.{Limited};
 ghost use Rattle.file_entry.specs.Held.{routineIn};
@@ -55,7 +55,7 @@ fn put_explanation(
         steps,
         found.path,
     );
-    let b = text::put(out, a, b"AT OP ARG CYCLES WORDS DEPTH WAY\n");
+    let b = text_decimals::put(out, a, b"AT OP ARG CYCLES WORDS DEPTH WAY\n");
     put_steps(routine, kept, body, out, b)
 }
 

@@ -5,8 +5,8 @@ use mathlib.Core.List.{List, [], _∷_, _++_, append-assoc, append-nil}
 use native.Mathlib.Omega.{arith}
 use lib.ListN.{length, getD, drop, length-append}
 use Rattle.text.specs.Text.{Line, noLine}
-use Rattle.text.specs.Memory.{over}
-use Rattle.text.proofs.MemoryLaws.{Wrote, wrote-none, wrote-more}
+use Rattle.text_decimals.specs.Memory.{over}
+use Rattle.text_decimals.proofs.MemoryLaws.{Wrote, wrote-none, wrote-more}
 use Rattle.machine.specs.Machine.{height}
 use Rattle.bound_theory.specs.Tree.{Decision, Report}
 use Rattle.bound_theory.specs.Traces.{Move}

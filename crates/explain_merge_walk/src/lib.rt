@@ -5,7 +5,7 @@ ghost use mathlib.Core.List.{[]};
 ghost use Prim.Native.Nat.{ℕ, _+_, _≤_, _<_};
 ghost use lib.ListN.{length, drop};
 ghost use Rattle.text.specs.Text.{lines};
-ghost use Rattle.text.specs.Memory.{over};
+ghost use Rattle.text_decimals.specs.Memory.{over};
 ghost use Rattle.merge_way.specs.Way.{out, Origins, wayBack};
 ghost use Rattle.merge_origins.specs.HeldOrigins.{Goals, Keeps};
 ghost use Rattle.explain_merge_walk.specs.HeldLasts.{Traced, Lists, Usable, wayText};

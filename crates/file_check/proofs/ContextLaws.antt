@@ -12,7 +12,7 @@ use borrow.Author.Tests.{le-leb}
 use lib.Dec.{eqb, ltb}
 use lib.ListN.{length}
 use Rattle.text.specs.Text.{bytes, isEmpty, equals, lineWords, Line, among, all, distinct}
-use Rattle.text.specs.Decimal.{numeral}
+use Rattle.text_decimals.specs.Decimal.{numeral}
 use Rattle.numbers.specs.Numbers.{within}
 use Rattle.file_format.specs.declared.Section.{Section}
 use Rattle.file_format.specs.declared.Section.the-variants.{Limits as limits, Kinds as kinds, Primitives as primitives, Cells as cells, Fields as fields, Instructions as instructions, Answers as answers}

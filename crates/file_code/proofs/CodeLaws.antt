@@ -18,8 +18,8 @@ use borrow.Author.Tests.{eqb-true, eqb-false, leb-true, leb-false, le-leb, lt-le
 use Rattle.text.specs.Text.{among, placeAmong}
 use Rattle.text.specs.declared.Place.{Place}
 use Rattle.text.specs.declared.Place.the-variants.{At, Missing}
-use Rattle.text.specs.Decimal.{numeral}
-use Rattle.text.specs.HeldMagnitude.{most}
+use Rattle.text_decimals.specs.Decimal.{numeral}
+use Rattle.text_decimals.specs.HeldMagnitude.{most}
 use Rattle.numbers.specs.declared.Range.{Range}
 use Rattle.numbers.specs.Numbers.{naturals, within, same}
 use Rattle.instructions.specs.declared.Argument.{Argument}

@@ -3,8 +3,8 @@
 use file_format::layout;
 use instructions::Argument;
 use numbers::Range;
-use text::Numeral;
 use text::Place;
+use text_decimals::Numeral;
 ghost use mathlib.Core.Bool.{true, cond, _&&_};
 ghost use mathlib.Core.Path.{_≡_};
 ghost use Prim.Native.Nat.{ℕ, suc, _<_, _≤_};
@@ -12,8 +12,8 @@ ghost use lib.IntN.{pos, _+ℤ_};
 ghost use mathlib.Core.List.{List, []};
 ghost use lib.ListN.{length, getD};
 ghost use Rattle.text.specs.Text.{lineWords, placeAmong, among};
-ghost use Rattle.text.specs.Decimal.{numeral};
-ghost use Rattle.text.specs.HeldMagnitude.{clamped};
+ghost use Rattle.text_decimals.specs.Decimal.{numeral};
+ghost use Rattle.text_decimals.specs.HeldMagnitude.{clamped};
 ghost use Rattle.text.specs.declared.Place.the-variants.{At};
 ghost use Rattle.numbers.specs.Numbers.{within, same};
 ghost use Rattle.instructions.specs.Kinds.{kindNames, kindAt};
@@ -165,7 +165,7 @@ fn test_argument(
             forward: true,
         };
     };
-    let n = text::read_numeral(w);
+    let n = text_decimals::read_numeral(w);
     let layout = argument_laid_out(a, w, n);
     let range = argument_in_range(a, n);
     let name = argument_named(primitives, a, w);
@@ -230,7 +230,7 @@ pub fn test_code(
     ensures { λ r. ⌜ ((line : List ℕ) → now (own .entry) ≡ at line → now (w .entry) ≡ arg line → kind ≡ placeAmong (op line) kindNames → CodeTests first count (list (now (primitives .entry))) k line r) ⌝ }
 {
     let argument = test_argument(first, count, primitives, k, kind, a, w);
-    let n = text::read_numeral(own);
+    let n = text_decimals::read_numeral(own);
     let spelt = both(k < 1024, file_values::is_spelt(n));
     let layout = both(spelt, argument.layout);
     let range = both(

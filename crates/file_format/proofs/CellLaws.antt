@@ -9,12 +9,12 @@ use lib.IntN.{ℤ}
 use lib.ListN.{length, getD, take, drop}
 use borrow.Author.Tests.{eqb-true}
 use Rattle.text.specs.Text.{equals}
-use Rattle.text.specs.declared.Numeral.the-variants.{Misspelt as misspelt, Number as number}
-use Rattle.text.specs.Decimal.{digitsFrom, natural, numeral, integer}
+use Rattle.text_decimals.specs.declared.Numeral.the-variants.{Misspelt as misspelt, Number as number}
+use Rattle.text_decimals.specs.Decimal.{digitsFrom, natural, numeral, integer}
 use Rattle.file_format.specs.declared.CellWord.the-variants.{Unknown as unknown, Known as known}
 use Rattle.file_format.specs.Rows.{knownOf, blockOf, spanOf, stop, spanned, hashed, cellWord}
 use Rattle.text.proofs.JoinLaws.{Free, split-alone}
-use Rattle.text.proofs.SpellingLaws.{integer-read, integer-free}
+use Rattle.text_decimals.proofs.SpellingLaws.{integer-read, integer-free}
 
 not-spelt : {X : Type 0} (z : ℤ) → misspelt ≡ number z → X
 not-spelt z e = let q : _≡_ {A = ℕ} 0 1 = cc in absurd (omega arith)

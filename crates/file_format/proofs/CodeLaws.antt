@@ -10,7 +10,7 @@ use borrow.Author.Tests.{eqb-true, ltb-true}
 use Rattle.text.specs.Text.{lineWords, Line, placeAmong, among}
 use Rattle.text.specs.declared.Place.{Place}
 use Rattle.text.specs.declared.Place.the-variants.{At, Missing}
-use Rattle.text.specs.Decimal.{numeral}
+use Rattle.text_decimals.specs.Decimal.{numeral}
 use Rattle.text.proofs.TextLaws.{and-left, and-right, isFound, among-place}
 use Rattle.numbers.specs.Numbers.{same}
 use Rattle.instructions.specs.Kinds.{kindNames, kindAt}

@@ -8,7 +8,7 @@ use lib.Dec.{eqb}
 use lib.ListN.{length, getD, take, drop}
 use borrow.Author.Tests.{eqb-true}
 use Rattle.text.specs.Text.{bytes, equals, lineWords, Line, lines, noLine}
-use Rattle.text.specs.Decimal.{digitsFrom, natural, numeral}
+use Rattle.text_decimals.specs.Decimal.{digitsFrom, natural, numeral}
 use Rattle.text.proofs.PieceLaws.{words-length}
 use Rattle.text.proofs.LineLaws.{lines-first, lines-none}
 use Rattle.file_format.specs.Rows.{isNumeral}

@@ -6,7 +6,7 @@ use Prim.Native.Nat.{ℕ}
 use Prim.Native.String.{String}
 use Rattle.refusals.specs.declared.Refusal.the-variants.{Layout, OutOfRange, BadName, Unpriced, NoTarget, Backward, UnknownCell}
 use Rattle.text.specs.Text as text
-use Rattle.text.specs.Decimal as decimals
+use Rattle.text_decimals.specs.Decimal as decimals
 use Rattle.instructions.specs.Kinds as table
 use Rattle.file_format.specs.Layout as layout
 use Rattle.file_format.specs.Rows as rows

@@ -9,7 +9,7 @@ use lib.IntN.{ℤ, pos, natAbs}
 use lib.ListN.{length, drop, length-drop}
 use borrow.Author.Tests.{eqb-true, ltb-true}
 use Rattle.text.specs.Text.{onto, partedBy, Line, linesOf, lines}
-use Rattle.text.specs.Decimal.{numeral}
+use Rattle.text_decimals.specs.Decimal.{numeral}
 use Rattle.text.proofs.TextLaws.{and-left}
 use Rattle.text.proofs.PieceLaws.{split-some}
 use Rattle.numbers.specs.Numbers.{within}

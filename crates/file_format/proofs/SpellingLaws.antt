@@ -9,11 +9,11 @@ use lib.Dec.{eqb, leb, ltb, lit<}
 use lib.ListN.{length, getD, take, drop, take-append-drop}
 use borrow.Author.Tests.{eqb-true, leb-true, ltb-true}
 use Rattle.text.specs.Text.{bytes, equals, lineWords, Line, lines, among, all, distinct}
-use Rattle.text.specs.declared.Numeral.{Numeral}
-use Rattle.text.specs.declared.Numeral.the-variants.{Misspelt as misspelt, Number as number}
-use Rattle.text.specs.Decimal.{numeral, isDigit, digits, decimal}
+use Rattle.text_decimals.specs.declared.Numeral.{Numeral}
+use Rattle.text_decimals.specs.declared.Numeral.the-variants.{Misspelt as misspelt, Number as number}
+use Rattle.text_decimals.specs.Decimal.{numeral, isDigit, digits, decimal}
 use Rattle.text.proofs.TextLaws.{Every, more, every-append, every-left, every-map, all-every, and-left, and-right, equals-path, among-every, split-every, lines-every}
-use Rattle.text.proofs.DecimalLaws.{digit-ascii, decimal-digits, numeral-ascii}
+use Rattle.text_decimals.proofs.DecimalLaws.{digit-ascii, decimal-digits, numeral-ascii}
 use Rattle.instructions.specs.Kinds.{kindNames, kindAt}
 use Rattle.instructions.specs.declared.Argument.{Argument}
 use Rattle.instructions.specs.declared.Argument.the-variants.{Absent, Target, Primitive, Within}

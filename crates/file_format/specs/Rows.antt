@@ -9,9 +9,9 @@ use Rattle.numbers.specs.declared.Range.{Range}
 use Rattle.numbers.specs.Numbers.{same}
 use Rattle.text.specs.Text.{partedBy, placeAmong, among, distinct}
 use Rattle.text.specs.declared.Place.the-variants.{At, Missing}
-use Rattle.text.specs.declared.Numeral.{Numeral}
-use Rattle.text.specs.declared.Numeral.the-variants.{Misspelt as misspelt, Number as number}
-use Rattle.text.specs.Decimal.{isDigit}
+use Rattle.text_decimals.specs.declared.Numeral.{Numeral}
+use Rattle.text_decimals.specs.declared.Numeral.the-variants.{Misspelt as misspelt, Number as number}
+use Rattle.text_decimals.specs.Decimal.{isDigit}
 use Rattle.instructions.specs.Kinds.{calls}
 use Rattle.file_format.specs.declared.Column.{Column}
 use Rattle.file_format.specs.declared.Role.{Role}

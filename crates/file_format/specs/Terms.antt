@@ -3,7 +3,7 @@ pub use Rattle.refusals.specs.declared.Refusal.{Refusal}
 pub use Rattle.refusals.specs.declared.Refusal.the-variants.{ReportMemory, TextLength, Layout, OutOfRange, BadName}
 pub use Rattle.text.specs.Text.{bytes, Line, isEmpty, noLine}
 unfoldable pub use Rattle.text.specs.Text.{lines, lineWords, equals, all, find}
-unfoldable pub use Rattle.text.specs.Decimal.{decimal, numeral}
+unfoldable pub use Rattle.text_decimals.specs.Decimal.{decimal, numeral}
 pub use Rattle.text.specs.declared.Place.{Place}
 pub use Rattle.file_format.specs.declared.Section.{Section}
 pub use Rattle.file_format.specs.declared.Section.the-variants.{Limits as limits, Kinds as kinds, Primitives as primitives, Cells as cells, Fields as fields}

@@ -8,7 +8,7 @@ use lib.Dec.{ltb}
 use lib.ListN.{length, take}
 use borrow.Author.Tests.{lt-ltb}
 use Rattle.text.specs.Text.{isEmpty, lineWords, all}
-use Rattle.text.specs.HeldMagnitude.{most}
+use Rattle.text_decimals.specs.HeldMagnitude.{most}
 use Rattle.text.proofs.ScanLaws.{firstLength, past}
 use Rattle.text.proofs.PieceLaws.{words-more, words-last}
 use Rattle.numbers.specs.declared.Range.{Range}

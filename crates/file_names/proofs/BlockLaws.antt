@@ -10,7 +10,7 @@ use lib.ListN.{length, getD, take, set}
 use lib.Seq.{length-take-le, take-suc, take-suc-set}
 use borrow.Author.Tests.{eqb-true, eqb-false, eq-eqb, ne-eqb, ltb-true}
 use Rattle.text.specs.Text.{bytes, equals, lineWords}
-use Rattle.text.specs.Decimal.{decimal}
+use Rattle.text_decimals.specs.Decimal.{decimal}
 use Rattle.text.proofs.ScanLaws.{firstLength, past, cut-more, cut-last}
 use Rattle.text.proofs.TextLaws.{and-left, and-right}
 use Rattle.file_format.specs.Layout.{list}

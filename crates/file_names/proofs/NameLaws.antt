@@ -10,8 +10,8 @@ use lib.ListN.{length, getD, take, drop, drop-of-length-le}
 use lib.Seq.{drop-cons, take-nil}
 use borrow.Author.Tests.{lt-ltb, le-ltb}
 use Rattle.text.specs.Text.{equals, partedBy, lineWords, among, distinct, all}
-use Rattle.text.specs.Decimal.{digits, decimal}
-use Rattle.text.proofs.DecimalLaws.{decimal-one}
+use Rattle.text_decimals.specs.Decimal.{digits, decimal}
+use Rattle.text_decimals.proofs.DecimalLaws.{decimal-one}
 use Rattle.text.proofs.ScanLaws.{firstLength, past, cut-more, cut-last}
 use Rattle.text.proofs.PieceLaws.{split-some, first-le, first-piece}
 use Rattle.file_format.specs.Rows.{isCapital, inName, isName, equalLists, isField}

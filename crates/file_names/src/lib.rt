@@ -2,7 +2,7 @@
 ghost use mathlib.Core.Path.{_≡_};
 ghost use lib.ListN.{length, take};
 ghost use Rattle.text.specs.Text.{lineWords, distinct};
-ghost use Rattle.text.specs.Decimal.{isDigit};
+ghost use Rattle.text_decimals.specs.Decimal.{isDigit};
 ghost use Rattle.file_format.specs.Rows.{isCapital, inName, isName, equalLists, cellNames, isField, blockSizes};
 ghost use Rattle.file_format.specs.Layout.{list};
 ghost use Rattle.file_names.specs.HeldNames.{BlocksOf, added};

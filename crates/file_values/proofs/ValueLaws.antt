@@ -17,12 +17,12 @@ use denote.Enum.Declared.{tagOf}
 use Rattle.file_format.proofs.CellWord.{the-type}
 use Rattle.text.proofs.TextLaws.{ltb-suc}
 use Rattle.text.specs.Text.{equals, bytes, partedBy, lineWords, Line, noLine}
-use Rattle.text.specs.Decimal.{numeral}
-use Rattle.text.specs.HeldMagnitude.{most, clamp, clamped}
-use Rattle.text.specs.declared.Numeral.{Numeral}
-use Rattle.text.specs.declared.Numeral.the-variants.{Misspelt, Number}
+use Rattle.text_decimals.specs.Decimal.{numeral}
+use Rattle.text_decimals.specs.HeldMagnitude.{most, clamp, clamped}
+use Rattle.text_decimals.specs.declared.Numeral.{Numeral}
+use Rattle.text_decimals.specs.declared.Numeral.the-variants.{Misspelt, Number}
 use Rattle.text.proofs.PieceLaws.{first-le}
-use Rattle.text.proofs.ClampLaws.{clamp-le, le-clamp, clamp-small, clamp-natAbs-lt}
+use Rattle.text_decimals.proofs.ClampLaws.{clamp-le, le-clamp, clamp-small, clamp-natAbs-lt}
 use Rattle.numbers.specs.declared.Range.{Range}
 use Rattle.numbers.specs.Numbers.{bits, half, IsNumber, same, within, numbers}
 use Rattle.numbers.proofs.SignedLaws.{number-fits}

@@ -2,7 +2,7 @@
 use Rattle.refusals.specs.Library.{ℕ, _≤_, _<_, mag, _≡_}
 use Rattle.numbers.specs.declared.Range.{Range}
 use Rattle.numbers.specs.Numbers.{naturals}
-use Rattle.text.specs.HeldMagnitude.{most, clamp}
+use Rattle.text_decimals.specs.HeldMagnitude.{most, clamp}
 use Rattle.file_format.specs.declared.CellWord.{CellWord}
 use Rattle.file_format.specs.declared.CellWord.the-variants.{Wrong, Unknown, Known, Block, Span}
 

@@ -3,7 +3,7 @@ use cells::Cell;
 use file_format::CellWord;
 use file_format::layout;
 use numbers::Range;
-use text::Numeral;
+use text_decimals::Numeral;
 ghost use mathlib.Core.Path.{_≡_};
 ghost use mathlib.Core.List.{List};
 ghost use Prim.Native.Nat.{ℕ, _<_, _≤_};
@@ -11,8 +11,8 @@ ghost use lib.Dec.{ltb};
 ghost use lib.IntN.{natAbs};
 ghost use lib.Signed.{mag, ltZ};
 ghost use Rattle.text.specs.Text.{lines};
-ghost use Rattle.text.specs.Decimal.{numeral};
-ghost use Rattle.text.specs.HeldMagnitude.{most, clamp, clamped};
+ghost use Rattle.text_decimals.specs.Decimal.{numeral};
+ghost use Rattle.text_decimals.specs.HeldMagnitude.{most, clamp, clamped};
 ghost use Rattle.numbers.specs.Numbers.{naturals, within, numbers};
 ghost use Rattle.cells.specs.Cells.{exactly, between, handle};
 ghost use Rattle.file_format.specs.Rows.{isNumeral, value, knownOf, blockOf, spanOf, spanned, cellWord, isCell, handles, spanInRange, cellInRange, isSingle, cellPresent};
@@ -35,7 +35,7 @@ pub fn is_spelt(n: Numeral) -> bool
 pub fn is_numeral(w: &[u8]) -> bool
     ensures { λ r. ⌜ r ≡ isNumeral (numeral (now (w .entry))) ⌝ }
 {
-    is_spelt(text::read_numeral(w))
+    is_spelt(text_decimals::read_numeral(w))
 }
 
 // What is held of the number that was read; 0 where none is spelt.
@@ -61,7 +61,7 @@ pub fn is_within(range: Range, w: &[u8]) -> bool
     requires { ⌜ Near range ⌝ }
     ensures { λ r. ⌜ r ≡ within range (value (now (w .entry))) ⌝ }
 {
-    is_read_within(range, text::read_numeral(w))
+    is_read_within(range, text_decimals::read_numeral(w))
 }
 
 // Whether the number that was read is above another.
@@ -83,7 +83,7 @@ pub fn number_in(range: Range, w: &[u8]) -> i64
     requires { ⌜ Near range ⌝ }
     ensures { λ r. ⌜ r ≡ inside range (value (now (w .entry))) ⌝ }
 {
-    inside(range, value_read(text::read_numeral(w)))
+    inside(range, value_read(text_decimals::read_numeral(w)))
 }
 
 // A natural number of a range.
@@ -156,16 +156,19 @@ fn spanned(w: &[u8]) -> CellWord
     let n = text::piece_length(w, b'.');
     let next = n + 1;
     if next >= w.len() {
-        return known_word(text::read_numeral(w));
+        return known_word(text_decimals::read_numeral(w));
     }
     if w[n] != b'.' {
-        return known_word(text::read_numeral(w));
+        return known_word(text_decimals::read_numeral(w));
     }
     if w[next] != b'.' {
-        return known_word(text::read_numeral(w));
+        return known_word(text_decimals::read_numeral(w));
     }
     let after = n + 2;
-    span_word(text::read_numeral(&w[..n]), text::read_numeral(&w[after..]))
+    span_word(
+        text_decimals::read_numeral(&w[..n]),
+        text_decimals::read_numeral(&w[after..]),
+    )
 }
 
 // What w says where a cell is wanted: "number, `?` for unknown, `#k` for block k", `lo..hi`.
@@ -179,7 +182,7 @@ pub fn cell_word(w: &[u8]) -> CellWord
         return CellWord::Wrong;
     }
     if w[0] == b'#' {
-        return block_word(text::read_numeral(&w[1..]));
+        return block_word(text_decimals::read_numeral(&w[1..]));
     }
     spanned(w)
 }

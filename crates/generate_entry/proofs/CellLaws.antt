@@ -15,16 +15,16 @@ use mir.Syntax.{w32}
 use mir.Val.{ofZ, toZ}
 use mir.ValLaws.{toZ-ofZ}
 use Rattle.text.specs.Text.{bytes, partedBy, lineWords, all}
-use Rattle.text.specs.Decimal.{decimal, integer}
+use Rattle.text_decimals.specs.Decimal.{decimal, integer}
 use Rattle.numbers.specs.declared.Range.{Range}
 use Rattle.numbers.specs.Numbers.{numbers}
 use Rattle.numbers.proofs.SignedLaws.{number-fits}
 use Rattle.instructions.specs.Kinds.{kindAt}
 use Rattle.instructions.specs.declared.Argument.{Argument}
 use Rattle.instructions.specs.declared.Argument.the-variants.{Absent, Target, Primitive, Within}
-use Rattle.text.proofs.IntegerLaws.{integer-length}
+use Rattle.text_decimals.proofs.IntegerLaws.{integer-length}
 use Rattle.text.proofs.TextLaws.{every-getD, all-every}
-use Rattle.text.proofs.DecimalLaws.{decimal-length}
+use Rattle.text_decimals.proofs.DecimalLaws.{decimal-length}
 use Rattle.generate_file.specs.Held.{sound}
 use Rattle.generate_file.proofs.NumberLaws.{numbers-sound, soundArgument, kind-sound, range-sound as kind-range-sound, number-is}
 use Rattle.generate_file.proofs.CodeLaws.{target-within}

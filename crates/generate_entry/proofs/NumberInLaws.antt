@@ -12,7 +12,7 @@ use mir.Val.{Fits, SFits, ofZ, toZ}
 use mir.ValLaws.{toZ-ofZ}
 use borrow.Author.Tests.{ltb-true}
 use Rattle.text.proofs.TextLaws.{and-left, and-right}
-use Rattle.text.proofs.NumeralLaws.{natural-read}
+use Rattle.text_decimals.proofs.NumeralLaws.{natural-read}
 use Rattle.numbers.specs.declared.Range.{Range}
 use Rattle.numbers.specs.Numbers.{bits, half, IsNumber}
 use Rattle.numbers.proofs.SignedLaws.{number-fits}

@@ -8,8 +8,8 @@ use native.Mathlib.Numerals.{add-one}
 use lib.Dec.{ltb}
 use lib.ListN.{length}
 use borrow.Author.Tests.{ltb-true}
-use Rattle.text.specs.Memory.{over}
-use Rattle.text.proofs.MemoryLaws.{Wrote, wrote-none, wrote-more}
+use Rattle.text_decimals.specs.Memory.{over}
+use Rattle.text_decimals.proofs.MemoryLaws.{Wrote, wrote-none, wrote-more}
 use Rattle.instructions.specs.declared.Argument.the-variants.{Target}
 use Rattle.instructions.specs.Kinds.{kinds, kindAt}
 use Rattle.generate_file.specs.declared.Column.{Column}

@@ -10,8 +10,8 @@ ghost use mathlib.Core.List.{_++_};
 ghost use Prim.Native.Nat.{suc, _+_, _*_, _%_, _≤_, _<_};
 ghost use lib.Dec.{ltb};
 ghost use lib.ListN.{length, drop};
-ghost use Rattle.text.specs.Memory.{over};
-ghost use Rattle.text.specs.Decimal.{decimal};
+ghost use Rattle.text_decimals.specs.Memory.{over};
+ghost use Rattle.text_decimals.specs.Decimal.{decimal};
 ghost use Rattle.instructions.specs.Kinds.{kindAt};
 ghost use Rattle.instructions.specs.declared.Argument.the-variants.{Target};
 ghost use Rattle.answers.specs.Answers.{memory, answerOf};
@@ -93,7 +93,7 @@ fn put_amount(out: &mut [u8], at: usize, least: u32, spread: u32, d: u32) -> usi
     ensures { λ r. ⌜ r ≡ at + length (decimal (least + below spread d)) ⌝ }
     ensures { λ _. ⌜ now (out .exit) ≡ over (now (out .entry)) at (decimal (least + below spread d)) ⌝ }
 {
-    text::put_decimal(out, at, (least + below(spread, d)) as u64)
+    text_decimals::put_decimal(out, at, (least + below(spread, d)) as u64)
 }
 
 // Puts a handle over out from `at` on, and answers where it ends.
@@ -102,8 +102,8 @@ fn put_handle(out: &mut [u8], at: usize, d: u32) -> usize
     ensures { λ r. ⌜ r ≡ at + length (handleWord d) ⌝ }
     ensures { λ _. ⌜ now (out .exit) ≡ over (now (out .entry)) at (handleWord d) ⌝ }
 {
-    let e = text::put(out, at, b"#");
-    text::put_decimal(out, e, (d % 2) as u64)
+    let e = text_decimals::put(out, at, b"#");
+    text_decimals::put_decimal(out, e, (d % 2) as u64)
 }
 
 // Puts a cell that is a number.
@@ -113,10 +113,10 @@ fn put_number(out: &mut [u8], at: usize, d: u32) -> usize
     ensures { λ _. ⌜ now (out .exit) ≡ over (now (out .entry)) at (numberWord d) ⌝ }
 {
     if d / 2 % 2 == 0 {
-        return text::put_decimal(out, at, (d / 4 % 8) as u64);
+        return text_decimals::put_decimal(out, at, (d / 4 % 8) as u64);
     }
     let z = number_in(numbers::number_range(), d);
-    text::put_integer(out, at, z)
+    text_decimals::put_integer(out, at, z)
 }
 
 // Puts a cell that may be unknown.
@@ -126,7 +126,7 @@ fn put_open(out: &mut [u8], at: usize, d: u32) -> usize
     ensures { λ _. ⌜ now (out .exit) ≡ over (now (out .entry)) at (openWord d) ⌝ }
 {
     if d % 2 == 0 {
-        return text::put(out, at, b"?");
+        return text_decimals::put(out, at, b"?");
     }
     put_number(out, at, d)
 }
@@ -156,12 +156,12 @@ fn put_break(out: &mut [u8], at: usize, n: usize, follows: bool) -> usize
     ensures { λ _. ⌜ now (out .exit) ≡ over (now (out .entry)) at (break (goesOn n follows)) ⌝ }
 {
     if 0 < n {
-        return text::put(out, at, b" ");
+        return text_decimals::put(out, at, b" ");
     }
     if follows {
-        return text::put(out, at, b" ");
+        return text_decimals::put(out, at, b" ");
     }
-    text::put(out, at, b"\n")
+    text_decimals::put(out, at, b"\n")
 }
 
 // Puts a row of words, by the draws after the state s, and answers where it ends.
@@ -203,15 +203,15 @@ fn put_argument(out: &mut [u8], at: usize, n: usize, k: usize, kind: usize, d: u
     ensures { λ _. ⌜ now (out .exit) ≡ over (now (out .entry)) at (argument n k d (kindAt kind .argument)) ⌝ }
 {
     match instructions::argument_at(kind) {
-        Argument::Absent => text::put(out, at, b"-"),
-        Argument::Target => text::put_decimal(out, at, target(n, k, d) as u64),
+        Argument::Absent => text_decimals::put(out, at, b"-"),
+        Argument::Target => text_decimals::put_decimal(out, at, target(n, k, d) as u64),
         Argument::Primitive => {
             let name = text::word_at(b"READ WRITE CLOCK NOISE", (d % 4) as usize);
-            text::put(out, at, name)
+            text_decimals::put(out, at, name)
         }
         Argument::Within(range) => {
             let z = number_in(range, d);
-            text::put_integer(out, at, z)
+            text_decimals::put_integer(out, at, z)
         }
     }
 }
@@ -222,12 +222,12 @@ fn put_line(out: &mut [u8], at: usize, n: usize, k: usize, kind: usize, d: u32) 
     ensures { λ r. ⌜ r ≡ at + length (lineOf n k kind d) ⌝ }
     ensures { λ _. ⌜ now (out .exit) ≡ over (now (out .entry)) at (lineOf n k kind d) ⌝ }
 {
-    let a = text::put_decimal(out, at, k as u64);
-    let b = text::put(out, a, b" ");
+    let a = text_decimals::put_decimal(out, at, k as u64);
+    let b = text_decimals::put(out, a, b" ");
     let c = instructions::put_name(out, b, kind);
-    let e = text::put(out, c, b" ");
+    let e = text_decimals::put(out, c, b" ");
     let f = put_argument(out, e, n, k, kind, d);
-    text::put(out, f, b"\n")
+    text_decimals::put(out, f, b"\n")
 }
 
 // The kind of line k, where n lines stand before the closing STOP and d is the draw of the line.
@@ -329,7 +329,7 @@ fn put_limits(out: &mut [u8], seed: u32, n: usize) -> usize
     ensures { λ _. ⌜ now (out .exit) ≡ over (now (out .entry)) 0 (limitLines seed) ⌝ }
     ensures { λ r. ⌜ r ≤ 900 ⌝ }
 {
-    let l1 = text::put(out, 0, b"BUDGET TICK\n");
+    let l1 = text_decimals::put(out, 0, b"BUDGET TICK\n");
     let l2 = put_values(out, l1, Column::Limits, 2, false, seed, n, 0);
     put_row(out, l2, Column::Names, 61, false, 0)
 }
@@ -352,7 +352,7 @@ fn put_primitives(out: &mut [u8], at: usize, seed: u32, n: usize) -> usize
     ensures { λ r. ⌜ r ≡ at + length (primitivePrices seed) ⌝ }
     ensures { λ _. ⌜ now (out .exit) ≡ over (now (out .entry)) at (primitivePrices seed) ⌝ }
 {
-    let l7 = text::put(out, at, b"READ WRITE CLOCK NOISE\n");
+    let l7 = text_decimals::put(out, at, b"READ WRITE CLOCK NOISE\n");
     let l8 = put_values(out, l7, Column::Cycles, 4, false, seed, n, 185);
     put_values(out, l8, Column::Words, 4, false, seed, n, 189)
 }
@@ -377,14 +377,14 @@ fn put_start(out: &mut [u8], at: usize, seed: u32, n: usize) -> usize
     let first = cells_for(seed, n, 0);
     let second = cells_for(seed, n, 1);
     let plain = plain_cells(seed);
-    let l10 = text::put(
+    let l10 = text_decimals::put(
         out,
         at,
         b"ACCU S0 S1 S2 S3 S4 S5 S6 S7 S8 S9 S10 S11 S12 S13 S14 S15 S16 S17 S18 S19 S20 S21 S22 S23 S24 S25 S26 S27 S28 S29 S30 S31\n",
     );
     let accu = put_values(out, l10, first, 1, true, seed, n, 193);
     let l11 = put_values(out, accu, second, 32, false, seed, n, 194);
-    let l12 = text::put(
+    let l12 = text_decimals::put(
         out,
         l11,
         b"B0.0 B0.1 B0.2 B0.3 B0.4 B0.5 B0.6 B0.7 B0.8 B0.9 B0.10 B0.11 B0.12 B0.13 B0.14 B0.15 B1.0 B1.1 B1.2 B1.3 B1.4 B1.5 B1.6 B1.7 B1.8 B1.9 B1.10 B1.11 B1.12 B1.13 B1.14 B1.15\n",
@@ -402,7 +402,7 @@ fn put_file(out: &mut [u8], seed: u32) -> usize
     let n = (next(seed) % 200) as usize;
     let a = put_prices(out, seed, n);
     let b = put_start(out, a, seed, n);
-    let c = text::put(out, b, b"AT OP ARG\n");
+    let c = text_decimals::put(out, b, b"AT OP ARG\n");
     put_code(out, c, seed, n)
 }
 

@@ -11,9 +11,9 @@ use lib.ListN.{length, length-append, getD}
 use borrow.Author.Tests.{le-leb, lt-ltb, ltb-true, eq-eqb}
 use Rattle.text.specs.Text.{bytes, isEmpty, equals, partedBy, lineWords, Line, placeAmong, find, among, all}
 use Rattle.text.specs.declared.Place.the-variants.{At}
-use Rattle.text.specs.Decimal.{numeral, decimal}
+use Rattle.text_decimals.specs.Decimal.{numeral, decimal}
 use Rattle.text.proofs.TextLaws.{none, more, every-append, among-at, among-find, equals-path}
-use Rattle.text.proofs.DecimalLaws.{decimal-length}
+use Rattle.text_decimals.proofs.DecimalLaws.{decimal-length}
 use Rattle.text.proofs.LineLaws.{endedLine}
 use Rattle.numbers.specs.Numbers.{within, same}
 use Rattle.numbers.proofs.SignedLaws.{number-fits}
@@ -21,13 +21,13 @@ use Rattle.instructions.specs.Kinds.{kinds, kindNames, kindAt}
 use Rattle.instructions.specs.declared.Argument.{Argument}
 use Rattle.instructions.specs.declared.Argument.the-variants.{Absent, Target, Primitive, Within}
 use Rattle.instructions.proofs.ColumnLaws.{column-at, names-count}
-use Rattle.text.proofs.IntegerLaws.{integer-length}
+use Rattle.text_decimals.proofs.IntegerLaws.{integer-length}
 use Rattle.file_format.specs.declared.Section.the-variants.{Kinds as kinds-section, Primitives as primitives-section}
 use Rattle.file_format.specs.declared.Role.the-variants.{Names as names, Code as code}
 use Rattle.file_format.specs.declared.Row.the-variants.{Layout as layout-row, Range as range-row, Name as name-row, Price as price-row, Target as target-row, Forward as forward-row}
 use Rattle.file_format.specs.Layout.{isAnswer, body, codeLines, listed}
 use Rattle.file_format.specs.Rows.{isNumeral, value, at, op, arg, argumentOf, onArgument, argumentLaidOut, argumentInRange, argumentNamed, argumentReaches, argumentForward, atRange, codeLaidOut, laidOut, codeInRange, inRange, codeNamed, named, firstAt, onCode, priced, reaches, codeForward, forward, test}
-use Rattle.text.proofs.SpellingLaws.{integer-read, decimal-free}
+use Rattle.text_decimals.proofs.SpellingLaws.{integer-read, decimal-free}
 use Rattle.text.proofs.JoinLaws.{Free, text-free, split-alone, split-first}
 use Rattle.instructions.proofs.KindNameLaws.{kind-name, name-known}
 use Rattle.generate_file.specs.Draws.{after}

@@ -3,7 +3,7 @@ use mathlib.Core.Path.{_≡_, refl}
 use mathlib.Core.List.{[], _∷_}
 use Rattle.generate_file.specs.Draws.{next, after}
 use Rattle.text.specs.Text.{bytes}
-use Rattle.text.specs.Decimal.{decimal, digits, integer}
+use Rattle.text_decimals.specs.Decimal.{decimal, digits, integer}
 use Rattle.instructions.specs.Kinds.{kinds, kindAt}
 use Rattle.generate_file.specs.Words.{below, numberIn, amount, word, rowFrom}
 use Rattle.generate_file.specs.File.{count, kindOf, target, argument, lineOf, codeLine, codeFrom, primitivePrices}

@@ -10,7 +10,7 @@ use lib.IntN.{pos}
 use lib.ListN.{length, length-append, getD}
 use Rattle.text.specs.Text as texts
 use Rattle.text.specs.Text.{bytes, isEmpty, equals, partedBy, lineWords, Line, lines, among, all, distinct, linesText}
-use Rattle.text.specs.Decimal as decimals
+use Rattle.text_decimals.specs.Decimal as decimals
 use Rattle.text.proofs.TextLaws.{Every, none, more, every-map, every-append, all-every, and-left, and-right}
 use Rattle.text.proofs.LineLaws.{endedLine}
 use Rattle.instructions.specs.Kinds.{kinds, kindNames}

@@ -10,17 +10,17 @@ use lib.IntN.{ℤ, pos}
 use lib.ListN.{length, getD, drop}
 use borrow.Author.Tests.{eqb-true, le-leb, lt-ltb}
 use Rattle.text.specs.Text.{bytes, isEmpty, equals, partedBy, lineWords, among, all}
-use Rattle.text.specs.declared.Numeral.the-variants.{Number as number}
-use Rattle.text.specs.Decimal.{numeral, decimal, integer}
+use Rattle.text_decimals.specs.declared.Numeral.the-variants.{Number as number}
+use Rattle.text_decimals.specs.Decimal.{numeral, decimal, integer}
 use Rattle.text.proofs.TextLaws.{Every, none, more, every-map, every-append, equals-path}
-use Rattle.text.proofs.DecimalLaws.{decimal-read}
+use Rattle.text_decimals.proofs.DecimalLaws.{decimal-read}
 use Rattle.numbers.specs.Numbers.{naturals, within, numbers}
 use Rattle.instructions.specs.Kinds.{kinds, kindNames, kindAt}
 use Rattle.file_format.specs.declared.CellWord.the-variants.{Block as block}
 use Rattle.file_format.specs.declared.Column.the-variants.{Limit as limit, Cycles as cycles, Words as words-column, Extra as extra, Cell as cell}
 use Rattle.file_format.specs.Layout.{list}
 use Rattle.file_format.specs.Rows.{isNumeral, valueOf, value, blockOf, hashed, cellWord, isCell, cellInRange, cellPresent, extraCounts, noExtra, extraRange, extrasInRange, columnInRange, columnLaidOut}
-use Rattle.text.proofs.SpellingLaws.{integer-read, decimal-free, integer-free}
+use Rattle.text_decimals.proofs.SpellingLaws.{integer-read, decimal-free, integer-free}
 use Rattle.text.proofs.JoinLaws.{Free, split-alone, split-first}
 use Rattle.generate_file.specs.declared.Column.{Column}
 use Rattle.generate_file.specs.declared.Column.the-variants.{Names, Limits, Cycles, Words, Extras, Handles, Known, Open}

@@ -9,15 +9,15 @@ use lib.IntN.{ℤ, pos}
 use lib.ListN.{length, length-append}
 use borrow.Author.Tests.{leb-true}
 use Rattle.text.specs.Text.{bytes, isEmpty, all}
-use Rattle.text.specs.declared.Numeral.the-variants.{Number as number}
-use Rattle.text.specs.Decimal.{numeral, decimal, integer}
+use Rattle.text_decimals.specs.declared.Numeral.the-variants.{Number as number}
+use Rattle.text_decimals.specs.Decimal.{numeral, decimal, integer}
 use Rattle.text.proofs.TextLaws.{Every, none, more, every-append, every-getD, all-every}
-use Rattle.text.proofs.DecimalLaws.{decimal-length, decimal-read}
+use Rattle.text_decimals.proofs.DecimalLaws.{decimal-length, decimal-read}
 use Rattle.numbers.specs.Numbers.{numbers}
 use Rattle.numbers.proofs.SignedLaws.{number-fits}
 use Rattle.instructions.specs.Kinds.{Kind, kinds, kindAt}
-use Rattle.text.proofs.IntegerLaws.{integer-length}
-use Rattle.text.proofs.SpellingLaws.{integer-read, decimal-free, integer-free}
+use Rattle.text_decimals.proofs.IntegerLaws.{integer-length}
+use Rattle.text_decimals.proofs.SpellingLaws.{integer-read, decimal-free, integer-free}
 use Rattle.text.proofs.JoinLaws.{Free, text-free}
 use Rattle.instructions.proofs.KindNameLaws.{name-free}
 use Rattle.generate_file.specs.declared.Column.{Column}

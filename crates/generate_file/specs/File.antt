@@ -1,7 +1,7 @@
 -- The file of a seed. (document 02 §11, docs/GENERATOR.md)
 use Rattle.refusals.specs.Library.{ℕ, zero, suc, _+_, _-_, _*_, _/_, _%_, eqb, ltb, leb, getD, Bool, true, false, cond, _&&_, List, [], _∷_, _++_}
 use Rattle.text.specs.Text.{bytes}
-use Rattle.text.specs.Decimal.{decimal, integer}
+use Rattle.text_decimals.specs.Decimal.{decimal, integer}
 use Rattle.instructions.specs.declared.Argument.{Argument}
 use Rattle.instructions.specs.declared.Argument.the-variants.{Absent, Target, Primitive, Within}
 use Rattle.instructions.specs.Kinds.{kindAt}

@@ -3,7 +3,7 @@ use Rattle.refusals.specs.Library.{ℕ, zero, suc, _+_, _/_, _%_, eqb, ℤ, pos
 use Rattle.numbers.specs.declared.Range.{Range}
 use Rattle.numbers.specs.Numbers.{numbers}
 use Rattle.text.specs.Text.{bytes}
-use Rattle.text.specs.Decimal.{decimal, integer}
+use Rattle.text_decimals.specs.Decimal.{decimal, integer}
 use Rattle.instructions.specs.Kinds.{kindAt}
 use Rattle.generate_file.specs.declared.Column.{Column}
 use Rattle.generate_file.specs.declared.Column.the-variants.{Names, Limits, Cycles, Words, Extras, Handles, Known, Open}

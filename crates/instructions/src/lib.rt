@@ -4,7 +4,7 @@ ghost use Prim.Native.Nat.{ℕ, _+_, _≤_, _<_};
 ghost use lib.Dec.{ltb};
 ghost use lib.ListN.{length};
 ghost use Rattle.text.specs.Text.{equals, placeAmong};
-ghost use Rattle.text.specs.Memory.{over};
+ghost use Rattle.text_decimals.specs.Memory.{over};
 ghost use Rattle.text.specs.declared.Place.the-variants.{At};
 ghost use Rattle.instructions.specs.Kinds.{kindNames, calls, kindAt};
 ghost use Rattle.instructions.specs.HeldColumns.{nameStart, nameKey, Keyed, Begins, Joined, argumentCode, rangeOf, Codes, Lows, Highs, operationCode, ByOpcode};
@@ -310,5 +310,5 @@ pub fn put_name(out: &mut [u8], at: usize, k: usize) -> usize
     let starts = name_starts();
     let start = name_start(&starts, k);
     let next = name_start(&starts, k + 1);
-    text::put(out, at, &columns::NAMES[start..next - 1])
+    text_decimals::put(out, at, &columns::NAMES[start..next - 1])
 }

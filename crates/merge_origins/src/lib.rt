@@ -6,7 +6,6 @@ ghost use mathlib.Core.Path.{_≡_};
 ghost use mathlib.Core.Bool.{cond};
 ghost use Prim.Native.Nat.{ℕ, _+_, _*_, _<_, _≤_};
 ghost use lib.Dec.{eqb};
-ghost use lib.ListN.{length};
 ghost use Rattle.machine.specs.Machine as machine;
 ghost use Rattle.machine.specs.Machine.{State, height};
 ghost use Rattle.machine_state.specs.HeldProgram.{firstOf, IsProgram};

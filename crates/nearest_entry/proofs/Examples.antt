@@ -2,7 +2,7 @@
 use mathlib.Core.Path.{_≡_, refl}
 use lib.IntN.{pos, negsuc}
 use Rattle.text.specs.Text.{bytes}
-use Rattle.text.specs.Decimal.{digits, decimal, integer}
+use Rattle.text_decimals.specs.Decimal.{digits, decimal, integer}
 use Rattle.nearest_changes.specs.declared.Position.the-variants.{Accu, Entry, Field}
 use Rattle.nearest_entry.specs.Answers.{nameOf, lineOf}
 

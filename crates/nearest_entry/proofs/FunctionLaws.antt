@@ -9,12 +9,12 @@ use lib.ListN.{length, length-append}
 use Rattle.refusals.specs.declared.Refusal.{Refusal}
 use Rattle.refusals.specs.Refusals.{place}
 use Rattle.text.specs.Text.{bytes, lines}
-use Rattle.text.specs.Decimal.{decimal, integer}
-use Rattle.text.proofs.DecimalLaws.{decimal-length}
+use Rattle.text_decimals.specs.Decimal.{decimal, integer}
+use Rattle.text_decimals.proofs.DecimalLaws.{decimal-length}
 use Rattle.numbers.proofs.SignedLaws.{number-fits}
 use Rattle.machine.specs.Machine.{State, Code}
 use Rattle.bound_theory.proofs.PlaceLaws.{bound-place}
-use Rattle.text.proofs.IntegerLaws.{integer-length}
+use Rattle.text_decimals.proofs.IntegerLaws.{integer-length}
 use Rattle.file_format.specs.Routine.{readBound}
 use Rattle.file_format.proofs.RowLaws.{read-passes}
 use Rattle.file_format.proofs.PlaceLaws.{read-bound-place, confined, start-small}

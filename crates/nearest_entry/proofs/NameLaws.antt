@@ -10,10 +10,10 @@ use lib.IntN.{pos}
 use lib.ListN.{length, getD, take, drop, length-drop, length-map}
 use lib.Seq.{length-take-le}
 use Rattle.text.specs.Text.{bytes, isEmpty, equals, Line}
-use Rattle.text.specs.declared.Numeral.the-variants.{Number as number}
-use Rattle.text.specs.Decimal.{numeral, decimal}
+use Rattle.text_decimals.specs.declared.Numeral.the-variants.{Number as number}
+use Rattle.text_decimals.specs.Decimal.{numeral, decimal}
 use Rattle.text.proofs.TextLaws.{and-right, equals-path}
-use Rattle.text.proofs.DecimalLaws.{decimal-read}
+use Rattle.text_decimals.proofs.DecimalLaws.{decimal-read}
 use Rattle.cells.specs.declared.Cell.{Cell}
 use Rattle.machine.specs.Machine.{height}
 use Rattle.file_format.specs.declared.Section.the-variants.{Cells as cells, Fields as fields}
@@ -26,7 +26,7 @@ use Rattle.file_format.proofs.RowLaws.{passes-laid-out, passes-named, lists-pat
 use Rattle.file_format.proofs.RangeLaws.{cells-few, values-counted}
 use Rattle.file_format.proofs.PassingLaws.{fields-total}
 use Rattle.text.proofs.JoinLaws.{cut-same}
-use Rattle.text.proofs.SpellingLaws.{decimal-free}
+use Rattle.text_decimals.proofs.SpellingLaws.{decimal-free}
 use Rattle.nearest_changes.specs.declared.Position.{Position}
 use Rattle.nearest_changes.specs.declared.Position.the-variants.{Accu, Entry, Field}
 use Rattle.nearest_changes.specs.Places.{from, fieldsFrom, positions}

@@ -10,7 +10,7 @@ use lib.ListN.{length, getD, set, drop, length-set, length-map, length-drop, len
 use lib.Seq.{drop-set-lt, drop-set-add, take-set-lt, take-set-le, getD-append-add}
 use borrow.Author.Tests.{eq-eqb, ltb-true, ltb-false, not-true}
 use Rattle.text.specs.Text.{bytes, isEmpty, equals, partedBy, lineWords, Line, lines, all, linesText, joined}
-use Rattle.text.specs.Decimal.{digitsFrom, natural, numeral, integer}
+use Rattle.text_decimals.specs.Decimal.{digitsFrom, natural, numeral, integer}
 use Rattle.text.proofs.TextLaws.{Every, none, and-left, and-right, equals-path}
 use Rattle.text.proofs.LineLaws.{endedLine}
 use Rattle.numbers.specs.Numbers.{numbers, IsNumber}
@@ -36,7 +36,7 @@ use Rattle.file_format.proofs.PassingLaws.{code-some, code-among, fields-total}
 use Rattle.file_format.proofs.LayoutLaws.{list-none, list-words, role-every}
 use Rattle.text.proofs.JoinLaws.{Free, split-free, pieces-every, split-joined, joined-every, every-set, lines-free, lines-set, text-set}
 use Rattle.file_format.proofs.OtherFileLaws.{covered-row, test-other}
-use Rattle.text.proofs.SpellingLaws.{integer-free}
+use Rattle.text_decimals.proofs.SpellingLaws.{integer-free}
 use Rattle.file_format.proofs.CellLaws.{integer-cell}
 use Rattle.nearest_changes.specs.declared.Position.{Position}
 use Rattle.nearest_changes.specs.declared.Position.the-variants.{Accu, Entry, Field}

@@ -2,7 +2,7 @@
 -- (document 02, §13)
 use Rattle.refusals.specs.Library.{ℕ, List, _++_, Option, some, none}
 use Rattle.answers.specs.Terms.{Routine, readBound, Answer, reported, refused, lending, ofReading, memoryLimit, bytes, decimal}
-use Rattle.text.specs.Decimal.{integer}
+use Rattle.text_decimals.specs.Decimal.{integer}
 use Rattle.nearest_changes.specs.declared.Position.{Position}
 use Rattle.nearest_changes.specs.declared.Position.the-variants.{Accu, Entry, Field}
 use Rattle.nearest_changes.specs.declared.Change.{Change}

@@ -2,7 +2,7 @@
 use Rattle.refusals.specs.Library.{ℕ, suc, _<_, ℤ, length, getD, take, drop, set, List, [], _++_, _≡_}
 use Rattle.answers.specs.Terms.{listed, Routine, bytes, Line, Section, cells, fields, cell, names, values}
 use Rattle.text.specs.Text.{linesText, joined}
-use Rattle.text.specs.Decimal.{integer}
+use Rattle.text_decimals.specs.Decimal.{integer}
 use Rattle.nearest_changes.specs.declared.Position.{Position}
 use Rattle.nearest_changes.specs.declared.Position.the-variants.{Accu, Entry, Field}
 use Rattle.nearest_changes.specs.declared.Change.{Change}

@@ -10,7 +10,7 @@ ghost use mathlib.Core.Path.{_≡_};
 ghost use mathlib.Core.List.{_++_};
 ghost use Prim.Native.Nat.{_+_, _≤_};
 ghost use lib.ListN.{length, drop};
-ghost use Rattle.text.specs.Memory.{over};
+ghost use Rattle.text_decimals.specs.Memory.{over};
 ghost use Rattle.file_reader.specs.HeldRoutine.{Limited};
 ghost use Rattle.answers.specs.Answers.{memory, answerOf};
 ghost use Rattle.nearest_search.specs.Held.{ofSought};
@@ -35,16 +35,16 @@ fn put_name(out: &mut [u8], p: Position) -> usize
     ensures { λ _. ⌜ now (out .exit) ≡ over (now (out .entry)) 0 (nameOf p) ⌝ }
 {
     match p {
-        Position::Accu => text::put(out, 0, b"ACCU"),
+        Position::Accu => text_decimals::put(out, 0, b"ACCU"),
         Position::Entry(n) => {
-            let a = text::put(out, 0, b"S");
-            text::put_decimal(out, a, n as u64)
+            let a = text_decimals::put(out, 0, b"S");
+            text_decimals::put_decimal(out, a, n as u64)
         }
         Position::Field(k, n) => {
-            let a = text::put(out, 0, b"B");
-            let b = text::put_decimal(out, a, k as u64);
-            let c = text::put(out, b, b".");
-            text::put_decimal(out, c, n as u64)
+            let a = text_decimals::put(out, 0, b"B");
+            let b = text_decimals::put_decimal(out, a, k as u64);
+            let c = text_decimals::put(out, b, b".");
+            text_decimals::put_decimal(out, c, n as u64)
         }
     }
 }
@@ -57,9 +57,9 @@ fn put_change(out: &mut [u8], change: Change) -> usize
 {
     let p = change.place;
     let a = put_name(out, p);
-    let b = text::put(out, a, b" ");
-    let c = text::put_integer(out, b, change.value);
-    text::put(out, c, b"\n")
+    let b = text_decimals::put(out, a, b" ");
+    let c = text_decimals::put_integer(out, b, change.value);
+    text_decimals::put(out, c, b"\n")
 }
 
 // The answer of the search to a routine.
@@ -75,7 +75,7 @@ fn nearest_routine(routine: Routine, out: &mut [u8]) -> Answer
             Answer::Reported(n)
         }
         Sought::Still => {
-            let n = text::put(out, 0, b"NONE\n");
+            let n = text_decimals::put(out, 0, b"NONE\n");
             Answer::Reported(n)
         }
         Sought::Refused(refusal) => Answer::Refused(refusal),

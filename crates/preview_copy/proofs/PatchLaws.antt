@@ -11,7 +11,7 @@ use borrow.Author.Tests.{lt-ltb, le-ltb, lt-leb, le-leb}
 use Rattle.refusals.specs.declared.Refusal.{Refusal}
 use Rattle.refusals.specs.declared.Refusal.the-variants.{TextLength, BadName}
 use Rattle.text.specs.Text.{bytes, lineWords, Line, noLine, lines, linesText}
-use Rattle.text.specs.Decimal.{numeral}
+use Rattle.text_decimals.specs.Decimal.{numeral}
 use Rattle.text.proofs.TextLaws.{Every, none, more}
 use Rattle.text.proofs.LineLaws.{line-drop}
 use Rattle.file_format.specs.declared.Role.{Role}

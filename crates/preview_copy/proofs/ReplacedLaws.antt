@@ -21,7 +21,7 @@ use Rattle.file_format.specs.Rows.{at, op, arg, firstAt, value, Passes}
 use Rattle.file_format.specs.Routine.{PriceList, priceList, instructionOf, codeIn, routineOf}
 use Rattle.file_format.proofs.RowLaws.{lines-ended}
 use Rattle.file_format.proofs.CodeLineLaws.{number-first}
-use Rattle.text.proofs.SpellingLaws.{decimal-free}
+use Rattle.text_decimals.proofs.SpellingLaws.{decimal-free}
 use Rattle.text.proofs.JoinLaws.{Free, text-free, split-free, lines-free, lines-set, text-set, split-first}
 use Rattle.preview_copy.specs.Patch.{patchedAt}
 use Rattle.preview_copy.specs.Promises.{newInstruction, OneReplaced}

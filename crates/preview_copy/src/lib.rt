@@ -19,12 +19,12 @@ fn put_parts(out: &mut [u8], before: &[u8], at: &[u8], instruction: &[u8], after
     ensures { λ r. ⌜ r ≡ length (now (before .entry) ++ now (at .entry) ++ bytes " " ++ now (instruction .entry) ++ bytes "\n" ++ now (after .entry)) ⌝ }
     ensures { λ _. ⌜ now (out .exit) ≡ (now (before .entry) ++ now (at .entry) ++ bytes " " ++ now (instruction .entry) ++ bytes "\n" ++ now (after .entry)) ++ drop (length (now (before .entry) ++ now (at .entry) ++ bytes " " ++ now (instruction .entry) ++ bytes "\n" ++ now (after .entry))) (now (out .entry)) ⌝ }
 {
-    let a = text::put(out, 0, before);
-    let b = text::put(out, a, at);
-    let c = text::put(out, b, b" ");
-    let d = text::put(out, c, instruction);
-    let e = text::put(out, d, b"\n");
-    text::put(out, e, after)
+    let a = text_decimals::put(out, 0, before);
+    let b = text_decimals::put(out, a, at);
+    let c = text_decimals::put(out, b, b" ");
+    let d = text_decimals::put(out, c, instruction);
+    let e = text_decimals::put(out, d, b"\n");
+    text_decimals::put(out, e, after)
 }
 
 // Puts the text with another instruction on line k, counted from 0, at the start of out, unless it is longer than a text may be.

@@ -10,8 +10,8 @@ use Rattle.refusals.specs.Refusals.{place}
 use Rattle.refusals.specs.declared.Acceptance.{Acceptance}
 use Rattle.refusals.specs.declared.Acceptance.the-variants.{Accepted, Refused}
 use Rattle.text.specs.Text.{bytes, lines}
-use Rattle.text.specs.Decimal.{decimal}
-use Rattle.text.proofs.DecimalLaws.{decimal-length}
+use Rattle.text_decimals.specs.Decimal.{decimal}
+use Rattle.text_decimals.proofs.DecimalLaws.{decimal-length}
 use Rattle.machine.specs.Machine.{State, Code}
 use Rattle.file_format.specs.Routine.{readRun}
 use Rattle.file_format.specs.Routine as readings

@@ -8,10 +8,10 @@ use lib.ListN.{length, getD, take}
 use lib.Seq.{take-length}
 use Rattle.refusals.specs.declared.Acceptance.{Acceptance}
 use Rattle.refusals.specs.declared.Acceptance.the-variants.{Accepted, Refused}
-use Rattle.text.specs.declared.Numeral.the-variants.{Number}
+use Rattle.text_decimals.specs.declared.Numeral.the-variants.{Number}
 use Rattle.text.specs.Text.{bytes, lines}
-use Rattle.text.specs.Decimal.{decimal, numeral}
-use Rattle.text.proofs.DecimalLaws.{decimal-read}
+use Rattle.text_decimals.specs.Decimal.{decimal, numeral}
+use Rattle.text_decimals.proofs.DecimalLaws.{decimal-read}
 use Rattle.machine.specs.Forward.{Forward}
 use Rattle.machine.specs.Targets.{Closed}
 use Rattle.merge_theory.proofs.Theorems.{merged-interruptible}

@@ -38,11 +38,11 @@ fn put_outcome(out: &mut [u8], said: Replayed) -> usize
     ensures { λ _. ⌜ now (out .exit) ≡ outcomeText (ofReplayed said) ++ drop (length (outcomeText (ofReplayed said))) (now (out .entry)) ⌝ }
 {
     match said {
-        Replayed::Agrees => text::put(out, 0, b"AGREES\n"),
+        Replayed::Agrees => text_decimals::put(out, 0, b"AGREES\n"),
         Replayed::Differs(n) => {
-            let a = text::put(out, 0, b"DIFFERS ");
-            let b = text::put_decimal(out, a, n as u64);
-            text::put(out, b, b"\n")
+            let a = text_decimals::put(out, 0, b"DIFFERS ");
+            let b = text_decimals::put_decimal(out, a, n as u64);
+            text_decimals::put(out, b, b"\n")
         }
     }
 }

@@ -6,7 +6,7 @@ use Rattle.refusals.specs.declared.Refusal.the-variants.{Layout, OutOfRange}
 use Rattle.refusals.specs.declared.Acceptance.the-variants.{Accepted, Refused}
 use Rattle.text.specs.Text.{bytes}
 use Rattle.text.specs.Text as text
-use Rattle.text.specs.Decimal as decimals
+use Rattle.text_decimals.specs.Decimal as decimals
 use Rattle.file_format.specs.Rows as rows
 use Rattle.file_format.specs.Routine as routines
 use Rattle.replay_trace.specs.Traces.{Entry, entries, traceAcceptance}

@@ -4,7 +4,7 @@ use mathlib.Core.List.{[]}
 use Rattle.refusals.specs.Refusals.{number, place}
 use Rattle.refusals.specs.declared.Refusal.the-variants.{Spent}
 use Rattle.text.specs.Text.{bytes}
-use Rattle.text.specs.Decimal.{digits, decimal}
+use Rattle.text_decimals.specs.Decimal.{digits, decimal}
 use Rattle.report.specs.Report.{share, pathText, figures, runText, refusalLine, refusalText}
 use Rattle.report.specs.HeldPath.{decisions, decode}
 

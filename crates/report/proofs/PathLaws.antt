@@ -7,8 +7,8 @@ use native.Mathlib.Numerals.{add-one}
 use lib.ListN.{length, take, drop, set, length-set}
 use lib.Seq.{take-suc-set, drop-set-lt}
 use Rattle.text.specs.Text.{bytes}
-use Rattle.text.specs.Memory.{over}
-use Rattle.text.proofs.MemoryLaws.{over-none}
+use Rattle.text_decimals.specs.Memory.{over}
+use Rattle.text_decimals.proofs.MemoryLaws.{over-none}
 use Rattle.report.specs.Report.{letter, pathText}
 use Rattle.report.specs.HeldPath.{decision, decode}
 use Rattle.report.proofs.DecodeLaws.{decode-none, decode-more}

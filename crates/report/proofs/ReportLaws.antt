@@ -9,8 +9,8 @@ use native.Mathlib.Omega.{arith}
 use lib.Dec.{ltb}
 use lib.ListN.{length, length-append, length-map}
 use borrow.Author.Tests.{lt-ltb, le-ltb, ltb-true, ltb-false}
-use Rattle.text.specs.Decimal.{decimal}
-use Rattle.text.proofs.DecimalLaws.{decimal-length}
+use Rattle.text_decimals.specs.Decimal.{decimal}
+use Rattle.text_decimals.proofs.DecimalLaws.{decimal-length}
 use Rattle.bound_theory.specs.Tree.{Report, Decision}
 use Rattle.bound_theory.proofs.FigureLaws.{Bounded}
 use Rattle.report.specs.Report.{share, Rounded, letter, pathText, figures, boundText, runText}

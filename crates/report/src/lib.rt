@@ -6,7 +6,7 @@ ghost use mathlib.Core.Path.{_≡_};
 ghost use mathlib.Core.List.{_++_};
 ghost use Prim.Native.Nat.{_+_, _≤_};
 ghost use lib.ListN.{length, drop};
-ghost use Rattle.text.specs.Memory.{over};
+ghost use Rattle.text_decimals.specs.Memory.{over};
 ghost use Rattle.answers.specs.Answers.{memory, answerOf};
 ghost use Rattle.report.specs.Report.{share, letter, pathText, figures, boundText, runText, refusalLine};
 ghost use Rattle.report.specs.HeldPath.{decision, decode, reportOf};
@@ -42,7 +42,7 @@ pub fn put_path(out: &mut [u8], at: usize, path: u64) -> usize
     ensures { λ _. ⌜ now (out .exit) ≡ over (now (out .entry)) at (pathText (decode path)) ⌝ }
 {
     if path < 2 {
-        return text::put(out, at, b"-");
+        return text_decimals::put(out, at, b"-");
     }
     let mut rest = path;
     let mut e = at;
@@ -60,13 +60,13 @@ fn put_figures(out: &mut [u8], at: usize, cycles: u64, words: u64, depth: u64, s
     ensures { λ r. ⌜ r ≡ at + length (figures (reportOf cycles words depth steps 1)) ⌝ }
     ensures { λ _. ⌜ now (out .exit) ≡ over (now (out .entry)) at (figures (reportOf cycles words depth steps 1)) ⌝ }
 {
-    let a = text::put_decimal(out, at, cycles);
-    let b = text::put(out, a, b" ");
-    let c = text::put_decimal(out, b, words);
-    let d = text::put(out, c, b" ");
-    let e = text::put_decimal(out, d, depth);
-    let f = text::put(out, e, b" ");
-    text::put_decimal(out, f, steps)
+    let a = text_decimals::put_decimal(out, at, cycles);
+    let b = text_decimals::put(out, a, b" ");
+    let c = text_decimals::put_decimal(out, b, words);
+    let d = text_decimals::put(out, c, b" ");
+    let e = text_decimals::put_decimal(out, d, depth);
+    let f = text_decimals::put(out, e, b" ");
+    text_decimals::put_decimal(out, f, steps)
 }
 
 // Puts the bound's report at the start of out, and answers its length.
@@ -84,14 +84,14 @@ pub fn put_bound(
     ensures { λ r. ⌜ r ≡ length (boundText tick (reportOf cycles words depth steps path)) ⌝ }
     ensures { λ _. ⌜ now (out .exit) ≡ boundText tick (reportOf cycles words depth steps path) ++ drop (length (boundText tick (reportOf cycles words depth steps path))) (now (out .entry)) ⌝ }
 {
-    let a = text::put(out, 0, b"CYCLES WORDS DEPTH STEPS SHARE PATH\n");
+    let a = text_decimals::put(out, 0, b"CYCLES WORDS DEPTH STEPS SHARE PATH\n");
     let b = put_figures(out, a, cycles, words, depth, steps);
-    let c = text::put(out, b, b" ");
+    let c = text_decimals::put(out, b, b" ");
     let n = share(tick, cycles);
-    let d = text::put_decimal(out, c, n);
-    let e = text::put(out, d, b" ");
+    let d = text_decimals::put_decimal(out, c, n);
+    let e = text_decimals::put(out, d, b" ");
     let f = put_path(out, e, path);
-    text::put(out, f, b"\n")
+    text_decimals::put(out, f, b"\n")
 }
 
 // Puts the run's report at the start of out, and answers its length.
@@ -100,9 +100,9 @@ pub fn put_run(out: &mut [u8], cycles: u64, words: u64, depth: u64, steps: u64) 
     ensures { λ r. ⌜ r ≡ length (runText (reportOf cycles words depth steps 1)) ⌝ }
     ensures { λ _. ⌜ now (out .exit) ≡ runText (reportOf cycles words depth steps 1) ++ drop (length (runText (reportOf cycles words depth steps 1))) (now (out .entry)) ⌝ }
 {
-    let a = text::put(out, 0, b"CYCLES WORDS DEPTH STEPS\n");
+    let a = text_decimals::put(out, 0, b"CYCLES WORDS DEPTH STEPS\n");
     let b = put_figures(out, a, cycles, words, depth, steps);
-    text::put(out, b, b"\n")
+    text_decimals::put(out, b, b"\n")
 }
 
 // Puts the line of a refusal at the start of out, and answers its length.
@@ -111,11 +111,11 @@ pub fn put_refusal(out: &mut [u8], number: u64, place: u64) -> usize
     ensures { λ r. ⌜ r ≡ length (refusalLine number place) ⌝ }
     ensures { λ _. ⌜ now (out .exit) ≡ refusalLine number place ++ drop (length (refusalLine number place)) (now (out .entry)) ⌝ }
 {
-    let a = text::put(out, 0, b"REFUSED ");
-    let b = text::put_decimal(out, a, number);
-    let c = text::put(out, b, b" ");
-    let d = text::put_decimal(out, c, place);
-    text::put(out, d, b"\n")
+    let a = text_decimals::put(out, 0, b"REFUSED ");
+    let b = text_decimals::put_decimal(out, a, number);
+    let c = text_decimals::put(out, b, b" ");
+    let d = text_decimals::put_decimal(out, c, place);
+    text_decimals::put(out, d, b"\n")
 }
 
 // What was found of a routine with this TICK: its report, or its refusal.

@@ -3,7 +3,7 @@ use mathlib.Core.Path.{_≡_, refl}
 use mathlib.Core.Bool.{true}
 use Rattle.refusals.specs.Refusals as refusals
 use Rattle.text.specs.Text as text
-use Rattle.text.specs.Decimal as decimals
+use Rattle.text_decimals.specs.Decimal as decimals
 use Rattle.numbers.specs.Numbers as numbers
 use Rattle.cells.specs.Try as try
 use Rattle.cells.specs.Cells as cells

@@ -11,8 +11,8 @@ use borrow.Author.Tests.{lt-ltb, le-ltb}
 use Rattle.refusals.specs.declared.Refusal.{Refusal}
 use Rattle.refusals.specs.declared.Acceptance.the-variants.{Accepted, Refused}
 use Rattle.refusals.specs.Refusals.{number, place}
-use Rattle.text.specs.Memory.{over}
-use Rattle.text.proofs.MemoryLaws.{over-next}
+use Rattle.text_decimals.specs.Memory.{over}
+use Rattle.text_decimals.proofs.MemoryLaws.{over-next}
 use Rattle.machine.specs.Machine.{State, Code, reblock}
 use Rattle.bound_theory.specs.Tree.{Verdict, accepted, refused, bound}
 use Rattle.bound_theory.specs.Run.{Run, begin, after, boundedAfresh}

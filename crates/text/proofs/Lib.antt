@@ -2,11 +2,4 @@ pub mod TextLaws
 pub mod ScanLaws
 pub mod PieceLaws
 pub mod LineLaws
-pub mod DecimalLaws
-pub mod NumeralLaws
-pub mod ClampLaws
 pub mod JoinLaws
-pub mod SpellingLaws
-pub mod IntegerLaws
-pub mod MemoryLaws
-pub mod PlaceLaws

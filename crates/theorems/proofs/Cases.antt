@@ -7,7 +7,7 @@ use Prim.Native.String.{String}
 use lib.IntN.{ℤ, pos, negsuc}
 use Rattle.refusals.specs.Refusals as refusals
 use Rattle.text.specs.Text as text
-use Rattle.text.specs.Decimal as decimals
+use Rattle.text_decimals.specs.Decimal as decimals
 use Rattle.numbers.specs.Numbers as numbers
 use Rattle.cells.specs.Try as try
 use Rattle.cells.specs.Cells as cells

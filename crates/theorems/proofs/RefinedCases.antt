@@ -16,7 +16,7 @@ use Rattle.report_theory.specs.Answers as reports-of
 use Rattle.console.specs.Line as console
 use Rattle.answers.specs.Answers as answers
 use Rattle.cells.specs.Cells as cells
-use Rattle.text.specs.Decimal as decimals
+use Rattle.text_decimals.specs.Decimal as decimals
 use Rattle.instructions.specs.Kinds as kinds
 use Rattle.file_format.specs.Layout as layout
 use Rattle.machine.specs.Lists as lists

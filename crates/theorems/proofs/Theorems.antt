@@ -1,6 +1,6 @@
 -- What is promised to users, proved, by the names of `specs/Promises` and in its order. Assumes nothing.
 use mathlib.Core.Path.{ap}
-use Rattle.text.proofs.DecimalLaws.{decimal-read}
+use Rattle.text_decimals.proofs.DecimalLaws.{decimal-read}
 use Rattle.cells.specs.Order.{same}
 use Rattle.cells.proofs.CellLaws.{refines-trans}
 use Rattle.cells.proofs.Theorems as cell-theorems

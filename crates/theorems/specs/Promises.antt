@@ -28,7 +28,7 @@ pub use Rattle.report_theory.specs.Promises.{PassingIsAscii}
 -- "Once a file passes 1 to 6, the bound does not depend on ANSWER."
 pub use Rattle.report_theory.specs.Promises.{AnswersIrrelevant}
 -- reading a decimal number that was written gives it back
-pub use Rattle.text.specs.Decimal.{WrittenReadsBack}
+pub use Rattle.text_decimals.specs.Decimal.{WrittenReadsBack}
 -- ---- demand 3
 -- an interrupted run is not stuck, its stack has nowhere been deeper than reported, and bounding it afresh from the state reached, under the
 -- same budget, is never refused; what is spent and what is bounded afresh are at most what is reported

@@ -7,8 +7,8 @@ use native.Mathlib.Omega.{arith}
 use lib.IntN.{ℤ}
 use lib.ListN.{length, length-append}
 use borrow.Author.Tests.{not-true, not-false}
-use Rattle.text.specs.Memory.{over}
-use Rattle.text.proofs.MemoryLaws.{Wrote, wrote-none, wrote-more}
+use Rattle.text_decimals.specs.Memory.{over}
+use Rattle.text_decimals.proofs.MemoryLaws.{Wrote, wrote-none, wrote-more}
 use Rattle.cells.specs.declared.Cell.{Cell}
 use Rattle.machine.specs.Machine.{Code, reblock}
 use Rattle.machine_state.specs.declared.State as states

@@ -10,7 +10,7 @@ ghost use mathlib.Core.Path.{_≡_};
 ghost use mathlib.Core.List.{_++_};
 ghost use Prim.Native.Nat.{_+_, _≤_, _<_};
 ghost use lib.ListN.{length, drop};
-ghost use Rattle.text.specs.Memory.{over};
+ghost use Rattle.text_decimals.specs.Memory.{over};
 ghost use Rattle.machine_state.specs.HeldProgram.{programOf, sizesOf, IsProgram};
 ghost use Rattle.machine_state.specs.HeldState.{WellFormed, whole};
 ghost use Rattle.run_loop.specs.HeldContract.{Runnable};
@@ -86,10 +86,10 @@ fn put_entry(out: &mut [u8], at: usize, address: u64, cycles: u64) -> usize
     ensures { λ r. ⌜ r ≡ at + length (entryText (entryOf address cycles)) ⌝ }
     ensures { λ _. ⌜ now (out .exit) ≡ over (now (out .entry)) at (entryText (entryOf address cycles)) ⌝ }
 {
-    let a = text::put_decimal(out, at, address);
-    let b = text::put(out, a, b" ");
-    let c = text::put_decimal(out, b, cycles);
-    text::put(out, c, b"\n")
+    let a = text_decimals::put_decimal(out, at, address);
+    let b = text_decimals::put(out, a, b" ");
+    let c = text_decimals::put_decimal(out, b, cycles);
+    text_decimals::put(out, c, b"\n")
 }
 
 // Puts the lines of the run of `budget` steps over out from `at` on, and answers where they end.
@@ -142,7 +142,7 @@ fn put_trace(routine: Routine, out: &mut [u8]) -> usize
     let answers = routine.answers;
     let values = answers.values;
     let given = answers.count;
-    let e = text::put(out, 0, b"AT CYCLES\n");
+    let e = text_decimals::put(out, 0, b"AT CYCLES\n");
     put_entries(
         out,
         e,

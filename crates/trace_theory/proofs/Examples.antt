@@ -5,7 +5,7 @@ use mathlib.Core.List.{List, [], _∷_}
 use Prim.Native.Nat.{ℕ}
 use lib.IntN.{ℤ, pos}
 use Rattle.text.specs.Text.{bytes, equals, find}
-use Rattle.text.specs.Decimal.{digits, decimal}
+use Rattle.text_decimals.specs.Decimal.{digits, decimal}
 use Rattle.numbers.specs.Numbers.{wrap, holds}
 use Rattle.cells.specs.Try.{_>>=_}
 use Rattle.cells.specs.Cells.{calculate₂, results, range₂, wider, map₂, operate₂, conditionIn, condition}

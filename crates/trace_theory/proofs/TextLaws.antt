@@ -9,10 +9,10 @@ use lib.ListN.{length, getD, drop, length-append}
 use borrow.Author.Tests.{lt-ltb, le-leb, leb-true}
 use Rattle.refusals.specs.declared.Acceptance.the-variants.{Accepted}
 use Rattle.text.specs.Text.{bytes, equals, lineWords, Line, lines, all, linesText}
-use Rattle.text.specs.Decimal.{numeral, decimal}
+use Rattle.text_decimals.specs.Decimal.{numeral, decimal}
 use Rattle.text.proofs.TextLaws.{Every, none, more, every-append, every-map, cond-left}
 use Rattle.text.proofs.LineLaws.{endedLine}
-use Rattle.text.proofs.DecimalLaws.{decimal-digits, decimal-length, decimal-read}
+use Rattle.text_decimals.proofs.DecimalLaws.{decimal-digits, decimal-length, decimal-read}
 use Rattle.numbers.specs.Numbers.{naturals, within}
 use Rattle.instructions.specs.Kinds.{addresses}
 use Rattle.file_format.specs.declared.RefusedLine.the-variants.{Nowhere as nowhere}

@@ -7,7 +7,7 @@ use lib.IntN.{pos}
 use Rattle.refusals.specs.declared.Refusal.the-variants.{Layout, BadName, BadWord}
 use Rattle.refusals.specs.declared.Acceptance.the-variants.{Accepted, Refused}
 use Rattle.text.specs.Text as text
-use Rattle.text.specs.Decimal as decimals
+use Rattle.text_decimals.specs.Decimal as decimals
 use Rattle.instructions.specs.Kinds as table
 use Rattle.instructions.specs.Opcodes as opcodes
 use Rattle.file_format.specs.Layout as layout

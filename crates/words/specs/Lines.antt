@@ -1,7 +1,7 @@
 -- The lines that an import makes: "the AT lines under their names line, from address 0". (document 02, §2)
 use Rattle.refusals.specs.Library.{ℕ, suc, natAbs, getD, List, [], _∷_, _++_}
 use Rattle.text.specs.Text.{bytes, indexOf}
-use Rattle.text.specs.Decimal.{decimal, integer}
+use Rattle.text_decimals.specs.Decimal.{decimal, integer}
 use Rattle.instructions.specs.declared.Argument.{Argument}
 use Rattle.instructions.specs.declared.Argument.the-variants.{Absent, Target, Primitive, Within}
 use Rattle.instructions.specs.Kinds.{kindAt}

@@ -5,10 +5,10 @@ ghost use mathlib.Core.Path.{_≡_};
 ghost use Prim.Native.Nat.{suc, _+_, _*_, _≤_, _<_};
 ghost use lib.IntN.{pos, _+ℤ_};
 ghost use lib.ListN.{length, getD, drop};
-ghost use Rattle.text.specs.Memory.{over};
+ghost use Rattle.text_decimals.specs.Memory.{over};
 ghost use Rattle.instructions.specs.Kinds.{kindAt};
 ghost use Rattle.instructions.specs.HeldColumns.{ByOpcode};
-ghost use Rattle.words.specs.Words.{wordBits, littleEndian, wordsOf, bytesOf};
+ghost use Rattle.words.specs.Words.{littleEndian, wordsOf, bytesOf};
 ghost use Rattle.words.specs.Decoding.{decoded, items, hasArgument, isPlace, callListed, wordFault, isFound, offsetFault, codeFault, sizeOf};
 ghost use Rattle.words.specs.Held.{withArgument, headOf, Readable, numberIn, Numbered, landsIn};
 
@@ -265,5 +265,5 @@ pub fn put_word(out: &mut [u8], at: usize, word: u32) -> usize
         (word / 65536 % 256) as u8,
         (word / 16777216 % 256) as u8,
     ];
-    text::put(out, at, &bytes)
+    text_decimals::put(out, at, &bytes)
 }

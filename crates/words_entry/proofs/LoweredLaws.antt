@@ -10,10 +10,10 @@ use lib.ListN.{length, getD, take, drop, length-drop}
 use lib.Seq.{length-take-le, drop-drop, drop-append-add, take-at}
 use borrow.Author.Tests.{le-leb}
 use Rattle.text.specs.Text.{bytes, equals, partedBy, lineWords, Line, lines, find, all, distinct, linesText}
-use Rattle.text.specs.Decimal.{decimal}
+use Rattle.text_decimals.specs.Decimal.{decimal}
 use Rattle.text.proofs.TextLaws.{Every, none, more, every-append, every-getD, all-every, and-right}
 use Rattle.text.proofs.LineLaws.{endedLine}
-use Rattle.text.proofs.DecimalLaws.{decimal-read}
+use Rattle.text_decimals.proofs.DecimalLaws.{decimal-read}
 use Rattle.numbers.specs.Numbers.{IsNumber, numbers}
 use Rattle.instructions.specs.Kinds.{Kind, addresses, kinds, kindNames, operand, kindAt}
 use Rattle.instructions.specs.declared.Argument.{Argument}
@@ -34,7 +34,7 @@ use Rattle.file_format.proofs.AnswerLaws.{first-code}
 use Rattle.words.specs.Export.{Op, relative, opOf, exportOps, exportBytes}
 use Rattle.words_inverse.specs.Sections.{linesBefore, sectionLength, replaced}
 use Rattle.text.proofs.JoinLaws.{Free, text-free, split-alone, split-first, split-free, lines-append, lines-free, lines-of-text, ended-lines}
-use Rattle.text.proofs.SpellingLaws.{integer-read, decimal-free}
+use Rattle.text_decimals.proofs.SpellingLaws.{integer-read, decimal-free}
 use Rattle.instructions.proofs.KindNameLaws.{kind-found, name-found, name-free}
 use Rattle.words_inverse.proofs.LineLaws.{Argued, absent, target, primitive, within-range, Says, LowerLine, argued-free}
 use Rattle.file_format.proofs.CodeLineLaws.{number-first}

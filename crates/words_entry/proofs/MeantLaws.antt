@@ -7,7 +7,7 @@ use lib.ListN.{getD}
 use native.Mathlib.Omega.{arith}
 use Rattle.refusals.specs.declared.Acceptance.the-variants.{Accepted as accepted}
 use Rattle.text.specs.Text.{bytes, lineWords, partedBy, Line, lines, find}
-use Rattle.text.specs.Decimal.{decimal}
+use Rattle.text_decimals.specs.Decimal.{decimal}
 use Rattle.text.proofs.TextLaws.{Every}
 use Rattle.instructions.specs.declared.Argument.{Argument}
 use Rattle.instructions.specs.declared.Argument.the-variants.{Absent, Target, Primitive, Within}
@@ -27,7 +27,7 @@ use Rattle.words.specs.Export.{Op, relative, opOf}
 use Rattle.words_inverse.specs.Sections.{codeSection}
 use Rattle.text.proofs.JoinLaws.{split-first}
 use Rattle.words_inverse.proofs.LineLaws.{Says}
-use Rattle.text.proofs.SpellingLaws.{decimal-free}
+use Rattle.text_decimals.proofs.SpellingLaws.{decimal-free}
 use Rattle.instructions.proofs.KindNameLaws.{name-free}
 use Rattle.words_inverse.proofs.ImportedLaws.{Said, end, next}
 use Rattle.words_inverse.proofs.WrittenLaws.{valueSaid, opSaid}

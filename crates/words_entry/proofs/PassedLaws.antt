@@ -10,11 +10,11 @@ use lib.IntN.{pos, _+ℤ_}
 use lib.ListN.{length, getD, take, drop, length-append}
 use borrow.Author.Tests.{eq-eqb, le-leb, lt-ltb, leb-true, ltb-true, not-true}
 use Rattle.text.specs.Text.{bytes, isEmpty, equals, partedBy, lineWords, Line, lines, placeAmong, among, all, linesText}
-use Rattle.text.specs.declared.Numeral.the-variants.{Number as number}
-use Rattle.text.specs.Decimal.{numeral, decimal}
+use Rattle.text_decimals.specs.declared.Numeral.the-variants.{Number as number}
+use Rattle.text_decimals.specs.Decimal.{numeral, decimal}
 use Rattle.text.proofs.TextLaws.{Every, none, more, every-map, all-every, and-left, and-right, equals-path}
 use Rattle.text.proofs.LineLaws.{endedLine}
-use Rattle.text.proofs.DecimalLaws.{decimal-read}
+use Rattle.text_decimals.proofs.DecimalLaws.{decimal-read}
 use Rattle.numbers.specs.Numbers.{within, same}
 use Rattle.instructions.specs.Kinds.{addresses, kindNames, kindAt}
 use Rattle.instructions.specs.declared.Argument.{Argument}
@@ -39,7 +39,7 @@ use Rattle.text.proofs.JoinLaws.{Free, split-alone, split-first}
 use Rattle.instructions.proofs.KindNameLaws.{name-free}
 use Rattle.file_format.proofs.OtherFileLaws.{covered-row, isCode, test-other}
 use Rattle.words_inverse.proofs.LineLaws.{LowerWord, kept, moved, LowerLine, argued-free}
-use Rattle.text.proofs.SpellingLaws.{decimal-free}
+use Rattle.text_decimals.proofs.SpellingLaws.{decimal-free}
 use Rattle.words_inverse.proofs.FileLaws.{section-text, replaced-whole}
 use Rattle.words_inverse.proofs.ExportedLaws.{Lower, ends, follows}
 use Rattle.words_entry.proofs.LoweredLaws.{front, said-code}

@@ -10,9 +10,9 @@ use lib.IntN.{ℤ}
 use lib.ListN.{length, getD, take, drop, set, length-map, length-set, drop-of-length-le, List·getD-map}
 use lib.Seq.{drop-cons, take-suc-set, getD-take, length-take-le}
 use Rattle.text.specs.Text.{Line, noLine, find}
-use Rattle.text.specs.Memory.{over}
+use Rattle.text_decimals.specs.Memory.{over}
 use Rattle.text.proofs.LineLaws.{line-drop}
-use Rattle.text.proofs.MemoryLaws.{Wrote, wrote-none, wrote-more, wrote-start}
+use Rattle.text_decimals.proofs.MemoryLaws.{Wrote, wrote-none, wrote-more, wrote-start}
 use Rattle.instructions.specs.Kinds.{kindNames, kindAt}
 use Rattle.numbers.specs.Numbers.{residue}
 use Rattle.file_format.specs.Rows.{op, arg}

@@ -9,7 +9,7 @@ ghost use Prim.Native.Nat.{ℕ, suc, _+_, _*_, _≤_, _<_};
 ghost use lib.IntN.{pos, natAbs, _-ℤ_};
 ghost use lib.ListN.{length, getD, take, drop};
 ghost use Rattle.text.specs.Text.{noLine, lines, find};
-ghost use Rattle.text.specs.Memory.{over};
+ghost use Rattle.text_decimals.specs.Memory.{over};
 ghost use Rattle.instructions.specs.Kinds.{kindNames, kindAt};
 ghost use Rattle.instructions.specs.declared.Argument.the-variants.{Target};
 ghost use Rattle.file_format.specs.Layout.{list};

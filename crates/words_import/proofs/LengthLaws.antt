@@ -12,10 +12,10 @@ use mir.Syntax.{w32}
 use mir.Val.{SFits}
 use borrow.Author.Tests.{leb-true}
 use Rattle.text.specs.Text.{indexOf}
-use Rattle.text.specs.Decimal.{decimal}
+use Rattle.text_decimals.specs.Decimal.{decimal}
 use Rattle.text.specs.declared.Place.{Place}
 use Rattle.text.specs.declared.Place.the-variants.{At as at, Missing as missing}
-use Rattle.text.proofs.DecimalLaws.{decimal-length}
+use Rattle.text_decimals.proofs.DecimalLaws.{decimal-length}
 use Rattle.instructions.specs.declared.Argument.{Argument}
 use Rattle.instructions.specs.declared.Argument.the-variants.{Absent, Target, Primitive, Within}
 use Rattle.instructions.specs.Kinds.{kinds, kindAt}
@@ -29,7 +29,7 @@ use Rattle.words.specs.Held.{Readable}
 use Rattle.words.proofs.FaultLaws.{sound-item}
 use Rattle.words.proofs.IndexLaws.{Spaced, none, unread, next, decoded-spaced, items-few}
 use Rattle.words_import.specs.HeldLines.{ShortNames}
-use Rattle.text.proofs.IntegerLaws.{integer-length}
+use Rattle.text_decimals.proofs.IntegerLaws.{integer-length}
 use Rattle.words_import.proofs.LineLaws.{parts-length}
 
 -- ---- `1023 PUSHCONSTINT -2147483648` and a line feed are 30 bytes

@@ -13,9 +13,9 @@ use mir.Syntax.{w32}
 use mir.Val.{SFits}
 use borrow.Author.Tests.{ltb-true}
 use Rattle.text.specs.Text.{bytes, indexOf}
-use Rattle.text.specs.Decimal.{decimal}
-use Rattle.text.specs.Memory.{over}
-use Rattle.text.proofs.MemoryLaws.{Wrote, wrote-none, wrote-more}
+use Rattle.text_decimals.specs.Decimal.{decimal}
+use Rattle.text_decimals.specs.Memory.{over}
+use Rattle.text_decimals.proofs.MemoryLaws.{Wrote, wrote-none, wrote-more}
 use Rattle.instructions.specs.declared.Argument.{Argument}
 use Rattle.instructions.specs.declared.Argument.the-variants.{Absent, Target, Primitive, Within}
 use Rattle.text.specs.declared.Place.the-variants.{At as at, Missing as missing}

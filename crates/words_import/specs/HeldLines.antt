@@ -1,7 +1,7 @@
 -- A line of code as the code of the import writes it: by the table of positions, and by what an instruction consists of.
 use Rattle.refusals.specs.Library.{ℕ, suc, _≤_, ℤ, pos, natAbs, _+ℤ_, length, getD, List, [], _++_}
 use Rattle.text.specs.Text.{bytes, indexOf}
-use Rattle.text.specs.Decimal.{decimal, integer}
+use Rattle.text_decimals.specs.Decimal.{decimal, integer}
 use Rattle.instructions.specs.declared.Argument.{Argument}
 use Rattle.instructions.specs.declared.Argument.the-variants.{Absent, Target, Primitive, Within}
 use Rattle.instructions.specs.Kinds.{kindAt}

@@ -11,11 +11,11 @@ ghost use mathlib.Core.Path.{_≡_};
 ghost use Prim.Native.Nat.{_+_, _*_, _≤_, _<_};
 ghost use mathlib.Core.List.{_++_};
 ghost use lib.ListN.{length, drop};
-ghost use Rattle.text.specs.Memory.{over};
+ghost use Rattle.text_decimals.specs.Memory.{over};
 ghost use Rattle.instructions.specs.Kinds.{kindAt};
 ghost use Rattle.file_format.specs.Layout.{list};
 ghost use Rattle.words.specs.Words.{wordsOf};
-ghost use Rattle.words.specs.Decoding.{decoded, items, codeFault};
+ghost use Rattle.words.specs.Decoding.{decoded, items};
 ghost use Rattle.words.specs.Lines.{linesFrom, codeText};
 ghost use Rattle.words.specs.Import.{lineVerdict, primitivesVerdict, faultVerdict, importVerdict, importText};
 ghost use Rattle.refusals.specs.declared.Acceptance.the-variants.{Accepted};
@@ -37,16 +37,16 @@ fn put_argument(
     ensures { λ _. ⌜ now (out .exit) ≡ over (now (out .entry)) at (argumentIn (list (now (primitives .entry))) (now (numbers .entry)) index argument (kindAt k .argument)) ⌝ }
 {
     match instructions::argument_at(k) {
-        Argument::Absent => text::put(out, at, b"-"),
+        Argument::Absent => text_decimals::put(out, at, b"-"),
         Argument::Target => {
             let n = text::index_of(words::number_at(numbers, words::landing(index, argument)));
-            text::put_decimal(out, at, n as u64)
+            text_decimals::put_decimal(out, at, n as u64)
         }
         Argument::Primitive => {
             let name = layout::listed_at(primitives, numbers::magnitude(argument) as usize);
-            text::put(out, at, name)
+            text_decimals::put(out, at, name)
         }
-        Argument::Within(_) => text::put_integer(out, at, argument),
+        Argument::Within(_) => text_decimals::put_integer(out, at, argument),
     }
 }
 
@@ -65,12 +65,12 @@ fn put_line(
     ensures { λ r. ⌜ r ≡ at + length (lineIn (list (now (primitives .entry))) (now (numbers .entry)) n index k argument) ⌝ }
     ensures { λ _. ⌜ now (out .exit) ≡ over (now (out .entry)) at (lineIn (list (now (primitives .entry))) (now (numbers .entry)) n index k argument) ⌝ }
 {
-    let a = text::put_decimal(out, at, n as u64);
-    let b = text::put(out, a, b" ");
+    let a = text_decimals::put_decimal(out, at, n as u64);
+    let b = text_decimals::put(out, a, b" ");
     let c = instructions::put_name(out, b, k);
-    let d = text::put(out, c, b" ");
+    let d = text_decimals::put(out, c, b" ");
     let e = put_argument(out, d, primitives, numbers, index, k, argument);
-    text::put(out, e, b"\n")
+    text_decimals::put(out, e, b"\n")
 }
 
 // Puts the lines of all instructions over out from `at` on, and answers where they end.
@@ -103,7 +103,7 @@ fn put_code(out: &mut [u8], primitives: &[u8], numbers: &[u16], words: &[u8]) ->
     ensures { λ r. ⌜ r ≡ length (codeText (list (now (primitives .entry))) (items (decoded (wordsOf (now (words .entry)))))) ⌝ }
     ensures { λ _. ⌜ now (out .exit) ≡ codeText (list (now (primitives .entry))) (items (decoded (wordsOf (now (words .entry))))) ++ drop (length (codeText (list (now (primitives .entry))) (items (decoded (wordsOf (now (words .entry))))))) (now (out .entry)) ⌝ }
 {
-    let e = text::put(out, 0, b"AT OP ARG\n");
+    let e = text_decimals::put(out, 0, b"AT OP ARG\n");
     put_lines(out, e, primitives, numbers, words)
 }
 

@@ -13,7 +13,7 @@ use mir.Val.{SFits}
 use borrow.Author.Tests.{lt-ltb}
 use Rattle.text.specs.Text.{bytes, Line, indexOf, linesText}
 use Rattle.text.specs.declared.Place.the-variants.{Missing as missing}
-use Rattle.text.specs.Decimal.{decimal}
+use Rattle.text_decimals.specs.Decimal.{decimal}
 use Rattle.text.proofs.TextLaws.{Every, none, more}
 use Rattle.numbers.specs.Numbers.{IsNumber}
 use Rattle.numbers.proofs.SignedLaws.{number-fits}

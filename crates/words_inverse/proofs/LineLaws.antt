@@ -12,11 +12,11 @@ use lib.ListN.{length, getD, length-append}
 use borrow.Author.Tests.{eqb-true, leb-true, ltb-true}
 use Rattle.text.specs.Text.{bytes, Line, placeAmong, indexOf, find, among, distinct}
 use Rattle.text.specs.declared.Place.the-variants.{At}
-use Rattle.text.specs.declared.Numeral.{Numeral}
-use Rattle.text.specs.declared.Numeral.the-variants.{Misspelt as misspelt, Number as number}
-use Rattle.text.specs.Decimal.{numeral, decimal, integer}
+use Rattle.text_decimals.specs.declared.Numeral.{Numeral}
+use Rattle.text_decimals.specs.declared.Numeral.the-variants.{Misspelt as misspelt, Number as number}
+use Rattle.text_decimals.specs.Decimal.{numeral, decimal, integer}
 use Rattle.text.proofs.TextLaws.{Every, none, more, every-getD, and-left, and-right, equals-path}
-use Rattle.text.proofs.DecimalLaws.{decimal-read}
+use Rattle.text_decimals.proofs.DecimalLaws.{decimal-read}
 use Rattle.numbers.specs.declared.Range.{Range}
 use Rattle.numbers.specs.Numbers.{within, numbers, same}
 use Rattle.instructions.specs.Kinds.{addresses, kindNames, kindAt}
@@ -32,7 +32,7 @@ use Rattle.file_format.proofs.RowLaws.{laid-out}
 use Rattle.file_format.proofs.CodeLaws.{code-laid-out, code-named, kind-there, on-kind}
 use Rattle.file_format.proofs.RangeLaws.{within-low, inside-is, bounded, kind-bounded, number-within, argument-number}
 use Rattle.words.specs.Export.{Op, relative, opOf}
-use Rattle.text.proofs.SpellingLaws.{spelt-back, integer-read, lower-short, decimal-free, integer-free}
+use Rattle.text_decimals.proofs.SpellingLaws.{spelt-back, integer-read, lower-short, decimal-free, integer-free}
 use Rattle.text.proofs.JoinLaws.{Free, words-three, cut-same}
 use Rattle.instructions.proofs.KindNameLaws.{found-there, distinct-places, kind-name, name-known, name-free}
 

@@ -11,10 +11,10 @@ use lib.ListN.{length, getD, take, drop, length-map}
 use Rattle.refusals.specs.declared.Acceptance.the-variants.{Accepted as accepted}
 use Rattle.text.specs.Text.{bytes, partedBy, lineWords, Line, noLine, lines, all, distinct, linesText}
 use Rattle.text.specs.declared.Place.the-variants.{At as at, Missing as missing}
-use Rattle.text.specs.Decimal.{numeral, decimal}
+use Rattle.text_decimals.specs.Decimal.{numeral, decimal}
 use Rattle.text.proofs.TextLaws.{Every, none, more, and-right}
 use Rattle.text.proofs.LineLaws.{endedLine}
-use Rattle.text.proofs.DecimalLaws.{decimal-read}
+use Rattle.text_decimals.proofs.DecimalLaws.{decimal-read}
 use Rattle.instructions.specs.Kinds.{kindAt}
 use Rattle.file_format.specs.declared.Section.the-variants.{Primitives as primitives}
 use Rattle.file_format.specs.declared.Role.the-variants.{Names as names}
@@ -36,7 +36,7 @@ use Rattle.words_inverse.specs.Sections.{linesBefore, sectionLength, cod
 use Rattle.text.proofs.JoinLaws.{Free, text-free, split-first, lines-free, lines-of-text}
 use Rattle.words_inverse.proofs.FileLaws.{section-lines}
 use Rattle.words_inverse.proofs.LineLaws.{says-one}
-use Rattle.text.proofs.SpellingLaws.{decimal-free}
+use Rattle.text_decimals.proofs.SpellingLaws.{decimal-free}
 use Rattle.words_inverse.proofs.ImportedLaws.{Said, end, next}
 use Rattle.words_inverse.proofs.ExportedLaws.{names-free, ops, file-said, counted}
 use Rattle.words_inverse.proofs.DecodedLaws.{faulty, decoded-placed, decoded-back}

@@ -10,7 +10,7 @@ use borrow.Author.Tests.{ltb-true}
 use Rattle.text.specs.Text.{bytes, Line, indexOf, all, linesText}
 use Rattle.text.specs.declared.Place.{Place}
 use Rattle.text.specs.declared.Place.the-variants.{At as at, Missing as missing}
-use Rattle.text.specs.Decimal.{decimal}
+use Rattle.text_decimals.specs.Decimal.{decimal}
 use Rattle.text.proofs.TextLaws.{Every, none, more, every-append}
 use Rattle.text.proofs.LineLaws.{endedLine}
 use Rattle.instructions.specs.Kinds.{kindAt}
@@ -25,7 +25,7 @@ use Rattle.words.proofs.ExportLaws as placed
 use Rattle.text.proofs.JoinLaws.{Free, text-free}
 use Rattle.instructions.proofs.KindNameLaws.{name-free}
 use Rattle.words_inverse.proofs.LineLaws.{Argued, absent, target, primitive, within-range, Says, argued-free}
-use Rattle.text.proofs.SpellingLaws.{decimal-free}
+use Rattle.text_decimals.proofs.SpellingLaws.{decimal-free}
 use Rattle.words_inverse.proofs.ImportedLaws.{Said, end, next}
 
 module _ (xs : List Item) where

@@ -4,9 +4,9 @@ use mathlib.Core.Logic.{⊎-elim}
 use mir.Syntax.{w64}
 use mir.Val.{ofZ, toZ}
 use mir.ValLaws.{toZ-ofZ}
-use Rattle.text.specs.Decimal.{numeral}
-use Rattle.text.specs.HeldMagnitude.{clamped}
-use Rattle.text.specs.declared.Numeral.the-variants.{Number}
+use Rattle.text_decimals.specs.Decimal.{numeral}
+use Rattle.text_decimals.specs.HeldMagnitude.{clamped}
+use Rattle.text_decimals.specs.declared.Numeral.the-variants.{Number}
 use Rattle.console.proofs.GivenLaws.{clamped-fits, given-none, given-low, given-high, Held, given-held}
 use borrow.Author.Needs.{needs}
 use Rattle.console.proofs.number_of.Statement.{statement}

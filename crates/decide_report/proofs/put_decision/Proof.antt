@@ -2,11 +2,11 @@
 use Prim.Native.Nat.{ℕ, _≤_}
 use mathlib.Core.List.{List, [], _∷_}
 use lib.ListN.{length}
-use Rattle.text.specs.Decimal.{decimal}
+use Rattle.text_decimals.specs.Decimal.{decimal}
 use Rattle.report.specs.Report.{space, feed}
 use Rattle.report.specs.HeldPath.{reportOf}
 use Rattle.decide_report.specs.Decision.{decisionNames, decisionWords, decisionText}
-use Rattle.text.proofs.PlaceLaws.{Place, joined, begins-first, kept, room, next, finished-first}
+use Rattle.text_decimals.proofs.PlaceLaws.{Place, joined, begins-first, kept, room, next, finished-first}
 use borrow.Author.Needs.{needs}
 use Rattle.decide_report.proofs.put_decision.Statement.{statement}
 use Rattle.decide_report.proofs.put_decision.Tie as tie

@@ -2,8 +2,8 @@
 use Prim.Native.Nat.{ℕ, _+_, _≤_}
 use mathlib.Core.List.{List, [], _∷_}
 use lib.ListN.{length}
-use Rattle.text.specs.Decimal.{decimal}
-use Rattle.text.proofs.PlaceLaws.{Place, joined, begins, kept, room, next, finished}
+use Rattle.text_decimals.specs.Decimal.{decimal}
+use Rattle.text_decimals.proofs.PlaceLaws.{Place, joined, begins, kept, room, next, finished}
 use Rattle.report.specs.Report.{space, feed, pathText}
 use Rattle.report.specs.HeldPath.{decode}
 use Rattle.explain_lines.specs.Listing.{entryText}

@@ -5,7 +5,7 @@ use mathlib.Core.List.{List, []}
 use native.Mathlib.Omega.{arith}
 use lib.ListN.{length, take, drop}
 use Rattle.text.specs.Text.{lines}
-use Rattle.text.specs.Memory.{over}
+use Rattle.text_decimals.specs.Memory.{over}
 use Rattle.machine_state.specs.HeldProgram.{firstOf, linesIn}
 use Rattle.merge_way.specs.Way.{out, wayBack}
 use Rattle.file_reader.specs.declared.Routine.{Routine}

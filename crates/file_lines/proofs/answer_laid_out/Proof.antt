@@ -1,6 +1,6 @@
 -- `file_lines::answer_laid_out` meets its contract. Assumes nothing.
 use borrow.Author.Tests.{lt-ltb, le-ltb}
-use Rattle.text.specs.Decimal.{numeral}
+use Rattle.text_decimals.specs.Decimal.{numeral}
 use Rattle.file_format.specs.Rows.{isNumeral}
 use Rattle.file_lines.proofs.LineLaws.{and-true, and-false}
 use borrow.Author.Needs.{needs}

@@ -5,7 +5,7 @@ use mathlib.Core.List.{List, [], _∷_}
 use types.Run.{OneOf, miss}
 use denote.Enum.Declared.{tagOf}
 use Rattle.text.specs.Text.{all}
-use Rattle.text.specs.Decimal.{numeral}
+use Rattle.text_decimals.specs.Decimal.{numeral}
 use Rattle.file_format.specs.declared.Column.{Column}
 use Rattle.file_format.specs.declared.Column.the-variants.{Limit, Cycles, Words, Extra, Cell}
 use Rattle.file_format.specs.Layout.{list}

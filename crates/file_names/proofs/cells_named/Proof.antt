@@ -1,6 +1,6 @@
 -- `file_names::cells_named` meets its contract: the words of CELLS are the names of the cells, by computation. Assumes nothing.
 use Rattle.text.specs.Text.{partedBy, lineWords}
-use Rattle.text.specs.Decimal.{digits, decimal}
+use Rattle.text_decimals.specs.Decimal.{digits, decimal}
 use Rattle.file_format.specs.Rows.{stackNames, cellNames}
 use borrow.Author.Needs.{needs}
 use Rattle.file_names.proofs.cells_named.Statement.{statement}

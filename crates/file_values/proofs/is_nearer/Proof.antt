@@ -7,8 +7,8 @@ use lib.Signed.{ltZ}
 use mir.Syntax.{w64}
 use mir.Val.{SFits, toZ}
 use mir.ValLaws.{toZ-ofZ}
-use Rattle.text.specs.HeldMagnitude.{most}
-use Rattle.text.proofs.NumeralLaws.{natural-read, minus-fits}
+use Rattle.text_decimals.specs.HeldMagnitude.{most}
+use Rattle.text_decimals.proofs.NumeralLaws.{natural-read, minus-fits}
 use Rattle.file_values.proofs.ValueLaws.{nearer-above, nearer-below}
 use borrow.Author.Needs.{needs}
 use Rattle.file_values.proofs.is_nearer.Statement.{statement}

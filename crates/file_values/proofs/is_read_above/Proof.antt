@@ -3,7 +3,7 @@ use mathlib.Core.Path.{ap₂, _∙_}
 use lib.Signed.{ltZ}
 use mir.Syntax.{w64}
 use mir.ValLaws.{toZ-ofZ}
-use Rattle.text.proofs.ClampLaws.{lt-clamp}
+use Rattle.text_decimals.proofs.ClampLaws.{lt-clamp}
 use Rattle.file_format.specs.Rows.{value}
 use borrow.Author.Needs.{needs}
 use Rattle.file_values.proofs.is_read_above.Statement.{statement}

@@ -1,7 +1,7 @@
 -- `file_values::is_spelt` meets its contract. Assumes nothing.
 use mathlib.Core.Path.{refl}
-use Rattle.text.specs.Decimal.{numeral}
-use Rattle.text.specs.HeldMagnitude.{clamped}
+use Rattle.text_decimals.specs.Decimal.{numeral}
+use Rattle.text_decimals.specs.HeldMagnitude.{clamped}
 use Rattle.file_format.specs.Rows.{isNumeral}
 use Rattle.file_values.proofs.ValueLaws.{numeral-clamped, tested}
 use borrow.Author.Needs.{needs}

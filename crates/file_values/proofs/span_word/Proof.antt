@@ -2,7 +2,7 @@
 use mathlib.Core.Path.{_≡_, refl, sym, ap₂, _∙_}
 use mir.Syntax.{w64}
 use mir.ValLaws.{toZ-ofZ}
-use Rattle.text.specs.declared.Numeral.{Numeral}
+use Rattle.text_decimals.specs.declared.Numeral.{Numeral}
 use Rattle.file_format.specs.declared.CellWord.{CellWord}
 use Rattle.file_format.specs.declared.CellWord.the-variants.{Span}
 use Rattle.file_format.specs.Rows.{spanOf}

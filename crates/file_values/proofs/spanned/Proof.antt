@@ -3,7 +3,7 @@ use Prim.Native.Nat.{_+_, _-_, _≤_}
 use mathlib.Core.Path.{sym, ap, ap₂, _∙_}
 use native.Mathlib.Omega.{arith}
 use lib.ListN.{length, take, drop, length-take}
-use Rattle.text.specs.Decimal.{numeral}
+use Rattle.text_decimals.specs.Decimal.{numeral}
 use Rattle.file_format.specs.Rows.{knownOf, spanOf}
 use Rattle.file_values.specs.HeldValues.{clampedCell}
 use Rattle.file_values.proofs.ValueLaws.{known-clamped, span-clamped, known-end, known-first, known-second, both-stops, stop-within}

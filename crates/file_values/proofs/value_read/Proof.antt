@@ -2,7 +2,7 @@
 use mathlib.Core.Path.{refl}
 use mir.Syntax.{w64}
 use mir.ValLaws.{toZ-ofZ}
-use Rattle.text.specs.Decimal.{numeral}
+use Rattle.text_decimals.specs.Decimal.{numeral}
 use Rattle.file_format.specs.Rows.{valueOf, value}
 use Rattle.file_values.proofs.ValueLaws.{held-value}
 use borrow.Author.Needs.{needs}

@@ -2,9 +2,9 @@
 use mathlib.Core.Path.{sym, ap}
 use Prim.Native.Nat.{_+_}
 use native.Mathlib.Omega.{arith}
-use Rattle.text.proofs.MemoryLaws.{put-as}
-use Rattle.text.specs.Decimal.{decimal}
-use Rattle.text.proofs.DecimalLaws.{decimal-length}
+use Rattle.text_decimals.proofs.MemoryLaws.{put-as}
+use Rattle.text_decimals.specs.Decimal.{decimal}
+use Rattle.text_decimals.proofs.DecimalLaws.{decimal-length}
 use Rattle.generate_file.proofs.NumberLaws.{below-under}
 use borrow.Author.Needs.{needs}
 use Rattle.generate_entry.proofs.put_amount.Statement.{statement}

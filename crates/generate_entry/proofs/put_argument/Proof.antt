@@ -2,8 +2,8 @@
 use mathlib.Core.Path.{sym, _∙_}
 use Prim.Native.Nat.{_%_}
 use native.Mathlib.Omega.{arith}
-use Rattle.text.proofs.MemoryLaws.{put-as}
-use Rattle.text.proofs.DecimalLaws.{decimal-length}
+use Rattle.text_decimals.proofs.MemoryLaws.{put-as}
+use Rattle.text_decimals.proofs.DecimalLaws.{decimal-length}
 use Rattle.generate_file.proofs.CodeLaws.{target-within}
 use Rattle.generate_entry.proofs.CellLaws.{integer-as, integer-room, primitive-room, within-sound, argument-absent, argument-target, argument-primitive, argument-within}
 use borrow.Author.Needs.{needs}

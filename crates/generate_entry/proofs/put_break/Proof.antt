@@ -1,5 +1,5 @@
 -- `generate_entry::put_break` meets its contract. Assumes nothing.
-use Rattle.text.proofs.MemoryLaws.{put-as}
+use Rattle.text_decimals.proofs.MemoryLaws.{put-as}
 use Rattle.generate_entry.proofs.CellLaws.{break-more, break-follows, break-ends}
 use borrow.Author.Needs.{needs}
 use Rattle.generate_entry.proofs.put_break.Statement.{statement}

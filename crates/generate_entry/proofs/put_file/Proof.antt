@@ -5,7 +5,7 @@ use mathlib.Core.List.{List, [], _∷_}
 use native.Mathlib.Omega.{arith}
 use lib.ListN.{length, length-append}
 use Rattle.text.specs.Text.{bytes}
-use Rattle.text.proofs.PlaceLaws.{Place, joined, begins-first, kept, room, next, next-as, finished-first}
+use Rattle.text_decimals.proofs.PlaceLaws.{Place, joined, begins-first, kept, room, next, next-as, finished-first}
 use Rattle.generate_file.specs.File.{count, codeFrom, prices, start, file}
 use Rattle.generate_file.proofs.FileLaws.{prices-short, start-short, file-short}
 use Rattle.generate_entry.proofs.CellLaws.{count-is}

@@ -2,9 +2,9 @@
 use Prim.Native.Nat.{_%_}
 use native.Mathlib.Omega.{arith}
 use Rattle.text.specs.Text.{bytes}
-use Rattle.text.specs.Decimal.{decimal}
-use Rattle.text.proofs.DecimalLaws.{decimal-length}
-use Rattle.text.proofs.MemoryLaws.{wrote-none, wrote-more}
+use Rattle.text_decimals.specs.Decimal.{decimal}
+use Rattle.text_decimals.proofs.DecimalLaws.{decimal-length}
+use Rattle.text_decimals.proofs.MemoryLaws.{wrote-none, wrote-more}
 use Rattle.generate_file.specs.Words.{handleWord}
 use borrow.Author.Needs.{needs}
 use Rattle.generate_entry.proofs.put_handle.Statement.{statement}

@@ -1,7 +1,7 @@
 -- `generate_entry::put_kinds` meets its contract. Assumes nothing.
 use mathlib.Core.Bool.{false}
 use native.Mathlib.Omega.{arith}
-use Rattle.text.proofs.MemoryLaws.{wrote-none, wrote-more}
+use Rattle.text_decimals.proofs.MemoryLaws.{wrote-none, wrote-more}
 use Rattle.generate_file.specs.declared.Column.the-variants.{Cycles, Words, Extras}
 use Rattle.generate_file.specs.Words.{row}
 use Rattle.generate_file.specs.File.{later, kindPrices}

@@ -1,7 +1,7 @@
 -- `generate_entry::put_limits` meets its contract. Assumes nothing.
 use mathlib.Core.Bool.{false}
 use native.Mathlib.Omega.{arith}
-use Rattle.text.proofs.MemoryLaws.{wrote-none, wrote-more}
+use Rattle.text_decimals.proofs.MemoryLaws.{wrote-none, wrote-more}
 use Rattle.text.specs.Text.{bytes}
 use Rattle.generate_file.specs.declared.Column.the-variants.{Names, Limits}
 use Rattle.generate_file.specs.Words.{row}

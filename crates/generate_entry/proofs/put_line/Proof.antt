@@ -4,9 +4,9 @@ use mathlib.Core.List.{List, [], _∷_}
 use native.Mathlib.Omega.{arith}
 use lib.ListN.{length, length-append}
 use Rattle.text.specs.Text.{bytes}
-use Rattle.text.specs.Decimal.{decimal}
-use Rattle.text.proofs.DecimalLaws.{decimal-length}
-use Rattle.text.proofs.PlaceLaws.{Place, joined, begins, kept, room, next, finished}
+use Rattle.text_decimals.specs.Decimal.{decimal}
+use Rattle.text_decimals.proofs.DecimalLaws.{decimal-length}
+use Rattle.text_decimals.proofs.PlaceLaws.{Place, joined, begins, kept, room, next, finished}
 use Rattle.instructions.specs.Kinds.{kindAt}
 use Rattle.generate_file.specs.File.{argument, lineOf}
 use Rattle.generate_file.proofs.WordLaws.{name-short}

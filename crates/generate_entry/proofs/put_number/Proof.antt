@@ -2,9 +2,9 @@
 use mathlib.Core.Path.{sym, ap, _∙_}
 use Prim.Native.Nat.{_/_, _%_}
 use native.Mathlib.Omega.{arith}
-use Rattle.text.proofs.MemoryLaws.{put-as}
-use Rattle.text.proofs.DecimalLaws.{decimal-length}
-use Rattle.text.specs.Decimal.{integer}
+use Rattle.text_decimals.proofs.MemoryLaws.{put-as}
+use Rattle.text_decimals.proofs.DecimalLaws.{decimal-length}
+use Rattle.text_decimals.specs.Decimal.{integer}
 use Rattle.generate_file.specs.Words.{numberIn}
 use Rattle.generate_entry.proofs.CellLaws.{integer-as, integer-room, range-sound, small-number, any-number}
 use borrow.Author.Needs.{needs}

@@ -1,5 +1,5 @@
 -- `generate_entry::put_open` meets its contract. Assumes nothing.
-use Rattle.text.proofs.MemoryLaws.{put-as}
+use Rattle.text_decimals.proofs.MemoryLaws.{put-as}
 use Rattle.generate_entry.proofs.CellLaws.{open-word, closed-word}
 use borrow.Author.Needs.{needs}
 use Rattle.generate_entry.proofs.put_open.Statement.{statement}

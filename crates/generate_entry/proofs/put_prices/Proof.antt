@@ -1,6 +1,6 @@
 -- `generate_entry::put_prices` meets its contract. Assumes nothing.
 use native.Mathlib.Omega.{arith}
-use Rattle.text.proofs.MemoryLaws.{wrote-none, wrote-more}
+use Rattle.text_decimals.proofs.MemoryLaws.{wrote-none, wrote-more}
 use Rattle.generate_file.specs.File.{limitLines, kindPrices, primitivePrices, prices}
 use borrow.Author.Needs.{needs}
 use Rattle.generate_entry.proofs.put_prices.Statement.{statement}

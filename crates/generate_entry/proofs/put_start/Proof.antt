@@ -5,7 +5,7 @@ use mathlib.Core.Bool.{true, false}
 use mathlib.Core.List.{List, [], _∷_}
 use native.Mathlib.Omega.{arith}
 use lib.ListN.{length}
-use Rattle.text.proofs.PlaceLaws.{Place, joined, begins, kept, next, next-as, finished}
+use Rattle.text_decimals.proofs.PlaceLaws.{Place, joined, begins, kept, next, next-as, finished}
 use Rattle.generate_file.specs.declared.Column.the-variants.{Handles}
 use Rattle.generate_file.specs.Words.{row}
 use Rattle.generate_file.specs.File.{cellsFor, plainCells, later, cellNames, fieldNames, start}

@@ -1,6 +1,6 @@
 -- `generate_entry::put_values` meets its contract. Assumes nothing.
 use mathlib.Core.Path.{sym, ap}
-use Rattle.text.proofs.MemoryLaws.{put-as}
+use Rattle.text_decimals.proofs.MemoryLaws.{put-as}
 use Rattle.generate_file.specs.Words.{row}
 use borrow.Author.Needs.{needs}
 use Rattle.generate_entry.proofs.put_values.Statement.{statement}

@@ -1,6 +1,6 @@
 -- `generate_entry::put_word` meets its contract. Assumes nothing.
 use native.Mathlib.Omega.{arith}
-use Rattle.text.proofs.MemoryLaws.{put-as}
+use Rattle.text_decimals.proofs.MemoryLaws.{put-as}
 use Rattle.generate_file.specs.declared.Column.the-variants.{Limits, Extras}
 use Rattle.generate_file.proofs.WordLaws.{name-short, spread-some, spread-most}
 use Rattle.generate_entry.proofs.CellLaws.{word-names, word-handles, word-known, word-open, word-limits, word-cycles, word-words, word-extras}

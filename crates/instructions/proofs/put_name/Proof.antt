@@ -3,7 +3,7 @@ use Prim.Native.Nat.{_+_, _-_, _≤_}
 use mathlib.Core.Path.{_≡_, sym, ap, ap₂, subst, _∙_}
 use native.Mathlib.Omega.{arith}
 use lib.ListN.{length, take, drop}
-use Rattle.text.specs.Memory.{over}
+use Rattle.text_decimals.specs.Memory.{over}
 use Rattle.instructions.specs.Kinds.{kinds, kindNames, kindAt}
 use Rattle.instructions.proofs.NameLaws.{start-less, start-low, joined, all-joined}
 use borrow.Author.Needs.{needs}

@@ -3,7 +3,7 @@ use Prim.Native.Nat.{zero-le}
 use mathlib.Core.Path.{sym, ap, _∙_}
 use native.Mathlib.Omega.{arith}
 use Rattle.text.specs.Text.{bytes}
-use Rattle.text.proofs.MemoryLaws.{wrote-none, wrote-more, wrote-start}
+use Rattle.text_decimals.proofs.MemoryLaws.{wrote-none, wrote-more, wrote-start}
 use Rattle.answers.proofs.AnswerLaws.{gives-report, gives-refusal}
 use Rattle.nearest_search.specs.Held.{ofSought}
 use Rattle.nearest_entry.proofs.FunctionLaws.{held-length, says-change, says-none, says-refused}

@@ -8,8 +8,8 @@ use mir.Syntax.{w32}
 use mir.Val.{ofZ, toZ}
 use mir.ValLaws.{toZ-ofZ}
 use Rattle.text.specs.Text.{bytes}
-use Rattle.text.proofs.PlaceLaws.{Place, joined, begins-first, room, room-as, next, next-as, finished-first}
-use Rattle.text.specs.Decimal.{integer}
+use Rattle.text_decimals.proofs.PlaceLaws.{Place, joined, begins-first, room, room-as, next, next-as, finished-first}
+use Rattle.text_decimals.specs.Decimal.{integer}
 use Rattle.nearest_entry.specs.Answers.{nameOf, lineOf}
 use borrow.Author.Needs.{needs}
 use Rattle.nearest_entry.proofs.put_change.Statement.{statement}

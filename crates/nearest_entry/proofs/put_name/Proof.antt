@@ -4,9 +4,9 @@ use mathlib.Core.List.{List, [], _∷_}
 use native.Mathlib.Omega.{arith}
 use lib.ListN.{length}
 use Rattle.text.specs.Text.{bytes}
-use Rattle.text.specs.Decimal.{decimal}
-use Rattle.text.proofs.MemoryLaws.{wrote-none, wrote-more}
-use Rattle.text.proofs.PlaceLaws.{Place, joined, begins-first, room, next, finished}
+use Rattle.text_decimals.specs.Decimal.{decimal}
+use Rattle.text_decimals.proofs.MemoryLaws.{wrote-none, wrote-more}
+use Rattle.text_decimals.proofs.PlaceLaws.{Place, joined, begins-first, room, next, finished}
 use Rattle.nearest_entry.proofs.FunctionLaws.{name-accu, name-entry, name-field}
 use borrow.Author.Needs.{needs}
 use Rattle.nearest_entry.proofs.put_name.Statement.{statement}

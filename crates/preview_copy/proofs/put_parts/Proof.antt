@@ -1,7 +1,7 @@
 -- `preview_copy::put_parts` meets its contract: the parts of the copy one after the other. Assumes nothing.
 use Prim.Native.Nat.{zero-le}
 use Rattle.text.specs.Text.{bytes}
-use Rattle.text.proofs.MemoryLaws.{wrote-none, wrote-more, wrote-start}
+use Rattle.text_decimals.proofs.MemoryLaws.{wrote-none, wrote-more, wrote-start}
 use borrow.Author.Needs.{needs}
 use Rattle.preview_copy.proofs.put_parts.Statement.{statement}
 use Rattle.preview_copy.proofs.put_parts.Tie as tie

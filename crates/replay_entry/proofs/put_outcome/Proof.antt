@@ -4,9 +4,9 @@ use mathlib.Core.List.{List, [], _∷_}
 use native.Mathlib.Omega.{arith}
 use lib.ListN.{length}
 use Rattle.text.specs.Text.{bytes}
-use Rattle.text.specs.Decimal.{decimal}
-use Rattle.text.proofs.MemoryLaws.{wrote-none, wrote-more, wrote-start}
-use Rattle.text.proofs.PlaceLaws.{Place, joined, begins-first, room, next, finished-first}
+use Rattle.text_decimals.specs.Decimal.{decimal}
+use Rattle.text_decimals.proofs.MemoryLaws.{wrote-none, wrote-more, wrote-start}
+use Rattle.text_decimals.proofs.PlaceLaws.{Place, joined, begins-first, room, next, finished-first}
 use Rattle.replay_entry.proofs.FunctionLaws.{text-agrees, text-differs, agrees-length}
 use borrow.Author.Needs.{needs}
 use Rattle.replay_entry.proofs.put_outcome.Statement.{statement}

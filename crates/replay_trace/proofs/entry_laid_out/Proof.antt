@@ -3,7 +3,7 @@ use mathlib.Core.Path.{sym, ap, _∙_}
 use lib.ListN.{length}
 use borrow.Author.Tests.{eq-eqb, ne-eqb}
 use Rattle.text.specs.Text.{lineWords}
-use Rattle.text.specs.Decimal.{numeral}
+use Rattle.text_decimals.specs.Decimal.{numeral}
 use Rattle.file_format.specs.Rows.{isNumeral, at}
 use Rattle.replay_trace.specs.Traces.{recordedCycles, entryLaidOut}
 use Rattle.file_lines.proofs.LineLaws.{and-true, and-false, and-stop, and-through}

@@ -4,10 +4,10 @@ use mathlib.Core.Path.{ap}
 use mathlib.Core.List.{List, [], _∷_}
 use lib.ListN.{length}
 use Rattle.text.specs.Text.{bytes}
-use Rattle.text.specs.Decimal.{decimal}
+use Rattle.text_decimals.specs.Decimal.{decimal}
 use Rattle.report.specs.Report.{share, pathText, space, feed, figures, boundText}
 use Rattle.report.specs.HeldPath.{decode, reportOf}
-use Rattle.text.proofs.PlaceLaws.{Place, joined, begins-first, room, room-as, next, next-as, finished-first}
+use Rattle.text_decimals.proofs.PlaceLaws.{Place, joined, begins-first, room, room-as, next, next-as, finished-first}
 use borrow.Author.Needs.{needs}
 use Rattle.report.proofs.put_bound.Statement.{statement}
 use Rattle.report.proofs.put_bound.Tie as tie

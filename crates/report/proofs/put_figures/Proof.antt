@@ -2,10 +2,10 @@
 use Prim.Native.Nat.{ℕ, _+_, _≤_}
 use mathlib.Core.List.{List, [], _∷_}
 use lib.ListN.{length}
-use Rattle.text.specs.Decimal.{decimal}
+use Rattle.text_decimals.specs.Decimal.{decimal}
 use Rattle.report.specs.Report.{space, figures}
 use Rattle.report.specs.HeldPath.{reportOf}
-use Rattle.text.proofs.PlaceLaws.{Place, joined, begins, room, next, finished}
+use Rattle.text_decimals.proofs.PlaceLaws.{Place, joined, begins, room, next, finished}
 use borrow.Author.Needs.{needs}
 use Rattle.report.proofs.put_figures.Statement.{statement}
 use Rattle.report.proofs.put_figures.Tie as tie

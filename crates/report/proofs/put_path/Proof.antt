@@ -5,7 +5,7 @@ use mathlib.Core.Path.{sym, ap, _∙_}
 use native.Mathlib.Omega.{arith}
 use lib.ListN.{length}
 use borrow.Author.Needs.{needs}
-use Rattle.text.specs.Memory.{over}
+use Rattle.text_decimals.specs.Memory.{over}
 use Rattle.report.proofs.PathLaws.{Continues, path-none, path-starts, path-room, path-next, path-ends}
 use Rattle.report.proofs.put_path.Statement.{statement}
 use Rattle.report.proofs.put_path.Tie as tie

@@ -3,9 +3,9 @@ use Prim.Native.Nat.{ℕ, _≤_}
 use mathlib.Core.List.{List, [], _∷_}
 use lib.ListN.{length}
 use Rattle.text.specs.Text.{bytes}
-use Rattle.text.specs.Decimal.{decimal}
+use Rattle.text_decimals.specs.Decimal.{decimal}
 use Rattle.report.specs.Report.{space, feed, refusalLine}
-use Rattle.text.proofs.PlaceLaws.{Place, joined, begins-first, room, next, finished-first}
+use Rattle.text_decimals.proofs.PlaceLaws.{Place, joined, begins-first, room, next, finished-first}
 use borrow.Author.Needs.{needs}
 use Rattle.report.proofs.put_refusal.Statement.{statement}
 use Rattle.report.proofs.put_refusal.Tie as tie

@@ -5,7 +5,7 @@ use lib.ListN.{length}
 use Rattle.text.specs.Text.{bytes}
 use Rattle.report.specs.Report.{feed, figures, runText}
 use Rattle.report.specs.HeldPath.{reportOf}
-use Rattle.text.proofs.PlaceLaws.{Place, joined, begins-first, room, next, finished-first}
+use Rattle.text_decimals.proofs.PlaceLaws.{Place, joined, begins-first, room, next, finished-first}
 use borrow.Author.Needs.{needs}
 use Rattle.report.proofs.put_run.Statement.{statement}
 use Rattle.report.proofs.put_run.Tie as tie

@@ -4,7 +4,7 @@ use mathlib.Core.Bool.{not}
 use lib.ListN.{length}
 use borrow.Author.Tests.{eq-eqb, ne-eqb}
 use Rattle.text.specs.Text.{isEmpty, lineWords}
-use Rattle.text.specs.Decimal.{numeral}
+use Rattle.text_decimals.specs.Decimal.{numeral}
 use Rattle.file_format.specs.Rows.{isNumeral}
 use Rattle.file_lines.proofs.LineLaws.{and-true, and-false, and-stop, and-through}
 use Rattle.split_cuts.specs.Cuts.{cellName, fromWord, cutLaidOut}

@@ -1,7 +1,7 @@
 -- `split_cuts::place_of` meets its contract: the words of NAMES are the names of the places, by computation. Assumes nothing.
 use mathlib.Core.Path.{ap, _∙_}
 use Rattle.text.specs.Text.{partedBy, lineWords, indexOf, find}
-use Rattle.text.specs.Decimal.{digits, decimal}
+use Rattle.text_decimals.specs.Decimal.{digits, decimal}
 use Rattle.nearest_changes.specs.Places.{from, positionOf, allPositions}
 use Rattle.nearest_entry.specs.Answers.{nameOf}
 use Rattle.split_cuts.specs.Cuts.{placeNumber}

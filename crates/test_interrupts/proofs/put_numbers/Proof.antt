@@ -7,7 +7,7 @@ use native.Mathlib.Omega.{arith}
 use lib.ListN.{length, take, length-set}
 use lib.Seq.{paste-zero}
 use borrow.Author.Needs.{needs}
-use Rattle.text.specs.Memory.{over}
+use Rattle.text_decimals.specs.Memory.{over}
 use Rattle.test_interrupts.proofs.InterruptLaws.{put-next, put-all}
 use Rattle.test_interrupts.proofs.put_numbers.Statement.{statement}
 use Rattle.test_interrupts.proofs.put_numbers.Tie as tie

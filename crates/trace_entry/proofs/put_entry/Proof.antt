@@ -3,8 +3,8 @@ use Prim.Native.Nat.{ℕ, _+_, _≤_}
 use mathlib.Core.List.{List, [], _∷_}
 use lib.ListN.{length}
 use Rattle.text.specs.Text.{bytes}
-use Rattle.text.specs.Decimal.{decimal}
-use Rattle.text.proofs.PlaceLaws.{Place, joined, begins, kept, room, next, finished}
+use Rattle.text_decimals.specs.Decimal.{decimal}
+use Rattle.text_decimals.proofs.PlaceLaws.{Place, joined, begins, kept, room, next, finished}
 use Rattle.trace_theory.specs.Trace.{entryText}
 use borrow.Author.Needs.{needs}
 use Rattle.trace_entry.proofs.put_entry.Statement.{statement}

@@ -2,7 +2,7 @@
 use Prim.Native.Nat.{zero-le}
 use mathlib.Core.Path.{sym}
 use native.Mathlib.Omega.{arith}
-use Rattle.text.proofs.MemoryLaws.{wrote-none, wrote-more, wrote-start}
+use Rattle.text_decimals.proofs.MemoryLaws.{wrote-none, wrote-more, wrote-start}
 use Rattle.file_reader.proofs.ReaderLaws.{taken}
 use Rattle.trace_theory.specs.Trace.{entriesText, traceNames, traceText}
 use Rattle.trace_entry.specs.Held.{traceIn}

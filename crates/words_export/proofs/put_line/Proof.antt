@@ -5,8 +5,8 @@ use mathlib.Core.List.{_++_}
 use native.Mathlib.Omega.{arith}
 use mir.Syntax.{w32}
 use mir.ValLaws.{toZ-ofZ}
-use Rattle.text.specs.Memory.{over}
-use Rattle.text.proofs.MemoryLaws.{wrote-none, wrote-more}
+use Rattle.text_decimals.specs.Memory.{over}
+use Rattle.text_decimals.proofs.MemoryLaws.{wrote-none, wrote-more}
 use Rattle.file_format.specs.Layout.{list}
 use Rattle.words.specs.Words.{bytesOf}
 use Rattle.words_export.proofs.ArgumentLaws.{leads-by}

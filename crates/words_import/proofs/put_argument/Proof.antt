@@ -7,12 +7,12 @@ use mir.Syntax.{w32, w64}
 use mir.Val.{ofZ, toZ}
 use mir.ValLaws.{toZ-ofZ}
 use Rattle.text.specs.Text.{bytes}
-use Rattle.text.specs.Decimal.{decimal, integer}
+use Rattle.text_decimals.specs.Decimal.{decimal, integer}
 use Rattle.instructions.specs.Kinds.{kindAt}
 use Rattle.file_format.specs.Layout.{list}
 use Rattle.words_import.specs.HeldLines.{argumentIn}
 use Rattle.words_import.proofs.LineLaws.{argument-absent, argument-target, argument-primitive, argument-within}
-use Rattle.text.proofs.MemoryLaws.{room-as, put-as}
+use Rattle.text_decimals.proofs.MemoryLaws.{room-as, put-as}
 use borrow.Author.Needs.{needs}
 use Rattle.words_import.proofs.put_argument.Statement.{statement}
 use Rattle.words_import.proofs.put_argument.Tie as tie

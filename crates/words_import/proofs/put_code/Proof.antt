@@ -1,7 +1,7 @@
 -- `words_import::put_code` meets its contract: the names line, and then the lines. Assumes nothing.
 use native.Mathlib.Omega.{arith}
 use Rattle.text.specs.Text.{bytes}
-use Rattle.text.proofs.MemoryLaws.{wrote-none, wrote-more, wrote-start}
+use Rattle.text_decimals.proofs.MemoryLaws.{wrote-none, wrote-more, wrote-start}
 use Rattle.file_format.specs.Layout.{list}
 use Rattle.words.specs.Words.{wordsOf}
 use Rattle.words.specs.Decoding.{decoded, items}

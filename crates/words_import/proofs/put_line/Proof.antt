@@ -7,8 +7,8 @@ use mir.Syntax.{w32}
 use mir.Val.{ofZ, toZ}
 use mir.ValLaws.{toZ-ofZ}
 use Rattle.text.specs.Text.{bytes}
-use Rattle.text.specs.Decimal.{decimal}
-use Rattle.text.proofs.PlaceLaws.{Place, joined, begins, room, room-as, next, next-as, finished}
+use Rattle.text_decimals.specs.Decimal.{decimal}
+use Rattle.text_decimals.proofs.PlaceLaws.{Place, joined, begins, room, room-as, next, next-as, finished}
 use Rattle.instructions.specs.Kinds.{kindAt}
 use Rattle.file_format.specs.Layout.{list}
 use Rattle.words_import.specs.HeldLines.{argumentIn, lineIn}

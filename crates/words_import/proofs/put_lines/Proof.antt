@@ -14,7 +14,7 @@ use Rattle.file_format.specs.Layout.{list}
 use Rattle.words.specs.Words.{wordsOf}
 use Rattle.words.proofs.HeadLaws.{Read, size-small, head-read, head-fits, words-some, entries-none}
 use Rattle.words_import.specs.HeldLines.{lineIn}
-use Rattle.text.proofs.MemoryLaws.{room-as, put-as}
+use Rattle.text_decimals.proofs.MemoryLaws.{room-as, put-as}
 use Rattle.words_import.proofs.WritingLaws.{Writing, written-short, writing-starts, writing-reads, writing-room, writing-next, writing-ends}
 use Rattle.words_import.proofs.put_lines.Statement.{statement}
 use Rattle.words_import.proofs.put_lines.Tie as tie

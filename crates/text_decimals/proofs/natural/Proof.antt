@@ -1,10 +1,10 @@
--- `text::natural` meets its contract. Assumes nothing.
+-- `text_decimals::natural` meets its contract. Assumes nothing.
 use mathlib.Core.Path.{sym, ap, _∙_}
 use borrow.Author.Needs.{needs}
-use Rattle.text.specs.HeldMagnitude.{held}
-use Rattle.text.proofs.NumeralLaws.{natural-none, natural-digits, natural-zero, natural-leading-zero}
-use Rattle.text.proofs.natural.Statement.{statement}
-use Rattle.text.proofs.natural.Tie as tie
+use Rattle.text_decimals.specs.HeldMagnitude.{held}
+use Rattle.text_decimals.proofs.NumeralLaws.{natural-none, natural-digits, natural-zero, natural-leading-zero}
+use Rattle.text_decimals.proofs.natural.Statement.{statement}
+use Rattle.text_decimals.proofs.natural.Tie as tie
 
 returns : tie.Need-returns
 returns c = sym (natural-none _ (c .if1 .taken))

@@ -7,8 +7,8 @@ use mathlib.Core.List.{List, [], _∷_, _++_, append-nil}
 use native.Mathlib.Omega.{arith}
 use lib.ListN.{length, getD, take, drop, length-append, length-drop}
 use lib.Seq.{length-take-le}
-use Rattle.text.specs.Memory.{over}
-use Rattle.text.proofs.MemoryLaws.{Wrote, wrote-none, wrote-more, wrote-start}
+use Rattle.text_decimals.specs.Memory.{over}
+use Rattle.text_decimals.proofs.MemoryLaws.{Wrote, wrote-none, wrote-more, wrote-start}
 
 -- the text t with the parts ts after it
 abbrev pub joined : List ℕ → List (List ℕ) → List ℕ

@@ -1,8 +1,8 @@
 -- "Numbers are decimal, no leading zero, no `-0`." (document 01, The routine file)
 use Rattle.refusals.specs.Library.{ℕ, zero, suc, _+_, _-_, _*_, _/_, _%_, eqb, ltb, leb, ℤ, pos, negsuc, Bool, true, false, cond, List, [], _∷_, _++_, _≡_}
 use Rattle.text.specs.Text.{bytes, isEmpty}
-use Rattle.text.specs.declared.Numeral.{Numeral}
-use Rattle.text.specs.declared.Numeral.the-variants.{Misspelt as misspelt, Number as number}
+use Rattle.text_decimals.specs.declared.Numeral.{Numeral}
+use Rattle.text_decimals.specs.declared.Numeral.the-variants.{Misspelt as misspelt, Number as number}
 
 -- a digit: bytes 48 to 57
 abbrev pub isDigit : ℕ → Bool

@@ -9,13 +9,13 @@ use lib.Dec.{eqb, leb, ltb}
 use lib.IntN.{ℤ, pos, negsuc}
 use lib.ListN.{length}
 use borrow.Author.Tests.{leb-true, ltb-true, ltb-false, eqb-true, eqb-false, ne-eqb}
 use Rattle.text.specs.Text.{isEmpty}
-use Rattle.text.specs.declared.Numeral.{Numeral}
-use Rattle.text.specs.declared.Numeral.the-variants.{Misspelt as misspelt, Number as number}
-use Rattle.text.specs.Decimal.{isDigit, digitsFrom, natural, negative, numeral, decimal, integer}
+use Rattle.text_decimals.specs.declared.Numeral.{Numeral}
+use Rattle.text_decimals.specs.declared.Numeral.the-variants.{Misspelt as misspelt, Number as number}
+use Rattle.text_decimals.specs.Decimal.{isDigit, digitsFrom, natural, negative, numeral, decimal, integer}
 use Rattle.text.proofs.TextLaws.{cond-left, cond-right, Every, none, more, every-map}
-use Rattle.text.proofs.DecimalLaws.{decimal-one, decimal-more, decimal-length-one, decimal-length-more, decimal-digits, decimal-read}
+use Rattle.text_decimals.proofs.DecimalLaws.{decimal-one, decimal-more, decimal-length-one, decimal-length-more, decimal-digits, decimal-read}
 use Rattle.text.proofs.JoinLaws.{Free}
 
 not-spelt : {X : Type 0} (z : ℤ) → misspelt ≡ number z → X
 not-spelt z e = let q : _≡_ {A = ℕ} 0 1 = cc in absurd (omega arith)

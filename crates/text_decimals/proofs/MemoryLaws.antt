@@ -6,9 +6,9 @@ use native.Mathlib.Omega.{arith}
 use native.Mathlib.Numerals.{add-one}
 use lib.ListN.{length, getD, take, drop, set, length-append}
 use lib.Seq.{take-suc, drop-cons, set-at, append-snoc, length-take-le, take-append-seam, drop-append-add, drop-drop, paste-zero}
-use Rattle.text.specs.Decimal.{decimal}
-use Rattle.text.specs.Memory.{over}
-use Rattle.text.proofs.DecimalLaws.{decimal-more, decimal-length-more}
+use Rattle.text_decimals.specs.Decimal.{decimal}
+use Rattle.text_decimals.specs.Memory.{over}
+use Rattle.text_decimals.proofs.DecimalLaws.{decimal-more, decimal-length-more}
 
 -- nothing is written
 pub over-none : (d : List ℕ) (at : ℕ) → over d at [] ≡ d

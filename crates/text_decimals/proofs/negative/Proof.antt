@@ -1,12 +1,12 @@
--- `text::negative` meets its contract. Assumes nothing.
+-- `text_decimals::negative` meets its contract. Assumes nothing.
 use mathlib.Core.Path.{sym, ap, _∙_}
 use native.Mathlib.Omega.{arith}
 use borrow.Author.Needs.{needs}
-use Rattle.text.specs.Decimal.{negative}
-use Rattle.text.specs.HeldMagnitude.{clamped, toNumeral}
-use Rattle.text.proofs.NumeralLaws.{minus-fits, negative-zero, negative-read}
-use Rattle.text.proofs.negative.Statement.{statement}
-use Rattle.text.proofs.negative.Tie as tie
+use Rattle.text_decimals.specs.Decimal.{negative}
+use Rattle.text_decimals.specs.HeldMagnitude.{clamped, toNumeral}
+use Rattle.text_decimals.proofs.NumeralLaws.{minus-fits, negative-zero, negative-read}
+use Rattle.text_decimals.proofs.negative.Statement.{statement}
+use Rattle.text_decimals.proofs.negative.Tie as tie
 
 returns : tie.Need-returns
 unfolding clamped toNumeral

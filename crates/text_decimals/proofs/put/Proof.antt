@@ -1,4 +1,4 @@
--- `text::put` meets its contract. The loop's invariant: the first i bytes of the text are written. The measure is what is left of
+-- `text_decimals::put` meets its contract. The loop's invariant: the first i bytes of the text are written. The measure is what is left of
 -- it. Assumes nothing.
 use Prim.Native.Nat.{ℕ, _+_, _≤_, _-_}
 use mathlib.Core.Path.{_≡_, refl, ap, _∙_}
@@ -7,10 +7,10 @@ use native.Mathlib.Omega.{arith}
 use lib.ListN.{length, getD, take, set, length-set}
 use lib.Seq.{take-length, paste-zero}
 use borrow.Author.Needs.{needs}
-use Rattle.text.specs.Memory.{over}
-use Rattle.text.proofs.MemoryLaws.{over-next}
-use Rattle.text.proofs.put.Statement.{statement}
-use Rattle.text.proofs.put.Tie as tie
+use Rattle.text_decimals.specs.Memory.{over}
+use Rattle.text_decimals.proofs.MemoryLaws.{over-next}
+use Rattle.text_decimals.proofs.put.Statement.{statement}
+use Rattle.text_decimals.proofs.put.Tie as tie
 
 abbrev Inv-loop : tie.InvT-loop
 Inv-loop out₀ at text i₀ out i = (i ≤ length text) × (length out ≡ length out₀) × (out ≡ over out₀ at (take i text))

@@ -1,10 +1,10 @@
--- `text::positive` meets its contract. Assumes nothing.
+-- `text_decimals::positive` meets its contract. Assumes nothing.
 use mathlib.Core.Path.{sym, ap, _∙_}
 use borrow.Author.Needs.{needs}
-use Rattle.text.specs.HeldMagnitude.{clamped, toNumeral}
-use Rattle.text.proofs.NumeralLaws.{positive-read}
-use Rattle.text.proofs.positive.Statement.{statement}
-use Rattle.text.proofs.positive.Tie as tie
+use Rattle.text_decimals.specs.HeldMagnitude.{clamped, toNumeral}
+use Rattle.text_decimals.proofs.NumeralLaws.{positive-read}
+use Rattle.text_decimals.proofs.positive.Statement.{statement}
+use Rattle.text_decimals.proofs.positive.Tie as tie
 
 returns : tie.Need-returns
 unfolding clamped toNumeral

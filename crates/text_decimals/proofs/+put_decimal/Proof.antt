@@ -1,4 +1,4 @@
--- `text::put_decimal` meets its contract, by recursion on the number: the digits before the last one are those of n / 10. The measure
+-- `text_decimals::put_decimal` meets its contract, by recursion on the number: the digits before the last one are those of n / 10. The measure
 -- is n. Assumes nothing.
 use Prim.Native.Nat.{ℕ, _+_, _<_}
 use mathlib.Core.Path.{sym, ap, _∙_}
@@ -9,14 +9,14 @@ use lib.Seq.{sets-eq}
 use borrow.Author.Needs.{needs}
 use borrow.Fn.Kinds.{In}
 use borrow.Fn.PlainCycle.{Measures, is, falls, and}
-use Rattle.text.specs.Memory.{over}
-use Rattle.text.proofs.DecimalLaws.{decimal-one, decimal-length-one, decimal-length-more}
-use Rattle.text.proofs.MemoryLaws.{over-decimal}
-use Rattle.text.proofs.put_decimal.Reads as put-decimal
-use Rattle.text.proofs.put_decimal.Kinds as put-decimal-kinds
-use Rattle.text.proofs.+put_decimal.Lts-put_decimal as put-decimal-lts
-use Rattle.text.proofs.+put_decimal.{statement}
-use Rattle.text.proofs.+put_decimal.Tie.{close}
+use Rattle.text_decimals.specs.Memory.{over}
+use Rattle.text_decimals.proofs.DecimalLaws.{decimal-one, decimal-length-one, decimal-length-more}
+use Rattle.text_decimals.proofs.MemoryLaws.{over-decimal}
+use Rattle.text_decimals.proofs.put_decimal.Reads as put-decimal
+use Rattle.text_decimals.proofs.put_decimal.Kinds as put-decimal-kinds
+use Rattle.text_decimals.proofs.+put_decimal.Lts-put_decimal as put-decimal-lts
+use Rattle.text_decimals.proofs.+put_decimal.{statement}
+use Rattle.text_decimals.proofs.+put_decimal.Tie.{close}
 
 abbrev μ-put-decimal : Measures 1 put-decimal-kinds.ps ℕ
 μ-put-decimal κs a = a .1 .1 .0

@@ -1,11 +1,11 @@
--- `text::read_numeral` meets its contract. Assumes nothing.
+-- `text_decimals::read_numeral` meets its contract. Assumes nothing.
 use mathlib.Core.Path.{sym, ap, _∙_}
 use borrow.Author.Needs.{needs}
-use Rattle.text.specs.Decimal.{negative}
-use Rattle.text.specs.HeldMagnitude.{clamped, toNumeral}
-use Rattle.text.proofs.NumeralLaws.{numeral-none, numeral-positive, numeral-negative}
-use Rattle.text.proofs.read_numeral.Statement.{statement}
-use Rattle.text.proofs.read_numeral.Tie as tie
+use Rattle.text_decimals.specs.Decimal.{negative}
+use Rattle.text_decimals.specs.HeldMagnitude.{clamped, toNumeral}
+use Rattle.text_decimals.proofs.NumeralLaws.{numeral-none, numeral-positive, numeral-negative}
+use Rattle.text_decimals.proofs.read_numeral.Statement.{statement}
+use Rattle.text_decimals.proofs.read_numeral.Tie as tie
 
 returns : tie.Need-returns
 returns c = sym (numeral-none _ (c .if1 .taken))

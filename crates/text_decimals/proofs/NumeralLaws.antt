@@ -12,11 +12,11 @@ use mir.Syntax.{w64}
 use mir.Val.{SFits, ofZ, toZ}
 use mir.ValLaws.{toZ-ofZ}
 use borrow.Author.Tests.{le-leb, lt-leb, eq-eqb, ne-eqb}
-use Rattle.text.specs.Decimal.{isDigit, digitsFrom, natural, negative, numeral}
-use Rattle.text.specs.HeldMagnitude.{most, clamp, clamped, held, toNumeral}
-use Rattle.text.specs.declared.Numeral.{Numeral}
-use Rattle.text.specs.declared.Numeral.the-variants.{Misspelt as misspelt, Number as number}
-use Rattle.text.specs.declared.Magnitude.the-variants.{Unspelt as unspelt, Value as value}
+use Rattle.text_decimals.specs.Decimal.{isDigit, digitsFrom, natural, negative, numeral}
+use Rattle.text_decimals.specs.HeldMagnitude.{most, clamp, clamped, held, toNumeral}
+use Rattle.text_decimals.specs.declared.Numeral.{Numeral}
+use Rattle.text_decimals.specs.declared.Numeral.the-variants.{Misspelt as misspelt, Number as number}
+use Rattle.text_decimals.specs.declared.Magnitude.the-variants.{Unspelt as unspelt, Value as value}
 
 -- the steps: a byte below the digits, one above them, a digit, the end
 module _ (v : ℕ) (s : List ℕ) (i : ℕ) where

@@ -1,10 +1,10 @@
 -- What the code holds of a natural number while it reads it.
 use Rattle.refusals.specs.Library.{ℕ, suc, ℤ, pos, negsuc}
 use Prim.Native.Nat.{min}
-use Rattle.text.specs.declared.Numeral.{Numeral}
-use Rattle.text.specs.declared.Numeral.the-variants.{Misspelt as misspelt, Number as number}
-use Rattle.text.specs.declared.Magnitude.{Magnitude}
-use Rattle.text.specs.declared.Magnitude.the-variants.{Unspelt as unspelt, Value as value}
+use Rattle.text_decimals.specs.declared.Numeral.{Numeral}
+use Rattle.text_decimals.specs.declared.Numeral.the-variants.{Misspelt as misspelt, Number as number}
+use Rattle.text_decimals.specs.declared.Magnitude.{Magnitude}
+use Rattle.text_decimals.specs.declared.Magnitude.the-variants.{Unspelt as unspelt, Value as value}
 
 -- the farthest number that the code holds: it stands for every number above it, and -(most + 1) for every one below that
 abbrev pub most : ℕ

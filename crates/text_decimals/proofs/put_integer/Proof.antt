@@ -1,16 +1,16 @@
--- `text::put_integer` meets its contract: a minus where the number is below 0, and then its magnitude. Assumes nothing.
+-- `text_decimals::put_integer` meets its contract: a minus where the number is below 0, and then its magnitude. Assumes nothing.
 use Prim.Native.Nat.{_+_}
 use mathlib.Core.Path.{sym, ap, _∙_}
 use native.Mathlib.Omega.{arith}
 use lib.ListN.{length}
 use Rattle.text.specs.Text.{bytes}
-use Rattle.text.specs.Decimal.{decimal}
-use Rattle.text.specs.Memory.{over}
-use Rattle.text.proofs.MemoryLaws.{wrote-none, wrote-more}
-use Rattle.text.proofs.IntegerLaws.{integer-negative, integer-natural, integer-signed}
+use Rattle.text_decimals.specs.Decimal.{decimal}
+use Rattle.text_decimals.specs.Memory.{over}
+use Rattle.text_decimals.proofs.MemoryLaws.{wrote-none, wrote-more}
+use Rattle.text_decimals.proofs.IntegerLaws.{integer-negative, integer-natural, integer-signed}
 use borrow.Author.Needs.{needs}
-use Rattle.text.proofs.put_integer.Statement.{statement}
-use Rattle.text.proofs.put_integer.Tie as tie
+use Rattle.text_decimals.proofs.put_integer.Statement.{statement}
+use Rattle.text_decimals.proofs.put_integer.Tie as tie
 
 put-requires : tie.Need-put-requires
 put-requires c κs =

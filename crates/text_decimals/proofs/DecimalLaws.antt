@@ -10,10 +10,10 @@ use lib.Dec.{eqb, leb, ltb}
 use lib.IntN.{ℤ, pos}
 use lib.ListN.{length, length-append}
 use borrow.Author.Tests.{le-leb, leb-true, lt-ltb, le-ltb, ltb-true, ltb-false, eqb-true, ne-eqb}
-use Rattle.text.specs.declared.Numeral.{Numeral}
-use Rattle.text.specs.declared.Numeral.the-variants.{Misspelt as misspelt, Number as number}
-use Rattle.text.specs.Decimal.{isDigit, digitsFrom, natural, negative, numeral, digits, decimal}
+use Rattle.text_decimals.specs.declared.Numeral.{Numeral}
+use Rattle.text_decimals.specs.declared.Numeral.the-variants.{Misspelt as misspelt, Number as number}
+use Rattle.text_decimals.specs.Decimal.{isDigit, digitsFrom, natural, negative, numeral, digits, decimal}
 use Rattle.text.proofs.TextLaws.{cond-right, Every, none, more, every-append}
 
 -- the text of n: its only digit, or the text of what stands before the last digit and that digit
 data Written : ℕ → List ℕ → Type 0 where

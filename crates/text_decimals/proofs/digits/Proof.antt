@@ -1,4 +1,4 @@
--- `text::digits` meets its contract. The loop's invariant: what is held of the digits is what is held of v and the digits from i on.
+-- `text_decimals::digits` meets its contract. The loop's invariant: what is held of the digits is what is held of v and the digits from i on.
 -- The measure is what is left of the text. Assumes nothing.
 use Prim.Native.Nat.{suc, _+_, _*_, _≤_, _-_, min}
 use mathlib.Core.Path.{_≡_, refl, sym, ap, _∙_}
@@ -6,11 +6,11 @@ use native.Mathlib.Omega.{arith}
 use native.Mathlib.Numerals.{add-one}
 use lib.ListN.{length, getD, drop}
 use borrow.Author.Needs.{needs}
-use Rattle.text.specs.Decimal.{digitsFrom}
-use Rattle.text.specs.HeldMagnitude.{most, held}
-use Rattle.text.proofs.NumeralLaws.{digits-below, digits-above, digits-next, digits-end, held-digits}
-use Rattle.text.proofs.digits.Statement.{statement}
-use Rattle.text.proofs.digits.Tie as tie
+use Rattle.text_decimals.specs.Decimal.{digitsFrom}
+use Rattle.text_decimals.specs.HeldMagnitude.{most, held}
+use Rattle.text_decimals.proofs.NumeralLaws.{digits-below, digits-above, digits-next, digits-end, held-digits}
+use Rattle.text_decimals.proofs.digits.Statement.{statement}
+use Rattle.text_decimals.proofs.digits.Tie as tie
 
 abbrev Inv-loop : tie.InvT-loop
 Inv-loop s v₀ i₀ v i = (i ≤ length s) × (v ≤ suc most) × (held (digitsFrom 0 s) ≡ held (digitsFrom v (drop i s)))

@@ -12,9 +12,9 @@ use mir.Val.{SFits, ofZ, toZ}
 use mir.ValLaws.{toZ-ofZ}
 use borrow.Author.Tests.{ltb-true}
 use Rattle.numbers.proofs.MagnitudeLaws.{near}
 use Rattle.text.specs.Text.{bytes}
-use Rattle.text.specs.Decimal.{decimal, integer}
-use Rattle.text.proofs.DecimalLaws.{decimal-length}
+use Rattle.text_decimals.specs.Decimal.{decimal, integer}
+use Rattle.text_decimals.proofs.DecimalLaws.{decimal-length}
 
 integer-below : (z : ℤ) → ltZ z (pos 0) ≡ true → integer z ≡ bytes "-" ++ decimal (natAbs z)
 unfolding integer
