@@ -2,7 +2,6 @@
 use file_code::CodeWords;
 use file_format::Role;
 use file_format::Section;
-use file_format::layout;
 use file_lines::WordTest;
 use instructions::Argument;
 use refusals::Acceptance;
@@ -44,7 +43,7 @@ fn laid_out(text: &[u8], places: &[usize; 15], role: Role, line: &[u8]) -> bool
         Role::Names(s) => file_lines::names_laid_out(s, line),
         Role::Values(s, c) => file_lines::values_laid_out(
             c,
-            layout::line_in(text, places, Role::Names(s)),
+            file_layout::line_in(text, places, Role::Names(s)),
             line,
         ),
         Role::Code(_) => true,
@@ -62,7 +61,7 @@ fn in_range(text: &[u8], places: &[usize; 15], role: Role, line: &[u8]) -> bool
         Role::Names(_) => true,
         Role::Values(s, c) => file_lines::values_in_range(
             c,
-            layout::line_in(text, places, Role::Names(s)),
+            file_layout::line_in(text, places, Role::Names(s)),
             line,
         ),
         Role::Code(_) => true,
@@ -354,7 +353,7 @@ fn none_refused() -> Earliest
 fn is_heading(i: usize, line: &[u8]) -> bool
     ensures { λ r. ⌜ r ≡ isHeading i (now (line .entry)) ⌝ }
 {
-    if layout::LINES < i {
+    if file_layout::LINES < i {
         return text::same(line, b"ANSWER");
     }
     false
@@ -365,8 +364,8 @@ fn role_of(i: usize, heading: usize, line: &[u8]) -> Role
     requires { ⌜ HeadingBefore i heading ⌝ }
     ensures { λ r. ⌜ r ≡ roleOf i heading (now (line .entry)) ⌝ }
 {
-    if i < layout::LINES {
-        return layout::role_at(i);
+    if i < file_layout::LINES {
+        return file_layout::role_at(i);
     }
     if 0 < heading {
         return Role::Answer(i - heading - 1);
@@ -374,7 +373,7 @@ fn role_of(i: usize, heading: usize, line: &[u8]) -> Role
     if is_heading(i, line) {
         return Role::Names(Section::Answers);
     }
-    Role::Code(i - layout::LINES)
+    Role::Code(i - file_layout::LINES)
 }
 
 // The heading after line i.
@@ -392,7 +391,7 @@ fn misses(i: usize, heading: usize) -> bool
     requires { ⌜ HeadingBefore i heading ⌝ }
     ensures { λ r. ⌜ r ≡ missing i heading ⌝ }
 {
-    if i <= layout::LINES {
+    if i <= file_layout::LINES {
         return true;
     }
     if 0 < heading { i == heading + 1 } else { false }
@@ -498,15 +497,15 @@ pub fn check(reader: Reader, text: &[u8]) -> Acceptance
     if 32768 < text.len() {
         return Acceptance::Refused(Refusal::TextLength);
     }
-    let places = layout::starts_of(text);
-    let kinds = layout::line_in(text, &places, Role::Names(Section::Kinds));
-    let primitives = layout::line_in(text, &places, Role::Names(Section::Primitives));
-    let fields = layout::line_in(text, &places, Role::Names(Section::Fields));
+    let places = file_layout::starts_of(text);
+    let kinds = file_layout::line_in(text, &places, Role::Names(Section::Kinds));
+    let primitives = file_layout::line_in(text, &places, Role::Names(Section::Primitives));
+    let fields = file_layout::line_in(text, &places, Role::Names(Section::Fields));
     let named = file_names::blocks_named(fields);
     let blocks = named.count;
-    let body = layout::body_in(text, &places);
+    let body = file_layout::body_in(text, &places);
     let first = file_values::first_address(body);
-    let count = layout::count_code(body);
+    let count = file_layout::count_code(body);
     let counts = Counts {
         blocks: blocks,
         first: first,

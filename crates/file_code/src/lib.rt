@@ -1,6 +1,5 @@
 // A code line of a routine file: it is cut into its words, and the rows of the refusal table are put to them. The meaning is in specs/ here
 // and of `file_format`.
-use file_format::layout;
 use instructions::Argument;
 use numbers::Range;
 use text::Place;
@@ -80,7 +79,7 @@ fn argument_in_range(a: Argument, n: Numeral) -> bool
     ensures { λ r. ⌜ ((w : List ℕ) → n ≡ clamped (numeral w) → r ≡ argumentInRange w a) ⌝ }
 {
     match a {
-        Argument::Target => file_values::is_read_within(layout::addresses(), n),
+        Argument::Target => file_values::is_read_within(file_layout::addresses(), n),
         Argument::Within(r) => file_values::is_read_within(r, n),
         _ => true,
     }
@@ -93,7 +92,7 @@ fn argument_named(primitives: &[u8], a: Argument, w: &[u8]) -> bool
     let Argument::Primitive = a else {
         return true;
     };
-    layout::is_listed(w, primitives)
+    file_layout::is_listed(w, primitives)
 }
 
 // Whether the number that was read is one of the `count` addresses from `first` on.
@@ -234,7 +233,7 @@ pub fn test_code(
     let spelt = both(k < 1024, file_values::is_spelt(n));
     let layout = both(spelt, argument.layout);
     let range = both(
-        file_values::is_read_within(layout::at_range(k), n),
+        file_values::is_read_within(file_layout::at_range(k), n),
         argument.range,
     );
     let known = both(is_address(first, k, n), is_known(kind));
@@ -291,13 +290,13 @@ pub fn code_priced(kinds: &[u8], kept: &mut [u8; 61], kind: Place, op: &[u8]) ->
     ensures kept { λ _. ⌜ PricesKept (list (now (kinds .entry))) (now (kept .exit)) ⌝ }
 {
     let Place::At(k) = kind else {
-        return layout::is_listed(op, kinds);
+        return file_layout::is_listed(op, kinds);
     };
     let known = kept[k];
     if 0 < known {
         return known == 1;
     }
-    let listed = layout::is_listed(op, kinds);
+    let listed = file_layout::is_listed(op, kinds);
     kept[k] = one_or_two(listed);
     listed
 }

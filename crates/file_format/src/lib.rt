@@ -1,7 +1,5 @@
 // The routine file: its refusals, and the routine that it holds. The meaning is in specs/.
 
-pub mod layout;
-
 // "Each section is a line of names, then lines of values in that order"
 pub enum Section {
     Limits,

@@ -2,7 +2,6 @@
 use file_format::Column;
 use file_format::Role;
 use file_format::Section;
-use file_format::layout;
 use text::Place;
 use text_decimals::Numeral;
 ghost use mathlib.Core.Bool.{true, _&&_};
@@ -43,8 +42,8 @@ fn word_passes(t: WordTest, w: &[u8]) -> bool
     match t {
         WordTest::Filled => 0 < w.len(),
         WordTest::Numeral => file_values::is_numeral(w),
-        WordTest::Cycles => file_values::is_within(layout::cycle_counts(), w),
-        WordTest::Words => file_values::is_within(layout::word_counts(), w),
+        WordTest::Cycles => file_values::is_within(file_layout::cycle_counts(), w),
+        WordTest::Words => file_values::is_within(file_layout::word_counts(), w),
         WordTest::Cell => file_values::is_cell(w),
         WordTest::CellRange => file_values::cell_in_range(w),
         WordTest::Present(n) => file_values::cell_present(n as usize, w),
@@ -88,8 +87,8 @@ pub fn names_laid_out(s: Section, line: &[u8]) -> bool
     match s {
         Section::Limits => text::same(line, b"BUDGET TICK"),
         Section::Kinds => true,
-        Section::Primitives => layout::count_listed(line) <= 32,
-        Section::Cells => 0 < layout::count_listed(line),
+        Section::Primitives => file_layout::count_listed(line) <= 32,
+        Section::Cells => 0 < file_layout::count_listed(line),
         Section::Fields => true,
         Section::Instructions => text::same(line, b"AT OP ARG"),
         Section::Answers => text::same(line, b"ANSWER"),
@@ -147,7 +146,7 @@ fn column_laid_out(c: Column, line: &[u8]) -> bool
 pub fn values_laid_out(c: Column, names: &[u8], line: &[u8]) -> bool
     ensures { λ r. ⌜ r ≡ valuesLaidOut c (list (now (names .entry))) (list (now (line .entry))) ⌝ }
 {
-    if layout::count_listed(line) == layout::count_listed(names) {
+    if file_layout::count_listed(line) == file_layout::count_listed(names) {
         return column_laid_out(c, line);
     }
     false
@@ -157,10 +156,10 @@ pub fn values_laid_out(c: Column, names: &[u8], line: &[u8]) -> bool
 fn limits_in_range(line: &[u8]) -> bool
     ensures { λ r. ⌜ r ≡ columnInRange Limit [] (list (now (line .entry))) ⌝ }
 {
-    let budget = layout::listed_at(line, 0);
-    let tick = layout::listed_at(line, 1);
-    if file_values::is_within(layout::budgets(), budget) {
-        return file_values::is_within(layout::ticks(), tick);
+    let budget = file_layout::listed_at(line, 0);
+    let tick = file_layout::listed_at(line, 1);
+    if file_values::is_within(file_layout::budgets(), budget) {
+        return file_values::is_within(file_layout::ticks(), tick);
     }
     false
 }
@@ -170,12 +169,12 @@ fn extra_in_range(name: &[u8], w: &[u8]) -> bool
     ensures { λ r. ⌜ r ≡ within (extraRange (now (name .entry))) (value (now (w .entry))) ⌝ }
 {
     if text::same(name, b"BRANCHIF") {
-        return file_values::is_within(layout::extra_counts(), w);
+        return file_values::is_within(file_layout::extra_counts(), w);
     }
     if text::same(name, b"BRANCHIFNOT") {
-        return file_values::is_within(layout::extra_counts(), w);
+        return file_values::is_within(file_layout::extra_counts(), w);
     }
-    file_values::is_within(layout::no_extra(), w)
+    file_values::is_within(file_layout::no_extra(), w)
 }
 
 // What follows the first of a line's words; no bytes where nothing does, which stand for names that no kind has.
@@ -236,7 +235,7 @@ pub fn values_in_range(c: Column, names: &[u8], line: &[u8]) -> bool
 pub fn cells_pass(t: WordTest, role: Role, line: &[u8]) -> bool
     ensures { λ r. ⌜ r ≡ onCells (wordTest t) role (now (line .entry)) ⌝ }
 {
-    if layout::holds_cells(role) {
+    if file_layout::holds_cells(role) {
         return all_listed(t, line);
     }
     true

@@ -4,7 +4,6 @@ use file_code::CodeWords;
 use file_format::Column;
 use file_format::Role;
 use file_format::Section;
-use file_format::layout;
 use instructions::Argument;
 use machine_state::State;
 use numbers::Range;
@@ -40,14 +39,14 @@ pub fn natural_at(range: Range, values: &[u8], i: usize) -> u32
     requires { ⌜ NaturalRange range ⌝ }
     ensures { λ r. ⌜ r ≡ naturalAt range (list (now (values .entry))) i ⌝ }
 {
-    file_values::natural_of(range, layout::listed_at(values, i))
+    file_values::natural_of(range, file_layout::listed_at(values, i))
 }
 
 // The cell at place i of a line; 0 where it lists fewer.
 fn cell_at(values: &[u8], i: usize) -> Cell
     ensures { λ r. ⌜ r ≡ getD (cellsOf (list (now (values .entry)))) i (exactly (pos 0)) ⌝ }
 {
-    file_values::cell_of(layout::listed_at(values, i))
+    file_values::cell_of(file_layout::listed_at(values, i))
 }
 
 // The number of a range that a word spells; one outside it counts 0.
@@ -101,7 +100,7 @@ pub fn start_of(values: &[u8], first: usize) -> State
     let accu = cell_at(values, 0);
     let zero = cells::exactly(0);
     let mut stack = [zero; 64];
-    let count = layout::count_listed(values);
+    let count = file_layout::count_listed(values);
     let n = if count == 0 { 0 } else { count - 1 };
     let free = 64 - n;
     let mut i = 0;
@@ -200,13 +199,13 @@ fn find_price(
     if kept[slot + 1] == 1 {
         return slot;
     }
-    let i = layout::index_listed(kinds, op);
+    let i = file_layout::index_listed(kinds, op);
     let code = code_of(text::index_of(kind));
     kept[slot] = code as u32;
     kept[slot + 1] = is_kept(slot);
-    kept[slot + 2] = natural_at(layout::cycle_counts(), cycles, i);
-    kept[slot + 3] = natural_at(layout::word_counts(), words, i);
-    kept[slot + 4] = natural_at(layout::extra_counts(), extras, i);
+    kept[slot + 2] = natural_at(file_layout::cycle_counts(), cycles, i);
+    kept[slot + 3] = natural_at(file_layout::word_counts(), words, i);
+    kept[slot + 4] = natural_at(file_layout::extra_counts(), extras, i);
     slot
 }
 
@@ -227,7 +226,7 @@ fn place_called(called: bool, primitives: &[u8], w: &[u8]) -> usize
     ensures { λ r. ⌜ r ≡ cond called (find (now (w .entry)) (list (now (primitives .entry)))) 0 ⌝ }
 {
     if called {
-        return layout::index_listed(primitives, w);
+        return file_layout::index_listed(primitives, w);
     }
     0
 }
@@ -277,8 +276,8 @@ fn entry_of(
     let operand = operand_of(text::index_of(kind), takes, arg);
     let called = 64 <= kept[slot];
     let j = place_called(called, primitives, arg);
-    let more_cycles = price_called(layout::cycle_counts(), called, cycles, j);
-    let more_words = price_called(layout::word_counts(), called, words, j);
+    let more_cycles = price_called(file_layout::cycle_counts(), called, cycles, j);
+    let more_words = price_called(file_layout::word_counts(), called, words, j);
     Entry {
         code: kept[slot],
         operand: operand,
@@ -314,13 +313,13 @@ pub fn lines_of(text: &[u8], body: &[u8], count: usize) -> [u32; 5131]
     let codes = instructions::argument_codes();
     let lows = instructions::range_lows();
     let highs = instructions::range_highs();
-    let kinds = layout::text_of(text, Role::Names(Section::Kinds));
-    let kind_cycles = layout::text_of(text, Role::Values(Section::Kinds, Column::Cycles));
-    let kind_words = layout::text_of(text, Role::Values(Section::Kinds, Column::Words));
-    let kind_extras = layout::text_of(text, Role::Values(Section::Kinds, Column::Extra));
-    let primitives = layout::text_of(text, Role::Names(Section::Primitives));
-    let cycles = layout::text_of(text, Role::Values(Section::Primitives, Column::Cycles));
-    let words = layout::text_of(text, Role::Values(Section::Primitives, Column::Words));
+    let kinds = file_layout::text_of(text, Role::Names(Section::Kinds));
+    let kind_cycles = file_layout::text_of(text, Role::Values(Section::Kinds, Column::Cycles));
+    let kind_words = file_layout::text_of(text, Role::Values(Section::Kinds, Column::Words));
+    let kind_extras = file_layout::text_of(text, Role::Values(Section::Kinds, Column::Extra));
+    let primitives = file_layout::text_of(text, Role::Names(Section::Primitives));
+    let cycles = file_layout::text_of(text, Role::Values(Section::Primitives, Column::Cycles));
+    let words = file_layout::text_of(text, Role::Values(Section::Primitives, Column::Words));
     let mut code = [0u32; 5131];
     let mut kept = [0u32; 310];
     let mut rest = body;

@@ -3,7 +3,6 @@ use cells::Cell;
 use file_format::Column;
 use file_format::Role;
 use file_format::Section;
-use file_format::layout;
 use file_parts::Answers;
 use machine_state::State;
 ghost use Rattle.text.specs.Text.{lines};
@@ -35,24 +34,24 @@ pub fn routine_of(text: &[u8]) -> Routine
     ensures holds { λ r. ⌜ Holds (routineOf (lines (now (text .entry)))) r ⌝ }
     ensures limited { λ r. ⌜ Limited r ⌝ }
 {
-    let limits = layout::text_of(text, Role::Values(Section::Limits, Column::Limit));
-    let budget = file_parts::natural_at(layout::budgets(), limits, 0) as usize;
-    let tick = file_parts::natural_at(layout::ticks(), limits, 1) as u64;
-    let named = file_names::blocks_named(layout::text_of(text, Role::Names(Section::Fields)));
+    let limits = file_layout::text_of(text, Role::Values(Section::Limits, Column::Limit));
+    let budget = file_parts::natural_at(file_layout::budgets(), limits, 0) as usize;
+    let tick = file_parts::natural_at(file_layout::ticks(), limits, 1) as u64;
+    let named = file_names::blocks_named(file_layout::text_of(text, Role::Names(Section::Fields)));
     let sizes = named.sizes;
     let present = named.count;
     let blocks = file_parts::fields_of(
-        layout::text_of(text, Role::Values(Section::Fields, Column::Cell)),
+        file_layout::text_of(text, Role::Values(Section::Fields, Column::Cell)),
         sizes,
         present,
     );
-    let body = layout::body_of(text);
+    let body = file_layout::body_of(text);
     let first = file_values::first_address(body);
-    let count = layout::count_code(body);
+    let count = file_layout::count_code(body);
     let lines = lines_in(text, body, count);
     let code = file_parts::with_head(lines, first, count, sizes, present);
     let start = file_parts::start_of(
-        layout::text_of(text, Role::Values(Section::Cells, Column::Cell)),
+        file_layout::text_of(text, Role::Values(Section::Cells, Column::Cell)),
         first,
     );
     let answers = file_parts::answers_of(text::after_lines(body, count + 1));

@@ -1,7 +1,6 @@
 // What a word of a line of values says. The meaning is in specs/ here and of `file_format`.
 use cells::Cell;
 use file_format::CellWord;
-use file_format::layout;
 use numbers::Range;
 use text_decimals::Numeral;
 ghost use mathlib.Core.Path.{_≡_};
@@ -114,7 +113,7 @@ pub fn first_address(body: &[u8]) -> usize
 {
     let line = text::first_line(body);
     let at = text::word_at(line, 0);
-    natural_of(layout::first_addresses(), at) as usize
+    natural_of(file_layout::first_addresses(), at) as usize
 }
 
 // ---- cells
@@ -214,7 +213,7 @@ pub fn cell_in_range(w: &[u8]) -> bool
 {
     match cell_word(w) {
         CellWord::Known(z) => numbers::within(numbers::number_range(), z),
-        CellWord::Block(k) => numbers::within(layout::handles(), k),
+        CellWord::Block(k) => numbers::within(file_layout::handles(), k),
         CellWord::Span(lo, hi) => span_in_range(lo, hi),
         _ => true,
     }
@@ -275,7 +274,7 @@ fn span_cell(lo: i64, hi: i64) -> Cell
 fn handle_cell(k: i64) -> Cell
     ensures { λ r. ⌜ r ≡ handle (natAbs (inside handles k)) ⌝ }
 {
-    let n = inside(layout::handles(), k);
+    let n = inside(file_layout::handles(), k);
     cells::handle(n as u8)
 }
 

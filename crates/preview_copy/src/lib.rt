@@ -1,6 +1,5 @@
 // A routine file with one instruction replaced. The meaning is in specs/.
 use answers::Answer;
-use file_format::layout;
 use refusals::Refusal;
 ghost use mathlib.Core.Path.{_≡_};
 ghost use mathlib.Core.List.{_++_};
@@ -53,9 +52,9 @@ pub fn copy(text: &[u8], address: u32, instruction: &[u8], out: &mut [u8]) -> An
     ensures { λ r. ⌜ r ≡ answerOf (copyAnswer (now (text .entry)) address (now (instruction .entry))) ⌝ }
     ensures { λ _. ⌜ now (out .exit) ≡ memory (copyAnswer (now (text .entry)) address (now (instruction .entry))) (now (out .entry)) ⌝ }
 {
-    let body = layout::body_of(text);
+    let body = file_layout::body_of(text);
     let first = file_values::first_address(body);
-    let count = layout::count_code(body);
+    let count = file_layout::count_code(body);
     let place = address as usize;
     if place < first {
         return Answer::Refused(Refusal::BadName(address));
@@ -63,5 +62,5 @@ pub fn copy(text: &[u8], address: u32, instruction: &[u8], out: &mut [u8]) -> An
     if count <= place - first {
         return Answer::Refused(Refusal::BadName(address));
     }
-    put_copy(text, layout::LINES + (place - first), instruction, out)
+    put_copy(text, file_layout::LINES + (place - first), instruction, out)
 }

@@ -1,6 +1,5 @@
 // The text of a card's trace: its refusals, and the steps that it records. The meaning is in specs/.
 use file_format::RefusedLine;
-use file_format::layout;
 use numbers::Range;
 use refusals::Acceptance;
 use refusals::Refusal;
@@ -82,7 +81,7 @@ fn entry_in_range(line: &[u8]) -> bool
 {
     let at = text::word_at(line, 0);
     let cycles = text::word_at(line, 1);
-    if file_values::is_within(layout::addresses(), at) {
+    if file_values::is_within(file_layout::addresses(), at) {
         return file_values::is_within(cycle_range(), cycles);
     }
     false

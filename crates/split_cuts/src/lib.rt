@@ -1,6 +1,5 @@
 // The text of the cuts: its refusals, and the cuts that it lists. The meaning is in specs/.
 use file_format::RefusedLine;
-use file_format::layout;
 use refusals::Acceptance;
 use refusals::Refusal;
 use split_theory::Cuts;
@@ -88,10 +87,10 @@ fn named(k: usize, line: &[u8], cells: &[u8], fields: &[u8]) -> bool
         return true;
     }
     let name = text::word_at(line, 0);
-    if layout::is_listed(name, cells) {
+    if file_layout::is_listed(name, cells) {
         return true;
     }
-    layout::is_listed(name, fields)
+    file_layout::is_listed(name, fields)
 }
 
 // A row on the first line of `rest`, which has the index k.

@@ -3,7 +3,6 @@ use answers::Answer;
 use file_check::Reader;
 use file_format::Role;
 use file_format::Section;
-use file_format::layout;
 use file_reader::Routine;
 use refusals::Acceptance;
 ghost use mathlib.Core.Path.{_≡_};
@@ -25,8 +24,8 @@ ghost use Rattle.split_entry.specs.Held.{Read};
 pub fn check(text: &[u8], cuts: &[u8]) -> Acceptance
     ensures { λ r. ⌜ r ≡ cutsChecked (now (text .entry)) (now (cuts .entry)) ⌝ }
 {
-    let cells = layout::text_of(text, Role::Names(Section::Cells));
-    let fields = layout::text_of(text, Role::Names(Section::Fields));
+    let cells = file_layout::text_of(text, Role::Names(Section::Cells));
+    let fields = file_layout::text_of(text, Role::Names(Section::Fields));
     split_cuts::check_cuts(cuts, cells, fields)
 }
 

@@ -1,7 +1,6 @@
 // The export: the code of a routine file to the compiler's words. The meaning is in specs/ of `words`.
 use file_format::Role;
 use file_format::Section;
-use file_format::layout;
 use instructions::Argument;
 ghost use mathlib.Core.Path.{_≡_};
 ghost use mathlib.Core.List.{List, _++_};
@@ -78,7 +77,7 @@ fn argument_word(
     match instructions::argument_at(k) {
         Argument::Absent => 0,
         Argument::Target => offset_to(target_index(indices, first, k, w), index),
-        Argument::Primitive => layout::index_listed(primitives, w) as i32,
+        Argument::Primitive => file_layout::index_listed(primitives, w) as i32,
         Argument::Within(_) => file_parts::number_of(numbers::number_range(), w),
     }
 }
@@ -132,10 +131,10 @@ pub fn put_export(text: &[u8], out: &mut [u8]) -> usize
     ensures { λ r. ⌜ r ≡ length (exportBytes (lines (now (text .entry)))) ⌝ }
     ensures { λ _. ⌜ now (out .exit) ≡ exportBytes (lines (now (text .entry))) ++ drop (length (exportBytes (lines (now (text .entry))))) (now (out .entry)) ⌝ }
 {
-    let primitives = layout::text_of(text, Role::Names(Section::Primitives));
-    let body = layout::body_of(text);
+    let primitives = file_layout::text_of(text, Role::Names(Section::Primitives));
+    let body = file_layout::body_of(text);
     let first = file_values::first_address(body);
-    let count = layout::count_code(body);
+    let count = file_layout::count_code(body);
     let indices = indices_of(body, count);
     put_lines(out, primitives, &indices[..count], first, body)
 }

@@ -1,6 +1,5 @@
 // The import: the compiler's words to lines of code. The meaning is in specs/ of `words`.
 use file_format::Section;
-use file_format::layout;
 use file_lines::WordTest;
 use instructions::Argument;
 use refusals::Acceptance;
@@ -43,7 +42,7 @@ fn put_argument(
             text_decimals::put_decimal(out, at, n as u64)
         }
         Argument::Primitive => {
-            let name = layout::listed_at(primitives, numbers::magnitude(argument) as usize);
+            let name = file_layout::listed_at(primitives, numbers::magnitude(argument) as usize);
             text_decimals::put(out, at, name)
         }
         Argument::Within(_) => text_decimals::put_integer(out, at, argument),
@@ -160,7 +159,7 @@ pub fn check_import(words: &[u8], primitives: &[u8]) -> Acceptance
     match check_primitives(primitives) {
         Acceptance::Refused(refusal) => Acceptance::Refused(refusal),
         Acceptance::Accepted => {
-            let listed = layout::count_listed(text::first_line(primitives));
+            let listed = file_layout::count_listed(text::first_line(primitives));
             fault_verdict(words::code_fault(listed, words))
         }
     }
