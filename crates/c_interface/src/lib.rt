@@ -1,10 +1,8 @@
-// The public functions for C: each calls the function of its entry crate, and tells the answer as one number. The meaning is in specs/.
-use answers::Answer;
-use refusals::Refusal;
+// The public functions for C: each calls the function of its entry crate, and tells the answer as one number. The meaning is in specs/ of the
+// entry crates and of `c_answers`.
 ghost use mathlib.Core.Path.{_≡_};
 ghost use lib.ListN.{length};
 ghost use Rattle.answers.specs.Answers.{memoryLimit, memory, answerOf, Delivers};
-ghost use Rattle.answers.specs.declared.Answer.the-variants.{Refused};
 ghost use Rattle.report_theory.specs.Answers.{boundAnswer, mergeAnswer, runAnswer};
 ghost use Rattle.report_theory.specs.Promises.{SafeReport, ExactReport, SafeMerge, ExactMerge, AboveMerge, WithinReport, RunAccepted};
 ghost use Rattle.report_theory.specs.Listed.{BoundRefused, MergeRefused, RunRefused, ListedAlone};
@@ -26,26 +24,7 @@ ghost use Rattle.trace_entry.specs.Answers.{traceMemory, traceAnswer};
 ghost use Rattle.trace_entry.specs.Promises.{TracesRun};
 ghost use Rattle.nearest_entry.specs.Answers.{nearestAnswer};
 ghost use Rattle.generate_entry.specs.Answers.{generatorLimit, generateAnswer};
-ghost use Rattle.c_interface.specs.Functions.{wordOf, toldLength, Tells, RefusesWord};
-
-// An answer as one number.
-fn word_of(answer: Answer) -> u64
-    ensures { λ r. ⌜ r ≡ wordOf answer ⌝ }
-{
-    match answer {
-        Answer::Reported(n) => n as u64,
-        Answer::Refused(r) => refusal_word(r),
-    }
-}
-
-// A refusal as one number.
-fn refusal_word(r: Refusal) -> u64
-    ensures { λ w. ⌜ w ≡ wordOf (Refused r) ⌝ }
-{
-    let number = refusals::number(r);
-    let place = refusals::place(r);
-    9223372036854775808 + number * 4294967296 + place % 4294967296
-}
+ghost use Rattle.c_answers.specs.Told.{wordOf, toldLength, Tells, RefusesWord};
 
 // `bound_entry::bound` for C: see include/tickbound.h.
 #[no_mangle]
@@ -60,7 +39,7 @@ pub extern "C" fn tickbound_bound(text: &[u8], out: &mut [u8]) -> u64
     ensures listed { λ r. ⌜ ListedAlone (RefusesWord r) (BoundRefused (now (text .entry)) (length (now (out .entry)))) ⌝ }
 {
     let answer = bound_entry::bound(text, out);
-    word_of(answer)
+    c_answers::word_of(answer)
 }
 
 // `merge_entry::merge` for C.
@@ -77,7 +56,7 @@ pub extern "C" fn tickbound_merge(text: &[u8], out: &mut [u8]) -> u64
     ensures listed { λ r. ⌜ ListedAlone (RefusesWord r) (MergeRefused (now (text .entry)) (length (now (out .entry)))) ⌝ }
 {
     let answer = merge_entry::merge(text, out);
-    word_of(answer)
+    c_answers::word_of(answer)
 }
 
 // `run_entry::run` for C.
@@ -91,7 +70,7 @@ pub extern "C" fn tickbound_run(text: &[u8], out: &mut [u8]) -> u64
     ensures listed { λ r. ⌜ ListedAlone (RefusesWord r) (RunRefused (now (text .entry)) (length (now (out .entry)))) ⌝ }
 {
     let answer = run_entry::run(text, out);
-    word_of(answer)
+    c_answers::word_of(answer)
 }
 
 // `words_entry::import` for C.
@@ -102,7 +81,7 @@ pub extern "C" fn tickbound_import(words: &[u8], primitives: &[u8], out: &mut [u
     ensures tells { λ r. ⌜ Tells conversionLimit (importAnswer (now (words .entry)) (now (primitives .entry)) (length (now (out .entry)))) r ⌝ }
 {
     let imported = words_entry::import(words, primitives, out);
-    word_of(imported)
+    c_answers::word_of(imported)
 }
 
 // `words_entry::export` for C.
@@ -113,7 +92,7 @@ pub extern "C" fn tickbound_export(text: &[u8], out: &mut [u8]) -> u64
     ensures tells { λ r. ⌜ Tells conversionLimit (exportAnswer (now (text .entry)) (length (now (out .entry)))) r ⌝ }
 {
     let exported = words_entry::export(text, out);
-    word_of(exported)
+    c_answers::word_of(exported)
 }
 
 // `replay_entry::replay` for C.
@@ -125,7 +104,7 @@ pub extern "C" fn tickbound_replay(text: &[u8], trace: &[u8], out: &mut [u8]) ->
     ensures kept { λ r. ⌜ Delivers (toldLength r) (now (out .exit)) (ReplayKept (now (text .entry)) (now (trace .entry))) ⌝ }
 {
     let replayed = replay_entry::replay(text, trace, out);
-    word_of(replayed)
+    c_answers::word_of(replayed)
 }
 
 // `split_entry::split` for C.
@@ -142,7 +121,7 @@ pub extern "C" fn tickbound_split(text: &[u8], cuts: &[u8], out: &mut [u8]) -> u
     ensures listed { λ r. ⌜ ListedAlone (RefusesWord r) (CasesRefused (now (text .entry)) (now (cuts .entry)) (length (now (out .entry)))) ⌝ }
 {
     let bounded = split_entry::split(text, cuts, out);
-    word_of(bounded)
+    c_answers::word_of(bounded)
 }
 
 // `preview_entry::preview` for C.
@@ -158,7 +137,7 @@ pub extern "C" fn tickbound_preview(
     ensures tells { λ r. ⌜ Tells memoryLimit (previewAnswer (now (text .entry)) address (now (instruction .entry)) (length (now (out .entry)))) r ⌝ }
 {
     let previewed = preview_entry::preview(text, address, instruction, out);
-    word_of(previewed)
+    c_answers::word_of(previewed)
 }
 
 // `nearest_entry::nearest` for C.
@@ -169,7 +148,7 @@ pub extern "C" fn tickbound_nearest(text: &[u8], out: &mut [u8]) -> u64
     ensures tells { λ r. ⌜ Tells memoryLimit (nearestAnswer (now (text .entry)) (length (now (out .entry)))) r ⌝ }
 {
     let nearest = nearest_entry::nearest(text, out);
-    word_of(nearest)
+    c_answers::word_of(nearest)
 }
 
 // `generate_entry::generate` for C.
@@ -180,7 +159,7 @@ pub extern "C" fn tickbound_generate(seed: u32, out: &mut [u8]) -> u64
     ensures tells { λ r. ⌜ Tells generatorLimit (generateAnswer seed (length (now (out .entry)))) r ⌝ }
 {
     let generated = generate_entry::generate(seed, out);
-    word_of(generated)
+    c_answers::word_of(generated)
 }
 
 // `explain_entry::explain` for C.
@@ -191,7 +170,7 @@ pub extern "C" fn tickbound_explain(text: &[u8], out: &mut [u8]) -> u64
     ensures tells { λ r. ⌜ Tells explanationLimit (explainAnswer (now (text .entry)) (length (now (out .entry)))) r ⌝ }
 {
     let explained = explain_entry::explain(text, out);
-    word_of(explained)
+    c_answers::word_of(explained)
 }
 
 // `explain_merge_entry::explain_merge` for C.
@@ -202,7 +181,7 @@ pub extern "C" fn tickbound_explain_merge(text: &[u8], out: &mut [u8]) -> u64
     ensures tells { λ r. ⌜ Tells explanationLimit (explainMergeAnswer (now (text .entry)) (length (now (out .entry)))) r ⌝ }
 {
     let explained = explain_merge_entry::explain_merge(text, out);
-    word_of(explained)
+    c_answers::word_of(explained)
 }
 
 // `decide_entry::decide` for C.
@@ -216,7 +195,7 @@ pub extern "C" fn tickbound_decide(text: &[u8], out: &mut [u8]) -> u64
     ensures undecided { λ r. ⌜ Delivers (toldLength r) (now (out .exit)) (UndecidedTick (now (text .entry))) ⌝ }
 {
     let decided = decide_entry::decide(text, out);
-    word_of(decided)
+    c_answers::word_of(decided)
 }
 
 // `decide_split_entry::decide_split` for C.
@@ -229,7 +208,7 @@ pub extern "C" fn tickbound_decide_split(text: &[u8], cuts: &[u8], out: &mut [u8
     ensures undecided { λ r. ⌜ Delivers (toldLength r) (now (out .exit)) (UndecidedByCases (now (text .entry)) (now (cuts .entry))) ⌝ }
 {
     let decided = decide_split_entry::decide_split(text, cuts, out);
-    word_of(decided)
+    c_answers::word_of(decided)
 }
 
 // `trace_entry::trace` for C.
@@ -241,5 +220,5 @@ pub extern "C" fn tickbound_trace(text: &[u8], out: &mut [u8]) -> u64
     ensures traces { λ r. ⌜ Delivers (toldLength r) (now (out .exit)) (TracesRun (now (text .entry))) ⌝ }
 {
     let traced = trace_entry::trace(text, out);
-    word_of(traced)
+    c_answers::word_of(traced)
 }

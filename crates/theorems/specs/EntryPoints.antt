@@ -19,7 +19,7 @@ use Rattle.decide_entry.specs.Answers.{decideAnswer}
 use Rattle.trace_entry.specs.Answers.{traceMemory, traceAnswer}
 use Rattle.split_entry.specs.Answers.{splitAnswer}
 use Rattle.decide_split_entry.specs.Answers.{decideSplitAnswer}
-use Rattle.c_interface.specs.Functions.{AnswerTold}
+use Rattle.c_answers.specs.Told.{AnswerTold}
 
 pub data Function : Type 0 where
   bounding merging running previewing deciding tracing explaining explaining-merge splitting deciding-split importing exporting replaying seeking generating : Function

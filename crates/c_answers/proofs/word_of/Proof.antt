@@ -1,10 +1,10 @@
--- `c_interface::word_of` meets its contract. Assumes nothing.
-use Rattle.c_interface.specs.Functions.{wordOf}
+-- `c_answers::word_of` meets its contract. Assumes nothing.
+use Rattle.c_answers.specs.Told.{wordOf}
 use Rattle.file_lines.proofs.LineLaws.{arm}
-use Rattle.c_interface.proofs.FunctionLaws.{word-reported}
+use Rattle.c_answers.proofs.ToldLaws.{word-reported}
 use borrow.Author.Needs.{needs}
-use Rattle.c_interface.proofs.word_of.Statement.{statement}
-use Rattle.c_interface.proofs.word_of.Tie as tie
+use Rattle.c_answers.proofs.word_of.Statement.{statement}
+use Rattle.c_answers.proofs.word_of.Tie as tie
 
 returns : tie.Need-returns
 returns c = word-reported _ _ (c .before .answer .given .1)

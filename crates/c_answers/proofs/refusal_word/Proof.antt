@@ -1,10 +1,10 @@
--- `c_interface::refusal_word` meets its contract. Assumes nothing.
+-- `c_answers::refusal_word` meets its contract. Assumes nothing.
 use native.Mathlib.Omega.{arith}
 use Prim.Native.Nat.{_≤_}
-use Rattle.c_interface.proofs.FunctionLaws.{number-small, word-refused}
+use Rattle.c_answers.proofs.ToldLaws.{number-small, word-refused}
 use borrow.Author.Needs.{needs}
-use Rattle.c_interface.proofs.refusal_word.Statement.{statement}
-use Rattle.c_interface.proofs.refusal_word.Tie as tie
+use Rattle.c_answers.proofs.refusal_word.Statement.{statement}
+use Rattle.c_answers.proofs.refusal_word.Tie as tie
 
 mul-result : tie.Need-mul-result
 mul-result c = let n : c .before .number .result ≤ 14 = (rw (c .before .number .ensures) (number-small (c .before .before .args .r))) in omega arith
