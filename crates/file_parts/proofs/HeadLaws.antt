@@ -10,39 +10,38 @@ use lib.Seq.{getD-set-same, getD-set-other, getD-drop}
 use borrow.Author.Tests.{ltb-true, ltb-false}
 use Rattle.machine_state.specs.HeldProgram.{sizesOf}
 
--- the head of ws, with k of the sizes ns, and the lines of vs after it
-pub record Headed (first count blocks : ℕ) (ns vs : List ℕ) (k : ℕ) (ws : List ℕ) : Type 0 where
+-- the head of ws, with k of the sizes ns, and the number of lines of vs and the lines after the head
+pub record Headed (first blocks : ℕ) (ns vs : List ℕ) (k : ℕ) (ws : List ℕ) : Type 0 where
   pub long : length ws ≡ 5131
   pub within : k ≤ 8
   pub first-is : getD ws 0 0 ≡ first
-  pub lines-are : getD ws 1 0 ≡ count
+  pub lines-are : getD ws 1 0 ≡ getD vs 1 0
   pub blocks-are : getD ws 2 0 ≡ blocks
   pub sizes : (i : ℕ) → i < k → getD ws (i + 3) 0 ≡ getD ns i 0
   pub kept : (i : ℕ) → 11 ≤ i → getD ws i 0 ≡ getD vs i 0
 
--- the first three words
-abbrev three : ℕ → ℕ → ℕ → List ℕ → List ℕ
-three first count blocks vs = set (set (set vs 0 first) 1 count) 2 blocks
+-- with the first address and the number of blocks
+abbrev two : ℕ → ℕ → List ℕ → List ℕ
+two first blocks vs = set (set vs 0 first) 2 blocks
 
--- the lines stay
-pub head-kept : (first count blocks : ℕ) (vs : List ℕ) (i : ℕ) → 11 ≤ i → getD (three first count blocks vs) i 0 ≡ getD vs i 0
-head-kept first count blocks vs i h =
-    getD-set-other (set (set vs 0 first) 1 count) 2 i blocks 0 (λ e. omega arith) ∙ getD-set-other (set vs 0 first) 1 i count 0 (λ e. omega arith) ∙ getD-set-other vs 0 i first 0 (λ e. omega arith)
+-- the number of lines stays, and the lines
+pub head-kept : (first blocks : ℕ) (vs : List ℕ) (i : ℕ) → (i ≡ 0 → ⊥) → (i ≡ 2 → ⊥) → getD (two first blocks vs) i 0 ≡ getD vs i 0
+head-kept first blocks vs i a b = getD-set-other (set vs 0 first) 2 i blocks 0 b ∙ getD-set-other vs 0 i first 0 a
 
-pub head-starts : (first count blocks : ℕ) (ns vs : List ℕ) → length vs ≡ 5131 → Headed first count blocks ns (three first count blocks vs) 0 (three first count blocks vs)
-head-starts first count blocks ns vs l = record {
+pub head-starts : (first blocks : ℕ) (ns vs : List ℕ) → length vs ≡ 5131 → Headed first blocks ns (two first blocks vs) 0 (two first blocks vs)
+head-starts first blocks ns vs l = record {
   long = simp length-set l;
   within = omega arith;
-  first-is = getD-set-other (set (set vs 0 first) 1 count) 2 0 blocks 0 (λ e. omega arith) ∙ getD-set-other (set vs 0 first) 1 0 count 0 (λ e. omega arith) ∙ getD-set-same vs 0 first 0 (omega arith);
-  lines-are = getD-set-other (set (set vs 0 first) 1 count) 2 1 blocks 0 (λ e. omega arith) ∙ getD-set-same (set vs 0 first) 1 count 0 (simp length-set (omega arith));
-  blocks-are = getD-set-same (set (set vs 0 first) 1 count) 2 blocks 0 (simp length-set (omega arith));
+  first-is = getD-set-other (set vs 0 first) 2 0 blocks 0 (λ e. omega arith) ∙ getD-set-same vs 0 first 0 (omega arith);
+  lines-are = refl;
+  blocks-are = getD-set-same (set vs 0 first) 2 blocks 0 (simp length-set (omega arith));
   sizes = λ i h. absurd (omega arith);
   kept = λ i h. refl;
 }
 
-module _ (first count blocks : ℕ) (ns vs : List ℕ) where
-  module _ (k : ℕ) (ws : List ℕ) (h : Headed first count blocks ns vs k ws) where
-    pub head-more : k < 8 → Headed first count blocks ns vs (k + 1) (set ws (k + 3) (getD ns k 0))
+module _ (first blocks : ℕ) (ns vs : List ℕ) where
+  module _ (k : ℕ) (ws : List ℕ) (h : Headed first blocks ns vs k ws) where
+    pub head-more : k < 8 → Headed first blocks ns vs (k + 1) (set ws (k + 3) (getD ns k 0))
     head-more l = record {
       long = simp length-set (h .long);
       within = omega arith;
@@ -68,9 +67,9 @@ agree (suc n) [] ys l m h = absurd (omega arith)
 agree (suc n) (x ∷ xs) [] l m h = absurd (omega arith)
 agree (suc n) (x ∷ xs) (y ∷ ys) l m h = ap₂ (λ z zs. z ∷ zs) (h 0 (omega arith)) (agree n xs ys (omega arith) (omega arith) (λ i k. h (suc i) (omega arith)))
 
-pub head-sizes : (first count blocks : ℕ) (ns vs : List ℕ) (k : ℕ) (ws : List ℕ) → Headed first count blocks ns vs k ws → 8 ≤ k → length ns ≡ 8 → sizesOf ws ≡ take blocks ns
+pub head-sizes : (first blocks : ℕ) (ns vs : List ℕ) (k : ℕ) (ws : List ℕ) → Headed first blocks ns vs k ws → 8 ≤ k → length ns ≡ 8 → sizesOf ws ≡ take blocks ns
 unfolding sizesOf
-head-sizes first count blocks ns vs k ws h m l =
+head-sizes first blocks ns vs k ws h m l =
     ap₂ (λ n xs. take n xs) (h .blocks-are)
     (agree 8 (drop 3 ws) ns l (simp length-drop (omega (arith, h .long)))
     (λ i n. let e : 3 + i ≡ i + 3 = omega arith in getD-drop 3 ws i 0 ∙ ap (λ j. getD ws j 0) e ∙ h .sizes i (omega arith)))

@@ -1,12 +1,13 @@
 -- What the code's prices and codes stand for. The parts of a routine are those of file_format/specs/Routine.
-use Rattle.refusals.specs.Library.{ℕ, _+_, _*_, _%_, _≤_, _<_, leb, length, getD, set, List, [], _≡_}
+use Rattle.refusals.specs.Library.{ℕ, zero, suc, _+_, _*_, _%_, _≤_, _<_, leb, length, getD, set, List, [], _≡_}
 use Rattle.file_format.specs.Terms.{find, Place}
+use Rattle.text.specs.Text.{Line}
 use Rattle.numbers.specs.declared.Range.{Range}
 use Rattle.numbers.specs.Numbers.{naturals}
 use Rattle.text.specs.declared.Place.the-variants.{At, Missing}
 use Rattle.instructions.specs.Kinds.{Kind, calls, kindNames, kindAt}
 use Rattle.instructions.specs.HeldColumns.{operationCode}
-use Rattle.file_format.specs.Layout.{list}
+use Rattle.file_format.specs.Layout.{upToAnswer, codeLines, list}
 use Rattle.file_format.specs.Rows.{cycleCounts, wordCounts, extraCounts}
 use Rattle.file_format.specs.Routine.{naturalAt, PriceList}
 
@@ -51,3 +52,8 @@ pub record KindsKept (ks : PriceList) (xs : List (List ℕ)) (ws : List ℕ) : T
 -- the five words of a line put over those from place k on
 abbrev pub putLine : List ℕ → ℕ → ℕ → ℕ → ℕ → ℕ → ℕ → List ℕ
 putLine ws k b o c w x = set (set (set (set (set ws k b) (k + 1) o) (k + 2) c) (k + 3) w) (k + 4) x
+
+-- the code lines among those that are left of a routine's after n of them: the first of all is one, and so are those up to a line ANSWER
+unfoldable pub codeLeft : ℕ → List Line → List Line
+codeLeft zero ls = codeLines ls
+codeLeft (suc n) ls = upToAnswer ls

@@ -15,22 +15,23 @@ ghost use Prim.Native.Nat.{ℕ, _+_, _*_, _%_, _≤_, _<_};
 ghost use lib.Dec.{ltb};
 ghost use lib.IntN.{pos};
 ghost use lib.ListN.{length, getD, take, drop};
-ghost use Rattle.text.specs.Text.{lines, placeAmong, indexOf, find};
+ghost use Rattle.text.specs.Text.{lines, noLine, indexOf, find};
 ghost use Rattle.text.specs.declared.Place.the-variants.{At};
 ghost use Rattle.numbers.specs.Numbers.{IsNumber, numbers, residue};
 ghost use Rattle.cells.specs.Cells.{exactly};
-ghost use Rattle.instructions.specs.Kinds.{operand, kindNames, kindAt};
+ghost use Rattle.instructions.specs.Kinds.{operand, kindAt};
 ghost use Rattle.machine_state.specs.HeldProgram.{firstOf, linesIn, blocksIn, sizesOf, line, lineOf, linesFrom};
 ghost use Rattle.machine_state.specs.HeldState.{view, WellFormed, blocksOf};
 ghost use Rattle.file_format.specs.declared.Section.the-variants.{Kinds, Primitives};
 ghost use Rattle.file_format.specs.declared.Column.the-variants.{Extra};
 ghost use Rattle.file_format.specs.declared.Role.the-variants.{Values};
-ghost use Rattle.file_format.specs.Layout.{list, listed};
+ghost use Rattle.file_format.specs.Layout.{codeLines, list, listed};
+ghost use Rattle.file_format.specs.HeldLayout.{Starts};
 ghost use Rattle.file_format.specs.Rows.{value, total, op, arg};
 ghost use Rattle.file_format.specs.Routine.{inside, naturalAt, PriceList, priceList, argumentValue, instructionOf, cellsOf, blocksInLine, startOf};
 ghost use Rattle.file_values.specs.HeldValues.{NaturalRange};
 ghost use Rattle.file_code.specs.HeldCode.{Cut};
-ghost use Rattle.file_parts.specs.HeldParts.{PriceRange, pricesOn, Coded, slotOf, PriceAt, KindsKept, putLine};
+ghost use Rattle.file_parts.specs.HeldParts.{PriceRange, pricesOn, Coded, slotOf, PriceAt, KindsKept, putLine, codeLeft};
 
 // ---- the words of a line
 
@@ -178,28 +179,53 @@ fn is_kept(slot: usize) -> u32
     if slot < 305 { 1 } else { 0 }
 }
 
-// The slot of the kind that `op` names: its code, 1 once it is kept, and the cycles, the words and the extra that the four lines of the
-// kinds' prices list. They are searched when the kind is met for the first time.
+// The word OP of a code line that is cut into its words.
+fn op_in(line: &[u8], cut: CodeWords) -> &[u8]
+    requires { ⌜ Cut (now line) cut ⌝ }
+    ensures { λ r. ⌜ now r ≡ op (now (line .entry)) ⌝ }
+{
+    let e = cut.at;
+    let f = cut.op;
+    let rest = file_code::after_word(line, e);
+    &rest[..f]
+}
+
+// The word ARG of such a line.
+fn arg_in(line: &[u8], cut: CodeWords) -> &[u8]
+    requires { ⌜ Cut (now line) cut ⌝ }
+    ensures { λ r. ⌜ now r ≡ arg (now (line .entry)) ⌝ }
+{
+    let e = cut.at;
+    let f = cut.op;
+    let g = cut.arg;
+    let rest = file_code::after_word(line, e);
+    let last = file_code::after_word(rest, f);
+    &last[..g]
+}
+
+// The slot of the kind of a code line that is cut into its words: its code, 1 once it is kept, and the cycles, the words and the extra that the
+// four lines of the kinds' prices list. They are searched when the kind is met for the first time.
 fn find_price(
     kept: &mut [u32; 310],
     kinds: &[u8],
     cycles: &[u8],
     words: &[u8],
     extras: &[u8],
-    kind: Place,
-    op: &[u8],
+    text: &[u8],
+    cut: CodeWords,
 ) -> usize
-    requires { ⌜ kind ≡ placeAmong (now op) kindNames ⌝ }
+    requires { ⌜ Cut (now text) cut ⌝ }
     requires { ⌜ KindsKept (pricesOn (now kinds) (now cycles) (now words)) (list (now extras)) (now kept) ⌝ }
-    ensures slot { λ r. ⌜ r ≡ slotOf kind ⌝ }
-    ensures price { λ r. ⌜ PriceAt (pricesOn (now (kinds .entry)) (now (cycles .entry)) (now (words .entry))) (list (now (extras .entry))) (now (op .entry)) (now (kept .exit)) r ⌝ }
+    ensures slot { λ r. ⌜ r ≡ slotOf (cut .kind) ⌝ }
+    ensures price { λ r. ⌜ PriceAt (pricesOn (now (kinds .entry)) (now (cycles .entry)) (now (words .entry))) (list (now (extras .entry))) (op (now (text .entry))) (now (kept .exit)) r ⌝ }
     ensures kept { λ _. ⌜ KindsKept (pricesOn (now (kinds .entry)) (now (cycles .entry)) (now (words .entry))) (list (now (extras .entry))) (now (kept .exit)) ⌝ }
 {
+    let kind = cut.kind;
     let slot = slot_of(kind);
     if kept[slot + 1] == 1 {
         return slot;
     }
-    let i = file_layout::index_listed(kinds, op);
+    let i = file_layout::index_listed(kinds, op_in(text, cut));
     let code = code_of(text::index_of(kind));
     kept[slot] = code as u32;
     kept[slot + 1] = is_kept(slot);
@@ -229,30 +255,6 @@ fn place_called(called: bool, primitives: &[u8], w: &[u8]) -> usize
         return file_layout::index_listed(primitives, w);
     }
     0
-}
-
-// The word OP of a code line that is cut into its words.
-fn op_in(line: &[u8], cut: CodeWords) -> &[u8]
-    requires { ⌜ Cut (now line) cut ⌝ }
-    ensures { λ r. ⌜ now r ≡ op (now (line .entry)) ⌝ }
-{
-    let e = cut.at;
-    let f = cut.op;
-    let rest = file_code::after_word(line, e);
-    &rest[..f]
-}
-
-// The word ARG of such a line.
-fn arg_in(line: &[u8], cut: CodeWords) -> &[u8]
-    requires { ⌜ Cut (now line) cut ⌝ }
-    ensures { λ r. ⌜ now r ≡ arg (now (line .entry)) ⌝ }
-{
-    let e = cut.at;
-    let f = cut.op;
-    let g = cut.arg;
-    let rest = file_code::after_word(line, e);
-    let last = file_code::after_word(rest, f);
-    &last[..g]
 }
 
 // The entry of a code line that is cut into its words, of a kind that takes `takes`, by the kind's slot and the three lines of the primitives'
@@ -301,11 +303,33 @@ fn put_entry(code: &mut [u32; 5131], n: usize, entry: Entry)
     code[k + 4] = entry.extra;
 }
 
-// The first `count` lines of `body` as the lines of a program, by the seven lines of prices in `text`. Its head is not filled in.
-pub fn lines_of(text: &[u8], body: &[u8], count: usize) -> [u32; 5131]
-    requires { ⌜ (count ≤ 1024) × (count ≤ length (lines (now body))) ⌝ }
-    ensures instructions { λ r. ⌜ linesFrom r count 11 ≡ map (λ l. instructionOf (priceList Kinds (lines (now (text .entry)))) (listed (Values Kinds Extra) (lines (now (text .entry)))) (priceList Primitives (lines (now (text .entry)))) (l .text)) (take count (lines (now (body .entry)))) ⌝ }
-    ensures known { λ r. ⌜ ((j : ℕ) → j < count → getD r (11 + j * 5) 0 % 32 ≤ 22) ⌝ }
+// Whether the first line of what is left after n lines is code: the first of all is, and those up to a line ANSWER.
+fn is_code(rest: &[u8], n: usize, line: &[u8]) -> bool
+    requires { ⌜ now line ≡ getD (lines (now rest)) 0 noLine .text ⌝ }
+    ensures { λ r. ⌜ r ≡ ltb 0 (length (codeLeft n (lines (now (rest .entry))))) ⌝ }
+{
+    if rest.len() == 0 {
+        return false;
+    }
+    if n == 0 {
+        return true;
+    }
+    !text::same(line, b"ANSWER")
+}
+
+// Fills in the lines of a program, and how many there are, by the code lines that `body` begins with and the seven lines of prices in `text`, which
+// begin at `places`. What is left of `body` comes back. The rest of the head is not filled in.
+pub fn put_lines<'a>(
+    code: &mut [u32; 5131],
+    text: &[u8],
+    places: &[usize; 15],
+    body: &'a [u8],
+) -> &'a [u8]
+    requires { ⌜ (length (now code) ≡ 5131) × Starts (now text) (now places) × (length (codeLines (lines (now body))) ≤ 1024) ⌝ }
+    ensures count { λ _. ⌜ (length (now (code .exit)) ≡ 5131) × (linesIn (now (code .exit)) ≡ length (codeLines (lines (now (body .entry))))) ⌝ }
+    ensures instructions { λ _. ⌜ linesFrom (now (code .exit)) (linesIn (now (code .exit))) 11 ≡ map (λ l. instructionOf (priceList Kinds (lines (now (text .entry)))) (listed (Values Kinds Extra) (lines (now (text .entry)))) (priceList Primitives (lines (now (text .entry)))) (l .text)) (codeLines (lines (now (body .entry)))) ⌝ }
+    ensures known { λ _. ⌜ ((j : ℕ) → j < linesIn (now (code .exit)) → getD (now (code .exit)) (11 + j * 5) 0 % 32 ≤ 22) ⌝ }
+    ensures rest { λ r. ⌜ lines (now r) ≡ drop (length (codeLines (lines (now (body .entry))))) (lines (now (body .entry))) ⌝ }
 {
     let keyed = instructions::keyed_kinds();
     let starts = instructions::name_starts();
@@ -313,63 +337,63 @@ pub fn lines_of(text: &[u8], body: &[u8], count: usize) -> [u32; 5131]
     let codes = instructions::argument_codes();
     let lows = instructions::range_lows();
     let highs = instructions::range_highs();
-    let kinds = file_layout::text_of(text, Role::Names(Section::Kinds));
-    let kind_cycles = file_layout::text_of(text, Role::Values(Section::Kinds, Column::Cycles));
-    let kind_words = file_layout::text_of(text, Role::Values(Section::Kinds, Column::Words));
-    let kind_extras = file_layout::text_of(text, Role::Values(Section::Kinds, Column::Extra));
-    let primitives = file_layout::text_of(text, Role::Names(Section::Primitives));
-    let cycles = file_layout::text_of(text, Role::Values(Section::Primitives, Column::Cycles));
-    let words = file_layout::text_of(text, Role::Values(Section::Primitives, Column::Words));
-    let mut code = [0u32; 5131];
+    let kinds = file_layout::line_in(text, places, Role::Names(Section::Kinds));
+    let kind_cycles = file_layout::line_in(
+        text,
+        places,
+        Role::Values(Section::Kinds, Column::Cycles),
+    );
+    let kind_words = file_layout::line_in(
+        text,
+        places,
+        Role::Values(Section::Kinds, Column::Words),
+    );
+    let extras = file_layout::line_in(text, places, Role::Values(Section::Kinds, Column::Extra));
+    let primitives = file_layout::line_in(text, places, Role::Names(Section::Primitives));
+    let cycles = file_layout::line_in(
+        text,
+        places,
+        Role::Values(Section::Primitives, Column::Cycles),
+    );
+    let words = file_layout::line_in(
+        text,
+        places,
+        Role::Values(Section::Primitives, Column::Words),
+    );
     let mut kept = [0u32; 310];
     let mut rest = body;
+    let mut line = text::first_line(rest);
     let mut n = 0;
-    while n < count {
-        let line = text::first_line(rest);
+    while is_code(rest, n, line) {
         let cut = file_code::cut_code(line, &keyed, &starts, &table);
+        let slot = find_price(&mut kept, kinds, kind_cycles, kind_words, extras, line, cut);
         let kind = cut.kind;
-        let op = op_in(line, cut);
-        let slot = find_price(
-            &mut kept,
-            kinds,
-            kind_cycles,
-            kind_words,
-            kind_extras,
-            kind,
-            op,
-        );
         let k = text::index_of(kind);
         let takes = instructions::argument_in(&codes, &lows, &highs, Place::At(k));
         let entry = entry_of(&kept, slot, takes, primitives, cycles, words, line, cut);
-        put_entry(&mut code, n, entry);
+        put_entry(code, n, entry);
         let next = text::after_line(rest, line.len());
         rest = next;
+        line = text::first_line(rest);
         n += 1;
     }
-    code
+    code[1] = n as u32;
+    rest
 }
 
-// A program with its head: the first address, the number of lines, the number of blocks and their sizes.
-pub fn with_head(
-    mut code: [u32; 5131],
-    first: usize,
-    count: usize,
-    sizes: [u8; 8],
-    present: usize,
-) -> [u32; 5131]
-    requires { ⌜ (first ≤ 60000) × (count ≤ 1024) × (present ≤ 8) ⌝ }
-    ensures head { λ r. ⌜ (firstOf r ≡ first) × (linesIn r ≡ count) × (sizesOf r ≡ take present sizes) × (blocksIn r ≡ present) ⌝ }
-    ensures kept { λ r. ⌜ ((i : ℕ) → 11 ≤ i → getD r i 0 ≡ getD code i 0) ⌝ }
+// Fills in the head of a program but for the number of its lines: the first address, the number of blocks and their sizes.
+pub fn put_head(code: &mut [u32; 5131], first: usize, sizes: [u8; 8], present: usize)
+    requires { ⌜ (length (now code) ≡ 5131) × (first ≤ 60000) × (present ≤ 8) ⌝ }
+    ensures head { λ _. ⌜ (firstOf (now (code .exit)) ≡ first) × (sizesOf (now (code .exit)) ≡ take present sizes) × (blocksIn (now (code .exit)) ≡ present) ⌝ }
+    ensures kept { λ _. ⌜ (length (now (code .exit)) ≡ 5131) × (linesIn (now (code .exit)) ≡ linesIn (now (code .entry))) × ((i : ℕ) → 11 ≤ i → getD (now (code .exit)) i 0 ≡ getD (now (code .entry)) i 0) ⌝ }
 {
     code[0] = first as u32;
-    code[1] = count as u32;
     code[2] = present as u32;
     let mut k = 0;
     while k < 8 {
         code[k + 3] = sizes[k] as u32;
         k += 1;
     }
-    code
 }
 
 // ---- fields

@@ -6,6 +6,7 @@ use native.Mathlib.Omega.{arith}
 use native.Mathlib.Numerals.{add-one}
 use lib.IntN.{ℤ}
 use lib.ListN.{length, getD, take, drop, length-take}
+use lib.Seq.{drop-drop}
 use Rattle.text.specs.Text.{Line}
 use Rattle.numbers.specs.declared.Range.{Range}
 use Rattle.numbers.specs.Numbers.{numbers}
@@ -27,65 +28,46 @@ use Rattle.file_format.specs.Rows.{Passes, value, blockSizes, total, firstAt, b
 use Rattle.file_format.specs.Routine.{inside, naturalAt, priceList, instructionOf, firstAddress, cellsOf, startOf, routineOf}
 use Rattle.file_format.specs.Routine as readings
 use Rattle.file_format.proofs.RangeLaws.{budget-small}
-use Rattle.file_format.proofs.PassingLaws.{code-among, first-small, answers-few, cells-small, fields-total}
+use Rattle.file_format.proofs.PassingLaws.{first-small, answers-few, cells-small, fields-total}
 use Rattle.file_format.proofs.PassingLaws as passing
 use Rattle.file_names.specs.declared.Blocks.{Blocks}
 use Rattle.file_names.specs.HeldNames.{BlocksOf}
 use Rattle.file_format.proofs.CodeLineLaws.{answer-drop}
-use Rattle.file_parts.proofs.PartLaws.{instructions-in, answers-in, start-whole}
-use Rattle.file_reader.specs.HeldRoutine.{BodyLines, HoldsCode}
+use Rattle.file_parts.proofs.PartLaws.{answers-in, start-whole}
 
 -- ---- the first address
 
 pub first-low : (ms : List Line) (n : ℕ) → n ≡ firstAddress ms → n ≤ 60000
 first-low ms n e = rw e (first-small (firstAt ms))
 
--- ---- the code
-
-module _ (ls ms : List Line) (count : ℕ) (x : BodyLines ls ms count) where
-  pub counted-few : (count ≤ 1024) × (count ≤ length ms)
-  counted-few = (x .few, rw (x .after, x .counted) (code-among (body ls)))
-
-  pub code-held : (r : List ℕ)
-      → linesFrom r count 11 ≡ map (λ l. instructionOf (priceList kinds ls) (listed (values kinds extra) ls) (priceList primitives ls) (l .text)) (take count ms)
-      → ((j : ℕ) → j < count → getD r (11 + j * 5) 0 % 32 ≤ 22) → HoldsCode ls count r
-  code-held r h k = record {
-    instructions =
-        h ∙ ap₂ (λ n (xs : List Line). map (λ (l : Line). instructionOf (priceList kinds ls) (listed (values kinds extra) ls) (priceList primitives ls) (l .text)) (take n xs)) (x .counted) (x .after) ∙ sym (instructions-in ls);
-    known = k;
-  }
-
 -- ---- the lines after the layout
 
-module _ (ls : List Line) (p : Passes ls) (ms : List Line) (after : ms ≡ body ls) (count : ℕ) (counts : count ≡ length (codeLines ms)) where
-  code-counted : count ≡ length (codeLines (body ls))
-  code-counted = counts ∙ ap (λ xs. length (codeLines xs)) after
+module _ (ls : List Line) (p : Passes ls) (ms : List Line) (after : ms ≡ body ls) where
+  pub code-small : length (codeLines ms) ≤ 1024
+  code-small = rw after (passing.code-few ls (p .layout))
 
-  code-small : count ≤ 1024
-  code-small = rw code-counted (passing.code-few ls (p .layout))
-
-  pub counted : BodyLines ls ms count
-  counted = record { after = after; counted = code-counted; few = code-small }
-
-  module _ (rest : List Line) (left : rest ≡ drop (count + 1) ms) where
-    answer-lines : rest ≡ drop (suc (length (codeLines (body ls)))) (body ls)
+  -- rest is left after the code, and next after the line ANSWER
+  module _ (rest next : List Line) (left : rest ≡ drop (length (codeLines ms)) ms) (then : next ≡ drop 1 rest) where
+    answer-lines : next ≡ drop (suc (length (codeLines (body ls)))) (body ls)
     answer-lines =
-        let n : count + 1 ≡ suc (length (codeLines (body ls))) = add-one count ∙ ap suc code-counted in
-        left ∙ ap₂ (λ k (xs : List Line). drop k xs) n after
+        then ∙ ap (drop 1) left ∙ drop-drop 1 (length (codeLines ms)) ms ∙ ap (λ k. drop k ms) (add-one (length (codeLines ms)))
+        ∙ ap (λ (xs : List Line). drop (suc (length (codeLines xs))) xs) after
 
-    pub answers-small : length rest ≤ 64
+    pub answers-small : length next ≤ 64
     answers-small = rw (answer-lines ∙ sym (answer-drop (body ls))) (answers-few ls (p .layout))
 
-    pub answers-held : (vs : List ℤ) → vs ≡ map (λ l. inside numbers (value (l .text))) rest → vs ≡ routineOf ls .answers
+    pub answers-held : (vs : List ℤ) → vs ≡ map (λ l. inside numbers (value (l .text))) next → vs ≡ routineOf ls .answers
     answers-held vs e = e ∙ ap (map (λ (l : Line). inside numbers (value (l .text)))) answer-lines ∙ sym (answers-in ls)
 
-  -- the program ws has its head, and the lines vs after it
-  pub code-is : (ws vs : List ℕ) → firstOf ws ≡ firstAddress ms → linesIn ws ≡ count → ((i : ℕ) → 11 ≤ i → getD ws i 0 ≡ getD vs i 0) → linesFrom vs count 11 ≡ readings.codeIn ls .instructions
+  -- the program ws has its head, and its lines are those of vs, the code lines
+  pub code-is : (ws vs : List ℕ) → firstOf ws ≡ firstAddress ms → linesIn ws ≡ linesIn vs → ((i : ℕ) → 11 ≤ i → getD ws i 0 ≡ getD vs i 0)
+      → linesFrom vs (linesIn vs) 11 ≡ map (λ l. instructionOf (priceList kinds ls) (listed (values kinds extra) ls) (priceList primitives ls) (l .text)) (codeLines ms)
       → programOf ws ≡ routineOf ls .code
   unfolding programOf readings.codeIn routineOf
   code-is ws vs f l k e =
       ap₂ (λ n ins. record { first = n; instructions = ins }) (f ∙ ap firstAddress after)
-      (ap (λ n. linesFrom ws n 11) l ∙ lines-agree ws vs count 11 (λ i h _. k i h) ∙ e)
+      (ap (λ n. linesFrom ws n 11) l ∙ lines-agree ws vs (linesIn vs) 11 (λ i h _. k i h) ∙ e
+      ∙ ap (λ xs. map (λ (l : Line). instructionOf (priceList kinds ls) (listed (values kinds extra) ls) (priceList primitives ls) (l .text)) (codeLines xs)) after)
 
   pub first-is : (first : ℕ) → first ≡ firstAddress ms → first ≡ readings.codeIn ls .first
   unfolding readings.codeIn
