@@ -92,20 +92,20 @@ typedef struct {
  * that a call wrote to, of those tried (32 openings, 1,024 lines of code, as many instructions of words, the examples,
  * files of seeds). Each call was made on no more stack than the macro says. This is measured (tests/stack.c), not
  * proved. */
-#define TICKBOUND_DECIDE_STACK (2304 * 1024)        /* 1,735 */
-#define TICKBOUND_MERGE_STACK (2048 * 1024)         /* 1,695 */
-#define TICKBOUND_EXPLAIN_MERGE_STACK (2304 * 1024) /* 1,715 */
+#define TICKBOUND_DECIDE_STACK (2304 * 1024)        /* 1,758 */
+#define TICKBOUND_MERGE_STACK (2048 * 1024)         /* 1,676 */
+#define TICKBOUND_EXPLAIN_MERGE_STACK (2304 * 1024) /* 1,696 */
 #define TICKBOUND_SPLIT_STACK (2560 * 1024)         /* 1,823 */
 #define TICKBOUND_DECIDE_SPLIT_STACK (2560 * 1024)  /* 1,823 */
-#define TICKBOUND_PREVIEW_STACK (256 * 1024)        /* 161 */
-#define TICKBOUND_EXPLAIN_STACK (256 * 1024)        /* 138 */
-#define TICKBOUND_NEAREST_STACK (256 * 1024)        /* 143 */
-#define TICKBOUND_BOUND_STACK (256 * 1024)          /* 129 */
-#define TICKBOUND_REPLAY_STACK (128 * 1024)         /* 78 */
-#define TICKBOUND_TRACE_STACK (128 * 1024)          /* 80 */
-#define TICKBOUND_RUN_STACK (128 * 1024)            /* 70 */
+#define TICKBOUND_PREVIEW_STACK (256 * 1024)        /* 184 */
+#define TICKBOUND_EXPLAIN_STACK (256 * 1024)        /* 160 */
+#define TICKBOUND_NEAREST_STACK (256 * 1024)        /* 164 */
+#define TICKBOUND_BOUND_STACK (256 * 1024)          /* 152 */
+#define TICKBOUND_REPLAY_STACK (128 * 1024)         /* 59 */
+#define TICKBOUND_TRACE_STACK (128 * 1024)          /* 64 */
+#define TICKBOUND_RUN_STACK (128 * 1024)            /* 54 */
 #define TICKBOUND_IMPORT_STACK (64 * 1024)          /* 9 */
-#define TICKBOUND_EXPORT_STACK (64 * 1024)          /* 9 */
+#define TICKBOUND_EXPORT_STACK (64 * 1024)          /* 8 */
 #define TICKBOUND_GENERATE_STACK (64 * 1024)        /* 1 */
 
 /* Report memory that is enough for every report; with less a call is refused by 10. */
