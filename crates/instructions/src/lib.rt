@@ -301,14 +301,25 @@ pub fn kind_coded(coded: &[u8; 144], opcode: u32) -> Place
     if k < 61 { Place::At(k) } else { Place::Missing }
 }
 
-// Puts the name of a kind over out from `at` on, and answers where it ends.
+// Puts the name of a kind over out from `at` on, and answers where it ends. The two tables are lent, as to `kind_in`.
+pub fn put_name_in(out: &mut [u8], at: usize, starts: &[u16; 62], names: &[u8], k: usize) -> usize
+    requires { ⌜ Begins (now starts) × Joined (now names) ⌝ }
+    requires { ⌜ (k < 61) × (at + length (kindAt k .name) ≤ length (now out)) ⌝ }
+    ensures { λ r. ⌜ r ≡ at + length (kindAt k .name) ⌝ }
+    ensures { λ _. ⌜ now (out .exit) ≡ over (now (out .entry)) at (kindAt k .name) ⌝ }
+{
+    let start = name_start(starts, k);
+    let next = name_start(starts, k + 1);
+    text_decimals::put(out, at, &names[start..next - 1])
+}
+
+// The same with tables of its own.
 pub fn put_name(out: &mut [u8], at: usize, k: usize) -> usize
     requires { ⌜ (k < 61) × (at + length (kindAt k .name) ≤ length (now out)) ⌝ }
     ensures { λ r. ⌜ r ≡ at + length (kindAt k .name) ⌝ }
     ensures { λ _. ⌜ now (out .exit) ≡ over (now (out .entry)) at (kindAt k .name) ⌝ }
 {
     let starts = name_starts();
-    let start = name_start(&starts, k);
-    let next = name_start(&starts, k + 1);
-    text_decimals::put(out, at, &columns::NAMES[start..next - 1])
+    let names = all_names();
+    put_name_in(out, at, &starts, &names, k)
 }

@@ -29,7 +29,7 @@ use Rattle.words.proofs.HeadLaws.{Read, size-small}
 use Rattle.words.proofs.FaultLaws.{fault-unread}
 use Rattle.words.proofs.NumberingLaws.{sound-read}
 use Rattle.words.proofs.OffsetLaws.{number-in}
-use Rattle.words_import.specs.HeldLines.{argumentIn, lineIn, ShortNames}
+use Rattle.words_import.specs.HeldLines.{opIn, argumentIn, lineIn, ShortNames}
 use Rattle.words_import.proofs.LengthLaws.{Addresses, line-short}
 
 -- ---- the line is the definition's
@@ -42,7 +42,7 @@ argument-same ps d i k z Primitive = refl
 argument-same ps d i k z (Within r) = refl
 
 line-same : (ps : List (List ℕ)) {xs : List Item} {t : List ℕ} → Numbered xs t → (n i k : ℕ) (z : ℤ) → lineIn ps t n i k z ≡ lineText ps xs n (itemOf i k z)
-unfolding lineIn lineText
+unfolding opIn lineIn lineText
 line-same ps d n i k z =
     ap (λ a. decimal n ++ bytes " " ++ kindAt k .name ++ bytes " " ++ a ++ bytes "\n") (argument-same ps d i k z (kindAt k .argument))
 

@@ -7,6 +7,10 @@ use Rattle.instructions.specs.declared.Argument.the-variants.{Absent, Target, P
 use Rattle.instructions.specs.Kinds.{kindAt}
 use Rattle.words.specs.Held.{numberIn}
 
+-- AT and OP of instruction n, of kind k, each with the space after it
+unfoldable pub opIn : ℕ → ℕ → List ℕ
+opIn n k = decimal n ++ bytes " " ++ kindAt k .name ++ bytes " "
+
 -- ARG of the instruction with its opcode at index i and the argument word z, where ps are the primitives and t the table of positions
 unfoldable pub argumentIn : List (List ℕ) → List ℕ → ℕ → ℤ → Argument → List ℕ
 argumentIn ps t i z Absent = bytes "-"
@@ -16,7 +20,7 @@ argumentIn ps t i z (Within r) = integer z
 
 -- the line of instruction n, of kind k
 unfoldable pub lineIn : List (List ℕ) → List ℕ → ℕ → ℕ → ℕ → ℤ → List ℕ
-lineIn ps t n i k z = decimal n ++ bytes " " ++ kindAt k .name ++ bytes " " ++ argumentIn ps t i z (kindAt k .argument) ++ bytes "\n"
+lineIn ps t n i k z = opIn n k ++ argumentIn ps t i z (kindAt k .argument) ++ bytes "\n"
 
 -- no name is longer than a primitive's may be: "1 to 8 characters"
 pub record ShortNames (ps : List (List ℕ)) : Type 0 where

@@ -11,7 +11,7 @@ ghost use Prim.Native.Nat.{_+_, _*_, _≤_, _<_};
 ghost use mathlib.Core.List.{_++_};
 ghost use lib.ListN.{length, drop};
 ghost use Rattle.text_decimals.specs.Memory.{over};
-ghost use Rattle.instructions.specs.Kinds.{kindAt};
+ghost use Rattle.instructions.specs.HeldColumns.{Begins, Joined};
 ghost use Rattle.file_format.specs.Layout.{list};
 ghost use Rattle.words.specs.Words.{wordsOf};
 ghost use Rattle.words.specs.Decoding.{decoded, items};
@@ -19,23 +19,37 @@ ghost use Rattle.words.specs.Lines.{linesFrom, codeText};
 ghost use Rattle.words.specs.Import.{lineVerdict, primitivesVerdict, faultVerdict, importVerdict, importText};
 ghost use Rattle.refusals.specs.declared.Acceptance.the-variants.{Accepted};
 ghost use Rattle.words.specs.Held.{Readable, Numbered};
-ghost use Rattle.words_import.specs.HeldLines.{argumentIn, lineIn, ShortNames};
+ghost use Rattle.words_import.specs.HeldLines.{opIn, argumentIn, ShortNames};
 
-// Puts ARG over out from `at` on, and answers where it ends.
+// Puts AT and OP of instruction n, which is of kind k, over out from `at` on, each with the space after it, and answers where they end. The two
+// tables are those of `instructions::put_name_in`.
+fn put_op(out: &mut [u8], at: usize, starts: &[u16; 62], names: &[u8], n: usize, k: usize) -> usize
+    requires { ⌜ Begins (now starts) × Joined (now names) ⌝ }
+    requires { ⌜ (k < 61) × (at + length (opIn n k) ≤ length (now out)) ⌝ }
+    ensures { λ r. ⌜ r ≡ at + length (opIn n k) ⌝ }
+    ensures { λ _. ⌜ now (out .exit) ≡ over (now (out .entry)) at (opIn n k) ⌝ }
+{
+    let a = text_decimals::put_decimal(out, at, n as u64);
+    let b = text_decimals::put(out, a, b" ");
+    let c = instructions::put_name_in(out, b, starts, names, k);
+    text_decimals::put(out, c, b" ")
+}
+
+// Puts ARG of a kind that takes `takes` over out from `at` on, and answers where it ends.
 fn put_argument(
     out: &mut [u8],
     at: usize,
     primitives: &[u8],
     numbers: &[u16],
     index: usize,
-    k: usize,
+    takes: Argument,
     argument: i32,
 ) -> usize
-    requires { ⌜ (k < 61) × (index < 2048) × (at + length (argumentIn (list (now primitives)) (now numbers) index argument (kindAt k .argument)) ≤ length (now out)) ⌝ }
-    ensures { λ r. ⌜ r ≡ at + length (argumentIn (list (now (primitives .entry))) (now (numbers .entry)) index argument (kindAt k .argument)) ⌝ }
-    ensures { λ _. ⌜ now (out .exit) ≡ over (now (out .entry)) at (argumentIn (list (now (primitives .entry))) (now (numbers .entry)) index argument (kindAt k .argument)) ⌝ }
+    requires { ⌜ (index < 2048) × (at + length (argumentIn (list (now primitives)) (now numbers) index argument takes) ≤ length (now out)) ⌝ }
+    ensures { λ r. ⌜ r ≡ at + length (argumentIn (list (now (primitives .entry))) (now (numbers .entry)) index argument takes) ⌝ }
+    ensures { λ _. ⌜ now (out .exit) ≡ over (now (out .entry)) at (argumentIn (list (now (primitives .entry))) (now (numbers .entry)) index argument takes) ⌝ }
 {
-    match instructions::argument_at(k) {
+    match takes {
         Argument::Absent => text_decimals::put(out, at, b"-"),
         Argument::Target => {
             let n = text::index_of(words::number_at(numbers, words::landing(index, argument)));
@@ -49,29 +63,6 @@ fn put_argument(
     }
 }
 
-// Puts the line of instruction n over out from `at` on, and answers where it ends.
-fn put_line(
-    out: &mut [u8],
-    at: usize,
-    primitives: &[u8],
-    numbers: &[u16],
-    n: usize,
-    index: usize,
-    k: usize,
-    argument: i32,
-) -> usize
-    requires { ⌜ (k < 61) × (index < 2048) × (at + length (lineIn (list (now primitives)) (now numbers) n index k argument) ≤ length (now out)) ⌝ }
-    ensures { λ r. ⌜ r ≡ at + length (lineIn (list (now (primitives .entry))) (now (numbers .entry)) n index k argument) ⌝ }
-    ensures { λ _. ⌜ now (out .exit) ≡ over (now (out .entry)) at (lineIn (list (now (primitives .entry))) (now (numbers .entry)) n index k argument) ⌝ }
-{
-    let a = text_decimals::put_decimal(out, at, n as u64);
-    let b = text_decimals::put(out, a, b" ");
-    let c = instructions::put_name(out, b, k);
-    let d = text_decimals::put(out, c, b" ");
-    let e = put_argument(out, d, primitives, numbers, index, k, argument);
-    text_decimals::put(out, e, b"\n")
-}
-
 // Puts the lines of all instructions over out from `at` on, and answers where they end.
 fn put_lines(out: &mut [u8], at: usize, primitives: &[u8], numbers: &[u16], words: &[u8]) -> usize
     requires { ⌜ Readable (wordsOf (now words)) × Numbered (items (decoded (wordsOf (now words)))) (now numbers) × ShortNames (list (now primitives)) × (at + 30 * 1024 ≤ length (now out)) ⌝ }
@@ -79,6 +70,11 @@ fn put_lines(out: &mut [u8], at: usize, primitives: &[u8], numbers: &[u16], word
     ensures { λ _. ⌜ now (out .exit) ≡ over (now (out .entry)) at (linesFrom (list (now (primitives .entry))) (items (decoded (wordsOf (now (words .entry))))) 0 (items (decoded (wordsOf (now (words .entry)))))) ⌝ }
 {
     let coded = instructions::coded_kinds();
+    let starts = instructions::name_starts();
+    let names = instructions::all_names();
+    let codes = instructions::argument_codes();
+    let lows = instructions::range_lows();
+    let highs = instructions::range_highs();
     let mut e = at;
     let mut rest = words;
     let mut index: usize = 0;
@@ -87,7 +83,10 @@ fn put_lines(out: &mut [u8], at: usize, primitives: &[u8], numbers: &[u16], word
         let Head::Instruction(k, argument) = words::read_head(&coded, rest) else {
             return e;
         };
-        e = put_line(out, e, primitives, numbers, count, index, k, argument);
+        let a = put_op(out, e, &starts, &names, count, k);
+        let takes = instructions::argument_in(&codes, &lows, &highs, Place::At(k));
+        let b = put_argument(out, a, primitives, numbers, index, takes, argument);
+        e = text_decimals::put(out, b, b"\n");
         let next = words::after(k, rest);
         rest = next;
         index += words::size_of(k);
