@@ -1,9 +1,10 @@
-// The parts of the routine that a text holds, as arrays by value. The meaning is in specs/ here and of `file_format`.
+// The parts of the routine that a text holds, as arrays. The meaning is in specs/ here and of `file_format`.
 use cells::Cell;
 use file_code::CodeWords;
 use file_format::Column;
 use file_format::Role;
 use file_format::Section;
+use file_layout::line_in;
 use instructions::Argument;
 use machine_state::State;
 use numbers::Range;
@@ -317,8 +318,8 @@ fn is_code(rest: &[u8], n: usize, line: &[u8]) -> bool
     !text::same(line, b"ANSWER")
 }
 
-// Fills in the lines of a program, and how many there are, by the code lines that `body` begins with and the seven lines of prices in `text`, which
-// begin at `places`. What is left of `body` comes back. The rest of the head is not filled in.
+// Fills in the lines of a program, and how many there are, by the code lines that `body` begins with and the seven lines of prices in `text`, where
+// `places` says where the lines of the layout begin. What is left of `body` comes back. The rest of the head is not filled in.
 pub fn put_lines<'a>(
     code: &mut [u32; 5131],
     text: &[u8],
@@ -337,25 +338,17 @@ pub fn put_lines<'a>(
     let codes = instructions::argument_codes();
     let lows = instructions::range_lows();
     let highs = instructions::range_highs();
-    let kinds = file_layout::line_in(text, places, Role::Names(Section::Kinds));
-    let kind_cycles = file_layout::line_in(
-        text,
-        places,
-        Role::Values(Section::Kinds, Column::Cycles),
-    );
-    let kind_words = file_layout::line_in(
-        text,
-        places,
-        Role::Values(Section::Kinds, Column::Words),
-    );
-    let extras = file_layout::line_in(text, places, Role::Values(Section::Kinds, Column::Extra));
-    let primitives = file_layout::line_in(text, places, Role::Names(Section::Primitives));
-    let cycles = file_layout::line_in(
+    let kinds = line_in(text, places, Role::Names(Section::Kinds));
+    let kind_cycles = line_in(text, places, Role::Values(Section::Kinds, Column::Cycles));
+    let kind_words = line_in(text, places, Role::Values(Section::Kinds, Column::Words));
+    let extras = line_in(text, places, Role::Values(Section::Kinds, Column::Extra));
+    let primitives = line_in(text, places, Role::Names(Section::Primitives));
+    let cycles = line_in(
         text,
         places,
         Role::Values(Section::Primitives, Column::Cycles),
     );
-    let words = file_layout::line_in(
+    let words = line_in(
         text,
         places,
         Role::Values(Section::Primitives, Column::Words),
