@@ -1,4 +1,6 @@
 // The refusals of every part of the analyser. Their numbers and places are in specs/Refusals.antt.
+#![tactic(auto, unfolding(crate::specs::Refusals::number, crate::specs::Refusals::place))]
+
 ghost use Rattle.std.specs.Prelude.{◌≡◌};
 ghost use Rattle.refusals.specs.Refusals.{number, place};
 

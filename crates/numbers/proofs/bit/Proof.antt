@@ -4,11 +4,11 @@ use Rattle.numbers.specs.Numbers.{bit}
 use Rattle.numbers.proofs.bit.Statement.{statement}
 use Rattle.numbers.proofs.bit.Tie as tie
 
-returns : tie.Need-returns
-returns c = ap bit (sym c.if1.true)
+returns : tie.Need-returns-then-b
+returns c = ap bit (sym c.if-b.true)
 
-returns-2 : tie.Need-returns-2
-returns-2 c = ap bit (sym c.if1.false)
+returns-2 : tie.Need-returns-else-b
+returns-2 c = ap bit (sym c.if-b.false)
 
-pub bit-spec : {M : Type 1} → statement M
-bit-spec = tie.close (tie.spec returns returns-2)
+pub bit_spec : {M : Type 1} → statement M
+bit_spec = tie.close (tie.spec returns returns-2)

@@ -21,15 +21,15 @@ module _ (r : Range) (z : ℤ) (h : SFits w64 r.low) (k : SFits w64 z) where
   below-low : le_z (read w64 r.low) (read w64 z) ≡ false → le_z (read w64 r.low) (read w64 z) ≡ within r z
   below-low t = t ∙ ap (λ b. cond b (le_z z r.high) false) (sym t ∙ read-both le_z w64 r.low z h k)
 
-returns : tie.Need-returns
+returns : tie.Need-returns-then-range-z
 returns c =
     let start = c.before.before.before.before.before in
-    from_low start.args.range start.args.z (search rules) (search rules) (search rules) c.before.before.if1.true
+    from_low start.args.range start.args.z (search rules) (search rules) (search rules) c.if-range-z.true
 
-returns-2 : tie.Need-returns-2
+returns-2 : tie.Need-returns-else-range-z
 returns-2 c =
     let start = c.before.before.before in
-    below-low start.args.range start.args.z (search rules) (search rules) c.if1.false
+    below-low start.args.range start.args.z (search rules) (search rules) c.if-range-z.false
 
-pub within-spec : {M : Type 1} → statement M
-within-spec = tie.close (tie.spec returns returns-2)
+pub within_spec : {M : Type 1} → statement M
+within_spec = tie.close (tie.spec returns returns-2)

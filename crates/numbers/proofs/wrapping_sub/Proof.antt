@@ -9,20 +9,20 @@ use Rattle.numbers.proofs.SignedLaws.{cast_fits, operation-fits, operation-read,
 use Rattle.numbers.proofs.wrapping_sub.Statement.{statement}
 use Rattle.numbers.proofs.wrapping_sub.Tie as tie
 
-cast-narrow : tie.Need-overflow-cast-narrow
+cast-narrow : tie.Need-overflow_cast-x
 cast-narrow c = cast_fits c.args.x c.ranges.x
 
-cast-narrow-2 : tie.Need-overflow-cast-narrow-2
+cast-narrow-2 : tie.Need-overflow_cast-y
 cast-narrow-2 c = cast_fits c.args.y c.ranges.y
 
-sub_narrow : tie.Need-overflow-sub-narrow
+sub_narrow : tie.Need-overflow_sub-x
 sub_narrow c = operation-fits ◌-ℤ◌ difference-fits c.ranges.x c.ranges.y
 
 returns : tie.Need-returns
 returns c =
     to_z-of_z w32 _ (search rules)
     ∙ c.narrow.ensures
-    ∙ ap wrap (operation-read ◌-ℤ◌ difference-fits c.before.ranges.x c.before.ranges.y)
+    ∙ ap wrap (operation-read ◌-ℤ◌ difference-fits c.ranges.x c.ranges.y)
 
-pub wrapping-sub-spec : {M : Type 1} → statement M
-wrapping-sub-spec = tie.close (tie.spec cast-narrow cast-narrow-2 sub_narrow (λ c κs. search rules) returns)
+pub wrapping_sub_spec : {M : Type 1} → statement M
+wrapping_sub_spec = tie.close (tie.spec cast-narrow cast-narrow-2 sub_narrow (λ c κs. search rules) returns)

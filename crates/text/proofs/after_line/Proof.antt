@@ -5,14 +5,14 @@ use Rattle.text.proofs.LineLaws.{line-length, next_more, next-none}
 use Rattle.text.proofs.after_line.Statement.{statement}
 use Rattle.text.proofs.after_line.Tie as tie
 
-returns : tie.Need-returns
-returns c = (next_more _ _ (line-length _ c.before.before.requires) c.before.if1.true, omega arith)
+returns : tie.Need-returns-then-e-s
+returns c = (next_more _ _ (line-length _ c.requires) c.if-e-s.true, omega arith)
 
-returns-2 : tie.Need-returns-2
-returns-2 c = (next-none _ _ (line-length _ c.before.before.requires) c.before.if1.false, omega arith)
+returns-2 : tie.Need-returns
+returns-2 c = (next-none _ _ (line-length _ c.requires) c.if-e-s.false, omega arith)
 
-pub after-line-spec : {M : Type 1} → statement M
-after-line-spec =
+pub after_line_spec : {M : Type 1} → statement M
+after_line_spec =
     tie.close
     (tie.spec
     (λ c. search rules)

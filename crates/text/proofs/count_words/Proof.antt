@@ -11,33 +11,33 @@ use Rattle.text.proofs.PieceLaws.{words_more, words_last}
 use Rattle.text.proofs.count_words.Statement.{statement}
 use Rattle.text.proofs.count_words.Tie as tie
 
-abbrev invariant-loop : tie.invariant-loop
-invariant-loop line rest₀ n₀ e₀ rest n e = (e ≡ first_length 32 rest) × (n + length rest ≤ length line + 1) × (length (line_words line) + 1 ≡ n + length (line_words rest))
+abbrev invariant-loop-e : tie.invariant-loop-e
+invariant-loop-e line rest₀ n₀ e₀ rest n e = (e ≡ first_length 32 rest) × (n + length rest ≤ length line + 1) × (length (line_words line) + 1 ≡ n + length (line_words rest))
 
-abbrev decreases-loop : tie.decreases-loop
-decreases-loop line rest₀ n₀ e₀ rest n e = length rest
+abbrev decreases-loop-e : tie.decreases-loop-e
+decreases-loop-e line rest₀ n₀ e₀ rest n e = length rest
 
-loop-holds : tie.Need-loop-init invariant-loop decreases-loop
-loop-holds c = (c.piece-length.ensures, omega arith, omega arith)
+loop-holds : tie.Need-loop-e-init invariant-loop-e decreases-loop-e
+loop-holds c = (c.piece_length-e.ensures, omega arith, omega arith)
 
-loop-again : tie.Need-loop-preserved invariant-loop decreases-loop
+loop-again : tie.Need-loop-e-preserved invariant-loop-e decreases-loop-e
 loop-again c =
-    let l = c.before.before.before in
-    let m = ap length (words_more l.loop.rest.now l.loop.e l.loop.invariant.0 c.before.before.loop-test.true) in
-    (c.piece-length2.ensures, omega arith, omega arith)
+    let l = c in
+    let m = ap length (words_more l.loop-e.rest.now l.loop-e.e l.loop-e.invariant.0 c.loop-e-test.true) in
+    (c.piece_length-e-in-loop-e.ensures, omega arith, omega arith)
 
-returns : tie.Need-returns invariant-loop decreases-loop
+returns : tie.Need-returns invariant-loop-e decreases-loop-e
 returns c =
-    let l = c.before in
-    let m = ap length (words_last l.loop.rest.now l.loop.e l.loop.invariant.0 c.loop-test.false) in
+    let l = c in
+    let m = ap length (words_last l.loop-e.rest.now l.loop-e.e l.loop-e.invariant.0 c.loop-e-test.false) in
     omega arith
 
-pub count-words-spec : {M : Type 1} → statement M
-count-words-spec =
+pub count_words_spec : {M : Type 1} → statement M
+count_words_spec =
     tie.close
     (tie.spec
-    invariant-loop
-    decreases-loop
+    invariant-loop-e
+    decreases-loop-e
     (λ c κs. search rules)
     loop-holds
     (λ c. search rules)

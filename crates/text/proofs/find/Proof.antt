@@ -20,48 +20,48 @@ use Rattle.text.proofs.find.Tie as tie
 abbrev answer : Place → ℕ → Lookup
 answer p n = record { place = p; looked = n + 1 }
 
-abbrev invariant-loop : tie.invariant-loop
-invariant-loop w text rest₀ k₀ looked₀ e₀ rest k looked e = (e ≡ first_length 32 rest) × (k + length rest ≤ length text) × (lookup w (line_words text) ≡ lookup_from k w (line_words rest)) × (looked ≡ k)
+abbrev invariant-loop-e : tie.invariant-loop-e
+invariant-loop-e w text rest₀ k₀ looked₀ e₀ rest k looked e = (e ≡ first_length 32 rest) × (k + length rest ≤ length text) × (lookup w (line_words text) ≡ lookup_from k w (line_words rest)) × (looked ≡ k)
 
-abbrev decreases-loop : tie.decreases-loop
-decreases-loop w text rest₀ k₀ looked₀ e₀ rest k looked e = length rest
+abbrev decreases-loop-e : tie.decreases-loop-e
+decreases-loop-e w text rest₀ k₀ looked₀ e₀ rest k looked e = length rest
 
-loop-holds : tie.Need-loop-init invariant-loop decreases-loop
+loop-holds : tie.Need-loop-e-init invariant-loop-e decreases-loop-e
 loop-holds c =
-    let a = c.before.before.before.args in
-    (c.piece-length.ensures, omega arith, lookup-from a.w.now (line_words a.text.now), refl)
+    let a = c.args in
+    (c.piece_length-e.ensures, omega arith, lookup-from a.w.now (line_words a.text.now), refl)
 
-slice-aggregate-same : tie.Need-slice-aggregate-same invariant-loop decreases-loop
-slice-aggregate-same c = sym (length-take-le _ _ (le_of_lt c.before.loop-test.true))
+slice-aggregate-same : tie.Need-slice_bounds-same-end invariant-loop-e decreases-loop-e
+slice-aggregate-same c = sym (length-take-le _ _ (le_of_lt c.loop-e-test.true))
 
-returns : tie.Need-returns invariant-loop decreases-loop
+returns : tie.Need-returns-then-same invariant-loop-e decreases-loop-e
 returns c =
-    let l = c.before.before.before.before in
-    ap (answer (At l.loop.k)) l.loop.invariant.3 ∙ sym (l.loop.invariant.2 ∙ find-here l.loop.k _ _ _ l.loop.invariant.0 c.before.before.before.loop-test.true (sym c.before.same.ensures ∙ c.if1.true))
+    let l = c in
+    ap (answer (At l.loop-e.k)) l.loop-e.invariant.3 ∙ sym (l.loop-e.invariant.2 ∙ find-here l.loop-e.k _ _ _ l.loop-e.invariant.0 c.loop-e-test.true (sym c.same.ensures ∙ c.if-same.true))
 
-loop-again : tie.Need-loop-preserved invariant-loop decreases-loop
+loop-again : tie.Need-loop-e-preserved invariant-loop-e decreases-loop-e
 loop-again c =
-    let j = c.before.before in
-    let l = j.before.before.before.before in
-    let e = find-next l.loop.k _ _ _ l.loop.invariant.0 j.before.before.before.loop-test.true (sym j.before.same.ensures ∙ j.if1.false) in
-    (c.piece-length2.ensures, omega arith, l.loop.invariant.2 ∙ e, omega (arith, l.loop.invariant.3))
+    let j = c in
+    let l = j in
+    let e = find-next l.loop-e.k _ _ _ l.loop-e.invariant.0 j.loop-e-test.true (sym j.same.ensures ∙ j.if-same.false) in
+    (c.piece_length-e-in-loop-e.ensures, omega arith, l.loop-e.invariant.2 ∙ e, omega (arith, l.loop-e.invariant.3))
 
-returns-2 : tie.Need-returns-2 invariant-loop decreases-loop
+returns-2 : tie.Need-returns-then-same-2 invariant-loop-e decreases-loop-e
 returns-2 c =
-    let l = c.before.before.before in
-    ap (answer (At l.loop.k)) l.loop.invariant.3 ∙ sym (l.loop.invariant.2 ∙ find-last l.loop.k _ _ _ l.loop.invariant.0 c.before.before.loop-test.false ∙ ap (λ (b : Bool). answer (cond b (At l.loop.k) Missing) l.loop.k) (sym c.before.same2.ensures ∙ c.if2.true))
+    let l = c in
+    ap (answer (At l.loop-e.k)) l.loop-e.invariant.3 ∙ sym (l.loop-e.invariant.2 ∙ find-last l.loop-e.k _ _ _ l.loop-e.invariant.0 c.loop-e-test.false ∙ ap (λ (b : Bool). answer (cond b (At l.loop-e.k) Missing) l.loop-e.k) (sym c.same-2.ensures ∙ c.if-same-2.true))
 
-returns-3 : tie.Need-returns-3 invariant-loop decreases-loop
+returns-3 : tie.Need-returns-else-same-2 invariant-loop-e decreases-loop-e
 returns-3 c =
-    let l = c.before.before.before in
-    ap (answer Missing) l.loop.invariant.3 ∙ sym (l.loop.invariant.2 ∙ find-last l.loop.k _ _ _ l.loop.invariant.0 c.before.before.loop-test.false ∙ ap (λ (b : Bool). answer (cond b (At l.loop.k) Missing) l.loop.k) (sym c.before.same2.ensures ∙ c.if2.false))
+    let l = c in
+    ap (answer Missing) l.loop-e.invariant.3 ∙ sym (l.loop-e.invariant.2 ∙ find-last l.loop-e.k _ _ _ l.loop-e.invariant.0 c.loop-e-test.false ∙ ap (λ (b : Bool). answer (cond b (At l.loop-e.k) Missing) l.loop-e.k) (sym c.same-2.ensures ∙ c.if-same-2.false))
 
 pub find_spec : {M : Type 1} → statement M
 find_spec =
     tie.close
     (tie.spec
-    invariant-loop
-    decreases-loop
+    invariant-loop-e
+    decreases-loop-e
     (λ c κs. search rules)
     loop-holds
     (λ c. search rules)

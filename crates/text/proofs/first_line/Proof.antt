@@ -8,13 +8,13 @@ use Rattle.text.proofs.LineLaws.{line-text}
 use Rattle.text.proofs.first_line.Statement.{statement}
 use Rattle.text.proofs.first_line.Tie as tie
 
-slice-aggregate-result : tie.Need-slice-aggregate-result
+slice-aggregate-result : tie.Need-slice_bounds-result-end
 slice-aggregate-result c =
-    let s = c.before.before.before.args.s.now in
-    sym (length-take-le _ s (omega (arith, first-le 10 s, c.before.piece-length.ensures)))
+    let s = c.args.s.now in
+    sym (length-take-le _ s (omega (arith, first-le 10 s, c.piece_length-e.ensures)))
 
 returns : tie.Need-returns
-returns c = sym (line-text _ _ c.before.piece-length.ensures)
+returns c = sym (line-text _ _ c.piece_length-e.ensures)
 
-pub first-line-spec : {M : Type 1} → statement M
-first-line-spec = tie.close (tie.spec (λ c κs. search rules) slice-aggregate-result returns)
+pub first_line_spec : {M : Type 1} → statement M
+first_line_spec = tie.close (tie.spec (λ c κs. search rules) slice-aggregate-result returns)

@@ -7,5 +7,5 @@ use Rattle.text.proofs.line_ends.Tie as tie
 returns : tie.Need-returns
 returns c = sym (line-ended _ _ (line-length _ c.requires))
 
-pub line-ends-spec : {M : Type 1} → statement M
-line-ends-spec = tie.close (tie.spec returns)
+pub line_ends_spec : {M : Type 1} → statement M
+line_ends_spec = tie.close (tie.spec returns)

@@ -5,11 +5,11 @@ use borrow.Author.Rules.{rules}
 use Rattle.text.proofs.next_lines.Statement.{statement}
 use Rattle.text.proofs.next_lines.Tie as tie
 
-after-line-requires : tie.Need-after-line-requires
-after-line-requires c κs = ap length c.first-line.ensures
+after-line-requires : tie.Need-after_line-requires
+after-line-requires c κs = ap length c.first_line-line.ensures
 
 returns : tie.Need-returns
-returns c = c.after_Line.ensures
+returns c = c.after_line.ensures
 
-pub next-lines-spec : {M : Type 1} → statement M
-next-lines-spec = tie.close (tie.spec (λ c κs. search rules) after-line-requires returns)
+pub next_lines_spec : {M : Type 1} → statement M
+next_lines_spec = tie.close (tie.spec (λ c κs. search rules) after-line-requires returns)

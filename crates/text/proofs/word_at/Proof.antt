@@ -13,41 +13,41 @@ use Rattle.text.proofs.PieceLaws.{first-le, word_next, word_none, word-here}
 use Rattle.text.proofs.word_at.Statement.{statement}
 use Rattle.text.proofs.word_at.Tie as tie
 
-abbrev invariant-loop : tie.invariant-loop
-invariant-loop line k rest₀ left₀ e₀ rest left e = (e ≡ first_length 32 rest) × (length rest ≤ length line) × (get_or (line_words line) k [] ≡ get_or (line_words rest) left [])
+abbrev invariant-loop-left : tie.invariant-loop-left
+invariant-loop-left line k rest₀ left₀ e₀ rest left e = (e ≡ first_length 32 rest) × (length rest ≤ length line) × (get_or (line_words line) k [] ≡ get_or (line_words rest) left [])
 
-abbrev decreases-loop : tie.decreases-loop
-decreases-loop line k rest₀ left₀ e₀ rest left e = left
+abbrev decreases-loop-left : tie.decreases-loop-left
+decreases-loop-left line k rest₀ left₀ e₀ rest left e = left
 
-loop-holds : tie.Need-loop-init invariant-loop decreases-loop
-loop-holds c = (c.piece-length.ensures, omega arith, refl)
+loop-holds : tie.Need-loop-left-init invariant-loop-left decreases-loop-left
+loop-holds c = (c.piece_length-e.ensures, omega arith, refl)
 
-returns : tie.Need-returns invariant-loop decreases-loop
+returns : tie.Need-returns-then-rest-e invariant-loop-left decreases-loop-left
 returns c =
-    let l = c.before.before.before in
-    sym (l.loop.invariant.2 ∙ word_none _ _ _ l.loop.invariant.0 c.before.if1.true c.before.before.loop-test.true)
+    let l = c in
+    sym (l.loop-left.invariant.2 ∙ word_none _ _ _ l.loop-left.invariant.0 c.if-rest-e.true c.loop-left-test.true)
 
-loop-again : tie.Need-loop-preserved invariant-loop decreases-loop
+loop-again : tie.Need-loop-left-preserved invariant-loop-left decreases-loop-left
 loop-again c =
-    let l = c.before.before.before.before in
-    (c.piece-length2.ensures, omega arith, l.loop.invariant.2 ∙ word_next _ _ _ l.loop.invariant.0 c.before.before.if1.false c.before.before.before.loop-test.true)
+    let l = c in
+    (c.piece_length-e-in-loop-left.ensures, omega arith, l.loop-left.invariant.2 ∙ word_next _ _ _ l.loop-left.invariant.0 c.if-rest-e.false c.loop-left-test.true)
 
-slice-aggregate-result-2 : tie.Need-slice-aggregate-result-2 invariant-loop decreases-loop
+slice-aggregate-result-2 : tie.Need-slice_bounds-result-end-2 invariant-loop-left decreases-loop-left
 slice-aggregate-result-2 c =
-    let l = c.before.before in
-    sym (length-take-le _ l.loop.rest.now (omega (arith, first-le 32 l.loop.rest.now)))
+    let l = c in
+    sym (length-take-le _ l.loop-left.rest.now (omega (arith, first-le 32 l.loop-left.rest.now)))
 
-returns-2 : tie.Need-returns-2 invariant-loop decreases-loop
+returns-2 : tie.Need-returns invariant-loop-left decreases-loop-left
 returns-2 c =
-    let l = c.before.before in
-    sym (l.loop.invariant.2 ∙ word-here _ _ _ l.loop.invariant.0 c.before.loop-test.false)
+    let l = c in
+    sym (l.loop-left.invariant.2 ∙ word-here _ _ _ l.loop-left.invariant.0 c.loop-left-test.false)
 
-pub word-at-spec : {M : Type 1} → statement M
-word-at-spec =
+pub word_at_spec : {M : Type 1} → statement M
+word_at_spec =
     tie.close
     (tie.spec
-    invariant-loop
-    decreases-loop
+    invariant-loop-left
+    decreases-loop-left
     (λ c κs. search rules)
     loop-holds
     (λ c. search rules)
