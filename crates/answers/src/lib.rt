@@ -2,7 +2,7 @@
 use refusals::Refusal;
 
 // The answer to a call: a report of so many bytes, or a refusal.
-#[derive(Drop)]
+#[derive(Clone, Copy)]
 pub enum Answer {
     Reported(usize),
     Refused(Refusal),

@@ -17,7 +17,7 @@ use machine_state::registers::Registers;
 use refusals::{Acceptance, Refusal};
 
 // What the two ways of a branch come to.
-#[derive(Drop)]
+#[derive(Clone, Copy)]
 pub struct Ways {
     pub untaken: Found,
     pub taken: Found,

@@ -6,7 +6,7 @@ use refusals::{Acceptance, Refusal};
 
 // What exploring comes to: the verdict, the steps walked, and where it is accepted the figures of the report.
 // `path` has a bit for each decision, the first one lowest, 1 for taken, with a 1 above the last.
-#[derive(Drop)]
+#[derive(Clone, Copy)]
 pub struct Found {
     pub verdict: Acceptance,
     pub used: usize,
@@ -17,7 +17,7 @@ pub struct Found {
 }
 
 // What the steps since the last branch come to, and how many are left of the budget.
-#[derive(Drop)]
+#[derive(Clone, Copy)]
 pub struct Tally {
     pub left: usize,
     pub cycles: u64,

@@ -19,7 +19,7 @@ use numbers::Comparison;
 
 // What a line comes to, before the stack and the blocks are changed. A place of the stack or of the blocks is read by the loop alone, and
 // only for the lines that look at it.
-#[derive(Drop)]
+#[derive(Clone, Copy)]
 pub enum Turn {
     // The next registers.
     Goes(Registers),

@@ -1,4 +1,6 @@
 // Cells, and the operations on them. The meaning is in specs/.
+#![tactic(auto)]
+
 ghost use Rattle.std.specs.Prelude.{◌≡◌, ◌<◌};
 ghost use Rattle.numbers.specs.Numbers.{wrap, bit, numbers};
 ghost use Rattle.cells.specs.Cells.{high, exactly, unknown, between, handle, calculate₁, calculate₂, results, least₁, always, negated, judged, wider, range₂, compare_handles, combine_handles, operate₁, operate₂, condition, block};
@@ -9,19 +11,19 @@ use numbers::Comparison;
 
 // "A cell holds a number, an unknown number or a block handle"; "A start or block cell may be `lo..hi`": a range is its least number and
 // how many more there are above it.
-#[derive(Drop)]
+#[derive(Clone, Copy)]
 pub enum Value {
     Range(i32, u32),
     Handle(u8),
 }
 
-#[derive(Drop)]
+#[derive(Clone, Copy)]
 pub struct Cell {
     pub value: Value,
 }
 
 // "OFFSETINT i adds i. .. NEGINT negates. BOOLNOT gives 1 minus the accumulator."
-#[derive(Drop)]
+#[derive(Clone, Copy)]
 pub enum Unary {
     Offset,
     Negate,
@@ -29,7 +31,7 @@ pub enum Unary {
 }
 
 // "ADDINT, SUBINT, EQ, NEQ, LTINT, LEINT, GTINT, GEINT"
-#[derive(Drop)]
+#[derive(Clone, Copy)]
 pub enum Binary {
     Add,
     Subtract,
@@ -37,7 +39,7 @@ pub enum Binary {
 }
 
 // A branch condition.
-#[derive(Drop)]
+#[derive(Clone, Copy)]
 pub enum Condition {
     IsZero,
     IsNonzero,
@@ -45,21 +47,21 @@ pub enum Condition {
 }
 
 // What an operation gives.
-#[derive(Drop)]
+#[derive(Clone, Copy)]
 pub enum Operand {
     Is(Cell),
     Stuck,
 }
 
 // What a test of a cell gives.
-#[derive(Drop)]
+#[derive(Clone, Copy)]
 pub enum Tested {
     Is(Condition),
     Stuck,
 }
 
 // The block that a cell is a handle of.
-#[derive(Drop)]
+#[derive(Clone, Copy)]
 pub enum Handled {
     Block(u8),
     Stuck,

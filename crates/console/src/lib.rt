@@ -11,7 +11,7 @@ use libc::{STDERR_FILENO, STDIN_FILENO, STDOUT_FILENO};
 use text_decimals::Numeral;
 
 // What was read: how many bytes came, whether that is a whole text, and what the last read answered.
-#[derive(Drop)]
+#[derive(Clone, Copy)]
 pub struct Input {
     pub length: usize,
     pub is_whole: bool,
@@ -19,7 +19,7 @@ pub struct Input {
 }
 
 // What a word says where a number of 32 bits is wanted.
-#[derive(Drop)]
+#[derive(Clone, Copy)]
 pub enum Given {
     Number(u32),
     Wrong,

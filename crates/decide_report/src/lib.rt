@@ -7,7 +7,7 @@ ghost use Rattle.decide_report.specs.Held.{report_in};
 use bound_figures::Found;
 
 // The bound that gives the figures of a decision.
-#[derive(Drop)]
+#[derive(Clone, Copy)]
 pub enum Source {
     First,
     Merging,

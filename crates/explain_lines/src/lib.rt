@@ -15,7 +15,7 @@ use cells::Cell;
 use machine_state::State;
 
 // A place in a text: the byte at which a line begins, and the line's number, counted from 0.
-#[derive(Drop)]
+#[derive(Clone, Copy)]
 pub struct Cursor {
     pub byte: usize,
     pub line: usize,

@@ -10,7 +10,7 @@ use machine_step::{Next, Price};
 
 // A step of the walk: whether it is made and whether it is STOP, what it costs, the decision as a path of its own, the path that is left,
 // and the state and the blocks after it. Paths are numbers, as in `bound_figures`.
-#[derive(Drop)]
+#[derive(Clone, Copy)]
 pub struct Walked {
     pub made: bool,
     pub stops: bool,

@@ -22,7 +22,7 @@ use refusals::{Acceptance, Refusal};
 use text::Place;
 
 // Which program reads a text: the run has one row more.
-#[derive(Drop)]
+#[derive(Clone, Copy)]
 pub enum Reader {
     Bound,
     Run,
@@ -124,7 +124,7 @@ fn laid_out_line(text: &[u8], places: &[usize; 15], role: Role, line: &[u8], end
 }
 
 // What the rows look at in a text beside a line: the number of blocks, the first address, the number of code lines.
-#[derive(Drop)]
+#[derive(Clone, Copy)]
 struct Counts {
     blocks: usize,
     first: usize,
@@ -132,7 +132,7 @@ struct Counts {
 }
 
 // What the tests of the rows come to on a line.
-#[derive(Drop)]
+#[derive(Clone, Copy)]
 struct Tests {
     layout: bool,
     range: bool,
@@ -206,7 +206,7 @@ fn all_three(ended: bool, filled: bool, laid: bool) -> bool
 }
 
 // A code line beside its bytes: which one it is, whether a line feed ends it, whether rows 4 and 5 are due, and where the code is.
-#[derive(Drop)]
+#[derive(Clone, Copy)]
 struct CodeLine {
     k: usize,
     ended: bool,
@@ -290,7 +290,7 @@ fn all_tests(passes: bool) -> Tests
 }
 
 // The earliest line that each row refuses, or 0 as long as it refuses none.
-#[derive(Drop)]
+#[derive(Clone, Copy)]
 struct Earliest {
     layout: u32,
     range: u32,

@@ -48,7 +48,7 @@ pub fn is_whole(line: &[u8], e: usize, f: usize, g: usize) -> bool
 }
 
 // What the tests of rows 2, 3, 4, 6 and 13 come to on the words of a code line, or on its argument.
-#[derive(Drop)]
+#[derive(Clone, Copy)]
 pub struct Tested {
     pub layout: bool,
     pub range: bool,
@@ -245,7 +245,7 @@ pub fn test_code(
 }
 
 // The words of a code line: the kind that OP names, by its place, and how many bytes AT, OP and ARG have.
-#[derive(Drop)]
+#[derive(Clone, Copy)]
 pub struct CodeWords {
     pub kind: Place,
     pub at: usize,

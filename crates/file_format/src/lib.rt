@@ -1,7 +1,7 @@
 // The routine file: its refusals, and the routine that it holds. The meaning is in specs/.
 
 // "Each section is a line of names, then lines of values in that order"
-#[derive(Drop)]
+#[derive(Clone, Copy)]
 pub enum Section {
     Limits,
     Kinds,
@@ -13,7 +13,7 @@ pub enum Section {
 }
 
 // The lines of values.
-#[derive(Drop)]
+#[derive(Clone, Copy)]
 pub enum Column {
     Limit,
     Cycles,
@@ -23,7 +23,7 @@ pub enum Column {
 }
 
 // What a line holds: a section's names, a section's values, code line k or answer k (from 0).
-#[derive(Drop)]
+#[derive(Clone, Copy)]
 pub enum Role {
     Names(Section),
     Values(Section, Column),
@@ -32,7 +32,7 @@ pub enum Role {
 }
 
 // What a word says where a cell is wanted: "number, `?` for unknown, `#k` for block k", `lo..hi`; or nothing of the kind.
-#[derive(Drop)]
+#[derive(Clone, Copy)]
 pub enum CellWord {
     Wrong,
     Unknown,
@@ -42,7 +42,7 @@ pub enum CellWord {
 }
 
 // The rows of the refusal table that look at lines: 2, 3, 4, 5, 6, 13 and 11.
-#[derive(Drop)]
+#[derive(Clone, Copy)]
 pub enum Row {
     Layout,
     Range,
@@ -54,7 +54,7 @@ pub enum Row {
 }
 
 // The earliest line that a row refuses, if there is one.
-#[derive(Drop)]
+#[derive(Clone, Copy)]
 pub enum RefusedLine {
     Nowhere,
     Line(u32),

@@ -16,7 +16,7 @@ use text_decimals::Numeral;
 
 // What a word is tested for: that it is not empty, spells a number, one of a price's cycles or words, a cell, a cell in range, a
 // handle of one of the blocks that are present, a cell that holds one number or a handle, a name that a primitive may have.
-#[derive(Drop)]
+#[derive(Clone, Copy)]
 pub enum WordTest {
     Filled,
     Numeral,

@@ -124,7 +124,7 @@ pub fn is_field(k: usize, n: usize, w: &[u8]) -> bool
 }
 
 // The sizes of the blocks that names make: the first `count` of `sizes`, and their sum.
-#[derive(Drop)]
+#[derive(Clone, Copy)]
 pub struct Blocks {
     pub sizes: [u8; 8],
     pub count: usize,

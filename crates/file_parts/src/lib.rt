@@ -56,7 +56,7 @@ pub fn number_of(range: Range, w: &[u8]) -> i32
 // ---- code and answers
 
 // The first `count` of `values` are the answers.
-#[derive(Drop)]
+#[derive(Clone, Copy)]
 pub struct Answers {
     pub values: [i32; 64],
     pub count: usize,
@@ -148,7 +148,7 @@ fn operand_of(k: usize, takes: Argument, w: &[u8]) -> i32
 }
 
 // A code line, by the five words that a program has for it.
-#[derive(Drop)]
+#[derive(Clone, Copy)]
 struct Entry {
     code: u32,
     operand: i32,

@@ -10,7 +10,7 @@ use file_parts::Answers;
 use machine_state::State;
 
 // A routine by value: its limits, its program, the state it starts in, the blocks in a flat array, its answers.
-#[derive(Drop)]
+#[derive(Clone, Copy)]
 pub struct Routine {
     pub budget: usize,
     pub tick: u64,

@@ -2,7 +2,7 @@
 
 // What a row of words on a line of the file holds: the names of the kinds; BUDGET and TICK; cycles; words; extras; cells that are all
 // handles, all numbers, or numbers and unknowns.
-#[derive(Drop)]
+#[derive(Clone, Copy)]
 pub enum Column {
     Names,
     Limits,

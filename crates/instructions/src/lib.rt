@@ -18,7 +18,7 @@ mod slots;
 
 // "argument range after each": no argument, a number in a range, a target, or a primitive.
 // A kind with a target jumps there, and a kind with a primitive calls it.
-#[derive(Drop)]
+#[derive(Clone, Copy)]
 pub enum Argument {
     Absent,
     Target,
@@ -27,7 +27,7 @@ pub enum Argument {
 }
 
 // What an instruction does once it has pushed or not, with an operand: "ACC n", "POP n", "ASSIGN n", "CONSTINT i", and so on.
-#[derive(Drop)]
+#[derive(Clone, Copy)]
 pub enum Operation {
     Nothing,
     Access,

@@ -14,7 +14,7 @@ use instructions::operations;
 use numbers::Comparison;
 
 // What an instruction's operands come to, before the state is changed.
-#[derive(Drop)]
+#[derive(Clone, Copy)]
 pub enum Outcome {
     // The accumulator becomes the cell.
     Gives(Cell),

@@ -6,7 +6,7 @@ ghost use Rattle.machine_state.specs.HeldProgram.{program_of, of_fetched, IsProg
 
 // A line: the code of its operation, whether it pushes first, whether it calls a primitive, its operand, what it costs, and how much more
 // where it is a conditional branch that jumps.
-#[derive(Drop)]
+#[derive(Clone, Copy)]
 pub struct Line {
     pub code: u8,
     pub pushes: bool,
@@ -17,7 +17,7 @@ pub struct Line {
     pub extra: u32,
 }
 
-#[derive(Drop)]
+#[derive(Clone, Copy)]
 pub enum Fetched {
     Is(Line),
     Outside,

@@ -14,7 +14,7 @@ pub mod registers;
 
 // "The state is an address, an accumulator, a stack of at most 64 cells (entry 0 on top)". Of the cells of `stack` the first `free` are
 // unused; the others are the entries, the top entry first. The blocks lie beside the state.
-#[derive(Drop)]
+#[derive(Clone, Copy)]
 pub struct State {
     pub at: usize,
     pub accu: Cell,
@@ -132,7 +132,7 @@ impl State {
 }
 
 // Where a field stands in the array of fields.
-#[derive(Drop)]
+#[derive(Clone, Copy)]
 pub enum Slot {
     At(usize),
     Lacks,

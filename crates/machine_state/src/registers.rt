@@ -6,7 +6,7 @@ use cells::Cell;
 
 // The state beside its stack: for a loop that keeps the stack in an array of its own, and writes there the one cell that a push or a store
 // writes.
-#[derive(Drop)]
+#[derive(Clone, Copy)]
 pub struct Registers {
     pub at: usize,
     pub accu: Cell,

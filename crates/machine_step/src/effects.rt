@@ -11,7 +11,7 @@ use machine_state::Slot;
 use machine_state::code::Line;
 
 // What a line comes to, before the state and the blocks are changed: the operation on cells is made, and the field is found.
-#[derive(Drop)]
+#[derive(Clone, Copy)]
 pub enum Effect {
     // So many entries are dropped, and the accumulator becomes the cell.
     Gives(usize, Cell),

@@ -14,7 +14,7 @@ use machine_state::code::{Fetched, Line};
 pub mod effects;
 
 // What a way costs.
-#[derive(Drop)]
+#[derive(Clone, Copy)]
 pub struct Price {
     pub cycles: u64,
     pub words: u64,
@@ -22,7 +22,7 @@ pub struct Price {
 
 // What comes next: nothing where the step is stuck; STOP; one way; or the two ways of an unknown branch, of which the one not taken is at
 // the state's address and the one taken at the address given.
-#[derive(Drop)]
+#[derive(Clone, Copy)]
 pub enum Next {
     Stuck,
     Stops(Price),
@@ -31,7 +31,7 @@ pub enum Next {
 }
 
 // How the blocks differ from those before the step: in nothing, or in the field at the place, which has become the cell.
-#[derive(Drop)]
+#[derive(Clone, Copy)]
 pub enum Update {
     Nothing,
     Field(usize, Cell),
@@ -39,7 +39,7 @@ pub enum Update {
 
 // What a step gives: what comes next, with the state and the blocks, whether an answer was taken, and how the blocks differ. The blocks come
 // first: they are then copied once, where a part written before them would have the compiler copy them twice.
-#[derive(Drop)]
+#[derive(Clone, Copy)]
 pub struct Stepped {
     pub blocks: [Cell; 128],
     pub state: State,

@@ -13,7 +13,7 @@ use machine_step::{Next, Price};
 
 // The last move of a way to a goal: its decision as a path of its own, the cycles of the way with this move, the cycles and the words of
 // the move, the height of the stack before it, and the row of its address. Paths are numbers, as in `bound_figures`, so that 0 is none.
-#[derive(Drop)]
+#[derive(Clone, Copy)]
 pub struct Last {
     pub way: u64,
     pub sum: u64,

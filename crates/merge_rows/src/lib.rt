@@ -12,7 +12,7 @@ use cells::{Cell, Operand};
 use machine_state::State;
 
 // A way to an address: the state that comes to it, with its blocks, and the largest sums of the ways to it.
-#[derive(Drop)]
+#[derive(Clone, Copy)]
 pub struct Way {
     pub state: State,
     pub blocks: [Cell; 128],
@@ -97,7 +97,7 @@ fn unused(n: u64) -> usize
 }
 
 // The merge of two cells as a number: none where they cannot be merged.
-#[derive(Drop)]
+#[derive(Clone, Copy)]
 pub enum Merged {
     Unlike,
     Is(u64),

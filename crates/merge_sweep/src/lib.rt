@@ -41,14 +41,14 @@ fn onward(rows: &mut [u64], code: &[u32; 5131], j: usize, w: Way) -> bool
 }
 
 // What has come to an address: nothing, states that cannot be merged, or a way.
-#[derive(Drop)]
+#[derive(Clone, Copy)]
 pub enum Mark {
     Nothing,
     Unlike,
     Is,
 }
 
-#[derive(Drop)]
+#[derive(Clone, Copy)]
 pub struct Came {
     pub mark: Mark,
     pub way: Way,
@@ -148,7 +148,7 @@ fn ended(f: Found, w: Way) -> Found
 }
 
 // A pass so far: its figures, and the way that goes to the next address, if `here` says so.
-#[derive(Drop)]
+#[derive(Clone, Copy)]
 pub struct Pass {
     pub found: Found,
     pub here: bool,

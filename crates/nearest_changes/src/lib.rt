@@ -11,7 +11,7 @@ use cells::{Cell, Value};
 use machine_state::{Slot, State};
 
 // Where a cell of the start stands: ACCU, an entry of the stack, a field of a block.
-#[derive(Drop)]
+#[derive(Clone, Copy)]
 pub enum Position {
     Accu,
     Entry(usize),
@@ -19,21 +19,21 @@ pub enum Position {
 }
 
 // A change: which cell, and its new value.
-#[derive(Drop)]
+#[derive(Clone, Copy)]
 pub struct Change {
     pub place: Position,
     pub value: i32,
 }
 
 // What a cell holds: one number, or anything else.
-#[derive(Drop)]
+#[derive(Clone, Copy)]
 pub enum Single {
     Number(i32),
     Other,
 }
 
 // What a trial changes: one cell, or none.
-#[derive(Drop)]
+#[derive(Clone, Copy)]
 pub enum Trial {
     Of(Change),
     Nothing,

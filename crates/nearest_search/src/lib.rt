@@ -17,14 +17,14 @@ use nearest_changes::{Change, Position, Single, Trial};
 use refusals::{Acceptance, Refusal};
 
 // The first change that moves the bound, if there is one.
-#[derive(Drop)]
+#[derive(Clone, Copy)]
 pub enum Hit {
     At(Change),
     Nowhere,
 }
 
 // What a search comes to: the nearest change, none, or the bound's refusal.
-#[derive(Drop)]
+#[derive(Clone, Copy)]
 pub enum Sought {
     Moves(Change),
     Still,

@@ -4,7 +4,7 @@ ghost use Rattle.std.specs.Prelude.{◌≡◌, nat_abs, neg_ℤ, ◌+ℤ◌, ◌
 ghost use Rattle.numbers.specs.Numbers.{wrap, holds, bit, within, numbers, residue, signed};
 
 // "EQ, NEQ, LTINT, LEINT, GTINT, GEINT"
-#[derive(Drop)]
+#[derive(Clone, Copy)]
 pub enum Comparison {
     Equal,
     Unequal,
@@ -15,7 +15,7 @@ pub enum Comparison {
 }
 
 // A range of integers, both ends included.
-#[derive(Drop)]
+#[derive(Clone, Copy)]
 pub struct Range {
     pub low: i64,
     pub high: i64,

@@ -5,7 +5,7 @@ ghost use Rattle.std.specs.Prelude.{◌≡◌};
 ghost use Rattle.refusals.specs.Refusals.{number, place};
 
 // A case for each row of the refusal table; the value held is a line of the routine file, an address of the code, or the index of a word.
-#[derive(Drop)]
+#[derive(Clone, Copy)]
 pub enum Refusal {
     ReportMemory,
     TextLength,
@@ -24,7 +24,7 @@ pub enum Refusal {
 }
 
 // How a check of a text, a bound or a run ends.
-#[derive(Drop)]
+#[derive(Clone, Copy)]
 pub enum Acceptance {
     Accepted,
     Refused(Refusal),

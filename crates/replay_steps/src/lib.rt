@@ -13,7 +13,7 @@ use machine_step::Next;
 
 // Whether a line agrees with the step that a run is at, and the run after that step, apart from its sums: whether STOP was made, how many
 // answers its calls asked for, its state and its blocks.
-#[derive(Drop)]
+#[derive(Clone, Copy)]
 pub struct Held {
     pub agrees: bool,
     pub stopped: bool,
@@ -69,7 +69,7 @@ fn follow(
 }
 
 // What a replay says: that the trace agrees, or the number of its first line that differs.
-#[derive(Drop)]
+#[derive(Clone, Copy)]
 pub enum Replayed {
     Agrees,
     Differs(usize),

@@ -9,14 +9,14 @@ use numbers::Range;
 use refusals::{Acceptance, Refusal};
 
 // A recorded step.
-#[derive(Drop)]
+#[derive(Clone, Copy)]
 pub struct Entry {
     pub at: usize,
     pub cycles: u32,
 }
 
 // What a line is tested for: row 2 or row 3 of the refusal table.
-#[derive(Drop)]
+#[derive(Clone, Copy)]
 enum LineTest {
     Layout,
     Range,

@@ -12,7 +12,7 @@ use machine_step::{Next, Update};
 use refusals::{Acceptance, Refusal};
 
 // A run so far: its state and its blocks, how many answers its calls asked for, its sums, and whether STOP was made.
-#[derive(Drop)]
+#[derive(Clone, Copy)]
 pub struct Progress {
     pub state: State,
     pub blocks: [Cell; 128],
@@ -25,7 +25,7 @@ pub struct Progress {
 }
 
 // What a run comes to, with its figures.
-#[derive(Drop)]
+#[derive(Clone, Copy)]
 pub struct Ran {
     pub verdict: Acceptance,
     pub cycles: u64,

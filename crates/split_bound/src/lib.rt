@@ -20,7 +20,7 @@ use refusals::Acceptance;
 use split_theory::Cuts;
 
 // What a number makes of a cell: its two parts, or nothing.
-#[derive(Drop)]
+#[derive(Clone, Copy)]
 pub enum Parts {
     Two(Cell, Cell),
     Whole,
@@ -109,7 +109,7 @@ fn cut_at(code: &[u32; 5131], cuts: Cuts, i: usize, start: State, blocks: [Cell;
 }
 
 // A start by its two parts.
-#[derive(Drop)]
+#[derive(Clone, Copy)]
 pub struct Case {
     pub start: State,
     pub blocks: [Cell; 128],

@@ -12,7 +12,7 @@ use refusals::{Acceptance, Refusal};
 use split_theory::Cuts;
 
 // What a line is tested for: row 2, row 3 or row 4 of the refusal table.
-#[derive(Drop)]
+#[derive(Clone, Copy)]
 enum LineTest {
     Layout,
     Range,

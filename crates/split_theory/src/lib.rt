@@ -2,7 +2,7 @@
 // computes it is above this layer.
 
 // The cuts in code: the first `count` places, each with the number at which the cell there is cut.
-#[derive(Drop)]
+#[derive(Clone, Copy)]
 pub struct Cuts {
     pub places: [usize; 16],
     pub numbers: [i32; 16],

@@ -39,7 +39,7 @@ fn afresh(
 }
 
 // What was found, as numbers: 0 and 0, and its figures; or the number and the place of its refusal, and 0 for each figure.
-#[derive(Drop)]
+#[derive(Clone, Copy)]
 pub struct Told {
     pub number: u64,
     pub place: u64,

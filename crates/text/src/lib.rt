@@ -4,14 +4,14 @@ ghost use Rattle.std.specs.Prelude.{length, get_or, drop, [], ◌≡◌, ◌+◌
 ghost use Rattle.text.specs.Text.{equals, parted_by, line_words, lines, no_line, lookup, index_of, among};
 
 // Where a word stands among others, counted from 0, or that it is none of them.
-#[derive(Drop)]
+#[derive(Clone, Copy)]
 pub enum Place {
     At(usize),
     Missing,
 }
 
 // What looking a word up among others comes to: where it stands, and how many of them were looked at.
-#[derive(Drop)]
+#[derive(Clone, Copy)]
 pub struct Lookup {
     pub place: Place,
     pub looked: usize,

@@ -1,18 +1,20 @@
 // Decimal numbers read from words, and texts and numbers written into lent memory. The meaning is in specs/.
+#![tactic(auto)]
+
 ghost use Rattle.std.specs.Prelude.{length, ◌≡◌, suc, ◌+◌, ◌-◌, ◌*◌, ◌≤◌, min};
 ghost use Rattle.text_decimals.specs.Decimal.{digits_from, natural, negative, numeral, decimal, integer};
 ghost use Rattle.text_decimals.specs.HeldMagnitude.{most, clamped, held, to_numeral};
 ghost use Rattle.text_decimals.specs.Memory.{over};
 
 // What a word says where a number is wanted.
-#[derive(Drop)]
+#[derive(Clone, Copy)]
 pub enum Numeral {
     Misspelt,
     Number(i64),
 }
 
 // What is held of a natural number while it is read.
-#[derive(Drop)]
+#[derive(Clone, Copy)]
 enum Magnitude {
     Unspelt,
     Value(u64),

@@ -22,7 +22,7 @@ use refusals::Acceptance;
 
 // The step that a run is at, as it is recorded: whether it is made, and what it costs; and the run after it, apart from its sums: whether
 // STOP was made, how many answers its calls asked for, its state and its blocks.
-#[derive(Drop)]
+#[derive(Clone, Copy)]
 pub struct Recorded {
     pub made: bool,
     pub stopped: bool,

@@ -11,7 +11,7 @@ use instructions::Argument;
 use text::Place;
 
 // What stands at the head of words: a kind by its place in the table with its argument word, or no instruction.
-#[derive(Drop)]
+#[derive(Clone, Copy)]
 pub enum Head {
     Unreadable,
     Instruction(usize, i32),

@@ -29,96 +29,96 @@ abbrev put-decimal-below : ℕ → In 1 put-decimal-kinds.ps
 put-decimal-below t =
     and 1 put-decimal-kinds.ps (falls 1 put-decimal-kinds.ps ◌<◌ μ-put-decimal t) put-decimal.Pre
 
-put-decimal-cast-out : (t : ℕ) → put-decimal-lts.Need-overflow-cast-out (
+put-decimal-cast-out : (t : ℕ) → put-decimal-lts.Need-overflow_cast-out (
   put-decimal-below t,
   put-decimal.Post,
 ) (put-decimal-at t) put-decimal.Post
 put-decimal-cast-out t c = search rules
 
-put-decimal-add-out : (t : ℕ) → put-decimal-lts.Need-overflow-add-out (
+put-decimal-add-out : (t : ℕ) → put-decimal-lts.Need-overflow_add-out (
   put-decimal-below t,
   put-decimal.Post,
 ) (put-decimal-at t) put-decimal.Post
 put-decimal-add-out t c = search rules
 
-put-decimal-slice-write-out : (t : ℕ) → put-decimal-lts.Need-slice-write-out (
+put-decimal-slice-write-out : (t : ℕ) → put-decimal-lts.Need-bounds-out-at (
   put-decimal-below t,
   put-decimal.Post,
 ) (put-decimal-at t) put-decimal.Post
-put-decimal-slice-write-out t c = omega (arith, decimal-length-one c.before.before.args.n c.if1.true)
+put-decimal-slice-write-out t c = omega (arith, decimal-length-one c.args.n c.if-n-lt10.true)
 
-put-decimal-add-result : (t : ℕ) → put-decimal-lts.Need-overflow-add-result (
+put-decimal-add-result : (t : ℕ) → put-decimal-lts.Need-overflow_add-result (
   put-decimal-below t,
   put-decimal.Post,
 ) (put-decimal-at t) put-decimal.Post
-put-decimal-add-result t c = omega (arith, decimal-length-one c.before.before.args.n c.if1.true)
+put-decimal-add-result t c = omega (arith, decimal-length-one c.args.n c.if-n-lt10.true)
 
-put-decimal-same-length : (t : ℕ) → put-decimal-lts.Need-same-length (
+put-decimal-same-length : (t : ℕ) → put-decimal-lts.Need-shape_of-out-then-n-lt10 (
   put-decimal-below t,
   put-decimal.Post,
 ) (put-decimal-at t) put-decimal.Post
 put-decimal-same-length t c = search rules
 
-put-decimal-returns : (t : ℕ) → put-decimal-lts.Need-returns (
+put-decimal-returns : (t : ℕ) → put-decimal-lts.Need-returns-then-n-lt10 (
   put-decimal-below t,
   put-decimal.Post,
 ) (put-decimal-at t) put-decimal.Post
 put-decimal-returns t c =
-    let a = c.before.before.args in
-    let e = decimal-one a.n c.if1.true in
-    let l = decimal-length-one a.n c.if1.true in
+    let a = c.args in
+    let e = decimal-one a.n c.if-n-lt10.true in
+    let l = decimal-length-one a.n c.if-n-lt10.true in
     (omega arith, sets-eq ((48 + a.n) ∷ []) a.out.now a.at (omega arith) ∙ ap (over a.out.now a.at) (sym e))
 
-put-decimal-put-decimal-requires : (t : ℕ) → put-decimal-lts.Need-put-decimal-requires (
+put-decimal-put-decimal-requires : (t : ℕ) → put-decimal-lts.Need-put_decimal-e-requires (
   put-decimal-below t,
   put-decimal.Post,
 ) (put-decimal-at t) put-decimal.Post
 put-decimal-put-decimal-requires t c κs =
-    let s = c.before.before.before in
-    let l = decimal-length-more s.args.n c.before.if1.false in
+    let s = c in
+    let l = decimal-length-more s.args.n c.if-n-lt10.false in
     (omega arith, omega arith)
 
-put-decimal-cast-out-2 : (t : ℕ) → put-decimal-lts.Need-overflow-cast-out-2 (
+put-decimal-cast-out-2 : (t : ℕ) → put-decimal-lts.Need-overflow_cast-out-2 (
   put-decimal-below t,
   put-decimal.Post,
 ) (put-decimal-at t) put-decimal.Post
 put-decimal-cast-out-2 t c = search rules
 
-put-decimal-add-out-2 : (t : ℕ) → put-decimal-lts.Need-overflow-add-out-2 (
+put-decimal-add-out-2 : (t : ℕ) → put-decimal-lts.Need-overflow_add-out-2 (
   put-decimal-below t,
   put-decimal.Post,
 ) (put-decimal-at t) put-decimal.Post
 put-decimal-add-out-2 t c = search rules
 
-put-decimal-slice-write-out-2 : (t : ℕ) → put-decimal-lts.Need-slice-write-out-2 (
+put-decimal-slice-write-out-2 : (t : ℕ) → put-decimal-lts.Need-bounds-out-e (
   put-decimal-below t,
   put-decimal.Post,
 ) (put-decimal-at t) put-decimal.Post
-put-decimal-slice-write-out-2 t c = omega (arith, decimal-length-more c.before.before.before.before.before.before.args.n c.before.before.before.before.if1.false)
+put-decimal-slice-write-out-2 t c = omega (arith, decimal-length-more c.args.n c.if-n-lt10.false)
 
-put-decimal-add-result-2 : (t : ℕ) → put-decimal-lts.Need-overflow-add-result-2 (
+put-decimal-add-result-2 : (t : ℕ) → put-decimal-lts.Need-overflow_add-result-2 (
   put-decimal-below t,
   put-decimal.Post,
 ) (put-decimal-at t) put-decimal.Post
-put-decimal-add-result-2 t c = omega (arith, decimal-length-more c.before.before.before.before.before.before.args.n c.before.before.before.before.if1.false)
+put-decimal-add-result-2 t c = omega (arith, decimal-length-more c.args.n c.if-n-lt10.false)
 
-put-decimal-same-length-2 : (t : ℕ) → put-decimal-lts.Need-same-length-2 (
+put-decimal-same-length-2 : (t : ℕ) → put-decimal-lts.Need-shape_of-out (
   put-decimal-below t,
   put-decimal.Post,
 ) (put-decimal-at t) put-decimal.Post
-put-decimal-same-length-2 t c = simp length-set c.before.before.put-decimal.auto.0
+put-decimal-same-length-2 t c = simp length-set c.put_decimal-e.auto.out
 
-put-decimal-returns-2 : (t : ℕ) → put-decimal-lts.Need-returns-2 (
+put-decimal-returns-2 : (t : ℕ) → put-decimal-lts.Need-returns (
   put-decimal-below t,
   put-decimal.Post,
 ) (put-decimal-at t) put-decimal.Post
 put-decimal-returns-2 t c =
-    let p = c.before.before in
-    let s = p.before.before.before.before in
-    over-decimal s.args.out.now _ s.args.at _ s.args.n p.before.before.if1.false s.requires.1 p.put-decimal.ensures.0 p.put-decimal.ensures.1
+    let p = c in
+    let s = p in
+    over-decimal s.args.out.now _ s.args.at _ s.args.n p.if-n-lt10.false s.requires.1 p.put_decimal-e.ensures.0 p.put_decimal-e.ensures.1
 
-pub +put-decimal-spec : {M : Type 1} → statement M
-+put-decimal-spec = close μ-put-decimal λ t. put-decimal-lts.spec (
+pub +put_decimal_spec : {M : Type 1} → statement M
++put_decimal_spec = close μ-put-decimal λ t. put-decimal-lts.spec (
   put-decimal-below t,
   put-decimal.Post,
 )

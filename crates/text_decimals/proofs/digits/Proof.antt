@@ -12,50 +12,50 @@ use Rattle.text_decimals.proofs.NumeralLaws.{digits-below, digits_above, digits-
 use Rattle.text_decimals.proofs.digits.Statement.{statement}
 use Rattle.text_decimals.proofs.digits.Tie as tie
 
-abbrev invariant-loop : tie.invariant-loop
-invariant-loop s v₀ i₀ v i = (i ≤ length s) × (v ≤ suc most) × (held (digits_from 0 s) ≡ held (digits_from v (drop i s)))
+abbrev invariant-loop-i : tie.invariant-loop-i
+invariant-loop-i s v₀ i₀ v i = (i ≤ length s) × (v ≤ suc most) × (held (digits_from 0 s) ≡ held (digits_from v (drop i s)))
 
-abbrev decreases-loop : tie.decreases-loop
-decreases-loop s v₀ i₀ v i = length s - i
+abbrev decreases-loop-i : tie.decreases-loop-i
+decreases-loop-i s v₀ i₀ v i = length s - i
 
-loop-holds : tie.Need-loop-init invariant-loop decreases-loop
+loop-holds : tie.Need-loop-i-init invariant-loop-i decreases-loop-i
 loop-holds c = (omega arith, omega arith, refl)
 
-returns : tie.Need-returns invariant-loop decreases-loop
+returns : tie.Need-returns-then-d-lt48 invariant-loop-i decreases-loop-i
 returns c =
-    let t = c.before.before in
-    sym (t.before.loop.invariant.2 ∙ digits-below _ _ _ t.loop-test.true c.if1.true)
+    let t = c in
+    sym (t.loop-i.invariant.2 ∙ digits-below _ _ _ t.loop-i-test.true c.if-d-lt48.true)
 
-returns-2 : tie.Need-returns-2 invariant-loop decreases-loop
+returns-2 : tie.Need-returns-then-d-gt57 invariant-loop-i decreases-loop-i
 returns-2 c =
-    let t = c.before.before.before in
-    sym (t.before.loop.invariant.2 ∙ digits_above _ _ _ t.loop-test.true c.before.if1.false c.if2.true)
+    let t = c in
+    sym (t.loop-i.invariant.2 ∙ digits_above _ _ _ t.loop-i-test.true c.if-d-lt48.false c.if-d-gt57.true)
 
-append-digit-requires : tie.Need-append-digit-requires invariant-loop decreases-loop
+append-digit-requires : tie.Need-append_digit-v-requires invariant-loop-i decreases-loop-i
 append-digit-requires c κs = omega arith
 
-loop-again : tie.Need-loop-preserved invariant-loop decreases-loop
+loop-again : tie.Need-loop-i-preserved invariant-loop-i decreases-loop-i
 loop-again c =
-    let i = c.before.before in
-    let t = i.before.before.before in
-    let l = t.before in
-    let m : c.append-digit.result ≡ min (suc most) (l.loop.v * 10 + (get_or l.before.before.args.s.now l.loop.i 0 - 48)) = omega arith in (
+    let i = c in
+    let t = i in
+    let l = t in
+    let m : c.append_digit-v.result ≡ min (suc most) (l.loop-i.v * 10 + (get_or l.args.s.now l.loop-i.i 0 - 48)) = omega arith in (
       omega arith,
       omega arith,
-      rw add-one (l.loop.invariant.2 ∙ ap held (digits-next _ _ _ t.loop-test.true i.before.if1.false i.if2.false) ∙ held-digits _ _ _ (omega arith)),
+      rw add-one (l.loop-i.invariant.2 ∙ ap held (digits-next _ _ _ t.loop-i-test.true i.if-d-lt48.false i.if-d-gt57.false) ∙ held-digits _ _ _ (omega arith)),
     )
 
-returns-3 : tie.Need-returns-3 invariant-loop decreases-loop
+returns-3 : tie.Need-returns invariant-loop-i decreases-loop-i
 returns-3 c =
-    let l = c.before in
-    sym (l.loop.invariant.2 ∙ digits-end _ _ _ c.loop-test.false l.loop.invariant.1)
+    let l = c in
+    sym (l.loop-i.invariant.2 ∙ digits-end _ _ _ c.loop-i-test.false l.loop-i.invariant.1)
 
-pub digits-spec : {M : Type 1} → statement M
-digits-spec =
+pub digits_spec : {M : Type 1} → statement M
+digits_spec =
     tie.close
     (tie.spec
-    invariant-loop
-    decreases-loop
+    invariant-loop-i
+    decreases-loop-i
     loop-holds
     (λ c. search rules)
     returns

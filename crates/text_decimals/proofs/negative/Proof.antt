@@ -8,24 +8,24 @@ use Rattle.text_decimals.proofs.NumeralLaws.{minus-fits, negative-zero, negative
 use Rattle.text_decimals.proofs.negative.Statement.{statement}
 use Rattle.text_decimals.proofs.negative.Tie as tie
 
-returns : tie.Need-returns
+returns : tie.Need-returns-in_default
 unfolding clamped to_numeral
 returns c = search rules
 
-returns-2 : tie.Need-returns-2
+returns-2 : tie.Need-returns-then-v-eq0
 returns-2 c =
-    let m = c.before.before.m.given in
-    sym (ap (λ x. clamped (negative (to_numeral x))) m.1 ∙ negative-zero _ c.if1.true)
+    let m = c.in-Value in
+    sym (ap (λ x. clamped (negative (to_numeral x))) m.is ∙ negative-zero _ c.if-v-eq0.true)
 
-sub-t7 : tie.Need-overflow-sub-t7
-sub-t7 c = minus-fits c.smaller.result (omega arith)
+sub-t7 : tie.Need-overflow_sub-result
+sub-t7 c = minus-fits c.smaller-n.result (omega arith)
 
-returns-3 : tie.Need-returns-3
+returns-3 : tie.Need-returns
 returns-3 c =
-    let m = c.before.before.before.m.given in
-    sym (ap (λ x. clamped (negative (to_numeral x))) m.1 ∙ negative-read _ _ c.before.if1.false c.smaller.ensures)
+    let m = c.in-Value in
+    sym (ap (λ x. clamped (negative (to_numeral x))) m.is ∙ negative-read _ _ c.if-v-eq0.false c.smaller-n.ensures)
 
-pub negative-spec : {M : Type 1} → statement M
-negative-spec =
+pub negative_spec : {M : Type 1} → statement M
+negative_spec =
     tie.close
     (tie.spec (λ c. search rules) (λ c. search rules) returns returns-2 (λ c. search rules) (λ c κs. search rules) (λ c. search rules) sub-t7 returns-3)

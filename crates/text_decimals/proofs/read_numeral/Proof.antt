@@ -7,25 +7,25 @@ use Rattle.text_decimals.proofs.NumeralLaws.{numeral-none, numeral-positive, num
 use Rattle.text_decimals.proofs.read_numeral.Statement.{statement}
 use Rattle.text_decimals.proofs.read_numeral.Tie as tie
 
-returns : tie.Need-returns
-returns c = sym (numeral-none _ c.if1.true)
+returns : tie.Need-returns-then-w-eq0
+returns c = sym (numeral-none _ c.if-w-eq0.true)
 
-returns-2 : tie.Need-returns-2
+returns-2 : tie.Need-returns-then-w-ne45
 returns-2 c =
-    let i = c.before.before in
+    let i = c in
     c.positive.ensures
-    ∙ ap (λ m. clamped (to_numeral m)) c.before.natural.ensures
-    ∙ numeral-positive _ i.before.before.if1.false i.if2.true
+    ∙ ap (λ m. clamped (to_numeral m)) c.natural.ensures
+    ∙ numeral-positive _ i.if-w-eq0.false i.if-w-ne45.true
 
-returns-3 : tie.Need-returns-3
+returns-3 : tie.Need-returns
 returns-3 c =
-    let i = c.before.before.before in
+    let i = c in
     c.negative.ensures
-    ∙ ap (λ m. clamped (negative (to_numeral m))) c.before.natural2.ensures
-    ∙ numeral-negative _ i.before.before.if1.false i.if2.false
+    ∙ ap (λ m. clamped (negative (to_numeral m))) c.natural-2.ensures
+    ∙ numeral-negative _ i.if-w-eq0.false i.if-w-ne45.false
 
-pub read-numeral-spec : {M : Type 1} → statement M
-read-numeral-spec =
+pub read_numeral_spec : {M : Type 1} → statement M
+read_numeral_spec =
     tie.close
     (tie.spec
     returns
