@@ -1,4 +1,6 @@
 // The 61 instruction kinds, and their table by columns. The meaning is in specs/.
+#![tactic(auto)]
+
 ghost use Rattle.std.specs.Prelude.{◌≡◌, ℕ, ◌+◌, ◌≤◌, ◌<◌, ltb, length};
 ghost use Rattle.text.specs.Text.{equals, place_among};
 ghost use Rattle.text_decimals.specs.Memory.{over};

@@ -1,4 +1,6 @@
 // Cells where ways meet: the merge of two, and the numbers by which cells wait in a table. The meaning is in specs/.
+#![tactic(auto)]
+
 ghost use Rattle.std.specs.Prelude.{◌≡◌};
 ghost use Rattle.cells.specs.Cells.{results};
 ghost use Rattle.cells.specs.HeldAnswers.{of_operand};

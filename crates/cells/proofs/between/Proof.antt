@@ -10,29 +10,29 @@ use Rattle.cells.proofs.ComputeLaws.{operands-fit, operands-read, between-fits, 
 use Rattle.cells.proofs.between.Statement.{statement}
 use Rattle.cells.proofs.between.Tie as tie
 
-returns : tie.Need-returns
-returns c = ap (λ (z : ℤ). range z 0) (to_z-of_z w32 _ c.before.ranges.low) ∙ between-above _ _ (sym (read-both lt_z w32 _ _ c.before.ranges.high c.before.ranges.low) ∙ c.if1.true)
+returns : tie.Need-returns-then-high-low
+returns c = ap (λ (z : ℤ). range z 0) (to_z-of_z w32 _ c.ranges.low) ∙ between-above _ _ (sym (read-both lt_z w32 _ _ c.ranges.high c.ranges.low) ∙ c.if-high-low.true)
 
-cast-more : tie.Need-overflow-cast-more
-cast-more c = cast_fits _ c.before.ranges.high
+cast-more : tie.Need-overflow_cast-more
+cast-more c = cast_fits _ c.ranges.high
 
-cast-more-2 : tie.Need-overflow-cast-more-2
-cast-more-2 c = cast_fits _ c.before.ranges.low
+cast-more-2 : tie.Need-overflow_cast-more-2
+cast-more-2 c = cast_fits _ c.ranges.low
 
-sub_more : tie.Need-overflow-sub-more
-sub_more c = operands-fit ◌-ℤ◌ (wide_is _ c.before.ranges.high) (wide_is _ c.before.ranges.low) (between-fits _ _ c.before.ranges.low c.before.ranges.high)
+sub_more : tie.Need-overflow_sub-more
+sub_more c = operands-fit ◌-ℤ◌ (wide_is _ c.ranges.high) (wide_is _ c.ranges.low) (between-fits _ _ c.ranges.low c.ranges.high)
 
-cast-t8 : tie.Need-overflow-cast-t8
+cast-t8 : tie.Need-overflow_cast-result
 cast-t8 c =
-    let e = operands-read ◌-ℤ◌ (wide_is _ c.before.ranges.high) (wide_is _ c.before.ranges.low) (between-fits _ _ c.before.ranges.low c.before.ranges.high) in
-    let u = between-unsigned _ _ c.before.ranges.low c.before.ranges.high (sym (read-both lt_z w32 _ _ c.before.ranges.high c.before.ranges.low) ∙ c.if1.false) in
+    let e = operands-read ◌-ℤ◌ (wide_is _ c.ranges.high) (wide_is _ c.ranges.low) (between-fits _ _ c.ranges.low c.ranges.high) in
+    let u = between-unsigned _ _ c.ranges.low c.ranges.high (sym (read-both lt_z w32 _ _ c.ranges.high c.ranges.low) ∙ c.if-high-low.false) in
     rw e (u.sign, record { fits = u.few })
 
-returns-2 : tie.Need-returns-2
+returns-2 : tie.Need-returns
 returns-2 c =
-    ap₂ range (to_z-of_z w32 _ c.before.ranges.low)
-    (ap nat_abs (operands-read ◌-ℤ◌ (wide_is _ c.before.ranges.high) (wide_is _ c.before.ranges.low) (between-fits _ _ c.before.ranges.low c.before.ranges.high)))
-    ∙ between-up _ _ (sym (read-both lt_z w32 _ _ c.before.ranges.high c.before.ranges.low) ∙ c.if1.false)
+    ap₂ range (to_z-of_z w32 _ c.ranges.low)
+    (ap nat_abs (operands-read ◌-ℤ◌ (wide_is _ c.ranges.high) (wide_is _ c.ranges.low) (between-fits _ _ c.ranges.low c.ranges.high)))
+    ∙ between-up _ _ (sym (read-both lt_z w32 _ _ c.ranges.high c.ranges.low) ∙ c.if-high-low.false)
 
-pub between-spec : {M : Type 1} → statement M
-between-spec = tie.close (tie.spec returns cast-more cast-more-2 sub_more cast-t8 returns-2)
+pub between_spec : {M : Type 1} → statement M
+between_spec = tie.close (tie.spec returns cast-more cast-more-2 sub_more cast-t8 returns-2)

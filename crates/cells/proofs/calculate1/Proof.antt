@@ -10,32 +10,32 @@ use borrow.Author.Rules.{rules}
 use Rattle.cells.proofs.calculate1.Statement.{statement}
 use Rattle.cells.proofs.calculate1.Tie as tie
 
-enum_told : tie.Need-enum-told
+enum_told : tie.Need-enum_told-1
 enum_told c = search rules
 
-returns : tie.Need-returns
+returns : tie.Need-returns-in-Offset
 unfolding calculate₁
 returns c =
-    let start = c.before.before.before in
-    calculated (λ u. calculate₁ u start.args.i start.args.n) start.args.u c.before.enum_told.given.1 c.wrapping_add.ensures
+    let start = c in
+    calculated (λ u. calculate₁ u start.args.i start.args.n) start.args.u c.in-Offset.is c.wrapping_add.ensures
     (read-both ◌+ℤ◌ w32 _ _ start.ranges.n start.ranges.i)
 
-returns-2 : tie.Need-returns-2
+returns-2 : tie.Need-returns-in-Negate
 unfolding calculate₁
 returns-2 c =
-    let start = c.before.before.before in
-    calculated (λ u. calculate₁ u start.args.i start.args.n) start.args.u c.before.enum-told2.given.1 c.negate.ensures
+    let start = c in
+    calculated (λ u. calculate₁ u start.args.i start.args.n) start.args.u c.in-Negate.is c.negate.ensures
     (ap neg_ℤ (to_z-of_z w32 _ start.ranges.n))
 
-returns-3 : tie.Need-returns-3
+returns-3 : tie.Need-returns-in-Complement
 unfolding calculate₁
 returns-3 c =
-    let start = c.before.before.before in
-    calculated (λ u. calculate₁ u start.args.i start.args.n) start.args.u c.before.enum-told3.given.1 c.wrapping-sub.ensures
+    let start = c in
+    calculated (λ u. calculate₁ u start.args.i start.args.n) start.args.u c.in-Complement.is c.wrapping_sub.ensures
     (ap (λ z. pos 1 -ℤ z) (to_z-of_z w32 _ start.ranges.n))
 
-pub calculate1-spec : {M : Type 1} → statement M
-calculate1-spec =
+pub calculate1_spec : {M : Type 1} → statement M
+calculate1_spec =
     tie.close
     (tie.spec
     enum_told

@@ -10,36 +10,36 @@ use borrow.Author.Rules.{rules}
 use Rattle.cells.proofs.calculate2.Statement.{statement}
 use Rattle.cells.proofs.calculate2.Tie as tie
 
-enum_told : tie.Need-enum-told
+enum_told : tie.Need-enum_told-1
 enum_told c = search rules
 
-returns : tie.Need-returns
+returns : tie.Need-returns-in-Add
 unfolding calculate₂
 returns c =
-    let start = c.before.before.before in
-    calculated (λ b. calculate₂ b start.args.m start.args.n) start.args.b c.before.enum_told.given.1 c.wrapping_add.ensures
+    let start = c in
+    calculated (λ b. calculate₂ b start.args.m start.args.n) start.args.b c.in-Add.is c.wrapping_add.ensures
     (read-both ◌+ℤ◌ w32 _ _ start.ranges.m start.ranges.n)
 
-returns-2 : tie.Need-returns-2
+returns-2 : tie.Need-returns-in-Subtract
 unfolding calculate₂
 returns-2 c =
-    let start = c.before.before.before in
-    calculated (λ b. calculate₂ b start.args.m start.args.n) start.args.b c.before.enum-told2.given.1 c.wrapping-sub.ensures
+    let start = c in
+    calculated (λ b. calculate₂ b start.args.m start.args.n) start.args.b c.in-Subtract.is c.wrapping_sub.ensures
     (read-both ◌-ℤ◌ w32 _ _ start.ranges.m start.ranges.n)
 
-returns-3 : tie.Need-returns-3
+returns-3 : tie.Need-returns-in-Compare
 unfolding calculate₂
 returns-3 c =
-    let start = c.before.before.before.before in
-    let known = c.before.before.b.given in
-    calculated (λ b. calculate₂ b start.args.m start.args.n) start.args.b known.1
+    let start = c in
+    let known = c.in-Compare in
+    calculated (λ b. calculate₂ b start.args.m start.args.n) start.args.b known.is
     (c.compare.ensures
-    ∙ read-both (λ m n. bit (holds known.0.0 m n)) w32 _ _ start.ranges.m start.ranges.n
-    ∙ sym (bit-keeps (holds known.0.0 start.args.m start.args.n)))
+    ∙ read-both (λ m n. bit (holds known.c m n)) w32 _ _ start.ranges.m start.ranges.n
+    ∙ sym (bit-keeps (holds known.c start.args.m start.args.n)))
     refl
 
-pub calculate2-spec : {M : Type 1} → statement M
-calculate2-spec =
+pub calculate2_spec : {M : Type 1} → statement M
+calculate2_spec =
     tie.close
     (tie.spec
     enum_told

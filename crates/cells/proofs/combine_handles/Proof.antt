@@ -6,23 +6,23 @@ use borrow.Author.Rules.{rules}
 use Rattle.cells.proofs.combine_handles.Statement.{statement}
 use Rattle.cells.proofs.combine_handles.Tie as tie
 
-enum_told : tie.Need-enum-told
+enum_told : tie.Need-enum_told-1
 enum_told c = search rules
 
-returns : tie.Need-returns
+returns : tie.Need-returns-in-Add
 unfolding combine_handles
-returns c = combined _ _ _ c.enum_told.given.1 refl
+returns c = combined _ _ _ c.in-Add.is refl
 
-returns-2 : tie.Need-returns-2
+returns-2 : tie.Need-returns-in-Subtract
 unfolding combine_handles
-returns-2 c = combined _ _ _ c.enum-told2.given.1 refl
+returns-2 c = combined _ _ _ c.in-Subtract.is refl
 
-returns-3 : tie.Need-returns-3
+returns-3 : tie.Need-returns-in-Compare
 unfolding combine_handles
-returns-3 c = combined _ _ _ c.before.before.b.given.1 c.compare-handles.ensures
+returns-3 c = combined _ _ _ c.in-Compare.is c.compare_handles.ensures
 
-pub combine-handles-spec : {M : Type 1} → statement M
-combine-handles-spec =
+pub combine_handles_spec : {M : Type 1} → statement M
+combine_handles_spec =
     tie.close
     (tie.spec
     enum_told

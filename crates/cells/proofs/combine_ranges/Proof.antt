@@ -27,16 +27,16 @@ module _ (b : Binary) (l : ℤ) (m : ℕ) (k : ℤ) (n : ℕ) (f : SFits w32 l) 
       p ∙ read-both (λ (y z : ℤ). wider b y m z n) w32 l k f g
       ∙ ap (λ (t : Bool). cond t (exactly (calculate₂ b l k)) (wider b l m k n)) (sym (ne_eqb (m + n) 0 e))
 
-returns : tie.Need-returns
+returns : tie.Need-returns-then-more-more2-eq0
 returns c =
-    let start = c.before.before in
-    single _ _ _ _ _ start.ranges.low start.ranges.low2 c.before.if1.true c.calculate2.ensures
+    let start = c in
+    single _ _ _ _ _ start.ranges.low start.ranges.low2 c.if-more-more2-eq0.true c.calculate2.ensures
 
-returns-2 : tie.Need-returns-2
+returns-2 : tie.Need-returns
 returns-2 c =
-    let start = c.before.before in
-    wide _ _ _ _ _ start.ranges.low start.ranges.low2 c.before.if1.false c.wider.ensures
+    let start = c in
+    wide _ _ _ _ _ start.ranges.low start.ranges.low2 c.if-more-more2-eq0.false c.wider.ensures
 
-pub combine-ranges-spec : {M : Type 1} → statement M
-combine-ranges-spec =
+pub combine_ranges_spec : {M : Type 1} → statement M
+combine_ranges_spec =
     tie.close (tie.spec (λ c. search rules) (λ c κs. search rules) returns (λ c κs. search rules) returns-2)

@@ -53,35 +53,35 @@ module _ (a : Cell) (l : ℤ) (m : ℕ) (f : SFits w32 l) (held : a.value ≡ Ra
     pub wide : lt_z (read w64 r) (pos 0) ≡ false → (m ≡ 0 → ⊥) → done IsUnknown ≡ condition a
     wide e n = around e (rw (ne_eqb m 0 n) refl)
 
-returns : tie.Need-returns
+returns : tie.Need-returns-then-low-gt0
 returns c =
-    let known = c.before.before.value.given in
-    above _ _ _ (search rules) known.1 c.if1.true
+    let known = c.in-Range in
+    above _ _ _ (search rules) known.is c.if-low-gt0.true
 
-returns-2 : tie.Need-returns-2
+returns-2 : tie.Need-returns-then-high-lt0
 returns-2 c =
-    let known = c.before.before.before.before.value.given in
-    under-0 _ known.0.0 known.0.1.0 (search rules) known.1 (search rules) c.before.before.if1.false c.before.high.ensures c.if2.true
+    let known = c.in-Range in
+    under-0 _ known.low known.more (search rules) known.is (search rules) c.if-low-gt0.false c.high.ensures c.if-high-lt0.true
 
-enum_told : tie.Need-enum-told
+enum_told : tie.Need-enum_told-1
 enum_told c = search rules
 
-returns-3 : tie.Need-returns-3
+returns-3 : tie.Need-returns-then-more-eq0
 returns-3 c =
-    let known = c.before.before.before.before.before.value.given in
-    zero _ known.0.0 known.0.1.0 (search rules) known.1 (search rules) c.before.before.before.if1.false c.before.before.high.ensures c.before.if2.false c.if3.true
+    let known = c.in-Range in
+    zero _ known.low known.more (search rules) known.is (search rules) c.if-low-gt0.false c.high.ensures c.if-high-lt0.false c.if-more-eq0.true
 
-returns-4 : tie.Need-returns-4
+returns-4 : tie.Need-returns-else-more-eq0
 returns-4 c =
-    let known = c.before.before.before.before.before.value.given in
-    wide _ known.0.0 known.0.1.0 (search rules) known.1 (search rules) c.before.before.before.if1.false c.before.before.high.ensures c.before.if2.false c.if3.false
+    let known = c.in-Range in
+    wide _ known.low known.more (search rules) known.is (search rules) c.if-low-gt0.false c.high.ensures c.if-high-lt0.false c.if-more-eq0.false
 
-returns-5 : tie.Need-returns-5
+returns-5 : tie.Need-returns-in-Handle
 unfolding condition condition_in
-returns-5 c = ap condition_in (sym c.enum_told.given.1)
+returns-5 c = ap condition_in (sym c.in-Handle.is)
 
-pub condition-of-spec : {M : Type 1} → statement M
-condition-of-spec =
+pub condition_of_spec : {M : Type 1} → statement M
+condition_of_spec =
     tie.close
     (tie.spec
     (λ c. search rules)

@@ -7,11 +7,11 @@ use borrow.Author.Rules.{rules}
 use Rattle.cells.proofs.exactly.Statement.{statement}
 use Rattle.cells.proofs.exactly.Tie as tie
 
-cast-narrow : tie.Need-overflow-cast-narrow
+cast-narrow : tie.Need-overflow_cast-n
 cast-narrow c = cast_fits c.args.n c.ranges.n
 
 returns : tie.Need-returns
-returns c = ap (λ z. range z 0) (result-read (wrap-fits _) (sym c.narrow.ensures) ∙ ap wrap (wide_is _ c.before.ranges.n))
+returns c = ap (λ z. range z 0) (result-read (wrap-fits _) (sym c.narrow.ensures) ∙ ap wrap (wide_is _ c.ranges.n))
 
-pub exactly-spec : {M : Type 1} → statement M
-exactly-spec = tie.close (tie.spec cast-narrow (λ c κs. search rules) returns)
+pub exactly_spec : {M : Type 1} → statement M
+exactly_spec = tie.close (tie.spec cast-narrow (λ c κs. search rules) returns)

@@ -7,14 +7,14 @@ use borrow.Author.Rules.{rules}
 use Rattle.cells.proofs.high.Statement.{statement}
 use Rattle.cells.proofs.high.Tie as tie
 
-cast-result : tie.Need-overflow-cast-result
+cast-result : tie.Need-overflow_cast-result
 cast-result c = cast_fits c.args.low c.ranges.low
 
-add-result : tie.Need-overflow-add-result
+add-result : tie.Need-overflow_add-result
 add-result c = operands-fit ◌+ℤ◌ (wide_is _ c.ranges.low) (pos-is c.args.more (omega arith)) (high_fits _ _ c.ranges.low (omega arith))
 
 returns : tie.Need-returns
 returns c = operands-read ◌+ℤ◌ (wide_is _ c.ranges.low) (pos-is c.args.more (omega arith)) (high_fits _ _ c.ranges.low (omega arith))
 
-pub high-spec : {M : Type 1} → statement M
-high-spec = tie.close (tie.spec cast-result (λ c. search rules) add-result returns)
+pub high_spec : {M : Type 1} → statement M
+high_spec = tie.close (tie.spec cast-result (λ c. search rules) add-result returns)

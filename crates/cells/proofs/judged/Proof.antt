@@ -30,25 +30,25 @@ module _ (c : Comparison) (l h m n : ℤ) where
   unfolding judged
   some e o q s = rw (e, sym (ap (λ (d : Comparison). always d l h m n) o) ∙ sym q ∙ s) refl
 
-returns : tie.Need-returns
+returns : tie.Need-returns-then-always
 returns c =
-    let start = c.before.before.before in
-    every _ _ _ _ _ (sym (reads start.args.c _ _ _ _ start.ranges.l start.ranges.h start.ranges.m start.ranges.n _ c.before.before.always.ensures) ∙ c.before.if1.true) c.exactly.ensures
+    let start = c in
+    every _ _ _ _ _ (sym (reads start.args.c _ _ _ _ start.ranges.l start.ranges.h start.ranges.m start.ranges.n _ c.always.ensures) ∙ c.if-always.true) c.exactly.ensures
 
-returns-2 : tie.Need-returns-2
+returns-2 : tie.Need-returns-then-always-2
 returns-2 c =
-    let start = c.before.before.before.before.before.before in
-    none _ _ _ _ _ (sym (reads start.args.c _ _ _ _ start.ranges.l start.ranges.h start.ranges.m start.ranges.n _ c.before.before.before.before.before.always.ensures) ∙ c.before.before.before.before.if1.false)
-    c.before.before.before.negated.ensures (reads start.args.c _ _ _ _ start.ranges.l start.ranges.h start.ranges.m start.ranges.n _ c.before.before.always2.ensures) c.before.if2.true c.exactly2.ensures
+    let start = c in
+    none _ _ _ _ _ (sym (reads start.args.c _ _ _ _ start.ranges.l start.ranges.h start.ranges.m start.ranges.n _ c.always.ensures) ∙ c.if-always.false)
+    c.negated.ensures (reads start.args.c _ _ _ _ start.ranges.l start.ranges.h start.ranges.m start.ranges.n _ c.always-2.ensures) c.if-always-2.true c.exactly-then-always-2.ensures
 
-returns-3 : tie.Need-returns-3
+returns-3 : tie.Need-returns
 returns-3 c =
-    let start = c.before.before.before.before.before in
-    some _ _ _ _ _ (sym (reads start.args.c _ _ _ _ start.ranges.l start.ranges.h start.ranges.m start.ranges.n _ c.before.before.before.before.always.ensures) ∙ c.before.before.before.if1.false)
-    c.before.before.negated.ensures (reads start.args.c _ _ _ _ start.ranges.l start.ranges.h start.ranges.m start.ranges.n _ c.before.always2.ensures) c.if2.false
+    let start = c in
+    some _ _ _ _ _ (sym (reads start.args.c _ _ _ _ start.ranges.l start.ranges.h start.ranges.m start.ranges.n _ c.always.ensures) ∙ c.if-always.false)
+    c.negated.ensures (reads start.args.c _ _ _ _ start.ranges.l start.ranges.h start.ranges.m start.ranges.n _ c.always-2.ensures) c.if-always-2.false
 
-pub judged-spec : {M : Type 1} → statement M
-judged-spec =
+pub judged_spec : {M : Type 1} → statement M
+judged_spec =
     tie.close
     (tie.spec
     (λ c κs. search rules)

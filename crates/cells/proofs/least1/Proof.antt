@@ -8,47 +8,47 @@ use borrow.Author.Rules.{rules}
 use Rattle.cells.proofs.least1.Statement.{statement}
 use Rattle.cells.proofs.least1.Tie as tie
 
-enum_told : tie.Need-enum-told
+enum_told : tie.Need-enum_told-1
 enum_told c = search rules
 
-cast-result : tie.Need-overflow-cast-result
-cast-result c = cast_fits _ c.before.before.ranges.low
+cast-result : tie.Need-overflow_cast-result
+cast-result c = cast_fits _ c.ranges.low
 
-cast-result-2 : tie.Need-overflow-cast-result-2
-cast-result-2 c = cast_fits _ c.before.before.ranges.i
+cast-result-2 : tie.Need-overflow_cast-result-in-Offset
+cast-result-2 c = cast_fits _ c.ranges.i
 
-add-result : tie.Need-overflow-add-result
-add-result c = operands-fit ◌+ℤ◌ (wide_is _ c.before.before.ranges.low) (wide_is _ c.before.before.ranges.i) (near-64 _ (sum_near _ _ c.before.before.ranges.low c.before.before.ranges.i))
+add-result : tie.Need-overflow_add-result
+add-result c = operands-fit ◌+ℤ◌ (wide_is _ c.ranges.low) (wide_is _ c.ranges.i) (near-64 _ (sum_near _ _ c.ranges.low c.ranges.i))
 
-sub-result : tie.Need-overflow-sub-result
+sub-result : tie.Need-overflow_sub-result
 sub-result c =
-    let start = c.before.before.before in
+    let start = c in
     operands-fit ◌-ℤ◌ {x = pos 0} refl (high-told start.args.low start.args.more start.ranges.low (omega arith) c.high.ensures) (from-near 0 start.args.low start.args.more (omega arith) start.ranges.low (omega arith))
 
-sub-result-2 : tie.Need-overflow-sub-result-2
+sub-result-2 : tie.Need-overflow_sub-result-in-Complement
 sub-result-2 c =
-    let start = c.before.before.before in
-    operands-fit ◌-ℤ◌ {x = pos 1} refl (high-told start.args.low start.args.more start.ranges.low (omega arith) c.high2.ensures) (from-near 1 start.args.low start.args.more (omega arith) start.ranges.low (omega arith))
+    let start = c in
+    operands-fit ◌-ℤ◌ {x = pos 1} refl (high-told start.args.low start.args.more start.ranges.low (omega arith) c.high-in-Complement.ensures) (from-near 1 start.args.low start.args.more (omega arith) start.ranges.low (omega arith))
 
-returns : tie.Need-returns
+returns : tie.Need-returns-in-Offset
 returns c =
-    let start = c.before.before in
-    least-offset _ _ _ c.enum_told.given.1 refl (operands-read ◌+ℤ◌ (wide_is _ start.ranges.low) (wide_is _ start.ranges.i) (near-64 _ (sum_near _ _ start.ranges.low start.ranges.i)))
+    let start = c in
+    least-offset _ _ _ c.in-Offset.is refl (operands-read ◌+ℤ◌ (wide_is _ start.ranges.low) (wide_is _ start.ranges.i) (near-64 _ (sum_near _ _ start.ranges.low start.ranges.i)))
 
-returns-2 : tie.Need-returns-2
+returns-2 : tie.Need-returns-in-Negate
 returns-2 c =
-    let start = c.before.before.before in
-    least-negate _ _ _ c.before.enum-told2.given.1 refl
+    let start = c in
+    least-negate _ _ _ c.in-Negate.is refl
     (operands-read ◌-ℤ◌ {x = pos 0} refl (high-told start.args.low start.args.more start.ranges.low (omega arith) c.high.ensures) (from-near 0 start.args.low start.args.more (omega arith) start.ranges.low (omega arith)))
 
-returns-3 : tie.Need-returns-3
+returns-3 : tie.Need-returns-in-Complement
 returns-3 c =
-    let start = c.before.before.before in
-    least-complement _ _ _ c.before.enum-told3.given.1 refl
-    (operands-read ◌-ℤ◌ {x = pos 1} refl (high-told start.args.low start.args.more start.ranges.low (omega arith) c.high2.ensures) (from-near 1 start.args.low start.args.more (omega arith) start.ranges.low (omega arith)))
+    let start = c in
+    least-complement _ _ _ c.in-Complement.is refl
+    (operands-read ◌-ℤ◌ {x = pos 1} refl (high-told start.args.low start.args.more start.ranges.low (omega arith) c.high-in-Complement.ensures) (from-near 1 start.args.low start.args.more (omega arith) start.ranges.low (omega arith)))
 
-pub least1-spec : {M : Type 1} → statement M
-least1-spec =
+pub least1_spec : {M : Type 1} → statement M
+least1_spec =
     tie.close
     (tie.spec
     enum_told

@@ -5,35 +5,35 @@ use borrow.Author.Rules.{rules}
 use Rattle.cells.proofs.negated.Statement.{statement}
 use Rattle.cells.proofs.negated.Tie as tie
 
-enum_told : tie.Need-enum-told
+enum_told : tie.Need-enum_told-1
 enum_told c = search rules
 
-returns : tie.Need-returns
+returns : tie.Need-returns-in-Equal
 unfolding negated
-returns c = ap negated (sym c.enum_told.given.1)
+returns c = ap negated (sym c.in-Equal.is)
 
-returns-2 : tie.Need-returns-2
+returns-2 : tie.Need-returns-in-Unequal
 unfolding negated
-returns-2 c = ap negated (sym c.enum-told2.given.1)
+returns-2 c = ap negated (sym c.in-Unequal.is)
 
-returns-3 : tie.Need-returns-3
+returns-3 : tie.Need-returns-in-Less
 unfolding negated
-returns-3 c = ap negated (sym c.enum-told3.given.1)
+returns-3 c = ap negated (sym c.in-Less.is)
 
-returns-4 : tie.Need-returns-4
+returns-4 : tie.Need-returns-in-AtMost
 unfolding negated
-returns-4 c = ap negated (sym c.enum-told4.given.1)
+returns-4 c = ap negated (sym c.in-AtMost.is)
 
-returns-5 : tie.Need-returns-5
+returns-5 : tie.Need-returns-in-Greater
 unfolding negated
-returns-5 c = ap negated (sym c.enum-told5.given.1)
+returns-5 c = ap negated (sym c.in-Greater.is)
 
-returns-6 : tie.Need-returns-6
+returns-6 : tie.Need-returns-in-AtLeast
 unfolding negated
-returns-6 c = ap negated (sym c.enum-told6.given.1)
+returns-6 c = ap negated (sym c.in-AtLeast.is)
 
-pub negated-spec : {M : Type 1} → statement M
-negated-spec =
+pub negated_spec : {M : Type 1} → statement M
+negated_spec =
     tie.close
     (tie.spec
     enum_told

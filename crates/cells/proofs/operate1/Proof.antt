@@ -47,31 +47,31 @@ module _ (u : Unary) (i : ℤ) (a : Cell) (l : ℤ) (m : ℕ) (f : SFits w32 i) 
 
 results-requires : tie.Need-results-requires
 results-requires c κs =
-    let start = c.before.before.before.before.before in
-    let known = c.before.before.before.value.given in
-    small start.args.u start.args.i start.args.a known.0.0 known.0.1.0 start.ranges.i (search rules) (search rules) c.least1.ensures
+    let start = c in
+    let known = c.in-Range in
+    small start.args.u start.args.i start.args.a known.low known.more start.ranges.i (search rules) (search rules) c.least1.ensures
 
-enum_told : tie.Need-enum-told
+enum_told : tie.Need-enum_told-1
 enum_told c = search rules
 
-returns : tie.Need-returns
+returns : tie.Need-returns-then-more-eq0
 returns c =
-    let start = c.before.before.before.before.before in
-    let known = c.before.before.before.value.given in
-    single start.args.u start.args.i start.args.a known.0.0 known.0.1.0 start.ranges.i (search rules) known.1 c.before.if1.true c.calculate1.ensures
+    let start = c in
+    let known = c.in-Range in
+    single start.args.u start.args.i start.args.a known.low known.more start.ranges.i (search rules) known.is c.if-more-eq0.true c.calculate1.ensures
 
-returns-2 : tie.Need-returns-2
+returns-2 : tie.Need-returns-else-more-eq0
 returns-2 c =
-    let start = c.before.before.before.before.before.before in
-    let known = c.before.before.before.before.value.given in
-    wide start.args.u start.args.i start.args.a known.0.0 known.0.1.0 start.ranges.i (search rules) (search rules) c.before.least1.ensures known.1 c.before.before.if1.false c.results.ensures
+    let start = c in
+    let known = c.in-Range in
+    wide start.args.u start.args.i start.args.a known.low known.more start.ranges.i (search rules) (search rules) c.least1.ensures known.is c.if-more-eq0.false c.results.ensures
 
-returns-3 : tie.Need-returns-3
+returns-3 : tie.Need-returns-in-Handle
 unfolding map₁
-returns-3 c = operated₁ _ _ _ c.enum_told.given.1 refl
+returns-3 c = operated₁ _ _ _ c.in-Handle.is refl
 
-pub operate1-spec : {M : Type 1} → statement M
-operate1-spec =
+pub operate1_spec : {M : Type 1} → statement M
+operate1_spec =
     tie.close
     (tie.spec
     (λ c. search rules)

@@ -20,29 +20,29 @@ ranges : (b : Binary) (a c : Cell) (l : ℤ) (m : ℕ) (k : ℤ) (n : ℕ) {x : 
 unfolding map₂
 ranges b a c l m k n f g p q e = operated₂ b a c p q (ap done (e ∙ read-both (λ (y z : ℤ). range₂ b y m z n) w32 l k f g))
 
-enum_told : tie.Need-enum-told
+enum_told : tie.Need-enum_told-1
 enum_told c = search rules
 
-returns : tie.Need-returns
+returns : tie.Need-returns-in-Range-right
 returns c =
-    let left = c.before.before.before.before.before.left.given in
-    let right = c.before.before.right.given in
-    ranges _ _ _ left.0.0 left.0.1.0 right.0.0 right.0.1.0 (search rules) (search rules) left.1 right.1 c.combine-ranges.ensures
+    let left = c.in-Range in
+    let right = c.in-Range-right in
+    ranges _ _ _ left.low left.more right.low2 right.more2 (search rules) (search rules) left.is right.is c.combine_ranges.ensures
 
-returns-2 : tie.Need-returns-2
+returns-2 : tie.Need-returns-in-Handle-right
 unfolding map₂
-returns-2 c = operated₂ _ _ _ c.before.before.before.left.given.1 c.enum_told.given.1 refl
+returns-2 c = operated₂ _ _ _ c.in-Range.is c.in-Handle-right.is refl
 
-returns-3 : tie.Need-returns-3
+returns-3 : tie.Need-returns-in-Range-right-2
 unfolding map₂
-returns-3 c = operated₂ _ _ _ c.before.before.before.left2.given.1 c.enum-told2.given.1 refl
+returns-3 c = operated₂ _ _ _ c.in-Handle.is c.in-Range-right-2.is refl
 
-returns-4 : tie.Need-returns-4
+returns-4 : tie.Need-returns-in-Handle-right-2
 unfolding map₂
-returns-4 c = operated₂ _ _ _ c.before.before.before.before.before.left2.given.1 c.before.before.right2.given.1 c.combine-handles.ensures
+returns-4 c = operated₂ _ _ _ c.in-Handle.is c.in-Handle-right-2.is c.combine_handles.ensures
 
-pub operate2-spec : {M : Type 1} → statement M
-operate2-spec =
+pub operate2_spec : {M : Type 1} → statement M
+operate2_spec =
     tie.close
     (tie.spec
     (λ c. search rules)

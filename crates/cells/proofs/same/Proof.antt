@@ -19,11 +19,11 @@ of_range c l m f p = ap (λ (z : ℤ). range z m) (to_z-of_z w32 l f) ∙ ap (λ
 of-handle : (c : Cell) (k : ℕ) (r : Cell) → r ≡ handle k → c.value ≡ Handle k → r ≡ c
 of-handle c k r e p = e ∙ ap (λ v. record { value = v }) (sym p)
 
-returns : tie.Need-returns
-returns c = let known = c.before.value.given in of_range _ known.0.0 _ (search rules) known.1
+returns : tie.Need-returns-in-Range
+returns c = let known = c.in-Range in of_range _ known.low _ (search rules) known.is
 
-returns-2 : tie.Need-returns-2
-returns-2 c = of-handle _ _ _ c.handle.ensures c.before.before.value2.given.1
+returns-2 : tie.Need-returns-in-Handle
+returns-2 c = of-handle _ _ _ c.handle.ensures c.in-Handle.is
 
 pub same_spec : {M : Type 1} → statement M
 same_spec =

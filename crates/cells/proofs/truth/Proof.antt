@@ -6,11 +6,11 @@ use borrow.Author.Rules.{rules}
 use Rattle.cells.proofs.truth.Statement.{statement}
 use Rattle.cells.proofs.truth.Tie as tie
 
-returns : tie.Need-returns
-returns c = c.exactly.ensures ∙ ap (λ t. exactly (bit t)) (sym c.before.if1.true)
+returns : tie.Need-returns-then-b
+returns c = c.exactly.ensures ∙ ap (λ t. exactly (bit t)) (sym c.if-b.true)
 
-returns-2 : tie.Need-returns-2
-returns-2 c = c.exactly2.ensures ∙ ap (λ t. exactly (bit t)) (sym c.before.if1.false)
+returns-2 : tie.Need-returns-else-b
+returns-2 c = c.exactly-else-b.ensures ∙ ap (λ t. exactly (bit t)) (sym c.if-b.false)
 
-pub truth-spec : {M : Type 1} → statement M
-truth-spec = tie.close (tie.spec (λ c κs. search rules) (λ c κs. search rules) returns returns-2)
+pub truth_spec : {M : Type 1} → statement M
+truth_spec = tie.close (tie.spec (λ c κs. search rules) (λ c κs. search rules) returns returns-2)

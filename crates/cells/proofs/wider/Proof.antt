@@ -27,66 +27,66 @@ module _ (b : Binary) (l : ℤ) (m : ℕ) (k : ℤ) (n : ℕ) where
   unfolding wider
   compared {c = c} p e q r s t = e ∙ rw (q, r, s, t) (ap (λ (d : Binary). wider d l m k n) (sym p))
 
-enum_told : tie.Need-enum-told
+enum_told : tie.Need-enum_told-1
 enum_told c = search rules
 
-cast-results : tie.Need-overflow-cast-results
-cast-results c = cast_fits _ c.before.before.ranges.low
+cast-results : tie.Need-overflow_cast-low
+cast-results c = cast_fits _ c.ranges.low
 
-cast-results-2 : tie.Need-overflow-cast-results-2
-cast-results-2 c = cast_fits _ c.before.before.ranges.low2
+cast-results-2 : tie.Need-overflow_cast-low2
+cast-results-2 c = cast_fits _ c.ranges.low2
 
-add-results : tie.Need-overflow-add-results
-add-results c = operands-fit ◌+ℤ◌ (wide_is _ c.before.before.ranges.low) (wide_is _ c.before.before.ranges.low2) (near-64 _ (sum_near _ _ c.before.before.ranges.low c.before.before.ranges.low2))
+add-results : tie.Need-overflow_add-low
+add-results c = operands-fit ◌+ℤ◌ (wide_is _ c.ranges.low) (wide_is _ c.ranges.low2) (near-64 _ (sum_near _ _ c.ranges.low c.ranges.low2))
 
 results-requires : tie.Need-results-requires
 results-requires c κs =
-    let start = c.before.before in
+    let start = c in
     let near = sum_near _ _ start.ranges.low start.ranges.low2 in
     rw (operands-read ◌+ℤ◌ (wide_is _ start.ranges.low) (wide_is _ start.ranges.low2) (near-64 _ near)) (near-small _ _ near (omega arith))
 
-cast-results-3 : tie.Need-overflow-cast-results-3
-cast-results-3 c = cast_fits _ c.before.before.ranges.low
+cast-results-3 : tie.Need-overflow_cast-low-in-Subtract
+cast-results-3 c = cast_fits _ c.ranges.low
 
-sub-results : tie.Need-overflow-sub-results
+sub-results : tie.Need-overflow_sub-low
 sub-results c =
-    let start = c.before.before.before in
+    let start = c in
     operands-fit ◌-ℤ◌ (wide_is _ start.ranges.low) (high-told start.args.low2 start.args.more2 start.ranges.low2 (omega arith) c.high.ensures)
     (near-64 _ (difference-near _ start.args.low2 start.args.more2 start.ranges.low start.ranges.low2 (omega arith)))
 
-results-requires-2 : tie.Need-results-requires-2
+results-requires-2 : tie.Need-results-requires-in-Subtract
 results-requires-2 c κs =
-    let start = c.before.before.before in
+    let start = c in
     let near = difference-near start.args.low start.args.low2 start.args.more2 start.ranges.low start.ranges.low2 (omega arith) in
     rw (operands-read ◌-ℤ◌ (wide_is _ start.ranges.low) (high-told start.args.low2 start.args.more2 start.ranges.low2 (omega arith) c.high.ensures) (near-64 _ near)) (near-small _ _ near (omega arith))
 
-cast-judged : tie.Need-overflow-cast-judged
-cast-judged c = cast_fits _ c.before.before.before.ranges.low
+cast-judged : tie.Need-overflow_cast-low-in-Compare
+cast-judged c = cast_fits _ c.ranges.low
 
-cast-judged-2 : tie.Need-overflow-cast-judged-2
-cast-judged-2 c = cast_fits _ c.before.before.before.before.ranges.low2
+cast-judged-2 : tie.Need-overflow_cast-low2-in-Compare
+cast-judged-2 c = cast_fits _ c.ranges.low2
 
-returns : tie.Need-returns
+returns : tie.Need-returns-in-Add
 returns c =
-    let start = c.before.before.before in
-    added _ _ _ _ _ c.before.enum_told.given.1 c.results.ensures
+    let start = c in
+    added _ _ _ _ _ c.in-Add.is c.results.ensures
     (operands-read ◌+ℤ◌ (wide_is _ start.ranges.low) (wide_is _ start.ranges.low2) (near-64 _ (sum_near _ _ start.ranges.low start.ranges.low2)))
 
-returns-2 : tie.Need-returns-2
+returns-2 : tie.Need-returns-in-Subtract
 returns-2 c =
-    let start = c.before.before.before.before in
-    subtracted _ _ _ _ _ c.before.before.enum-told2.given.1 c.results2.ensures
-    (operands-read ◌-ℤ◌ (wide_is _ start.ranges.low) (high-told start.args.low2 start.args.more2 start.ranges.low2 (omega arith) c.before.high.ensures)
+    let start = c in
+    subtracted _ _ _ _ _ c.in-Subtract.is c.results-in-Subtract.ensures
+    (operands-read ◌-ℤ◌ (wide_is _ start.ranges.low) (high-told start.args.low2 start.args.more2 start.ranges.low2 (omega arith) c.high.ensures)
     (near-64 _ (difference-near start.args.low start.args.low2 start.args.more2 start.ranges.low start.ranges.low2 (omega arith))))
 
-returns-3 : tie.Need-returns-3
+returns-3 : tie.Need-returns-in-Compare
 returns-3 c =
-    let start = c.before.before.before.before.before.before in
-    compared _ _ _ _ _ c.before.before.before.before.b.given.1 c.judged.ensures (wide_is _ start.ranges.low) (high-told start.args.low start.args.more start.ranges.low (omega arith) c.before.before.high2.ensures)
-    (wide_is _ start.ranges.low2) (high-told start.args.low2 start.args.more2 start.ranges.low2 (omega arith) c.before.high3.ensures)
+    let start = c in
+    compared _ _ _ _ _ c.in-Compare.is c.judged.ensures (wide_is _ start.ranges.low) (high-told start.args.low start.args.more start.ranges.low (omega arith) c.high-in-Compare.ensures)
+    (wide_is _ start.ranges.low2) (high-told start.args.low2 start.args.more2 start.ranges.low2 (omega arith) c.high-in-Compare-2.ensures)
 
-pub wider-spec : {M : Type 1} → statement M
-wider-spec =
+pub wider_spec : {M : Type 1} → statement M
+wider_spec =
     tie.close
     (tie.spec
     enum_told

@@ -8,5 +8,5 @@ returns : tie.Need-returns
 unfolding kinds kind_names
 returns c = all-joined
 
-pub all-names-spec : {M : Type 1} → statement M
-all-names-spec = tie.close (tie.spec returns)
+pub all_names_spec : {M : Type 1} → statement M
+all_names_spec = tie.close (tie.spec returns)

@@ -11,5 +11,5 @@ returns : tie.Need-returns
 unfolding kinds argument_code
 returns c = natural-at (λ r. argument_code r.argument) c.args.k c.requires
 
-pub argument-code-at-spec : {M : Type 1} → statement M
-argument-code-at-spec = tie.close (tie.spec (λ c. search rules) returns)
+pub argument_code_at_spec : {M : Type 1} → statement M
+argument_code_at_spec = tie.close (tie.spec (λ c. search rules) returns)

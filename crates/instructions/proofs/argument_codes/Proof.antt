@@ -9,5 +9,5 @@ returns : tie.Need-returns
 unfolding kinds argument_code
 returns c = record { at_kind = natural-at (λ r. argument_code r.argument) }
 
-pub argument-codes-spec : {M : Type 1} → statement M
-argument-codes-spec = tie.close (tie.spec returns)
+pub argument_codes_spec : {M : Type 1} → statement M
+argument_codes_spec = tie.close (tie.spec returns)

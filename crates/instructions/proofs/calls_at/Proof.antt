@@ -13,5 +13,5 @@ returns : tie.Need-returns
 unfolding kinds argument_code
 returns c = column-at (λ r. argument_code r.argument) (λ x. eqb x 3) (λ r. calls r.argument) 0 refl c.args.k c.requires
 
-pub calls-at-spec : {M : Type 1} → statement M
-calls-at-spec = tie.close (tie.spec (λ c. search rules) returns)
+pub calls_at_spec : {M : Type 1} → statement M
+calls_at_spec = tie.close (tie.spec (λ c. search rules) returns)

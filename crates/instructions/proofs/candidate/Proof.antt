@@ -9,10 +9,10 @@ use Rattle.instructions.proofs.candidate.Tie as tie
 
 returns : tie.Need-returns
 returns c =
-    let key = c.before.before.name-key in
-    let t = c.before.before.before.before.args.keyed.now in
-    let p = c.before.before.before.before.requires.0 in
+    let key = c.name_key-key in
+    let t = c.args.keyed.now in
+    let p = c.requires.0 in
     (subst (λ n. n < 61) (sym c.wide.ensures.0) (p.low key.result), λ k h e. c.wide.ensures.0 ∙ ap (λ i. get_or t i 0) (key.ensures ∙ ap name_key e) ∙ p.at_key k h)
 
-pub candidate-spec : {M : Type 1} → statement M
-candidate-spec = tie.close (tie.spec (λ c κs. search rules) (λ c. search rules) (λ c κs. search rules) returns)
+pub candidate_spec : {M : Type 1} → statement M
+candidate_spec = tie.close (tie.spec (λ c κs. search rules) (λ c. search rules) (λ c κs. search rules) returns)

@@ -10,5 +10,5 @@ returns : tie.Need-returns
 unfolding kinds opcodes place_from kind_coded coded_place
 returns c = by-opcode
 
-pub coded-kinds-spec : {M : Type 1} → statement M
-coded-kinds-spec = tie.close (tie.spec returns)
+pub coded_kinds_spec : {M : Type 1} → statement M
+coded_kinds_spec = tie.close (tie.spec returns)

@@ -14,7 +14,7 @@ use Rattle.instructions.proofs.ColumnLaws.{column-at}
 use Rattle.instructions.proofs.fixed_at.Statement.{statement}
 use Rattle.instructions.proofs.fixed_at.Tie as tie
 
-cast-result : tie.Need-overflow-cast-result
+cast-result : tie.Need-overflow_cast-result
 unfolding kinds
 cast-result c = record { sfits = ltb-true _ (2 ^ 31) (column-at (λ r. nat_abs r.fixed) (λ x. ltb x (2 ^ 31)) (λ r. true) 0 refl c.args.k c.requires) }
 
@@ -22,5 +22,5 @@ returns : tie.Need-returns
 unfolding kinds
 returns c = column-at (λ r. nat_abs r.fixed) (to_z w32) (λ r. r.fixed) 0 refl c.args.k c.requires
 
-pub fixed-at-spec : {M : Type 1} → statement M
-fixed-at-spec = tie.close (tie.spec (λ c. search rules) cast-result returns)
+pub fixed_at_spec : {M : Type 1} → statement M
+fixed_at_spec = tie.close (tie.spec (λ c. search rules) cast-result returns)

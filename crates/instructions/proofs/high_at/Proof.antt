@@ -11,7 +11,7 @@ use Rattle.instructions.proofs.high_at.Tie as tie
 
 returns : tie.Need-returns
 unfolding kinds range_of
-returns c = integer-at w64 (λ r. (range_of r.argument).high) refl c.before.args.k c.before.requires
+returns c = integer-at w64 (λ r. (range_of r.argument).high) refl c.args.k c.requires
 
-pub high-at-spec : {M : Type 1} → statement M
-high-at-spec = tie.close (tie.spec (λ c. search rules) (λ c. search rules) returns)
+pub high_at_spec : {M : Type 1} → statement M
+high_at_spec = tie.close (tie.spec (λ c. search rules) (λ c. search rules) returns)

@@ -8,5 +8,5 @@ returns : tie.Need-returns
 unfolding kinds kind_names
 returns c = by_key
 
-pub keyed-kinds-spec : {M : Type 1} → statement M
-keyed-kinds-spec = tie.close (tie.spec returns)
+pub keyed_kinds_spec : {M : Type 1} → statement M
+keyed_kinds_spec = tie.close (tie.spec returns)

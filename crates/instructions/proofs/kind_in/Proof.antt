@@ -6,23 +6,23 @@ use borrow.Author.Rules.{rules}
 use Rattle.instructions.proofs.kind_in.Statement.{statement}
 use Rattle.instructions.proofs.kind_in.Tie as tie
 
-returns : tie.Need-returns
-returns c = let w = c.before.before.before.args.w.now in sym (not_named w (λ a. omega (arith, c.if1.true, name-length w a)))
+returns : tie.Need-returns-then-w-lt2
+returns c = let w = c.args.w.now in sym (not_named w (λ a. omega (arith, c.if-w-lt2.true, name-length w a)))
 
-returns-2 : tie.Need-returns-2
-returns-2 c = let w = c.before.before.before.before.args.w.now in sym (not_named w (λ a. omega (arith, c.if2.true, name-length w a)))
+returns-2 : tie.Need-returns-then-w-gt12
+returns-2 c = let w = c.args.w.now in sym (not_named w (λ a. omega (arith, c.if-w-gt12.true, name-length w a)))
 
-returns-3 : tie.Need-returns-3
+returns-3 : tie.Need-returns-then-is_name_of
 returns-3 c =
-    let k = c.before.before.candidate in
-    sym (is-named c.before.before.before.before.before.before.before.args.w.now k.result k.ensures.0 k.ensures.1 (sym c.before.is-name-of.ensures ∙ c.if3.true))
+    let k = c.candidate-k in
+    sym (is-named c.args.w.now k.result k.ensures.0 k.ensures.1 (sym c.is_name_of.ensures ∙ c.if-is_name_of.true))
 
-returns-4 : tie.Need-returns-4
+returns-4 : tie.Need-returns-else-is_name_of
 returns-4 c =
-    let k = c.before.before.candidate in
-    sym (is-unnamed c.before.before.before.before.before.before.before.args.w.now k.result k.ensures.0 k.ensures.1 (sym c.before.is-name-of.ensures ∙ c.if3.false))
+    let k = c.candidate-k in
+    sym (is-unnamed c.args.w.now k.result k.ensures.0 k.ensures.1 (sym c.is_name_of.ensures ∙ c.if-is_name_of.false))
 
-pub kind-in-spec : {M : Type 1} → statement M
-kind-in-spec =
+pub kind_in_spec : {M : Type 1} → statement M
+kind_in_spec =
     tie.close
     (tie.spec returns returns-2 (λ c κs. search rules) (λ c κs. search rules) returns-3 returns-4)

@@ -11,7 +11,7 @@ use Rattle.instructions.proofs.low_at.Tie as tie
 
 returns : tie.Need-returns
 unfolding kinds range_of
-returns c = integer-at w64 (λ r. (range_of r.argument).low) refl c.before.args.k c.before.requires
+returns c = integer-at w64 (λ r. (range_of r.argument).low) refl c.args.k c.requires
 
-pub low-at-spec : {M : Type 1} → statement M
-low-at-spec = tie.close (tie.spec (λ c. search rules) (λ c. search rules) returns)
+pub low_at_spec : {M : Type 1} → statement M
+low_at_spec = tie.close (tie.spec (λ c. search rules) (λ c. search rules) returns)

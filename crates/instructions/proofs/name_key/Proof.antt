@@ -8,12 +8,12 @@ use Rattle.instructions.proofs.name_key.Tie as tie
 
 returns : tie.Need-returns
 returns c =
-    let w = c.before.before.before.before.before.before.before.args.w.now in
-    ap₂ (λ a b. (a + b + 5 * c.wide3.result + 9 * length w) % 256) c.before.before.before.before.wide.ensures.0 c.before.before.wide2.ensures.0
-    ∙ ap (λ l. (get_or w 0 0 + get_or w 1 0 + 5 * l + 9 * length w) % 256) c.wide3.ensures.0
+    let w = c.args.w.now in
+    ap₂ (λ a b. (a + b + 5 * c.wide-last.result + 9 * length w) % 256) c.wide-first.ensures.0 c.wide-second.ensures.0
+    ∙ ap (λ l. (get_or w 0 0 + get_or w 1 0 + 5 * l + 9 * length w) % 256) c.wide-last.ensures.0
 
-pub name-key-spec : {M : Type 1} → statement M
-name-key-spec =
+pub name_key_spec : {M : Type 1} → statement M
+name_key_spec =
     tie.close
     (tie.spec
     (λ c. search rules)

@@ -8,5 +8,5 @@ returns : tie.Need-returns
 unfolding kinds kind_names
 returns c = record { at_kind = λ k h. refl }
 
-pub name-starts-spec : {M : Type 1} → statement M
-name-starts-spec = tie.close (tie.spec returns)
+pub name_starts_spec : {M : Type 1} → statement M
+name_starts_spec = tie.close (tie.spec returns)

@@ -11,7 +11,7 @@ use Rattle.instructions.proofs.ColumnLaws.{column-at, natural-at}
 use Rattle.instructions.proofs.opcode_at.Statement.{statement}
 use Rattle.instructions.proofs.opcode_at.Tie as tie
 
-cast-result : tie.Need-overflow-cast-result
+cast-result : tie.Need-overflow_cast-result
 unfolding kinds
 cast-result c = record { fits = ltb-true _ (2 ^ 32) (column-at (λ r. r.opcode) (λ x. ltb x (2 ^ 32)) (λ r. true) 0 refl c.args.k c.requires) }
 
@@ -19,5 +19,5 @@ returns : tie.Need-returns
 unfolding kinds
 returns c = natural-at (λ r. r.opcode) c.args.k c.requires
 
-pub opcode-at-spec : {M : Type 1} → statement M
-opcode-at-spec = tie.close (tie.spec (λ c. search rules) cast-result returns)
+pub opcode_at_spec : {M : Type 1} → statement M
+opcode_at_spec = tie.close (tie.spec (λ c. search rules) cast-result returns)

@@ -11,5 +11,5 @@ returns : tie.Need-returns
 unfolding kinds operation_code unary_code binary_code comparison_code
 returns c = natural-at (λ r. operation_code r.operation) c.args.k c.requires
 
-pub operation-at-spec : {M : Type 1} → statement M
-operation-at-spec = tie.close (tie.spec (λ c. search rules) returns)
+pub operation_at_spec : {M : Type 1} → statement M
+operation_at_spec = tie.close (tie.spec (λ c. search rules) returns)

@@ -13,5 +13,5 @@ returns : tie.Need-returns
 unfolding kinds
 returns c = column-at (λ r. cond r.pushes 1 0) (λ x. eqb x 1) (λ r. r.pushes) 0 refl c.args.k c.requires
 
-pub pushes-at-spec : {M : Type 1} → statement M
-pushes-at-spec = tie.close (tie.spec (λ c. search rules) returns)
+pub pushes_at_spec : {M : Type 1} → statement M
+pushes_at_spec = tie.close (tie.spec (λ c. search rules) returns)

@@ -8,9 +8,9 @@ use Rattle.instructions.proofs.range_at.Tie as tie
 
 returns : tie.Need-returns
 returns c =
-    let low = to_z-of_z w64 _ record { sfits = c.before.low-at.type-inv } ∙ c.before.low-at.ensures in
-    let high = to_z-of_z w64 _ record { sfits = c.high-at.type-inv } ∙ c.high-at.ensures in
+    let low = to_z-of_z w64 _ record { sfits = c.low_at.type_inv } ∙ c.low_at.ensures in
+    let high = to_z-of_z w64 _ record { sfits = c.high_at.type_inv } ∙ c.high_at.ensures in
     λ i. record { low = low i; high = high i }
 
-pub range-at-spec : {M : Type 1} → statement M
-range-at-spec = tie.close (tie.spec (λ c κs. search rules) (λ c κs. search rules) returns)
+pub range_at_spec : {M : Type 1} → statement M
+range_at_spec = tie.close (tie.spec (λ c κs. search rules) (λ c κs. search rules) returns)

@@ -11,5 +11,5 @@ returns : tie.Need-returns
 unfolding kinds range_of
 returns c = record { at_kind = column-at (λ r. (range_of r.argument).high) (λ x. x) (λ r. (range_of r.argument).high) (pos 0) refl }
 
-pub range-highs-spec : {M : Type 1} → statement M
-range-highs-spec = tie.close (tie.spec returns)
+pub range_highs_spec : {M : Type 1} → statement M
+range_highs_spec = tie.close (tie.spec returns)

@@ -11,5 +11,5 @@ returns : tie.Need-returns
 unfolding kinds range_of
 returns c = record { at_kind = column-at (λ r. (range_of r.argument).low) (λ x. x) (λ r. (range_of r.argument).low) (pos 0) refl }
 
-pub range-lows-spec : {M : Type 1} → statement M
-range-lows-spec = tie.close (tie.spec returns)
+pub range_lows_spec : {M : Type 1} → statement M
+range_lows_spec = tie.close (tie.spec returns)

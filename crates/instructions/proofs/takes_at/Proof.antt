@@ -27,5 +27,5 @@ returns : tie.Need-returns
 unfolding kinds kind_at argument_code
 returns c = agree-path _ _ (below_at right 61 refl c.args.k c.requires)
 
-pub takes-at-spec : {M : Type 1} → statement M
-takes-at-spec = tie.close (tie.spec (λ c. search rules) returns)
+pub takes_at_spec : {M : Type 1} → statement M
+takes_at_spec = tie.close (tie.spec (λ c. search rules) returns)

@@ -24,16 +24,16 @@ of-handle : (c : Cell) (k : ℕ) → k < 256 → c.value ≡ Handle k → decode
 unfolding confine confine_value
 of-handle c k h p = encoded-handle k h ∙ ap confine_value (sym p)
 
-returns : tie.Need-returns
+returns : tie.Need-returns-in-Range
 returns c =
-    let known = c.before.before.value.given in
-    of_range _ _ _ _ (search rules) known.1 c.encode-range.ensures
+    let known = c.in-Range in
+    of_range _ _ _ _ (search rules) known.is c.encode_range.ensures
 
-returns-2 : tie.Need-returns-2
-returns-2 c = of-handle _ _ (search rules) c.before.value2.given.1
+returns-2 : tie.Need-returns-in-Handle
+returns-2 c = of-handle _ _ (search rules) c.in-Handle.is
 
-pub encode-spec : {M : Type 1} → statement M
-encode-spec =
+pub encode_spec : {M : Type 1} → statement M
+encode_spec =
     tie.close
     (tie.spec
     (λ c. search rules)

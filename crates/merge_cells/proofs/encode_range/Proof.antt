@@ -13,43 +13,43 @@ use borrow.Author.Rules.{rules}
 use Rattle.merge_cells.proofs.encode_range.Statement.{statement}
 use Rattle.merge_cells.proofs.encode_range.Tie as tie
 
-returns : tie.Need-returns
+returns : tie.Need-returns-then-low-lt-LOWEST
 returns c =
-    let start = c.before in
-    encoded-wide ∙ results-below _ _ (tested (λ (z : ℤ). lt_z z numbers.low) (to_z-of_z w32 _ start.ranges.low) c.if1.true)
+    let start = c in
+    encoded-wide ∙ results-below _ _ (tested (λ (z : ℤ). lt_z z numbers.low) (to_z-of_z w32 _ start.ranges.low) c.if-low-lt-LOWEST.true)
 
-cast-least : tie.Need-overflow-cast-least
-cast-least c = cast_fits _ c.before.ranges.low
+cast-least : tie.Need-overflow_cast-least
+cast-least c = cast_fits _ c.ranges.low
 
-add-least : tie.Need-overflow-add-least
-add-least c = operands-fit ◌+ℤ◌ (wide_is _ c.before.ranges.low) refl (shifted_fits _ 0 c.before.ranges.low)
+add-least : tie.Need-overflow_add-least
+add-least c = operands-fit ◌+ℤ◌ (wide_is _ c.ranges.low) refl (shifted_fits _ 0 c.ranges.low)
 
-cast-least-2 : tie.Need-overflow-cast-least-2
+cast-least-2 : tie.Need-overflow_cast-least-2
 cast-least-2 c =
-    let start = c.before in
-    let k = counted start.args.low start.ranges.low (operands-read ◌+ℤ◌ (wide_is _ start.ranges.low) refl (shifted_fits _ 0 start.ranges.low)) (tested (λ (z : ℤ). lt_z z numbers.low) (to_z-of_z w32 _ start.ranges.low) c.if1.false) in
+    let start = c in
+    let k = counted start.args.low start.ranges.low (operands-read ◌+ℤ◌ (wide_is _ start.ranges.low) refl (shifted_fits _ 0 start.ranges.low)) (tested (λ (z : ℤ). lt_z z numbers.low) (to_z-of_z w32 _ start.ranges.low) c.if-low-lt-LOWEST.false) in
     (k.sign, record { fits = omega (arith, k.few) })
 
-add-greatest : tie.Need-overflow-add-greatest
+add-greatest : tie.Need-overflow_add-greatest
 add-greatest c =
-    let start = c.before in
-    let k = counted start.args.low start.ranges.low (operands-read ◌+ℤ◌ (wide_is _ start.ranges.low) refl (shifted_fits _ 0 start.ranges.low)) (tested (λ (z : ℤ). lt_z z numbers.low) (to_z-of_z w32 _ start.ranges.low) c.if1.false) in
+    let start = c in
+    let k = counted start.args.low start.ranges.low (operands-read ◌+ℤ◌ (wide_is _ start.ranges.low) refl (shifted_fits _ 0 start.ranges.low)) (tested (λ (z : ℤ). lt_z z numbers.low) (to_z-of_z w32 _ start.ranges.low) c.if-low-lt-LOWEST.false) in
     record { fits = omega (arith, k.few) }
 
-returns-2 : tie.Need-returns-2
+returns-2 : tie.Need-returns-then-greatest
 returns-2 c =
-    let start = c.before.before in
-    let k = counted start.args.low start.ranges.low (operands-read ◌+ℤ◌ (wide_is _ start.ranges.low) refl (shifted_fits _ 0 start.ranges.low)) (tested (λ (z : ℤ). lt_z z numbers.low) (to_z-of_z w32 _ start.ranges.low) c.before.if1.false) in
+    let start = c in
+    let k = counted start.args.low start.ranges.low (operands-read ◌+ℤ◌ (wide_is _ start.ranges.low) refl (shifted_fits _ 0 start.ranges.low)) (tested (λ (z : ℤ). lt_z z numbers.low) (to_z-of_z w32 _ start.ranges.low) c.if-low-lt-LOWEST.false) in
     encoded-wide ∙ results-past _ _ _ k.is (omega arith)
 
-returns-3 : tie.Need-returns-3
+returns-3 : tie.Need-returns
 returns-3 c =
-    let start = c.before.before in
-    let k = counted start.args.low start.ranges.low (operands-read ◌+ℤ◌ (wide_is _ start.ranges.low) refl (shifted_fits _ 0 start.ranges.low)) (tested (λ (z : ℤ). lt_z z numbers.low) (to_z-of_z w32 _ start.ranges.low) c.before.if1.false) in
+    let start = c in
+    let k = counted start.args.low start.ranges.low (operands-read ◌+ℤ◌ (wide_is _ start.ranges.low) refl (shifted_fits _ 0 start.ranges.low)) (tested (λ (z : ℤ). lt_z z numbers.low) (to_z-of_z w32 _ start.ranges.low) c.if-low-lt-LOWEST.false) in
     encoded-range _ _ _ k.is (omega arith)
 
-pub encode-range-spec : {M : Type 1} → statement M
-encode-range-spec =
+pub encode_range_spec : {M : Type 1} → statement M
+encode_range_spec =
     tie.close
     (tie.spec
     (λ c. search rules)

@@ -68,56 +68,56 @@ unlike-handles : (j k : ℕ) → (j ≡ k → ⊥) → stuck ≡ merge_values (H
 unfolding merge_values
 unlike-handles j k e = ap (λ (t : Bool). cond t (done (handle j)) stuck) (sym (ne_eqb j k e))
 
-cast-upper : tie.Need-overflow-cast-upper
+cast-upper : tie.Need-overflow_cast-high
 cast-upper c =
-    let start = c.before.before.before.before.before.before.before in
-    let left = c.before.before.before.before.before.left.given in
-    cast-top start.args.a left.0.0 left.0.1.0 left.1 start.requires.0 (search rules) c.high.ensures
+    let start = c in
+    let left = c.in-Range in
+    cast-top start.args.a left.low left.more left.is start.requires.0 (search rules) c.high.ensures
 
-cast-upper-2 : tie.Need-overflow-cast-upper-2
+cast-upper-2 : tie.Need-overflow_cast-high-in-Range-right
 cast-upper-2 c =
-    let start = c.before.before.before.before.before.before.before.before in
-    let right = c.before.before.before.right.given in
-    cast-top start.args.b right.0.0 right.0.1.0 right.1 start.requires.1 (search rules) c.high2.ensures
+    let start = c in
+    let right = c.in-Range-right in
+    cast-top start.args.b right.low2 right.more2 right.is start.requires.1 (search rules) c.high-in-Range-right.ensures
 
-enum_told : tie.Need-enum-told
+enum_told : tie.Need-enum_told-1
 enum_told c = search rules
 
-returns : tie.Need-returns
+returns : tie.Need-returns-in-Range-right
 returns c =
-    let start = c.before.before.before.before.before.before.before.before.before.before.before in
-    let left = c.before.before.before.before.before.before.before.before.before.left.given in
-    let right = c.before.before.before.before.before.before.right.given in
-    merged-values start.args.a start.args.b left.1 right.1
-    (merged start.args.a start.args.b left.0.0 left.0.1.0 right.0.0 right.0.1.0 left.1 right.1 (search rules) (search rules)
-    (high-32 start.args.a left.0.0 left.0.1.0 left.1 start.requires.0 (search rules))
-    (high-32 start.args.b right.0.0 right.0.1.0 right.1 start.requires.1 (search rules))
-    (top-is start.args.a left.0.0 left.0.1.0 left.1 start.requires.0 (search rules) c.before.before.before.before.high.ensures)
-    (top-is start.args.b right.0.0 right.0.1.0 right.1 start.requires.1 (search rules) c.before.before.before.high2.ensures)
-    c.before.before.upper.ensures c.before.lower.ensures c.between.ensures)
+    let start = c in
+    let left = c.in-Range in
+    let right = c.in-Range-right in
+    merged-values start.args.a start.args.b left.is right.is
+    (merged start.args.a start.args.b left.low left.more right.low2 right.more2 left.is right.is (search rules) (search rules)
+    (high-32 start.args.a left.low left.more left.is start.requires.0 (search rules))
+    (high-32 start.args.b right.low2 right.more2 right.is start.requires.1 (search rules))
+    (top-is start.args.a left.low left.more left.is start.requires.0 (search rules) c.high.ensures)
+    (top-is start.args.b right.low2 right.more2 right.is start.requires.1 (search rules) c.high-in-Range-right.ensures)
+    c.upper-high.ensures c.lower.ensures c.between.ensures)
 
-returns-2 : tie.Need-returns-2
+returns-2 : tie.Need-returns-in-Handle-right
 unfolding merge_values
-returns-2 c = merged-values _ _ c.before.before.before.left.given.1 c.enum_told.given.1 refl
+returns-2 c = merged-values _ _ c.in-Range.is c.in-Handle-right.is refl
 
-returns-3 : tie.Need-returns-3
+returns-3 : tie.Need-returns-in-Range-right-2
 unfolding merge_values
-returns-3 c = merged-values _ _ c.before.before.before.left2.given.1 c.enum-told2.given.1 refl
+returns-3 c = merged-values _ _ c.in-Handle.is c.in-Range-right-2.is refl
 
-returns-4 : tie.Need-returns-4
+returns-4 : tie.Need-returns-then-j-k
 returns-4 c =
-    let left = c.before.before.before.before.before.before.left2.given in
-    let right = c.before.before.before.right2.given in
-    merged-values _ _ left.1 right.1 (ap done c.handle.ensures ∙ equal-handles left.0.0 right.0.0 c.before.if1.true)
+    let left = c.in-Handle in
+    let right = c.in-Handle-right-2 in
+    merged-values _ _ left.is right.is (ap done c.handle.ensures ∙ equal-handles left.j right.k c.if-j-k.true)
 
-returns-5 : tie.Need-returns-5
+returns-5 : tie.Need-returns-else-j-k
 returns-5 c =
-    let left = c.before.before.before.before.before.left2.given in
-    let right = c.before.before.right2.given in
-    merged-values _ _ left.1 right.1 (unlike-handles left.0.0 right.0.0 c.if1.false)
+    let left = c.in-Handle in
+    let right = c.in-Handle-right-2 in
+    merged-values _ _ left.is right.is (unlike-handles left.j right.k c.if-j-k.false)
 
-pub merge-spec : {M : Type 1} → statement M
-merge-spec =
+pub merge_spec : {M : Type 1} → statement M
+merge_spec =
     tie.close
     (tie.spec
     (λ c. search rules)

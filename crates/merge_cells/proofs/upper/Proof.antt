@@ -8,11 +8,11 @@ use Rattle.numbers.proofs.SignedLaws.{read-both}
 use Rattle.merge_cells.proofs.upper.Statement.{statement}
 use Rattle.merge_cells.proofs.upper.Tie as tie
 
-returns : tie.Need-returns
-returns c = to_z-of_z w32 _ c.before.ranges.n ∙ ap (λ (t : Bool). cond t c.before.args.n c.before.args.m) (sym c.if1.true ∙ read-both le_z w32 _ _ c.before.ranges.m c.before.ranges.n)
+returns : tie.Need-returns-then-m-n
+returns c = to_z-of_z w32 _ c.ranges.n ∙ ap (λ (t : Bool). cond t c.args.n c.args.m) (sym c.if-m-n.true ∙ read-both le_z w32 _ _ c.ranges.m c.ranges.n)
 
-returns-2 : tie.Need-returns-2
-returns-2 c = to_z-of_z w32 _ c.before.ranges.m ∙ ap (λ (t : Bool). cond t c.before.args.n c.before.args.m) (sym c.if1.false ∙ read-both le_z w32 _ _ c.before.ranges.m c.before.ranges.n)
+returns-2 : tie.Need-returns-else-m-n
+returns-2 c = to_z-of_z w32 _ c.ranges.m ∙ ap (λ (t : Bool). cond t c.args.n c.args.m) (sym c.if-m-n.false ∙ read-both le_z w32 _ _ c.ranges.m c.ranges.n)
 
-pub upper-spec : {M : Type 1} → statement M
-upper-spec = tie.close (tie.spec returns returns-2)
+pub upper_spec : {M : Type 1} → statement M
+upper_spec = tie.close (tie.spec returns returns-2)
