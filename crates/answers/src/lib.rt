@@ -1,4 +1,6 @@
 // The answer of the public functions. The meaning is in specs/.
+#![tactic(auto)]
+
 use refusals::Refusal;
 
 // The answer to a call: a report of so many bytes, or a refusal.

@@ -10,7 +10,7 @@ use lib.IntN.{ℤ, pos}
 use Rattle.cells.specs.Try.{Try, done}
 use Rattle.cells.specs.Cells.{unknown}
 use Rattle.cells.specs.Order.{Refines, Allowed}
-use Rattle.cells.specs.Covering.{Covered, both}
+use Rattle.cells.specs.Covering.{Covered, by_stuck, both}
 use Rattle.cells.proofs.CellLaws.{allowed-refines, allowed-plain, number-allowed, allowed-lawful}
 use Rattle.machine.specs.Machine.{State, Price, Next, stops, goes, opens, Code, height, step}
 use Rattle.machine.specs.Order.{Cellwise}
@@ -83,6 +83,7 @@ module _ (c : Code) (M : State → Verdict) (by-steps : Stepwise c M) (q : Repor
       r.cycles + f.cycles ≤ q.cycles → r.words + f.words ≤ q.words → r.depth ≤ q.depth → f.depth ≤ q.depth → r.steps + f.steps ≤ q.steps → r.steps ≡ n → (height r.state ≤ f.depth) × (1 ≤ f.steps) →
       Within (suc n) (moved r rest false m)
   unfolding moved
+  moves n r rest f by_stuck x cy wo de df st co on = elim x [ ]
   moves n r rest f (both stops_too) (stopping p w) cy wo de df st co on = ended refl (omega arith) (omega arith) (omega arith) de (omega arith)
   moves n r rest f (both (goes_too {p} {s} {t} e)) (going l) cy wo de df st co on = step-within n r rest f p s t e l cy wo de df st co
   moves n r rest f (both (opens_too no_way e e')) (opening l l') cy wo de df st co on = absurd no_way
@@ -104,6 +105,7 @@ module _ (c : Code) (M : State → Verdict) (by-steps : Stepwise c M) (q : Repor
 
   unstuck : {f : Report} {m m' : Try Next} → Covered (NextCovered (Cellwise Allowed) ⊥) m m' → Ways c M f m' → stuck_at false m ≡ false
   unfolding stuck_at
+  unstuck by_stuck w = elim w [ ]
   unstuck (both stops_too) w = refl
   unstuck (both (goes_too e)) w = refl
   unstuck (both (opens_too no_way e e')) w = absurd no_way

@@ -17,7 +17,7 @@ use Rattle.file_format.specs.Routine.{unread, read_bound, read_run}
 abbrev file : String → String → String → String → String → List ℕ
 file limits kinds extras accu code =
     text.bytes "BUDGET TICK\n" ++ text.bytes limits ++ text.bytes "\n" ++ text.bytes kinds
-    ++ text.bytes "\n1\n0\n" ++ text.bytes extras ++ text.bytes "\n-\n-\n-\n_accu\n" ++ text.bytes accu ++ text.bytes "\n-\n-\n_at OP ARG\n" ++ text.bytes code ++ text.bytes "\n"
+    ++ text.bytes "\n1\n0\n" ++ text.bytes extras ++ text.bytes "\n-\n-\n-\nACCU\n" ++ text.bytes accu ++ text.bytes "\n-\n-\nAT OP ARG\n" ++ text.bytes code ++ text.bytes "\n"
 
 pub examples :
     -- "empty text: line 1"

@@ -188,6 +188,7 @@ module _ (ls : List Line) where
 
   some-code : (bs : List Line) → Covered (test Layout-row ls) (body_roles bs) bs → 1 ≤ length (lines_of_code bs)
   unfolding body_roles lines_of_code
+  some-code [] x' = elim x' [ ]
   some-code (l ∷ bs) (passed p c) = omega arith
 
   few-answers : (bs : List Line) → Covered (test Layout-row ls) (body_roles bs) bs → length (answer_lines bs) ≤ 64

@@ -1,4 +1,5 @@
 // The routine file: its refusals, and the routine that it holds. The meaning is in specs/.
+#![tactic(auto)]
 
 // "Each section is a line of names, then lines of values in that order"
 #[derive(Clone, Copy)]

@@ -1,1 +1,2 @@
 // The machine: definitions and laws. The meaning is in specs/.
+#![tactic(auto)]

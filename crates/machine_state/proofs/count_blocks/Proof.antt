@@ -6,7 +6,7 @@ use Rattle.machine_state.proofs.count_blocks.Statement.{statement}
 use Rattle.machine_state.proofs.count_blocks.Tie as tie
 
 returns : tie.Need-returns
-returns c = let s = c.before in sym (sizes-count s.args.code.now s.requires)
+returns c = let s = c in sym (sizes-count s.args.code.now s.requires)
 
-pub count-blocks-spec : {M : Type 1} → statement M
-count-blocks-spec = tie.close (tie.spec (λ c. search rules) (λ c. search rules) returns)
+pub count_blocks_spec : {M : Type 1} → statement M
+count_blocks_spec = tie.close (tie.spec (λ c. search rules) (λ c. search rules) returns)

@@ -18,20 +18,20 @@ low s = omega (arith, within s, s.requires.0.blocks)
 small : (s : tie.Start) → get_or s.args.code.now (s.args.k + 3) 0 ≤ 16
 small s = omega (arith, size-at s.args.code.now s.requires.0 s.args.k (within s), s.requires.0.sizes s.args.k)
 
-add-result : tie.Need-overflow-add-result
+add-result : tie.Need-overflow_add-result
 add-result c = omega (arith, low c)
 
-mul-result : tie.Need-overflow-mul-result
+mul-result : tie.Need-offset_bounds-code-k
 mul-result c = omega (arith, low c)
 
-element-copy-out-result : tie.Need-element-copy-out-result
-element-copy-out-result c = omega (arith, low c)
+element-copy-out-result : tie.Need-bounds-code-k
+element-copy-out-result c = omega (arith, low c.before)
 
-cast-result : tie.Need-overflow-cast-result
-cast-result c = omega (arith, small c.before)
+cast-result : tie.Need-overflow_cast-result
+cast-result c = omega (arith, small c.before.before)
 
 returns : tie.Need-returns
-returns c = let s = c.before in sym (size-at s.args.code.now s.requires.0 s.args.k (within s))
+returns c = let s = c in sym (size-at s.args.code.now s.requires.0 s.args.k (within s.before.before))
 
-pub size-of-spec : {M : Type 1} → statement M
-size-of-spec = tie.close (tie.spec add-result mul-result element-copy-out-result cast-result returns)
+pub size_of_spec : {M : Type 1} → statement M
+size_of_spec = tie.close (tie.spec add-result mul-result element-copy-out-result cast-result returns)

@@ -38,48 +38,48 @@ module _ (ns : List ℕ) (a : Cell) (n : ℕ) where
     unfolding slot ◌>>=◌
     field h g = rw (e, lt-ltb k (length ns) h, lt-ltb n (get_or ns k 0) g)
 
-returns : tie.Need-returns
-returns c = no-handle _ _ _ (found _ c.before.before.block.ensures c.enum_told.given.1)
+returns : tie.Need-returns-in_default
+returns c = no-handle _ _ _ (found _ c.block-handled.ensures c.in_default.is)
 
 -- the block that is handled
-module _ (c : tie.After-known-told) where
+module _ (c : tie.In-Block) where
   abbrev s : tie.Start
-  s = c.before.before.before.before
+  s = c.before.before
 
   abbrev ns : List ℕ
   ns = sizes_of s.args.code.now
 
   abbrev k : ℕ
-  k = c.before.handled.given.0.0
+  k = c.in-Block.h
 
   is : block s.args.a ≡ done k
-  is = found _ c.before.before.before.block.ensures c.before.handled.given.1
+  is = found _ c.block-handled.ensures c.in-Block.is
 
-returns-2 : tie.Need-returns-2
-returns-2 c = let d = c.before.before in no_block (ns d) _ _ (k d) (is d) (omega (arith, c.before.count-blocks.ensures, c.if1.true))
+returns-2 : tie.Need-returns-then-count_blocks-k
+returns-2 c = let d = c in no_block (ns d.before.before) _ _ (k d.before.before) (is d.before.before) (omega (arith, c.count_blocks.ensures, c.if-count_blocks-k.true))
 
 -- it is there
-within : (c : tie.Else1) → k c.before.before < length (ns c.before.before)
-within c = omega (arith, c.before.count-blocks.ensures, c.if1.false)
+within : (c : tie.Else-count_blocks-k) → k c.before.before < length (ns c.before.before)
+within c = omega (arith, c.count_blocks.ensures, c.if-count_blocks-k.false)
 
-size-of-requires : tie.Need-size-of-requires
-size-of-requires c κs = ((s c.before.before).pre, within c)
+size-of-requires : tie.Need-size_of-requires
+size-of-requires c κs = ((s c.before.before).requires, within c)
 
-returns-3 : tie.Need-returns-3
-returns-3 c = let e = c.before.before in let d = e.before.before in no_field (ns d) _ _ (k d) (is d) (within e) (omega (arith, c.before.size-of.ensures, c.if2.true))
+returns-3 : tie.Need-returns-then-size_of-n
+returns-3 c = let e = c in let d = e in no_field (ns d.before.before.before.before) _ _ (k d.before.before.before.before) (is d.before.before.before.before) (within e.before.before) (omega (arith, c.size_of.ensures, c.if-size_of-n.true))
 
 -- the field is there, so the sum is small
-below : (c : tie.Else2) → (s c.before.before.before.before).args.n < get_or (ns c.before.before.before.before) (k c.before.before.before.before) 0
-below c = omega (arith, c.before.size-of.ensures, c.if2.false)
+below : (c : tie.Else-size_of-n) → (s c.before.before.before.before).args.n < get_or (ns c.before.before.before.before) (k c.before.before.before.before) 0
+below c = omega (arith, c.size_of.ensures, c.if-size_of-n.false)
 
-add-t9 : tie.Need-overflow-add-t9
-add-t9 c = let d = c.before.before.before.before in omega (arith, below c, (s d).requires.sizes (k d))
+add-t9 : tie.Need-overflow_add-result
+add-t9 c = let d = c in omega (arith, below c, (s d.before.before.before.before).requires.sizes (k d.before.before.before.before))
 
-returns-4 : tie.Need-returns-4
-returns-4 c = let e = c.before.before in let d = e.before.before in field (ns d) _ _ (k d) (is d) (within e) (below c)
+returns-4 : tie.Need-returns
+returns-4 c = let e = c in let d = e in field (ns d.before.before.before.before) _ _ (k d.before.before.before.before) (is d.before.before.before.before) (within e.before.before) (below c)
 
-pub slot-of-spec : {M : Type 1} → statement M
-slot-of-spec =
+pub slot_of_spec : {M : Type 1} → statement M
+slot_of_spec =
     tie.close
     (tie.spec
     (λ c κs. search rules)

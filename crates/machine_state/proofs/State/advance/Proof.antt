@@ -7,7 +7,7 @@ use Rattle.machine_state.proofs.State.advance.Tie as tie
 
 returns : tie.Need-returns
 unfolding advance jump
-returns c = (simp add-one, record { free = c.before.requires.0.free; places = c.before.requires.0.places })
+returns c = (simp add-one, record { free = c.requires.0.free; places = c.requires.0.places })
 
-pub advance-spec : {M : Type 1} → statement M
-advance-spec = tie.close (tie.spec (λ c. search rules) returns)
+pub advance_spec : {M : Type 1} → statement M
+advance_spec = tie.close (tie.spec (λ c. search rules) returns)

@@ -8,5 +8,5 @@ returns : tie.Need-returns
 unfolding jump
 returns c = (refl, record { free = c.requires.free; places = c.requires.places })
 
-pub jump-spec : {M : Type 1} → statement M
-jump-spec = tie.close (tie.spec returns)
+pub jump_spec : {M : Type 1} → statement M
+jump_spec = tie.close (tie.spec returns)

@@ -6,7 +6,7 @@ use Rattle.machine_state.proofs.State.load.Tie as tie
 
 returns : tie.Need-returns
 unfolding load
-returns c = (refl, record { free = c.before.requires.free; places = c.before.requires.places })
+returns c = (refl, record { free = c.requires.free; places = c.requires.places })
 
 pub load_spec : {M : Type 1} → statement M
 load_spec = tie.close (tie.spec returns)

@@ -5,7 +5,7 @@ use Rattle.machine_state.proofs.State.push.Statement.{statement}
 use Rattle.machine_state.proofs.State.push.Tie as tie
 
 returns : tie.Need-returns
-returns c = let start = c.before.before.before in (push-is start.args.self start.requires.0 start.requires.1, push-formed start.args.self start.requires.0 start.requires.1)
+returns c = let start = c in (push-is start.args.self start.requires.0 start.requires.1, push-formed start.args.self start.requires.0 start.requires.1)
 
 pub push_spec : {M : Type 1} → statement M
 push_spec = tie.close (tie.spec (λ c. search rules) (λ c. search rules) (λ c. search rules) returns)

@@ -6,7 +6,7 @@ use Rattle.machine_state.proofs.State.registers.Statement.{statement}
 use Rattle.machine_state.proofs.State.registers.Tie as tie
 
 returns : tie.Need-returns
-returns c = ap (λ a. loaded a (registers_of c.before.args.self)) c.same.ensures
+returns c = ap (λ a. loaded a (registers_of c.args.self)) c.same-accu.ensures
 
-pub registers-spec : {M : Type 1} → statement M
-registers-spec = tie.close (tie.spec (λ c κs. search rules) returns)
+pub registers_spec : {M : Type 1} → statement M
+registers_spec = tie.close (tie.spec (λ c κs. search rules) returns)

@@ -9,10 +9,10 @@ use Rattle.machine_state.proofs.State.store.Tie as tie
 
 returns : tie.Need-returns
 returns c =
-    let start = c.before.before.before.before in
+    let start = c in
     let s = start.args.self in
     let formed = store-formed s start.requires.0 start.args.n in (
-      ap (λ a. done (view (record { at = s.at; accu = a; free = s.free; stack = (stored start.args.n s).stack }))) c.exactly.ensures ∙ store_is s start.requires.0 start.args.n start.requires.1,
+      ap (λ a. done (view (record { at = s.at; accu = a; free = s.free; stack = (stored start.args.n s).stack }))) c.exactly-zero.ensures ∙ store_is s start.requires.0 start.args.n start.requires.1,
       record { free = formed.free; places = formed.places },
     )
 

@@ -8,17 +8,17 @@ use Rattle.machine_state.proofs.ProgramLaws.{fetch-below, fetch-past, fetch-in}
 use Rattle.machine_state.proofs.code.fetch.Statement.{statement}
 use Rattle.machine_state.proofs.code.fetch.Tie as tie
 
-returns : tie.Need-returns
+returns : tie.Need-returns-then-at-first
 returns c = (fetch-below _ _ (search rules), tt)
 
-returns-2 : tie.Need-returns-2
+returns-2 : tie.Need-returns-then-code-j
 returns-2 c = (fetch-past _ _ (search rules) (search rules), tt)
 
-returns-3 : tie.Need-returns-3
+returns-3 : tie.Need-returns
 returns-3 c =
-    let s = c.before.before.before.before.before.before.before.before.before.before in
+    let s = c in
     let ws = s.args.code.now in
-    (rw (to_z-of_z w32 c.before.before.before.signed.result (search rules), c.before.before.before.signed.ensures) (fetch-in ws s.args.at (search rules) (search rules)), s.requires.codes (s.args.at - get_or ws 0 0) (search rules))
+    (rw (to_z-of_z w32 c.signed.result (search rules), c.signed.ensures) (fetch-in ws s.args.at (search rules) (search rules)), s.requires.codes (s.args.at - get_or ws 0 0) (search rules))
 
 pub fetch_spec : {M : Type 1} → statement M
 fetch_spec =
