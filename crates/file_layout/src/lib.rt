@@ -1,5 +1,7 @@
 // The layout in code: which line holds what, the text of each line, what a line lists, the code lines, and the ranges by name.
 // The meaning is in specs/Layout and specs/Rows of `file_format`.
+#![tactic(auto)]
+
 ghost use Rattle.std.specs.Prelude.{◌≡◌, [], ◌<◌, ◌≤◌, length, get_or, drop};
 ghost use Rattle.text.specs.Text.{lines, lookup, find, among};
 ghost use Rattle.instructions.specs.Kinds.{addresses};

@@ -1,4 +1,6 @@
 // The names on the lines of a routine file. The meaning is in the specs of `file_format`.
+#![tactic(auto)]
+
 ghost use Rattle.std.specs.Prelude.{◌≡◌, length, take};
 ghost use Rattle.text.specs.Text.{line_words, distinct};
 ghost use Rattle.text_decimals.specs.Decimal.{is_digit};

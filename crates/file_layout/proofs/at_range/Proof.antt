@@ -5,11 +5,11 @@ use borrow.Author.Rules.{rules}
 use Rattle.file_layout.proofs.at_range.Statement.{statement}
 use Rattle.file_layout.proofs.at_range.Tie as tie
 
-returns : tie.Need-returns
-returns c = c.first-addresses.ensures ∙ at_first c.before.before.args.k c.before.if1.true
+returns : tie.Need-returns-then-k-eq0
+returns c = c.first_addresses.ensures ∙ at_first c.args.k c.if-k-eq0.true
 
-returns-2 : tie.Need-returns-2
-returns-2 c = c.addresses.ensures ∙ at-later c.before.before.args.k c.before.if1.false
+returns-2 : tie.Need-returns
+returns-2 c = c.addresses.ensures ∙ at-later c.args.k c.if-k-eq0.false
 
-pub at-range-spec : {M : Type 1} → statement M
-at-range-spec = tie.close (tie.spec (λ c κs. search rules) returns (λ c κs. search rules) returns-2)
+pub at_range_spec : {M : Type 1} → statement M
+at_range_spec = tie.close (tie.spec (λ c κs. search rules) returns (λ c κs. search rules) returns-2)

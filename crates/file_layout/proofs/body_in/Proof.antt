@@ -8,18 +8,18 @@ use borrow.Author.Rules.{rules}
 use Rattle.file_layout.proofs.body_in.Statement.{statement}
 use Rattle.file_layout.proofs.body_in.Tie as tie
 
-sub-result : tie.Need-overflow-sub-result
-sub-result c = c.before.requires.inside 14 (omega arith)
+sub-result : tie.Need-slice_bounds-result-count
+sub-result c = c.requires.inside 14 (omega arith)
 
-part-result-start : tie.Need-slice-bounds-result-start
-part-result-start c = let h = c.before.requires.inside 14 (omega arith) in search rules
+part-result-start : tie.Need-slice_bounds-result-start
+part-result-start c = let h = c.requires.inside 14 (omega arith) in search rules
 
-part-result-end : tie.Need-slice-bounds-result-end
-part-result-end c = let h = c.before.requires.inside 14 (omega arith) in search rules
+part-result-end : tie.Need-slice_bounds-result-end
+part-result-end c = let h = c.requires.inside 14 (omega arith) in search rules
 
 returns : tie.Need-returns
 unfolding body
-returns c = let s = c.before.before in ap lines (rest_from _ s.args.text.now) ∙ s.requires.from_there 14 (omega arith)
+returns c = let s = c in ap lines (rest_from _ s.args.text.now) ∙ s.requires.from_there 14 (omega arith)
 
-pub body-in-spec : {M : Type 1} → statement M
-body-in-spec = tie.close (tie.spec (λ c. search rules) sub-result part-result-start part-result-end returns)
+pub body_in_spec : {M : Type 1} → statement M
+body_in_spec = tie.close (tie.spec (λ c. search rules) sub-result part-result-start part-result-end returns)

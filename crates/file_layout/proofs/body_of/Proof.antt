@@ -6,7 +6,7 @@ use Rattle.file_layout.proofs.body_of.Tie as tie
 
 returns : tie.Need-returns
 unfolding body
-returns c = c.after-lines.ensures.0
+returns c = c.after_lines.ensures.0
 
-pub body-of-spec : {M : Type 1} → statement M
-body-of-spec = tie.close (tie.spec (λ c κs. search rules) returns)
+pub body_of_spec : {M : Type 1} → statement M
+body_of_spec = tie.close (tie.spec (λ c κs. search rules) returns)

@@ -6,14 +6,18 @@ use borrow.Author.Rules.{rules}
 use Rattle.file_layout.proofs.count_listed.Statement.{statement}
 use Rattle.file_layout.proofs.count_listed.Tie as tie
 
-returns : tie.Need-returns
+returns : tie.Need-returns-then-same
 returns c =
-    sym (ap length (list-none c.before.before.before.before.args.line.now (sym c.before.same.ensures ∙ c.if1.true)))
+    sym (ap length (list-none c.args.line.now (sym c.same.ensures ∙ c.if-same.true)))
 
-returns-2 : tie.Need-returns-2
+returns-2 : tie.Need-returns
 returns-2 c =
-    c.count-words.ensures ∙ sym (ap length (list-words c.before.before.before.before.before.args.line.now (sym c.before.before.same.ensures ∙ c.before.if1.false)))
+    c.count_words.ensures ∙ sym (ap length (list-words c.args.line.now (sym c.same.ensures ∙ c.if-same.false)))
 
-pub count-listed-spec : {M : Type 1} → statement M
-count-listed-spec =
-    tie.close (tie.spec (λ c. search rules) (λ c κs. search rules) returns (λ c κs. search rules) returns-2)
+pub count_listed_spec : {M : Type 1} → statement M
+count_listed_spec =
+    tie.close (tie.spec
+    (λ c κs. search rules)
+    returns
+    (λ c κs. search rules)
+    returns-2)

@@ -8,11 +8,11 @@ use borrow.Author.Rules.{rules}
 use Rattle.file_layout.proofs.holds_cells.Statement.{statement}
 use Rattle.file_layout.proofs.holds_cells.Tie as tie
 
-returns : tie.Need-returns
-returns c = or-true (is_values Fields Cell c.before.before.args.role) (sym c.before.is-values.ensures ∙ c.if1.true)
+returns : tie.Need-returns-then-is_values
+returns c = or-true (is_values Fields Cell c.args.role) (sym c.is_values.ensures ∙ c.if-is_values.true)
 
-returns-2 : tie.Need-returns-2
-returns-2 c = or-false (sym c.before.before.is-values.ensures ∙ c.before.if1.false) c.is-values2.ensures
+returns-2 : tie.Need-returns
+returns-2 c = or-false (sym c.is_values.ensures ∙ c.if-is_values.false) c.is_values-2.ensures
 
-pub holds-cells-spec : {M : Type 1} → statement M
-holds-cells-spec = tie.close (tie.spec (λ c κs. search rules) returns (λ c κs. search rules) returns-2)
+pub holds_cells_spec : {M : Type 1} → statement M
+holds_cells_spec = tie.close (tie.spec (λ c κs. search rules) returns (λ c κs. search rules) returns-2)

@@ -7,7 +7,7 @@ use Rattle.file_layout.proofs.index_listed.Tie as tie
 
 returns : tie.Need-returns
 unfolding find
-returns c = c.index_of.ensures ∙ ap (λ r. index_of r.place) c.before.look_up.ensures
+returns c = c.index_of.ensures ∙ ap (λ r. index_of r.place) c.look_up-found.ensures
 
-pub index-listed-spec : {M : Type 1} → statement M
-index-listed-spec = tie.close (tie.spec (λ c κs. search rules) (λ c κs. search rules) returns)
+pub index_listed_spec : {M : Type 1} → statement M
+index_listed_spec = tie.close (tie.spec (λ c κs. search rules) (λ c κs. search rules) returns)

@@ -6,17 +6,17 @@ use borrow.Author.Rules.{rules}
 use Rattle.file_layout.proofs.is_role.Statement.{statement}
 use Rattle.file_layout.proofs.is_role.Tie as tie
 
-returns : tie.Need-returns
-returns c = c.is-names.ensures ∙ sym (ap (λ r. is_role r c.before.before.before.before.args.other) c.before.before.role.given.1)
+returns : tie.Need-returns-in-Names
+returns c = c.is_names.ensures ∙ sym (ap (λ r. is_role r c.args.other) c.in-Names.is)
 
-returns-2 : tie.Need-returns-2
-returns-2 c = not-laid c.before.before.args.role _ c.before.match.keys2 c.match2.keys2
+returns-2 : tie.Need-returns-in_default-role
+returns-2 c = not-laid c.args.role _ c.in_default.in_default-own.keys2 c.in_default-role.keys2
 
-returns-3 : tie.Need-returns-3
-returns-3 c = c.is-values.ensures ∙ sym (ap (λ r. is_role r c.before.before.before.before.before.args.other) c.before.before.role2.given.1)
+returns-3 : tie.Need-returns
+returns-3 c = c.is_values.ensures ∙ sym (ap (λ r. is_role r c.args.other) c.in-Values.is)
 
-pub is-role-spec : {M : Type 1} → statement M
-is-role-spec =
+pub is_role_spec : {M : Type 1} → statement M
+is_role_spec =
     tie.close
     (tie.spec
     (λ c. search rules)

@@ -6,25 +6,25 @@ use borrow.Author.Rules.{rules}
 use Rattle.file_layout.proofs.is_values.Statement.{statement}
 use Rattle.file_layout.proofs.is_values.Tie as tie
 
-returns : tie.Need-returns
-returns c = not-values _ _ c.before.args.role c.match.keys2
+returns : tie.Need-returns-in_default
+returns c = not-values _ _ c.args.role c.in_default.in_default-own.keys2
 
-returns-2 : tie.Need-returns-2
+returns-2 : tie.Need-returns-then-section_place
 returns-2 c =
-    let role = c.before.before.before.before.before.before.role.given in
-    let start = c.before.before.before.before.before.before.before.before in
-    same-section start.args.s role.0.0 start.args.c role.0.1.0 c.before.before.before.before.section-place.ensures c.before.before.before.section-place2.ensures c.before.before.if1.true c.before.column-place.ensures c.column-place2.ensures
-    ∙ sym (ap (is_values _ _) role.1)
+    let role = c.in-Values in
+    let start = c in
+    same-section start.args.s role.t start.args.c role.d c.section_place.ensures c.section_place-2.ensures c.if-section_place.true c.column_place.ensures c.column_place-then-section_place.ensures
+    ∙ sym (ap (is_values _ _) role.is)
 
-returns-3 : tie.Need-returns-3
+returns-3 : tie.Need-returns
 returns-3 c =
-    let role = c.before.before.before.before.role.given in
-    let start = c.before.before.before.before.before.before in
-    other-section start.args.s role.0.0 start.args.c role.0.1.0 c.before.before.section-place.ensures c.before.section-place2.ensures c.if1.false
-    ∙ sym (ap (is_values _ _) role.1)
+    let role = c.in-Values in
+    let start = c in
+    other-section start.args.s role.t start.args.c role.d c.section_place.ensures c.section_place-2.ensures c.if-section_place.false
+    ∙ sym (ap (is_values _ _) role.is)
 
-pub is-values-spec : {M : Type 1} → statement M
-is-values-spec =
+pub is_values_spec : {M : Type 1} → statement M
+is_values_spec =
     tie.close
     (tie.spec
     (λ c. search rules)

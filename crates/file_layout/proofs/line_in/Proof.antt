@@ -12,63 +12,63 @@ use borrow.Author.Rules.{rules}
 use Rattle.file_layout.proofs.line_in.Statement.{statement}
 use Rattle.file_layout.proofs.line_in.Tie as tie
 
-abbrev invariant-loop : tie.invariant-loop
-invariant-loop text starts role i₀ i = (i ≤ length layout) × (text_at role layout (lines text) ≡ text_at role (drop i layout) (drop i (lines text)))
+abbrev invariant-loop-i : tie.invariant-loop-i
+invariant-loop-i text starts role i₀ i = (i ≤ length layout) × (text_at role layout (lines text) ≡ text_at role (drop i layout) (drop i (lines text)))
 
-abbrev decreases-loop : tie.decreases-loop
-decreases-loop text starts role i₀ i = length layout - i
+abbrev decreases-loop-i : tie.decreases-loop-i
+decreases-loop-i text starts role i₀ i = length layout - i
 
-loop-holds : tie.Need-loop-init invariant-loop decreases-loop
+loop-holds : tie.Need-loop-i-init invariant-loop-i decreases-loop-i
 loop-holds c = (omega arith, refl)
 
 -- the place of line i is inside the text
-within_text : (c : tie.After-at invariant-loop decreases-loop) → get_or c.before.before.before.before.before.before.before.args.starts.now c.before.before.before.before.before.loop.i 0 ≤ length c.before.before.before.before.before.before.before.args.text.now
-within_text c = c.before.before.before.before.before.before.before.requires.inside _ c.before.before.before.before.before.loop.invariant.0
+within_text : (c : tie.After-at-1 invariant-loop-i decreases-loop-i) → get_or c.args.starts.now c.loop-i.i 0 ≤ length c.args.text.now
+within_text c = c.requires.inside _ c.loop-i.invariant.0
 
-sub-first-line : tie.Need-overflow-sub-first-line invariant-loop decreases-loop
+sub-first-line : tie.Need-slice_bounds-first_line-count invariant-loop-i decreases-loop-i
 sub-first-line c = within_text c
 
-part-first-line-start : tie.Need-slice-bounds-first-line-start invariant-loop decreases-loop
+part-first-line-start : tie.Need-slice_bounds-first_line-start invariant-loop-i decreases-loop-i
 part-first-line-start c = let h = within_text c in search rules
 
-part-first-line-end : tie.Need-slice-bounds-first-line-end invariant-loop decreases-loop
+part-first-line-end : tie.Need-slice_bounds-first_line-end invariant-loop-i decreases-loop-i
 part-first-line-end c = let h = within_text c in search rules
 
-returns : tie.Need-returns invariant-loop decreases-loop
+returns : tie.Need-returns-then-is_role invariant-loop-i decreases-loop-i
 returns c =
-    let s = c.before.before.before.before.before.before.before.before.before in
-    let l = c.before.before.before.before.before.before.before.loop in
+    let s = c in
+    let l = c.loop-i in
     let text = s.args.text.now in
     let r = s.args.role in
-    let e = sym (ap (is_role r) c.before.before.before.before.before.role-at.ensures) ∙ sym c.before.before.before.before.is-role.ensures ∙ c.before.before.before.if1.true in
-    c.first-line.ensures
+    let e = sym (ap (is_role r) c.role_at.ensures) ∙ sym c.is_role.ensures ∙ c.if-is_role.true in
+    c.first_line.ensures
     ∙ ap (λ t. (get_or (lines t) 0 no_line).text) (rest_from _ text)
     ∙ ap (λ ms. (get_or ms 0 no_line).text) (s.requires.from_there l.i l.invariant.0)
-    ∙ sym (l.invariant.1 ∙ text-here r l.i c.before.before.before.before.before.before.loop-test.true (drop l.i (lines text)) e)
+    ∙ sym (l.invariant.1 ∙ text-here r l.i c.loop-i-test.true (drop l.i (lines text)) e)
 
-loop-again : tie.Need-loop-preserved invariant-loop decreases-loop
+loop-again : tie.Need-loop-i-preserved invariant-loop-i decreases-loop-i
 loop-again c =
-    let s = c.before.before.before.before.before.before in
-    let l = c.before.before.before.before.loop in
+    let s = c in
+    let l = c.loop-i in
     let ls = lines s.args.text.now in
     let r = s.args.role in
-    let e = sym (ap (is_role r) c.before.before.role-at.ensures) ∙ sym c.before.is-role.ensures ∙ c.if1.false in
-    (omega arith, l.invariant.1 ∙ text-next r l.i c.before.before.before.loop-test.true (drop l.i ls) e ∙ ap (text_at r (drop (l.i + 1) layout)) (drop-drop 1 l.i ls))
+    let e = sym (ap (is_role r) c.role_at.ensures) ∙ sym c.is_role.ensures ∙ c.if-is_role.false in
+    (omega arith, l.invariant.1 ∙ text-next r l.i c.loop-i-test.true (drop l.i ls) e ∙ ap (text_at r (drop (l.i + 1) layout)) (drop-drop 1 l.i ls))
 
-returns-2 : tie.Need-returns-2 invariant-loop decreases-loop
+returns-2 : tie.Need-returns invariant-loop-i decreases-loop-i
 returns-2 c =
     let s = c.before.before.before.before in
-    let l = c.before.before.loop in
+    let l = c.loop-i in
     let ls = lines s.args.text.now in
     let e : l.i ≡ length layout = omega arith in
     sym (l.invariant.1 ∙ ap (λ k. text_at s.args.role (drop k layout) (drop l.i ls)) e ∙ text-none s.args.role (drop l.i ls))
 
-pub line-in-spec : {M : Type 1} → statement M
-line-in-spec =
+pub line_in_spec : {M : Type 1} → statement M
+line_in_spec =
     tie.close
     (tie.spec
-    invariant-loop
-    decreases-loop
+    invariant-loop-i
+    decreases-loop-i
     loop-holds
     (λ c κs. search rules)
     (λ c κs. search rules)

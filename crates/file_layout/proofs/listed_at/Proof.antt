@@ -7,19 +7,18 @@ use borrow.Author.Rules.{rules}
 use Rattle.file_layout.proofs.listed_at.Statement.{statement}
 use Rattle.file_layout.proofs.listed_at.Tie as tie
 
-returns : tie.Need-returns
+returns : tie.Need-returns-then-same
 returns c =
-    sym (ap (λ ws. get_or ws c.before.before.before.before.before.args.k []) (list-none c.before.before.before.before.before.args.line.now (sym c.before.before.same.ensures ∙ c.before.if1.true)))
+    sym (ap (λ ws. get_or ws c.args.k []) (list-none c.args.line.now (sym c.same.ensures ∙ c.if-same.true)))
 
-returns-2 : tie.Need-returns-2
+returns-2 : tie.Need-returns
 returns-2 c =
-    c.word_at.ensures ∙ sym (ap (λ ws. get_or ws c.before.before.before.before.before.args.k []) (list-words c.before.before.before.before.before.args.line.now (sym c.before.before.same.ensures ∙ c.before.if1.false)))
+    c.word_at.ensures ∙ sym (ap (λ ws. get_or ws c.args.k []) (list-words c.args.line.now (sym c.same.ensures ∙ c.if-same.false)))
 
-pub listed-at-spec : {M : Type 1} → statement M
-listed-at-spec =
+pub listed_at_spec : {M : Type 1} → statement M
+listed_at_spec =
     tie.close
     (tie.spec
-    (λ c. search rules)
     (λ c κs. search rules)
     (λ c. search rules)
     returns

@@ -6,12 +6,16 @@ use borrow.Author.Rules.{rules}
 use Rattle.file_layout.proofs.look_up.Statement.{statement}
 use Rattle.file_layout.proofs.look_up.Tie as tie
 
-returns : tie.Need-returns
-returns c = sym (ap (lookup _) (list-none _ (sym c.before.same.ensures ∙ c.if1.true)))
+returns : tie.Need-returns-then-same
+returns c = sym (ap (lookup _) (list-none _ (sym c.same.ensures ∙ c.if-same.true)))
 
-returns-2 : tie.Need-returns-2
-returns-2 c = c.find.ensures ∙ sym (ap (lookup _) (list-words _ (sym c.before.before.same.ensures ∙ c.before.if1.false)))
+returns-2 : tie.Need-returns
+returns-2 c = c.find.ensures ∙ sym (ap (lookup _) (list-words _ (sym c.same.ensures ∙ c.if-same.false)))
 
-pub look-up-spec : {M : Type 1} → statement M
-look-up-spec =
-    tie.close (tie.spec (λ c. search rules) (λ c κs. search rules) returns (λ c κs. search rules) returns-2)
+pub look_up_spec : {M : Type 1} → statement M
+look_up_spec =
+    tie.close (tie.spec
+    (λ c κs. search rules)
+    returns
+    (λ c κs. search rules)
+    returns-2)

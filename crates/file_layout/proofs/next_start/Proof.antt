@@ -9,35 +9,35 @@ use Rattle.file_layout.proofs.next_start.Statement.{statement}
 use Rattle.file_layout.proofs.next_start.Tie as tie
 
 -- what is left, and the length of its first line
-module _ (c : tie.After-piece-length) where
+module _ (c : tie.After-piece_length-e) where
   abbrev start : tie.Start
   start = c.before.before.before
 
-  first : c.piece-length.result ≡ first_length 10 (drop start.args.at start.args.text.now)
-  first = c.piece-length.ensures ∙ ap (first_length 10) (rest_from start.args.at start.args.text.now)
+  first : c.piece_length-e.result ≡ first_length 10 (drop start.args.at start.args.text.now)
+  first = c.piece_length-e.ensures ∙ ap (first_length 10) (rest_from start.args.at start.args.text.now)
 
-add-result : tie.Need-overflow-add-result
-add-result c = search (c.if1.true, c.before.before.before.before.requires, rules)
+add-result : tie.Need-overflow_add-result
+add-result c = search (c.if-e-rest.true, c.requires, rules)
 
-add-result-2 : tie.Need-overflow-add-result-2
-add-result-2 c = search (c.if1.true, c.before.before.before.before.requires, rules)
+add-result-2 : tie.Need-overflow_add-result-then-e-rest
+add-result-2 c = search (c.if-e-rest.true, c.requires, rules)
 
-returns : tie.Need-returns
+returns : tie.Need-returns-then-e-rest
 returns c =
-    let s = c.before.before.before.before in
+    let s = c in
     let l = length-drop s.args.at s.args.text.now in
-    let h = c.if1.true in
+    let h = c.if-e-rest.true in
     (omega (arith, s.requires), next-begins s.args.text.now s.args.at _ (first c.before) (omega (arith, s.requires)))
 
-returns-2 : tie.Need-returns-2
+returns-2 : tie.Need-returns
 returns-2 c =
-    let s = c.before.before.before.before in
+    let s = c in
     let l = length-drop s.args.at s.args.text.now in
-    let h = c.if1.false in
+    let h = c.if-e-rest.false in
     (omega arith, none-begins s.args.text.now s.args.at _ (first c.before) (omega (arith, s.requires)))
 
-pub next-start-spec : {M : Type 1} → statement M
-next-start-spec =
+pub next_start_spec : {M : Type 1} → statement M
+next_start_spec =
     tie.close
     (tie.spec
     (λ c. search rules)

@@ -7,7 +7,7 @@ use Rattle.file_layout.proofs.role_at.Statement.{statement}
 use Rattle.file_layout.proofs.role_at.Tie as tie
 
 returns : tie.Need-returns
-returns c = get_d_any layout c.before.args.i _ (Code 0) c.before.requires
+returns c = get_d_any layout c.args.i _ (Code 0) c.requires
 
-pub role-at-spec : {M : Type 1} → statement M
-role-at-spec = tie.close (tie.spec (λ c. search rules) (λ c. search rules) returns)
+pub role_at_spec : {M : Type 1} → statement M
+role_at_spec = tie.close (tie.spec (λ c. search rules) (λ c. search rules) returns)

@@ -12,22 +12,22 @@ use Rattle.file_names.proofs.add_name.Reads as reads
 use Rattle.file_names.proofs.add_name.Lts as lts
 use Rattle.file_names.proofs.is_field.Reads as is-field-reads
 
-add-sizes : tie.Need-overflow-add-sizes
+add-sizes : tie.Need-overflow_add-sizes
 add-sizes c =
-    let x = place-below _ _ _ (sym c.before.is_field.ensures ∙ c.if2.true) in
+    let x = place-below _ _ _ (sym c.is_field.ensures ∙ c.if-is_field.true) in
     omega arith
 
-add-t17 : tie.Need-overflow-add-t17
+add-t17 : tie.Need-overflow_add-result
 add-t17 c =
-    let s = c.before.before.before.before.before.before in
+    let s = c in
     let t = own-total s.args.blocks s.requires in
     omega arith
 
-returns : tie.Need-returns
+returns : tie.Need-returns-then-is_field
 returns c =
-    let s = c.before.before.before.before.before.before in
+    let s = c in
     let n : length s.args.blocks.sizes ≡ 8 = search rules in
-    field-added s.args.blocks _ s.requires n c.before.before.before.if1.true (sym c.before.before.is_field.ensures ∙ c.before.if2.true)
+    field-added s.args.blocks _ s.requires n c.if-count-gt0.true (sym c.is_field.ensures ∙ c.if-is_field.true)
 
 -- w does not name the next field of the last block
 apart : (c : lts.Joined1 (is-field-reads.Asked, is-field-reads.Learnt) reads.Pre reads.Post)
@@ -40,29 +40,29 @@ apart c =
     (λ t. continues-none s.args.blocks.sizes s.args.name.now s.args.blocks.count t.left)
     c.if1.branch
 
-array-write-sizes-2 : tie.Need-array-write-sizes-2
-array-write-sizes-2 c = block-below _ _ _ (sym c.before.is-field2.ensures ∙ c.if3.true)
+array-write-sizes-2 : tie.Need-bounds-sizes-count
+array-write-sizes-2 c = block-below _ _ _ (sym c.is_field-2.ensures ∙ c.if-is_field-2.true)
 
-add-t23 : tie.Need-overflow-add-t23
+add-t23 : tie.Need-overflow_add-result-then-is_field-2-2
 add-t23 c =
-    let s = c.before.before.before.before.before.before in
+    let s = c in
     let t = own-total s.args.blocks s.requires in
     omega arith
 
-returns-2 : tie.Need-returns-2
+returns-2 : tie.Need-returns-then-is_field-2
 returns-2 c =
-    let s = c.before.before.before.before.before.before in
+    let s = c in
     let n : length s.args.blocks.sizes ≡ 8 = search rules in
-    block-added s.args.blocks _ s.requires n (apart c.before.before.before) (sym c.before.before.is-field2.ensures ∙ c.before.if3.true)
+    block-added s.args.blocks _ s.requires n (apart c.before.before.before) (sym c.is_field-2.ensures ∙ c.if-is_field-2.true)
 
-returns-3 : tie.Need-returns-3
+returns-3 : tie.Need-returns
 returns-3 c =
-    let s = c.before.before.before.before.before in
+    let s = c in
     let n : length s.args.blocks.sizes ≡ 8 = search rules in
-    none-added s.args.blocks _ s.requires n (apart c.before.before) (sym c.before.is-field2.ensures ∙ c.if3.false)
+    none-added s.args.blocks _ s.requires n (apart c.before.before) (sym c.is_field-2.ensures ∙ c.if-is_field-2.false)
 
-pub add-name-spec : {M : Type 1} → statement M
-add-name-spec =
+pub add_name_spec : {M : Type 1} → statement M
+add_name_spec =
     tie.close
     (tie.spec
     (λ c. search rules)

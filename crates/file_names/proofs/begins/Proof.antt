@@ -14,63 +14,63 @@ use borrow.Author.Rules.{rules}
 use Rattle.file_names.proofs.begins.Statement.{statement}
 use Rattle.file_names.proofs.begins.Tie as tie
 
-abbrev invariant-loop : tie.invariant-loop
-invariant-loop line names rest₀ others₀ e₀ f₀ rest others e f =
+abbrev invariant-loop-e : tie.invariant-loop-e
+invariant-loop-e line names rest₀ others₀ e₀ f₀ rest others e f =
     (e ≡ first_length 32 rest) × (f ≡ first_length 32 others) × (length rest ≤ length line) × (length others ≤ length names) × (leads line names ≡ leads rest others)
 
-abbrev decreases-loop : tie.decreases-loop
-decreases-loop line names rest₀ others₀ e₀ f₀ rest others e f = length rest
+abbrev decreases-loop-e : tie.decreases-loop-e
+decreases-loop-e line names rest₀ others₀ e₀ f₀ rest others e f = length rest
 
-loop-holds : tie.Need-loop-init invariant-loop decreases-loop
-loop-holds c = (c.before.piece-length.ensures, c.piece-length2.ensures, omega arith, omega arith, refl)
+loop-holds : tie.Need-loop-e-init invariant-loop-e decreases-loop-e
+loop-holds c = (c.piece_length-e.ensures, c.piece_length-f.ensures, omega arith, omega arith, refl)
 
-returns : tie.Need-returns invariant-loop decreases-loop
+returns : tie.Need-returns-then-others-f invariant-loop-e decreases-loop-e
 returns c =
-    let t = c.before in
-    let i = t.before.loop.invariant in
-    sym (i.4 ∙ leads-short _ _ _ _ i.0 t.loop-test.true i.1 c.if1.true)
+    let t = c in
+    let i = t.loop-e.invariant in
+    sym (i.4 ∙ leads-short _ _ _ _ i.0 t.loop-e-test.true i.1 c.if-others-f.true)
 
-slice-aggregate-same : tie.Need-slice-aggregate-same invariant-loop decreases-loop
-slice-aggregate-same c = sym (length-take-le _ _ (le_of_lt c.before.before.loop-test.true))
+slice-aggregate-same : tie.Need-slice_bounds-same-end invariant-loop-e decreases-loop-e
+slice-aggregate-same c = sym (length-take-le _ _ (le_of_lt c.loop-e-test.true))
 
-slice-aggregate-same-2 : tie.Need-slice-aggregate-same-2 invariant-loop decreases-loop
-slice-aggregate-same-2 c = sym (length-take-le _ _ (le_of_lt c.before.before.if1.false))
+slice-aggregate-same-2 : tie.Need-slice_bounds-same-end-in-loop-e invariant-loop-e decreases-loop-e
+slice-aggregate-same-2 c = sym (length-take-le _ _ (le_of_lt c.if-others-f.false))
 
-returns-2 : tie.Need-returns-2 invariant-loop decreases-loop
+returns-2 : tie.Need-returns-then-not-same invariant-loop-e decreases-loop-e
 returns-2 c =
-    let t = c.before.before.before.before in
-    let l = t.before.before in
-    let i = l.loop.invariant in
-    sym (i.4 ∙ leads-differ _ _ _ _ i.0 t.before.loop-test.true i.1 t.if1.false (sym c.before.same.ensures ∙ not-true _ c.if2.true))
+    let t = c in
+    let l = t in
+    let i = l.loop-e.invariant in
+    sym (i.4 ∙ leads-differ _ _ _ _ i.0 t.loop-e-test.true i.1 t.if-others-f.false (sym c.same.ensures ∙ not-true _ c.if-not-same.true))
 
-loop-again : tie.Need-loop-preserved invariant-loop decreases-loop
+loop-again : tie.Need-loop-e-preserved invariant-loop-e decreases-loop-e
 loop-again c =
-    let j = c.before.before.before.before in
-    let t = j.before.before.before.before in
-    let l = t.before.before in
-    let i = l.loop.invariant in (
-      c.before.piece-length3.ensures,
-      c.piece-length4.ensures,
+    let j = c in
+    let t = j in
+    let l = t in
+    let i = l.loop-e.invariant in (
+      c.piece_length-e-in-loop-e.ensures,
+      c.piece_length-f-in-loop-e.ensures,
       omega arith,
       omega arith,
-      i.4 ∙ leads-agree _ _ _ _ i.0 t.before.loop-test.true i.1 t.if1.false (sym j.before.same.ensures ∙ not-false _ j.if2.false),
+      i.4 ∙ leads-agree _ _ _ _ i.0 t.loop-e-test.true i.1 t.if-others-f.false (sym j.same.ensures ∙ not-false _ j.if-not-same.false),
     )
 
-slice-aggregate-same-3 : tie.Need-slice-aggregate-same-3 invariant-loop decreases-loop
-slice-aggregate-same-3 c = sym (length-take-le _ _ (first-within _ _ c.before.before.loop.invariant.1))
+slice-aggregate-same-3 : tie.Need-slice_bounds-same-end-2 invariant-loop-e decreases-loop-e
+slice-aggregate-same-3 c = sym (length-take-le _ _ (first-within _ _ c.loop-e.invariant.1))
 
-returns-3 : tie.Need-returns-3 invariant-loop decreases-loop
+returns-3 : tie.Need-returns invariant-loop-e decreases-loop-e
 returns-3 c =
-    let t = c.before.before in
-    let i = t.before.loop.invariant in
-    c.same2.ensures ∙ sym (i.4 ∙ leads-last _ _ _ _ i.0 t.loop-test.false i.1)
+    let t = c in
+    let i = t.loop-e.invariant in
+    c.same-2.ensures ∙ sym (i.4 ∙ leads-last _ _ _ _ i.0 t.loop-e-test.false i.1)
 
-pub begins-spec : {M : Type 1} → statement M
-begins-spec =
+pub begins_spec : {M : Type 1} → statement M
+begins_spec =
     tie.close
     (tie.spec
-    invariant-loop
-    decreases-loop
+    invariant-loop-e
+    decreases-loop-e
     (λ c κs. search rules)
     (λ c κs. search rules)
     loop-holds

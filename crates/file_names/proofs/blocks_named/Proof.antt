@@ -17,63 +17,62 @@ use borrow.Author.Rules.{rules}
 use Rattle.file_names.proofs.blocks_named.Statement.{statement}
 use Rattle.file_names.proofs.blocks_named.Tie as tie
 
-abbrev invariant-loop : tie.invariant-loop
-invariant-loop line b₀ rest₀ e₀ b rest e =
+abbrev invariant-loop-e : tie.invariant-loop-e
+invariant-loop-e line b₀ rest₀ e₀ b rest e =
     (e ≡ first_length 32 rest) × (length rest ≤ length line) × (block_sizes (list line) ≡ grow 0 (take b.count b.sizes) (line_words rest)) × Own b
 
-abbrev decreases-loop : tie.decreases-loop
-decreases-loop line b₀ rest₀ e₀ b rest e = length rest
+abbrev decreases-loop-e : tie.decreases-loop-e
+decreases-loop-e line b₀ rest₀ e₀ b rest e = length rest
 
-returns : tie.Need-returns invariant-loop decreases-loop
+returns : tie.Need-returns-then-same invariant-loop-e decreases-loop-e
 returns c =
-    let e = list-none _ (sym c.before.same.ensures ∙ c.if1.true) in
+    let e = list-none _ (sym c.same.ensures ∙ c.if-same.true) in
     none_named _ e
 
-loop-holds : tie.Need-loop-init invariant-loop decreases-loop
+loop-holds : tie.Need-loop-e-init invariant-loop-e decreases-loop-e
 loop-holds c =
-    (c.piece-length.ensures, omega arith, some-names _ (sym c.before.before.same.ensures ∙ c.before.if1.false), no_blocks)
+    (c.piece_length-e.ensures, omega arith, some-names _ (sym c.same.ensures ∙ c.if-same.false), no_blocks)
 
-slice-aggregate-add-name : tie.Need-slice-aggregate-add-name invariant-loop decreases-loop
-slice-aggregate-add-name c = sym (length-take-le _ _ (le_of_lt c.before.loop-test.true))
+slice-aggregate-add-name : tie.Need-slice_bounds-add_name-end invariant-loop-e decreases-loop-e
+slice-aggregate-add-name c = sym (length-take-le _ _ (le_of_lt c.loop-e-test.true))
 
-add-name-requires : tie.Need-add-name-requires invariant-loop decreases-loop
-add-name-requires c κs = c.before.before.loop.invariant.3
+add-name-requires : tie.Need-add_name-next-requires invariant-loop-e decreases-loop-e
+add-name-requires c κs = c.loop-e.invariant.3
 
-returns-2 : tie.Need-returns-2 invariant-loop decreases-loop
+returns-2 : tie.Need-returns-then-next-blocks invariant-loop-e decreases-loop-e
 returns-2 c =
-    let a = c.before.before.before in
-    let t = a.before.before in
-    let i = t.before.loop.invariant in
-    held i.3 (i.2 ∙ grow-stop _ _ _ i.0 t.loop-test.true (sym a.add-name.ensures.sum ∙ c.if2.true ∙ i.3.sum))
+    let a = c in
+    let t = a in
+    let i = t.loop-e.invariant in
+    held i.3 (i.2 ∙ grow-stop _ _ _ i.0 t.loop-e-test.true (sym a.add_name-next.ensures.sum ∙ c.if-next-blocks.true ∙ i.3.sum))
 
-loop-again : tie.Need-loop-preserved invariant-loop decreases-loop
+loop-again : tie.Need-loop-e-preserved invariant-loop-e decreases-loop-e
 loop-again c =
-    let j = c.before.before in
-    let a = j.before.before.before in
-    let t = a.before.before in
-    let i = t.before.loop.invariant in
-    let o = a.add-name.ensures in (
-      c.piece-length2.ensures,
+    let j = c in
+    let a = j in
+    let t = a in
+    let i = t.loop-e.invariant in
+    let o = a.add_name-next.ensures in (
+      c.piece_length-e-in-loop-e.ensures,
       omega arith,
-      i.2 ∙ grow-next _ _ _ _ i.0 t.loop-test.true o.sizes (λ e. j.if2.false ((own o).sum ∙ e ∙ sym i.3.sum)),
+      i.2 ∙ grow-next _ _ _ _ i.0 t.loop-e-test.true o.sizes (λ e. j.if-next-blocks.false ((own o).sum ∙ e ∙ sym i.3.sum)),
       own o,
     )
 
-add-name-requires-2 : tie.Need-add-name-requires-2 invariant-loop decreases-loop
-add-name-requires-2 c κs = c.before.loop.invariant.3
+add-name-requires-2 : tie.Need-add_name-requires invariant-loop-e decreases-loop-e
+add-name-requires-2 c κs = c.loop-e.invariant.3
 
-returns-3 : tie.Need-returns-3 invariant-loop decreases-loop
+returns-3 : tie.Need-returns invariant-loop-e decreases-loop-e
 returns-3 c =
-    let i = c.before.before.loop.invariant in
-    held c.add-name2.ensures (i.2 ∙ grow_last _ _ _ i.0 c.before.loop-test.false)
+    let i = c.loop-e.invariant in
+    held c.add_name.ensures (i.2 ∙ grow_last _ _ _ i.0 c.loop-e-test.false)
 
-pub blocks-named-spec : {M : Type 1} → statement M
-blocks-named-spec =
+pub blocks_named_spec : {M : Type 1} → statement M
+blocks_named_spec =
     tie.close
     (tie.spec
-    invariant-loop
-    decreases-loop
-    (λ c. search rules)
+    invariant-loop-e
+    decreases-loop-e
     (λ c κs. search rules)
     returns
     (λ c κs. search rules)

@@ -10,5 +10,7 @@ returns : tie.Need-returns
 unfolding parted_by line_words digits decimal stack_names cell_names
 returns c = c.begins.ensures
 
-pub cells-named-spec : {M : Type 1} → statement M
-cells-named-spec = tie.close (tie.spec (λ c. search rules) (λ c κs. search rules) returns)
+pub cells_named_spec : {M : Type 1} → statement M
+cells_named_spec = tie.close (tie.spec
+    (λ c κs. search rules)
+    returns)

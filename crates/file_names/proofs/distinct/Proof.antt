@@ -13,43 +13,43 @@ use Rattle.file_names.proofs.NameLaws.{distinct-again, distinct-next, distinct-l
 use Rattle.file_names.proofs.distinct.Statement.{statement}
 use Rattle.file_names.proofs.distinct.Tie as tie
 
-abbrev invariant-loop : tie.invariant-loop
-invariant-loop line rest₀ e₀ rest e = (e ≡ first_length 32 rest) × (length rest ≤ length line) × (distinct (line_words line) ≡ distinct (line_words rest))
+abbrev invariant-loop-e : tie.invariant-loop-e
+invariant-loop-e line rest₀ e₀ rest e = (e ≡ first_length 32 rest) × (length rest ≤ length line) × (distinct (line_words line) ≡ distinct (line_words rest))
 
-abbrev decreases-loop : tie.decreases-loop
-decreases-loop line rest₀ e₀ rest e = length rest
+abbrev decreases-loop-e : tie.decreases-loop-e
+decreases-loop-e line rest₀ e₀ rest e = length rest
 
-loop-holds : tie.Need-loop-init invariant-loop decreases-loop
-loop-holds c = (c.piece-length.ensures, omega arith, refl)
+loop-holds : tie.Need-loop-e-init invariant-loop-e decreases-loop-e
+loop-holds c = (c.piece_length-e.ensures, omega arith, refl)
 
-slice-aggregate-w : tie.Need-slice-aggregate-w invariant-loop decreases-loop
-slice-aggregate-w c = sym (length-take-le _ _ (le_of_lt c.before.loop-test.true))
+slice-aggregate-w : tie.Need-slice_bounds-w-end invariant-loop-e decreases-loop-e
+slice-aggregate-w c = sym (length-take-le _ _ (le_of_lt c.loop-e-test.true))
 
-returns : tie.Need-returns invariant-loop decreases-loop
+returns : tie.Need-returns-then-is_among invariant-loop-e decreases-loop-e
 returns c =
-    let t = c.before.before.before.before in
-    sym (t.before.loop.invariant.2 ∙ distinct-again _ _ t.before.loop.invariant.0 t.loop-test.true (sym c.before.is_among.ensures ∙ c.if1.true))
+    let t = c in
+    sym (t.loop-e.invariant.2 ∙ distinct-again _ _ t.loop-e.invariant.0 t.loop-e-test.true (sym c.is_among.ensures ∙ c.if-is_among.true))
 
-loop-again : tie.Need-loop-preserved invariant-loop decreases-loop
+loop-again : tie.Need-loop-e-preserved invariant-loop-e decreases-loop-e
 loop-again c =
-    let j = c.before in
-    let t = j.before.before.before.before in (
-      c.piece-length2.ensures,
+    let j = c in
+    let t = j in (
+      c.piece_length-e-in-loop-e.ensures,
       omega arith,
-      t.before.loop.invariant.2 ∙ distinct-next _ _ t.before.loop.invariant.0 t.loop-test.true (sym j.before.is_among.ensures ∙ j.if1.false),
+      t.loop-e.invariant.2 ∙ distinct-next _ _ t.loop-e.invariant.0 t.loop-e-test.true (sym j.is_among.ensures ∙ j.if-is_among.false),
     )
 
-returns-2 : tie.Need-returns-2 invariant-loop decreases-loop
+returns-2 : tie.Need-returns invariant-loop-e decreases-loop-e
 returns-2 c =
-    let l = c.before in
-    sym (l.loop.invariant.2 ∙ distinct-last _ _ l.loop.invariant.0 c.loop-test.false)
+    let l = c in
+    sym (l.loop-e.invariant.2 ∙ distinct-last _ _ l.loop-e.invariant.0 c.loop-e-test.false)
 
-pub distinct-spec : {M : Type 1} → statement M
-distinct-spec =
+pub distinct_spec : {M : Type 1} → statement M
+distinct_spec =
     tie.close
     (tie.spec
-    invariant-loop
-    decreases-loop
+    invariant-loop-e
+    decreases-loop-e
     (λ c κs. search rules)
     loop-holds
     slice-aggregate-w

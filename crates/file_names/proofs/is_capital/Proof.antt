@@ -4,11 +4,11 @@ use borrow.Author.Tests.{le-leb, lt-leb}
 use Rattle.file_names.proofs.is_capital.Statement.{statement}
 use Rattle.file_names.proofs.is_capital.Tie as tie
 
-returns : tie.Need-returns
-returns c = rw (le-leb 65 _ c.if1.true) refl
+returns : tie.Need-returns-then-c-ge65
+returns c = rw (le-leb 65 _ c.if-c-ge65.true) refl
 
-returns-2 : tie.Need-returns-2
-returns-2 c = rw (lt-leb 65 _ c.if1.false) refl
+returns-2 : tie.Need-returns-else-c-ge65
+returns-2 c = rw (lt-leb 65 _ c.if-c-ge65.false) refl
 
-pub is-capital-spec : {M : Type 1} → statement M
-is-capital-spec = tie.close (tie.spec returns returns-2)
+pub is_capital_spec : {M : Type 1} → statement M
+is_capital_spec = tie.close (tie.spec returns returns-2)

@@ -4,11 +4,11 @@ use borrow.Author.Tests.{le-leb, lt-leb}
 use Rattle.file_names.proofs.is_digit.Statement.{statement}
 use Rattle.file_names.proofs.is_digit.Tie as tie
 
-returns : tie.Need-returns
-returns c = rw (le-leb 48 _ c.if1.true) refl
+returns : tie.Need-returns-then-c-ge48
+returns c = rw (le-leb 48 _ c.if-c-ge48.true) refl
 
-returns-2 : tie.Need-returns-2
-returns-2 c = rw (lt-leb 48 _ c.if1.false) refl
+returns-2 : tie.Need-returns-else-c-ge48
+returns-2 c = rw (lt-leb 48 _ c.if-c-ge48.false) refl
 
-pub is-digit-spec : {M : Type 1} → statement M
-is-digit-spec = tie.close (tie.spec returns returns-2)
+pub is_digit_spec : {M : Type 1} → statement M
+is_digit_spec = tie.close (tie.spec returns returns-2)

@@ -13,50 +13,50 @@ use borrow.Author.Rules.{rules}
 use Rattle.file_names.proofs.is_name.Statement.{statement}
 use Rattle.file_names.proofs.is_name.Tie as tie
 
-abbrev invariant-loop : tie.invariant-loop
-invariant-loop w i₀ i = (1 ≤ i) × (i ≤ length w) × (is_name w ≡ all in_name (drop i w))
+abbrev invariant-loop-i : tie.invariant-loop-i
+invariant-loop-i w i₀ i = (1 ≤ i) × (i ≤ length w) × (is_name w ≡ all in_name (drop i w))
 
-abbrev decreases-loop : tie.decreases-loop
-decreases-loop w i₀ i = length w - i
+abbrev decreases-loop-i : tie.decreases-loop-i
+decreases-loop-i w i₀ i = length w - i
 
-returns : tie.Need-returns invariant-loop decreases-loop
-returns c = sym (name-empty _ c.if1.true)
+returns : tie.Need-returns-then-w-eq0 invariant-loop-i decreases-loop-i
+returns c = sym (name-empty _ c.if-w-eq0.true)
 
-returns-2 : tie.Need-returns-2 invariant-loop decreases-loop
-returns-2 c = sym (name-long _ c.if2.true)
+returns-2 : tie.Need-returns-then-w-gt8 invariant-loop-i decreases-loop-i
+returns-2 c = sym (name-long _ c.if-w-gt8.true)
 
-returns-3 : tie.Need-returns-3 invariant-loop decreases-loop
-returns-3 c = sym (name-first _ (sym c.before.is-capital.ensures ∙ not-true _ c.if3.true))
+returns-3 : tie.Need-returns-then-not-is_capital invariant-loop-i decreases-loop-i
+returns-3 c = sym (name-first _ (sym c.is_capital.ensures ∙ not-true _ c.if-not-is_capital.true))
 
-loop-holds : tie.Need-loop-init invariant-loop decreases-loop
+loop-holds : tie.Need-loop-i-init invariant-loop-i decreases-loop-i
 loop-holds c =
-    let t = c.before.before.before in
-    (omega arith, omega arith, name-rest _ (omega arith) t.if2.false (sym c.before.is-capital.ensures ∙ not-false _ c.if3.false))
+    let t = c in
+    (omega arith, omega arith, name-rest _ (omega arith) t.if-w-gt8.false (sym c.is_capital.ensures ∙ not-false _ c.if-not-is_capital.false))
 
-returns-4 : tie.Need-returns-4 invariant-loop decreases-loop
+returns-4 : tie.Need-returns-then-not-in_name invariant-loop-i decreases-loop-i
 returns-4 c =
-    let t = c.before.before.before in
-    sym (t.before.loop.invariant.2 ∙ all-fails in_name _ _ t.loop-test.true (sym c.before.in-name.ensures ∙ not-true _ c.if4.true))
+    let t = c in
+    sym (t.loop-i.invariant.2 ∙ all-fails in_name _ _ t.loop-i-test.true (sym c.in_name.ensures ∙ not-true _ c.if-not-in_name.true))
 
-loop-again : tie.Need-loop-preserved invariant-loop decreases-loop
+loop-again : tie.Need-loop-i-preserved invariant-loop-i decreases-loop-i
 loop-again c =
-    let t = c.before.before.before in (
+    let t = c in (
       omega arith,
       omega arith,
-      rw add-one (t.before.loop.invariant.2 ∙ all-passes in_name _ _ t.loop-test.true (sym c.before.in-name.ensures ∙ not-false _ c.if4.false)),
+      rw add-one (t.loop-i.invariant.2 ∙ all-passes in_name _ _ t.loop-i-test.true (sym c.in_name.ensures ∙ not-false _ c.if-not-in_name.false)),
     )
 
-returns-5 : tie.Need-returns-5 invariant-loop decreases-loop
+returns-5 : tie.Need-returns invariant-loop-i decreases-loop-i
 returns-5 c =
-    let l = c.before in
-    sym (l.loop.invariant.2 ∙ all_end in_name _ _ c.loop-test.false)
+    let l = c in
+    sym (l.loop-i.invariant.2 ∙ all_end in_name _ _ c.loop-i-test.false)
 
-pub is-name-spec : {M : Type 1} → statement M
-is-name-spec =
+pub is_name_spec : {M : Type 1} → statement M
+is_name_spec =
     tie.close
     (tie.spec
-    invariant-loop
-    decreases-loop
+    invariant-loop-i
+    decreases-loop-i
     returns
     returns-2
     (λ c. search rules)
