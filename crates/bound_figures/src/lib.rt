@@ -1,4 +1,6 @@
 // What exploring comes to, and how it is put together: a step more, STOP, a refusal, the two ways of a branch. The meaning is in specs/.
+#![tactic(auto)]
+
 ghost use Rattle.std.specs.Prelude.{◌≡◌, ◌<◌, ◌≤◌, max};
 ghost use Rattle.bound_figures.specs.HeldFigures.{zero_tally, price, more_of, jumped_of, decided_of, joined_of, both_of, finished_of, refused_as, Summable};
 

@@ -1,4 +1,6 @@
 // What a word of a line of values says. The meaning is in specs/ here and of `file_format`.
+#![tactic(auto)]
+
 ghost use Rattle.std.specs.Prelude.{◌≡◌, List, ℕ, ◌<◌, ◌≤◌, ltb, nat_abs};
 ghost use Rattle.std.specs.Int.Signed.{mag, lt_z};
 ghost use Rattle.text.specs.Text.{lines};

@@ -1,4 +1,6 @@
 // What an operation comes to, before the state is changed. The meaning is in specs/.
+#![tactic(auto)]
+
 ghost use Rattle.std.specs.Prelude.{◌≡◌, true, cond, ◌+◌, ◌<◌, ◌≤◌};
 ghost use Rattle.cells.specs.Cells.{condition};
 ghost use Rattle.cells.specs.HeldAnswers.{of_operand};

@@ -10,7 +10,7 @@ use borrow.Author.Tests.{lt-ltb}
 use Rattle.cells.specs.Try.{done, ◌>>=◌}
 use Rattle.cells.specs.declared.Cell.{Cell}
 use Rattle.cells.specs.Cells.{exactly}
-use Rattle.machine.specs.Machine.{State, stack_limit, height, push, pop, store, load, restack, reblock, advance, jump}
+use Rattle.machine.specs.Machine.{stack_limit, height, push, pop, store, load, restack, reblock, advance, jump}
 use Rattle.machine.proofs.ListLaws.{put_in, without_in}
 use Rattle.machine.proofs.ApartLaws.{push-reblock, pop-reblock, store-reblock}
 use Rattle.machine_state.specs.declared.State as code

@@ -1,4 +1,6 @@
 // One step of the machine, by value: "A step takes the machine's state and hands back the next one." The meaning is in specs/.
+#![tactic(auto)]
+
 ghost use Rattle.std.specs.Prelude.{◌≡◌, ◌<◌, pos, get_or};
 ghost use Rattle.cells.specs.Cells.{range};
 ghost use Rattle.machine.specs.Machine.{with_extra, step, takes_answer};

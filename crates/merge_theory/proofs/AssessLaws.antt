@@ -197,6 +197,7 @@ module _ (act : State → Try Next) (came : Table) where
 
         go : (i : Slot) → slot (came a) ≡ i → Inspected (assess act came n (suc a)) a r q i → ((r q : Report) → assess act came n (suc a) r ≡ accepted q → (M.figure q ≡ M.figure r) ⊎ AtStop M (M.figure q)) → (M.figure q ≡ M.figure r) ⊎ AtStop M (M.figure q)
         go empty x (passed f) ih = ih r q f
+        go unlike x x5 ih = elim x5 [ ]
         go (held s p) x (made k h f) ih = here s p k x h (ih _ q f)
 
   -- DEPTH is the height of some merged state, if it is not that of before
@@ -218,6 +219,7 @@ module _ (act : State → Try Next) (came : Table) where
 
       go : (i : Slot) → slot (came a) ≡ i → Inspected (assess act came n (suc a)) a r q i → ((r q : Report) → assess act came n (suc a) r ≡ accepted q → (q.depth ≡ r.depth) ⊎ AtHeight q.depth) → (q.depth ≡ r.depth) ⊎ AtHeight q.depth
       go empty x (passed f) ih = ih r q f
+      go unlike x x5 ih = elim x5 [ ]
       go (held s p) x (made k h f) ih = here s p k x (ih _ q f)
 
   -- STEPS is the number of addresses reached, and PATH is empty
@@ -249,6 +251,7 @@ module _ (act : State → Try Next) (came : Table) where
   bad-unique (is_stuck e) (is_stuck f) = refl
 
   pub fine-good : {q : Report} {b : ℕ} {i : Slot} → Fine q b i → (x : Refusal) → Bad b x i → ⊥
+  fine-good unreached x h = elim h [ ]
   fine-good (carried n e g) x (is_stuck f) = let z : ◌≡◌ {A = ℕ} 0 1 = cc in omega arith
 
   -- the lowest address with one

@@ -244,6 +244,7 @@ module _ (act : State → Try Next) (pass : Pass act) where
 
         go : (i : Slot) → slot (came b) ≡ i → Fine act came q b i → Made b x
         go empty e unreached = absurd (vacant (summary (came b)) e)
+        go unlike e x3 = elim x3 [ ]
         go (held s p) e (carried k f g) = makes k e ((together b e).sums x h) f g
 
     pub held-made : (b : ℕ) (s : State) {p : Price} → slot (came b) ≡ held s p → (k : Next) × (act (jump b s) ≡ done k) × NoGreater (finish p k (reach s none)) q

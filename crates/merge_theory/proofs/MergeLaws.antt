@@ -37,14 +37,14 @@ over (both {a} r) k = k a r
 -- lists
 
 module _ {A : Type 0} {R : A → A → Type 0} {f : A → A → Try A} (M : Merging R f) where
-  lists-left : {xs ys : List A} (zs : List A) → Pointwise R xs ys → Covered (Pointwise R) (done xs) (merge_lists f ys zs)
+  lists-left : (zs : List A) → {xs ys : List A} → Pointwise R xs ys → Covered (Pointwise R) (done xs) (merge_lists f ys zs)
   unfolding merge_lists
   lists-left [] end = both end
   lists-left (z ∷ zs) end = by_stuck
   lists-left [] (cons r rs) = by_stuck
   lists-left (z ∷ zs) (cons r rs) = under (M.left _ _ z r) (λ b h. under (lists-left zs rs) (λ bs hs. both (cons h hs)))
 
-  lists-right : {xs zs : List A} (ys : List A) → Pointwise R xs zs → Covered (Pointwise R) (done xs) (merge_lists f ys zs)
+  lists-right : (ys : List A) → {xs zs : List A} → Pointwise R xs zs → Covered (Pointwise R) (done xs) (merge_lists f ys zs)
   unfolding merge_lists
   lists-right [] end = both end
   lists-right (y ∷ ys) end = by_stuck

@@ -120,6 +120,7 @@ parted-cells e (here r) = ways.here r
 parted-cells e (there k) = ways.there (parted-cells (omega arith) k)
 
 parted-lists : {A : Type 0} {R : A → A → Type 0} (xs ys : List (List A)) → map length xs ≡ map length ys → Apart (Apart R) xs ys → Somewhere (Somewhere R) xs ys
+parted-lists [] [] e k = elim k [ ]
 parted-lists [] (y ∷ ys) e k = let z : ◌≡◌ {A = ℕ} 0 1 = cc in absurd (omega arith)
 parted-lists (x ∷ xs) [] e k = let z : ◌≡◌ {A = ℕ} 0 1 = cc in absurd (omega arith)
 parted-lists (x ∷ xs) (y ∷ ys) e (here k) = let h : length x ≡ length y = cc in ways.here (parted-cells h k)

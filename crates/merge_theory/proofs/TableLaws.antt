@@ -33,7 +33,7 @@ ranges-both {l} {l'} {m} {m'} h k =
 
 values-both : {v w : Value} → Below v w → Below w v → cell v ≡ cell w
 values-both (ranges h) (ranges k) = ranges-both h k
-values-both handles handles = refl
+values-both handles k = refl
 
 pub refines-both : (a b : Cell) → Refines a b → Refines b a → a ≡ b
 refines-both a b h k = values-both (below h) (below k)

@@ -7,7 +7,7 @@ use native.Mathlib.Omega.{arith}
 use lib.IntN.{ℤ}
 use Rattle.cells.specs.Try.{Try, stuck, done}
 use Rattle.cells.specs.Cells.{unknown}
-use Rattle.machine.specs.Machine.{State, Price, Next, stops, goes, Code, height, step}
+use Rattle.machine.specs.Machine.{State, Price, Next, stops, goes, opens, Code, height, step}
 use Rattle.bound_theory.specs.Tree.{Decision, Report, Verdict, accepted, refused, opening_limit, tree, report, verdict, explore, bound}
 use Rattle.bound_theory.specs.Run.{Run, begin, leads, after, judge_run}
 use Rattle.bound_theory.proofs.TreeLaws.{tree-root, accepted-complete, complete-accepted}
@@ -61,6 +61,7 @@ module _ (c : Code) (o : ℕ) where
           ap (spent-before r) (explore-goes (step c unknown) b o r.state t p (same ∙ f))
           ∙ moves r p t (explore (step c unknown) o b t) h (root b t)
           ∙ ih (gone c r p t) refl k (omega arith) (later c b r (gone c r p t) (once-goes c r g p t f) u) ∙ sym (left-goes c r g b p t f)
+      go (done (opens p s q t)) f x' ih = elim x' [ ]
 
 -- nothing is spent at the start
 begun : (s : State) (answers : List ℤ) (v : Verdict) → ((q : Report) → v ≡ accepted q → height s ≤ q.depth) → spent-before (begin s answers) v ≡ v

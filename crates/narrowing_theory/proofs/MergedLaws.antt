@@ -13,7 +13,7 @@ use Rattle.refusals.specs.declared.Refusal.{Refusal}
 use Rattle.refusals.specs.declared.Refusal.TheVariants.{Spent}
 use Rattle.cells.specs.Try.{Try, stuck, done}
 use Rattle.cells.specs.Cells.{unknown}
-use Rattle.machine.specs.Machine.{State, Price, Next, stops, goes, Code, height, jump, sum, step}
+use Rattle.machine.specs.Machine.{State, Price, Next, stops, goes, opens, Code, height, jump, sum, step}
 use Rattle.machine.specs.Forward.{Forward}
 use Rattle.machine.specs.Targets.{Closed}
 use Rattle.machine.proofs.LeadLaws.{goes-there}
@@ -116,6 +116,7 @@ module _ (c : Code) (forward : Forward c) (closed : Closed c) (top : ℕ) (over 
         (ih (suc r.state.at) (reach r.state f) (gone c r p t) refl h (later c b r (gone c r p t) (once-goes c r g p t e) u)
         (record { cycles = k.cycles; words = k.words; depth = ap (λ d. max d (height t)) k.depth; steps = ap suc k.steps })
         (omega arith) (omega arith) last)
+    makes ih (done (opens p s q t)) e x' = elim x' [ ]
 
   follows : (n b : ℕ) → Follows n b
   follows n zero a f r g e u k lo hi last = inr (r.state.at, left-none c r g)

@@ -1,5 +1,6 @@
 // Signed numbers of 31 bits that wrap. The meaning is in specs/.
 #![tactic(auto)]
+
 ghost use Rattle.std.specs.Prelude.{◌≡◌, nat_abs, neg_ℤ, ◌+ℤ◌, ◌-ℤ◌};
 ghost use Rattle.numbers.specs.Numbers.{wrap, holds, bit, within, numbers, residue, signed};
 

@@ -1,5 +1,6 @@
 // Texts as bytes: lines and words. The meaning is in specs/.
 #![tactic(auto)]
+
 ghost use Rattle.std.specs.Prelude.{length, get_or, drop, [], ◌≡◌, ◌+◌, ◌-◌, ◌≤◌};
 ghost use Rattle.text.specs.Text.{equals, parted_by, line_words, lines, no_line, lookup, index_of, among};
 

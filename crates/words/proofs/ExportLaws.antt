@@ -21,7 +21,7 @@ use Rattle.text.specs.declared.Place.TheVariants.{At as at}
 use Rattle.instructions.specs.Opcodes.{place_from}
 use Rattle.instructions.proofs.OpcodeLaws.{kind-of-opcode}
 use Rattle.words.specs.Words.{word_bits, Word, whole, words_of, all_bytes}
-use Rattle.words.specs.Decoding.{Item, item_of, has_argument, opcode, argument, item, coded, decoded_words, decoded, items, number_at, size_of}
+use Rattle.words.specs.Decoding.{Item, item_of, has_argument, opcode, item, coded, decoded_words, decoded, items, number_at, size_of}
 use Rattle.words.specs.Export.{Op, positions, argument_word, items_from, item_words, words_in, export_ops}
 use Rattle.words.proofs.WordLaws.{words_back, bytes-length}
 use Rattle.words.proofs.HeadLaws.{size_small, size-one, size-two}

@@ -27,7 +27,7 @@ use Rattle.words.proofs.WordLaws.{words-none, first_word_of, words-first, part-i
 -- ---- whether a kind has an argument word, by the code of what it takes
 
 pub takes-argument : (a : Argument) → ltb 0 (argument_code a) ≡ has_argument a
-unfolding argument_code has_argument
+unfolding argument_code
 takes-argument Absent = refl
 takes-argument Target = refl
 takes-argument Primitive = refl

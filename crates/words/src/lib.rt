@@ -1,4 +1,6 @@
 // The compiler's words: the instructions that they hold, and the earliest word that an import refuses. The meaning is in specs/.
+#![tactic(auto)]
+
 ghost use Rattle.std.specs.Prelude.{◌≡◌, suc, ◌+◌, ◌*◌, ◌≤◌, ◌<◌, pos, ◌+ℤ◌, length, get_or, drop};
 ghost use Rattle.text_decimals.specs.Memory.{over};
 ghost use Rattle.instructions.specs.Kinds.{kind_at};

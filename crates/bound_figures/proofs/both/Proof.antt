@@ -5,17 +5,17 @@ use Rattle.bound_figures.proofs.PartLaws.{first-refused, second-refused, both-ac
 use Rattle.bound_figures.proofs.both.Statement.{statement}
 use Rattle.bound_figures.proofs.both.Tie as tie
 
-returns : tie.Need-returns
-returns c = c.refused.ensures ∙ sym (first-refused _ _ _ _ _ _ c.before.before.before.first.given.1)
+returns : tie.Need-returns-in-Refused
+returns c = c.refused.ensures ∙ sym (first-refused _ _ _ _ _ _ c.in-Refused.is)
 
-returns-2 : tie.Need-returns-2
-returns-2 c = c.refused2.ensures ∙ sym (second-refused _ _ _ _ _ c.before.before.before.before.before.before.enum_told.given.1 _ c.before.before.before.before.second.given.1)
+returns-2 : tie.Need-returns-in-Refused-second
+returns-2 c = c.refused-in-Refused-second.ensures ∙ sym (second-refused _ _ _ _ _ c.in_default.is _ c.in-Refused-second.is)
 
-returns-3 : tie.Need-returns-3
-returns-3 c = c.joined.ensures ∙ sym (both-accepted _ _ _ _ _ c.before.before.before.enum_told.given.1 c.before.enum-told2.given.1)
+returns-3 : tie.Need-returns
+returns-3 c = c.joined.ensures ∙ sym (both-accepted _ _ _ _ _ c.in_default.is c.in_default-second.is)
 
-pub both-spec : {M : Type 1} → statement M
-both-spec =
+pub both_spec : {M : Type 1} → statement M
+both_spec =
     tie.close
     (tie.spec
     (λ c. search rules)

@@ -8,5 +8,5 @@ returns : tie.Need-returns
 unfolding finished_of
 returns c = refl
 
-pub finished-spec : {M : Type 1} → statement M
-finished-spec = tie.close (tie.spec returns)
+pub finished_spec : {M : Type 1} → statement M
+finished_spec = tie.close (tie.spec returns)

@@ -9,19 +9,19 @@ use Rattle.bound_figures.proofs.joined.Tie as tie
 
 returns : tie.Need-returns
 returns c =
-    let a = c.before.before.before.before.before.before.before.before.before.before.args in
+    let a = c.args in
     let f = a.f in
     let g = a.g in
-    let r = c.before.before.before.before.before.before.before.before.larger in
-    let s = c.before.before.before.before.before.before.larger2 in
+    let r = c.larger in
+    let s = c.larger-2 in
     let cycles : r.result ≡ max f.cycles (a.extra + g.cycles) = r.ensures in
     let words : s.result ≡ max f.words g.words = s.ensures in
-    let depth : c.before.before.before.before.larger3.result ≡ max f.depth g.depth = c.before.before.before.before.larger3.ensures in
-    let path : c.before.before.decided.result ≡ decided_of f.cycles (a.extra + g.cycles) f.path g.path = c.before.before.decided.ensures in
-    joined_is _ _ _ f g _ _ _ _ _ cycles words depth c.before.before.before.larger4.ensures path
+    let depth : c.larger-3.result ≡ max f.depth g.depth = c.larger-3.ensures in
+    let path : c.decided-path.result ≡ decided_of f.cycles (a.extra + g.cycles) f.path g.path = c.decided-path.ensures in
+    joined_is _ _ _ f g _ _ _ _ _ cycles words depth c.larger-depth.ensures path
 
-pub joined-spec : {M : Type 1} → statement M
-joined-spec =
+pub joined_spec : {M : Type 1} → statement M
+joined_spec =
     tie.close
     (tie.spec
     (λ c. search rules)

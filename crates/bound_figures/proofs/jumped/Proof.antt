@@ -8,5 +8,5 @@ returns : tie.Need-returns
 unfolding jumped_of
 returns c = search rules
 
-pub jumped-spec : {M : Type 1} → statement M
-jumped-spec = tie.close (tie.spec (λ c. search rules) returns)
+pub jumped_spec : {M : Type 1} → statement M
+jumped_spec = tie.close (tie.spec (λ c. search rules) returns)

@@ -1,7 +1,7 @@
 -- `file_layout::count_code` meets its contract. The loop's invariant: the code lines of the body are the n lines passed and those of what is
 -- left up to a line ANSWER. The measure is the length of what is left. Assumes nothing.
 use Prim.Native.Nat.{◌+◌, ◌<◌, ◌≤◌}
-use mathlib.Core.Path.{◌≡◌, refl, sym, ap, ◌∙◌}
+use mathlib.Core.Path.{◌≡◌, sym, ap, ◌∙◌}
 use native.Mathlib.Omega.{arith}
 use lib.ListN.{length}
 use borrow.Author.Rules.{rules}
@@ -12,10 +12,10 @@ use Rattle.file_layout.proofs.count_code.Statement.{statement}
 use Rattle.file_layout.proofs.count_code.Tie as tie
 
 abbrev invariant-loop-rest : tie.invariant-loop-rest
-invariant-loop-rest body rest₀ n₀ t6 rest n = (n + length rest ≤ length body) × (length (lines_of_code (lines body)) ≡ n + length (up_to_answer (lines rest)))
+invariant-loop-rest body rest₀ n₀ rest n = (n + length rest ≤ length body) × (length (lines_of_code (lines body)) ≡ n + length (up_to_answer (lines rest)))
 
 abbrev decreases-loop-rest : tie.decreases-loop-rest
-decreases-loop-rest body rest₀ n₀ t6 rest n = length rest
+decreases-loop-rest body rest₀ n₀ rest n = length rest
 
 returns : tie.Need-returns-then-body-eq0 invariant-loop-rest decreases-loop-rest
 returns c = sym (code-none _ c.if-body-eq0.true)
@@ -26,9 +26,6 @@ loop-holds c =
     let h : 0 < length body = omega arith in
     let e = code-first body (lines c.next_lines-rest.result.now) h c.next_lines-rest.ensures.0 in
     (omega arith, omega arith)
-
-slice-aggregate-same : tie.Need-slice-aggregate-same invariant-loop-rest decreases-loop-rest
-slice-aggregate-same c = refl
 
 returns-2 : tie.Need-returns-then-same invariant-loop-rest decreases-loop-rest
 returns-2 c =

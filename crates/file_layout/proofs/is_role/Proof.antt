@@ -10,7 +10,7 @@ returns : tie.Need-returns-in-Names
 returns c = c.is_names.ensures ∙ sym (ap (λ r. is_role r c.args.other) c.in-Names.is)
 
 returns-2 : tie.Need-returns-in_default-role
-returns-2 c = not-laid c.args.role _ c.in_default.in_default-own.keys2 c.in_default-role.keys2
+returns-2 c = not-laid c.args.role _ c.in_default.in_default-own.keys2 c.in_default-role.in_default-role-own.keys2
 
 returns-3 : tie.Need-returns
 returns-3 c = c.is_values.ensures ∙ sym (ap (λ r. is_role r c.args.other) c.in-Values.is)

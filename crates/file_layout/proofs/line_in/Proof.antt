@@ -57,7 +57,7 @@ loop-again c =
 
 returns-2 : tie.Need-returns invariant-loop-i decreases-loop-i
 returns-2 c =
-    let s = c.before.before.before.before in
+    let s = c in
     let l = c.loop-i in
     let ls = lines s.args.text.now in
     let e : l.i ≡ length layout = omega arith in

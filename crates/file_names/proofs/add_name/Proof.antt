@@ -1,16 +1,13 @@
 -- `file_names::add_name` meets its contract. Assumes nothing.
 use mathlib.Core.Path.{◌≡◌, sym, ◌∙◌}
 use mathlib.Core.Bool.{false}
-use mathlib.Core.Logic.{⊎_elim}
 use native.Mathlib.Omega.{arith}
 use lib.ListN.{length, take}
 use Rattle.file_names.proofs.BlockLaws.{block-below, place-below, own-total, continues, continues-none, continues-last, field-added, block-added, none-added}
 use borrow.Author.Rules.{rules}
 use Rattle.file_names.proofs.add_name.Statement.{statement}
 use Rattle.file_names.proofs.add_name.Tie as tie
-use Rattle.file_names.proofs.add_name.Reads as reads
-use Rattle.file_names.proofs.add_name.Lts as lts
-use Rattle.file_names.proofs.is_field.Reads as is-field-reads
+use Rattle.file_names.proofs.add_name.Lts.{then-count-gt0+else-is_field, else-count-gt0}
 
 add-sizes : tie.Need-overflow_add-sizes
 add-sizes c =
@@ -30,15 +27,14 @@ returns c =
     field-added s.args.blocks _ s.requires n c.if-count-gt0.true (sym c.is_field.ensures ∙ c.if-is_field.true)
 
 -- w does not name the next field of the last block
-apart : (c : lts.Joined1 (is-field-reads.Asked, is-field-reads.Learnt) reads.Pre reads.Post)
-    → continues 0 (take c.before.before.before.args.blocks.count c.before.before.before.args.blocks.sizes) c.before.before.before.args.name.now ≡ false
+apart : (c : tie.Joined-count-gt0) → continues 0 (take c.args.blocks.count c.args.blocks.sizes) c.args.name.now ≡ false
 apart c =
-    let s = c.before.before.before in
-    let n : length s.args.blocks.sizes ≡ 8 = search rules in
-    ⊎_elim
-    (λ t. continues-last s.args.blocks.sizes s.args.name.now s.args.blocks.count t.0.taken (omega (arith, s.requires.few)) ∙ sym t.1.ensures ∙ t.2.left)
-    (λ t. continues-none s.args.blocks.sizes s.args.name.now s.args.blocks.count t.left)
-    c.if1.branch
+    let n : length c.args.blocks.sizes ≡ 8 = search rules in
+    elim c.if-count-gt0.branch [
+      | then-count-gt0+else-is_field w ↦
+          continues-last c.args.blocks.sizes c.args.name.now c.args.blocks.count w.if-count-gt0.true (omega (arith, c.requires.few)) ∙ sym w.is_field.ensures ∙ w.if-is_field.false
+      | else-count-gt0 w ↦ continues-none c.args.blocks.sizes c.args.name.now c.args.blocks.count w.if-count-gt0.false
+    ]
 
 array-write-sizes-2 : tie.Need-bounds-sizes-count
 array-write-sizes-2 c = block-below _ _ _ (sym c.is_field-2.ensures ∙ c.if-is_field-2.true)

@@ -9,7 +9,6 @@ use lib.ListN.{length}
 use lib.Seq.{length-take-le}
 use Rattle.text.proofs.ScanLaws.{first_length}
 use Rattle.file_names.proofs.NameLaws.{first-within, leads, leads-short, leads-differ, leads-agree, leads-last}
-use borrow.Author.Tests.{not-true, not-false}
 use borrow.Author.Rules.{rules}
 use Rattle.file_names.proofs.begins.Statement.{statement}
 use Rattle.file_names.proofs.begins.Tie as tie
@@ -41,7 +40,7 @@ returns-2 c =
     let t = c in
     let l = t in
     let i = l.loop-e.invariant in
-    sym (i.4 ∙ leads-differ _ _ _ _ i.0 t.loop-e-test.true i.1 t.if-others-f.false (sym c.same.ensures ∙ not-true _ c.if-not-same.true))
+    sym (i.4 ∙ leads-differ _ _ _ _ i.0 t.loop-e-test.true i.1 t.if-others-f.false (sym c.same.ensures ∙ c.if-not-same.true))
 
 loop-again : tie.Need-loop-e-preserved invariant-loop-e decreases-loop-e
 loop-again c =
@@ -53,7 +52,7 @@ loop-again c =
       c.piece_length-f-in-loop-e.ensures,
       omega arith,
       omega arith,
-      i.4 ∙ leads-agree _ _ _ _ i.0 t.loop-e-test.true i.1 t.if-others-f.false (sym j.same.ensures ∙ not-false _ j.if-not-same.false),
+      i.4 ∙ leads-agree _ _ _ _ i.0 t.loop-e-test.true i.1 t.if-others-f.false (sym j.same.ensures ∙ j.if-not-same.false),
     )
 
 slice-aggregate-same-3 : tie.Need-slice_bounds-same-end-2 invariant-loop-e decreases-loop-e

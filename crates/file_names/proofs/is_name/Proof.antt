@@ -8,7 +8,6 @@ use lib.ListN.{length, drop}
 use Rattle.text.specs.Text.{all}
 use Rattle.file_format.specs.Rows.{in_name, is_name}
 use Rattle.file_names.proofs.NameLaws.{name-empty, name-long, name-first, name-rest, all-fails, all-passes, all_end}
-use borrow.Author.Tests.{not-true, not-false}
 use borrow.Author.Rules.{rules}
 use Rattle.file_names.proofs.is_name.Statement.{statement}
 use Rattle.file_names.proofs.is_name.Tie as tie
@@ -26,24 +25,24 @@ returns-2 : tie.Need-returns-then-w-gt8 invariant-loop-i decreases-loop-i
 returns-2 c = sym (name-long _ c.if-w-gt8.true)
 
 returns-3 : tie.Need-returns-then-not-is_capital invariant-loop-i decreases-loop-i
-returns-3 c = sym (name-first _ (sym c.is_capital.ensures ∙ not-true _ c.if-not-is_capital.true))
+returns-3 c = sym (name-first _ (sym c.is_capital.ensures ∙ c.if-not-is_capital.true))
 
 loop-holds : tie.Need-loop-i-init invariant-loop-i decreases-loop-i
 loop-holds c =
     let t = c in
-    (omega arith, omega arith, name-rest _ (omega arith) t.if-w-gt8.false (sym c.is_capital.ensures ∙ not-false _ c.if-not-is_capital.false))
+    (omega arith, omega arith, name-rest _ (omega arith) t.if-w-gt8.false (sym c.is_capital.ensures ∙ c.if-not-is_capital.false))
 
 returns-4 : tie.Need-returns-then-not-in_name invariant-loop-i decreases-loop-i
 returns-4 c =
     let t = c in
-    sym (t.loop-i.invariant.2 ∙ all-fails in_name _ _ t.loop-i-test.true (sym c.in_name.ensures ∙ not-true _ c.if-not-in_name.true))
+    sym (t.loop-i.invariant.2 ∙ all-fails in_name _ _ t.loop-i-test.true (sym c.in_name.ensures ∙ c.if-not-in_name.true))
 
 loop-again : tie.Need-loop-i-preserved invariant-loop-i decreases-loop-i
 loop-again c =
     let t = c in (
       omega arith,
       omega arith,
-      rw add-one (t.loop-i.invariant.2 ∙ all-passes in_name _ _ t.loop-i-test.true (sym c.in_name.ensures ∙ not-false _ c.if-not-in_name.false)),
+      rw add-one (t.loop-i.invariant.2 ∙ all-passes in_name _ _ t.loop-i-test.true (sym c.in_name.ensures ∙ c.if-not-in_name.false)),
     )
 
 returns-5 : tie.Need-returns invariant-loop-i decreases-loop-i

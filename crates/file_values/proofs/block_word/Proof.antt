@@ -8,16 +8,16 @@ use borrow.Author.Rules.{rules}
 use Rattle.file_values.proofs.block_word.Statement.{statement}
 use Rattle.file_values.proofs.block_word.Tie as tie
 
-enum_told : tie.Need-enum-told
+enum_told : tie.Need-enum_told-1
 enum_told c = search rules
 
-returns : tie.Need-returns
+returns : tie.Need-returns-in-Misspelt
 unfolding block_of
-returns c = sym (ap block_of c.enum_told.given.1)
+returns c = sym (ap block_of c.in-Misspelt.is)
 
-returns-2 : tie.Need-returns-2
+returns-2 : tie.Need-returns-in-Number
 unfolding block_of
-returns-2 c = ap Block (to_z-of_z w64 _ (search rules)) ∙ sym (ap block_of c.before.n.given.1)
+returns-2 c = ap Block (to_z-of_z w64 _ (search rules)) ∙ sym (ap block_of c.in-Number.is)
 
-pub block-word-spec : {M : Type 1} → statement M
-block-word-spec = tie.close (tie.spec enum_told (λ c. search rules) returns returns-2)
+pub block_word_spec : {M : Type 1} → statement M
+block_word_spec = tie.close (tie.spec enum_told (λ c. search rules) returns returns-2)

@@ -11,31 +11,31 @@ use borrow.Author.Rules.{rules}
 use Rattle.file_values.proofs.cell_in_range.Statement.{statement}
 use Rattle.file_values.proofs.cell_in_range.Tie as tie
 
-returns : tie.Need-returns
+returns : tie.Need-returns-in-Known
 unfolding cell_in_range
 returns c =
-    tested cell_in_range clamped_cell in-range-clamped (cell_word c.before.before.before.before.before.before.before.args.w.now) c.before.before.before.before.before.cell-word.ensures c.before.before.before.z.given.1
-    (c.within.ensures ∙ ap₂ within c.before.number-range.ensures (to_z-of_z w64 c.before.before.before.z.given.0.0 (search rules)))
+    tested cell_in_range clamped_cell in-range-clamped (cell_word c.args.w.now) c.cell_word.ensures c.in-Known.is
+    (c.within.ensures ∙ ap₂ within c.number_range.ensures (to_z-of_z w64 c.in-Known.z (search rules)))
 
-returns-2 : tie.Need-returns-2
+returns-2 : tie.Need-returns-in-Block
 unfolding cell_in_range
 returns-2 c =
-    tested cell_in_range clamped_cell in-range-clamped (cell_word c.before.before.before.before.before.before.before.args.w.now) c.before.before.before.before.before.cell-word.ensures c.before.before.before.k.given.1
-    (c.within2.ensures ∙ ap₂ within c.before.handles.ensures (to_z-of_z w64 c.before.before.before.k.given.0.0 (search rules)))
+    tested cell_in_range clamped_cell in-range-clamped (cell_word c.args.w.now) c.cell_word.ensures c.in-Block.is
+    (c.within-in-Block.ensures ∙ ap₂ within c.handles.ensures (to_z-of_z w64 c.in-Block.k (search rules)))
 
-returns-3 : tie.Need-returns-3
+returns-3 : tie.Need-returns-in-Span
 unfolding cell_in_range
 returns-3 c =
-    let known = c.before.before.lo.given in
-    tested cell_in_range clamped_cell in-range-clamped (cell_word c.before.before.before.before.before.before.args.w.now) c.before.before.before.before.cell-word.ensures known.1
-    (c.span-in-range.ensures ∙ read-both span_in_range w64 known.0.0 known.0.1.0 (search rules) (search rules))
+    let known = c.in-Span in
+    tested cell_in_range clamped_cell in-range-clamped (cell_word c.args.w.now) c.cell_word.ensures known.is
+    (c.span_in_range.ensures ∙ read-both span_in_range w64 known.lo known.hi (search rules) (search rules))
 
-returns-4 : tie.Need-returns-4
+returns-4 : tie.Need-returns-in_default
 returns-4 c =
-    tested cell_in_range clamped_cell in-range-clamped (cell_word c.before.before.before.args.w.now) c.before.cell-word.ensures refl (no_number c.before.cell-word.result c.match.keys4)
+    tested cell_in_range clamped_cell in-range-clamped (cell_word c.args.w.now) c.cell_word.ensures refl (no_number c.cell_word.result c.in_default.in_default-own.keys4)
 
-pub cell-in-range-spec : {M : Type 1} → statement M
-cell-in-range-spec =
+pub cell_in_range_spec : {M : Type 1} → statement M
+cell_in_range_spec =
     tie.close
     (tie.spec
     (λ c κs. search rules)

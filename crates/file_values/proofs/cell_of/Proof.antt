@@ -15,40 +15,40 @@ use borrow.Author.Rules.{rules}
 use Rattle.file_values.proofs.cell_of.Statement.{statement}
 use Rattle.file_values.proofs.cell_of.Tie as tie
 
-enum_told : tie.Need-enum-told
+enum_told : tie.Need-enum_told-1
 enum_told c = search rules
 
-returns : tie.Need-returns
+returns : tie.Need-returns-in-Wrong
 unfolding cell_of
 returns c =
-    tested cell_of clamped_cell cell-of-clamped (cell_word c.before.before.before.before.before.args.w.now) c.before.before.before.cell-word.ensures c.before.enum_told.given.1 c.exactly.ensures
+    tested cell_of clamped_cell cell-of-clamped (cell_word c.args.w.now) c.cell_word.ensures c.in-Wrong.is c.exactly.ensures
 
-returns-2 : tie.Need-returns-2
+returns-2 : tie.Need-returns-in-Unknown
 unfolding cell_of
 returns-2 c =
-    tested cell_of clamped_cell cell-of-clamped (cell_word c.before.before.before.before.before.args.w.now) c.before.before.before.cell-word.ensures c.before.enum-told2.given.1 c.unknown.ensures
+    tested cell_of clamped_cell cell-of-clamped (cell_word c.args.w.now) c.cell_word.ensures c.in-Unknown.is c.unknown.ensures
 
-returns-3 : tie.Need-returns-3
+returns-3 : tie.Need-returns-in-Known
 unfolding cell_of
 returns-3 c =
-    tested cell_of clamped_cell cell-of-clamped (cell_word c.before.before.before.before.before.before.args.w.now) c.before.before.before.before.cell-word.ensures c.before.before.z.given.1
-    (c.number-cell.ensures ∙ ap (λ z. exactly (inside numbers z)) (to_z-of_z w64 c.before.before.z.given.0.0 (search rules)))
+    tested cell_of clamped_cell cell-of-clamped (cell_word c.args.w.now) c.cell_word.ensures c.in-Known.is
+    (c.number_cell.ensures ∙ ap (λ z. exactly (inside numbers z)) (to_z-of_z w64 c.in-Known.z (search rules)))
 
-returns-4 : tie.Need-returns-4
+returns-4 : tie.Need-returns-in-Block
 unfolding cell_of
 returns-4 c =
-    tested cell_of clamped_cell cell-of-clamped (cell_word c.before.before.before.before.before.before.args.w.now) c.before.before.before.before.cell-word.ensures c.before.before.k.given.1
-    (c.handle-cell.ensures ∙ ap (λ z. handle (nat_abs (inside handles z))) (to_z-of_z w64 c.before.before.k.given.0.0 (search rules)))
+    tested cell_of clamped_cell cell-of-clamped (cell_word c.args.w.now) c.cell_word.ensures c.in-Block.is
+    (c.handle_cell.ensures ∙ ap (λ z. handle (nat_abs (inside handles z))) (to_z-of_z w64 c.in-Block.k (search rules)))
 
-returns-5 : tie.Need-returns-5
+returns-5 : tie.Need-returns-in-Span
 unfolding cell_of
 returns-5 c =
-    let known = c.before.before.lo.given in
-    tested cell_of clamped_cell cell-of-clamped (cell_word c.before.before.before.before.before.before.args.w.now) c.before.before.before.before.cell-word.ensures known.1
-    (c.span-cell.ensures ∙ read-both (λ (x y : ℤ). between (inside numbers x) (inside numbers y)) w64 known.0.0 known.0.1.0 (search rules) (search rules))
+    let known = c.in-Span in
+    tested cell_of clamped_cell cell-of-clamped (cell_word c.args.w.now) c.cell_word.ensures known.is
+    (c.span_cell.ensures ∙ read-both (λ (x y : ℤ). between (inside numbers x) (inside numbers y)) w64 known.lo known.hi (search rules) (search rules))
 
-pub cell-of-spec : {M : Type 1} → statement M
-cell-of-spec =
+pub cell_of_spec : {M : Type 1} → statement M
+cell_of_spec =
     tie.close
     (tie.spec
     (λ c κs. search rules)

@@ -11,20 +11,20 @@ use borrow.Author.Rules.{rules}
 use Rattle.file_values.proofs.cell_present.Statement.{statement}
 use Rattle.file_values.proofs.cell_present.Tie as tie
 
-returns : tie.Need-returns
+returns : tie.Need-returns-in_default
 returns c =
-    let start = c.before.before.before in
+    let start = c in
     let n = start.args.n in
-    tested (cell_present n) clamped_cell (present-clamped n start.requires) (cell_word start.args.w.now) c.before.cell-word.ensures refl (not-block n c.before.cell-word.result c.match.keys2)
+    tested (cell_present n) clamped_cell (present-clamped n start.requires) (cell_word start.args.w.now) c.cell_word.ensures refl (not-block n c.cell_word.result c.in_default.in_default-own.keys2)
 
-returns-2 : tie.Need-returns-2
+returns-2 : tie.Need-returns
 unfolding cell_present
 returns-2 c =
-    let start = c.before.before.before.before.before.before in
+    let start = c in
     let n = start.args.n in
-    tested (cell_present n) clamped_cell (present-clamped n start.requires) (cell_word start.args.w.now) c.before.before.before.before.cell-word.ensures c.before.before.k.given.1
-    (c.is-nearer.ensures ∙ ap (λ z. ltb (nat_abs z) n) (to_z-of_z w64 c.before.before.k.given.0.0 (search rules)))
+    tested (cell_present n) clamped_cell (present-clamped n start.requires) (cell_word start.args.w.now) c.cell_word.ensures c.in-Block.is
+    (c.is_nearer.ensures ∙ ap (λ z. ltb (nat_abs z) n) (to_z-of_z w64 c.in-Block.k (search rules)))
 
-pub cell-present-spec : {M : Type 1} → statement M
-cell-present-spec =
+pub cell_present_spec : {M : Type 1} → statement M
+cell_present_spec =
     tie.close (tie.spec (λ c κs. search rules) (λ c. search rules) returns (λ c κs. search rules) returns-2)

@@ -13,13 +13,13 @@ use Rattle.file_values.proofs.first_address.Tie as tie
 
 returns : tie.Need-returns
 returns c =
-    let body = c.before.before.before.before.before.args.body.now in
-    c.natural-of.ensures
-    ∙ ap₂ natural_in c.before.first-addresses.ensures (c.before.before.word_at.ensures ∙ ap (λ t. get_or (line_words t) 0 []) c.before.before.before.first-line.ensures)
+    let body = c.args.body.now in
+    c.natural_of.ensures
+    ∙ ap₂ natural_in c.first_addresses.ensures (c.word_at-at.ensures ∙ ap (λ t. get_or (line_words t) 0 []) c.first_line-line.ensures)
     ∙ ap (λ z. nat_abs (inside first_addresses z)) (first-spelt (lines body))
 
-pub first-address-spec : {M : Type 1} → statement M
-first-address-spec =
+pub first_address_spec : {M : Type 1} → statement M
+first_address_spec =
     tie.close
     (tie.spec
     (λ c κs. search rules)

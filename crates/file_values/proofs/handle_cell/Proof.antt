@@ -16,16 +16,16 @@ use borrow.Author.Rules.{rules}
 use Rattle.file_values.proofs.handle_cell.Statement.{statement}
 use Rattle.file_values.proofs.handle_cell.Tie as tie
 
-held : (c : tie.After-inside) → to_z w64 (of_z w64 c.inside.result) ≡ inside handles c.before.before.args.k
-held c = to_z-of_z w64 _ (search rules) ∙ c.inside.ensures ∙ ap₂ inside c.before.handles.ensures (to_z-of_z w64 c.before.before.args.k c.before.before.ranges.k)
+held : (c : tie.After-inside-n) → to_z w64 (of_z w64 c.inside-n.result) ≡ inside handles c.args.k
+held c = to_z-of_z w64 _ (search rules) ∙ c.inside-n.ensures ∙ ap₂ inside c.handles.ensures (to_z-of_z w64 c.args.k c.ranges.k)
 
-cast-handle : tie.Need-overflow-cast-handle
+cast-handle : tie.Need-overflow_cast-n
 cast-handle c =
-    let n = natural-inside 0 7 c.before.before.args.k in
+    let n = natural-inside 0 7 c.args.k in
     (subst (λ z. T (non_neg z)) (sym (held c)) (natural-sign n), subst (λ z. Fits w8 (nat_abs z)) (sym (held c)) (omega (arith, n.below)))
 
 returns : tie.Need-returns
 returns c = c.handle.ensures ∙ ap (λ z. handle (nat_abs z)) (held c.before)
 
-pub handle-cell-spec : {M : Type 1} → statement M
-handle-cell-spec = tie.close (tie.spec (λ c κs. search rules) (λ c κs. search rules) cast-handle (λ c κs. search rules) returns)
+pub handle_cell_spec : {M : Type 1} → statement M
+handle_cell_spec = tie.close (tie.spec (λ c κs. search rules) (λ c κs. search rules) cast-handle (λ c κs. search rules) returns)

@@ -16,15 +16,15 @@ use Rattle.file_values.proofs.inside.Tie as tie
 seen : (r : Range) (z : ℤ) → SFits w64 z → {b : Bool} → b ≡ within r (to_z w64 (of_z w64 z)) → within r z ≡ b
 seen r z h e = sym (e ∙ ap (within r) (to_z-of_z w64 z h))
 
-returns : tie.Need-returns
+returns : tie.Need-returns-then-within
 unfolding inside
 returns c =
-    to_z-of_z w64 _ (search rules) ∙ sym (ap (λ b. cond b c.before.before.args.z (pos 0)) (seen c.before.before.args.range c.before.before.args.z c.before.before.ranges.z c.before.within.ensures ∙ c.if1.true))
+    to_z-of_z w64 _ (search rules) ∙ sym (ap (λ b. cond b c.args.z (pos 0)) (seen c.args.range c.args.z c.ranges.z c.within.ensures ∙ c.if-within.true))
 
-returns-2 : tie.Need-returns-2
+returns-2 : tie.Need-returns-else-within
 unfolding inside
 returns-2 c =
-    sym (ap (λ b. cond b c.before.before.args.z (pos 0)) (seen c.before.before.args.range c.before.before.args.z c.before.before.ranges.z c.before.within.ensures ∙ c.if1.false))
+    sym (ap (λ b. cond b c.args.z (pos 0)) (seen c.args.range c.args.z c.ranges.z c.within.ensures ∙ c.if-within.false))
 
-pub inside-spec : {M : Type 1} → statement M
-inside-spec = tie.close (tie.spec (λ c κs. search rules) returns returns-2)
+pub inside_spec : {M : Type 1} → statement M
+inside_spec = tie.close (tie.spec (λ c κs. search rules) returns returns-2)

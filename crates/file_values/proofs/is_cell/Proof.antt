@@ -7,17 +7,17 @@ use borrow.Author.Rules.{rules}
 use Rattle.file_values.proofs.is_cell.Statement.{statement}
 use Rattle.file_values.proofs.is_cell.Tie as tie
 
-enum_told : tie.Need-enum-told
+enum_told : tie.Need-enum_told-1
 enum_told c = search rules
 
-returns : tie.Need-returns
+returns : tie.Need-returns-in-Wrong
 unfolding is_cell
 returns c =
-    tested is_cell clamped_cell cell-clamped (cell_word c.before.before.before.before.args.w.now) c.before.before.cell-word.ensures c.enum_told.given.1 refl
+    tested is_cell clamped_cell cell-clamped (cell_word c.args.w.now) c.cell_word.ensures c.in-Wrong.is refl
 
-returns-2 : tie.Need-returns-2
+returns-2 : tie.Need-returns
 returns-2 c =
-    tested is_cell clamped_cell cell-clamped (cell_word c.before.before.before.args.w.now) c.before.cell-word.ensures refl (not-wrong c.before.cell-word.result c.match.keys2)
+    tested is_cell clamped_cell cell-clamped (cell_word c.args.w.now) c.cell_word.ensures refl (not-wrong c.cell_word.result c.in_default.in_default-own.keys2)
 
-pub is-cell-spec : {M : Type 1} → statement M
-is-cell-spec = tie.close (tie.spec (λ c κs. search rules) enum_told returns returns-2)
+pub is_cell_spec : {M : Type 1} → statement M
+is_cell_spec = tie.close (tie.spec (λ c κs. search rules) enum_told returns returns-2)

@@ -11,9 +11,9 @@ use Rattle.file_values.proofs.is_read_above.Tie as tie
 
 returns : tie.Need-returns
 returns c = λ w e.
-    let start = c.before in
+    let start = c in
     ap₂ lt_z (to_z-of_z w64 start.args.low start.ranges.low) (to_z-of_z w64 _ (search rules) ∙ c.value_read.ensures w e)
     ∙ lt-clamp start.args.low (value w) start.requires
 
-pub is-read-above-spec : {M : Type 1} → statement M
-is-read-above-spec = tie.close (tie.spec (λ c κs. search rules) returns)
+pub is_read_above_spec : {M : Type 1} → statement M
+is_read_above_spec = tie.close (tie.spec (λ c κs. search rules) returns)

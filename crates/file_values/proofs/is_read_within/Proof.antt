@@ -11,10 +11,10 @@ use Rattle.file_values.proofs.is_read_within.Tie as tie
 
 returns : tie.Need-returns
 returns c = λ w e.
-    let start = c.before.before in
+    let start = c in
     c.within.ensures
-    ∙ ap (within start.args.range) (to_z-of_z w64 _ (search rules) ∙ c.before.value_read.ensures w e)
+    ∙ ap (within start.args.range) (to_z-of_z w64 _ (search rules) ∙ c.value_read.ensures w e)
     ∙ within-clamp start.args.range (value w) start.requires
 
-pub is-read-within-spec : {M : Type 1} → statement M
-is-read-within-spec = tie.close (tie.spec (λ c κs. search rules) (λ c κs. search rules) returns)
+pub is_read_within_spec : {M : Type 1} → statement M
+is_read_within_spec = tie.close (tie.spec (λ c κs. search rules) (λ c κs. search rules) returns)

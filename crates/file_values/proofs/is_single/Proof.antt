@@ -11,34 +11,34 @@ use borrow.Author.Rules.{rules}
 use Rattle.file_values.proofs.is_single.Statement.{statement}
 use Rattle.file_values.proofs.is_single.Tie as tie
 
-enum_told : tie.Need-enum-told
+enum_told : tie.Need-enum_told-1
 enum_told c = search rules
 
-returns : tie.Need-returns
+returns : tie.Need-returns-in-Unknown
 unfolding is_single
-returns c = tested is_single clamped_cell single-clamped (cell_word c.before.before.before.before.args.w.now) c.before.before.cell-word.ensures c.enum_told.given.1 refl
+returns c = tested is_single clamped_cell single-clamped (cell_word c.args.w.now) c.cell_word.ensures c.in-Unknown.is refl
 
-returns-2 : tie.Need-returns-2
+returns-2 : tie.Need-returns-then-span_in_range
 unfolding is_single
 returns-2 c =
-    let known = c.before.before.before.lo.given in
-    let inner = sym (c.before.span-in-range.ensures ∙ read-both span_in_range w64 known.0.0 known.0.1.0 (search rules) (search rules)) ∙ c.if1.true in
-    tested is_single clamped_cell single-clamped (cell_word c.before.before.before.before.before.before.before.args.w.now) c.before.before.before.before.before.cell-word.ensures known.1
-    (same_bits w64 known.0.0 known.0.1.0 (search rules) (search rules) ∙ ap (λ (t : Bool). cond t (same known.0.0 known.0.1.0) true) (sym inner))
+    let known = c.in-Span in
+    let inner = sym (c.span_in_range.ensures ∙ read-both span_in_range w64 known.lo known.hi (search rules) (search rules)) ∙ c.if-span_in_range.true in
+    tested is_single clamped_cell single-clamped (cell_word c.args.w.now) c.cell_word.ensures known.is
+    (same_bits w64 known.lo known.hi (search rules) (search rules) ∙ ap (λ (t : Bool). cond t (same known.lo known.hi) true) (sym inner))
 
-returns-3 : tie.Need-returns-3
+returns-3 : tie.Need-returns-else-span_in_range
 unfolding is_single
 returns-3 c =
-    let known = c.before.before.before.lo.given in
-    let outer = sym (c.before.span-in-range.ensures ∙ read-both span_in_range w64 known.0.0 known.0.1.0 (search rules) (search rules)) ∙ c.if1.false in
-    tested is_single clamped_cell single-clamped (cell_word c.before.before.before.before.before.before.before.args.w.now) c.before.before.before.before.before.cell-word.ensures known.1
-    (ap (λ (t : Bool). cond t (same known.0.0 known.0.1.0) true) (sym outer))
+    let known = c.in-Span in
+    let outer = sym (c.span_in_range.ensures ∙ read-both span_in_range w64 known.lo known.hi (search rules) (search rules)) ∙ c.if-span_in_range.false in
+    tested is_single clamped_cell single-clamped (cell_word c.args.w.now) c.cell_word.ensures known.is
+    (ap (λ (t : Bool). cond t (same known.lo known.hi) true) (sym outer))
 
-returns-4 : tie.Need-returns-4
-returns-4 c = tested is_single clamped_cell single-clamped (cell_word c.before.before.before.args.w.now) c.before.cell-word.ensures refl (not_wide c.before.cell-word.result c.match.keys3)
+returns-4 : tie.Need-returns-in_default
+returns-4 c = tested is_single clamped_cell single-clamped (cell_word c.args.w.now) c.cell_word.ensures refl (not_wide c.cell_word.result c.in_default.in_default-own.keys3)
 
-pub is-single-spec : {M : Type 1} → statement M
-is-single-spec =
+pub is_single_spec : {M : Type 1} → statement M
+is_single_spec =
     tie.close
     (tie.spec
     (λ c κs. search rules)

@@ -16,9 +16,9 @@ use Rattle.file_values.proofs.natural_in.Tie as tie
 ends : (low high : ℕ) → Fits w32 low → Fits w32 high → ◌≡◌ {A = Range} (record { low = to_z w64 low; high = to_z w64 high }) (naturals low high)
 ends low high a b = ap₂ (λ x y. record { low = x; high = y }) (to_z_pos w64 low (omega arith)) (to_z_pos w64 high (omega arith))
 
-natural-of-requires : tie.Need-natural-of-requires
+natural-of-requires : tie.Need-natural_of-requires
 natural-of-requires c κs =
-    let start = c.before in
+    let start = c in
     record {
       least = start.args.low;
       greatest = start.args.high;
@@ -28,8 +28,8 @@ natural-of-requires c κs =
 
 returns : tie.Need-returns
 returns c =
-    let start = c.before.before in
-    c.natural-of.ensures ∙ ap (λ r. natural_in r start.args.w.now) (ends start.args.low start.args.high start.ranges.low start.ranges.high)
+    let start = c in
+    c.natural_of.ensures ∙ ap (λ r. natural_in r start.args.w.now) (ends start.args.low start.args.high start.ranges.low start.ranges.high)
 
-pub natural-in-spec : {M : Type 1} → statement M
-natural-in-spec = tie.close (tie.spec (λ c. search rules) (λ c. search rules) natural-of-requires returns)
+pub natural_in_spec : {M : Type 1} → statement M
+natural_in_spec = tie.close (tie.spec (λ c. search rules) (λ c. search rules) natural-of-requires returns)

@@ -14,20 +14,20 @@ use borrow.Author.Rules.{rules}
 use Rattle.file_values.proofs.natural_of.Statement.{statement}
 use Rattle.file_values.proofs.natural_of.Tie as tie
 
-held : (c : tie.After-number-in) → to_z w64 (of_z w64 c.number-in.result) ≡ inside c.before.before.args.range (value c.before.before.args.w.now)
-held c = to_z-of_z w64 _ (search rules) ∙ c.number-in.ensures
+held : (c : tie.After-number_in-z) → to_z w64 (of_z w64 c.number_in-z.result) ≡ inside c.args.range (value c.args.w.now)
+held c = to_z-of_z w64 _ (search rules) ∙ c.number_in-z.ensures
 
-number-in-requires : tie.Need-number-in-requires
-number-in-requires c κs = natural-near _ c.before.requires
+number-in-requires : tie.Need-number_in-z-requires
+number-in-requires c κs = natural-near _ c.requires
 
-cast-result : tie.Need-overflow-cast-result
+cast-result : tie.Need-overflow_cast-result
 cast-result c =
-    let start = c.before.before in
+    let start = c in
     let n = natural-held start.args.range start.requires (value start.args.w.now) in
     (subst (λ z. T (non_neg z)) (sym (held c)) (natural-sign n), subst (λ z. Fits w32 (nat_abs z)) (sym (held c)) (omega (arith, n.below, start.requires.small.1)))
 
 returns : tie.Need-returns
 returns c = ap nat_abs (held c)
 
-pub natural-of-spec : {M : Type 1} → statement M
-natural-of-spec = tie.close (tie.spec number-in-requires cast-result returns)
+pub natural_of_spec : {M : Type 1} → statement M
+natural_of_spec = tie.close (tie.spec number-in-requires cast-result returns)

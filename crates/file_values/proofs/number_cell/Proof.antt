@@ -11,16 +11,16 @@ use borrow.Author.Rules.{rules}
 use Rattle.file_values.proofs.number_cell.Statement.{statement}
 use Rattle.file_values.proofs.number_cell.Tie as tie
 
-held : (c : tie.After-inside) → to_z w64 (of_z w64 c.inside.result) ≡ inside numbers c.before.before.args.z
-held c = to_z-of_z w64 _ (search rules) ∙ c.inside.ensures ∙ ap₂ inside c.before.number-range.ensures (to_z-of_z w64 c.before.before.args.z c.before.before.ranges.z)
+held : (c : tie.After-inside-n) → to_z w64 (of_z w64 c.inside-n.result) ≡ inside numbers c.args.z
+held c = to_z-of_z w64 _ (search rules) ∙ c.inside-n.ensures ∙ ap₂ inside c.number_range.ensures (to_z-of_z w64 c.args.z c.ranges.z)
 
-cast-exactly : tie.Need-overflow-cast-exactly
-cast-exactly c = subst (SFits w32) (sym (held c)) (inside-numbers-fits c.before.before.args.z)
+cast-exactly : tie.Need-overflow_cast-n
+cast-exactly c = subst (SFits w32) (sym (held c)) (inside-numbers-fits c.args.z)
 
 returns : tie.Need-returns
 returns c =
-    c.exactly.ensures ∙ ap exactly (to_z-of_z w32 _ (subst (SFits w32) (sym (held c.before)) (inside-numbers-fits c.before.before.before.args.z)) ∙ held c.before)
+    c.exactly.ensures ∙ ap exactly (to_z-of_z w32 _ (subst (SFits w32) (sym (held c.before)) (inside-numbers-fits c.args.z)) ∙ held c.before)
 
-pub number-cell-spec : {M : Type 1} → statement M
-number-cell-spec =
+pub number_cell_spec : {M : Type 1} → statement M
+number_cell_spec =
     tie.close (tie.spec (λ c κs. search rules) (λ c κs. search rules) cast-exactly (λ c κs. search rules) returns)

@@ -11,11 +11,11 @@ use Rattle.file_values.proofs.number_in.Tie as tie
 
 returns : tie.Need-returns
 returns c =
-    let start = c.before.before.before.before in
+    let start = c in
     to_z-of_z w64 _ (search rules)
     ∙ c.inside.ensures
-    ∙ ap (inside start.args.range) (to_z-of_z w64 _ (search rules) ∙ c.before.value_read.ensures _ c.before.before.read-numeral.ensures)
+    ∙ ap (inside start.args.range) (to_z-of_z w64 _ (search rules) ∙ c.value_read.ensures _ c.read_numeral.ensures)
     ∙ inside-clamp start.args.range (value start.args.w.now) start.requires
 
-pub number-in-spec : {M : Type 1} → statement M
-number-in-spec = tie.close (tie.spec (λ c κs. search rules) (λ c κs. search rules) (λ c κs. search rules) returns)
+pub number_in_spec : {M : Type 1} → statement M
+number_in_spec = tie.close (tie.spec (λ c κs. search rules) (λ c κs. search rules) (λ c κs. search rules) returns)

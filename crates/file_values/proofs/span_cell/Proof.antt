@@ -24,26 +24,26 @@ held_fits z e = subst (SFits w32) (sym e) (inside-numbers-fits z)
 held-read : (z : ℤ) {x : ℤ} → x ≡ inside numbers z → read w32 x ≡ inside numbers z
 held-read z e = to_z-of_z w32 _ (held_fits z e) ∙ e
 
-cast-between : tie.Need-overflow-cast-between
+cast-between : tie.Need-overflow_cast-l
 cast-between c =
-    let start = c.before.before.before.before in
-    held_fits start.args.lo (held start.args.lo start.ranges.lo (search rules) c.before.before.inside.ensures c.before.before.before.number-range.ensures)
+    let start = c in
+    held_fits start.args.lo (held start.args.lo start.ranges.lo (search rules) c.inside-l.ensures c.number_range.ensures)
 
-cast-between-2 : tie.Need-overflow-cast-between-2
+cast-between-2 : tie.Need-overflow_cast-h
 cast-between-2 c =
-    let start = c.before.before.before.before in
-    held_fits start.args.hi (held start.args.hi start.ranges.hi (search rules) c.inside2.ensures c.before.number-range2.ensures)
+    let start = c in
+    held_fits start.args.hi (held start.args.hi start.ranges.hi (search rules) c.inside-h.ensures c.number_range-2.ensures)
 
 returns : tie.Need-returns
 returns c =
-    let start = c.before.before.before.before.before in
+    let start = c in
     c.between.ensures
     ∙ ap₂ between
-    (held-read start.args.lo (held start.args.lo start.ranges.lo (search rules) c.before.before.before.inside.ensures c.before.before.before.before.number-range.ensures))
-    (held-read start.args.hi (held start.args.hi start.ranges.hi (search rules) c.before.inside2.ensures c.before.before.number-range2.ensures))
+    (held-read start.args.lo (held start.args.lo start.ranges.lo (search rules) c.inside-l.ensures c.number_range.ensures))
+    (held-read start.args.hi (held start.args.hi start.ranges.hi (search rules) c.inside-h.ensures c.number_range-2.ensures))
 
-pub span-cell-spec : {M : Type 1} → statement M
-span-cell-spec =
+pub span_cell_spec : {M : Type 1} → statement M
+span_cell_spec =
     tie.close
     (tie.spec
     (λ c κs. search rules)

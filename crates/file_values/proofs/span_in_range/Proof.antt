@@ -1,6 +1,6 @@
 -- `file_values::span_in_range` meets its contract. Assumes nothing.
 use mathlib.Core.Path.{◌≡◌, refl, sym, ap, ap₂, ◌∙◌}
-use mathlib.Core.Bool.{Bool, true, false, not, ◌&&◌, true≢false, false≢true}
+use mathlib.Core.Bool.{Bool, true, false, ◌&&◌}
 use lib.IntN.{ℤ}
 use lib.Signed.{le_z}
 use mir.Syntax.{w64}
@@ -13,14 +13,6 @@ use Rattle.file_format.specs.Rows.{span_in_range}
 use borrow.Author.Rules.{rules}
 use Rattle.file_values.proofs.span_in_range.Statement.{statement}
 use Rattle.file_values.proofs.span_in_range.Tie as tie
-
-no : (b : Bool) → not b ≡ true → b ≡ false
-no true e = absurd (false≢true e)
-no false e = refl
-
-yes : (b : Bool) → not b ≡ false → b ≡ true
-yes true e = refl
-yes false e = absurd (true≢false e)
 
 -- the code's test of a number
 inner : (z : ℤ) {r : Range} {b : Bool} → SFits w64 z → b ≡ within r (read w64 z) → r ≡ numbers → within numbers z ≡ b
@@ -40,27 +32,27 @@ module _ (lo hi : ℤ) where
   pub both-inside : within numbers lo ≡ true → within numbers hi ≡ true → le_z lo hi ≡ span_in_range lo hi
   both-inside p q = ap₂ (λ (a b : Bool). a && b && le_z lo hi) (sym p) (sym q)
 
-returns : tie.Need-returns
+returns : tie.Need-returns-then-not-within
 returns c =
-    let start = c.before.before.before in
-    low-outside start.args.lo start.args.hi (inner start.args.lo start.ranges.lo c.before.within.ensures c.before.before.number-range.ensures ∙ no _ c.if1.true)
+    let start = c in
+    low-outside start.args.lo start.args.hi (inner start.args.lo start.ranges.lo c.within.ensures c.number_range.ensures ∙ c.if-not-within.true)
 
-returns-2 : tie.Need-returns-2
+returns-2 : tie.Need-returns-then-not-within-2
 returns-2 c =
-    let start = c.before.before.before.before.before.before in
-    high-outside start.args.lo start.args.hi (inner start.args.hi start.ranges.hi c.before.within2.ensures c.before.before.number-range2.ensures ∙ no _ c.if2.true)
+    let start = c in
+    high-outside start.args.lo start.args.hi (inner start.args.hi start.ranges.hi c.within-2.ensures c.number_range-2.ensures ∙ c.if-not-within-2.true)
 
-returns-3 : tie.Need-returns-3
+returns-3 : tie.Need-returns
 returns-3 c =
-    let at-within = c.before.before.before.before in
-    let at-number-range = at-within.before in
-    let start = at-number-range.before in
+    let at-within = c in
+    let at-number-range = at-within in
+    let start = at-number-range in
     read-both le_z w64 _ _ start.ranges.lo start.ranges.hi
-    ∙ both-inside start.args.lo start.args.hi (inner start.args.lo start.ranges.lo at-within.within.ensures at-number-range.number-range.ensures ∙ yes _ c.before.before.before.if1.false)
-    (inner start.args.hi start.ranges.hi c.before.within2.ensures c.before.before.number-range2.ensures ∙ yes _ c.if2.false)
+    ∙ both-inside start.args.lo start.args.hi (inner start.args.lo start.ranges.lo at-within.within.ensures at-number-range.number_range.ensures ∙ c.if-not-within.false)
+    (inner start.args.hi start.ranges.hi c.within-2.ensures c.number_range-2.ensures ∙ c.if-not-within-2.false)
 
-pub span-in-range-spec : {M : Type 1} → statement M
-span-in-range-spec =
+pub span_in_range_spec : {M : Type 1} → statement M
+span_in_range_spec =
     tie.close
     (tie.spec
     (λ c κs. search rules)

@@ -11,57 +11,57 @@ use borrow.Author.Rules.{rules}
 use Rattle.file_values.proofs.spanned.Statement.{statement}
 use Rattle.file_values.proofs.spanned.Tie as tie
 
-add-next : tie.Need-overflow-add-next
+add-next : tie.Need-overflow_add-next
 add-next c =
-    let w = c.before.before.args.w.now in
-    let h : c.piece-length.result ≤ length w = omega (arith, stop-within w, c.piece-length.ensures) in
+    let w = c.args.w.now in
+    let h : c.piece_length-n.result ≤ length w = omega (arith, stop-within w, c.piece_length-n.ensures) in
     search rules
 
-returns : tie.Need-returns
+returns : tie.Need-returns-then-next-w
 returns c =
-    let w = c.before.before.before.before.before.args.w.now in
-    let n = c.before.before.before.piece-length in
-    c.known-word.ensures ∙ ap known_of c.before.read-numeral.ensures ∙ known-clamped (numeral w)
+    let w = c.args.w.now in
+    let n = c.piece_length-n in
+    c.known_word.ensures ∙ ap known_of c.read_numeral.ensures ∙ known-clamped (numeral w)
     ∙ sym (ap clamped_cell (known-end w n.result n.ensures (omega arith)))
 
-returns-2 : tie.Need-returns-2
+returns-2 : tie.Need-returns-then-w-n-ne46
 returns-2 c =
-    let w = c.before.before.before.before.before.before.before.args.w.now in
-    let n = c.before.before.before.before.before.piece-length in
-    c.known-word2.ensures ∙ ap known_of c.before.read-numeral2.ensures ∙ known-clamped (numeral w)
-    ∙ sym (ap clamped_cell (known-first w n.result n.ensures c.before.before.if2.true))
+    let w = c.args.w.now in
+    let n = c.piece_length-n in
+    c.known_word-then-w-n-ne46.ensures ∙ ap known_of c.read_numeral-then-w-n-ne46.ensures ∙ known-clamped (numeral w)
+    ∙ sym (ap clamped_cell (known-first w n.result n.ensures c.if-w-n-ne46.true))
 
-returns-3 : tie.Need-returns-3
+returns-3 : tie.Need-returns-then-w-next-ne46
 returns-3 c =
-    let at-piece-length = c.before.before.before.before.before.before.before in
-    let start = at-piece-length.before.before in
+    let at-piece-length = c in
+    let start = at-piece-length in
     let w = start.args.w.now in
-    let n = at-piece-length.piece-length in
-    c.known-word3.ensures ∙ ap known_of c.before.read-numeral3.ensures ∙ known-clamped (numeral w)
-    ∙ sym (ap clamped_cell (known-second w n.result n.ensures c.before.before.if3.true))
+    let n = at-piece-length.piece_length-n in
+    c.known_word-then-w-next-ne46.ensures ∙ ap known_of c.read_numeral-then-w-next-ne46.ensures ∙ known-clamped (numeral w)
+    ∙ sym (ap clamped_cell (known-second w n.result n.ensures c.if-w-next-ne46.true))
 
-slice-aggregate-read-numeral : tie.Need-slice-aggregate-read-numeral
+slice-aggregate-read-numeral : tie.Need-slice_bounds-read_numeral-end
 slice-aggregate-read-numeral c =
-    let w = c.before.before.before.before.before.before.before.before.args.w.now in
-    let n = c.before.before.before.before.before.before.piece-length in
+    let w = c.args.w.now in
+    let n = c.piece_length-n in
     let h : n.result ≤ length w = omega (arith, stop-within w, n.ensures) in
     simp length-take (omega arith)
 
-returns-4 : tie.Need-returns-4
+returns-4 : tie.Need-returns
 returns-4 c =
-    let at-if3 = c.before.before.before.before.before in
-    let at-if2 = at-if3.before.before in
-    let at-piece-length = at-if2.before.before.before in
-    let start = at-piece-length.before.before in
+    let at-if3 = c in
+    let at-if2 = at-if3 in
+    let at-piece-length = at-if2 in
+    let start = at-piece-length in
     let w = start.args.w.now in
-    let n = at-piece-length.piece-length in
-    c.span-word.ensures
-    ∙ ap₂ span_of c.before.before.before.read-numeral4.ensures c.before.read-numeral5.ensures
+    let n = at-piece-length.piece_length-n in
+    c.span_word.ensures
+    ∙ ap₂ span_of c.read_numeral-2.ensures c.read_numeral-3.ensures
     ∙ span-clamped (numeral (take n.result w)) (numeral (take (length w - (n.result + 2)) (drop (n.result + 2) w)))
-    ∙ sym (ap clamped_cell (both-stops w n.result n.ensures at-if2.if2.false at-if3.if3.false))
+    ∙ sym (ap clamped_cell (both-stops w n.result n.ensures at-if2.if-w-n-ne46.false at-if3.if-w-next-ne46.false))
 
-pub spanned-spec : {M : Type 1} → statement M
-spanned-spec =
+pub spanned_spec : {M : Type 1} → statement M
+spanned_spec =
     tie.close
     (tie.spec
     (λ c κs. search rules)

@@ -9,16 +9,16 @@ use borrow.Author.Rules.{rules}
 use Rattle.file_values.proofs.value_read.Statement.{statement}
 use Rattle.file_values.proofs.value_read.Tie as tie
 
-enum_told : tie.Need-enum-told
+enum_told : tie.Need-enum_told-1
 enum_told c = search rules
 
-returns : tie.Need-returns
+returns : tie.Need-returns-in-Misspelt
 unfolding value value_of
-returns c = λ w e. held-value (numeral w) e c.enum_told.given.1 refl
+returns c = λ w e. held-value (numeral w) e c.in-Misspelt.is refl
 
-returns-2 : tie.Need-returns-2
+returns-2 : tie.Need-returns-in-Number
 unfolding value value_of
-returns-2 c = λ w e. held-value (numeral w) e c.before.n.given.1 (to_z-of_z w64 c.before.n.given.0.0 (search rules))
+returns-2 c = λ w e. held-value (numeral w) e c.in-Number.is (to_z-of_z w64 c.in-Number.z (search rules))
 
-pub value-read-spec : {M : Type 1} → statement M
-value-read-spec = tie.close (tie.spec enum_told (λ c. search rules) returns returns-2)
+pub value_read_spec : {M : Type 1} → statement M
+value_read_spec = tie.close (tie.spec enum_told (λ c. search rules) returns returns-2)

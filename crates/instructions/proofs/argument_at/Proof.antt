@@ -2,7 +2,7 @@
 -- Assumes nothing.
 use mathlib.Core.Path.{sym, ap, ◌∙◌}
 use native.Mathlib.Omega.{arith}
-use borrow.Author.Tests.{ltb-false, not-true}
+use borrow.Author.Tests.{ltb-false}
 use Rattle.instructions.specs.HeldColumns.{argument_code}
 use Rattle.instructions.specs.Kinds.{kind_at}
 use Rattle.instructions.proofs.ColumnLaws.{decoded, decoded-is, code-bound}

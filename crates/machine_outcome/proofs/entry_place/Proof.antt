@@ -14,20 +14,20 @@ entry-one : (k n : ℕ) → k ≡ 1 → entry_of (operation_of k) n ≡ n
 unfolding operations operation_of entry_of
 entry-one k n e = rw e
 
-place : (c : tie.Joined1) → c.if1.i ≡ c.before.args.free + entry_of (operation_of c.before.args.code) c.before.args.n
+place : (c : tie.Joined-code-eq-ACCESS) → c.if-code-eq-ACCESS.i ≡ c.args.free + entry_of (operation_of c.args.code) c.args.n
 place c =
-    let code = c.before.args.code in
-    let n = c.before.args.n in
+    let code = c.args.code in
+    let n = c.args.n in
     ⊎_elim
-    (λ w. omega (arith, entry-one code n w.0.taken, w.1))
-    (λ w. omega (arith, entry_top code n w.0.left, w.1))
-    c.if1.branch
+    (λ w. omega (arith, entry-one code n w.if-code-eq-ACCESS.true, w.i-is))
+    (λ w. omega (arith, entry_top code n w.if-code-eq-ACCESS.false, w.i-is))
+    c.if-code-eq-ACCESS.branch-raw
 
-returns : tie.Need-returns
-returns c = (c.if2.true, λ h. place c.before)
+returns : tie.Need-returns-then-i-lt64
+returns c = (c.if-i-lt64.true, λ h. place c.before)
 
-returns-2 : tie.Need-returns-2
+returns-2 : tie.Need-returns-else-i-lt64
 returns-2 c = (omega arith, λ h. omega (arith, place c.before))
 
-pub entry-place-spec : {M : Type 1} → statement M
-entry-place-spec = tie.close (tie.spec (λ c. search rules) returns returns-2)
+pub entry_place_spec : {M : Type 1} → statement M
+entry_place_spec = tie.close (tie.spec (λ c. search rules) returns returns-2)

@@ -35,16 +35,16 @@ small (negsuc n) f e = let h : suc n ≡ 0 = e in omega arith
 same : (c : tie.Start) → read w32 c.args.i ≡ c.args.i
 same c = to_z-of_z w32 c.args.i c.ranges.i
 
-returns : tie.Need-returns
-returns c = (negative c.before.args.i (rw (same c.before) at c.if1.true), omega arith)
+returns : tie.Need-returns-then-i-lt0
+returns c = (negative c.args.i (rw (same c.before) at c.if-i-lt0.true), omega arith)
 
-cast-result : tie.Need-overflow-cast-result
-cast-result c = rw (same c.before) (castable c.before.args.i c.before.ranges.i (rw (same c.before) at c.if1.false))
+cast-result : tie.Need-overflow_cast-result
+cast-result c = rw (same c.before) (castable c.args.i c.ranges.i (rw (same c.before) at c.if-i-lt0.false))
 
-returns-2 : tie.Need-returns-2
+returns-2 : tie.Need-returns
 returns-2 c =
-    let e = positive c.before.args.i (rw (same c.before) at c.if1.false) in
-    rw (same c.before) (e, small c.before.args.i c.before.ranges.i e)
+    let e = positive c.args.i (rw (same c.before) at c.if-i-lt0.false) in
+    rw (same c.before) (e, small c.args.i c.ranges.i e)
 
-pub index-of-spec : {M : Type 1} → statement M
-index-of-spec = tie.close (tie.spec returns cast-result returns-2)
+pub index_of_spec : {M : Type 1} → statement M
+index_of_spec = tie.close (tie.spec returns cast-result returns-2)

@@ -16,29 +16,29 @@ use Rattle.machine_outcome.proofs.operated.Tie as tie
 same : (c : tie.Start) → read w32 c.args.operand ≡ c.args.operand
 same c = to_z-of_z w32 c.args.operand c.ranges.operand
 
-binary-of-requires : tie.Need-binary-of-requires
+binary-of-requires : tie.Need-binary_of-requires
 binary-of-requires c κs =
-    let rest = c.match.rest in
-    (on-two-cells _ c.before.requires.1 rest.0.0.1 rest.0.1 rest.1, c.before.requires.0)
+    let rest = c.in_default.in_default-own.rest in
+    (on-two-cells _ c.requires.1 rest.0.0.1 rest.0.1 rest.1, c.requires.0)
 
-returns : tie.Need-returns
+returns : tie.Need-returns-in-5
 unfolding operations operation_of operated
-returns c = let start = c.before.before in rw c.before.match.keys1 (c.operate1.ensures ∙ ap (λ i. operate₁ Offset i start.args.accu) (same start))
+returns c = let start = c in rw c.in-5.is (c.operate1.ensures ∙ ap (λ i. operate₁ Offset i start.args.accu) (same start.before.before))
 
-returns-2 : tie.Need-returns-2
+returns-2 : tie.Need-returns-in-6
 unfolding operations operation_of operated
-returns-2 c = let start = c.before.before in rw c.before.match.keys2 (c.operate12.ensures ∙ ap (λ i. operate₁ Negate i start.args.accu) (same start))
+returns-2 c = let start = c in rw c.in-6.is (c.operate1-in-6.ensures ∙ ap (λ i. operate₁ Negate i start.args.accu) (same start.before.before))
 
-returns-3 : tie.Need-returns-3
+returns-3 : tie.Need-returns-in-7
 unfolding operations operation_of operated
-returns-3 c = let start = c.before.before in rw c.before.match.keys3 (c.operate13.ensures ∙ ap (λ i. operate₁ Complement i start.args.accu) (same start))
+returns-3 c = let start = c in rw c.in-7.is (c.operate1-in-7.ensures ∙ ap (λ i. operate₁ Complement i start.args.accu) (same start.before.before))
 
-returns-4 : tie.Need-returns-4
+returns-4 : tie.Need-returns-in_default
 unfolding operated
-returns-4 c = rw (← c.before.binary-of.ensures) c.operate2.ensures
+returns-4 c = rw (← c.binary_of.ensures) c.operate2.ensures
 
-pub operated-spec : {M : Type 1} → statement M
-operated-spec =
+pub operated_spec : {M : Type 1} → statement M
+operated_spec =
     tie.close
     (tie.spec
     (λ c κs. search rules)

@@ -8,5 +8,5 @@ returns : tie.Need-returns
 unfolding with_extra
 returns c = search rules
 
-pub jump-price-spec : {M : Type 1} → statement M
-jump-price-spec = tie.close (tie.spec (λ c. search rules) (λ c. search rules) (λ c. search rules) (λ c. search rules) returns)
+pub jump_price_spec : {M : Type 1} → statement M
+jump_price_spec = tie.close (tie.spec (λ c. search rules) (λ c. search rules) (λ c. search rules) (λ c. search rules) returns)

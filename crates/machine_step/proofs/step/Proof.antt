@@ -40,20 +40,20 @@ use Rattle.machine_step.proofs.step.Tie as tie
 
 -- ---- places, and what is known there
 
-abbrev start : tie.After-known-told → tie.Start
-start k = k.before.before.before.before
+abbrev start : tie.In-Is → tie.Start
+start k = k.before.before
 
-abbrev line : tie.After-known-told → Line
-line k = k.before.line.given.0.0
+abbrev line : tie.In-Is → Line
+line k = k.in-Is.line
 
 -- before the prices are made
-abbrev settled : tie.After-effect-of → tie.After-entry-place
+abbrev settled : tie.After-effect_of → tie.After-entry_place-place
 settled a = a.before.before.before.before.before
 
-abbrev joined : tie.After-effect-of → tie.Joined1
+abbrev joined : tie.After-effect_of → tie.Joined-line
 joined a = (settled a).before.before.before
 
-abbrev lined : tie.After-effect-of → tie.After-known-told
+abbrev lined : tie.After-effect_of → tie.In-Is
 lined a = (joined a).before
 
 abbrev code : tie.Start → Code
@@ -68,15 +68,15 @@ Meets s r =
     (of_next r.next (whole (sizes s) r.blocks r.state) ≡ step (code s) s.args.answer (whole (sizes s) s.args.blocks s.args.t3))
     × ((r.calls ≡ takes_answer (code s) (whole (sizes s) s.args.blocks s.args.t3)) × ((WellFormed r.state × Small r.next) × Differs r.change s.args.blocks r.blocks))
 
-found : (k : tie.After-known-told) → done (line_of (line k)) ≡ fetch (code (start k)) (start k).args.t3.at
-found k = ap of_fetched (sym k.before.line.given.1) ∙ k.before.before.before.fetch.ensures.0
+found : (k : tie.In-Is) → done (line_of (line k)) ≡ fetch (code (start k)) (start k).args.t3.at
+found k = ap of_fetched (sym k.in-Is.is) ∙ k.fetch.ensures.0
 
-known : (k : tie.After-known-told) → (line k).code ≤ 22
-known k = subst Known k.before.line.given.1 k.before.before.before.fetch.ensures.1
+known : (k : tie.In-Is) → (line k).code ≤ 22
+known k = subst Known k.in-Is.is k.fetch.ensures.1
 
 -- the code's address is low
-low : (k : tie.After-known-told) → (start k).args.t3.at < 65536
-low k = let s = start k in omega (arith, fetch-within s.args.code.now s.args.t3.at (line_of (line k)) (sym (found k)), s.pre.0.addresses)
+low : (k : tie.In-Is) → (start k).args.t3.at < 65536
+low k = let s = start k in omega (arith, fetch-within s.args.code.now s.args.t3.at (line_of (line k)) (sym (found k)), s.requires.0.addresses)
 
 fields : (s : tie.Start) → length s.args.blocks ≡ 128
 fields s = search (rules, length-images)
@@ -84,15 +84,15 @@ fields s = search (rules, length-images)
 fits : (s : tie.Start) → Fits (sizes s) s.args.blocks
 fits s = fits_all s.args.code.now s.requires.0 s.args.blocks (fields s)
 
-ready : (j : tie.Joined1) → Ready (sizes (start j.before)) (start j.before).args.blocks (line j.before) (start j.before).args.t3 j.if1.state
+ready : (j : tie.Joined-line) → Ready (sizes (start j.before)) (start j.before).args.blocks (line j.before) (start j.before).args.t3 j.if-line.state
 ready j =
     let s = start j.before in
     ⊎_elim
-    (λ x. pushes (sizes s) s.args.blocks (line j.before) s.args.t3 j.if1.state x.2.result x.0.taken x.2.ensures.0 x.2.ensures.1 x.3)
-    (λ x. keeps (sizes s) s.args.blocks (line j.before) s.args.t3 j.if1.state x.0.left s.pre.1 x.1)
-    j.if1.branch
+    (λ x. pushes (sizes s) s.args.blocks (line j.before) s.args.t3 j.if-line.state x.2.result x.0.taken x.2.ensures.0 x.2.ensures.1 x.3)
+    (λ x. keeps (sizes s) s.args.blocks (line j.before) s.args.t3 j.if-line.state x.0.left s.requires.1 x.1)
+    j.if-line.branch-raw
 
-module _ (a : tie.After-effect-of) where
+module _ (a : tie.After-effect_of) where
   abbrev s : tie.Start
   s = start (lined a)
 
@@ -101,19 +101,19 @@ module _ (a : tie.After-effect-of) where
 
   -- the state after the push
   abbrev t : State
-  t = (joined a).if1.state
+  t = (joined a).if-line.state
 
   abbrev n : ℕ
-  n = (settled a).before.index_of.result
+  n = (settled a).index_of-index.result
 
   abbrev entry : Cell
-  entry = get_or t.stack (settled a).entry_IsPlace.result (range (pos 0) 0)
+  entry = get_or t.stack (settled a).entry_place-place.result (range (pos 0) 0)
 
   abbrev price : Price
-  price = a.before.before.before.before.price-of.result
+  price = a.price_of-price.result
 
   abbrev price-jumped : Price
-  price-jumped = a.before.before.before.jump-price.result
+  price-jumped = a.jump_price-jumped.result
 
   abbrev out : Outcome
   out = outcome (operation_of l.code) l.operand s.args.answer (64 - t.free) t.accu entry
@@ -127,8 +127,8 @@ module _ (a : tie.After-effect-of) where
   arm : Arm (step (code s) s.args.answer (whole (sizes s) s.args.blocks s.args.t3)) (sizes s) s.args.blocks (line_of l).price l.extra (operation_of l.code) l.operand s.args.answer (next t) n entry out
   arm =
       arms.arm (code s) s.args.answer (sizes s) s.args.blocks s.args.t3 (next t) l (sym (found (lined a))) (rises (sizes s) s.args.blocks l s.args.t3 t prepared)
-      (record { free = prepared.formed.free; places = prepared.formed.places }) (fits s) n (settled a).entry_IsPlace.result entry (range (pos 0) 0) out
-      ((settled a).before.index_of.ensures.0 ∙ ap index (to_z-of_z w32 _ fitting)) (settled a).entry_IsPlace.ensures.1 refl refl
+      (record { free = prepared.formed.free; places = prepared.formed.places }) (fits s) n (settled a).entry_place-place.result entry (range (pos 0) 0) out
+      ((settled a).index_of-index.ensures.0 ∙ ap index (to_z-of_z w32 _ fitting)) (settled a).entry_place-place.ensures.1 refl refl
 
   -- what the step leads to, once the effect is known
   led : (f : Effect) → a.effect_of.result ≡ f → Leads arm f
@@ -152,23 +152,23 @@ module _ (a : tie.After-effect-of) where
   module _ (w : State) (formed : WellFormed w) where
     went : step (code s) s.args.answer (whole (sizes s) s.args.blocks s.args.t3) ≡ done (goes (line_of l).price (whole (sizes s) s.args.blocks w)) → Keeps (Goes price) w
     unfolding of_next
-    went e = (ap (λ p. done (goes p (whole (sizes s) s.args.blocks w))) a.before.before.before.before.price-of.ensures.0 ∙ sym e, (called, ((formed, a.before.before.before.before.price-of.ensures.1), refl)))
+    went e = (ap (λ p. done (goes p (whole (sizes s) s.args.blocks w))) a.price_of-price.ensures.0 ∙ sym e, (called, ((formed, a.price_of-price.ensures.1), refl)))
 
     jumps : step (code s) s.args.answer (whole (sizes s) s.args.blocks s.args.t3) ≡ done (goes (with_extra l.extra (line_of l).price) (whole (sizes s) s.args.blocks w)) → Keeps (Goes price-jumped) w
     unfolding of_next
-    jumps e = (ap (λ p. done (goes p (whole (sizes s) s.args.blocks w))) a.before.before.before.jump-price.ensures.0 ∙ sym e, (called, ((formed, a.before.before.before.jump-price.ensures.1), refl)))
+    jumps e = (ap (λ p. done (goes p (whole (sizes s) s.args.blocks w))) a.jump_price-jumped.ensures.0 ∙ sym e, (called, ((formed, a.jump_price-jumped.ensures.1), refl)))
 
     forks : step (code s) s.args.answer (whole (sizes s) s.args.blocks s.args.t3) ≡ done (opens (line_of l).price (whole (sizes s) s.args.blocks w) (with_extra l.extra (line_of l).price) (jump n (whole (sizes s) s.args.blocks w))) → Keeps (Opens price n price-jumped) w
     unfolding of_next
     forks e = (
-      ap (λ p. done (opens p (whole (sizes s) s.args.blocks w) (of_price price-jumped) (jump n (whole (sizes s) s.args.blocks w)))) a.before.before.before.before.price-of.ensures.0
-          ∙ ap (λ p. done (opens (line_of l).price (whole (sizes s) s.args.blocks w) p (jump n (whole (sizes s) s.args.blocks w)))) a.before.before.before.jump-price.ensures.0 ∙ sym e,
-      (called, ((formed, (a.before.before.before.before.price-of.ensures.1, a.before.before.before.jump-price.ensures.1)), refl)),
+      ap (λ p. done (opens p (whole (sizes s) s.args.blocks w) (of_price price-jumped) (jump n (whole (sizes s) s.args.blocks w)))) a.price_of-price.ensures.0
+          ∙ ap (λ p. done (opens (line_of l).price (whole (sizes s) s.args.blocks w) p (jump n (whole (sizes s) s.args.blocks w)))) a.jump_price-jumped.ensures.0 ∙ sym e,
+      (called, ((formed, (a.price_of-price.ensures.1, a.jump_price-jumped.ensures.1)), refl)),
     )
 
   halts : step (code s) s.args.answer (whole (sizes s) s.args.blocks s.args.t3) ≡ done (stops (line_of l).price) → Keeps (Stops price) t
   unfolding of_next
-  halts e = (ap (λ p. done (stops p)) a.before.before.before.before.price-of.ensures.0 ∙ sym e, (called, ((prepared.formed, a.before.before.before.before.price-of.ensures.1), refl)))
+  halts e = (ap (λ p. done (stops p)) a.price_of-price.ensures.0 ∙ sym e, (called, ((prepared.formed, a.price_of-price.ensures.1), refl)))
 
   sticks : step (code s) s.args.answer (whole (sizes s) s.args.blocks s.args.t3) ≡ stuck → Keeps Stuck t
   unfolding of_next
@@ -180,7 +180,7 @@ module _ (a : tie.After-effect-of) where
       Meets s (setting_field (Goes price) l.calls j c w s.args.blocks)
   unfolding of_next
   set_at j c w within formed e =
-      (ap (λ p. done (goes p (whole (sizes s) (set s.args.blocks j c) w))) a.before.before.before.before.price-of.ensures.0 ∙ sym e, (called, ((formed, a.before.before.before.before.price-of.ensures.1), (within, refl))))
+      (ap (λ p. done (goes p (whole (sizes s) (set s.args.blocks j c) w))) a.price_of-price.ensures.0 ∙ sym e, (called, ((formed, a.price_of-price.ensures.1), (within, refl))))
 
 -- an accumulator that is loaded leaves the address
 loaded_at : (s w : State) (c : Cell) → view w ≡ load c (view s) → w.at ≡ s.at
@@ -189,143 +189,143 @@ loaded_at s w c e = ap (λ v. v.at) e
 
 -- ---- before the effect is known
 
-returns : tie.Need-returns
+returns : tie.Need-returns-in_default
 unfolding of_next
 returns c =
-    let s = c.before.before.before.before in
-    let o = outside (code s) s.args.answer (sizes s) s.args.blocks s.args.t3 (ap of_fetched (sym c.before.enum_told.given.1) ∙ c.before.before.before.fetch.ensures.0) in
+    let s = c in
+    let o = outside (code s) s.args.answer (sizes s) s.args.blocks s.args.t3 (ap of_fetched (sym c.in_default.is) ∙ c.fetch.ensures.0) in
     subst (Meets s) (sym c.keep.ensures) (o.0, (o.1, ((s.requires.1, tt), refl)))
 
-returns-2 : tie.Need-returns-2
+returns-2 : tie.Need-returns-then-state-eq0
 unfolding of_next
 returns-2 c =
-    let k = c.before.before.before in
-    let s = start k in
-    subst (Meets s) (sym c.keep2.ensures) (
-      overflows (code s) s.args.answer (sizes s) s.args.blocks s.args.t3 (line k) (found k) c.before.before.if1.true s.pre.1 c.before.if2.true,
-      (calls (code s) s.args.answer (sizes s) s.args.blocks s.args.t3 (line k) (found k), ((s.pre.1, tt), refl)),
+    let k = c in
+    let s = start k.before.before.before in
+    subst (Meets s) (sym c.keep-then-state-eq0.ensures) (
+      overflows (code s) s.args.answer (sizes s) s.args.blocks s.args.t3 (line k.before.before.before) (found k.before.before.before) c.if-line.true s.requires.1 c.if-state-eq0.true,
+      (calls (code s) s.args.answer (sizes s) s.args.blocks s.args.t3 (line k.before.before.before) (found k.before.before.before), ((s.requires.1, tt), refl)),
     )
 
-entry-place-requires : tie.Need-entry-place-requires
-entry-place-requires c κs = (omega (arith, c.index_of.ensures.1), (ready c.before.before).formed.free)
+entry-place-requires : tie.Need-entry_place-place-requires
+entry-place-requires c κs = (omega (arith, c.index_of-index.ensures.1), (ready c.before.before).formed.free)
 
-sub-effect-of : tie.Need-overflow-sub-effect-of
+sub-effect-of : tie.Need-overflow_sub-state
 sub-effect-of c = (ready c.before.before.before.before.before.before).formed.free
 
-effect-of-requires : tie.Need-effect-of-requires
-effect-of-requires c κs = let k = c.before.before.before.before.before.before.before.before in ((start k).requires.0, known k)
+effect-of-requires : tie.Need-effect_of-requires
+effect-of-requires c κs = let k = c in ((start k.before.before.before.before.before.before.before.before).requires.0, known k.before.before.before.before.before.before.before.before)
 
 -- ---- the accumulator becomes a cell
 
-given : (c : tie.After-drops) → Leads (arm c.before.before) (effects.Gives c.drops.given.0.0 c.drops.given.0.1.0)
-given c = led c.before.before _ c.drops.given.1
+given : (c : tie.In-Gives-2) → Leads (arm c.before.before) (effects.Gives c.in-Gives.drops c.in-Gives.c)
+given c = led c.before.before _ c.in-Gives.is
 
 pop-requires : tie.Need-pop-requires
-pop-requires c κs = ((prepared c.before.before.before).formed, (given c.before).0)
+pop-requires c κs = ((prepared c.before).formed, (given c.before).0)
 
-advance-requires : tie.Need-advance-requires
+advance-requires : tie.Need-advance-state-requires
 advance-requires c κs =
-    let a = c.before.before.before.before.before in
-    (c.load.ensures.1, near a _ (loaded_at c.before.pop.result c.load.result _ c.load.ensures.0 ∙ pop-at _ (view (t a)) (view c.before.pop.result) c.before.pop.ensures.0))
+    let a = c in
+    (c.load.ensures.1, near a.before.before.before _ (loaded_at c.pop.result c.load.result _ c.load.ensures.0 ∙ pop-at _ (view (t a.before.before.before)) (view c.pop.result) c.pop.ensures.0))
 
-returns-3 : tie.Need-returns-3
+returns-3 : tie.Need-returns-in-Gives
 returns-3 c =
-    let a = c.before.before.before.before.before.before.before in
-    let v = c.before.before.before.pop.result in
-    let w = c.before.advance.result in
-    subst (Meets (s a)) (sym c.keep3.ensures)
-    (went a w c.before.advance.ensures.1
-    ((given c.before.before.before.before.before).1 (next v) w (popped-next (t a) v _ c.before.before.before.pop.ensures.0) (loaded-next v c.before.before.load.result w _ c.before.before.load.ensures.0 c.before.advance.ensures.0)))
+    let a = c in
+    let v = c.pop.result in
+    let w = c.advance-state.result in
+    subst (Meets (s a.before.before.before.before.before)) (sym c.keep-in-Gives.ensures)
+    (went a.before.before.before.before.before w c.advance-state.ensures.1
+    ((given c.before.before.before.before.before).1 (next v) w (popped-next (t a.before.before.before.before.before) v _ c.pop.ensures.0) (loaded-next v c.load.result w _ c.load.ensures.0 c.advance-state.ensures.0)))
 
 -- ---- an entry becomes the accumulator
 
 store-requires : tie.Need-store-requires
-store-requires c κs = let a = c.before.before in ((prepared a).formed, (led a effects.Stores c.enum-told2.given.1).0)
+store-requires c κs = let a = c in ((prepared a.before).formed, (led a.before effects.Stores c.in-Stores.is).0)
 
-advance-requires-2 : tie.Need-advance-requires-2
-advance-requires-2 c κs = let a = c.before.before.before in (c.store.ensures.1, near a _ (store_at _ (view (t a)) (view c.store.result) c.store.ensures.0))
+advance-requires-2 : tie.Need-advance-state-requires-in-Stores
+advance-requires-2 c κs = let a = c in (c.store.ensures.1, near a.before.before _ (store_at _ (view (t a.before.before)) (view c.store.result) c.store.ensures.0))
 
 -- ---- a field is set
 
-set_known : (c : tie.After-j) → Leads (arm c.before.before) (effects.Sets c.j.given.0.0 c.j.given.0.1.0)
-set_known c = led c.before.before _ c.j.given.1
+set_known : (c : tie.In-Sets-2) → Leads (arm c.before.before) (effects.Sets c.in-Sets.j c.in-Sets.c)
+set_known c = led c.before.before _ c.in-Sets.is
 
-pop-requires-2 : tie.Need-pop-requires-2
-pop-requires-2 c κs = ((prepared c.before.before.before).formed, (set_known c.before).0.0)
+pop-requires-2 : tie.Need-pop-requires-in-Sets
+pop-requires-2 c κs = ((prepared c.before).formed, (set_known c.before).0.0)
 
-advance-requires-3 : tie.Need-advance-requires-3
+advance-requires-3 : tie.Need-advance-state-requires-in-Sets
 advance-requires-3 c κs =
-    let a = c.before.before.before.before.before.before in
-    let v = c.before.before.pop2 in
-    (c.load2.ensures.1, near a _ (loaded_at v.result c.load2.result _ c.load2.ensures.0 ∙ pop-at _ (view (t a)) (view v.result) v.ensures.0))
+    let a = c in
+    let v = c.pop-in-Sets in
+    (c.load-in-Sets.ensures.1, near a.before.before.before.before _ (loaded_at v.result c.load-in-Sets.result _ c.load-in-Sets.ensures.0 ∙ pop-at _ (view (t a.before.before.before.before)) (view v.result) v.ensures.0))
 
-set-within : (c : tie.After-j) → c.j.given.0.0 < 128
+set-within : (c : tie.In-Sets-2) → c.in-Sets.j < 128
 set-within c = omega (arith, (set_known c).0.1, fields (s c.before.before))
 
-set-field-requires : tie.Need-set-field-requires
+set-field-requires : tie.Need-set_field-requires
 set-field-requires c κs = set-within c.before.before.before.before.before
 
-returns-4 : tie.Need-returns-4
+returns-4 : tie.Need-returns-in-Sets
 returns-4 c =
-    let j = c.before.before.before.before.before.before in
-    let a = j.before.before in
-    let v = c.before.before.before.before.pop2.result in
-    let w = c.before.advance3.result in
-    subst (Meets (s a)) (sym c.set-field.ensures)
-    (set_at a _ _ w (set-within j) c.before.advance3.ensures.1
-    ((set_known j).1 (next v) w (popped-next (t a) v _ c.before.before.before.before.pop2.ensures.0)
-    (loaded-next v c.before.before.load2.result w _ c.before.before.load2.ensures.0 c.before.advance3.ensures.0 ∙ ap (λ z. load z (view (next v))) c.before.before.before.exactly.ensures)))
+    let j = c in
+    let a = j in
+    let v = c.pop-in-Sets.result in
+    let w = c.advance-state-in-Sets.result in
+    subst (Meets (s a.before.before.before.before.before.before)) (sym c.set_field.ensures)
+    (set_at a.before.before.before.before.before.before _ _ w (set-within j) c.advance-state-in-Sets.ensures.1
+    ((set_known j).1 (next v) w (popped-next (t a.before.before.before.before.before.before) v _ c.pop-in-Sets.ensures.0)
+    (loaded-next v c.load-in-Sets.result w _ c.load-in-Sets.ensures.0 c.advance-state-in-Sets.ensures.0 ∙ ap (λ z. load z (view (next v))) c.exactly.ensures)))
 
 -- ---- the accumulator becomes a field
 
-get-known : (c : tie.After-j2) → Leads (arm c.before.before) (effects.Gets c.j2.given.0.0)
-get-known c = led c.before.before _ c.j2.given.1
+get-known : (c : tie.In-Gets-2) → Leads (arm c.before.before) (effects.Gets c.in-Gets.j)
+get-known c = led c.before.before _ c.in-Gets.is
 
-get-within : (c : tie.After-j2) → c.j2.given.0.0 < 128
+get-within : (c : tie.In-Gets-2) → c.in-Gets.j < 128
 get-within c = omega (arith, (get-known c).0, fields (s c.before.before))
 
-field-of-requires : tie.Need-field-of-requires
+field-of-requires : tie.Need-field_of-requires
 field-of-requires c κs = get-within c.before
 
-load-requires-3 : tie.Need-load-requires-3
-load-requires-3 c κs = (prepared c.before.before.before.before).formed
+load-requires-3 : tie.Need-load-requires-in-Gets
+load-requires-3 c κs = (prepared c.before.before).formed
 
-advance-requires-4 : tie.Need-advance-requires-4
-advance-requires-4 c κs = let a = c.before.before.before.before.before in (c.load3.ensures.1, near a _ (loaded_at (t a) c.load3.result _ c.load3.ensures.0))
+advance-requires-4 : tie.Need-advance-state-requires-in-Gets
+advance-requires-4 c κs = let a = c in (c.load-in-Gets.ensures.1, near a.before.before.before _ (loaded_at (t a.before.before.before) c.load-in-Gets.result _ c.load-in-Gets.ensures.0))
 
 -- ---- branches
 
-jump-requires : tie.Need-jump-requires
-jump-requires c κs = (prepared c.before.before).formed
+jump-requires : tie.Need-jump-state-requires
+jump-requires c κs = (prepared c.before).formed
 
-jump-requires-2 : tie.Need-jump-requires-2
-jump-requires-2 c κs = (prepared c.before.before).formed
+jump-requires-2 : tie.Need-jump-state-requires-in-Jumps
+jump-requires-2 c κs = (prepared c.before).formed
 
-advance-requires-5 : tie.Need-advance-requires-5
-advance-requires-5 c κs = let a = c.before.before in ((prepared a).formed, near a _ refl)
+advance-requires-5 : tie.Need-advance-state-requires-in-Opens
+advance-requires-5 c κs = let a = c in ((prepared a.before).formed, near a.before _ refl)
 
 -- ---- the arms that leave the blocks
 
-returns-5 : tie.Need-returns-5
+returns-5 : tie.Need-returns
 returns-5 c =
-    let m = c.before in
-    let a = m.before in
-    subst (Meets (s a)) (sym c.keep4.ensures)
+    let m = c in
+    let a = m in
+    subst (Meets (s a.before.before)) (sym c.keep-2.ensures)
     (⊎_elim
-    (λ x. keeps-at a _ _ _ _ x.4 x.5 (went a x.3.result x.3.ensures.1 ((led a effects.Stores x.1.given.1).1 x.3.result (stored_next (t a) x.2.result x.3.result _ x.2.ensures.0 x.3.ensures.0))))
+    (λ x. keeps-at a.before.before _ _ _ _ x.4 x.5 (went a.before.before x.3.result x.3.ensures.1 ((led a.before.before effects.Stores x.1.given.1).1 x.3.result (stored_next (t a.before.before) x.2.result x.3.result _ x.2.ensures.0 x.3.ensures.0))))
     (⊎_elim
-    (λ x. keeps-at a _ _ _ _ x.6 x.7 (went a x.5.result x.5.ensures.1
-    ((led a (effects.Gets _) x.1.given.1).1 _ x.5.result (loaded-next (t a) x.4.result x.5.result _ x.4.ensures.0 x.5.ensures.0 ∙ ap (λ z. load z (view (next (t a)))) x.3.ensures))))
+    (λ x. keeps-at a.before.before _ _ _ _ x.6 x.7 (went a.before.before x.5.result x.5.ensures.1
+    ((led a.before.before (effects.Gets _) x.1.given.1).1 _ x.5.result (loaded-next (t a.before.before) x.4.result x.5.result _ x.4.ensures.0 x.5.ensures.0 ∙ ap (λ z. load z (view (next (t a.before.before)))) x.3.ensures))))
     (⊎_elim
-    (λ x. keeps-at a _ _ _ _ x.3 x.4 (went a x.2.result x.2.ensures.1 (led a effects.Goes x.1.given.1 x.2.result (jumped-next (t a) x.2.result _ x.2.ensures.0))))
+    (λ x. keeps-at a.before.before _ _ _ _ x.3 x.4 (went a.before.before x.2.result x.2.ensures.1 (led a.before.before effects.Goes x.1.given.1 x.2.result (jumped-next (t a.before.before) x.2.result _ x.2.ensures.0))))
     (⊎_elim
-    (λ x. keeps-at a _ _ _ _ x.3 x.4 (jumps a x.2.result x.2.ensures.1 (led a effects.Jumps x.1.given.1 x.2.result (jumped-next (t a) x.2.result _ x.2.ensures.0))))
+    (λ x. keeps-at a.before.before _ _ _ _ x.3 x.4 (jumps a.before.before x.2.result x.2.ensures.1 (led a.before.before effects.Jumps x.1.given.1 x.2.result (jumped-next (t a.before.before) x.2.result _ x.2.ensures.0))))
     (⊎_elim
-    (λ x. keeps-at a _ _ _ _ x.3 x.4 (forks a x.2.result x.2.ensures.1 (opened (sizes (s a)) (s a).args.blocks (t a) x.2.result (arm a) (led a effects.Opens x.1.given.1) x.2.ensures.0)))
+    (λ x. keeps-at a.before.before _ _ _ _ x.3 x.4 (forks a.before.before x.2.result x.2.ensures.1 (opened (sizes (s a.before.before)) (s a.before.before).args.blocks (t a.before.before) x.2.result (arm a.before.before) (led a.before.before effects.Opens x.1.given.1) x.2.ensures.0)))
     (⊎_elim
-    (λ x. keeps-at a _ _ _ _ x.2 x.3 (halts a (led a effects.Halts x.1.given.1)))
-    (λ x. keeps-at a _ _ _ _ x.2 x.3 (sticks a (led a effects.Stuck x.1.given.1))))))))
-    m.match2.branch)
+    (λ x. keeps-at a.before.before _ _ _ _ x.2 x.3 (halts a.before.before (led a.before.before effects.Halts x.1.given.1)))
+    (λ x. keeps-at a.before.before _ _ _ _ x.2 x.3 (sticks a.before.before (led a.before.before effects.Stuck x.1.given.1))))))))
+    m.match-effect_of.branch-raw)
 
 pub step_spec : {M : Type 1} → statement M
 step_spec =

@@ -9,26 +9,26 @@ use Rattle.words.proofs.code_fault.Statement.{statement}
 use Rattle.words.proofs.code_fault.Tie as tie
 
 -- nothing is found in the first pass
-none : (c : tie.After-enum-told) → word_fault c.before.before.before.before.args.listed (words_of c.before.before.before.before.args.words.now) ≡ Missing
-none c = sym c.before.before.word-fault.ensures ∙ c.enum_told.given.1
+none : (c : tie.In-Missing) → word_fault c.args.listed (words_of c.args.words.now) ≡ Missing
+none c = sym c.word_fault.ensures ∙ c.in-Missing.is
 
-enum_told : tie.Need-enum-told
+enum_told : tie.Need-enum_told-1
 enum_told c = search rules
 
-numbers-of-requires : tie.Need-numbers-of-requires
+numbers-of-requires : tie.Need-numbers_of-numbers-requires
 numbers-of-requires c κs = readable_of _ _ (none c)
 
-offset-fault-requires : tie.Need-offset-fault-requires
-offset-fault-requires c κs = (readable_of _ _ (none c.before.before), c.before.Numbers-of.ensures)
+offset-fault-requires : tie.Need-offset_fault-requires
+offset-fault-requires c κs = (readable_of _ _ (none c.before.before), c.numbers_of-numbers.ensures)
 
-returns : tie.Need-returns
-returns c = sym (fault-first _ _ _ (sym c.before.before.before.word-fault.ensures ∙ c.before.i.given.1))
+returns : tie.Need-returns-in-At
+returns c = sym (fault-first _ _ _ (sym c.word_fault.ensures ∙ c.in-At.is))
 
-returns-2 : tie.Need-returns-2
-returns-2 c = c.offset-fault.ensures ∙ sym (fault-then _ _ (none c.before.before.before))
+returns-2 : tie.Need-returns-in-Missing
+returns-2 c = c.offset_fault.ensures ∙ sym (fault-then _ _ (none c.before.before.before))
 
-pub code-fault-spec : {M : Type 1} → statement M
-code-fault-spec =
+pub code_fault_spec : {M : Type 1} → statement M
+code_fault_spec =
     tie.close
     (tie.spec
     (λ c κs. search rules)

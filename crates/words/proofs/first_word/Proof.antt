@@ -3,8 +3,8 @@ use borrow.Author.Rules.{rules}
 use Rattle.words.proofs.first_word.Statement.{statement}
 use Rattle.words.proofs.first_word.Tie as tie
 
-pub first-word-spec : {M : Type 1} → statement M
-first-word-spec =
+pub first_word_spec : {M : Type 1} → statement M
+first_word_spec =
     tie.close
     (tie.spec
     (λ c. search rules)

@@ -7,7 +7,7 @@ use Rattle.words.proofs.has_argument.Statement.{statement}
 use Rattle.words.proofs.has_argument.Tie as tie
 
 returns : tie.Need-returns
-returns c = c.takes_at.ensures ∙ takes-argument (kind_at c.before.args.k).argument
+returns c = c.takes_at.ensures ∙ takes-argument (kind_at c.args.k).argument
 
-pub has-argument-spec : {M : Type 1} → statement M
-has-argument-spec = tie.close (tie.spec (λ c κs. search rules) returns)
+pub has_argument_spec : {M : Type 1} → statement M
+has_argument_spec = tie.close (tie.spec (λ c κs. search rules) returns)

@@ -12,10 +12,10 @@ use Rattle.words.proofs.landing.Tie as tie
 
 returns : tie.Need-returns
 returns c =
-    let s = c.before in
+    let s = c in
     to_z-of_z w64 _ (search rules)
     ∙ c.sum.ensures
     ∙ ap₂ ◌+ℤ◌ (to_z_pos w32 (s.args.index + 1) (omega arith) ∙ ap pos (add-one s.args.index)) (to_z-of_z w32 s.args.argument s.ranges.argument)
 
-pub landing-spec : {M : Type 1} → statement M
-landing-spec = tie.close (tie.spec (λ c. search rules) (λ c. search rules) (λ c κs. search rules) returns)
+pub landing_spec : {M : Type 1} → statement M
+landing_spec = tie.close (tie.spec (λ c. search rules) (λ c. search rules) (λ c κs. search rules) returns)

@@ -20,38 +20,38 @@ read : (s : tie.Start) → to_z w64 (of_z w64 s.args.index) ≡ s.args.index
 read s = to_z-of_z w64 s.args.index s.ranges.index
 
 -- it is from 0 on
-natural : (c : tie.Else1) → Natural c.before.args.numbers.now (to_z w64 (of_z w64 c.before.args.index))
-natural c = index-natural c.before.args.numbers.now (to_z w64 (of_z w64 c.before.args.index)) c.if1.false
+natural : (c : tie.Else-index-lt0) → Natural c.args.numbers.now (to_z w64 (of_z w64 c.args.index))
+natural c = index-natural c.args.numbers.now (to_z w64 (of_z w64 c.args.index)) c.if-index-lt0.false
 
 -- what is found there
 found : (s : tie.Start) → number_in s.args.numbers.now (to_z w64 (of_z w64 s.args.index)) ≡ number_in s.args.numbers.now s.args.index
 found s = ap (number_in s.args.numbers.now) (read s)
 
-returns : tie.Need-returns
-returns c = let s = c.before in sym (sym (found s) ∙ number-negative s.args.numbers.now (to_z w64 (of_z w64 s.args.index)) c.if1.true)
+returns : tie.Need-returns-then-index-lt0
+returns c = let s = c in sym (sym (found s.before) ∙ number-negative s.args.numbers.now (to_z w64 (of_z w64 s.args.index)) c.if-index-lt0.true)
 
-cast-n : tie.Need-overflow-cast-n
-cast-n c = ((natural c).natural, index-fits c.before.args.index c.before.ranges.index)
+cast-n : tie.Need-overflow_cast-n
+cast-n c = ((natural c).natural, index-fits c.args.index c.ranges.index)
 
-returns-2 : tie.Need-returns-2
-returns-2 c = sym (sym (found c.before.before) ∙ (natural c.before).past c.if2.true)
+returns-2 : tie.Need-returns-then-numbers-n
+returns-2 c = sym (sym (found c.before.before) ∙ (natural c.before).past c.if-numbers-n.true)
 
-returns-3 : tie.Need-returns-3
+returns-3 : tie.Need-returns-then-number-lt1024
 returns-3 c =
-    let i = c.before.before.before in
-    let s = i.before in
+    let i = c in
+    let s = i in
     let v = get_or s.args.numbers.now (nat_abs (to_z w64 (of_z w64 s.args.index))) 0 in
-    sym (sym (found s) ∙ (natural i).number c.before.before.if2.false ∙ ap (λ b. cond b (At v) Missing) (lt-ltb v 1024 (omega arith)))
+    sym (sym (found s.before.before.before.before) ∙ (natural i.before.before.before).number c.if-numbers-n.false ∙ ap (λ b. cond b (At v) Missing) (lt-ltb v 1024 (omega arith)))
 
-returns-4 : tie.Need-returns-4
+returns-4 : tie.Need-returns
 returns-4 c =
-    let i = c.before.before.before in
-    let s = i.before in
+    let i = c in
+    let s = i in
     let v = get_or s.args.numbers.now (nat_abs (to_z w64 (of_z w64 s.args.index))) 0 in
-    sym (sym (found s) ∙ (natural i).number c.before.before.if2.false ∙ ap (λ b. cond b (At v) Missing) (le-ltb v 1024 (omega arith)))
+    sym (sym (found s.before.before.before.before) ∙ (natural i.before.before.before).number c.if-numbers-n.false ∙ ap (λ b. cond b (At v) Missing) (le-ltb v 1024 (omega arith)))
 
-pub number-at-spec : {M : Type 1} → statement M
-number-at-spec =
+pub number_at_spec : {M : Type 1} → statement M
+number_at_spec =
     tie.close
     (tie.spec
     returns

@@ -10,72 +10,72 @@ use Rattle.words.proofs.NumberingLaws.{Numbering, numbering-starts, numbering-re
 use Rattle.words.proofs.numbers_of.Statement.{statement}
 use Rattle.words.proofs.numbers_of.Tie as tie
 
-abbrev invariant-loop : tie.invariant-loop
-invariant-loop words numbers₀ coded rest₀ index₀ count₀ numbers rest index count = Numbering (words_of words) numbers index count (words_of rest)
+abbrev invariant-loop-rest : tie.invariant-loop-rest
+invariant-loop-rest words numbers₀ coded rest₀ index₀ count₀ numbers rest index count = Numbering (words_of words) numbers index count (words_of rest)
 
-abbrev decreases-loop : tie.decreases-loop
-decreases-loop words numbers₀ coded rest₀ index₀ count₀ numbers rest index count = length rest
+abbrev decreases-loop-rest : tie.decreases-loop-rest
+decreases-loop-rest words numbers₀ coded rest₀ index₀ count₀ numbers rest index count = length rest
 
 -- the instruction that is read
-instruction : (c : tie.After-known-told invariant-loop decreases-loop) → Read c.before.before.before.before.before.before.loop.index c.before.k.given.0.0 c.before.k.given.0.1.0 (words_of c.before.before.before.before.before.before.loop.rest.now)
-instruction c = head_read _ _ _ _ (sym c.before.before.before.read_head.ensures ∙ c.before.k.given.1)
+instruction : (c : tie.In-Instruction invariant-loop-rest decreases-loop-rest) → Read c.loop-rest.index c.in-Instruction.k c.in-Instruction.field-1 (words_of c.loop-rest.rest.now)
+instruction c = head_read _ _ _ _ (sym c.read_head.ensures ∙ c.in-Instruction.is)
 
-loop-holds : tie.Need-loop-init invariant-loop decreases-loop
-loop-holds c = numbering-starts _ _ c.before.before.requires refl refl
+loop-holds : tie.Need-loop-rest-init invariant-loop-rest decreases-loop-rest
+loop-holds c = numbering-starts _ _ c.requires refl refl
 
-enum_told : tie.Need-enum-told invariant-loop decreases-loop
+enum_told : tie.Need-enum_told-1 invariant-loop-rest decreases-loop-rest
 enum_told c = search rules
 
-returns : tie.Need-returns invariant-loop decreases-loop
+returns : tie.Need-returns-in_default invariant-loop-rest decreases-loop-rest
 returns c =
-    let l = c.before.before.before.before.before in
-    numbering-reads l.loop.invariant (words-some l.loop.rest.now c.before.before.before.before.loop-test.true) (sym c.before.before.read_head.ensures ∙ c.enum_told.given.1)
+    let l = c in
+    numbering-reads l.loop-rest.invariant (words-some l.loop-rest.rest.now c.loop-rest-test.true) (sym c.read_head.ensures ∙ c.in_default.is)
 
-mul-numbers : tie.Need-overflow-mul-numbers invariant-loop decreases-loop
-mul-numbers c = let r = numbering-room c.before.before.before.before.before.before.loop.invariant (instruction c) in omega arith
+mul-numbers : tie.Need-offset_bounds-numbers-index invariant-loop-rest decreases-loop-rest
+mul-numbers c = let r = numbering-room c.loop-rest.invariant (instruction c) in omega arith
 
-array-write-numbers : tie.Need-array-write-numbers invariant-loop decreases-loop
-array-write-numbers c = (numbering-room c.before.before.before.before.before.before.loop.invariant (instruction c)).1
+array-write-numbers : tie.Need-bounds-numbers-index invariant-loop-rest decreases-loop-rest
+array-write-numbers c = (numbering-room c.loop-rest.invariant (instruction c)).1
 
-after-requires : tie.Need-after-requires invariant-loop decreases-loop
-after-requires c κs = ((instruction c).known, head-fits _ _ _ (sym c.before.before.before.read_head.ensures ∙ c.before.k.given.1))
+after-requires : tie.Need-after-next-requires invariant-loop-rest decreases-loop-rest
+after-requires c κs = ((instruction c).known, head-fits _ _ _ (sym c.read_head.ensures ∙ c.in-Instruction.is))
 
-size-of-requires : tie.Need-size-of-requires invariant-loop decreases-loop
+size-of-requires : tie.Need-size_of-index-requires invariant-loop-rest decreases-loop-rest
 size-of-requires c κs = (instruction c.before).known
 
-add-index : tie.Need-overflow-add-index invariant-loop decreases-loop
+add-index : tie.Need-overflow_add-index invariant-loop-rest decreases-loop-rest
 add-index c =
-    let i = c.before.before in
-    let r = numbering-room i.before.before.before.before.before.before.loop.invariant (instruction i) in
-    let s = size_small i.before.k.given.0.0 in
-    omega (arith, c.size-of.ensures)
+    let i = c in
+    let r = numbering-room i.loop-rest.invariant (instruction i.before.before) in
+    let s = size_small i.in-Instruction.k in
+    omega (arith, c.size_of-index.ensures)
 
-add-count : tie.Need-overflow-add-count invariant-loop decreases-loop
+add-count : tie.Need-overflow_add-count invariant-loop-rest decreases-loop-rest
 add-count c =
-    let i = c.before.before in
-    let r = numbering-room i.before.before.before.before.before.before.loop.invariant (instruction i) in
+    let i = c in
+    let r = numbering-room i.loop-rest.invariant (instruction i.before.before) in
     omega arith
 
-loop-less : tie.Need-loop-smaller invariant-loop decreases-loop
-loop-less c = let s = size_small c.before.before.before.k.given.0.0 in omega (arith, c.before.after.ensures.1)
+loop-less : tie.Need-loop-rest-smaller invariant-loop-rest decreases-loop-rest
+loop-less c = let s = size_small c.in-Instruction.k in omega (arith, c.after-next.ensures.1)
 
-loop-again : tie.Need-loop-preserved invariant-loop decreases-loop
+loop-again : tie.Need-loop-rest-preserved invariant-loop-rest decreases-loop-rest
 loop-again c =
-    let i = c.before.before in
-    numbering-next i.before.before.before.before.before.before.loop.invariant (instruction i) c.size-of.ensures c.before.after.ensures.0
+    let i = c in
+    numbering-next i.loop-rest.invariant (instruction i.before.before) c.size_of-index.ensures c.after-next.ensures.0
 
-returns-2 : tie.Need-returns-2 invariant-loop decreases-loop
-returns-2 c = numbering-ends c.before.loop.invariant (entries_none _ c.before.loop.rest.now (omega arith))
+returns-2 : tie.Need-returns invariant-loop-rest decreases-loop-rest
+returns-2 c = numbering-ends c.loop-rest.invariant (entries_none _ c.loop-rest.rest.now (omega arith))
 
-pub numbers-of-spec : {M : Type 1} → statement M
-numbers-of-spec =
+pub numbers_of_spec : {M : Type 1} → statement M
+numbers_of_spec =
     tie.close
     (tie.spec
-    invariant-loop
-    decreases-loop
+    invariant-loop-rest
+    decreases-loop-rest
     (λ c κs. search rules)
     loop-holds
-    (λ c κs. c.before.before.before.coded-kinds.ensures)
+    (λ c κs. c.coded_kinds-coded.ensures)
     (λ c. search rules)
     enum_told
     returns

@@ -6,10 +6,10 @@ use Rattle.words.proofs.put_word.Tie as tie
 
 returns : tie.Need-returns
 unfolding bytes_of
-returns c = let p = c.before.before.put.ensures in (p.0, p.1)
+returns c = let p = c.put.ensures in (p.0, p.1)
 
-pub put-word-spec : {M : Type 1} → statement M
-put-word-spec =
+pub put_word_spec : {M : Type 1} → statement M
+put_word_spec =
     tie.close
     (tie.spec
     (λ c. search rules)

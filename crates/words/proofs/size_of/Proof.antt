@@ -6,13 +6,13 @@ use borrow.Author.Rules.{rules}
 use Rattle.words.proofs.size_of.Statement.{statement}
 use Rattle.words.proofs.size_of.Tie as tie
 
-returns : tie.Need-returns
+returns : tie.Need-returns-then-has_argument
 unfolding size_of
-returns c = sym (ap (λ (b : Bool). cond b 2 1) (sym c.before.has-argument.ensures ∙ c.if1.true))
+returns c = sym (ap (λ (b : Bool). cond b 2 1) (sym c.has_argument.ensures ∙ c.if-has_argument.true))
 
-returns-2 : tie.Need-returns-2
+returns-2 : tie.Need-returns-else-has_argument
 unfolding size_of
-returns-2 c = sym (ap (λ (b : Bool). cond b 2 1) (sym c.before.has-argument.ensures ∙ c.if1.false))
+returns-2 c = sym (ap (λ (b : Bool). cond b 2 1) (sym c.has_argument.ensures ∙ c.if-has_argument.false))
 
-pub size-of-spec : {M : Type 1} → statement M
-size-of-spec = tie.close (tie.spec (λ c κs. search rules) returns returns-2)
+pub size_of_spec : {M : Type 1} → statement M
+size_of_spec = tie.close (tie.spec (λ c κs. search rules) returns returns-2)

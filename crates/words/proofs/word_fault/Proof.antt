@@ -9,7 +9,6 @@ use lib.ListN.{length}
 use mir.Syntax.{w32}
 use mir.ValLaws.{to_z-of_z}
 use borrow.Author.Rules.{rules}
-use borrow.Author.Tests.{not-true, not-false}
 use Rattle.instructions.specs.Kinds.{kind_at}
 use Rattle.words.specs.Words.{words_of}
 use Rattle.words.specs.Decoding.{opcode, decoded_words, call_listed, fault_from, word_fault, size_of}
@@ -18,116 +17,116 @@ use Rattle.words.proofs.FaultLaws.{fault-empty, fault-starts, fault-none, fault-
 use Rattle.words.proofs.word_fault.Statement.{statement}
 use Rattle.words.proofs.word_fault.Tie as tie
 
-abbrev invariant-loop : tie.invariant-loop
-invariant-loop listed words coded rest₀ index₀ count₀ rest index count =
+abbrev invariant-loop-rest : tie.invariant-loop-rest
+invariant-loop-rest listed words coded rest₀ index₀ count₀ rest index count =
     (word_fault listed (words_of words) ≡ fault_from listed count (decoded_words opcode index (words_of rest))) × (4 * index + length rest ≡ length words) × (count ≤ 1024)
 
-abbrev decreases-loop : tie.decreases-loop
-decreases-loop listed words coded rest₀ index₀ count₀ rest index count = length rest
+abbrev decreases-loop-rest : tie.decreases-loop-rest
+decreases-loop-rest listed words coded rest₀ index₀ count₀ rest index count = length rest
 
-returns : tie.Need-returns invariant-loop decreases-loop
-returns c = let a = c.before.before.args in sym (fault-empty a.listed a.words.now c.if1.true)
+returns : tie.Need-returns-then-words-eq0 invariant-loop-rest decreases-loop-rest
+returns c = let a = c.args in sym (fault-empty a.listed a.words.now c.if-words-eq0.true)
 
 -- the places of a turn: from where the instruction is known back to the loop's test, and from there to the start
-abbrev test : tie.After-known-told invariant-loop decreases-loop → tie.At-loop invariant-loop decreases-loop
-test c = c.before.before.before.before.before.before
+abbrev test : tie.In-Instruction invariant-loop-rest decreases-loop-rest → tie.At-loop-rest invariant-loop-rest decreases-loop-rest
+test c = c.before.before.before.before
 
-abbrev start : tie.At-loop invariant-loop decreases-loop → tie.Start invariant-loop decreases-loop
+abbrev start : tie.At-loop-rest invariant-loop-rest decreases-loop-rest → tie.Start invariant-loop-rest decreases-loop-rest
 start c = c.before.before.before.before
 
 -- the instruction that is read: its kind and its argument
-abbrev kind : tie.After-known-told invariant-loop decreases-loop → ℕ
-kind c = c.before.k.given.0.0
+abbrev kind : tie.In-Instruction invariant-loop-rest decreases-loop-rest → ℕ
+kind c = c.in-Instruction.k
 
-abbrev argument : tie.After-known-told invariant-loop decreases-loop → ℤ
-argument c = c.before.k.given.0.1.0
+abbrev argument : tie.In-Instruction invariant-loop-rest decreases-loop-rest → ℤ
+argument c = c.in-Instruction.argument
 
-instruction : (c : tie.After-known-told invariant-loop decreases-loop) → Read (test c).loop.index (kind c) (argument c) (words_of (test c).loop.rest.now)
-instruction c = head_read _ _ _ _ (sym c.before.before.before.read_head.ensures ∙ c.before.k.given.1)
+instruction : (c : tie.In-Instruction invariant-loop-rest decreases-loop-rest) → Read (test c).loop-rest.index (kind c) (argument c) (words_of (test c).loop-rest.rest.now)
+instruction c = head_read _ _ _ _ (sym c.read_head.ensures ∙ c.in-Instruction.is)
 
-fits : (c : tie.After-known-told invariant-loop decreases-loop) → 4 * size_of (kind c) ≤ length (test c).loop.rest.now
-fits c = head-fits _ _ _ (sym c.before.before.before.read_head.ensures ∙ c.before.k.given.1)
+fits : (c : tie.In-Instruction invariant-loop-rest decreases-loop-rest) → 4 * size_of (kind c) ≤ length (test c).loop-rest.rest.now
+fits c = head-fits _ _ _ (sym c.read_head.ensures ∙ c.in-Instruction.is)
 
 -- the test of its primitive
-listed : (c : tie.After-call-listed invariant-loop decreases-loop)
-    → let i = c.before.before in call_listed (start (test i)).args.listed (argument i) (kind_at (kind i)).argument ≡ c.call-listed.result
+listed : (c : tie.After-call_listed invariant-loop-rest decreases-loop-rest)
+    → let i = c in call_listed (start (test i.before.before)).args.listed (argument i.before.before) (kind_at (kind i.before.before)).argument ≡ c.call_listed.result
 listed c =
-    let i = c.before.before in
-    sym (c.call-listed.ensures ∙ ap (λ z. call_listed (start (test i)).args.listed z (kind_at (kind i)).argument) (to_z-of_z w32 (argument i) (search rules)))
+    let i = c in
+    sym (c.call_listed.ensures ∙ ap (λ z. call_listed (start (test i.before.before)).args.listed z (kind_at (kind i.before.before)).argument) (to_z-of_z w32 (argument i.before.before) (search rules)))
 
-loop-holds : tie.Need-loop-init invariant-loop decreases-loop
-loop-holds c = let a = c.before.before.before.args in (fault-starts a.listed a.words.now (omega arith), omega arith, omega arith)
+loop-holds : tie.Need-loop-rest-init invariant-loop-rest decreases-loop-rest
+loop-holds c = let a = c.args in (fault-starts a.listed a.words.now (omega arith), omega arith, omega arith)
 
-enum_told : tie.Need-enum-told invariant-loop decreases-loop
+enum_told : tie.Need-enum_told-1 invariant-loop-rest decreases-loop-rest
 enum_told c = search rules
 
-returns-2 : tie.Need-returns-2 invariant-loop decreases-loop
+returns-2 : tie.Need-returns-in_default invariant-loop-rest decreases-loop-rest
 returns-2 c =
-    let l = c.before.before.before.before.before in
-    let rest = l.loop.rest.now in
-    let h = sym c.before.before.read_head.ensures ∙ c.enum_told.given.1 in
-    sym (l.loop.invariant.0 ∙ fault-unread _ _ _ (words_of rest) (words-some rest c.before.before.before.before.loop-test.true) h)
+    let l = c in
+    let rest = l.loop-rest.rest.now in
+    let h = sym c.read_head.ensures ∙ c.in_default.is in
+    sym (l.loop-rest.invariant.0 ∙ fault-unread _ _ _ (words_of rest) (words-some rest c.loop-rest-test.true) h)
 
-returns-3 : tie.Need-returns-3 invariant-loop decreases-loop
+returns-3 : tie.Need-returns-then-count-ge1024 invariant-loop-rest decreases-loop-rest
 returns-3 c =
-    let i = c.before in
-    let r = instruction i in
-    sym ((test i).loop.invariant.0 ∙ fault-many _ _ r (omega arith))
+    let i = c in
+    let r = instruction i.before in
+    sym ((test i.before).loop-rest.invariant.0 ∙ fault-many _ _ r (omega arith))
 
-call-listed-requires : tie.Need-call-listed-requires invariant-loop decreases-loop
+call-listed-requires : tie.Need-call_listed-requires invariant-loop-rest decreases-loop-rest
 call-listed-requires c κs = (search rules, (instruction c.before).known)
 
-returns-4 : tie.Need-returns-4 invariant-loop decreases-loop
+returns-4 : tie.Need-returns-then-not-call_listed invariant-loop-rest decreases-loop-rest
 returns-4 c =
-    let i = c.before.before.before in
-    let l = test i in
-    rw (add-one l.loop.index) (sym (l.loop.inv.0 ∙ fault-call _ _ (instruction i) (omega arith) (listed c.before ∙ not-true _ c.if3.true)))
+    let i = c in
+    let l = test i.before.before.before in
+    rw (add-one l.loop-rest.index) (sym (l.loop-rest.invariant.0 ∙ fault-call _ _ (instruction i.before.before.before) (omega arith) (listed c.before ∙ c.if-not-call_listed.true)))
 
-after-requires : tie.Need-after-requires invariant-loop decreases-loop
-after-requires c κs = let i = c.before.before.before in ((instruction i).known, fits i)
+after-requires : tie.Need-after-next-requires invariant-loop-rest decreases-loop-rest
+after-requires c κs = let i = c in ((instruction i.before.before.before).known, fits i.before.before.before)
 
-size-of-requires : tie.Need-size-of-requires invariant-loop decreases-loop
+size-of-requires : tie.Need-size_of-index-requires invariant-loop-rest decreases-loop-rest
 size-of-requires c κs = (instruction c.before.before.before.before).known
 
-add-index : tie.Need-overflow-add-index invariant-loop decreases-loop
+add-index : tie.Need-overflow_add-index invariant-loop-rest decreases-loop-rest
 add-index c =
-    let i = c.before.before.before.before.before in
-    let f = fits i in
-    let l = test i in
-    omega (arith, c.size-of.ensures, l.loop.inv.1)
+    let i = c in
+    let f = fits i.before.before.before.before.before in
+    let l = test i.before.before.before.before.before in
+    omega (arith, c.size_of-index.ensures, l.loop-rest.invariant.1)
 
-loop-less : tie.Need-loop-smaller invariant-loop decreases-loop
+loop-less : tie.Need-loop-rest-smaller invariant-loop-rest decreases-loop-rest
 loop-less c =
-    let i = c.before.before.before.before.before in
-    let s = size_small (kind i) in
-    omega (arith, c.before.after.ensures.1)
+    let i = c in
+    let s = size_small (kind i.before.before.before.before.before) in
+    omega (arith, c.after-next.ensures.1)
 
-loop-again : tie.Need-loop-preserved invariant-loop decreases-loop
+loop-again : tie.Need-loop-rest-preserved invariant-loop-rest decreases-loop-rest
 loop-again c =
-    let i = c.before.before.before.before.before in
-    let l = test i in
-    let t = listed c.before.before.before ∙ not-false _ c.before.before.if3.false in
-    let n = fault-next _ l.loop.count (instruction i) (omega arith) t c.size-of.ensures c.before.after.ensures.0 in (
-      l.loop.inv.0 ∙ n,
-      omega (arith, c.size-of.ensures, c.before.after.ensures.1, l.loop.inv.1),
+    let i = c in
+    let l = test i.before.before.before.before.before in
+    let t = listed c.before.before.before ∙ c.if-not-call_listed.false in
+    let n = fault-next _ l.loop-rest.count (instruction i.before.before.before.before.before) (omega arith) t c.size_of-index.ensures c.after-next.ensures.0 in (
+      l.loop-rest.invariant.0 ∙ n,
+      omega (arith, c.size_of-index.ensures, c.after-next.ensures.1, l.loop-rest.invariant.1),
       omega arith,
     )
 
-returns-5 : tie.Need-returns-5 invariant-loop decreases-loop
+returns-5 : tie.Need-returns invariant-loop-rest decreases-loop-rest
 returns-5 c =
-    let l = c.before in
-    sym (l.loop.invariant.0 ∙ fault-none _ _ _ l.loop.rest.now (omega arith))
+    let l = c in
+    sym (l.loop-rest.invariant.0 ∙ fault-none _ _ _ l.loop-rest.rest.now (omega arith))
 
-pub word-fault-spec : {M : Type 1} → statement M
-word-fault-spec =
+pub word_fault_spec : {M : Type 1} → statement M
+word_fault_spec =
     tie.close
     (tie.spec
-    invariant-loop
-    decreases-loop
+    invariant-loop-rest
+    decreases-loop-rest
     returns
     (λ c κs. search rules)
     loop-holds
-    (λ c κs. c.before.before.before.coded-kinds.ensures)
+    (λ c κs. c.coded_kinds-coded.ensures)
     (λ c. search rules)
     enum_told
     returns-2

@@ -26,7 +26,7 @@ use Rattle.machine_step.proofs.effects.effect_of.Statement.{statement}
 use Rattle.machine_step.proofs.effects.effect_of.Tie as tie
 
 -- once the outcome is known
-module _ (a : tie.After-outcome-of) where
+module _ (a : tie.After-outcome_of-outcome) where
   abbrev start : tie.Start
   start = a.before.before.before.before
 
@@ -43,25 +43,25 @@ module _ (a : tie.After-outcome-of) where
   entry = start.args.entry
 
   abbrev n : ℕ
-  n = a.before.before.index_of.result
+  n = a.index_of-index.result
 
   fitting : SFits w32 l.operand
   fitting = search rules
 
   is : n ≡ index l.operand
-  is = a.before.before.index_of.ensures.0 ∙ ap index (to_z-of_z w32 _ fitting)
+  is = a.index_of-index.ensures.0 ∙ ap index (to_z-of_z w32 _ fitting)
 
   abbrev out : Outcome
   out = outcome (operation_of l.code) l.operand start.args.answer start.args.height accu entry
 
-  out-is : a.outcome-of.result ≡ out
-  out-is = a.outcome-of.ensures ∙ ap (λ z. outcome (operation_of l.code) z start.args.answer start.args.height accu entry) (to_z-of_z w32 _ fitting)
+  out-is : a.outcome_of-outcome.result ≡ out
+  out-is = a.outcome_of-outcome.ensures ∙ ap (λ z. outcome (operation_of l.code) z start.args.answer start.args.height accu entry) (to_z-of_z w32 _ fitting)
 
   abbrev effect-at : Outcome → Effect
   effect-at = effect ns (operation_of l.code) l.operand accu entry
 
   -- the effect of the outcome, once that is known
-  comes : (q : Outcome) → a.outcome-of.result ≡ q → effect-at q ≡ effect-at out
+  comes : (q : Outcome) → a.outcome_of-outcome.result ≡ q → effect-at q ≡ effect-at out
   comes q g = ap effect-at (sym g ∙ out-is)
 
   dropped : (k : ℕ) → k ≡ drops (operation_of l.code) n → k ≡ drops (operation_of l.code) (index l.operand)
@@ -73,81 +73,81 @@ module _ (a : tie.After-outcome-of) where
   slot-from : (d : Try ℕ) → d ≡ slot ns accu n → d ≡ slot ns accu (index l.operand)
   slot-from d h = h ∙ ap (slot ns accu) is
 
-operated-requires : tie.Need-operated-requires
+operated-requires : tie.Need-operated-given-requires
 operated-requires c κs =
-    let a = c.before.before.before in
-    ((start a).requires.1, (subst (Room (operation_of (l a).code) (index (l a).operand) (start a).args.height) (sym (out-is a) ∙ c.before.enum_told.given.1) (room (operation_of (l a).code) (l a).operand (start a).args.answer (start a).args.height (accu a) (entry a))).1)
+    let a = c in
+    ((start a.before.before).requires.1, (subst (Room (operation_of (l a.before.before).code) (index (l a.before.before).operand) (start a.before.before).args.height) (sym (out-is a.before.before) ∙ c.in-Operates.is) (room (operation_of (l a.before.before).code) (l a.before.before).operand (start a.before.before).args.answer (start a.before.before).args.height (accu a.before.before) (entry a.before.before))).1)
 
-returns : tie.Need-returns
+returns : tie.Need-returns-in_default
 unfolding effect giving
 returns c =
-    let a = c.before.before.before.before.before.before in
-    ap (giving _) (operated-from a _ _ (to_z-of_z w32 _ (fitting a)) (ap of_operand (sym c.enum-told2.given.1) ∙ c.before.before.operated.ensures)) ∙ comes a outcomes.Operates c.before.before.before.before.enum_told.given.1
+    let a = c in
+    ap (giving _) (operated-from a.before.before.before.before _ _ (to_z-of_z w32 _ (fitting a.before.before.before.before)) (ap of_operand (sym c.in_default.is) ∙ c.operated-given.ensures)) ∙ comes a.before.before.before.before outcomes.Operates c.in-Operates.is
 
-returns-2 : tie.Need-returns-2
+returns-2 : tie.Need-returns-in_default-field
 unfolding effect setting
 returns-2 c =
-    let a = c.before.before.before.before.before.before in
-    ap (setting _) (slot-from a _ (ap of_slot (sym c.enum-told4.given.1) ∙ c.before.before.slot_of.ensures)) ∙ comes a (outcomes.Sets _) c.before.before.before.before.outcome2.given.1
+    let a = c in
+    ap (setting _) (slot-from a.before.before.before _ (ap of_slot (sym c.in_default-field.is) ∙ c.slot_of-field.ensures)) ∙ comes a.before.before.before (outcomes.Sets _) c.in-Sets.is
 
-returns-3 : tie.Need-returns-3
+returns-3 : tie.Need-returns-in_default-field-2
 unfolding effect getting
 returns-3 c =
-    let a = c.before.before.before.before.before in
-    ap getting (slot-from a _ (ap of_slot (sym c.enum-told6.given.1) ∙ c.before.before.slot-of2.ensures)) ∙ comes a outcomes.Gets c.before.before.before.enum-told5.given.1
+    let a = c in
+    ap getting (slot-from a.before.before.before _ (ap of_slot (sym c.in_default-field-2.is) ∙ c.slot_of-field-in-Gets.ensures)) ∙ comes a.before.before.before outcomes.Gets c.in-Gets.is
 
-returns-4 : tie.Need-returns-4
+returns-4 : tie.Need-returns-in-Gives
 unfolding effect
 returns-4 c =
-    let a = c.before.before.before.before in
-    ap (λ k. Gives k c.before.before.outcome.given.0.0) (dropped a _ c.drops-of.ensures) ∙ comes a (outcomes.Gives _) c.before.before.outcome.given.1
+    let a = c in
+    ap (λ k. Gives k c.in-Gives.c) (dropped a.before.before _ c.drops_of.ensures) ∙ comes a.before.before (outcomes.Gives _) c.in-Gives.is
 
-returns-5 : tie.Need-returns-5
+returns-5 : tie.Need-returns-in-Is
 unfolding effect giving
 returns-5 c =
-    let a = c.before.before.before.before.before.before.before.before in
-    ap (λ k. Gives k c.before.before.given.given.0.0) (dropped a _ c.drops-of2.ensures)
-    ∙ ap (giving _) (operated-from a _ _ (to_z-of_z w32 _ (fitting a)) (ap of_operand (sym c.before.before.given.given.1) ∙ c.before.before.before.before.operated.ensures))
-    ∙ comes a outcomes.Operates c.before.before.before.before.before.before.enum_told.given.1
+    let a = c in
+    ap (λ k. Gives k c.in-Is.c) (dropped a.before.before.before.before.before _ c.drops_of-in-Operates.ensures)
+    ∙ ap (giving _) (operated-from a.before.before.before.before.before _ _ (to_z-of_z w32 _ (fitting a.before.before.before.before.before)) (ap of_operand (sym c.in-Is.is) ∙ c.operated-given.ensures))
+    ∙ comes a.before.before.before.before.before outcomes.Operates c.in-Operates.is
 
-returns-6 : tie.Need-returns-6
+returns-6 : tie.Need-returns-in-Stores
 unfolding effect
-returns-6 c = comes c.before.before outcomes.Stores c.enum-told3.given.1
+returns-6 c = comes c.before outcomes.Stores c.in-Stores.is
 
-returns-7 : tie.Need-returns-7
+returns-7 : tie.Need-returns-in-At
 unfolding effect setting
 returns-7 c =
-    let a = c.before.before.before.before.before.before.before in
-    ap (setting _) (slot-from a _ (ap of_slot (sym c.before.field.given.1) ∙ c.before.before.before.slot_of.ensures)) ∙ comes a (outcomes.Sets _) c.before.before.before.before.before.outcome2.given.1
+    let a = c in
+    ap (setting _) (slot-from a.before.before.before _ (ap of_slot (sym c.in-At.is) ∙ c.slot_of-field.ensures)) ∙ comes a.before.before.before (outcomes.Sets _) c.in-Sets.is
 
-returns-8 : tie.Need-returns-8
+returns-8 : tie.Need-returns-in-At-field
 unfolding effect getting
 returns-8 c =
-    let a = c.before.before.before.before.before.before in
-    ap getting (slot-from a _ (ap of_slot (sym c.before.field2.given.1) ∙ c.before.before.before.slot-of2.ensures)) ∙ comes a outcomes.Gets c.before.before.before.before.enum-told5.given.1
+    let a = c in
+    ap getting (slot-from a.before.before.before _ (ap of_slot (sym c.in-At-field.is) ∙ c.slot_of-field-in-Gets.ensures)) ∙ comes a.before.before.before outcomes.Gets c.in-Gets.is
 
-returns-9 : tie.Need-returns-9
+returns-9 : tie.Need-returns-in-Goes
 unfolding effect
-returns-9 c = comes c.before.before outcomes.Goes c.enum-told7.given.1
+returns-9 c = comes c.before outcomes.Goes c.in-Goes.is
 
-returns-10 : tie.Need-returns-10
+returns-10 : tie.Need-returns-in-Jumps
 unfolding effect
-returns-10 c = comes c.before.before outcomes.Jumps c.enum-told8.given.1
+returns-10 c = comes c.before outcomes.Jumps c.in-Jumps.is
 
-returns-11 : tie.Need-returns-11
+returns-11 : tie.Need-returns-in-Opens
 unfolding effect
-returns-11 c = comes c.before.before outcomes.Opens c.enum-told9.given.1
+returns-11 c = comes c.before outcomes.Opens c.in-Opens.is
 
-returns-12 : tie.Need-returns-12
+returns-12 : tie.Need-returns-in-Halts
 unfolding effect
-returns-12 c = comes c.before.before outcomes.Halts c.enum-told10.given.1
+returns-12 c = comes c.before outcomes.Halts c.in-Halts.is
 
-returns-13 : tie.Need-returns-13
+returns-13 : tie.Need-returns-in-Stuck
 unfolding effect
-returns-13 c = comes c.before.before outcomes.Stuck c.enum-told11.given.1
+returns-13 c = comes c.before outcomes.Stuck c.in-Stuck.is
 
-pub effect-of-spec : {M : Type 1} → statement M
-effect-of-spec =
+pub effect_of_spec : {M : Type 1} → statement M
+effect_of_spec =
     tie.close
     (tie.spec
     (λ c κs. search rules)
