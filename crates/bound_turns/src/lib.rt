@@ -1,4 +1,6 @@
 // A turn of the explorer's loop: what a line comes to, of the registers alone. The meaning is in specs/.
+#![tactic(auto)]
+
 ghost use Rattle.std.specs.Prelude.{◌≡◌, cond, ◌<◌, ◌≤◌, pos};
 ghost use Rattle.cells.specs.Cells.{condition};
 ghost use Rattle.cells.specs.HeldAnswers.{of_operand};

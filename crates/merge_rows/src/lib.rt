@@ -1,4 +1,6 @@
 // The rows in which ways wait for their address, and the merging of the states that meet there. The meaning is in specs/.
+#![tactic(auto)]
+
 ghost use Rattle.std.specs.Prelude.{◌≡◌, List, map, ℕ, ◌+◌, ◌<◌, ◌≤◌, length, get_or, take, drop};
 ghost use Rattle.merge_cells.specs.Merge.{merge_cells};
 ghost use Rattle.merge_cells.specs.HeldCodes.{decoded_cell, decoded_cells};

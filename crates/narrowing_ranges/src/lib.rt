@@ -1,1 +1,2 @@
 // Ranges in the cells of a routine: definitions and laws only.
+#![tactic(auto)]

@@ -23,42 +23,42 @@ found a e p q = sym (ap of_tested p ∙ ap done q) ∙ e
 branched : {z b : Bool} {m : Try Condition} (n : ℕ) (r : Registers) → z ≡ b → m ≡ condition r.accu → branching b n r m ≡ branching z n r (condition r.accu)
 branched n r p q = ap₂ (λ b m. branching b n r m) (sym p) q
 
-returns : tie.Need-returns
+returns : tie.Need-returns-in_default
 unfolding branching
-returns c = branched _ _ refl (ap of_tested (sym c.enum_told.given.1) ∙ c.before.before.condition-of.ensures)
+returns c = branched _ _ refl (ap of_tested (sym c.in_default.is) ∙ c.condition_of-tested.ensures)
 
-returns-2 : tie.Need-returns-2
+returns-2 : tie.Need-returns-then-zero
 unfolding branching
 returns-2 c =
-    let tested = c.before.before.before.before.before in
-    ap Jumps c.jump.ensures ∙ branched _ _ c.before.if1.true (found _ tested.before.before.condition-of.ensures tested.tested.given.1 c.before.before.enum-told2.given.1)
+    let tested = c in
+    ap Jumps c.jump.ensures ∙ branched _ _ c.if-zero.true (found _ tested.condition_of-tested.ensures tested.in-Is.is c.in-IsZero.is)
 
-returns-3 : tie.Need-returns-3
+returns-3 : tie.Need-returns-else-zero
 unfolding branching
 returns-3 c =
-    let tested = c.before.before.before.before.before in
-    ap Goes c.advance.ensures ∙ branched _ _ c.before.if1.false (found _ tested.before.before.condition-of.ensures tested.tested.given.1 c.before.before.enum-told2.given.1)
+    let tested = c in
+    ap Goes c.advance.ensures ∙ branched _ _ c.if-zero.false (found _ tested.condition_of-tested.ensures tested.in-Is.is c.in-IsZero.is)
 
-returns-4 : tie.Need-returns-4
+returns-4 : tie.Need-returns-then-zero-2
 unfolding branching
 returns-4 c =
-    let tested = c.before.before.before.before.before in
-    ap Goes c.advance2.ensures ∙ branched _ _ c.before.if2.true (found _ tested.before.before.condition-of.ensures tested.tested.given.1 c.before.before.enum-told3.given.1)
+    let tested = c in
+    ap Goes c.advance-then-zero-2.ensures ∙ branched _ _ c.if-zero-2.true (found _ tested.condition_of-tested.ensures tested.in-Is.is c.in-IsNonzero.is)
 
-returns-5 : tie.Need-returns-5
+returns-5 : tie.Need-returns-else-zero-2
 unfolding branching
 returns-5 c =
-    let tested = c.before.before.before.before.before in
-    ap Jumps c.jump2.ensures ∙ branched _ _ c.before.if2.false (found _ tested.before.before.condition-of.ensures tested.tested.given.1 c.before.before.enum-told3.given.1)
+    let tested = c in
+    ap Jumps c.jump-else-zero-2.ensures ∙ branched _ _ c.if-zero-2.false (found _ tested.condition_of-tested.ensures tested.in-Is.is c.in-IsNonzero.is)
 
-returns-6 : tie.Need-returns-6
+returns-6 : tie.Need-returns-in-IsUnknown
 unfolding branching
 returns-6 c =
-    let tested = c.before.before.before in
-    branched _ _ refl (found _ tested.before.before.condition-of.ensures tested.tested.given.1 c.enum-told4.given.1)
+    let tested = c in
+    branched _ _ refl (found _ tested.condition_of-tested.ensures tested.in-Is.is c.in-IsUnknown.is)
 
-pub branch-on-spec : {M : Type 1} → statement M
-branch-on-spec =
+pub branch_on_spec : {M : Type 1} → statement M
+branch_on_spec =
     tie.close
     (tie.spec
     (λ c κs. search rules)

@@ -11,17 +11,17 @@ use Rattle.bound_turns.proofs.drop_entries.Tie as tie
 
 advance-requires : tie.Need-advance-requires
 advance-requires c κs =
-    let at : c.load.result.at ≡ c.before.before.before.before.args.registers.at = ap (λ v. v.at) (c.load.ensures ∙ ap (loaded _) c.before.pop.ensures) in
-    omega (arith, c.before.before.before.before.requires.1)
+    let at : c.load.result.at ≡ c.args.registers.at = ap (λ v. v.at) (c.load.ensures ∙ ap (loaded _) c.pop.ensures) in
+    omega (arith, c.requires.1)
 
-returns : tie.Need-returns
+returns : tie.Need-returns-then-n-registers
 unfolding dropping
-returns c = rw (le-leb _ _ c.before.before.before.if1.true) (ap Goes (c.advance.ensures ∙ ap advanced (c.before.load.ensures ∙ ap (loaded _) c.before.before.pop.ensures)))
+returns c = rw (le-leb _ _ c.if-n-registers.true) (ap Goes (c.advance.ensures ∙ ap advanced (c.load.ensures ∙ ap (loaded _) c.pop.ensures)))
 
-returns-2 : tie.Need-returns-2
+returns-2 : tie.Need-returns
 unfolding dropping
-returns-2 c = rw (lt-leb _ _ c.if1.false)
+returns-2 c = rw (lt-leb _ _ c.if-n-registers.false)
 
-pub drop-entries-spec : {M : Type 1} → statement M
-drop-entries-spec =
+pub drop_entries_spec : {M : Type 1} → statement M
+drop_entries_spec =
     tie.close (tie.spec (λ c. search rules) (λ c κs. search rules) (λ c κs. search rules) advance-requires returns returns-2)

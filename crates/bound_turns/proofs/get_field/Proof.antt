@@ -6,13 +6,13 @@ use Rattle.bound_turns.specs.HeldTurn.{getting}
 use Rattle.bound_turns.proofs.get_field.Statement.{statement}
 use Rattle.bound_turns.proofs.get_field.Tie as tie
 
-returns : tie.Need-returns
+returns : tie.Need-returns-in_default
 unfolding getting
-returns c = ap (λ f. getting (of_slot f)) (sym c.enum_told.given.1)
+returns c = ap (λ f. getting (of_slot f)) (sym c.in_default.is)
 
-returns-2 : tie.Need-returns-2
+returns-2 : tie.Need-returns
 unfolding getting
-returns-2 c = ap (λ f. getting (of_slot f)) (sym c.before.field.given.1)
+returns-2 c = ap (λ f. getting (of_slot f)) (sym c.in-At.is)
 
-pub get-field-spec : {M : Type 1} → statement M
-get-field-spec = tie.close (tie.spec (λ c. search rules) (λ c. search rules) returns returns-2)
+pub get_field_spec : {M : Type 1} → statement M
+get_field_spec = tie.close (tie.spec (λ c. search rules) (λ c. search rules) returns returns-2)

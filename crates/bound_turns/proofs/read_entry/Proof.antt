@@ -5,13 +5,13 @@ use Rattle.bound_turns.specs.HeldTurn.{reading}
 use Rattle.bound_turns.proofs.read_entry.Statement.{statement}
 use Rattle.bound_turns.proofs.read_entry.Tie as tie
 
-returns : tie.Need-returns
+returns : tie.Need-returns-then-n-registers
 unfolding reading
-returns c = rw (lt-ltb _ _ c.before.if1.true)
+returns c = rw (lt-ltb _ _ c.if-n-registers.true)
 
-returns-2 : tie.Need-returns-2
+returns-2 : tie.Need-returns
 unfolding reading
-returns-2 c = rw (le-ltb _ _ c.if1.false)
+returns-2 c = rw (le-ltb _ _ c.if-n-registers.false)
 
-pub read-entry-spec : {M : Type 1} → statement M
-read-entry-spec = tie.close (tie.spec (λ c. search rules) (λ c. search rules) returns returns-2)
+pub read_entry_spec : {M : Type 1} → statement M
+read_entry_spec = tie.close (tie.spec (λ c. search rules) (λ c. search rules) returns returns-2)

@@ -65,18 +65,18 @@ sizes s = sizes_of s.args.code.now
 -- what is promised of the answer
 abbrev Meets : tie.Start → Stepped → Type 0
 Meets s r =
-    (of_next r.next (whole (sizes s) r.blocks r.state) ≡ step (code s) s.args.answer (whole (sizes s) s.args.blocks s.args.t3))
-    × ((r.calls ≡ takes_answer (code s) (whole (sizes s) s.args.blocks s.args.t3)) × ((WellFormed r.state × Small r.next) × Differs r.change s.args.blocks r.blocks))
+    (of_next r.next (whole (sizes s) r.blocks r.state) ≡ step (code s) s.args.answer (whole (sizes s) s.args.blocks s.args.state))
+    × ((r.calls ≡ takes_answer (code s) (whole (sizes s) s.args.blocks s.args.state)) × ((WellFormed r.state × Small r.next) × Differs r.change s.args.blocks r.blocks))
 
-found : (k : tie.In-Is) → done (line_of (line k)) ≡ fetch (code (start k)) (start k).args.t3.at
+found : (k : tie.In-Is) → done (line_of (line k)) ≡ fetch (code (start k)) (start k).args.state.at
 found k = ap of_fetched (sym k.in-Is.is) ∙ k.fetch.ensures.0
 
 known : (k : tie.In-Is) → (line k).code ≤ 22
 known k = subst Known k.in-Is.is k.fetch.ensures.1
 
 -- the code's address is low
-low : (k : tie.In-Is) → (start k).args.t3.at < 65536
-low k = let s = start k in omega (arith, fetch-within s.args.code.now s.args.t3.at (line_of (line k)) (sym (found k)), s.requires.0.addresses)
+low : (k : tie.In-Is) → (start k).args.state.at < 65536
+low k = let s = start k in omega (arith, fetch-within s.args.code.now s.args.state.at (line_of (line k)) (sym (found k)), s.requires.0.addresses)
 
 fields : (s : tie.Start) → length s.args.blocks ≡ 128
 fields s = search (rules, length-images)
@@ -84,12 +84,12 @@ fields s = search (rules, length-images)
 fits : (s : tie.Start) → Fits (sizes s) s.args.blocks
 fits s = fits_all s.args.code.now s.requires.0 s.args.blocks (fields s)
 
-ready : (j : tie.Joined-line) → Ready (sizes (start j.before)) (start j.before).args.blocks (line j.before) (start j.before).args.t3 j.if-line.state
+ready : (j : tie.Joined-line) → Ready (sizes (start j.before)) (start j.before).args.blocks (line j.before) (start j.before).args.state j.if-line.state
 ready j =
     let s = start j.before in
     ⊎_elim
-    (λ x. pushes (sizes s) s.args.blocks (line j.before) s.args.t3 j.if-line.state x.2.result x.0.taken x.2.ensures.0 x.2.ensures.1 x.3)
-    (λ x. keeps (sizes s) s.args.blocks (line j.before) s.args.t3 j.if-line.state x.0.left s.requires.1 x.1)
+    (λ x. pushes (sizes s) s.args.blocks (line j.before) s.args.state j.if-line.state x.push-state.result x.if-line.true x.push-state.ensures.0 x.push-state.ensures.1 x.state-is)
+    (λ x. keeps (sizes s) s.args.blocks (line j.before) s.args.state j.if-line.state x.if-line.false s.requires.1 x.state-is)
     j.if-line.branch-raw
 
 module _ (a : tie.After-effect_of) where
@@ -121,12 +121,12 @@ module _ (a : tie.After-effect_of) where
   fitting : SFits w32 l.operand
   fitting = search rules
 
-  prepared : Ready (sizes s) s.args.blocks l s.args.t3 t
+  prepared : Ready (sizes s) s.args.blocks l s.args.state t
   prepared = ready (joined a)
 
-  arm : Arm (step (code s) s.args.answer (whole (sizes s) s.args.blocks s.args.t3)) (sizes s) s.args.blocks (line_of l).price l.extra (operation_of l.code) l.operand s.args.answer (next t) n entry out
+  arm : Arm (step (code s) s.args.answer (whole (sizes s) s.args.blocks s.args.state)) (sizes s) s.args.blocks (line_of l).price l.extra (operation_of l.code) l.operand s.args.answer (next t) n entry out
   arm =
-      arms.arm (code s) s.args.answer (sizes s) s.args.blocks s.args.t3 (next t) l (sym (found (lined a))) (rises (sizes s) s.args.blocks l s.args.t3 t prepared)
+      arms.arm (code s) s.args.answer (sizes s) s.args.blocks s.args.state (next t) l (sym (found (lined a))) (rises (sizes s) s.args.blocks l s.args.state t prepared)
       (record { free = prepared.formed.free; places = prepared.formed.places }) (fits s) n (settled a).entry_place-place.result entry (range (pos 0) 0) out
       ((settled a).index_of-index.ensures.0 ∙ ap index (to_z-of_z w32 _ fitting)) (settled a).entry_place-place.ensures.1 refl refl
 
@@ -146,19 +146,19 @@ module _ (a : tie.After-effect_of) where
   keeps-at : (x x' : Next) (w w' : State) → w ≡ w' → x ≡ x' → Keeps x' w' → Keeps x w
   keeps-at x x' w w' e g h = subst (λ v. Keeps x v) (sym e) (subst (λ z. Keeps z w') (sym g) h)
 
-  called : l.calls ≡ takes_answer (code s) (whole (sizes s) s.args.blocks s.args.t3)
-  called = calls (code s) s.args.answer (sizes s) s.args.blocks s.args.t3 l (found (lined a))
+  called : l.calls ≡ takes_answer (code s) (whole (sizes s) s.args.blocks s.args.state)
+  called = calls (code s) s.args.answer (sizes s) s.args.blocks s.args.state l (found (lined a))
 
   module _ (w : State) (formed : WellFormed w) where
-    went : step (code s) s.args.answer (whole (sizes s) s.args.blocks s.args.t3) ≡ done (goes (line_of l).price (whole (sizes s) s.args.blocks w)) → Keeps (Goes price) w
+    went : step (code s) s.args.answer (whole (sizes s) s.args.blocks s.args.state) ≡ done (goes (line_of l).price (whole (sizes s) s.args.blocks w)) → Keeps (Goes price) w
     unfolding of_next
     went e = (ap (λ p. done (goes p (whole (sizes s) s.args.blocks w))) a.price_of-price.ensures.0 ∙ sym e, (called, ((formed, a.price_of-price.ensures.1), refl)))
 
-    jumps : step (code s) s.args.answer (whole (sizes s) s.args.blocks s.args.t3) ≡ done (goes (with_extra l.extra (line_of l).price) (whole (sizes s) s.args.blocks w)) → Keeps (Goes price-jumped) w
+    jumps : step (code s) s.args.answer (whole (sizes s) s.args.blocks s.args.state) ≡ done (goes (with_extra l.extra (line_of l).price) (whole (sizes s) s.args.blocks w)) → Keeps (Goes price-jumped) w
     unfolding of_next
     jumps e = (ap (λ p. done (goes p (whole (sizes s) s.args.blocks w))) a.jump_price-jumped.ensures.0 ∙ sym e, (called, ((formed, a.jump_price-jumped.ensures.1), refl)))
 
-    forks : step (code s) s.args.answer (whole (sizes s) s.args.blocks s.args.t3) ≡ done (opens (line_of l).price (whole (sizes s) s.args.blocks w) (with_extra l.extra (line_of l).price) (jump n (whole (sizes s) s.args.blocks w))) → Keeps (Opens price n price-jumped) w
+    forks : step (code s) s.args.answer (whole (sizes s) s.args.blocks s.args.state) ≡ done (opens (line_of l).price (whole (sizes s) s.args.blocks w) (with_extra l.extra (line_of l).price) (jump n (whole (sizes s) s.args.blocks w))) → Keeps (Opens price n price-jumped) w
     unfolding of_next
     forks e = (
       ap (λ p. done (opens p (whole (sizes s) s.args.blocks w) (of_price price-jumped) (jump n (whole (sizes s) s.args.blocks w)))) a.price_of-price.ensures.0
@@ -166,17 +166,17 @@ module _ (a : tie.After-effect_of) where
       (called, ((formed, (a.price_of-price.ensures.1, a.jump_price-jumped.ensures.1)), refl)),
     )
 
-  halts : step (code s) s.args.answer (whole (sizes s) s.args.blocks s.args.t3) ≡ done (stops (line_of l).price) → Keeps (Stops price) t
+  halts : step (code s) s.args.answer (whole (sizes s) s.args.blocks s.args.state) ≡ done (stops (line_of l).price) → Keeps (Stops price) t
   unfolding of_next
   halts e = (ap (λ p. done (stops p)) a.price_of-price.ensures.0 ∙ sym e, (called, ((prepared.formed, a.price_of-price.ensures.1), refl)))
 
-  sticks : step (code s) s.args.answer (whole (sizes s) s.args.blocks s.args.t3) ≡ stuck → Keeps Stuck t
+  sticks : step (code s) s.args.answer (whole (sizes s) s.args.blocks s.args.state) ≡ stuck → Keeps Stuck t
   unfolding of_next
   sticks e = (sym e, (called, ((prepared.formed, tt), refl)))
 
   -- ---- a step that sets a field
 
-  set_at : (j : ℕ) (c : Cell) (w : State) → j < 128 → WellFormed w → step (code s) s.args.answer (whole (sizes s) s.args.blocks s.args.t3) ≡ done (goes (line_of l).price (whole (sizes s) (set s.args.blocks j c) w)) →
+  set_at : (j : ℕ) (c : Cell) (w : State) → j < 128 → WellFormed w → step (code s) s.args.answer (whole (sizes s) s.args.blocks s.args.state) ≡ done (goes (line_of l).price (whole (sizes s) (set s.args.blocks j c) w)) →
       Meets s (setting_field (Goes price) l.calls j c w s.args.blocks)
   unfolding of_next
   set_at j c w within formed e =
@@ -193,8 +193,8 @@ returns : tie.Need-returns-in_default
 unfolding of_next
 returns c =
     let s = c in
-    let o = outside (code s) s.args.answer (sizes s) s.args.blocks s.args.t3 (ap of_fetched (sym c.in_default.is) ∙ c.fetch.ensures.0) in
-    subst (Meets s) (sym c.keep.ensures) (o.0, (o.1, ((s.requires.1, tt), refl)))
+    let o = outside (code s.before.before.before) s.args.answer (sizes s.before.before.before) s.args.blocks s.args.state (ap of_fetched (sym c.in_default.is) ∙ c.fetch.ensures.0) in
+    subst (Meets s.before.before.before) (sym c.keep.ensures) (o.0, (o.1, ((s.requires.1, tt), refl)))
 
 returns-2 : tie.Need-returns-then-state-eq0
 unfolding of_next
@@ -202,8 +202,8 @@ returns-2 c =
     let k = c in
     let s = start k.before.before.before in
     subst (Meets s) (sym c.keep-then-state-eq0.ensures) (
-      overflows (code s) s.args.answer (sizes s) s.args.blocks s.args.t3 (line k.before.before.before) (found k.before.before.before) c.if-line.true s.requires.1 c.if-state-eq0.true,
-      (calls (code s) s.args.answer (sizes s) s.args.blocks s.args.t3 (line k.before.before.before) (found k.before.before.before), ((s.requires.1, tt), refl)),
+      overflows (code s) s.args.answer (sizes s) s.args.blocks s.args.state (line k.before.before.before) (found k.before.before.before) c.if-line.true s.requires.1 c.if-state-eq0.true,
+      (calls (code s) s.args.answer (sizes s) s.args.blocks s.args.state (line k.before.before.before) (found k.before.before.before), ((s.requires.1, tt), refl)),
     )
 
 entry-place-requires : tie.Need-entry_place-place-requires
@@ -217,11 +217,11 @@ effect-of-requires c κs = let k = c in ((start k.before.before.before.before.be
 
 -- ---- the accumulator becomes a cell
 
-given : (c : tie.In-Gives-2) → Leads (arm c.before.before) (effects.Gives c.in-Gives.drops c.in-Gives.c)
-given c = led c.before.before _ c.in-Gives.is
+given : (c : tie.In-Gives) → Leads (arm c.before) (effects.Gives c.in-Gives.drops c.in-Gives.c)
+given c = led c.before _ c.in-Gives.is
 
 pop-requires : tie.Need-pop-requires
-pop-requires c κs = ((prepared c.before).formed, (given c.before).0)
+pop-requires c κs = ((prepared c.before).formed, (given c).0)
 
 advance-requires : tie.Need-advance-state-requires
 advance-requires c κs =
@@ -235,7 +235,7 @@ returns-3 c =
     let w = c.advance-state.result in
     subst (Meets (s a.before.before.before.before.before)) (sym c.keep-in-Gives.ensures)
     (went a.before.before.before.before.before w c.advance-state.ensures.1
-    ((given c.before.before.before.before.before).1 (next v) w (popped-next (t a.before.before.before.before.before) v _ c.pop.ensures.0) (loaded-next v c.load.result w _ c.load.ensures.0 c.advance-state.ensures.0)))
+    ((given c.before.before.before.before).1 (next v) w (popped-next (t a.before.before.before.before.before) v _ c.pop.ensures.0) (loaded-next v c.load.result w _ c.load.ensures.0 c.advance-state.ensures.0)))
 
 -- ---- an entry becomes the accumulator
 
@@ -247,11 +247,11 @@ advance-requires-2 c κs = let a = c in (c.store.ensures.1, near a.before.before
 
 -- ---- a field is set
 
-set_known : (c : tie.In-Sets-2) → Leads (arm c.before.before) (effects.Sets c.in-Sets.j c.in-Sets.c)
-set_known c = led c.before.before _ c.in-Sets.is
+set_known : (c : tie.In-Sets) → Leads (arm c.before) (effects.Sets c.in-Sets.j c.in-Sets.c)
+set_known c = led c.before _ c.in-Sets.is
 
 pop-requires-2 : tie.Need-pop-requires-in-Sets
-pop-requires-2 c κs = ((prepared c.before).formed, (set_known c.before).0.0)
+pop-requires-2 c κs = ((prepared c.before).formed, (set_known c).0.0)
 
 advance-requires-3 : tie.Need-advance-state-requires-in-Sets
 advance-requires-3 c κs =
@@ -259,11 +259,11 @@ advance-requires-3 c κs =
     let v = c.pop-in-Sets in
     (c.load-in-Sets.ensures.1, near a.before.before.before.before _ (loaded_at v.result c.load-in-Sets.result _ c.load-in-Sets.ensures.0 ∙ pop-at _ (view (t a.before.before.before.before)) (view v.result) v.ensures.0))
 
-set-within : (c : tie.In-Sets-2) → c.in-Sets.j < 128
-set-within c = omega (arith, (set_known c).0.1, fields (s c.before.before))
+set-within : (c : tie.In-Sets) → c.in-Sets.j < 128
+set-within c = omega (arith, (set_known c).0.1, fields (s c.before))
 
 set-field-requires : tie.Need-set_field-requires
-set-field-requires c κs = set-within c.before.before.before.before.before
+set-field-requires c κs = set-within c.before.before.before.before
 
 returns-4 : tie.Need-returns-in-Sets
 returns-4 c =
@@ -272,20 +272,20 @@ returns-4 c =
     let v = c.pop-in-Sets.result in
     let w = c.advance-state-in-Sets.result in
     subst (Meets (s a.before.before.before.before.before.before)) (sym c.set_field.ensures)
-    (set_at a.before.before.before.before.before.before _ _ w (set-within j) c.advance-state-in-Sets.ensures.1
-    ((set_known j).1 (next v) w (popped-next (t a.before.before.before.before.before.before) v _ c.pop-in-Sets.ensures.0)
+    (set_at a.before.before.before.before.before.before _ _ w (set-within j.before.before.before.before.before) c.advance-state-in-Sets.ensures.1
+    ((set_known j.before.before.before.before.before).1 (next v) w (popped-next (t a.before.before.before.before.before.before) v _ c.pop-in-Sets.ensures.0)
     (loaded-next v c.load-in-Sets.result w _ c.load-in-Sets.ensures.0 c.advance-state-in-Sets.ensures.0 ∙ ap (λ z. load z (view (next v))) c.exactly.ensures)))
 
 -- ---- the accumulator becomes a field
 
-get-known : (c : tie.In-Gets-2) → Leads (arm c.before.before) (effects.Gets c.in-Gets.j)
-get-known c = led c.before.before _ c.in-Gets.is
+get-known : (c : tie.In-Gets) → Leads (arm c.before) (effects.Gets c.in-Gets.j)
+get-known c = led c.before _ c.in-Gets.is
 
-get-within : (c : tie.In-Gets-2) → c.in-Gets.j < 128
-get-within c = omega (arith, (get-known c).0, fields (s c.before.before))
+get-within : (c : tie.In-Gets) → c.in-Gets.j < 128
+get-within c = omega (arith, (get-known c).0, fields (s c.before))
 
 field-of-requires : tie.Need-field_of-requires
-field-of-requires c κs = get-within c.before
+field-of-requires c κs = get-within c
 
 load-requires-3 : tie.Need-load-requires-in-Gets
 load-requires-3 c κs = (prepared c.before.before).formed
@@ -312,19 +312,19 @@ returns-5 c =
     let a = m in
     subst (Meets (s a.before.before)) (sym c.keep-2.ensures)
     (⊎_elim
-    (λ x. keeps-at a.before.before _ _ _ _ x.4 x.5 (went a.before.before x.3.result x.3.ensures.1 ((led a.before.before effects.Stores x.1.given.1).1 x.3.result (stored_next (t a.before.before) x.2.result x.3.result _ x.2.ensures.0 x.3.ensures.0))))
+    (λ x. keeps-at a.before.before _ _ _ _ x.state-is x.next-is (went a.before.before x.advance-state-in-Stores.result x.advance-state-in-Stores.ensures.1 ((led a.before.before effects.Stores x.in-Stores.is).1 x.advance-state-in-Stores.result (stored_next (t a.before.before) x.store.result x.advance-state-in-Stores.result _ x.store.ensures.0 x.advance-state-in-Stores.ensures.0))))
     (⊎_elim
-    (λ x. keeps-at a.before.before _ _ _ _ x.6 x.7 (went a.before.before x.5.result x.5.ensures.1
-    ((led a.before.before (effects.Gets _) x.1.given.1).1 _ x.5.result (loaded-next (t a.before.before) x.4.result x.5.result _ x.4.ensures.0 x.5.ensures.0 ∙ ap (λ z. load z (view (next (t a.before.before)))) x.3.ensures))))
+    (λ x. keeps-at a.before.before _ _ _ _ x.state-is x.next-is (went a.before.before x.advance-state-in-Gets.result x.advance-state-in-Gets.ensures.1
+    ((led a.before.before (effects.Gets _) x.in-Gets.is).1 _ x.advance-state-in-Gets.result (loaded-next (t a.before.before) x.load-in-Gets.result x.advance-state-in-Gets.result _ x.load-in-Gets.ensures.0 x.advance-state-in-Gets.ensures.0 ∙ ap (λ z. load z (view (next (t a.before.before)))) x.field_of.ensures))))
     (⊎_elim
-    (λ x. keeps-at a.before.before _ _ _ _ x.3 x.4 (went a.before.before x.2.result x.2.ensures.1 (led a.before.before effects.Goes x.1.given.1 x.2.result (jumped-next (t a.before.before) x.2.result _ x.2.ensures.0))))
+    (λ x. keeps-at a.before.before _ _ _ _ x.state-is x.next-is (went a.before.before x.jump-state.result x.jump-state.ensures.1 (led a.before.before effects.Goes x.in-Goes.is x.jump-state.result (jumped-next (t a.before.before) x.jump-state.result _ x.jump-state.ensures.0))))
     (⊎_elim
-    (λ x. keeps-at a.before.before _ _ _ _ x.3 x.4 (jumps a.before.before x.2.result x.2.ensures.1 (led a.before.before effects.Jumps x.1.given.1 x.2.result (jumped-next (t a.before.before) x.2.result _ x.2.ensures.0))))
+    (λ x. keeps-at a.before.before _ _ _ _ x.state-is x.next-is (jumps a.before.before x.jump-state-in-Jumps.result x.jump-state-in-Jumps.ensures.1 (led a.before.before effects.Jumps x.in-Jumps.is x.jump-state-in-Jumps.result (jumped-next (t a.before.before) x.jump-state-in-Jumps.result _ x.jump-state-in-Jumps.ensures.0))))
     (⊎_elim
-    (λ x. keeps-at a.before.before _ _ _ _ x.3 x.4 (forks a.before.before x.2.result x.2.ensures.1 (opened (sizes (s a.before.before)) (s a.before.before).args.blocks (t a.before.before) x.2.result (arm a.before.before) (led a.before.before effects.Opens x.1.given.1) x.2.ensures.0)))
+    (λ x. keeps-at a.before.before _ _ _ _ x.state-is x.next-is (forks a.before.before x.advance-state-in-Opens.result x.advance-state-in-Opens.ensures.1 (opened (sizes (s a.before.before)) (s a.before.before).args.blocks (t a.before.before) x.advance-state-in-Opens.result (arm a.before.before) (led a.before.before effects.Opens x.in-Opens.is) x.advance-state-in-Opens.ensures.0)))
     (⊎_elim
-    (λ x. keeps-at a.before.before _ _ _ _ x.2 x.3 (halts a.before.before (led a.before.before effects.Halts x.1.given.1)))
-    (λ x. keeps-at a.before.before _ _ _ _ x.2 x.3 (sticks a.before.before (led a.before.before effects.Stuck x.1.given.1))))))))
+    (λ x. keeps-at a.before.before _ _ _ _ x.state-is x.next-is (halts a.before.before (led a.before.before effects.Halts x.in-Halts.is)))
+    (λ x. keeps-at a.before.before _ _ _ _ x.state-is x.next-is (sticks a.before.before (led a.before.before effects.Stuck x.in-Stuck.is))))))))
     m.match-effect_of.branch-raw)
 
 pub step_spec : {M : Type 1} → statement M

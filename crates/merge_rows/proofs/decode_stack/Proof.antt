@@ -11,38 +11,38 @@ use borrow.Author.Rules.{rules}
 use Rattle.merge_rows.proofs.decode_stack.Statement.{statement}
 use Rattle.merge_rows.proofs.decode_stack.Tie as tie
 
-abbrev invariant-loop : tie.invariant-loop
-invariant-loop entries low stack₀ i₀ stack i = (i ≤ length entries) × (length stack ≡ 64) × (take i (drop low stack) ≡ decoded_cells (take i entries))
+abbrev invariant-loop-i : tie.invariant-loop-i
+invariant-loop-i entries low stack₀ i₀ stack i = (i ≤ length entries) × (length stack ≡ 64) × (take i (drop low stack) ≡ decoded_cells (take i entries))
 
-abbrev decreases-loop : tie.decreases-loop
-decreases-loop entries low stack₀ i₀ stack i = length entries - i
+abbrev decreases-loop-i : tie.decreases-loop-i
+decreases-loop-i entries low stack₀ i₀ stack i = length entries - i
 
-loop-holds : tie.Need-loop-init invariant-loop decreases-loop
+loop-holds : tie.Need-loop-i-init invariant-loop-i decreases-loop-i
 unfolding decoded_cells
 loop-holds c = (omega arith, search rules, refl)
 
-loop-again : tie.Need-loop-preserved invariant-loop decreases-loop
+loop-again : tie.Need-loop-i-preserved invariant-loop-i decreases-loop-i
 loop-again c =
-    let l = c.before.before.before in
-    let a = l.before.before.before.args in (
+    let l = c in
+    let a = l.args in (
       omega arith,
-      rw length-set l.loop.invariant.1,
-      ap (take (l.loop.i + 1)) (drop-set-add a.low l.loop.stack l.loop.i c.decode.result)
-          ∙ decoded-next a.entries.now (drop a.low l.loop.stack) l.loop.i c.decode.result (omega arith) (rw length-drop (omega (arith, l.loop.invariant.1, l.before.before.before.requires))) c.decode.ensures l.loop.invariant.2,
+      rw length-set l.loop-i.invariant.1,
+      ap (take (l.loop-i.i + 1)) (drop-set-add a.low l.loop-i.stack l.loop-i.i c.decode.result)
+          ∙ decoded-next a.entries.now (drop a.low l.loop-i.stack) l.loop-i.i c.decode.result (omega arith) (rw length-drop (omega (arith, l.loop-i.invariant.1, l.requires))) c.decode.ensures l.loop-i.invariant.2,
     )
 
-returns : tie.Need-returns invariant-loop decreases-loop
+returns : tie.Need-returns invariant-loop-i decreases-loop-i
 returns c =
-    let l = c.before in
-    let start = l.before.before.before in
-    (l.loop.invariant.1, decoded-all start.args.entries.now (drop start.args.low l.loop.stack) (length start.args.entries.now) l.loop.i (omega arith) refl (rw length-drop (omega (arith, l.loop.invariant.1, start.requires))) l.loop.invariant.2)
+    let l = c in
+    let start = l in
+    (l.loop-i.invariant.1, decoded-all start.args.entries.now (drop start.args.low l.loop-i.stack) (length start.args.entries.now) l.loop-i.i (omega arith) refl (rw length-drop (omega (arith, l.loop-i.invariant.1, start.requires))) l.loop-i.invariant.2)
 
-pub decode-stack-spec : {M : Type 1} → statement M
-decode-stack-spec =
+pub decode_stack_spec : {M : Type 1} → statement M
+decode_stack_spec =
     tie.close
     (tie.spec
-    invariant-loop
-    decreases-loop
+    invariant-loop-i
+    decreases-loop-i
     (λ c κs. search rules)
     loop-holds
     (λ c. search rules)

@@ -13,39 +13,39 @@ use borrow.Author.Rules.{rules}
 use Rattle.merge_rows.proofs.encode_fields.Statement.{statement}
 use Rattle.merge_rows.proofs.encode_fields.Tie as tie
 
-abbrev invariant-loop : tie.invariant-loop
-invariant-loop low fields₀ blocks i₀ fields i = (i ≤ length fields₀) × (length fields ≡ length fields₀) × (decoded_cells (take i fields) ≡ map confine (take i (drop low blocks)))
+abbrev invariant-loop-i : tie.invariant-loop-i
+invariant-loop-i low fields₀ blocks i₀ fields i = (i ≤ length fields₀) × (length fields ≡ length fields₀) × (decoded_cells (take i fields) ≡ map confine (take i (drop low blocks)))
 
-abbrev decreases-loop : tie.decreases-loop
-decreases-loop low fields₀ blocks i₀ fields i = length fields₀ - i
+abbrev decreases-loop-i : tie.decreases-loop-i
+decreases-loop-i low fields₀ blocks i₀ fields i = length fields₀ - i
 
-loop-holds : tie.Need-loop-init invariant-loop decreases-loop
+loop-holds : tie.Need-loop-i-init invariant-loop-i decreases-loop-i
 unfolding decoded_cells
 loop-holds c = (omega arith, refl, refl)
 
-loop-again : tie.Need-loop-preserved invariant-loop decreases-loop
+loop-again : tie.Need-loop-i-preserved invariant-loop-i decreases-loop-i
 loop-again c =
-    let at-loop = c.before.before.before in
-    let start = at-loop.before.before in
+    let at-loop = c in
+    let start = at-loop in
     let a = start.args in
-    let l = at-loop.loop in (
+    let l = at-loop.loop-i in (
       omega arith,
       rw length-set l.invariant.1,
       encoded-next l.fields (drop a.low a.t1) _ l.i c.encode.result (omega arith) (rw length-drop (omega (arith, start.requires))) (c.encode.ensures ∙ ap confine (sym (get_or-drop a.low a.t1 l.i _))) l.invariant.2,
     )
 
-returns : tie.Need-returns invariant-loop decreases-loop
+returns : tie.Need-returns invariant-loop-i decreases-loop-i
 returns c =
-    let l = c.before.loop in
-    let a = c.before.before.before.args in
+    let l = c.loop-i in
+    let a = c.args in
     encoded-all l.fields (drop a.low a.t1) _ l.i (omega arith) l.invariant.1 l.invariant.2
 
-pub encode-fields-spec : {M : Type 1} → statement M
-encode-fields-spec =
+pub encode_fields_spec : {M : Type 1} → statement M
+encode_fields_spec =
     tie.close
     (tie.spec
-    invariant-loop
-    decreases-loop
+    invariant-loop-i
+    decreases-loop-i
     loop-holds
     (λ c. search rules)
     (λ c. search rules)

@@ -9,10 +9,10 @@ use borrow.Author.Rules.{rules}
 use Rattle.merge_rows.proofs.join.Statement.{statement}
 use Rattle.merge_rows.proofs.join.Tie as tie
 
-returns : tie.Need-returns
+returns : tie.Need-returns-then-mark-eq0
 returns c =
-    let at-put = c.before.before in
-    let start = at-put.before.before.before.before.before in
+    let at-put = c in
+    let start = at-put in
     let a = start.args in
     let p = at-put.put in
     let ns = sizes_of a.code.now in
@@ -22,30 +22,30 @@ returns c =
     ∙ first-joined _ _ (arrival_of ns a.w) p.ensures.1
     ∙ ap (λ (s : Slot). join s (arrival_of ns a.w)) (sym (slot-empty ns at a.row.now m))
 
-returns-2 : tie.Need-returns-2
+returns-2 : tie.Need-returns-then-mark-eq1
 returns-2 c =
-    let at_meet = c.before.before in
-    let at-put2 = at_meet.before.before.before.before in
-    let at-if2 = at-put2.before.before in
-    let start = at-if2.before.before.before.before in
+    let at_meet = c in
+    let at-put2 = at_meet in
+    let at-if2 = at-put2 in
+    let start = at-if2 in
     let a = start.args in
-    let p = at-put2.put2 in
+    let p = at-put2.put-then-mark-eq1 in
     let ns = sizes_of a.code.now in
     let at = a.w.state.at in
-    let m : get_or a.row.now 0 0 ≡ 1 = at-if2.if2.true in
+    let m : get_or a.row.now 0 0 ≡ 1 = at-if2.if-mark-eq1.true in
     at_meet.meet.ensures at at
     ∙ next-joined _ _ _ _ (arrival_of ns a.w) p.ensures.1
     ∙ ap (λ (s : Slot). join s (arrival_of ns a.w)) (sym (slot_held ns at a.row.now m))
 
-returns-3 : tie.Need-returns-3
+returns-3 : tie.Need-returns-else-mark-eq1
 returns-3 c =
-    let a = c.before.before.before.before.args in
+    let a = c.args in
     let n : get_or a.row.now 0 0 ≡ 0 → ⊥ = search rules in
     let m : get_or a.row.now 0 0 ≡ 1 → ⊥ = search rules in
     other-joined _ _ (slot-unlike (sizes_of a.code.now) a.w.state.at a.row.now n m)
 
-pub join-spec : {M : Type 1} → statement M
-join-spec =
+pub join_spec : {M : Type 1} → statement M
+join_spec =
     tie.close
     (tie.spec
     (λ c. search rules)

@@ -11,34 +11,34 @@ use borrow.Author.Rules.{rules}
 use Rattle.merge_rows.proofs.meet.Statement.{statement}
 use Rattle.merge_rows.proofs.meet.Tie as tie
 
-returns : tie.Need-returns
+returns : tie.Need-returns-then-not-merge_states
 returns c =
-    let at-merge-states = c.before.before.before in
-    let start = at-merge-states.before.before.before.before in
-    let m = at-merge-states.merge-states in
+    let at-merge-states = c in
+    let start = at-merge-states in
+    let m = at-merge-states.merge_states in
     let n : length m.new.0 ≡ 197 = omega arith in
     λ x y.
     row-unlike _ x m.new.0 _ _ n
-    (ap (λ (b : Bool). of_states (sizes_of start.args.code.now) x b m.new.0) (sym (not-true m.result c.if1.true)) ∙ m.ensures.0 x y)
+    (ap (λ (b : Bool). of_states (sizes_of start.args.code.now) x b m.new.0) (sym (not-true m.result c.if-not-merge_states.true)) ∙ m.ensures.0 x y)
 
-slice-write-row-3 : tie.Need-slice-write-row-3
+slice-write-row-3 : tie.Need-bounds-row-3-2
 slice-write-row-3 c = simp length-set (omega arith)
 
-returns-2 : tie.Need-returns-2
+returns-2 : tie.Need-returns
 returns-2 c =
-    let at-larger = c.before.before.before in
-    let at-if1 = at-larger.before.before.before in
-    let at-merge-states = at-if1.before.before.before in
-    let start = at-merge-states.before.before.before.before in
+    let at-larger = c in
+    let at-if1 = at-larger in
+    let at-merge-states = at-if1 in
+    let start = at-merge-states in
     let a = start.args in
-    let m = at-merge-states.merge-states in
+    let m = at-merge-states.merge_states in
     let n : length m.new.0 ≡ 197 = omega arith in
     λ x y.
-    row-met _ x a.row.now m.new.0 a.came.now _ _ _ n m.ensures.1 start.requires.3 at-larger.larger.ensures c.larger2.ensures
-    (ap (λ (b : Bool). of_states (sizes_of start.args.code.now) x b m.new.0) (sym (not-false m.result at-if1.if1.false)) ∙ m.ensures.0 x y)
+    row-met _ x a.row.now m.new.0 a.came.now _ _ _ n m.ensures.1 start.requires.3 at-larger.larger-cycles.ensures c.larger-words.ensures
+    (ap (λ (b : Bool). of_states (sizes_of start.args.code.now) x b m.new.0) (sym (not-false m.result at-if1.if-not-merge_states.false)) ∙ m.ensures.0 x y)
 
-pub meet-spec : {M : Type 1} → statement M
-meet-spec =
+pub meet_spec : {M : Type 1} → statement M
+meet_spec =
     tie.close
     (tie.spec
     (λ c κs. search rules)

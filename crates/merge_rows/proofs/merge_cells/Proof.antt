@@ -14,56 +14,56 @@ use borrow.Author.Rules.{rules}
 use Rattle.merge_rows.proofs.merge_cells.Statement.{statement}
 use Rattle.merge_rows.proofs.merge_cells.Tie as tie
 
-abbrev invariant-loop : tie.invariant-loop
-invariant-loop held₀ came i₀ held i = (i ≤ length came) × (length held ≡ length held₀) × Partly merge_cells (decoded_cell 0) (merge_lists merge_cells (decoded_cells held₀) (decoded_cells came)) i (decoded_cells held) (decoded_cells came)
+abbrev invariant-loop-i : tie.invariant-loop-i
+invariant-loop-i held₀ came i₀ held i = (i ≤ length came) × (length held ≡ length held₀) × Partly merge_cells (decoded_cell 0) (merge_lists merge_cells (decoded_cells held₀) (decoded_cells came)) i (decoded_cells held) (decoded_cells came)
 
-abbrev decreases-loop : tie.decreases-loop
-decreases-loop held₀ came i₀ held i = length came - i
+abbrev decreases-loop-i : tie.decreases-loop-i
+decreases-loop-i held₀ came i₀ held i = length came - i
 
-loop-holds : tie.Need-loop-init invariant-loop decreases-loop
+loop-holds : tie.Need-loop-i-init invariant-loop-i decreases-loop-i
 loop-holds c = (omega arith, refl, none_made merge_cells (decoded_cell 0) _ _)
 
-same_length : tie.Need-same-length invariant-loop decreases-loop
-same_length c = c.before.before.before.before.before.before.loop.invariant.1
+same_length : tie.Need-shape_of-held-in_default invariant-loop-i decreases-loop-i
+same_length c = c.loop-i.invariant.1
 
-returns : tie.Need-returns invariant-loop decreases-loop
+returns : tie.Need-returns-in_default invariant-loop-i decreases-loop-i
 unfolding of_merged
 returns c =
-    let m = c.before.before in
-    let at-loop = m.before.before.before.before in
-    let l = at-loop.loop in
-    let came = at-loop.before.before.before.args.came.now in
-    let e = ap of_merged (sym c.enum_told.given.1) ∙ m.merge-numbers.ensures ∙ sym (ap₂ merge_cells (cells_at l.held l.i) (cells_at came l.i)) in
+    let m = c in
+    let at-loop = m in
+    let l = at-loop.loop-i in
+    let came = at-loop.args.came.now in
+    let e = ap of_merged (sym c.in_default.is) ∙ m.merge_numbers-merged.ensures ∙ sym (ap₂ merge_cells (cells_at l.held l.i) (cells_at came l.i)) in
     sym (none-merged merge_cells (decoded_cell 0) _ (decoded_cells l.held) (decoded_cells came) l.i (rw cells-length (omega arith)) (rw cells-length (omega arith)) e l.invariant.2)
 
-loop-again : tie.Need-loop-preserved invariant-loop decreases-loop
+loop-again : tie.Need-loop-i-preserved invariant-loop-i decreases-loop-i
 unfolding of_merged
 loop-again c =
-    let m = c.before.before.before in
-    let at-loop = m.before.before.before.before in
-    let l = at-loop.loop in
-    let came = at-loop.before.before.before.args.came.now in
-    let e = ap of_merged (sym c.before.merged.given.1) ∙ m.merge-numbers.ensures ∙ sym (ap₂ merge_cells (cells_at l.held l.i) (cells_at came l.i)) in (
+    let m = c in
+    let at-loop = m in
+    let l = at-loop.loop-i in
+    let came = at-loop.args.came.now in
+    let e = ap of_merged (sym c.in-Is.is) ∙ m.merge_numbers-merged.ensures ∙ sym (ap₂ merge_cells (cells_at l.held l.i) (cells_at came l.i)) in (
       omega arith,
       rw length-set l.invariant.1,
       rw cells-set
           (one-made merge_cells (decoded_cell 0) _ (decoded_cells l.held) (decoded_cells came) l.i _ (rw cells-length (omega arith)) (rw cells-length (omega arith)) e l.invariant.2),
     )
 
-same-length-2 : tie.Need-same-length-2 invariant-loop decreases-loop
-same-length-2 c = c.before.loop.invariant.1
+same-length-2 : tie.Need-shape_of-held invariant-loop-i decreases-loop-i
+same-length-2 c = c.loop-i.invariant.1
 
-returns-2 : tie.Need-returns-2 invariant-loop decreases-loop
+returns-2 : tie.Need-returns invariant-loop-i decreases-loop-i
 returns-2 c =
-    let l = c.before.loop in
+    let l = c.loop-i in
     sym (all_made merge_cells (decoded_cell 0) _ (decoded_cells l.held) _ l.i (rw cells-length (omega arith)) (rw cells-length (omega arith)) l.invariant.2)
 
-pub merge-cells-spec : {M : Type 1} → statement M
-merge-cells-spec =
+pub merge_cells_spec : {M : Type 1} → statement M
+merge_cells_spec =
     tie.close
     (tie.spec
-    invariant-loop
-    decreases-loop
+    invariant-loop-i
+    decreases-loop-i
     loop-holds
     (λ c. search rules)
     (λ c. search rules)

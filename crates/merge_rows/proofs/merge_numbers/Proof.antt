@@ -12,32 +12,32 @@ use borrow.Author.Rules.{rules}
 use Rattle.merge_rows.proofs.merge_numbers.Statement.{statement}
 use Rattle.merge_rows.proofs.merge_numbers.Tie as tie
 
-returns : tie.Need-returns
+returns : tie.Need-returns-then-x-y
 unfolding of_merged
 returns c =
-    sym (merge-same (decoded_cell c.before.args.x)) ∙ ap (λ (n : ℕ). merge_cells (decoded_cell c.before.args.x) (decoded_cell n)) c.if1.true
+    sym (merge-same (decoded_cell c.args.x)) ∙ ap (λ (n : ℕ). merge_cells (decoded_cell c.args.x) (decoded_cell n)) c.if-x-y.true
 
-merge-requires : tie.Need-merge-requires
-merge-requires c κs = (decoded-confined _ c.before.decode.ensures, decoded-confined _ c.decode2.ensures)
+merge-requires : tie.Need-merge-merged-requires
+merge-requires c κs = (decoded-confined _ c.decode.ensures, decoded-confined _ c.decode-2.ensures)
 
-returns-2 : tie.Need-returns-2
+returns-2 : tie.Need-returns-in_default
 unfolding of_merged
 returns-2 c =
-    let m = c.before.before in
-    ap of_operand (sym c.enum_told.given.1) ∙ m.merge.ensures ∙ ap₂ merge_cells m.before.before.decode.ensures m.before.decode2.ensures
+    let m = c in
+    ap of_operand (sym c.in_default.is) ∙ m.merge-merged.ensures ∙ ap₂ merge_cells m.decode.ensures m.decode-2.ensures
 
-returns-3 : tie.Need-returns-3
+returns-3 : tie.Need-returns
 unfolding of_merged
 returns-3 c =
-    let at-merged = c.before.before in
-    let m = at-merged.before.before in
-    let one = m.before.before.decode.ensures in
-    let two = m.before.decode2.ensures in
-    let made = ap of_operand (sym at-merged.merged.given.1) ∙ m.merge.ensures in
-    ap done (c.encode.ensures ∙ (merged-confined (decoded-confined _ one) (decoded-confined _ two) made).stays) ∙ made ∙ ap₂ merge_cells one two
+    let at-merged = c in
+    let m = at-merged in
+    let one = m.decode.ensures in
+    let two = m.decode-2.ensures in
+    let made = ap of_operand (sym at-merged.in-Is.is) ∙ m.merge-merged.ensures in
+    ap done (c.encode-z.ensures ∙ (merged-confined (decoded-confined _ one) (decoded-confined _ two) made).stays) ∙ made ∙ ap₂ merge_cells one two
 
-pub merge-numbers-spec : {M : Type 1} → statement M
-merge-numbers-spec =
+pub merge_numbers_spec : {M : Type 1} → statement M
+merge_numbers_spec =
     tie.close
     (tie.spec
     returns

@@ -7,28 +7,28 @@ use Rattle.merge_rows.proofs.take.Statement.{statement}
 use Rattle.merge_rows.proofs.take.Tie as tie
 
 -- at most 64 places are unused
-few : (u : tie.After-unused) → u.unused.result ≤ 64
-few u = rw u.unused.ensures (unused-most _)
+few : (u : tie.After-unused-free) → u.unused-free.result ≤ 64
+few u = rw u.unused-free.ensures (unused-most _)
 
-decode-stack-requires : tie.Need-decode-stack-requires
+decode-stack-requires : tie.Need-decode_stack-stack-requires
 decode-stack-requires c κs = search (rules, few c.before)
 
 returns : tie.Need-returns
 returns c =
-    let d = c.before.before in
-    let s = d.before.before in
-    let u = s.before.before in
-    let e = u.before.before in
-    let start = e.before.before.before in
+    let d = c in
+    let s = d in
+    let u = s in
+    let e = u in
+    let start = e in
     let a = start.args in
-    let free = u.unused.ensures in
-    let stack = s.decode-stack.ensures in
-    let blocks = d.decode-fields.ensures in (
-      λ ns. take-holds a.at a.row.now _ _ _ _ start.requires free stack.0 stack.1 blocks ns e.decode.ensures,
+    let free = u.unused-free.ensures in
+    let stack = s.decode_stack-stack.ensures in
+    let blocks = d.decode_fields-blocks.ensures in (
+      λ ns. take-holds a.at a.row.now _ _ _ _ start.requires free stack.0 stack.1 blocks ns e.decode-accu.ensures,
       (
         (
           take-formed a.at a.row.now _ _ _ _ start.requires free stack.0 stack.1 blocks,
-          λ ns. take-numeric a.at a.row.now _ _ _ _ start.requires free stack.0 stack.1 blocks ns e.decode.ensures,
+          λ ns. take-numeric a.at a.row.now _ _ _ _ start.requires free stack.0 stack.1 blocks ns e.decode-accu.ensures,
         ),
         refl,
       ),
