@@ -1,6 +1,7 @@
 -- The answer of a public function, what the lent memory then holds, and the same in the code's type.
 -- (document 01, Refusal table; demands 1 and 2)
-use Rattle.refusals.specs.Library.{ℕ, ◌≤◌, ltb, length, take, drop, cond, List, ◌++◌, Option, some, none, ◌≡◌}
+use Rattle.std.specs.Prelude.{◌≤◌, ◌++◌, ◌≡◌}
+use Rattle.refusals.specs.Library.{ℕ, ltb, length, take, drop, cond, List, Option, some, none}
 use Rattle.file_format.specs.Terms.{Refusal, ReportMemory}
 use Rattle.refusals.specs.declared.Acceptance.{Acceptance}
 use Rattle.refusals.specs.declared.Acceptance.TheVariants as verdicts

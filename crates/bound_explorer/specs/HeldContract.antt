@@ -1,5 +1,6 @@
 -- The explorer's contract, by the names of its parts.
-use Rattle.refusals.specs.Library.{ℕ, ◌+◌, ◌*◌, ◌^◌, ◌≤◌, ◌<◌, ℤ, List, ◌≡◌}
+use Rattle.std.specs.Prelude.{◌+◌, ◌*◌, ◌^◌, ◌≤◌, ◌<◌, ◌≡◌}
+use Rattle.refusals.specs.Library.{ℕ, ℤ, List}
 use Rattle.bound_theory.specs.Terms.{Report, begin, after, Cell, unknown, Allowed, State, Code, step, Cellwise}
 use Rattle.machine_state.specs.HeldState.{WellFormed, whole}
 use Rattle.machine_state.specs.declared.State as states

@@ -1,5 +1,6 @@
 -- What the two ways of an unknown branch come to.
-use Rattle.refusals.specs.Library.{ℕ, ◌+◌, ◌-◌, ◌<◌, List, ◌≡◌}
+use Rattle.std.specs.Prelude.{◌+◌, ◌-◌, ◌<◌, ◌≡◌}
+use Rattle.refusals.specs.Library.{ℕ, List}
 use Rattle.bound_theory.specs.Terms.{Openings, Cell, Code}
 use Rattle.refusals.specs.declared.Acceptance.TheVariants.{Accepted}
 use Rattle.machine.specs.Machine.{index}

@@ -1,5 +1,6 @@
 -- What the explorer's answer stands for: the verdict of the bound, and how many steps were walked.
-use Rattle.refusals.specs.Library.{ℕ, zero, suc, ◌+◌, ◌-◌, ◌*◌, ◌≤◌, max, leb, cond, List, [], ◌∷◌, ◌≡◌}
+use Rattle.std.specs.Prelude.{◌+◌, ◌-◌, ◌*◌, ◌≤◌, ◌∷◌, ◌≡◌}
+use Rattle.refusals.specs.Library.{ℕ, zero, suc, max, leb, cond, List, []}
 use Rattle.bound_theory.specs.Terms.{Refusal, Decision, N, T, Report, Verdict, accepted, refused, Price}
 use Rattle.refusals.specs.declared.Acceptance.TheVariants.{Accepted, Refused}
 use Rattle.refusals.specs.declared.Acceptance as code

@@ -1,5 +1,6 @@
 -- What is promised of the bound and of the run, as statements. The file Theorems of the crate `theorems` proves each by its name.
-use Rattle.refusals.specs.Library.{ℕ, suc, ◌+◌, ◌≤◌, ◌<◌, ℤ, length, true, false, List, ◌↔◌, ◌≡◌}
+use Rattle.std.specs.Prelude.{◌+◌, ◌≤◌, ◌<◌, ◌↔◌, ◌≡◌}
+use Rattle.refusals.specs.Library.{ℕ, suc, ℤ, length, true, false, List}
 use Rattle.bound_theory.specs.Terms.{Refusal, Stuck, Spent, Report, Verdict, accepted, refused, bound, opening_limit, Move, cost, word_sum, Transition, CostMax, Run}
 use Rattle.bound_theory.specs.Terms.{begin, after, run, run_is_stuck, Try, done, Cell, unknown, Allowed, Refines, nth, State, Code, Next, step, height, Cellwise}
 use Rattle.bound_theory.specs.Terms.{Forward}

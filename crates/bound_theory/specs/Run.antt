@@ -1,5 +1,6 @@
 -- A run of the plain machine. (document 01, Interrupted runs)
-use Rattle.refusals.specs.Library.{ℕ, zero, suc, ◌+◌, max, ltb, ℤ, pos, Bool, true, false, cond, List, [], ◌∷◌, ◌≡◌}
+use Rattle.std.specs.Prelude.{◌+◌, ◌∷◌, ◌≡◌}
+use Rattle.refusals.specs.Library.{ℕ, zero, suc, max, ltb, ℤ, pos, Bool, true, false, cond, List, []}
 use Rattle.machine.specs.Terms.{Try, done, stuck, Cell, exactly, State, Code, Price, Next, stops, goes, opens, step, height}
 use Rattle.refusals.specs.declared.Refusal.TheVariants.{Stuck, Spent}
 use Rattle.machine.specs.Machine.{takes_answer}

@@ -1,6 +1,7 @@
 -- Document 000 over an action on states: nondeterministic traces (Definition 7), the maximum cost (Definition 5), the maximum trace
 -- (Definition 11); and, apart from any fuel, which step of the tree has which number.
-use Rattle.refusals.specs.Library.{ℕ, suc, ◌+◌, ◌≤◌, ◌<◌, max, List, [], ◌∷◌, ◌++◌, ◌≡◌}
+use Rattle.std.specs.Prelude.{◌+◌, ◌≤◌, ◌<◌, ◌∷◌, ◌++◌, ◌≡◌}
+use Rattle.refusals.specs.Library.{ℕ, suc, max, List, []}
 use Rattle.refusals.specs.declared.Refusal.{Refusal}
 use Rattle.refusals.specs.declared.Refusal.TheVariants.{Stuck, Openings, Spent}
 use Rattle.cells.specs.Try.{Try, stuck, done}

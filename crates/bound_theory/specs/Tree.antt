@@ -1,6 +1,7 @@
 -- The tree of steps from a state, and the bound's verdict and report on it. (document 01, Exploring)
 -- Everything is over an action on states: in the bound it is `step c unknown`.
-use Rattle.refusals.specs.Library.{ℕ, zero, suc, ◌+◌, max, leb, Bool, true, false, List, [], ◌∷◌, ◌++◌}
+use Rattle.std.specs.Prelude.{◌+◌, ◌∷◌, ◌++◌}
+use Rattle.refusals.specs.Library.{ℕ, zero, suc, max, leb, Bool, true, false, List, []}
 use Rattle.machine.specs.Terms.{Try, done, stuck, unknown, State, Code, Price, Next, stops, goes, opens, step, height}
 use Rattle.refusals.specs.declared.Refusal.{Refusal}
 use Rattle.refusals.specs.declared.Refusal.TheVariants.{Stuck, Openings, Spent}

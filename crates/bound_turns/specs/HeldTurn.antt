@@ -1,5 +1,6 @@
 -- What a turn of the explorer's loop comes to: of the registers alone, and, with the cells of the stack and of the blocks, the step that it is.
-use Rattle.refusals.specs.Library.{ℕ, ◌+◌, ◌-◌, ◌≤◌, ◌<◌, eqb, ltb, leb, ℤ, pos, length, get_or, set, Bool, true, false, cond, List, ◌≡◌}
+use Rattle.std.specs.Prelude.{◌+◌, ◌-◌, ◌≤◌, ◌<◌, ◌≡◌}
+use Rattle.refusals.specs.Library.{ℕ, eqb, ltb, leb, ℤ, pos, length, get_or, set, Bool, true, false, cond, List}
 use Rattle.machine.specs.Terms.{Try, done, stuck, ◌>>=◌, Cell, IsZero, IsNonzero, IsUnknown, unknown, exactly, condition, Operation, Nothing, Access, Drop, Assign}
 use Rattle.machine.specs.Terms.{Constant, Alter, Combine, GetField, SetField, Branch, BranchIf, BranchIfNot, Call, Stop, Code, Instruction, Price, Next, stops, goes}
 use Rattle.machine.specs.Terms.{opens, fetch}

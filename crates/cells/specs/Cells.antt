@@ -1,7 +1,7 @@
 -- Cells, and all that the machine does with them: nothing above this layer looks inside a cell. (document 01, Cells and machine; document
 -- 02 §12)
-use Rattle.refusals.specs.Library.{ℕ, ◌+◌, ◌-◌, eqb, ℤ, pos, nat_abs, ◌+ℤ◌, ◌-ℤ◌, le_z, lt_z, Bool, true, cond, not, ◌&&◌}
-use Rattle.std.specs.Prelude.{neg_ℤ}
+use Rattle.refusals.specs.Library.{ℕ, eqb, ℤ, pos, nat_abs, le_z, lt_z, Bool, true, cond, not}
+use Rattle.std.specs.Prelude.{neg_ℤ, ◌+◌, ◌-◌, ◌+ℤ◌, ◌-ℤ◌, ◌&&◌}
 use Rattle.numbers.specs.Numbers.{bits, modulus, wrap, same, holds, bit, within, numbers}
 use Rattle.numbers.specs.declared.Comparison.{Comparison}
 use Rattle.numbers.specs.declared.Comparison.TheVariants.{Equal, Unequal, Less, AtMost, Greater, AtLeast}

@@ -1,5 +1,5 @@
 -- Cells whose numbers all have as many bits as numbers have.
-use Rattle.refusals.specs.Library.{◌≡◌}
+use Rattle.std.specs.Prelude.{◌≡◌}
 use Rattle.cells.specs.declared.Value.{Value}
 use Rattle.cells.specs.declared.Value.TheVariants.{Range, Handle}
 use Rattle.cells.specs.declared.Cell.{Cell}

@@ -1,5 +1,6 @@
 -- What the operations on ranges compute with in 64 bits.
-use Rattle.refusals.specs.Library.{ℕ, ◌^◌, ◌<◌, ℤ, mag}
+use Rattle.std.specs.Prelude.{◌^◌, ◌<◌}
+use Rattle.refusals.specs.Library.{ℕ, ℤ, mag}
 
 -- the least result, and how many more there are: neither leaves 64 bits when they are added
 pub record Small (low : ℤ) (more : ℕ) : Type 0 where

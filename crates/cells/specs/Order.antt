@@ -1,5 +1,6 @@
 -- The erasure order of cells, and which plain cells a cell allows.
-use Rattle.refusals.specs.Library.{ℕ, ℤ, le_z, true, List, [], ◌∷◌, ◌≡◌}
+use Rattle.std.specs.Prelude.{◌∷◌, ◌≡◌}
+use Rattle.refusals.specs.Library.{ℕ, ℤ, le_z, true, List, []}
 use Rattle.cells.specs.declared.Cell.{Cell}
 use Rattle.cells.specs.Cells.{range, high, handle}
 

@@ -1,5 +1,6 @@
 -- What is promised of the operations on ranges, as statements. The file Theorems in proofs/ proves each by its name. (document 02 §12)
-use Rattle.refusals.specs.Library.{ℕ, ◌+◌, ◌<◌, ℤ, pos, true, false, ◌≡◌}
+use Rattle.std.specs.Prelude.{◌+◌, ◌<◌, ◌≡◌}
+use Rattle.refusals.specs.Library.{ℕ, ℤ, pos, true, false}
 use Rattle.numbers.specs.Numbers.{IsNumber, holds}
 use Rattle.numbers.specs.declared.Comparison.{Comparison}
 use Rattle.cells.specs.declared.Unary.{Unary}

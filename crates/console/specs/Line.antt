@@ -1,5 +1,6 @@
 -- What a program prints for an answer of the analyser's functions.
-use Rattle.refusals.specs.Library.{ℕ, ◌≤◌, length, take, List}
+use Rattle.std.specs.Prelude.{◌≤◌}
+use Rattle.refusals.specs.Library.{ℕ, length, take, List}
 use Rattle.answers.specs.Answers.{reported, refused}
 use Rattle.answers.specs.declared.Answer.{Answer}
 use Rattle.answers.specs.declared.Answer.TheVariants.{Reported, Refused}

@@ -1,5 +1,6 @@
 -- Whether what was read is a whole text.
-use Rattle.refusals.specs.Library.{ℕ, ℤ, pos, non_neg, length, Bool, true, List, ◌⊎◌, ◌≡◌}
+use Rattle.std.specs.Prelude.{◌⊎◌, ◌≡◌}
+use Rattle.refusals.specs.Library.{ℕ, ℤ, pos, non_neg, length, Bool, true, List}
 
 -- of n bytes in the memory, by what the last read answered: -1 where it failed, 0 at the end of the input
 pub record Whole (n : ℕ) (is_whole : Bool) (last : ℤ) (memory : List ℕ) : Type 0 where

@@ -1,5 +1,6 @@
 -- What is promised of the bytes of a decision, as statements. The contract of `decide` has each by its name.
-use Rattle.refusals.specs.Library.{ℕ, ◌≤◌, ◌<◌, ℤ, true, false, List, ◌≡◌}
+use Rattle.std.specs.Prelude.{◌≤◌, ◌<◌, ◌≡◌}
+use Rattle.refusals.specs.Library.{ℕ, ℤ, true, false, List}
 use Rattle.bound_theory.specs.Terms.{Refusal, Report, accepted, refused, bound, cost, CostMax, Run, begin, after, run_is_stuck, unknown, Allowed, State, Code, step, height}
 use Rattle.bound_theory.specs.Terms.{Cellwise}
 use Rattle.answers.specs.Terms.{Routine, routine, read_bound, reported}

@@ -1,5 +1,6 @@
 -- What is decided of a routine by the cycles of a bound and by TICK, and how that is printed. (docs/ROUTINE-FILE.md, The decision)
-use Rattle.refusals.specs.Library.{ℕ, ltb, cond, List, ◌++◌, ◌≡◌}
+use Rattle.std.specs.Prelude.{◌++◌, ◌≡◌}
+use Rattle.refusals.specs.Library.{ℕ, ltb, cond, List}
 use Rattle.file_format.specs.Terms.{bytes, decimal}
 use Rattle.bound_theory.specs.Tree.{Report}
 use Rattle.report.specs.Report.{space, feed}

@@ -1,5 +1,6 @@
 -- What the internal functions are handed.
-use Rattle.refusals.specs.Library.{ℕ, ◌≤◌, length, List, ◌≡◌}
+use Rattle.std.specs.Prelude.{◌≤◌, ◌≡◌}
+use Rattle.refusals.specs.Library.{ℕ, length, List}
 use Rattle.bound_theory.specs.Tree.{Report}
 use Rattle.bound_figures.specs.declared.Found.{Found}
 use Rattle.answers.specs.Answers.{Answer, reported}

@@ -1,6 +1,7 @@
 -- What is promised of the bytes of a decision by cases, in terms of both texts. The contract of `decide_split` has each by its name, and
 -- `proofs/Theorems` proves what is said of all texts.
-use Rattle.refusals.specs.Library.{ℕ, ◌<◌, List, ◌↔◌, ◌≡◌}
+use Rattle.std.specs.Prelude.{◌<◌, ◌↔◌, ◌≡◌}
+use Rattle.refusals.specs.Library.{ℕ, List}
 use Rattle.answers.specs.Terms.{Routine, read_bound, reported, refused, Refusal}
 use Rattle.refusals.specs.declared.Acceptance.TheVariants.{Accepted}
 use Rattle.bound_theory.specs.Tree.{Report, accepted}

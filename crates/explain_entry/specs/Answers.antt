@@ -1,5 +1,6 @@
 -- The answer of an explanation to a routine file and to a length of lent memory: the steps of the worst path.
-use Rattle.refusals.specs.Library.{ℕ, length, List, ◌++◌}
+use Rattle.std.specs.Prelude.{◌++◌}
+use Rattle.refusals.specs.Library.{ℕ, length, List}
 use Rattle.bound_theory.specs.Terms.{Report, Verdict, bound, Move, unknown, step}
 use Rattle.answers.specs.Terms.{body, Routine, read_bound, Answer, reported, refused, lending, of_reading, bytes, Line, lines}
 use Rattle.bound_theory.specs.Tree as verdicts

@@ -1,5 +1,6 @@
 -- What the internal functions are handed.
-use Rattle.refusals.specs.Library.{ℕ, ◌≤◌, length, List, ◌≡◌}
+use Rattle.std.specs.Prelude.{◌≤◌, ◌≡◌}
+use Rattle.refusals.specs.Library.{ℕ, length, List}
 use Rattle.bound_theory.specs.Terms.{Report, unknown, step}
 use Rattle.answers.specs.Terms.{reported, Line}
 use Rattle.machine_state.specs.HeldProgram.{first_address_of, lines_in}

@@ -1,5 +1,6 @@
 -- What an explanation says, as statements. `proofs/Theorems` proves each by its name.
-use Rattle.refusals.specs.Library.{ℕ, suc, List, [], ◌∷◌, ◌++◌, ◌≡◌}
+use Rattle.std.specs.Prelude.{◌∷◌, ◌++◌, ◌≡◌}
+use Rattle.refusals.specs.Library.{ℕ, suc, List, []}
 use Rattle.bound_theory.specs.Terms.{Decision, Report, accepted, bound, Move, word_sum, Transition, done, unknown, nth, Code, step}
 use Rattle.answers.specs.Terms.{body, Routine, routine, read_bound, reported, lines}
 use Rattle.report.specs.Report.{bound_text}

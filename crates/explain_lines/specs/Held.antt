@@ -1,5 +1,6 @@
 -- What the internal functions are handed.
-use Rattle.refusals.specs.Library.{ℕ, ◌≤◌, length, drop, List, ◌≡◌}
+use Rattle.std.specs.Prelude.{◌≤◌, ◌≡◌}
+use Rattle.refusals.specs.Library.{ℕ, length, drop, List}
 use Rattle.text.specs.Text.{lines}
 use Rattle.explain_lines.specs.declared.Cursor.{Cursor}
 

@@ -1,5 +1,6 @@
 -- The lines of a walk: one for each of its moves, `AT OP ARG CYCLES WORDS DEPTH WAY`.
-use Rattle.refusals.specs.Library.{ℕ, ◌+◌, ◌-◌, get_or, List, [], ◌∷◌, ◌++◌}
+use Rattle.std.specs.Prelude.{◌+◌, ◌-◌, ◌∷◌, ◌++◌}
+use Rattle.refusals.specs.Library.{ℕ, get_or, List, []}
 use Rattle.bound_theory.specs.Terms.{Decision, Move, height}
 use Rattle.text.specs.Text.{Line, no_line}
 use Rattle.text_decimals.specs.Decimal.{decimal}

@@ -1,6 +1,7 @@
 -- The answer of an explanation of the merging bound to a routine file and to a length of lent memory: a costliest way through the merged
 -- states.
-use Rattle.refusals.specs.Library.{ℕ, List, ◌++◌}
+use Rattle.std.specs.Prelude.{◌++◌}
+use Rattle.refusals.specs.Library.{ℕ, List}
 use Rattle.answers.specs.Terms.{body, Routine, read_bound, Answer, reported, refused, lending, of_reading, Line, lines}
 use Rattle.bound_theory.specs.Tree.{Report, Verdict}
 use Rattle.bound_theory.specs.Tree as verdicts

@@ -1,5 +1,6 @@
 -- What the internal functions are handed.
-use Rattle.refusals.specs.Library.{ℕ, ◌≤◌, length, List, ◌≡◌}
+use Rattle.std.specs.Prelude.{◌≤◌, ◌≡◌}
+use Rattle.refusals.specs.Library.{ℕ, length, List}
 use Rattle.answers.specs.Terms.{reported, Line}
 use Rattle.machine.specs.Forward.{Forward}
 use Rattle.machine.specs.Targets.{Closed}

@@ -1,5 +1,6 @@
 -- What an explanation of the merging bound says, as statements. `proofs/Theorems` proves each by its name.
-use Rattle.refusals.specs.Library.{ℕ, ◌≤◌, List, ◌++◌, ◌↔◌, ◌≡◌}
+use Rattle.std.specs.Prelude.{◌≤◌, ◌++◌, ◌↔◌, ◌≡◌}
+use Rattle.refusals.specs.Library.{ℕ, List}
 use Rattle.bound_theory.specs.Terms.{Report, accepted, Move, word_sum}
 use Rattle.answers.specs.Terms.{body, Routine, routine, read_bound, reported, refused, Refusal, lines}
 use Rattle.merge_theory.specs.Merge.{merged}

@@ -1,5 +1,6 @@
 -- The moves of a way by what is kept for their goals, and the lines that are made of it.
-use Rattle.refusals.specs.Library.{ℕ, ◌+◌, ◌<◌, length, get_or, List, [], ◌∷◌, ◌++◌, ◌≡◌}
+use Rattle.std.specs.Prelude.{◌+◌, ◌<◌, ◌∷◌, ◌++◌, ◌≡◌}
+use Rattle.refusals.specs.Library.{ℕ, length, get_or, List, []}
 use Rattle.text.specs.Text.{Line, no_line}
 use Rattle.bound_theory.specs.Traces.{Move}
 use Rattle.merge_origins.specs.HeldOrigins.{last_at, IsLast}

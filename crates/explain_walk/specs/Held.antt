@@ -1,5 +1,6 @@
 -- What a step of the walk by value stands for.
-use Rattle.refusals.specs.Library.{ℕ, ◌<◌, Bool, true, false, cond, List, [], ◌∷◌, ◌≡◌}
+use Rattle.std.specs.Prelude.{◌<◌, ◌∷◌, ◌≡◌}
+use Rattle.refusals.specs.Library.{ℕ, Bool, true, false, cond, List, []}
 use Rattle.bound_theory.specs.Terms.{Decision, Move, move, Cell, unknown, State, Code, Price, step}
 use Rattle.machine_state.specs.HeldState.{WellFormed, whole}
 use Rattle.machine_state.specs.declared.State as states

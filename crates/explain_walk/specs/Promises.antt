@@ -1,5 +1,6 @@
 -- What the walk along PATH is, as a statement. `proofs/Theorems` proves it by its name.
-use Rattle.refusals.specs.Library.{ℕ, suc, length, List, ◌≡◌}
+use Rattle.std.specs.Prelude.{◌≡◌}
+use Rattle.refusals.specs.Library.{ℕ, suc, length, List}
 use Rattle.bound_theory.specs.Terms.{Report, accepted, bound, Move, cost, Transition, done, unknown, nth, State, Code, step, Forward}
 use Rattle.bound_theory.specs.Traces.{decisions, RunMax}
 use Rattle.explain_walk.specs.Walk.{follow}

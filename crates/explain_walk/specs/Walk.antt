@@ -1,5 +1,6 @@
 -- The walk along a path: the steps from a state, with a decision at each unknown branch.
-use Rattle.refusals.specs.Library.{ℕ, zero, suc, List, [], ◌∷◌}
+use Rattle.std.specs.Prelude.{◌∷◌}
+use Rattle.refusals.specs.Library.{ℕ, zero, suc, List, []}
 use Rattle.bound_theory.specs.Terms.{Decision, N, T, Move, move, Try, done, stuck, State, Next, stops, goes, opens}
 
 -- the moves from s by the decisions ds, by what the step from s leads to; `below` gives those after it. A walk ends with STOP; it ends too

@@ -1,5 +1,6 @@
 -- What a check of a text says, by the rows of the refusal table.
-use Rattle.refusals.specs.Library.{ℕ, eqb, ltb, Bool, cond, List, ◌≡◌}
+use Rattle.std.specs.Prelude.{◌≡◌}
+use Rattle.refusals.specs.Library.{ℕ, eqb, ltb, Bool, cond, List}
 use Rattle.refusals.specs.declared.Acceptance.{Acceptance}
 use Rattle.refusals.specs.declared.Acceptance.TheVariants.{Accepted, Refused}
 use Rattle.text.specs.Text.{Line}

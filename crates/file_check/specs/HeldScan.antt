@@ -1,5 +1,6 @@
 -- What the tests of a row look at, and the lines as a scan meets them.
-use Rattle.refusals.specs.Library.{ℕ, ◌+◌, ◌-◌, ◌≤◌, ◌<◌, eqb, ltb, leb, length, get_or, Bool, true, false, cond, ◌&&◌, List, ◌⊎◌, ◌≡◌}
+use Rattle.std.specs.Prelude.{◌+◌, ◌-◌, ◌≤◌, ◌<◌, ◌&&◌, ◌⊎◌, ◌≡◌}
+use Rattle.refusals.specs.Library.{ℕ, eqb, ltb, leb, length, get_or, Bool, true, false, cond, List}
 use Rattle.text.specs.Text.{bytes, Line, equals}
 use Rattle.file_format.specs.declared.Section.TheVariants.{Kinds as kinds, Primitives as primitives, Fields as fields, Answers as answers}
 use Rattle.file_format.specs.declared.Role.TheVariants.{Names as names, Values as values, Code as code, Answer as answer}

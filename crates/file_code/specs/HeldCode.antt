@@ -1,5 +1,6 @@
 -- What the words of a code line are, and what the tests of the rows come to on them.
-use Rattle.refusals.specs.Library.{ℕ, ◌<◌, eqb, ltb, ℤ, pos, ◌+ℤ◌, length, get_or, Bool, cond, ◌&&◌, List, [], ◌⊎◌, ◌≡◌}
+use Rattle.std.specs.Prelude.{◌<◌, ◌+ℤ◌, ◌&&◌, ◌⊎◌, ◌≡◌}
+use Rattle.refusals.specs.Library.{ℕ, eqb, ltb, ℤ, pos, length, get_or, Bool, cond, List, []}
 use Rattle.file_format.specs.Terms.{all, numeral, Place}
 use Rattle.text.specs.Text.{place_among, among}
 use Rattle.instructions.specs.Kinds.{kind_names}

@@ -1,5 +1,6 @@
 -- What the code holds of a text's layout.
-use Rattle.refusals.specs.Library.{ℕ, ◌≤◌, length, get_or, drop, List, ◌≡◌}
+use Rattle.std.specs.Prelude.{◌≤◌, ◌≡◌}
+use Rattle.refusals.specs.Library.{ℕ, length, get_or, drop, List}
 use Rattle.text.specs.Text.{lines}
 use Rattle.file_format.specs.Layout.{layout}
 

@@ -1,5 +1,6 @@
 -- What each line of a routine file holds. (document 01, The routine file, the table)
-use Rattle.refusals.specs.Library.{ℕ, zero, suc, eqb, length, drop, Bool, false, cond, ◌&&◌, ◌||◌, List, [], ◌∷◌, ◌++◌, map}
+use Rattle.std.specs.Prelude.{◌&&◌, ◌||◌, ◌∷◌, ◌++◌}
+use Rattle.refusals.specs.Library.{ℕ, zero, suc, eqb, length, drop, Bool, false, cond, List, [], map}
 use Rattle.file_format.specs.Terms.{bytes, Line, line_words, equals, Section, limits, kinds, primitives, cells, fields, instructions, answers, limit, cycles}
 use Rattle.file_format.specs.Terms.{words-column, extra, cell, names, values}
 use Rattle.file_format.specs.declared.Column.{Column}

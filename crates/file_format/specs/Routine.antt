@@ -1,6 +1,7 @@
 -- The routine of a text that passes refusals 1 to 6 and 13, and which refusal a text has that does not.
 -- Every definition is total: what a passing text never needs is 0 or empty.
-use Rattle.refusals.specs.Library.{ℕ, ltb, ℤ, pos, nat_abs, length, get_or, take, drop, cond, List, [], ◌∷◌, ◌++◌, map}
+use Rattle.std.specs.Prelude.{◌∷◌, ◌++◌}
+use Rattle.refusals.specs.Library.{ℕ, ltb, ℤ, pos, nat_abs, length, get_or, take, drop, cond, List, [], map}
 use Rattle.machine.specs.Terms.{numbers, within, Cell, handle, exactly, between, Argument, Absent, Target, Primitive, Within, kind_at, kind_names, addresses, State, Code}
 use Rattle.machine.specs.Terms.{Instruction, Price}
 use Rattle.file_format.specs.Terms.{Refusal, TextLength, Layout, OutOfRange, BadName, Line, lines, find, Section, limits, kinds, primitives, cells, fields, limit}

@@ -1,7 +1,8 @@
 -- Refusals 2 to 6, 13 and 11: each row of the refusal table is a test of one line, and refuses the earliest line that fails it.
 -- (document 01, The routine file and Refusal table; document 02 §8)
-use Rattle.refusals.specs.Library.{ℕ, zero, suc, ◌+◌, eqb, ltb, leb, ℤ, pos, nat_abs, ◌+ℤ◌, le_z, lt_z, length, get_or, take, drop, Bool, true, false, cond, not, ◌&&◌, List}
-use Rattle.refusals.specs.Library.{[], ◌∷◌, ◌++◌, ◌≡◌}
+use Rattle.std.specs.Prelude.{◌+◌, ◌+ℤ◌, ◌&&◌, ◌∷◌, ◌++◌, ◌≡◌}
+use Rattle.refusals.specs.Library.{ℕ, zero, suc, eqb, ltb, leb, ℤ, pos, nat_abs, le_z, lt_z, length, get_or, take, drop, Bool, true, false, cond, not, List}
+use Rattle.refusals.specs.Library.{[]}
 use Rattle.machine.specs.Terms.{numbers, within, naturals, Argument, Absent, Target, Primitive, Within, kind_at, kind_names, addresses}
 use Rattle.file_format.specs.Terms.{bytes, Line, line_words, is_empty, equals, all, decimal, numeral, Place, Section, limits, kinds, primitives, cells, fields}
 use Rattle.file_format.specs.Terms.{instructions, answers, limit, cycles, words-column, extra, cell, names, values, RefusedLine, nowhere, line}

@@ -1,5 +1,6 @@
 -- What the code holds of the names of the fields.
-use Rattle.refusals.specs.Library.{ℕ, suc, ◌≤◌, get_or, take, cond, List, [], ◌∷◌, ◌≡◌}
+use Rattle.std.specs.Prelude.{◌≤◌, ◌∷◌, ◌≡◌}
+use Rattle.refusals.specs.Library.{ℕ, suc, get_or, take, cond, List, []}
 use Rattle.file_format.specs.Rows.{is_field, total}
 use Rattle.file_names.specs.declared.Blocks.{Blocks}
 

@@ -1,5 +1,6 @@
 -- What the code's prices and codes stand for. The parts of a routine are those of file_format/specs/Routine.
-use Rattle.refusals.specs.Library.{ℕ, zero, suc, ◌+◌, ◌*◌, ◌%◌, ◌≤◌, ◌<◌, leb, length, get_or, set, List, [], ◌≡◌}
+use Rattle.std.specs.Prelude.{◌+◌, ◌*◌, ◌%◌, ◌≤◌, ◌<◌, ◌≡◌}
+use Rattle.refusals.specs.Library.{ℕ, zero, suc, leb, length, get_or, set, List, []}
 use Rattle.file_format.specs.Terms.{find, Place}
 use Rattle.text.specs.Text.{Line}
 use Rattle.numbers.specs.declared.Range.{Range}

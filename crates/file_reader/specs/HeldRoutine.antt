@@ -1,5 +1,6 @@
 -- What the code's routine holds.
-use Rattle.refusals.specs.Library.{◌≤◌, ℤ, length, take, List, ◌≡◌}
+use Rattle.std.specs.Prelude.{◌≤◌, ◌≡◌}
+use Rattle.refusals.specs.Library.{ℤ, length, take, List}
 use Rattle.cells.specs.HeldConfined.{Kept}
 use Rattle.machine.specs.Order.{Cellwise}
 use Rattle.machine_state.specs.HeldProgram.{first_address_of, sizes_of, program_of, IsProgram}

@@ -1,5 +1,6 @@
 -- What the code holds of a word.
-use Rattle.refusals.specs.Library.{ℕ, ◌≤◌, ◌<◌, mag, ◌≡◌}
+use Rattle.std.specs.Prelude.{◌≤◌, ◌<◌, ◌≡◌}
+use Rattle.refusals.specs.Library.{ℕ, mag}
 use Rattle.numbers.specs.declared.Range.{Range}
 use Rattle.numbers.specs.Numbers.{naturals}
 use Rattle.text_decimals.specs.HeldMagnitude.{most, clamp}

@@ -1,5 +1,6 @@
 -- The draws from a seed. (document 02 §11)
-use Rattle.refusals.specs.Library.{ℕ, zero, suc, ◌*◌, ◌/◌, ◌%◌, ◌^◌}
+use Rattle.std.specs.Prelude.{◌*◌, ◌/◌, ◌%◌, ◌^◌}
+use Rattle.refusals.specs.Library.{ℕ, zero, suc}
 use Rattle.std.specs.Int.Bits.{bit_xor}
 
 -- "shift left", "followed by exclusive or with the state before that shift, keeping 32 bits"

@@ -1,5 +1,6 @@
 -- The file of a seed. (document 02 §11, docs/GENERATOR.md)
-use Rattle.refusals.specs.Library.{ℕ, zero, suc, ◌+◌, ◌-◌, ◌*◌, ◌/◌, ◌%◌, eqb, ltb, leb, get_or, Bool, true, false, cond, ◌&&◌, List, [], ◌∷◌, ◌++◌}
+use Rattle.std.specs.Prelude.{◌+◌, ◌-◌, ◌*◌, ◌/◌, ◌%◌, ◌&&◌, ◌∷◌, ◌++◌}
+use Rattle.refusals.specs.Library.{ℕ, zero, suc, eqb, ltb, leb, get_or, Bool, true, false, cond, List, []}
 use Rattle.text.specs.Text.{bytes}
 use Rattle.text_decimals.specs.Decimal.{decimal, integer}
 use Rattle.instructions.specs.declared.Argument.{Argument}

@@ -1,5 +1,6 @@
 -- What the code asks of a range that it draws a number of.
-use Rattle.refusals.specs.Library.{zero, suc, ltb, ℤ, pos, negsuc, mag, non_neg, Bool, true, false, ◌&&◌}
+use Rattle.std.specs.Prelude.{◌&&◌}
+use Rattle.refusals.specs.Library.{zero, suc, ltb, ℤ, pos, negsuc, mag, non_neg, Bool, true, false}
 use Rattle.numbers.specs.declared.Range.{Range}
 use Rattle.numbers.specs.Numbers.{bits, half}
 

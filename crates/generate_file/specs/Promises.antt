@@ -1,5 +1,6 @@
 -- What is promised of the file of a seed. `proofs/Theorems` proves each by its name. (document 02 §11)
-use Rattle.refusals.specs.Library.{ℕ, ◌≤◌, length, ◌⊎◌, ◌≡◌}
+use Rattle.std.specs.Prelude.{◌≤◌, ◌⊎◌, ◌≡◌}
+use Rattle.refusals.specs.Library.{ℕ, length}
 use Rattle.refusals.specs.declared.Refusal.TheVariants.{UnknownCell}
 use Rattle.text.specs.Text.{lines}
 use Rattle.file_format.specs.Routine.{unread, routine, routine_of, text_limit, read_bound, read_run}

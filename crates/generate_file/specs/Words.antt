@@ -1,5 +1,6 @@
 -- The words that draws give. (docs/GENERATOR.md)
-use Rattle.refusals.specs.Library.{ℕ, zero, suc, ◌+◌, ◌/◌, ◌%◌, eqb, ℤ, pos, nat_abs, ◌+ℤ◌, ◌-ℤ◌, Bool, true, cond, ◌||◌, List, [], ◌++◌}
+use Rattle.std.specs.Prelude.{◌+◌, ◌/◌, ◌%◌, ◌+ℤ◌, ◌-ℤ◌, ◌||◌, ◌++◌}
+use Rattle.refusals.specs.Library.{ℕ, zero, suc, eqb, ℤ, pos, nat_abs, Bool, true, cond, List, []}
 use Rattle.numbers.specs.declared.Range.{Range}
 use Rattle.numbers.specs.Numbers.{numbers}
 use Rattle.text.specs.Text.{bytes}

@@ -1,5 +1,6 @@
 -- The 61 instruction kinds as one table. (document 01, Cells and machine)
-use Rattle.refusals.specs.Library.{ℕ, String, ℤ, pos, get_or, Bool, true, false, List, [], ◌∷◌, map}
+use Rattle.std.specs.Prelude.{◌∷◌}
+use Rattle.refusals.specs.Library.{ℕ, String, ℤ, pos, get_or, Bool, true, false, List, [], map}
 use Rattle.numbers.specs.Numbers.{naturals, numbers}
 use Rattle.numbers.specs.declared.Range.{Range}
 use Rattle.numbers.specs.declared.Comparison.TheVariants.{Equal, Unequal, Less, AtMost, Greater, AtLeast}

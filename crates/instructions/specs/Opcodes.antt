@@ -1,5 +1,6 @@
 -- Kinds by their opcodes. (document 02, §2)
-use Rattle.refusals.specs.Library.{ℕ, suc, eqb, cond, List, [], ◌∷◌}
+use Rattle.std.specs.Prelude.{◌∷◌}
+use Rattle.refusals.specs.Library.{ℕ, suc, eqb, cond, List, []}
 use Rattle.text.specs.declared.Place.{Place}
 use Rattle.text.specs.declared.Place.TheVariants.{At as at, Missing as missing}
 use Rattle.instructions.specs.Kinds.{opcodes}

@@ -1,5 +1,6 @@
 -- Code without jumps backwards: "A branch to its own address or a lower one is refused" (document 02 §8)
-use Rattle.refusals.specs.Library.{ℕ, ◌<◌, Bool, true, false, ◌≡◌}
+use Rattle.std.specs.Prelude.{◌<◌, ◌≡◌}
+use Rattle.refusals.specs.Library.{ℕ, Bool, true, false}
 use Rattle.cells.specs.Try.{done}
 use Rattle.instructions.specs.declared.Operation.{Operation}
 use Rattle.instructions.specs.declared.Operation.TheVariants.{Nothing, Access, Drop, Assign, Constant, GetField, SetField, Branch, BranchIf, BranchIfNot, Call, Stop, Alter, Combine}

@@ -1,5 +1,6 @@
 -- Entries of a list by their number from 0, stuck where there is no such entry.
-use Rattle.refusals.specs.Library.{ℕ, zero, suc, List, [], ◌∷◌}
+use Rattle.std.specs.Prelude.{◌∷◌}
+use Rattle.refusals.specs.Library.{ℕ, zero, suc, List, []}
 use Rattle.cells.specs.Try.{Try, stuck, done, ◌>>=◌}
 
 module _ {A : Type 0} where

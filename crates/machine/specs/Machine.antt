@@ -1,5 +1,6 @@
 -- The machine: its state, its code, and the one step that the bound and the run share. (document 01, Cells and machine)
-use Rattle.refusals.specs.Library.{ℕ, suc, ◌+◌, ◌-◌, ltb, ℤ, pos, negsuc, nat_abs, length, Bool, true, false, cond, List, ◌∷◌}
+use Rattle.std.specs.Prelude.{◌+◌, ◌-◌, ◌∷◌}
+use Rattle.refusals.specs.Library.{ℕ, suc, ltb, ℤ, pos, negsuc, nat_abs, length, Bool, true, false, cond, List}
 use Rattle.cells.specs.Try.{Try, stuck, done, ◌>>=◌}
 use Rattle.cells.specs.declared.Cell.{Cell}
 use Rattle.cells.specs.Cells.{exactly, operate₁, operate₂, condition, block}

@@ -1,5 +1,5 @@
 -- A relation of cells, carried to states cell by cell: "the same blocks with as many fields in each", as many stack entries.
-use Rattle.refusals.specs.Library.{◌≡◌}
+use Rattle.std.specs.Prelude.{◌≡◌}
 use Rattle.cells.specs.declared.Cell.{Cell}
 use Rattle.cells.specs.Order.{Pointwise}
 use Rattle.machine.specs.Machine.{State}

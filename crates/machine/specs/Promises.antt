@@ -1,5 +1,6 @@
 -- What is promised of the step, as statements. The file Theorems in proofs/ proves each by its name.
-use Rattle.refusals.specs.Library.{ℕ, ◌<◌, ℤ, pos, ◌≡◌}
+use Rattle.std.specs.Prelude.{◌<◌, ◌≡◌}
+use Rattle.refusals.specs.Library.{ℕ, ℤ, pos}
 use Rattle.machine.specs.Terms.{done, Cell, unknown, range, Allowed, Refines, State, Code, Price, opens, step, Cellwise}
 use Rattle.cells.specs.Covering.{Covered}
 use Rattle.cells.specs.Promises.{Of}

@@ -1,5 +1,6 @@
 -- Code whose branches stay inside it: refusal 6, "target not an address of the code"
-use Rattle.refusals.specs.Library.{ℕ, ◌+◌, ◌<◌, length, true, ◌≡◌}
+use Rattle.std.specs.Prelude.{◌+◌, ◌<◌, ◌≡◌}
+use Rattle.refusals.specs.Library.{ℕ, length, true}
 use Rattle.cells.specs.Try.{done}
 use Rattle.machine.specs.Machine.{index, Instruction, Code, fetch}
 use Rattle.machine.specs.Forward.{branches}

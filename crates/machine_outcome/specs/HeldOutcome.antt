@@ -1,6 +1,7 @@
 -- What an operation comes to before the state is changed, in the code's own type: the step and the explorer share it, and each changes its
 -- own state and blocks.
-use Rattle.refusals.specs.Library.{ℕ, ◌≤◌, ◌<◌, ltb, leb, ℤ, pos, Bool, true, false, cond, ◌≡◌}
+use Rattle.std.specs.Prelude.{◌≤◌, ◌<◌, ◌≡◌}
+use Rattle.refusals.specs.Library.{ℕ, ltb, leb, ℤ, pos, Bool, true, false, cond}
 use Rattle.machine.specs.Terms.{Try, done, stuck, ◌>>=◌, Cell, IsZero, IsNonzero, IsUnknown, exactly, condition, Operation, Nothing, Access, Drop, Assign, Constant}
 use Rattle.machine.specs.Terms.{Alter, Combine, GetField, SetField, Branch, BranchIf, BranchIfNot, Call, Stop, State, Price, Next, stops, goes, opens, jump}
 use Rattle.cells.specs.declared.Condition.{Condition}

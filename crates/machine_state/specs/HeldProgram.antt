@@ -1,6 +1,7 @@
 -- A routine's program as one list of words, as the run and the explorer are lent it: its first address, how many lines it has, how many
 -- blocks, the sizes of eight blocks, and five words for each line.
-use Rattle.refusals.specs.Library.{ℕ, zero, suc, ◌+◌, ◌*◌, ◌%◌, ◌≤◌, ◌<◌, leb, ℤ, length, get_or, take, drop, List, [], ◌∷◌, ◌≡◌}
+use Rattle.std.specs.Prelude.{◌+◌, ◌*◌, ◌%◌, ◌≤◌, ◌<◌, ◌∷◌, ◌≡◌}
+use Rattle.refusals.specs.Library.{ℕ, zero, suc, leb, ℤ, length, get_or, take, drop, List, []}
 use Rattle.machine.specs.Terms.{Try, done, stuck, Code, Instruction}
 use Rattle.numbers.specs.Numbers.{signed}
 use Rattle.instructions.specs.HeldColumns.{operation_of}

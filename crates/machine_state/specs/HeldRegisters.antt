@@ -1,5 +1,6 @@
 -- The state beside its stack, and what each of its methods makes of it.
-use Rattle.refusals.specs.Library.{ℕ, ◌+◌, ◌-◌, pos, List}
+use Rattle.std.specs.Prelude.{◌+◌, ◌-◌}
+use Rattle.refusals.specs.Library.{ℕ, pos, List}
 use Rattle.machine.specs.Terms.{Cell, exactly}
 use Rattle.machine_state.specs.declared.State.{State}
 use Rattle.machine_state.specs.declared.registers.Registers.{Registers}

@@ -1,5 +1,6 @@
 -- What the code's state stands for.
-use Rattle.refusals.specs.Library.{ℕ, ◌+◌, ◌*◌, ◌≤◌, ltb, length, get_or, take, drop, cond, List, [], ◌∷◌, ◌≡◌}
+use Rattle.std.specs.Prelude.{◌+◌, ◌*◌, ◌≤◌, ◌∷◌, ◌≡◌}
+use Rattle.refusals.specs.Library.{ℕ, ltb, length, get_or, take, drop, cond, List, []}
 use Rattle.machine.specs.Terms.{Try, done, stuck, ◌>>=◌, Cell, State}
 use Rattle.cells.specs.Cells.{block}
 use Rattle.machine.specs.Machine.{stack_limit, reblock}

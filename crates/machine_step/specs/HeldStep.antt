@@ -1,5 +1,6 @@
 -- What a step by value stands for.
-use Rattle.refusals.specs.Library.{ℕ, ◌<◌, set, Bool, List, ◌≡◌}
+use Rattle.std.specs.Prelude.{◌<◌, ◌≡◌}
+use Rattle.refusals.specs.Library.{ℕ, set, Bool, List}
 use Rattle.machine.specs.Terms.{Try, done, stuck, Cell, State, Price, Next, stops, goes, opens, jump}
 use Rattle.machine_state.specs.declared.State as states
 use Rattle.machine_step.specs.declared.Next.TheVariants.{Stuck, Stops, Goes, Opens}

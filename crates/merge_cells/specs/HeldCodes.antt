@@ -1,5 +1,6 @@
 -- Cells as numbers, as a table of numbers holds them.
-use Rattle.refusals.specs.Library.{ℕ, ◌-◌, ◌/◌, ◌%◌, leb, pos, ◌-ℤ◌, cond, List, map}
+use Rattle.std.specs.Prelude.{◌-◌, ◌/◌, ◌%◌, ◌-ℤ◌}
+use Rattle.refusals.specs.Library.{ℕ, leb, pos, cond, List, map}
 use Rattle.numbers.specs.Numbers.{bits, modulus, half}
 use Rattle.cells.specs.declared.Cell.{Cell}
 use Rattle.cells.specs.Cells.{range, handle}

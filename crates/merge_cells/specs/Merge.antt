@@ -1,5 +1,6 @@
 -- Merging two cells, where ways meet. (document 02 §9 and §12)
-use Rattle.refusals.specs.Library.{ℕ, eqb, ℤ, le_z, cond, ◌≡◌}
+use Rattle.std.specs.Prelude.{◌≡◌}
+use Rattle.refusals.specs.Library.{ℕ, eqb, ℤ, le_z, cond}
 use Rattle.cells.specs.Try.{Try, stuck, done}
 use Rattle.cells.specs.declared.Value.{Value}
 use Rattle.cells.specs.declared.Value.TheVariants.{Range, Handle}

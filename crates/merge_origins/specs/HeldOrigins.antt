@@ -1,5 +1,6 @@
 -- What the numbers beside the rows stand for: for each goal the last move of the costliest way that has come to it.
-use Rattle.refusals.specs.Library.{ℕ, ◌+◌, ◌*◌, ◌<◌, eqb, ltb, length, get_or, cond, List, ◌≡◌}
+use Rattle.std.specs.Prelude.{◌+◌, ◌*◌, ◌<◌, ◌≡◌}
+use Rattle.refusals.specs.Library.{ℕ, eqb, ltb, length, get_or, cond, List}
 use Rattle.bound_theory.specs.Terms.{Move, height}
 use Rattle.machine_step.specs.declared.Price.{Price}
 use Rattle.merge_way.specs.Way.{out, to, Kept, nothing, kept, Origins}

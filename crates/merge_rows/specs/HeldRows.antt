@@ -1,5 +1,6 @@
 -- What the numbers of the table stand for: what has come to an address.
-use Rattle.refusals.specs.Library.{ℕ, zero, suc, ◌+◌, ◌-◌, ◌*◌, eqb, ltb, length, get_or, take, drop, Bool, true, false, cond, List, ◌≡◌}
+use Rattle.std.specs.Prelude.{◌+◌, ◌-◌, ◌*◌, ◌≡◌}
+use Rattle.refusals.specs.Library.{ℕ, zero, suc, eqb, ltb, length, get_or, take, drop, Bool, true, false, cond, List}
 use Rattle.machine.specs.Terms.{Try, done, stuck, Cell, State, Price, Cellwise}
 use Rattle.merge_cells.specs.HeldCodes.{decoded_cell, decoded_cells}
 use Rattle.cells.specs.HeldConfined.{Kept}

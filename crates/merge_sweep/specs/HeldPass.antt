@@ -1,5 +1,6 @@
 -- One address of the pass: what is asked before it, and what holds after it.
-use Rattle.refusals.specs.Library.{ℕ, ◌+◌, ◌*◌, ◌≤◌, ◌<◌, Bool, true, false, List, ◌≡◌}
+use Rattle.std.specs.Prelude.{◌+◌, ◌*◌, ◌≤◌, ◌<◌, ◌≡◌}
+use Rattle.refusals.specs.Library.{ℕ, Bool, true, false, List}
 use Rattle.bound_theory.specs.Terms.{Refusal, Report, Verdict, refused, Price}
 use Rattle.refusals.specs.declared.Acceptance.TheVariants.{Refused}
 use Rattle.machine_step.specs.declared.Price as code

@@ -1,6 +1,7 @@
 -- The second bound: it "goes through the addresses in rising order and merges the states where ways meet". (document 02 §9)
 -- Everything is over an action on states: in the bound it is `step c unknown`.
-use Rattle.refusals.specs.Library.{ℕ, zero, suc, ◌+◌, ◌-◌, max, eqb, length, cond, List, [], ◌∷◌}
+use Rattle.std.specs.Prelude.{◌+◌, ◌-◌, ◌∷◌}
+use Rattle.refusals.specs.Library.{ℕ, zero, suc, max, eqb, length, cond, List, []}
 use Rattle.bound_theory.specs.Terms.{Stuck, NoMeeting, Report, Verdict, accepted, refused, Try, done, stuck, ◌>>=◌, unknown, State, Code, Price, Next, stops, goes, opens}
 use Rattle.bound_theory.specs.Terms.{step, height, jump}
 use Rattle.merge_cells.specs.Merge.{merge_cells}

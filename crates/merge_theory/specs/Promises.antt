@@ -1,5 +1,6 @@
 -- What is promised of the merging bound, as statements. The file Theorems in proofs/ proves each by its name. (document 02 §9)
-use Rattle.refusals.specs.Library.{ℕ, ◌≤◌, ℤ, List, [], ◌⊎◌, ◌↔◌, ◌≡◌}
+use Rattle.std.specs.Prelude.{◌≤◌, ◌⊎◌, ◌↔◌, ◌≡◌}
+use Rattle.refusals.specs.Library.{ℕ, ℤ, List, []}
 use Rattle.bound_theory.specs.Terms.{Refusal, number, Report, accepted, refused, bound, Move, cost, word_sum, CostMax, run, unknown, Allowed, State, Code, Price, step}
 use Rattle.bound_theory.specs.Terms.{height, Cellwise, Forward}
 use Rattle.machine.specs.Targets.{Closed}

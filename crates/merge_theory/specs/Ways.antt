@@ -1,6 +1,7 @@
 -- What comes to each address, and the ways through the merged states: what the figures and the refusals of the merging bound are of.
 -- (document 02 §9)
-use Rattle.refusals.specs.Library.{ℕ, zero, suc, ◌+◌, ◌≤◌, ◌<◌, List, [], ◌∷◌, ◌≡◌}
+use Rattle.std.specs.Prelude.{◌+◌, ◌≤◌, ◌<◌, ◌∷◌, ◌≡◌}
+use Rattle.refusals.specs.Library.{ℕ, zero, suc, List, []}
 use Rattle.bound_theory.specs.Terms.{Refusal, Stuck, NoMeeting, Move, move, Transition, Try, done, stuck, unknown, Refines, State, Code, Price, Next, stops, step, height}
 use Rattle.bound_theory.specs.Terms.{jump}
 use Rattle.merge_cells.specs.Merge.{Clash}

@@ -1,5 +1,6 @@
 -- What a pass that has the rows only keeps of the ways, and what is enough to keep and to list. No promise to users needs it.
-use Rattle.refusals.specs.Library.{ℕ, zero, suc, ◌+◌, List, [], ◌∷◌, map, ◌≡◌}
+use Rattle.std.specs.Prelude.{◌+◌, ◌∷◌, ◌≡◌}
+use Rattle.refusals.specs.Library.{ℕ, zero, suc, List, [], map}
 use Rattle.bound_theory.specs.Terms.{Decision, Report, accepted, Move, Try, unknown, State, Code, Price, Next, step}
 use Rattle.merge_theory.specs.Merge.{slot, Table, Slot, empty, unlike, held, span, only, merged}
 use Rattle.merge_theory.specs.Ways.{sends}

@@ -1,6 +1,7 @@
 -- The bounds as they were before ranges, over the same step and the same sweep: a cell is a single number, `?` or a handle.
 -- "never above the former ones with `?` for each wider range, where both are accepted" (document 02 §12)
-use Rattle.refusals.specs.Library.{ℕ, eqb, ltb, Bool, true, false, cond, ◌||◌, map, ◌≡◌}
+use Rattle.std.specs.Prelude.{◌||◌, ◌≡◌}
+use Rattle.refusals.specs.Library.{ℕ, eqb, ltb, Bool, true, false, cond, map}
 use Rattle.bound_theory.specs.Terms.{Report, Verdict, accepted, bound, opening_limit, numbers, Try, done, stuck, ◌>>=◌, Value, Range, Handle, Cell, Binary, Add, Subtract}
 use Rattle.bound_theory.specs.Terms.{Compare, unknown, handle, range, between, high, Operation, Nothing, Access, Drop, Assign, Constant, Alter, Combine, GetField}
 use Rattle.bound_theory.specs.Terms.{SetField, Branch, BranchIf, BranchIfNot, Call, Stop, nth, State, Code, Next, stops, goes, opens, fetch}

@@ -1,5 +1,6 @@
 -- The reports of a routine with ranges beside those of the same routine with `?` for each wider range. (document 02 §12)
-use Rattle.refusals.specs.Library.{ℕ, eqb, cond, List, map, ◌≡◌}
+use Rattle.std.specs.Prelude.{◌≡◌}
+use Rattle.refusals.specs.Library.{ℕ, eqb, cond, List, map}
 use Rattle.bound_theory.specs.Terms.{Report, accepted, bound, Value, Range, Handle, Cell, unknown, handle, range, State}
 use Rattle.text.specs.Text.{Line}
 use Rattle.bound_theory.specs.Promises.{NoGreater}

@@ -1,6 +1,7 @@
 -- What is promised of both bounds where a start knows more, and where it knows all. The file Theorems in proofs/ proves each by its name.
 -- (document 02 §14)
-use Rattle.refusals.specs.Library.{ℕ, ◌≤◌, ◌<◌, ℤ, List, ◌⊎◌, ◌↔◌, ◌≡◌}
+use Rattle.std.specs.Prelude.{◌≤◌, ◌<◌, ◌⊎◌, ◌↔◌, ◌≡◌}
+use Rattle.refusals.specs.Library.{ℕ, ℤ, List}
 use Rattle.bound_theory.specs.Terms.{Refusal, Spent, Report, accepted, refused, bound, begin, after, run, done, Cell, Allowed, Refines, Call, State, Code, Instruction}
 use Rattle.bound_theory.specs.Terms.{fetch, Cellwise}
 use Rattle.bound_theory.specs.Promises.{Monotone}

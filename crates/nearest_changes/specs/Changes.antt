@@ -1,5 +1,6 @@
 -- The changes of one cell of a start, in the order in which they are tried, and the first that moves a bound. (document 02, §13)
-use Rattle.refusals.specs.Library.{ℕ, ℤ, pos, ◌+ℤ◌, ◌-ℤ◌, Bool, cond, List, [], ◌∷◌, ◌++◌, Option, some, none}
+use Rattle.std.specs.Prelude.{◌+ℤ◌, ◌-ℤ◌, ◌∷◌, ◌++◌}
+use Rattle.refusals.specs.Library.{ℕ, ℤ, pos, Bool, cond, List, [], Option, some, none}
 use Rattle.machine.specs.Terms.{numbers, within, Try, done, stuck, ◌>>=◌, exactly, State}
 use mathlib.Core.List.{flat_map}
 use Rattle.nearest_changes.specs.declared.Position.{Position}

@@ -1,5 +1,6 @@
 -- What the code's values stand for.
-use Rattle.refusals.specs.Library.{ℕ, ◌+◌, ◌-◌, ◌/◌, ◌%◌, eqb, ℤ, pos, ◌+ℤ◌, ◌-ℤ◌, cond, List, [], ◌∷◌, ◌≡◌}
+use Rattle.std.specs.Prelude.{◌+◌, ◌-◌, ◌/◌, ◌%◌, ◌+ℤ◌, ◌-ℤ◌, ◌∷◌, ◌≡◌}
+use Rattle.refusals.specs.Library.{ℕ, eqb, ℤ, pos, cond, List, []}
 use Rattle.machine.specs.Terms.{Try, done, stuck, Cell, State}
 use Rattle.nearest_changes.specs.declared.Position.{Position}
 use Rattle.nearest_changes.specs.declared.Single.{Single}

@@ -1,5 +1,6 @@
 -- The cells of a start by their places in the file. (document 02, §13)
-use Rattle.refusals.specs.Library.{ℕ, zero, suc, ◌-◌, ◌/◌, ◌%◌, ◌<◌, eqb, ltb, length, get_or, set, cond, List, [], ◌∷◌, ◌++◌, map}
+use Rattle.std.specs.Prelude.{◌-◌, ◌/◌, ◌%◌, ◌<◌, ◌∷◌, ◌++◌}
+use Rattle.refusals.specs.Library.{ℕ, zero, suc, eqb, ltb, length, get_or, set, cond, List, [], map}
 use Rattle.machine.specs.Terms.{Try, done, ◌>>=◌, Cell, nth, State, height}
 use Rattle.machine.specs.Machine.{load, restack, reblock}
 use Rattle.nearest_changes.specs.declared.Position.{Position}

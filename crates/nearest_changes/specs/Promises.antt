@@ -1,5 +1,6 @@
 -- What is promised of the nearest change, for any test of states. `proofs/Theorems` proves each statement by its name. (document 02, §13)
-use Rattle.refusals.specs.Library.{ℕ, ◌≤◌, ◌<◌, ℤ, pos, ◌+ℤ◌, ◌-ℤ◌, ◌≡◌}
+use Rattle.std.specs.Prelude.{◌≤◌, ◌<◌, ◌+ℤ◌, ◌-ℤ◌, ◌≡◌}
+use Rattle.refusals.specs.Library.{ℕ, ℤ, pos}
 use Rattle.machine.specs.Terms.{done, State}
 use Rattle.numbers.specs.Numbers.{IsNumber}
 use Rattle.nearest_changes.specs.declared.Position.{Position}

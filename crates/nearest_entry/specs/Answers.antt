@@ -1,6 +1,7 @@
 -- The answer of the search for the nearest number that moves the bound, to a routine file and to a length of lent report memory.
 -- (document 02, §13)
-use Rattle.refusals.specs.Library.{ℕ, List, ◌++◌, Option, some, none}
+use Rattle.std.specs.Prelude.{◌++◌}
+use Rattle.refusals.specs.Library.{ℕ, List, Option, some, none}
 use Rattle.answers.specs.Terms.{Routine, read_bound, Answer, reported, refused, lending, of_reading, memory_limit, bytes, decimal}
 use Rattle.text_decimals.specs.Decimal.{integer}
 use Rattle.nearest_changes.specs.declared.Position.{Position}

@@ -1,5 +1,6 @@
 -- What is promised of the answers to a text, as statements. `proofs/Theorems` proves each by its name. (document 02, §13)
-use Rattle.refusals.specs.Library.{ℕ, ◌≤◌, length, List, ◌++◌, map, ◌⊎◌, none, ◌≡◌}
+use Rattle.std.specs.Prelude.{◌≤◌, ◌++◌, ◌⊎◌, ◌≡◌}
+use Rattle.refusals.specs.Library.{ℕ, length, List, map, none}
 use Rattle.answers.specs.Terms.{listed, Routine, read_bound, reported, lines, cells, fields, names}
 use Rattle.bound_theory.specs.Tree.{Report}
 use Rattle.file_format.specs.Routine.{text_limit}

@@ -1,5 +1,6 @@
 -- A routine file with the value of one cell replaced, and the routine that is tried. (document 02, §13)
-use Rattle.refusals.specs.Library.{ℕ, suc, ◌<◌, ℤ, length, get_or, take, drop, set, List, [], ◌++◌, ◌≡◌}
+use Rattle.std.specs.Prelude.{◌<◌, ◌++◌, ◌≡◌}
+use Rattle.refusals.specs.Library.{ℕ, suc, ℤ, length, get_or, take, drop, set, List, []}
 use Rattle.answers.specs.Terms.{listed, Routine, bytes, Line, Section, cells, fields, cell, names, values}
 use Rattle.text.specs.Text.{lines_text, joined}
 use Rattle.text_decimals.specs.Decimal.{integer}

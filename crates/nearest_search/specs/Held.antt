@@ -1,5 +1,6 @@
 -- What the code's values stand for, and what is asked of them.
-use Rattle.refusals.specs.Library.{ℕ, ◌<◌, ℤ, get_or, Bool, false, List, Option, some, none, ◌≡◌}
+use Rattle.std.specs.Prelude.{◌<◌, ◌≡◌}
+use Rattle.refusals.specs.Library.{ℕ, ℤ, get_or, Bool, false, List, Option, some, none}
 use Rattle.bound_theory.specs.Terms.{Report, Verdict, accepted, bound, Try, done, stuck, Cell, handle, State, Code}
 use Rattle.machine_state.specs.HeldProgram.{IsProgram}
 use Rattle.machine_state.specs.declared.State as states

@@ -1,5 +1,6 @@
 -- What is promised of the search, as statements. `proofs/Theorems` proves each by its name. (document 02, §13)
-use Rattle.refusals.specs.Library.{ℕ, ◌⊎◌, some, none, ◌≡◌}
+use Rattle.std.specs.Prelude.{◌⊎◌, ◌≡◌}
+use Rattle.refusals.specs.Library.{ℕ, some, none}
 use Rattle.bound_theory.specs.Terms.{Refusal, number, Report, Verdict, accepted, refused, bound, State, Code}
 use Rattle.nearest_changes.specs.declared.Change.{Change}
 use Rattle.nearest_changes.specs.Changes.{applied}

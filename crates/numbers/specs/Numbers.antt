@@ -1,6 +1,7 @@
 -- Numbers: "Numbers are signed, .. two's complement, and wrap." (document 01, Cells and machine); "Numbers are 31 bits on the card."
 -- (document 02, §7)
-use Rattle.refusals.specs.Library.{ℕ, suc, ◌-◌, ◌%◌, ◌^◌, ◌<◌, eqb, ltb, ℤ, pos, negsuc, le_z, lt_z, mag, Bool, true, false, cond, not}
+use Rattle.std.specs.Prelude.{◌-◌, ◌%◌, ◌^◌, ◌<◌}
+use Rattle.refusals.specs.Library.{ℕ, suc, eqb, ltb, ℤ, pos, negsuc, le_z, lt_z, mag, Bool, true, false, cond, not}
 use Rattle.numbers.specs.declared.Comparison.{Comparison}
 use Rattle.numbers.specs.declared.Comparison.TheVariants.{Equal, Unequal, Less, AtMost, Greater, AtLeast}
 use Rattle.numbers.specs.declared.Range.{Range}

@@ -1,5 +1,6 @@
 -- A routine file with one instruction replaced. (document 02 §10)
-use Rattle.refusals.specs.Library.{ℕ, suc, ◌+◌, ◌-◌, ltb, leb, length, get_or, take, drop, Bool, ◌&&◌, List, ◌++◌}
+use Rattle.std.specs.Prelude.{◌+◌, ◌-◌, ◌&&◌, ◌++◌}
+use Rattle.refusals.specs.Library.{ℕ, suc, ltb, leb, length, get_or, take, drop, Bool, List}
 use Rattle.text.specs.Text.{bytes, Line, no_line, lines_text}
 use Rattle.machine.specs.Machine.{Code}
 use Rattle.file_format.specs.Layout.{layout}

@@ -1,5 +1,6 @@
 -- What is promised of a patched copy, as statements. `proofs/Theorems` proves each by its name. (document 02 §10)
-use Rattle.refusals.specs.Library.{ℕ, ◌-◌, eqb, length, get_or, true, not, List, ◌++◌, ◌↔◌, ◌≡◌}
+use Rattle.std.specs.Prelude.{◌-◌, ◌++◌, ◌↔◌, ◌≡◌}
+use Rattle.refusals.specs.Library.{ℕ, eqb, length, get_or, true, not, List}
 use Rattle.machine.specs.Terms.{done, Code, Instruction, fetch}
 use Rattle.answers.specs.Terms.{listed, Routine, read_bound, bytes, Line, lines, all, no_line, decimal, kinds, primitives, extra, values}
 use Rattle.file_format.specs.Rows.{op, arg}

@@ -1,5 +1,6 @@
 -- What is promised of the answers of a preview, as a statement.
-use Rattle.refusals.specs.Library.{ℕ, List, ◌≡◌}
+use Rattle.std.specs.Prelude.{◌≡◌}
+use Rattle.refusals.specs.Library.{ℕ, List}
 use Rattle.answers.specs.Terms.{reported, lines}
 use Rattle.preview_copy.specs.Patch.{patched}
 use Rattle.report_theory.specs.Promises.{SafeReport, ExactReport}

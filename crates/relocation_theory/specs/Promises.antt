@@ -1,5 +1,6 @@
 -- What is promised of code at other addresses, as statements. `proofs/Theorems` proves each by its name. (document 02, §2)
-use Rattle.refusals.specs.Library.{ℕ, ℤ, List, ◌≡◌}
+use Rattle.std.specs.Prelude.{◌≡◌}
+use Rattle.refusals.specs.Library.{ℕ, ℤ, List}
 use Rattle.bound_theory.specs.Terms.{bound, run, State, Code}
 use Rattle.merge_theory.specs.Merge.{merged}
 use Rattle.relocation_theory.specs.Raised.{raise_code, raise_state, raise_verdict}

@@ -1,6 +1,7 @@
 -- Code, a state and a verdict at addresses that are higher by f: an import makes its lines "from address 0", wherever the written file
 -- begins. (document 02, §2)
-use Rattle.refusals.specs.Library.{ℕ, ◌+◌, pos, cond, map}
+use Rattle.std.specs.Prelude.{◌+◌}
+use Rattle.refusals.specs.Library.{ℕ, pos, cond, map}
 use Rattle.bound_theory.specs.Terms.{Refusal, ReportMemory, TextLength, Layout, OutOfRange, BadName, BadWord, Stuck, Openings, Spent, NoMeeting, Verdict, accepted}
 use Rattle.bound_theory.specs.Terms.{refused, State, Code, Instruction, jump}
 use Rattle.refusals.specs.declared.Refusal.TheVariants.{Unpriced, NoTarget, Backward, UnknownCell}

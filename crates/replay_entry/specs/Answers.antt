@@ -1,5 +1,6 @@
 -- The answer of a replay to a routine file, to a card's trace and to a length of lent report memory. (document 02, §4)
-use Rattle.refusals.specs.Library.{ℕ, List, ◌++◌}
+use Rattle.std.specs.Prelude.{◌++◌}
+use Rattle.refusals.specs.Library.{ℕ, List}
 use Rattle.answers.specs.Terms.{Routine, read_run, Answer, lending, of_reading, memory_limit, bytes, decimal}
 use Rattle.answers.specs.Answers.{of_acceptance}
 use Rattle.replay_trace.specs.Traces.{trace_acceptance, entries}

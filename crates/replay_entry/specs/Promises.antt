@@ -1,5 +1,6 @@
 -- What is promised of what a replay prints, in terms of both texts. `proofs/Theorems` proves it by its name. (document 02 §4)
-use Rattle.refusals.specs.Library.{ℕ, ◌+◌, ◌≤◌, ◌<◌, length, take, List, ◌++◌, ◌≡◌}
+use Rattle.std.specs.Prelude.{◌+◌, ◌≤◌, ◌<◌, ◌++◌, ◌≡◌}
+use Rattle.refusals.specs.Library.{ℕ, length, take, List}
 use Rattle.bound_theory.specs.Terms.{Report, accepted, bound, begin, after, Allowed, State, Cellwise}
 use Rattle.answers.specs.Terms.{Routine, read_run, reported, bytes, decimal}
 use Rattle.merge_theory.specs.Merge.{merged}

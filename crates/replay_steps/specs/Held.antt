@@ -1,5 +1,6 @@
 -- What the replay's values in code stand for.
-use Rattle.refusals.specs.Library.{ℕ, suc, ◌≤◌, ℤ, drop, Bool, true, false, List, ◌≡◌}
+use Rattle.std.specs.Prelude.{◌≤◌, ◌≡◌}
+use Rattle.refusals.specs.Library.{ℕ, suc, ℤ, drop, Bool, true, false, List}
 use Rattle.bound_theory.specs.Terms.{Run, Cell, Code}
 use Rattle.machine_state.specs.HeldState.{WellFormed, whole}
 use Rattle.machine_state.specs.declared.State as states

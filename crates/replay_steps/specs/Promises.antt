@@ -1,5 +1,6 @@
 -- What a replay says, as statements. `proofs/Theorems` proves each by its name. (document 02, §4)
-use Rattle.refusals.specs.Library.{ℕ, ◌+◌, ◌≤◌, ◌<◌, ℤ, length, get_or, take, true, false, List, [], ◌∷◌, ◌≡◌}
+use Rattle.std.specs.Prelude.{◌+◌, ◌≤◌, ◌<◌, ◌∷◌, ◌≡◌}
+use Rattle.refusals.specs.Library.{ℕ, ℤ, length, get_or, take, true, false, List, []}
 use Rattle.bound_theory.specs.Terms.{Report, accepted, bound, begin, after, Allowed, State, Code, Cellwise}
 use Rattle.replay_trace.specs.Traces.{Entry}
 use Rattle.replay_steps.specs.Replay.{agrees, agreed, differed, replay}

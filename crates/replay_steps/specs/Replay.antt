@@ -1,5 +1,6 @@
 -- The replay of a card's trace on the plain machine. (document 02, §4)
-use Rattle.refusals.specs.Library.{ℕ, suc, ◌-◌, eqb, leb, ℤ, Bool, cond, not, ◌&&◌, List, [], ◌∷◌}
+use Rattle.std.specs.Prelude.{◌-◌, ◌&&◌, ◌∷◌}
+use Rattle.refusals.specs.Library.{ℕ, suc, eqb, leb, ℤ, Bool, cond, not, List, []}
 use Rattle.machine.specs.Machine.{State, Code}
 use Rattle.bound_theory.specs.Run.{Run, begin, run_is_stuck, once}
 use Rattle.replay_trace.specs.Traces.{Entry}

@@ -1,6 +1,7 @@
 -- The text of a card's trace: which refusal it has, and the steps that it records. (document 02, §4)
 -- Every definition is total: what an accepted text never needs is 0 or empty.
-use Rattle.refusals.specs.Library.{ℕ, zero, suc, eqb, ltb, length, get_or, drop, Bool, true, cond, ◌&&◌, List, [], ◌∷◌, map}
+use Rattle.std.specs.Prelude.{◌&&◌, ◌∷◌}
+use Rattle.refusals.specs.Library.{ℕ, zero, suc, eqb, ltb, length, get_or, drop, Bool, true, cond, List, [], map}
 use Rattle.file_format.specs.Terms.{Refusal, TextLength, Layout, OutOfRange, bytes, Line, lines, line_words, equals, numeral}
 use Rattle.refusals.specs.declared.Acceptance.{Acceptance}
 use Rattle.refusals.specs.declared.Acceptance.TheVariants.{Accepted as accepted, Refused as refused}

@@ -1,5 +1,6 @@
 -- What is asked of a report, and what is answered of the figures found.
-use Rattle.refusals.specs.Library.{ℕ, ◌≤◌, length, List, ◌≡◌}
+use Rattle.std.specs.Prelude.{◌≤◌, ◌≡◌}
+use Rattle.refusals.specs.Library.{ℕ, length, List}
 use Rattle.refusals.specs.declared.Acceptance.TheVariants.{Accepted, Refused}
 use Rattle.refusals.specs.declared.Acceptance as code
 use Rattle.bound_figures.specs.declared.Found.{Found}

@@ -1,5 +1,6 @@
 -- The report that the explorer's figures stand for: its path is one number (`encode` in the specs of `bound_figures`).
-use Rattle.refusals.specs.Library.{ℕ, zero, suc, ◌/◌, ◌%◌, eqb, ltb, cond, List, [], ◌∷◌}
+use Rattle.std.specs.Prelude.{◌/◌, ◌%◌, ◌∷◌}
+use Rattle.refusals.specs.Library.{ℕ, zero, suc, eqb, ltb, cond, List, []}
 use Rattle.bound_theory.specs.Tree.{Decision, N, T, Report}
 
 -- the decision of a bit: 0 is not taken

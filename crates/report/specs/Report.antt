@@ -1,5 +1,6 @@
 -- What is printed: a report, a run's report, a refusal. (document 01, The printed report)
-use Rattle.refusals.specs.Library.{ℕ, ◌+◌, ◌*◌, ◌/◌, ◌%◌, ◌≤◌, ltb, cond, List, [], ◌∷◌, ◌++◌, map, ◌≡◌}
+use Rattle.std.specs.Prelude.{◌+◌, ◌*◌, ◌/◌, ◌%◌, ◌≤◌, ◌∷◌, ◌++◌, ◌≡◌}
+use Rattle.refusals.specs.Library.{ℕ, ltb, cond, List, [], map}
 use Rattle.bound_theory.specs.Terms.{Refusal, number, place, Decision, N, T, Report}
 use Rattle.answers.specs.Terms.{bytes, decimal}
 

@@ -1,6 +1,7 @@
 -- When a call of the bound, of the merging bound and of the run is refused, by which number and at which place: refused in the listed cases
 -- and in no other (demand 2). (document 01, Refusal table; document 02 §8 and §9)
-use Rattle.refusals.specs.Library.{ℕ, ◌≤◌, ◌<◌, length, true, false, List, ◌∷◌, ◌↔◌, ◌≡◌}
+use Rattle.std.specs.Prelude.{◌≤◌, ◌<◌, ◌∷◌, ◌↔◌, ◌≡◌}
+use Rattle.refusals.specs.Library.{ℕ, length, true, false, List}
 use Rattle.bound_theory.specs.Terms.{Refusal, ReportMemory, TextLength, Stuck, Spent, number, place, opening_limit, Run, begin, after, run_is_stuck, unknown, step}
 use Rattle.answers.specs.Terms.{Routine, refused, memory_limit, Line, lines, nowhere, line}
 use Rattle.bound_theory.specs.Traces.{Listed}

@@ -1,5 +1,6 @@
 -- What is promised of the answers of the bound, of the merging bound and of the run to a text, as statements.
-use Rattle.refusals.specs.Library.{ℕ, ◌≤◌, ltb, ℤ, length, take, true, List, ◌⊎◌, Option, some, ◌≡◌}
+use Rattle.std.specs.Prelude.{◌≤◌, ◌⊎◌, ◌≡◌}
+use Rattle.refusals.specs.Library.{ℕ, ltb, ℤ, length, take, true, List, Option, some}
 use Rattle.bound_theory.specs.Terms.{Refusal, number, Report, Verdict, accepted, bound, opening_limit, begin, after, run, Allowed, State, Cellwise, Forward}
 use Rattle.answers.specs.Terms.{body, lines_of_code, Routine, read_bound, read_run, reported, refused, memory_limit, lines, all}
 use Rattle.machine.specs.Targets.{Closed}

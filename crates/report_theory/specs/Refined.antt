@@ -1,6 +1,7 @@
 -- Two files of one routine, one of which knows more, and a file that knows all: what is promised of the reports on them, as statements.
 -- `proofs/RefinedLaws` proves each by its name. (document 02 §14)
-use Rattle.refusals.specs.Library.{ℕ, ◌≤◌, ◌<◌, List, [], ◌↔◌, ◌≡◌}
+use Rattle.std.specs.Prelude.{◌≤◌, ◌<◌, ◌↔◌, ◌≡◌}
+use Rattle.refusals.specs.Library.{ℕ, List, []}
 use Rattle.bound_theory.specs.Terms.{Spent, Report, Refines, Cellwise}
 use Rattle.answers.specs.Terms.{Routine, read_bound, read_run, Answer, reported, refused, memory_limit}
 use Rattle.bound_theory.specs.Promises.{NoGreater}

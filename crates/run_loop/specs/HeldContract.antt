@@ -1,5 +1,6 @@
 -- What is asked of the run, and what is promised of it.
-use Rattle.refusals.specs.Library.{ℕ, ◌≤◌, ℤ, List, [], ◌≡◌}
+use Rattle.std.specs.Prelude.{◌≤◌, ◌≡◌}
+use Rattle.refusals.specs.Library.{ℕ, ℤ, List, []}
 use Rattle.bound_theory.specs.Terms.{Report, Verdict, accepted, refused, bound, Run, begin, Allowed, State, Code, Cellwise}
 use Rattle.refusals.specs.declared.Acceptance.TheVariants.{Accepted, Refused}
 use Rattle.refusals.specs.declared.Acceptance as code

@@ -1,5 +1,6 @@
 -- What the internal functions are handed, and what they answer.
-use Rattle.refusals.specs.Library.{ℕ, ◌+◌, ◌≤◌, max, ℤ, length, cond, List, ◌≡◌}
+use Rattle.std.specs.Prelude.{◌+◌, ◌≤◌, ◌≡◌}
+use Rattle.refusals.specs.Library.{ℕ, max, ℤ, length, cond, List}
 use Rattle.machine.specs.Terms.{Try, done, stuck, Value, Cell, Cellwise}
 use Rattle.refusals.specs.declared.Acceptance.{Acceptance}
 use Rattle.refusals.specs.declared.Acceptance.TheVariants.{Accepted, Refused}

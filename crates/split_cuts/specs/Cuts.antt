@@ -1,6 +1,7 @@
 -- The text of the cuts: which refusal it has, and the cuts that it lists. (docs/DECISIONS.md, The bound by cases)
 -- Every definition is total: what an accepted text never needs is 0 or empty.
-use Rattle.refusals.specs.Library.{ℕ, zero, suc, eqb, ltb, ℤ, length, get_or, drop, Bool, true, cond, not, ◌&&◌, List, [], ◌∷◌, map}
+use Rattle.std.specs.Prelude.{◌&&◌, ◌∷◌}
+use Rattle.refusals.specs.Library.{ℕ, zero, suc, eqb, ltb, ℤ, length, get_or, drop, Bool, true, cond, not, List, [], map}
 use Rattle.answers.specs.Terms.{TextLength, Layout, OutOfRange, BadName, bytes, Line, lines, line_words, is_empty, equals, find, numeral, RefusedLine, line}
 use Rattle.refusals.specs.declared.Acceptance.{Acceptance}
 use Rattle.refusals.specs.declared.Acceptance.TheVariants.{Accepted as accepted, Refused as refused}

@@ -1,6 +1,7 @@
 -- The answer of the bound by cases to a routine file, to the text of its cuts and to a length of lent memory.
 -- (docs/DECISIONS.md, The bound by cases)
-use Rattle.refusals.specs.Library.{ℕ, List, ◌++◌}
+use Rattle.std.specs.Prelude.{◌++◌}
+use Rattle.refusals.specs.Library.{ℕ, List}
 use Rattle.answers.specs.Terms.{listed, Routine, read_bound, Answer, refused, lending, of_reading, memory_limit, Line, lines, cells, fields, names}
 use Rattle.refusals.specs.declared.Acceptance.{Acceptance}
 use Rattle.refusals.specs.declared.Acceptance.TheVariants.{Accepted, Refused}

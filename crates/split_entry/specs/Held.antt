@@ -1,5 +1,6 @@
 -- What the internal functions are handed.
-use Rattle.refusals.specs.Library.{ℕ, List, ◌≡◌}
+use Rattle.std.specs.Prelude.{◌≡◌}
+use Rattle.refusals.specs.Library.{ℕ, List}
 use Rattle.text.specs.Text.{lines}
 use Rattle.file_format.specs.Routine.{read_bound, routine_of}
 use Rattle.file_format.specs.Rows.{Passes}

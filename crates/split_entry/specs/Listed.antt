@@ -1,6 +1,7 @@
 -- When a call of the bound by cases is refused, by which number and at which place: in the listed cases and in no other.
 -- (docs/DECISIONS.md, The bound by cases)
-use Rattle.refusals.specs.Library.{ℕ, ◌≤◌, ◌<◌, length, List, ◌↔◌, ◌≡◌}
+use Rattle.std.specs.Prelude.{◌≤◌, ◌<◌, ◌↔◌, ◌≡◌}
+use Rattle.refusals.specs.Library.{ℕ, length, List}
 use Rattle.answers.specs.Terms.{Routine, refused, Refusal, TextLength, Layout, OutOfRange, BadName, lines, nowhere, line}
 use Rattle.file_format.specs.Routine.{bound_checks}
 use Rattle.replay_trace.specs.Traces.{earliest}

@@ -1,5 +1,6 @@
 -- What is promised of the bytes of the bound by cases, in terms of both texts. `proofs/Theorems` proves each by its name.
-use Rattle.refusals.specs.Library.{ℕ, ◌≤◌, ◌<◌, List, ◌≡◌}
+use Rattle.std.specs.Prelude.{◌≤◌, ◌<◌, ◌≡◌}
+use Rattle.refusals.specs.Library.{ℕ, List}
 use Rattle.bound_theory.specs.Terms.{Refusal, ReportMemory, Report, accepted, Allowed, State, Cellwise}
 use Rattle.answers.specs.Terms.{Routine, read_bound, reported, refused, memory_limit}
 use Rattle.refusals.specs.declared.Acceptance.TheVariants.{Accepted, Refused}

@@ -1,4 +1,5 @@
 -- What is proved of the bound by cases, by the names of `specs/Promises`. Assumes nothing.
+use Rattle.std.specs.Prelude.{◌≤◌, ◌++◌, ◌⊎◌, ◌↔◌, ◌≡◌}
 use mathlib.Core.List.{[]}
 use native.Mathlib.Omega.{arith}
 use mathlib.Core.Path.{refl}
@@ -10,7 +11,7 @@ use Rattle.split_theory.specs.Promises.{SplitInterruptible, SplitNotAbove, Split
 use Rattle.split_theory.proofs.CutLaws.{parts, apart, parts-kept}
 use Rattle.split_theory.proofs.SplitLaws.{monotone, not_above, more-cuts, plain, among-cuts, chosen}
 use Rattle.split_theory.proofs.CaseLaws.{covers, in_one, each_within, attained, refused_by, all-accepted, to-first, from_first}
-use Rattle.refusals.specs.Library.{ℕ, ◌≤◌, ℤ, true, List, ◌++◌, ◌⊎◌, ◌↔◌, ◌≡◌}
+use Rattle.refusals.specs.Library.{ℕ, ℤ, true, List}
 use Rattle.bound_theory.specs.Terms.{Allowed, Refines, State, Code, Cellwise, Report, accepted}
 use Rattle.cells.specs.HeldConfined.{Kept}
 use Rattle.bound_theory.specs.Promises.{NoGreater, Interruptible}

@@ -1,5 +1,6 @@
 -- What the code's cuts stand for.
-use Rattle.refusals.specs.Library.{ℕ, zero, suc, ◌-◌, ◌≤◌, ◌<◌, ℤ, pos, length, get_or, List, [], ◌∷◌, ◌≡◌}
+use Rattle.std.specs.Prelude.{◌-◌, ◌≤◌, ◌<◌, ◌∷◌, ◌≡◌}
+use Rattle.refusals.specs.Library.{ℕ, zero, suc, ℤ, pos, length, get_or, List, []}
 use Rattle.nearest_changes.specs.Places.{position_of}
 use Rattle.split_theory.specs.declared.Cuts.{Cuts}
 use Rattle.split_theory.specs.Split.{Cut}

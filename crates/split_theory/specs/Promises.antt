@@ -1,5 +1,6 @@
 -- What is promised of the bound by cases, as statements. `proofs/Theorems` proves each by its name.
-use Rattle.refusals.specs.Library.{ℕ, true, false, List, [], ◌∷◌, ◌↔◌, ◌≡◌}
+use Rattle.std.specs.Prelude.{◌∷◌, ◌↔◌, ◌≡◌}
+use Rattle.refusals.specs.Library.{ℕ, true, false, List, []}
 use Rattle.bound_theory.specs.Terms.{Refusal, Report, accepted, refused, Allowed, State, Code, Cellwise}
 use Rattle.bound_theory.specs.Promises.{NoGreater, Interruptible, Monotone}
 use Rattle.merge_theory.specs.Merge.{merged}

@@ -1,6 +1,7 @@
 -- The bound by cases: cells of a start are cut at numbers, each case is bounded by merging, and the largest figures are reported.
 -- (docs/DECISIONS.md, The bound by cases)
-use Rattle.refusals.specs.Library.{max, ℤ, pos, ◌-ℤ◌, le_z, lt_z, Bool, true, false, cond, ◌&&◌, List, [], ◌∷◌, ◌≡◌}
+use Rattle.std.specs.Prelude.{◌-ℤ◌, ◌&&◌, ◌∷◌, ◌≡◌}
+use Rattle.refusals.specs.Library.{max, ℤ, pos, le_z, lt_z, Bool, true, false, cond, List, []}
 use Rattle.bound_theory.specs.Terms.{Report, Verdict, accepted, refused, Try, done, stuck, Value, Range, Handle, Cell, handle, between, high, State, Code}
 use Rattle.merge_theory.specs.Merge.{merged}
 use Rattle.nearest_changes.specs.declared.Position.{Position}

@@ -1,5 +1,6 @@
 -- Files with what the bound or the run prints for them: the cases that document 01 marks with a star, then others of documents 01 and 02.
-use Rattle.refusals.specs.Library.{ℕ, String, Bool, true, false, List, [], ◌∷◌, ◌++◌}
+use Rattle.std.specs.Prelude.{◌∷◌, ◌++◌}
+use Rattle.refusals.specs.Library.{ℕ, String, Bool, true, false, List, []}
 use Rattle.text.specs.Text.{bytes, equals}
 use Rattle.report_theory.specs.Answers.{bound_answer, run_answer}
 use Rattle.console.specs.Line.{printed}

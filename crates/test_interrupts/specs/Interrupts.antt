@@ -1,5 +1,6 @@
 -- A run of a routine file, interrupted after a number of steps and bounded afresh, as thirteen numbers. (document 01, Interrupted runs)
-use Rattle.refusals.specs.Library.{ℕ, ltb, ℤ, cond, List, [], ◌∷◌, ◌++◌, ◌≡◌}
+use Rattle.std.specs.Prelude.{◌∷◌, ◌++◌, ◌≡◌}
+use Rattle.refusals.specs.Library.{ℕ, ltb, ℤ, cond, List, []}
 use Rattle.bound_theory.specs.Terms.{number, place, Verdict, accepted, refused, bound, Run, begin, after, Code}
 use Rattle.answers.specs.Terms.{Routine, read_run, Answer, reported, lending, of_reading}
 use Rattle.bound_theory.specs.Run.{bounded_afresh}

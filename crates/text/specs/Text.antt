@@ -1,6 +1,7 @@
 -- A text is the list of its bytes. Lines end in a line feed (byte 10), and words are parted by one space (byte 32).
 -- Nothing here knows how long a text may be.
-use Rattle.refusals.specs.Library.{ℕ, suc, String, eqb, Bool, true, false, cond, not, ◌&&◌, List, [], ◌∷◌, ◌++◌}
+use Rattle.std.specs.Prelude.{◌&&◌, ◌∷◌, ◌++◌}
+use Rattle.refusals.specs.Library.{ℕ, suc, String, eqb, Bool, true, false, cond, not, List, []}
 use Prim.Native.Char.{code}
 use Prim.Native.String.{[] as ends, ◌∷◌ as ◌then◌}
 use Rattle.text.specs.declared.Lookup.{Lookup}

@@ -1,5 +1,6 @@
 -- "Numbers are decimal, no leading zero, no `-0`." (document 01, The routine file)
-use Rattle.refusals.specs.Library.{ℕ, zero, suc, ◌+◌, ◌-◌, ◌*◌, ◌/◌, ◌%◌, eqb, ltb, leb, ℤ, pos, negsuc, Bool, true, false, cond, List, [], ◌∷◌, ◌++◌, ◌≡◌}
+use Rattle.std.specs.Prelude.{◌+◌, ◌-◌, ◌*◌, ◌/◌, ◌%◌, ◌∷◌, ◌++◌, ◌≡◌}
+use Rattle.refusals.specs.Library.{ℕ, zero, suc, eqb, ltb, leb, ℤ, pos, negsuc, Bool, true, false, cond, List, []}
 use Rattle.text.specs.Text.{bytes, is_empty}
 use Rattle.text_decimals.specs.declared.Numeral.{Numeral}
 use Rattle.text_decimals.specs.declared.Numeral.TheVariants.{Misspelt as misspelt, Number as number}

@@ -1,5 +1,6 @@
 -- Texts written into lent memory.
-use Rattle.refusals.specs.Library.{ℕ, ◌+◌, length, take, drop, List, ◌++◌}
+use Rattle.std.specs.Prelude.{◌+◌, ◌++◌}
+use Rattle.refusals.specs.Library.{ℕ, length, take, drop, List}
 
 -- the memory d with the text t over its bytes from `at` on
 abbrev pub over : List ℕ → ℕ → List ℕ → List ℕ

@@ -1,5 +1,6 @@
 -- The functions that users call, and what is promised of all of them, or of the answers of one next to those of another.
-use Rattle.refusals.specs.Library.{ℕ, ◌≤◌, ◌<◌, length, List, ◌++◌, ◌⊎◌, ◌↔◌, ◌≡◌}
+use Rattle.std.specs.Prelude.{◌≤◌, ◌<◌, ◌++◌, ◌⊎◌, ◌↔◌, ◌≡◌}
+use Rattle.refusals.specs.Library.{ℕ, length, List}
 use Rattle.answers.specs.Terms.{Answer, reported, refused, memory_limit, Refusal, BadName, lines}
 use Rattle.refusals.specs.Refusals.{place}
 use Rattle.answers.specs.Answers.{answer_of, report_length}

@@ -1,5 +1,6 @@
 -- What the internal functions are handed, and what a step by value stands for.
-use Rattle.refusals.specs.Library.{ℕ, suc, ◌≤◌, ℤ, length, true, false, List, ◌≡◌}
+use Rattle.std.specs.Prelude.{◌≤◌, ◌≡◌}
+use Rattle.refusals.specs.Library.{ℕ, suc, ℤ, length, true, false, List}
 use Rattle.bound_theory.specs.Terms.{Run, Cell, Code}
 use Rattle.machine_state.specs.HeldState.{WellFormed}
 use Rattle.machine_state.specs.declared.State as states

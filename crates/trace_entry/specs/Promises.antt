@@ -1,6 +1,7 @@
 -- What is promised of the bytes of a trace, as statements. The contract of `trace` has the first, and `proofs/Theorems` proves the others by
 -- their names.
-use Rattle.refusals.specs.Library.{ℕ, ◌≤◌, List, ◌≡◌}
+use Rattle.std.specs.Prelude.{◌≤◌, ◌≡◌}
+use Rattle.refusals.specs.Library.{ℕ, List}
 use Rattle.bound_theory.specs.Terms.{Report, accepted, run}
 use Rattle.answers.specs.Terms.{Routine, routine, read_run, reported, memory_limit, bytes}
 use Rattle.replay_trace.specs.Traces.{entries}

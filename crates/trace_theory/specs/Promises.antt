@@ -1,5 +1,6 @@
 -- What the trace of a run says, as statements. `proofs/Theorems` proves each by its name.
-use Rattle.refusals.specs.Library.{ℕ, ℤ, length, true, List, ◌≡◌}
+use Rattle.std.specs.Prelude.{◌≡◌}
+use Rattle.refusals.specs.Library.{ℕ, ℤ, length, true, List}
 use Rattle.bound_theory.specs.Terms.{Report, accepted, begin, after, run, State, Code}
 use Rattle.replay_trace.specs.Traces.{Entry}
 use Rattle.replay_steps.specs.Replay.{agreed, replay}

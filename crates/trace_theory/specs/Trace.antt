@@ -1,5 +1,6 @@
 -- The trace of a run: what a card would record of it. (docs/ROUTINE-FILE.md, The trace of a run)
-use Rattle.refusals.specs.Library.{ℕ, zero, suc, ℤ, cond, List, [], ◌∷◌, ◌++◌}
+use Rattle.std.specs.Prelude.{◌∷◌, ◌++◌}
+use Rattle.refusals.specs.Library.{ℕ, zero, suc, ℤ, cond, List, []}
 use Rattle.file_format.specs.Terms.{bytes, decimal}
 use Rattle.machine.specs.Machine.{State, Code}
 use Rattle.bound_theory.specs.Run.{Run, begin, once}

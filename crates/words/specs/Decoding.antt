@@ -1,5 +1,6 @@
 -- The instructions that words hold, with their positions, and what is wrong with words: refusal 12. (document 02, §2)
-use Rattle.refusals.specs.Library.{ℕ, suc, ltb, ℤ, pos, negsuc, ◌+ℤ◌, Bool, true, false, cond, List, [], ◌∷◌, map}
+use Rattle.std.specs.Prelude.{◌+ℤ◌, ◌∷◌}
+use Rattle.refusals.specs.Library.{ℕ, suc, ltb, ℤ, pos, negsuc, Bool, true, false, cond, List, [], map}
 use Rattle.numbers.specs.Numbers.{signed}
 use Rattle.text.specs.declared.Place.{Place}
 use Rattle.text.specs.declared.Place.TheVariants.{At as at, Missing as missing}

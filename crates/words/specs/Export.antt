@@ -1,5 +1,6 @@
 -- What an export makes of code lines: the inverse of the import. (document 02, §2)
-use Rattle.refusals.specs.Library.{ℕ, suc, ◌+◌, ℤ, pos, nat_abs, ◌-ℤ◌, get_or, cond, List, [], ◌∷◌, ◌++◌, map}
+use Rattle.std.specs.Prelude.{◌+◌, ◌-ℤ◌, ◌∷◌, ◌++◌}
+use Rattle.refusals.specs.Library.{ℕ, suc, ℤ, pos, nat_abs, get_or, cond, List, [], map}
 use Rattle.numbers.specs.Numbers.{residue}
 use Rattle.text.specs.Text.{Line, find}
 use Rattle.instructions.specs.Kinds.{kind_names, kind_at}

@@ -1,5 +1,6 @@
 -- What the code holds of words: the instruction at their head, and for each index the instruction whose opcode stands there.
-use Rattle.refusals.specs.Library.{ℕ, ltb, ℤ, pos, negsuc, get_or, Bool, true, cond, List, [], ◌∷◌, map, ◌≡◌}
+use Rattle.std.specs.Prelude.{◌∷◌, ◌≡◌}
+use Rattle.refusals.specs.Library.{ℕ, ltb, ℤ, pos, negsuc, get_or, Bool, true, cond, List, [], map}
 use Rattle.numbers.specs.Numbers.{signed}
 use Rattle.text.specs.declared.Place.{Place}
 use Rattle.text.specs.declared.Place.TheVariants.{At as at, Missing as missing}

@@ -1,5 +1,6 @@
 -- What an import answers to words and a primitives line. (document 02, §2)
-use Rattle.refusals.specs.Library.{ℕ, length, Bool, cond, not, ◌&&◌, List, [], ◌∷◌}
+use Rattle.std.specs.Prelude.{◌&&◌, ◌∷◌}
+use Rattle.refusals.specs.Library.{ℕ, length, Bool, cond, not, List, []}
 use Rattle.file_format.specs.Terms.{Layout, BadName, Line, lines, line_words, is_empty, all, Place}
 use Rattle.refusals.specs.declared.Refusal.TheVariants.{BadWord}
 use Rattle.refusals.specs.declared.Acceptance.{Acceptance}

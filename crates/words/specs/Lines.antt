@@ -1,5 +1,6 @@
 -- The lines that an import makes: "the AT lines under their names line, from address 0". (document 02, §2)
-use Rattle.refusals.specs.Library.{ℕ, suc, nat_abs, get_or, List, [], ◌∷◌, ◌++◌}
+use Rattle.std.specs.Prelude.{◌∷◌, ◌++◌}
+use Rattle.refusals.specs.Library.{ℕ, suc, nat_abs, get_or, List, []}
 use Rattle.text.specs.Text.{bytes, index_of}
 use Rattle.text_decimals.specs.Decimal.{decimal, integer}
 use Rattle.instructions.specs.declared.Argument.{Argument}

@@ -1,5 +1,6 @@
 -- "32-bit little-endian words" (document 02, §2)
-use Rattle.refusals.specs.Library.{ℕ, ◌+◌, ◌*◌, ◌/◌, ◌%◌, List, [], ◌∷◌, ◌++◌}
+use Rattle.std.specs.Prelude.{◌+◌, ◌*◌, ◌/◌, ◌%◌, ◌∷◌, ◌++◌}
+use Rattle.refusals.specs.Library.{ℕ, List, []}
 
 -- the width of a word
 abbrev pub word_bits : ℕ

@@ -1,5 +1,6 @@
 -- The words that an import refuses by 12, each under the words that name it. (document 02, §2)
-use Rattle.refusals.specs.Library.{ℕ, suc, ◌≤◌, ◌<◌, pos, List, [], ◌⊎◌, ◌≡◌}
+use Rattle.std.specs.Prelude.{◌≤◌, ◌<◌, ◌⊎◌, ◌≡◌}
+use Rattle.refusals.specs.Library.{ℕ, suc, pos, List, []}
 use Rattle.machine.specs.Terms.{done, Target, Primitive, kind_at, nth}
 use Rattle.words.specs.Words.{Word}
 use Rattle.words.specs.Decoding.{Item, item, unreadable, decoded, landing}

@@ -1,5 +1,6 @@
 -- What is promised of an import and an export together, as statements. `proofs/Theorems` proves each by its name. (document 02, §2)
-use Rattle.refusals.specs.Library.{ℕ, ◌≤◌, ltb, length, true, List, ◌↔◌, ◌≡◌}
+use Rattle.std.specs.Prelude.{◌≤◌, ◌↔◌, ◌≡◌}
+use Rattle.refusals.specs.Library.{ℕ, ltb, length, true, List}
 use Rattle.bound_theory.specs.Terms.{BadWord, bound, run}
 use Rattle.answers.specs.Terms.{listed, body, Routine, routine, read_bound, read_run, reported, refused, lines, all, primitives, names}
 use Rattle.refusals.specs.declared.Acceptance.TheVariants.{Accepted as accepted}

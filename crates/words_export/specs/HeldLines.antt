@@ -1,5 +1,6 @@
 -- Code lines as the code of the export reads and writes them: by their texts, and by the indices of all opcodes.
-use Rattle.refusals.specs.Library.{ℕ, ◌≤◌, ◌<◌, ℤ, pos, ◌-ℤ◌, length, get_or, take, true, List, map, ◌≡◌}
+use Rattle.std.specs.Prelude.{◌≤◌, ◌<◌, ◌-ℤ◌, ◌≡◌}
+use Rattle.refusals.specs.Library.{ℕ, ℤ, pos, length, get_or, take, true, List, map}
 use Rattle.text.specs.Text.{Line, find}
 use Rattle.instructions.specs.Kinds.{addresses, kind_names, kind_at}
 use Rattle.instructions.specs.declared.Argument.{Argument}

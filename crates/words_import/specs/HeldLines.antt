@@ -1,5 +1,6 @@
 -- A line of code as the code of the import writes it: by the table of positions, and by what an instruction consists of.
-use Rattle.refusals.specs.Library.{ℕ, suc, ◌≤◌, ℤ, pos, nat_abs, ◌+ℤ◌, length, get_or, List, [], ◌++◌}
+use Rattle.std.specs.Prelude.{◌≤◌, ◌+ℤ◌, ◌++◌}
+use Rattle.refusals.specs.Library.{ℕ, suc, ℤ, pos, nat_abs, length, get_or, List, []}
 use Rattle.text.specs.Text.{bytes, index_of}
 use Rattle.text_decimals.specs.Decimal.{decimal, integer}
 use Rattle.instructions.specs.declared.Argument.{Argument}

@@ -1,5 +1,6 @@
 -- The section of the code as a file holds it: what an import makes anew. (document 02, §2)
-use Rattle.refusals.specs.Library.{ℕ, suc, ◌-◌, length, take, drop, List, ◌++◌}
+use Rattle.std.specs.Prelude.{◌-◌, ◌++◌}
+use Rattle.refusals.specs.Library.{ℕ, suc, length, take, drop, List}
 use Rattle.text.specs.Text.{Line, lines_text}
 use Rattle.file_format.specs.declared.Section.TheVariants.{Primitives as primitives}
 use Rattle.file_format.specs.declared.Role.TheVariants.{Names as names}
