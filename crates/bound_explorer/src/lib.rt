@@ -1,4 +1,6 @@
 // The explorer: every way of a routine, under a budget of steps. The meaning is in specs/.
+#![tactic(auto)]
+
 ghost use Rattle.std.specs.Prelude.{◌≡◌, ◌<◌};
 ghost use Rattle.refusals.specs.declared.Refusal.TheVariants.{Stuck};
 ghost use Rattle.bound_figures.specs.HeldFigures.{refused_as};

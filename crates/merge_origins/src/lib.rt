@@ -1,5 +1,7 @@
 // What is kept beside the rows of the merging bound: for each goal of a way, which is the address of a row or STOP, the last move of the
 // costliest way that has come to it. The meaning is in specs/.
+#![tactic(auto)]
+
 ghost use Rattle.std.specs.Prelude.{◌≡◌, cond, ℕ, ◌+◌, ◌*◌, ◌<◌, ◌≤◌, eqb};
 ghost use Rattle.machine.specs.Machine as machine;
 ghost use Rattle.machine.specs.Machine.{State, height};

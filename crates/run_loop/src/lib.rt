@@ -1,4 +1,6 @@
 // The plain machine over a list of answers of any length: a loop of steps. The meaning is in specs/.
+#![tactic(auto)]
+
 ghost use Rattle.std.specs.Prelude.{◌≡◌, List, ℕ, suc, ◌<◌, ◌≤◌, ℤ, drop};
 ghost use Rattle.machine_state.specs.HeldProgram.{program_of, sizes_of, IsProgram};
 ghost use Rattle.machine_state.specs.HeldState.{WellFormed, whole};

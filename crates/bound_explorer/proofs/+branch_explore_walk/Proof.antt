@@ -172,12 +172,12 @@ walk-claims t = (
   refused-reads.Learnt,
 )
 
-abbrev invariant-loop : walk-lts.invariant-loop
-invariant-loop code registers₀ openings budget stack₀ blocks₀ tally₀ registers stack blocks tally =
+abbrev invariant-loop-tally : walk-lts.invariant-loop-tally
+invariant-loop-tally code registers₀ openings budget stack₀ blocks₀ tally₀ registers stack blocks tally =
     Turn code openings budget blocks₀ (with_stack registers₀ stack₀) blocks (with_stack registers stack) tally.left tally
 
-abbrev decreases-loop : walk-lts.decreases-loop
-decreases-loop code registers₀ openings budget stack₀ blocks₀ tally₀ registers stack blocks tally = tally.left
+abbrev decreases-loop-tally : walk-lts.decreases-loop-tally
+decreases-loop-tally code registers₀ openings budget stack₀ blocks₀ tally₀ registers stack blocks tally = tally.left
 
 -- ---- the ways of a branch
 
@@ -204,108 +204,108 @@ target_is : (s v w : State) (n k : ℕ) → view v ≡ advance (view s) → view
 unfolding advance jump
 target_is s v w n k e g h = g ∙ ap (jump n) e ∙ ap (λ a. view (placed a s)) h
 
-branch-returns : (t : ℕ) → branch-lts.Need-returns (branch-claims t) (branch-at t) branch.Post
+branch-returns : (t : ℕ) → branch-lts.Need-returns-then-openings-eq0 (branch-claims t) (branch-at t) branch.Post
 branch-returns t c =
-    let over = c.refused.ensures in
+    let over = c.refused-over.ensures in
     record {
       over = λ z. over;
-      first = λ z. absurd (omega (arith, z, c.before.if1.true));
-      second = λ z e. absurd (omega (arith, z, c.before.if1.true));
+      first = λ z. absurd (omega (arith, z, c.if-openings-eq0.true));
+      second = λ z e. absurd (omega (arith, z, c.if-openings-eq0.true));
       first_bounded = refused-bounded _ _ 0 _ _ over (omega arith);
       second_bounded = refused-bounded _ _ 0 _ _ over (omega arith);
     }
 
-branch-advance-requires : (t : ℕ) → branch-lts.Need-advance-requires (branch-claims t) (branch-at t) branch.Post
+branch-advance-requires : (t : ℕ) → branch-lts.Need-advance-state-requires (branch-claims t) (branch-at t) branch.Post
 branch-advance-requires t c κs =
     let s : Forked t = c.before.before in
     let f : c.of.result.at ≡ s.args.registers.at = ap (λ x. x.at) c.of.ensures in
     (subst WellFormed (sym c.of.ensures) s.requires.1.1.0.formed, omega (arith, s.requires.1.1.1))
 
-branch-sub-explore : (t : ℕ) → branch-lts.Need-overflow-sub-explore (branch-claims t) (branch-at t) branch.Post
-branch-sub-explore t c = omega (arith, c.before.before.if1.false)
+branch-sub-explore : (t : ℕ) → branch-lts.Need-overflow_sub-openings (branch-claims t) (branch-at t) branch.Post
+branch-sub-explore t c = omega (arith, c.if-openings-eq0.false)
 
-branch-explore-requires : (t : ℕ) → branch-lts.Need-explore-requires (branch-claims t) (branch-at t) branch.Post
+branch-explore-requires : (t : ℕ) → branch-lts.Need-explore-untaken-requires (branch-claims t) (branch-at t) branch.Post
 branch-explore-requires t c κs =
     let s : Forked t = c.before.before.before in
-    (omega (arith, c.before.before.if1.false, s.requires.0), (s.requires.1.0, record { formed = c.advance.ensures.1; budget_fits = s.requires.1.1.0.budget_fits; openings_fit = omega (arith, s.requires.1.1.0.openings_fit) }))
+    (omega (arith, c.if-openings-eq0.false, s.requires.0), (s.requires.1.0, record { formed = c.advance-state.ensures.1; budget_fits = s.requires.1.1.0.budget_fits; openings_fit = omega (arith, s.requires.1.1.0.openings_fit) }))
 
-branch-returns-2 : (t : ℕ) → branch-lts.Need-returns-2 (branch-claims t) (branch-at t) branch.Post
+branch-returns-2 : (t : ℕ) → branch-lts.Need-returns-in-Refused (branch-claims t) (branch-at t) branch.Post
 branch-returns-2 t c =
-    let s : Forked t = c.before.before.before.before.before.before.before.before in
-    let x = c.before.before.before.before.explore in
-    let refuses = c.before.before.verdict.given.1 in
+    let s : Forked t = c.before.before.before.before.before.before in
+    let x = c.explore-untaken in
+    let refuses = c.in-Refused.is in
     record {
-      over = λ z. absurd (c.before.before.before.before.before.before.before.if1.false z);
-      first = λ z. explores-at _ _ _ _ _ _ _ _ (next-is (forked s) c.before.before.before.before.before.advance.result (c.before.before.before.before.before.advance.ensures.0 ∙ ap (λ x. advance (view x)) c.before.before.before.before.before.before.of.ensures)) x.ensures.0;
+      over = λ z. absurd (c.if-openings-eq0.false z);
+      first = λ z. explores-at _ _ _ _ _ _ _ _ (next-is (forked s) c.advance-state.result (c.advance-state.ensures.0 ∙ ap (λ x. advance (view x)) c.of.ensures)) x.ensures.0;
       second = λ z e. absurd (clash _ _ e refuses);
       first_bounded = x.ensures.1.1.1;
-      second_bounded = refused-bounded _ _ 0 _ _ c.refused2.ensures (omega arith);
+      second_bounded = refused-bounded _ _ 0 _ _ c.refused-taken.ensures (omega arith);
     }
 
-branch-sub-rest : (t : ℕ) → branch-lts.Need-overflow-sub-rest (branch-claims t) (branch-at t) branch.Post
-branch-sub-rest t c = c.before.before.before.explore.ensures.1.1.1.used
+branch-sub-rest : (t : ℕ) → branch-lts.Need-overflow_sub-rest (branch-claims t) (branch-at t) branch.Post
+branch-sub-rest t c = c.explore-untaken.ensures.1.1.1.used
 
-branch-jump-requires : (t : ℕ) → branch-lts.Need-jump-requires (branch-claims t) (branch-at t) branch.Post
-branch-jump-requires t c κs = c.before.before.before.before.before.before.advance.ensures.1
+branch-jump-requires : (t : ℕ) → branch-lts.Need-jump-state-requires (branch-claims t) (branch-at t) branch.Post
+branch-jump-requires t c κs = c.advance-state.ensures.1
 
-branch-sub-explore-2 : (t : ℕ) → branch-lts.Need-overflow-sub-explore-2 (branch-claims t) (branch-at t) branch.Post
-branch-sub-explore-2 t c = omega (arith, c.before.before.before.before.before.before.before.before.before.if1.false)
+branch-sub-explore-2 : (t : ℕ) → branch-lts.Need-overflow_sub-openings-2 (branch-claims t) (branch-at t) branch.Post
+branch-sub-explore-2 t c = omega (arith, c.if-openings-eq0.false)
 
-branch-explore-requires-2 : (t : ℕ) → branch-lts.Need-explore-requires-2 (branch-claims t) (branch-at t) branch.Post
+branch-explore-requires-2 : (t : ℕ) → branch-lts.Need-explore-taken-requires (branch-claims t) (branch-at t) branch.Post
 branch-explore-requires-2 t c κs =
-    let s : Forked t = c.before.before.before.before.before.before.before.before.before.before in
-    (omega (arith, c.before.before.before.before.before.before.before.before.before.if1.false, s.requires.0), (s.requires.1.0, record { formed = c.jump.ensures.1; budget_fits = omega (arith, s.requires.1.1.0.budget_fits); openings_fit = omega (arith, s.requires.1.1.0.openings_fit) }))
+    let s : Forked t = c.before.before.before.before.before.before.before.before.before in
+    (omega (arith, c.if-openings-eq0.false, s.requires.0), (s.requires.1.0, record { formed = c.jump-state.ensures.1; budget_fits = omega (arith, s.requires.1.1.0.budget_fits); openings_fit = omega (arith, s.requires.1.1.0.openings_fit) }))
 
-branch-returns-3 : (t : ℕ) → branch-lts.Need-returns-3 (branch-claims t) (branch-at t) branch.Post
+branch-returns-3 : (t : ℕ) → branch-lts.Need-returns (branch-claims t) (branch-at t) branch.Post
 branch-returns-3 t c =
-    let s : Forked t = c.before.before.before.before.before.before.before.before.before.before.before in
-    let x = c.before.before.before.before.before.before.before.explore in
-    let y = c.explore2 in
-    let v = c.before.before.before.before.before.before.before.before.advance in
-    let e = v.ensures.0 ∙ ap (λ x. advance (view x)) c.before.before.before.before.before.before.before.before.before.of.ensures in
+    let s : Forked t = c.before.before.before.before.before.before.before.before.before.before in
+    let x = c.explore-untaken in
+    let y = c.explore-taken in
+    let v = c.advance-state in
+    let e = v.ensures.0 ∙ ap (λ x. advance (view x)) c.of.ensures in
     record {
-      over = λ z. absurd (c.before.before.before.before.before.before.before.before.before.before.if1.false z);
+      over = λ z. absurd (c.if-openings-eq0.false z);
       first = λ z. explores-at _ _ _ _ _ _ _ _ (next-is (forked s) v.result e) x.ensures.0;
-      second = λ z d. explores-at _ _ _ _ _ _ _ _ (target_is (forked s) v.result c.before.jump.result _ _ e c.before.jump.ensures.0 (c.before.before.index_of.ensures.0 ∙ ap index (to_z-of_z w32 _ (branch-fitting t s)))) y.ensures.0;
+      second = λ z d. explores-at _ _ _ _ _ _ _ _ (target_is (forked s) v.result c.jump-state.result _ _ e c.jump-state.ensures.0 (c.index_of-target.ensures.0 ∙ ap index (to_z-of_z w32 _ (branch-fitting t s)))) y.ensures.0;
       first_bounded = x.ensures.1.1.1;
       second_bounded = y.ensures.1.1.1;
     }
 
 -- ---- the state taken apart, and put together again
 
-same : (t : ℕ) (c : explore-lts.After-registers (explore-claims t) (explore-at t) explore.Post) → with_stack c.registers.result c.before.before.args.start.stack ≡ c.before.before.args.start
-same t c = ap (λ r. with_stack r c.before.before.args.start.stack) c.registers.ensures
+same : (t : ℕ) (c : explore-lts.After-registers (explore-claims t) (explore-at t) explore.Post) → with_stack c.registers.result c.args.start.stack ≡ c.args.start
+same t c = ap (λ r. with_stack r c.args.start.stack) c.registers.ensures
 
 explore-walk-requires : (t : ℕ) → explore-lts.Need-walk-requires (explore-claims t) (explore-at t) explore.Post
 explore-walk-requires t c κs =
-    let s = c.before.before in
+    let s = c in
     (omega (arith, s.requires.0), (s.requires.1.0, subst (λ x. Explorable x s.args.openings s.args.budget) (sym (same t c)) s.requires.1.1))
 
 explore-returns : (t : ℕ) → explore-lts.Need-returns (explore-claims t) (explore-at t) explore.Post
 explore-returns t c =
-    let s = c.before.before.before in
+    let s = c in
     let x = subst (λ y. Explores (program_of s.args.code.now) (sizes_of s.args.code.now) s.args.blocks y s.args.openings s.args.budget c.walk.result) (same t c.before) c.walk.ensures.0 in
     (x, (safe-under _ _ _ _ _ _ _ x, (exact-for _ _ _ _ _ _ _ x, c.walk.ensures.1)))
 
 -- ---- places in a turn, and what is known there
 
 abbrev Entry : ℕ → Type 0
-Entry t = walk-lts.Start (walk-claims t) (walk_at t) walk.Post invariant-loop decreases-loop
+Entry t = walk-lts.Start (walk-claims t) (walk_at t) walk.Post invariant-loop-tally decreases-loop-tally
 
 abbrev Begun : ℕ → Type 0
-Begun t = walk-lts.After-nothing (walk-claims t) (walk_at t) walk.Post invariant-loop decreases-loop
+Begun t = walk-lts.After-nothing-tally (walk-claims t) (walk_at t) walk.Post invariant-loop-tally decreases-loop-tally
 
 abbrev Body : ℕ → Type 0
-Body t = walk-lts.Then1 (walk-claims t) (walk_at t) walk.Post invariant-loop decreases-loop
+Body t = walk-lts.In-loop-tally (walk-claims t) (walk_at t) walk.Post invariant-loop-tally decreases-loop-tally
 
 abbrev Lined : ℕ → Type 0
-Lined t = walk-lts.After-known-told (walk-claims t) (walk_at t) walk.Post invariant-loop decreases-loop
+Lined t = walk-lts.In-Is (walk-claims t) (walk_at t) walk.Post invariant-loop-tally decreases-loop-tally
 
 abbrev Joined : ℕ → Type 0
-Joined t = walk-lts.Joined2 (walk-claims t) (walk_at t) walk.Post invariant-loop decreases-loop
+Joined t = walk-lts.Joined-line (walk-claims t) (walk_at t) walk.Post invariant-loop-tally decreases-loop-tally
 
 abbrev Acted : ℕ → Type 0
-Acted t = walk-lts.After-turn-of (walk-claims t) (walk_at t) walk.Post invariant-loop decreases-loop
+Acted t = walk-lts.After-turn_of (walk-claims t) (walk_at t) walk.Post invariant-loop-tally decreases-loop-tally
 
 abbrev entry : {t : ℕ} → Begun t → Entry t
 entry b = b.before
@@ -314,10 +314,10 @@ abbrev begun : {t : ℕ} → Body t → Begun t
 begun b = b.before.before.before
 
 abbrev body : {t : ℕ} → Lined t → Body t
-body k = k.before.before.before.before
+body k = k.before.before
 
 abbrev line : {t : ℕ} → Lined t → Line
-line k = k.before.line.given.0.0
+line k = k.in-Is.line
 
 abbrev lined : {t : ℕ} → Joined t → Lined t
 lined j = j.before.before.before
@@ -326,59 +326,59 @@ abbrev joined : {t : ℕ} → Acted t → Joined t
 joined a = a.before.before
 
 -- the array of fields is lent with its 128 places
-places : (t : ℕ) (e : Entry t) → length e.args.t4 ≡ 128
+places : (t : ℕ) (e : Entry t) → length e.args.blocks ≡ 128
 places t e = search (rules, length-images)
 
 module _ (t : ℕ) (c : Begun t) where
   -- the state that the loop begins with
   abbrev first : State
-  first = with_stack (entry c).args.registers (entry c).args.t3
+  first = with_stack (entry c).args.registers (entry c).args.stack
 
-  kept : (r : Found) → Kept (entry c).args.code.now (entry c).args.openings (entry c).args.budget (entry c).args.t4 first r →
-      Explores (program_of (entry c).args.code.now) (sizes_of (entry c).args.code.now) (entry c).args.t4 first (entry c).args.openings (entry c).args.budget r × Bounded (entry c).args.openings (entry c).args.budget r
+  kept : (r : Found) → Kept (entry c).args.code.now (entry c).args.openings (entry c).args.budget (entry c).args.blocks first r →
+      Explores (program_of (entry c).args.code.now) (sizes_of (entry c).args.code.now) (entry c).args.blocks first (entry c).args.openings (entry c).args.budget r × Bounded (entry c).args.openings (entry c).args.budget r
   kept r k = (k.explored, k.bounded)
 
 module _ (t : ℕ) (b : Body t) where
   -- the state at the loop's test
   abbrev now-at : State
-  now-at = with_stack b.before.before.loop.registers b.before.before.loop.stack
+  now-at = with_stack b.loop-tally.registers b.loop-tally.stack
 
-  turn : Turn (entry (begun b)).args.code.now (entry (begun b)).args.openings (entry (begun b)).args.budget (entry (begun b)).args.t4 (first t (begun b)) b.before.before.loop.blocks now-at b.before.before.loop.tally.left b.before.before.loop.tally
-  turn = b.before.before.loop.inv
+  turn : Turn (entry (begun b)).args.code.now (entry (begun b)).args.openings (entry (begun b)).args.budget (entry (begun b)).args.blocks (first t (begun b)) b.loop-tally.blocks now-at b.loop-tally.tally.left b.loop-tally.tally
+  turn = b.loop-tally.invariant
 
-  inside : b.before.before.loop.tally.left ≤ (entry (begun b)).args.budget
+  inside : b.loop-tally.tally.left ≤ (entry (begun b)).args.budget
   inside = turn.inv.within
 
 module _ (t : ℕ) (k : Lined t) where
-  there : (fetch (program_of (entry (begun (body k))).args.code.now) (body k).before.before.loop.registers.at ≡ done (line_of (line k))) × ((line k).pushes ≡ true → 0 < (body k).before.before.loop.registers.free)
-  there = line-there _ _ _ (ap of_fetched (sym k.before.line.given.1) ∙ k.before.before.before.reachable.ensures.0)
+  there : (fetch (program_of (entry (begun (body k))).args.code.now) (body k).loop-tally.registers.at ≡ done (line_of (line k))) × ((line k).pushes ≡ true → 0 < (body k).loop-tally.registers.free)
+  there = line-there _ _ _ (ap of_fetched (sym k.in-Is.is) ∙ k.reachable.ensures.0)
 
   known : (line k).code ≤ 22
-  known = subst Known k.before.line.given.1 k.before.before.before.reachable.ensures.1
+  known = subst Known k.in-Is.is k.reachable.ensures.1
 
   small : ((line k).cycles < 4294967296) × (((line k).words < 4294967296) × ((line k).extra < 4294967296))
   small = search rules
 
   -- the code's address is low
-  low : (body k).before.before.loop.registers.at < 65536
+  low : (body k).loop-tally.registers.at < 65536
   low =
       let e : Entry t = entry (begun (body k)) in
-      omega (arith, fetch-within e.args.code.now (body k).before.before.loop.registers.at (line_of (line k)) there.0, e.pre.1.0.addresses)
+      omega (arith, fetch-within e.args.code.now (body k).loop-tally.registers.at (line_of (line k)) there.0, e.requires.1.0.addresses)
 
 module _ (t : ℕ) (j : Joined t) where
   -- the state after the push
   abbrev ready_at : State
-  ready_at = with_stack j.if2.registers j.if2.stack
+  ready_at = with_stack j.if-line.registers j.if-line.stack
 
-  prepared : Prepared (sizes_of (entry (begun (body (lined j)))).args.code.now) (body (lined j)).before.before.loop.blocks (line (lined j)) (now-at t (body (lined j))) ready_at
+  prepared : Prepared (sizes_of (entry (begun (body (lined j)))).args.code.now) (body (lined j)).loop-tally.blocks (line (lined j)) (now-at t (body (lined j))) ready_at
   prepared =
       let b : Body t = body (lined j) in
       ⊎_elim
-      (λ x. pushes (sizes_of (entry (begun b)).args.code.now) b.before.before.loop.blocks (line (lined j)) (now-at t b) (turn t b).formed x.0.taken ((there t (lined j)).1 x.0.taken) j.if2.registers j.if2.stack x.2.result (x.4 ∙ x.1.ensures) (x.2.ensures ∙ ap (λ r. r.accu) (sym x.4)) (x.5 ∙ ap (λ k. set b.before.before.loop.stack k x.2.result) (x.3.ensures ∙ ap (λ r. r.free) (sym x.4))))
-      (λ x. keeps (sizes_of (entry (begun b)).args.code.now) b.before.before.loop.blocks (line (lined j)) (now-at t b) (turn t b).formed x.0.left ready_at (λ i. with_stack (x.1 i) (x.2 i)))
-      j.if2.came
+      (λ x. pushes (sizes_of (entry (begun b)).args.code.now) b.loop-tally.blocks (line (lined j)) (now-at t b) (turn t b).formed x.if-line.true ((there t (lined j)).1 x.if-line.true) j.if-line.registers j.if-line.stack x.same.result (x.registers-is ∙ x.push-registers.ensures) (x.same.ensures ∙ ap (λ r. r.accu) (sym x.registers-is)) (x.stack-is ∙ ap (λ k. set b.loop-tally.stack k x.same.result) (x.top.ensures ∙ ap (λ r. r.free) (sym x.registers-is))))
+      (λ x. keeps (sizes_of (entry (begun b)).args.code.now) b.loop-tally.blocks (line (lined j)) (now-at t b) (turn t b).formed x.if-line.false ready_at (λ i. with_stack (x.registers-is i) (x.stack-is i)))
+      j.if-line.branch-raw
 
-  low-at : j.if2.registers.at < 65536
+  low-at : j.if-line.registers.at < 65536
   low-at = omega (arith, low t (lined j), prepared.same_at)
 
 module _ (t : ℕ) (a : Acted t) where
@@ -390,289 +390,289 @@ module _ (t : ℕ) (a : Acted t) where
 
   -- the sums with this step
   abbrev tally-at : Tally
-  tally-at = (joined a).before.more.result
+  tally-at = (joined a).more-tally.result
 
-  arm : Arm e.args.code.now e.args.openings e.args.budget e.args.t4 (first t (begun b))
-      b.before.before.loop.blocks (now-at t b) b.before.before.loop.tally.left b.before.before.loop.tally (line (lined (joined a))) tally-at (joined a).if2.registers (joined a).if2.stack (range (pos 0) 0) a.turn-of.result
+  arm : Arm e.args.code.now e.args.openings e.args.budget e.args.blocks (first t (begun b))
+      b.loop-tally.blocks (now-at t b) b.loop-tally.tally.left b.loop-tally.tally (line (lined (joined a))) tally-at (joined a).if-line.registers (joined a).if-line.stack (range (pos 0) 0) a.turn_of.result
   arm =
       let ns = sizes_of e.args.code.now in
-      let fs = b.before.before.loop.blocks in
-      let r = (joined a).if2.registers in
-      let st = (joined a).if2.stack in
+      let fs = b.loop-tally.blocks in
+      let r = (joined a).if-line.registers in
+      let st = (joined a).if-line.stack in
       let l = line (lined (joined a)) in
       let o = operation_of l.code in
       let p = prepared t (joined a) in
       let seen = get_or st (r.free + entry_of o (index l.operand)) (range (pos 0) 0) in
       record {
         turn = turn t b;
-        some = b.if1.taken;
+        some = b.loop-tally-test.true;
         small = small t (lined (joined a));
-        grown = (joined a).before.more.ensures;
+        grown = (joined a).more-tally.ensures;
         at = p.same_at;
         formed = p.formed;
         leads =
             (arms.arm (program_of e.args.code.now) unknown ns fs (now-at t b) (with_stack (advanced r) st) l (there t (lined (joined a))).0 p.ready (record { free = p.formed.free; places = p.formed.places }) (turn t b).fits
             (index l.operand) (r.free + entry_of o (index l.operand)) seen (range (pos 0) 0) (outcome o l.operand unknown (64 - r.free) r.accu seen) refl (λ h. refl) refl refl).makes
             ∙ leads ns (line_of l).price l.extra l.operand r p.formed.free fs st (range (pos 0) 0) p.formed.places (turn t b).fits o
-            ∙ ap (turned ns (line_of l).price l.extra o l.operand r fs st (range (pos 0) 0)) (sym a.turn-of.ensures);
+            ∙ ap (turned ns (line_of l).price l.extra o l.operand r fs st (range (pos 0) 0)) (sym a.turn_of.ensures);
         within =
-            subst (Within o r fs) (sym a.turn-of.ensures)
+            subst (Within o r fs) (sym a.turn_of.ensures)
             (within ns (line_of l).price l.extra l.operand r p.formed.free fs st (range (pos 0) 0) p.formed.places (turn t b).fits o);
       }
 
   -- the array of fields has its 128 places
-  size_is : length b.before.before.loop.blocks ≡ 128
+  size_is : length b.loop-tally.blocks ≡ 128
   size_is = (turn t b).size ∙ places t e
 
-  top-is : a.before.top2.result ≡ (joined a).if2.registers.free
-  top-is = a.before.top2.ensures
+  top-is : a.top-top.result ≡ (joined a).if-line.registers.free
+  top-is = a.top-top.ensures
 
   -- what is given of the top entry
-  combined-is : (m : Try Cell) → m ≡ operated (operation_of (line (lined (joined a))).code) (pos 0) (joined a).if2.registers.accu (get_or (joined a).if2.stack a.before.top2.result (range (pos 0) 0)) →
-      m ≡ operated (operation_of (line (lined (joined a))).code) (pos 0) (joined a).if2.registers.accu (get_or (joined a).if2.stack (joined a).if2.registers.free (range (pos 0) 0))
-  combined-is m h = h ∙ ap (λ k. operated (operation_of (line (lined (joined a))).code) (pos 0) (joined a).if2.registers.accu (get_or (joined a).if2.stack k (range (pos 0) 0))) top-is
+  combined-is : (m : Try Cell) → m ≡ operated (operation_of (line (lined (joined a))).code) (pos 0) (joined a).if-line.registers.accu (get_or (joined a).if-line.stack a.top-top.result (range (pos 0) 0)) →
+      m ≡ operated (operation_of (line (lined (joined a))).code) (pos 0) (joined a).if-line.registers.accu (get_or (joined a).if-line.stack (joined a).if-line.registers.free (range (pos 0) 0))
+  combined-is m h = h ∙ ap (λ k. operated (operation_of (line (lined (joined a))).code) (pos 0) (joined a).if-line.registers.accu (get_or (joined a).if-line.stack k (range (pos 0) 0))) top-is
 
   -- one step less is left
-  less : tally-at.left ≡ b.before.before.loop.tally.left - 1
-  less = left-more _ _ _ _ (joined a).before.more.ensures
+  less : tally-at.left ≡ b.loop-tally.tally.left - 1
+  less = left-more _ _ _ _ (joined a).more-tally.ensures
 
-  falling : tally-at.left < b.before.before.loop.tally.left
-  falling = omega (arith, less, b.if1.taken)
+  falling : tally-at.left < b.loop-tally.tally.left
+  falling = omega (arith, less, b.loop-tally-test.true)
 
-  falling-jumped : (y : Tally) (x : ℕ) → y ≡ jumped_of tally-at x → y.left < b.before.before.loop.tally.left
+  falling-jumped : (y : Tally) (x : ℕ) → y ≡ jumped_of tally-at x → y.left < b.loop-tally.tally.left
   falling-jumped y x h = omega (arith, left-jumped _ _ _ h, falling)
 
   fewer : tally-at.left ≤ e.args.budget
   fewer = omega (arith, less, inside t b)
 
-  count : e.args.budget - tally-at.left ≡ e.args.budget - (b.before.before.loop.tally.left - 1)
+  count : e.args.budget - tally-at.left ≡ e.args.budget - (b.loop-tally.tally.left - 1)
   count = ap (λ k. e.args.budget - k) less
 
   abbrev Goes_on : List Cell → State → ℕ → Tally → Type 0
-  Goes_on fs s left y = Turn e.args.code.now e.args.openings e.args.budget e.args.t4 (first t (begun b)) fs s left y
+  Goes_on fs s left y = Turn e.args.code.now e.args.openings e.args.budget e.args.blocks (first t (begun b)) fs s left y
 
-  onward : {fs : List Cell} {s : State} → Goes_on fs s (b.before.before.loop.tally.left - 1) tally-at → Goes_on fs s tally-at.left tally-at
+  onward : {fs : List Cell} {s : State} → Goes_on fs s (b.loop-tally.tally.left - 1) tally-at → Goes_on fs s tally-at.left tally-at
   onward {fs} {s} h = subst (λ k. Goes_on fs s k tally-at) (sym less) h
 
-  onward-jumped : {fs : List Cell} {s : State} (y : Tally) (x : ℕ) → y ≡ jumped_of tally-at x → Goes_on fs s (b.before.before.loop.tally.left - 1) y → Goes_on fs s y.left y
+  onward-jumped : {fs : List Cell} {s : State} (y : Tally) (x : ℕ) → y ≡ jumped_of tally-at x → Goes_on fs s (b.loop-tally.tally.left - 1) y → Goes_on fs s y.left y
   onward-jumped {fs} {s} y x g h = subst (λ k. Goes_on fs s k y) (sym (left-jumped _ _ _ g ∙ less)) h
 
   -- the ways of a branch, with what is left
-  explored : (w : Ways) → WaysExplored (program_of e.args.code.now) (sizes_of e.args.code.now) (line (lined (joined a))) b.before.before.loop.blocks (ready_at t (joined a)) e.args.openings tally-at.left w →
-      WaysExplored (program_of e.args.code.now) (sizes_of e.args.code.now) (line (lined (joined a))) b.before.before.loop.blocks (ready_at t (joined a)) e.args.openings (b.before.before.loop.tally.left - 1) w
-  explored w h = subst (λ k. WaysExplored (program_of e.args.code.now) (sizes_of e.args.code.now) (line (lined (joined a))) b.before.before.loop.blocks (ready_at t (joined a)) e.args.openings k w) less h
+  explored : (w : Ways) → WaysExplored (program_of e.args.code.now) (sizes_of e.args.code.now) (line (lined (joined a))) b.loop-tally.blocks (ready_at t (joined a)) e.args.openings tally-at.left w →
+      WaysExplored (program_of e.args.code.now) (sizes_of e.args.code.now) (line (lined (joined a))) b.loop-tally.blocks (ready_at t (joined a)) e.args.openings (b.loop-tally.tally.left - 1) w
+  explored w h = subst (λ k. WaysExplored (program_of e.args.code.now) (sizes_of e.args.code.now) (line (lined (joined a))) b.loop-tally.blocks (ready_at t (joined a)) e.args.openings k w) less h
 
-walk-loop-holds : (t : ℕ) → walk-lts.Need-loop-init (walk-claims t) (walk_at t) walk.Post invariant-loop decreases-loop
+walk-loop-holds : (t : ℕ) → walk-lts.Need-loop-tally-init (walk-claims t) (walk_at t) walk.Post invariant-loop-tally decreases-loop-tally
 walk-loop-holds t c =
     let x : Entry t = entry c in
-    subst (λ y. Turn x.args.code.now x.args.openings x.args.budget x.args.t4 (first t c) x.args.t4 (first t c) y.left y) (sym c.nothing.ensures)
-    (starts x.args.code.now x.args.openings x.args.budget x.args.t4 (first t c) x.pre.1.1.formed (fits_all x.args.code.now x.pre.1.0 x.args.t4 (places t x)))
+    subst (λ y. Turn x.args.code.now x.args.openings x.args.budget x.args.blocks (first t c) x.args.blocks (first t c) y.left y) (sym c.nothing-tally.ensures)
+    (starts x.args.code.now x.args.openings x.args.budget x.args.blocks (first t c) x.requires.1.1.formed (fits_all x.args.code.now x.requires.1.0 x.args.blocks (places t x)))
 
-walk-reachable-requires : (t : ℕ) → walk-lts.Need-reachable-requires (walk-claims t) (walk_at t) walk.Post invariant-loop decreases-loop
-walk-reachable-requires t c κs = (entry (begun c)).pre.1.0
+walk-reachable-requires : (t : ℕ) → walk-lts.Need-reachable-requires (walk-claims t) (walk_at t) walk.Post invariant-loop-tally decreases-loop-tally
+walk-reachable-requires t c κs = (entry (begun c)).requires.1.0
 
-walk-sub-stuck : (t : ℕ) → walk-lts.Need-overflow-sub-stuck (walk-claims t) (walk_at t) walk.Post invariant-loop decreases-loop
-walk-sub-stuck t c = inside t c.before.before.before.before
+walk-sub-stuck : (t : ℕ) → walk-lts.Need-overflow_sub-budget (walk-claims t) (walk_at t) walk.Post invariant-loop-tally decreases-loop-tally
+walk-sub-stuck t c = inside t c.before.before.before
 
-walk-add-stuck : (t : ℕ) → walk-lts.Need-overflow-add-stuck (walk-claims t) (walk_at t) walk.Post invariant-loop decreases-loop
+walk-add-stuck : (t : ℕ) → walk-lts.Need-overflow_add-budget (walk-claims t) (walk_at t) walk.Post invariant-loop-tally decreases-loop-tally
 walk-add-stuck t c =
-    let b : Body t = c.before.before.before.before in
-    omega (arith, (entry (begun b)).pre.1.1.budget_fits)
+    let b : Body t = c.before.before.before in
+    omega (arith, (entry (begun b)).requires.1.1.budget_fits)
 
-walk-returns : (t : ℕ) → walk-lts.Need-returns (walk-claims t) (walk_at t) walk.Post invariant-loop decreases-loop
+walk-returns : (t : ℕ) → walk-lts.Need-returns-in_default (walk-claims t) (walk_at t) walk.Post invariant-loop-tally decreases-loop-tally
 walk-returns t c =
-    let b : Body t = c.before.before.before.before.before in
+    let b : Body t = c.before.before.before.before in
     let x : Entry t = entry (begun b) in
-    let one : x.args.budget - b.before.before.loop.tally.left + 1 ≡ x.args.budget - (b.before.before.loop.tally.left - 1) = omega (arith, inside t b, b.if1.true) in
+    let one : x.args.budget - b.loop-tally.tally.left + 1 ≡ x.args.budget - (b.loop-tally.tally.left - 1) = omega (arith, inside t b, b.loop-tally-test.true) in
     kept t (begun b) _
-    (stuck-out (turn t b) b.if1.true
-    (unreached x.args.code.now x.args.openings x.args.budget x.args.t4 (first t (begun b)) b.before.before.loop.blocks (now-at t b) (turn t b).formed (ap of_fetched (sym c.before.before.enum_told.given.1) ∙ c.before.before.before.before.reachable.ensures.0))
+    (stuck-out (turn t b) b.loop-tally-test.true
+    (unreached x.args.code.now x.args.openings x.args.budget x.args.blocks (first t (begun b)) b.loop-tally.blocks (now-at t b) (turn t b).formed (ap of_fetched (sym c.in_default.is) ∙ c.reachable.ensures.0))
     _ (c.stuck.ensures ∙ ap (refused_as _) one))
 
-walk-sub-more : (t : ℕ) → walk-lts.Need-overflow-sub-more (walk-claims t) (walk_at t) walk.Post invariant-loop decreases-loop
-walk-sub-more t c = (turn t c.before.before.before.before.before).formed.free
+walk-sub-more : (t : ℕ) → walk-lts.Need-overflow_sub-registers (walk-claims t) (walk_at t) walk.Post invariant-loop-tally decreases-loop-tally
+walk-sub-more t c = (turn t c.before.before.before).formed.free
 
-walk-more-requires : (t : ℕ) → walk-lts.Need-more-requires (walk-claims t) (walk_at t) walk.Post invariant-loop decreases-loop
+walk-more-requires : (t : ℕ) → walk-lts.Need-more-tally-requires (walk-claims t) (walk_at t) walk.Post invariant-loop-tally decreases-loop-tally
 walk-more-requires t c κs =
-    let b : Body t = c.before.before.before.before.before in
-    let h = (entry (begun b)).pre.1.1.budget_fits in
-    (b.if1.true, (omega (arith, (turn t b).cycles, inside t b), omega (arith, (turn t b).words, inside t b)))
+    let b : Body t = c.before.before.before in
+    let h = (entry (begun b)).requires.1.1.budget_fits in
+    (b.loop-tally-test.true, (omega (arith, (turn t b).cycles, inside t b), omega (arith, (turn t b).words, inside t b)))
 
-walk-push-requires : (t : ℕ) → walk-lts.Need-push-requires (walk-claims t) (walk_at t) walk.Post invariant-loop decreases-loop
-walk-push-requires t c κs = (there t c.before.before.before).1 c.if2.true
+walk-push-requires : (t : ℕ) → walk-lts.Need-push-registers-requires (walk-claims t) (walk_at t) walk.Post invariant-loop-tally decreases-loop-tally
+walk-push-requires t c κs = (there t c.before.before.before).1 c.if-line.true
 
-walk-mul-stack : (t : ℕ) → walk-lts.Need-overflow-mul-stack (walk-claims t) (walk_at t) walk.Post invariant-loop decreases-loop
+walk-mul-stack : (t : ℕ) → walk-lts.Need-offset_bounds-stack-top (walk-claims t) (walk_at t) walk.Post invariant-loop-tally decreases-loop-tally
 walk-mul-stack t c =
-    let k : Lined t = c.before.before.before.before.before.before in
-    let f : c.top.result ≡ (body k).before.before.loop.registers.free - 1 = c.top.ensures ∙ ap (λ r. r.free) c.before.before.push.ensures in
-    omega (arith, (there t k).1 c.before.before.before.if2.true, (turn t (body k)).formed.free)
+    let k : Lined t = c.before.before.before.before.before.before.before in
+    let f : c.top.result ≡ (body k).loop-tally.registers.free - 1 = c.top.ensures ∙ ap (λ r. r.free) c.push-registers.ensures in
+    omega (arith, (there t k).1 c.if-line.true, (turn t (body k)).formed.free)
 
-walk-array-set-from-stack : (t : ℕ) → walk-lts.Need-array-set-from-stack (walk-claims t) (walk_at t) walk.Post invariant-loop decreases-loop
+walk-array-set-from-stack : (t : ℕ) → walk-lts.Need-bounds-stack-top (walk-claims t) (walk_at t) walk.Post invariant-loop-tally decreases-loop-tally
 walk-array-set-from-stack t c =
-    let k : Lined t = c.before.before.before.before.before.before in
-    let f : c.top.result ≡ (body k).before.before.loop.registers.free - 1 = c.top.ensures ∙ ap (λ r. r.free) c.before.before.push.ensures in
-    omega (arith, (there t k).1 c.before.before.before.if2.true, (turn t (body k)).formed.free)
+    let k : Lined t = c.before.before.before.before.before.before.before in
+    let f : c.top.result ≡ (body k).loop-tally.registers.free - 1 = c.top.ensures ∙ ap (λ r. r.free) c.push-registers.ensures in
+    omega (arith, (there t k).1 c.if-line.true, (turn t (body k)).formed.free)
 
-walk-turn-of-requires : (t : ℕ) → walk-lts.Need-turn-of-requires (walk-claims t) (walk_at t) walk.Post invariant-loop decreases-loop
+walk-turn-of-requires : (t : ℕ) → walk-lts.Need-turn_of-requires (walk-claims t) (walk_at t) walk.Post invariant-loop-tally decreases-loop-tally
 walk-turn-of-requires t c κs =
     let j : Joined t = c.before in
-    ((entry (begun (body (lined j)))).pre.1.0, (known t (lined j), ((prepared t j).formed.free, low-at t j)))
+    ((entry (begun (body (lined j)))).requires.1.0, (known t (lined j), ((prepared t j).formed.free, low-at t j)))
 
-walk-loop-less : (t : ℕ) → walk-lts.Need-loop-smaller (walk-claims t) (walk_at t) walk.Post invariant-loop decreases-loop
-walk-loop-less t c = falling t c.before.before.before
+walk-loop-less : (t : ℕ) → walk-lts.Need-loop-tally-smaller-in-Goes (walk-claims t) (walk_at t) walk.Post invariant-loop-tally decreases-loop-tally
+walk-loop-less t c = falling t c.before
 
-walk-loop-again : (t : ℕ) → walk-lts.Need-loop-preserved (walk-claims t) (walk_at t) walk.Post invariant-loop decreases-loop
-walk-loop-again t c = onward t c.before.before.before (goes_on (arm t c.before.before.before) _ c.before.next.given.1)
+walk-loop-again : (t : ℕ) → walk-lts.Need-loop-tally-preserved-in-Goes (walk-claims t) (walk_at t) walk.Post invariant-loop-tally decreases-loop-tally
+walk-loop-again t c = onward t c.before (goes_on (arm t c.before) _ c.in-Goes.is)
 
-walk-jumped-requires : (t : ℕ) → walk-lts.Need-jumped-requires (walk-claims t) (walk_at t) walk.Post invariant-loop decreases-loop
+walk-jumped-requires : (t : ℕ) → walk-lts.Need-jumped-tally-requires (walk-claims t) (walk_at t) walk.Post invariant-loop-tally decreases-loop-tally
 walk-jumped-requires t c κs =
-    let a : Acted t = c.before.before.before in
+    let a : Acted t = c.before in
     tally-small (arm t a) (e t a).requires.1.1.budget_fits
 
-walk-loop-less-2 : (t : ℕ) → walk-lts.Need-loop-smaller-2 (walk-claims t) (walk_at t) walk.Post invariant-loop decreases-loop
-walk-loop-less-2 t c = falling-jumped t c.before.before.before.before _ _ c.jumped.ensures
+walk-loop-less-2 : (t : ℕ) → walk-lts.Need-loop-tally-smaller-in-Jumps (walk-claims t) (walk_at t) walk.Post invariant-loop-tally decreases-loop-tally
+walk-loop-less-2 t c = falling-jumped t c.before.before _ _ c.jumped-tally.ensures
 
-walk-loop-again-2 : (t : ℕ) → walk-lts.Need-loop-preserved-2 (walk-claims t) (walk_at t) walk.Post invariant-loop decreases-loop
-walk-loop-again-2 t c = onward-jumped t c.before.before.before.before _ _ c.jumped.ensures (jumps-on (arm t c.before.before.before.before) _ c.before.before.next2.given.1 _ c.jumped.ensures)
+walk-loop-again-2 : (t : ℕ) → walk-lts.Need-loop-tally-preserved-in-Jumps (walk-claims t) (walk_at t) walk.Post invariant-loop-tally decreases-loop-tally
+walk-loop-again-2 t c = onward-jumped t c.before.before _ _ c.jumped-tally.ensures (jumps-on (arm t c.before.before) _ c.in-Jumps.is _ c.jumped-tally.ensures)
 
-walk-mul-load : (t : ℕ) → walk-lts.Need-overflow-mul-load (walk-claims t) (walk_at t) walk.Post invariant-loop decreases-loop
-walk-mul-load t c = let k = read-place (arm t c.before.before.before) _ c.before.entry.given.1 in omega (arith, k)
+walk-mul-load : (t : ℕ) → walk-lts.Need-offset_bounds-stack-entry (walk-claims t) (walk_at t) walk.Post invariant-loop-tally decreases-loop-tally
+walk-mul-load t c = let k = read-place (arm t c.before) _ c.in-Reads.is in omega (arith, k)
 
-walk-array-copy-out-load : (t : ℕ) → walk-lts.Need-array-copy-out-load (walk-claims t) (walk_at t) walk.Post invariant-loop decreases-loop
-walk-array-copy-out-load t c = let k = read-place (arm t c.before.before.before) _ c.before.entry.given.1 in omega (arith, k)
+walk-array-copy-out-load : (t : ℕ) → walk-lts.Need-bounds-stack-entry (walk-claims t) (walk_at t) walk.Post invariant-loop-tally decreases-loop-tally
+walk-array-copy-out-load t c = let k = read-place (arm t c.before) _ c.in-Reads.is in omega (arith, k)
 
-walk-advance-requires : (t : ℕ) → walk-lts.Need-advance-requires (walk-claims t) (walk_at t) walk.Post invariant-loop decreases-loop
+walk-advance-requires : (t : ℕ) → walk-lts.Need-advance-registers-requires (walk-claims t) (walk_at t) walk.Post invariant-loop-tally decreases-loop-tally
 walk-advance-requires t c κs =
-    let a : Acted t = c.before.before.before.before.before in
-    let f : c.load.result.at ≡ (joined a).if2.registers.at = ap (λ r. r.at) c.load.ensures in
+    let a : Acted t = c.before.before.before in
+    let f : c.load.result.at ≡ (joined a).if-line.registers.at = ap (λ r. r.at) c.load.ensures in
     omega (arith, low-at t (joined a))
 
-walk-loop-less-3 : (t : ℕ) → walk-lts.Need-loop-smaller-3 (walk-claims t) (walk_at t) walk.Post invariant-loop decreases-loop
-walk-loop-less-3 t c = falling t c.before.before.before.before.before.before
+walk-loop-less-3 : (t : ℕ) → walk-lts.Need-loop-tally-smaller-in-Reads (walk-claims t) (walk_at t) walk.Post invariant-loop-tally decreases-loop-tally
+walk-loop-less-3 t c = falling t c.before.before.before.before
 
-walk-loop-again-3 : (t : ℕ) → walk-lts.Need-loop-preserved-3 (walk-claims t) (walk_at t) walk.Post invariant-loop decreases-loop
-walk-loop-again-3 t c = onward t c.before.before.before.before.before.before (reads_on (arm t c.before.before.before.before.before.before) _ c.before.before.before.before.entry.given.1 _ (c.advance.ensures ∙ ap advanced c.before.load.ensures))
+walk-loop-again-3 : (t : ℕ) → walk-lts.Need-loop-tally-preserved-in-Reads (walk-claims t) (walk_at t) walk.Post invariant-loop-tally decreases-loop-tally
+walk-loop-again-3 t c = onward t c.before.before.before.before (reads_on (arm t c.before.before.before.before) _ c.in-Reads.is _ (c.advance-registers.ensures ∙ ap advanced c.load.ensures))
 
-walk-mul-stack-2 : (t : ℕ) → walk-lts.Need-overflow-mul-stack-2 (walk-claims t) (walk_at t) walk.Post invariant-loop decreases-loop
-walk-mul-stack-2 t c = let k = store-place (arm t c.before.before.before.before) _ c.before.before.entry2.given.1 in omega (arith, k)
+walk-mul-stack-2 : (t : ℕ) → walk-lts.Need-offset_bounds-stack-entry-in-Stores (walk-claims t) (walk_at t) walk.Post invariant-loop-tally decreases-loop-tally
+walk-mul-stack-2 t c = let k = store-place (arm t c.before.before.before) _ c.in-Stores.is in omega (arith, k)
 
-walk-array-set-from-stack-2 : (t : ℕ) → walk-lts.Need-array-set-from-stack-2 (walk-claims t) (walk_at t) walk.Post invariant-loop decreases-loop
-walk-array-set-from-stack-2 t c = let k = store-place (arm t c.before.before.before.before) _ c.before.before.entry2.given.1 in omega (arith, k)
+walk-array-set-from-stack-2 : (t : ℕ) → walk-lts.Need-bounds-stack-entry-in-Stores (walk-claims t) (walk_at t) walk.Post invariant-loop-tally decreases-loop-tally
+walk-array-set-from-stack-2 t c = let k = store-place (arm t c.before.before.before) _ c.in-Stores.is in omega (arith, k)
 
-walk-advance-requires-2 : (t : ℕ) → walk-lts.Need-advance-requires-2 (walk-claims t) (walk_at t) walk.Post invariant-loop decreases-loop
+walk-advance-requires-2 : (t : ℕ) → walk-lts.Need-advance-registers-requires-in-Stores (walk-claims t) (walk_at t) walk.Post invariant-loop-tally decreases-loop-tally
 walk-advance-requires-2 t c κs =
-    let a : Acted t = c.before.before.before.before.before in
-    let f : c.store.result.at ≡ (joined a).if2.registers.at = ap (λ r. r.at) c.store.ensures in
+    let a : Acted t = c.before.before.before.before in
+    let f : c.store.result.at ≡ (joined a).if-line.registers.at = ap (λ r. r.at) c.store.ensures in
     omega (arith, low-at t (joined a))
 
-walk-loop-less-4 : (t : ℕ) → walk-lts.Need-loop-smaller-4 (walk-claims t) (walk_at t) walk.Post invariant-loop decreases-loop
-walk-loop-less-4 t c = falling t c.before.before.before.before.before.before
+walk-loop-less-4 : (t : ℕ) → walk-lts.Need-loop-tally-smaller-in-Stores (walk-claims t) (walk_at t) walk.Post invariant-loop-tally decreases-loop-tally
+walk-loop-less-4 t c = falling t c.before.before.before.before.before
 
-walk-loop-again-4 : (t : ℕ) → walk-lts.Need-loop-preserved-4 (walk-claims t) (walk_at t) walk.Post invariant-loop decreases-loop
-walk-loop-again-4 t c = onward t c.before.before.before.before.before.before (stores-on (arm t c.before.before.before.before.before.before) _ c.before.before.before.before.entry2.given.1 _ _ (c.advance2.ensures ∙ ap advanced c.before.store.ensures) c.before.before.same2.ensures)
+walk-loop-again-4 : (t : ℕ) → walk-lts.Need-loop-tally-preserved-in-Stores (walk-claims t) (walk_at t) walk.Post invariant-loop-tally decreases-loop-tally
+walk-loop-again-4 t c = onward t c.before.before.before.before.before (stores-on (arm t c.before.before.before.before.before) _ c.in-Stores.is _ _ (c.advance-registers-in-Stores.ensures ∙ ap advanced c.store.ensures) c.same-in-Stores.ensures)
 
-walk-mul-combined : (t : ℕ) → walk-lts.Need-overflow-mul-combined (walk-claims t) (walk_at t) walk.Post invariant-loop decreases-loop
+walk-mul-combined : (t : ℕ) → walk-lts.Need-offset_bounds-stack-top-in-Combines (walk-claims t) (walk_at t) walk.Post invariant-loop-tally decreases-loop-tally
 walk-mul-combined t c =
     let a : Acted t = c.before.before in
-    omega (arith, top-is t a, (combine-place (arm t a) c.enum-told2.given.1).0)
+    omega (arith, top-is t a, (combine-place (arm t a) c.in-Combines.is).0)
 
-walk-array-copy-out-combined : (t : ℕ) → walk-lts.Need-array-copy-out-combined (walk-claims t) (walk_at t) walk.Post invariant-loop decreases-loop
+walk-array-copy-out-combined : (t : ℕ) → walk-lts.Need-bounds-stack-top-in-Combines (walk-claims t) (walk_at t) walk.Post invariant-loop-tally decreases-loop-tally
 walk-array-copy-out-combined t c =
     let a : Acted t = c.before.before in
-    omega (arith, top-is t a, (combine-place (arm t a) c.enum-told2.given.1).0)
+    omega (arith, top-is t a, (combine-place (arm t a) c.in-Combines.is).0)
 
-walk-combined-requires : (t : ℕ) → walk-lts.Need-combined-requires (walk-claims t) (walk_at t) walk.Post invariant-loop decreases-loop
+walk-combined-requires : (t : ℕ) → walk-lts.Need-combined-requires (walk-claims t) (walk_at t) walk.Post invariant-loop-tally decreases-loop-tally
 walk-combined-requires t c κs =
     let a : Acted t = c.before.before.before in
-    (known t (lined (joined a)), (combine-place (arm t a) c.before.enum-told2.given.1).1)
+    (known t (lined (joined a)), (combine-place (arm t a) c.in-Combines.is).1)
 
-walk-pop-requires : (t : ℕ) → walk-lts.Need-pop-requires (walk-claims t) (walk_at t) walk.Post invariant-loop decreases-loop
-walk-pop-requires t c κs = (combine-place (arm t c.before.before.before.before.before.before.before) c.before.before.before.before.before.enum-told2.given.1).0
+walk-pop-requires : (t : ℕ) → walk-lts.Need-pop-requires (walk-claims t) (walk_at t) walk.Post invariant-loop-tally decreases-loop-tally
+walk-pop-requires t c κs = (combine-place (arm t c.before.before.before.before.before) c.in-Combines.is).0
 
-walk-advance-requires-3 : (t : ℕ) → walk-lts.Need-advance-requires-3 (walk-claims t) (walk_at t) walk.Post invariant-loop decreases-loop
+walk-advance-requires-3 : (t : ℕ) → walk-lts.Need-advance-registers-requires-in-Is-combined (walk-claims t) (walk_at t) walk.Post invariant-loop-tally decreases-loop-tally
 walk-advance-requires-3 t c κs =
-    let a : Acted t = c.before.before.before.before.before.before.before.before.before in
-    let f : c.load2.result.at ≡ (joined a).if2.registers.at = ap (λ r. r.at) (c.load2.ensures ∙ ap (loaded _) c.before.pop.ensures) in
-    omega (arith, low-at t (joined a))
-
-walk-loop-less-5 : (t : ℕ) → walk-lts.Need-loop-smaller-5 (walk-claims t) (walk_at t) walk.Post invariant-loop decreases-loop
-walk-loop-less-5 t c = falling t c.before.before.before.before.before.before.before.before.before.before
-
-walk-loop-again-5 : (t : ℕ) → walk-lts.Need-loop-preserved-5 (walk-claims t) (walk_at t) walk.Post invariant-loop decreases-loop
-walk-loop-again-5 t c =
-    let a : Acted t = c.before.before.before.before.before.before.before.before.before.before in
-    onward t a (combines-on (arm t a) c.before.before.before.before.before.before.before.before.enum-told2.given.1 _ (combined-is t a _ c.before.before.before.before.before.before.combined.ensures) _ (ap of_operand c.before.before.before.before.c.given.1) _ (c.advance3.ensures ∙ ap advanced (c.before.load2.ensures ∙ ap (loaded _) c.before.before.pop.ensures)))
-
-walk-sub-stuck-2 : (t : ℕ) → walk-lts.Need-overflow-sub-stuck-2 (walk-claims t) (walk_at t) walk.Post invariant-loop decreases-loop
-walk-sub-stuck-2 t c = fewer t c.before.before.before.before.before.before.before
-
-walk-returns-2 : (t : ℕ) → walk-lts.Need-returns-2 (walk-claims t) (walk_at t) walk.Post invariant-loop decreases-loop
-walk-returns-2 t c =
-    let a : Acted t = c.before.before.before.before.before.before.before.before in
-    kept t (begun (b t a)) _ (combines-nothing (arm t a) c.before.before.before.before.before.before.enum-told2.given.1 _ (combined-is t a _ c.before.before.before.before.combined.ensures) (ap of_operand c.before.before.enum-told3.given.1) _ (c.stuck2.ensures ∙ ap (refused_as _) (count t a)))
-
-walk-mul-load-2 : (t : ℕ) → walk-lts.Need-overflow-mul-load-2 (walk-claims t) (walk_at t) walk.Post invariant-loop decreases-loop
-walk-mul-load-2 t c =
-    let a : Acted t = c.before.before.before in
-    omega (arith, size_is t a, get-place (arm t a) _ c.before.field.given.1)
-
-walk-array-copy-out-load-2 : (t : ℕ) → walk-lts.Need-array-copy-out-load-2 (walk-claims t) (walk_at t) walk.Post invariant-loop decreases-loop
-walk-array-copy-out-load-2 t c =
-    let a : Acted t = c.before.before.before in
-    omega (arith, size_is t a, get-place (arm t a) _ c.before.field.given.1)
-
-walk-advance-requires-4 : (t : ℕ) → walk-lts.Need-advance-requires-4 (walk-claims t) (walk_at t) walk.Post invariant-loop decreases-loop
-walk-advance-requires-4 t c κs =
-    let a : Acted t = c.before.before.before.before.before in
-    let f : c.load3.result.at ≡ (joined a).if2.registers.at = ap (λ r. r.at) c.load3.ensures in
-    omega (arith, low-at t (joined a))
-
-walk-loop-less-6 : (t : ℕ) → walk-lts.Need-loop-smaller-6 (walk-claims t) (walk_at t) walk.Post invariant-loop decreases-loop
-walk-loop-less-6 t c = falling t c.before.before.before.before.before.before
-
-walk-loop-again-6 : (t : ℕ) → walk-lts.Need-loop-preserved-6 (walk-claims t) (walk_at t) walk.Post invariant-loop decreases-loop
-walk-loop-again-6 t c = onward t c.before.before.before.before.before.before (gets-on (arm t c.before.before.before.before.before.before) _ c.before.before.before.before.field.given.1 _ (c.advance4.ensures ∙ ap advanced c.before.load3.ensures))
-
-walk-mul-same : (t : ℕ) → walk-lts.Need-overflow-mul-same (walk-claims t) (walk_at t) walk.Post invariant-loop decreases-loop
-walk-mul-same t c =
-    let a : Acted t = c.before.before.before in
-    omega (arith, top-is t a, (set-place (arm t a) _ c.before.field2.given.1).1)
-
-walk-array-copy-out-same : (t : ℕ) → walk-lts.Need-array-copy-out-same (walk-claims t) (walk_at t) walk.Post invariant-loop decreases-loop
-walk-array-copy-out-same t c =
-    let a : Acted t = c.before.before.before in
-    omega (arith, top-is t a, (set-place (arm t a) _ c.before.field2.given.1).1)
-
-walk-mul-blocks : (t : ℕ) → walk-lts.Need-overflow-mul-blocks (walk-claims t) (walk_at t) walk.Post invariant-loop decreases-loop
-walk-mul-blocks t c =
-    let a : Acted t = c.before.before.before.before.before in
-    omega (arith, size_is t a, (set-place (arm t a) _ c.before.before.before.field2.given.1).0)
-
-walk-array-set-from-blocks : (t : ℕ) → walk-lts.Need-array-set-from-blocks (walk-claims t) (walk_at t) walk.Post invariant-loop decreases-loop
-walk-array-set-from-blocks t c =
-    let a : Acted t = c.before.before.before.before.before in
-    omega (arith, size_is t a, (set-place (arm t a) _ c.before.before.before.field2.given.1).0)
-
-walk-pop-requires-2 : (t : ℕ) → walk-lts.Need-pop-requires-2 (walk-claims t) (walk_at t) walk.Post invariant-loop decreases-loop
-walk-pop-requires-2 t c κs = (set-place (arm t c.before.before.before.before.before) _ c.before.before.before.field2.given.1).1
-
-walk-advance-requires-5 : (t : ℕ) → walk-lts.Need-advance-requires-5 (walk-claims t) (walk_at t) walk.Post invariant-loop decreases-loop
-walk-advance-requires-5 t c κs =
     let a : Acted t = c.before.before.before.before.before.before.before in
-    let f : c.store2.result.at ≡ (joined a).if2.registers.at = ap (λ r. r.at) (c.store2.ensures ∙ ap stored c.before.pop2.ensures) in
+    let f : c.load-in-Is-combined.result.at ≡ (joined a).if-line.registers.at = ap (λ r. r.at) (c.load-in-Is-combined.ensures ∙ ap (loaded _) c.pop.ensures) in
     omega (arith, low-at t (joined a))
 
-walk-loop-less-7 : (t : ℕ) → walk-lts.Need-loop-smaller-7 (walk-claims t) (walk_at t) walk.Post invariant-loop decreases-loop
-walk-loop-less-7 t c = falling t c.before.before.before.before.before.before.before.before
+walk-loop-less-5 : (t : ℕ) → walk-lts.Need-loop-tally-smaller-in-Is-combined (walk-claims t) (walk_at t) walk.Post invariant-loop-tally decreases-loop-tally
+walk-loop-less-5 t c = falling t c.before.before.before.before.before.before.before.before
 
-walk-loop-again-7 : (t : ℕ) → walk-lts.Need-loop-preserved-7 (walk-claims t) (walk_at t) walk.Post invariant-loop decreases-loop
-walk-loop-again-7 t c =
+walk-loop-again-5 : (t : ℕ) → walk-lts.Need-loop-tally-preserved-in-Is-combined (walk-claims t) (walk_at t) walk.Post invariant-loop-tally decreases-loop-tally
+walk-loop-again-5 t c =
     let a : Acted t = c.before.before.before.before.before.before.before.before in
-    onward t a (sets-on (arm t a) _ c.before.before.before.before.before.before.field2.given.1 _ _ (c.advance5.ensures ∙ ap advanced (c.before.store2.ensures ∙ ap stored c.before.before.pop2.ensures)) (c.before.before.before.same3.ensures ∙ ap (λ k. get_or (joined a).if2.stack k (range (pos 0) 0)) (top-is t a)))
+    onward t a (combines-on (arm t a) c.in-Combines.is _ (combined-is t a _ c.combined.ensures) _ (ap of_operand c.in-Is-combined.is) _ (c.advance-registers-in-Is-combined.ensures ∙ ap advanced (c.load-in-Is-combined.ensures ∙ ap (loaded _) c.pop.ensures)))
 
-walk-branch-requires : (t : ℕ) → walk-lts.Need-branch-requires (walk-claims t) (walk_at t) walk.Post invariant-loop decreases-loop
+walk-sub-stuck-2 : (t : ℕ) → walk-lts.Need-overflow_sub-budget-in-Stuck-combined (walk-claims t) (walk_at t) walk.Post invariant-loop-tally decreases-loop-tally
+walk-sub-stuck-2 t c = fewer t c.before.before.before.before.before.before
+
+walk-returns-2 : (t : ℕ) → walk-lts.Need-returns-in-Stuck-combined (walk-claims t) (walk_at t) walk.Post invariant-loop-tally decreases-loop-tally
+walk-returns-2 t c =
+    let a : Acted t = c.before.before.before.before.before.before.before in
+    kept t (begun (b t a)) _ (combines-nothing (arm t a) c.in-Combines.is _ (combined-is t a _ c.combined.ensures) (ap of_operand c.in-Stuck-combined.is) _ (c.stuck-in-Stuck-combined.ensures ∙ ap (refused_as _) (count t a)))
+
+walk-mul-load-2 : (t : ℕ) → walk-lts.Need-offset_bounds-blocks-field (walk-claims t) (walk_at t) walk.Post invariant-loop-tally decreases-loop-tally
+walk-mul-load-2 t c =
+    let a : Acted t = c.before in
+    omega (arith, size_is t a, get-place (arm t a) _ c.in-Gets.is)
+
+walk-array-copy-out-load-2 : (t : ℕ) → walk-lts.Need-bounds-blocks-field (walk-claims t) (walk_at t) walk.Post invariant-loop-tally decreases-loop-tally
+walk-array-copy-out-load-2 t c =
+    let a : Acted t = c.before in
+    omega (arith, size_is t a, get-place (arm t a) _ c.in-Gets.is)
+
+walk-advance-requires-4 : (t : ℕ) → walk-lts.Need-advance-registers-requires-in-Gets (walk-claims t) (walk_at t) walk.Post invariant-loop-tally decreases-loop-tally
+walk-advance-requires-4 t c κs =
+    let a : Acted t = c.before.before.before in
+    let f : c.load-in-Gets.result.at ≡ (joined a).if-line.registers.at = ap (λ r. r.at) c.load-in-Gets.ensures in
+    omega (arith, low-at t (joined a))
+
+walk-loop-less-6 : (t : ℕ) → walk-lts.Need-loop-tally-smaller-in-Gets (walk-claims t) (walk_at t) walk.Post invariant-loop-tally decreases-loop-tally
+walk-loop-less-6 t c = falling t c.before.before.before.before
+
+walk-loop-again-6 : (t : ℕ) → walk-lts.Need-loop-tally-preserved-in-Gets (walk-claims t) (walk_at t) walk.Post invariant-loop-tally decreases-loop-tally
+walk-loop-again-6 t c = onward t c.before.before.before.before (gets-on (arm t c.before.before.before.before) _ c.in-Gets.is _ (c.advance-registers-in-Gets.ensures ∙ ap advanced c.load-in-Gets.ensures))
+
+walk-mul-same : (t : ℕ) → walk-lts.Need-offset_bounds-stack-top-in-Sets (walk-claims t) (walk_at t) walk.Post invariant-loop-tally decreases-loop-tally
+walk-mul-same t c =
+    let a : Acted t = c.before in
+    omega (arith, top-is t a, (set-place (arm t a) _ c.in-Sets.is).1)
+
+walk-array-copy-out-same : (t : ℕ) → walk-lts.Need-bounds-stack-top-in-Sets (walk-claims t) (walk_at t) walk.Post invariant-loop-tally decreases-loop-tally
+walk-array-copy-out-same t c =
+    let a : Acted t = c.before in
+    omega (arith, top-is t a, (set-place (arm t a) _ c.in-Sets.is).1)
+
+walk-mul-blocks : (t : ℕ) → walk-lts.Need-offset_bounds-blocks-field-in-Sets (walk-claims t) (walk_at t) walk.Post invariant-loop-tally decreases-loop-tally
+walk-mul-blocks t c =
+    let a : Acted t = c.before.before.before in
+    omega (arith, size_is t a, (set-place (arm t a) _ c.in-Sets.is).0)
+
+walk-array-set-from-blocks : (t : ℕ) → walk-lts.Need-bounds-blocks-field-in-Sets (walk-claims t) (walk_at t) walk.Post invariant-loop-tally decreases-loop-tally
+walk-array-set-from-blocks t c =
+    let a : Acted t = c.before.before.before in
+    omega (arith, size_is t a, (set-place (arm t a) _ c.in-Sets.is).0)
+
+walk-pop-requires-2 : (t : ℕ) → walk-lts.Need-pop-requires-in-Sets (walk-claims t) (walk_at t) walk.Post invariant-loop-tally decreases-loop-tally
+walk-pop-requires-2 t c κs = (set-place (arm t c.before.before.before) _ c.in-Sets.is).1
+
+walk-advance-requires-5 : (t : ℕ) → walk-lts.Need-advance-registers-requires-in-Sets (walk-claims t) (walk_at t) walk.Post invariant-loop-tally decreases-loop-tally
+walk-advance-requires-5 t c κs =
+    let a : Acted t = c.before.before.before.before.before in
+    let f : c.store-in-Sets.result.at ≡ (joined a).if-line.registers.at = ap (λ r. r.at) (c.store-in-Sets.ensures ∙ ap stored c.pop-in-Sets.ensures) in
+    omega (arith, low-at t (joined a))
+
+walk-loop-less-7 : (t : ℕ) → walk-lts.Need-loop-tally-smaller (walk-claims t) (walk_at t) walk.Post invariant-loop-tally decreases-loop-tally
+walk-loop-less-7 t c = falling t c.before.before.before.before.before.before
+
+walk-loop-again-7 : (t : ℕ) → walk-lts.Need-loop-tally-preserved (walk-claims t) (walk_at t) walk.Post invariant-loop-tally decreases-loop-tally
+walk-loop-again-7 t c =
+    let a : Acted t = c.before.before.before.before.before.before in
+    onward t a (sets-on (arm t a) _ c.in-Sets.is _ _ (c.advance-registers-in-Sets.ensures ∙ ap advanced (c.store-in-Sets.ensures ∙ ap stored c.pop-in-Sets.ensures)) (c.same-in-Sets.ensures ∙ ap (λ k. get_or (joined a).if-line.stack k (range (pos 0) 0)) (top-is t a)))
+
+walk-branch-requires : (t : ℕ) → walk-lts.Need-branch-w-requires (walk-claims t) (walk_at t) walk.Post invariant-loop-tally decreases-loop-tally
 walk-branch-requires t c κs =
-    let a : Acted t = c.before.before in (
+    let a : Acted t = c.before in (
       omega (arith, (e t a).requires.0),
       (
         (e t a).requires.1.0,
@@ -687,41 +687,41 @@ walk-branch-requires t c κs =
       ),
     )
 
-walk-sub-both : (t : ℕ) → walk-lts.Need-overflow-sub-both (walk-claims t) (walk_at t) walk.Post invariant-loop decreases-loop
-walk-sub-both t c = fewer t c.before.before.before.before
+walk-sub-both : (t : ℕ) → walk-lts.Need-overflow_sub-budget-in-Opens (walk-claims t) (walk_at t) walk.Post invariant-loop-tally decreases-loop-tally
+walk-sub-both t c = fewer t c.before.before.before
 
-walk-both-requires : (t : ℕ) → walk-lts.Need-both-requires (walk-claims t) (walk_at t) walk.Post invariant-loop decreases-loop
+walk-both-requires : (t : ℕ) → walk-lts.Need-both-requires (walk-claims t) (walk_at t) walk.Post invariant-loop-tally decreases-loop-tally
 walk-both-requires t c κs =
-    let a : Acted t = c.before.before.before.before in
-    subst (λ k. Summable (tally-at t a) k c.before.branch.result.untaken c.before.branch.result.taken) (sym (count t a))
-    (sums (arm t a) c.before.before.enum-told4.given.1 c.before.branch.result (explored t a c.before.branch.result c.before.branch.ensures) (e t a).requires.1.1.openings_fit (e t a).requires.1.1.budget_fits)
-
-walk-returns-3 : (t : ℕ) → walk-lts.Need-returns-3 (walk-claims t) (walk_at t) walk.Post invariant-loop decreases-loop
-walk-returns-3 t c =
     let a : Acted t = c.before.before.before.before.before in
-    kept t (begun (b t a)) _ (both_out (arm t a) c.before.before.before.enum-told4.given.1 c.before.before.branch.result (explored t a c.before.before.branch.result c.before.before.branch.ensures) _ (c.both.ensures ∙ ap (λ k. both_of (tally-at t a) k c.before.before.branch.result.untaken (line (lined (joined a))).extra c.before.before.branch.result.taken) (count t a)))
+    subst (λ k. Summable (tally-at t a) k c.branch-w.result.untaken c.branch-w.result.taken) (sym (count t a))
+    (sums (arm t a) c.in-Opens.is c.branch-w.result (explored t a c.branch-w.result c.branch-w.ensures) (e t a).requires.1.1.openings_fit (e t a).requires.1.1.budget_fits)
 
-walk-sub-finished : (t : ℕ) → walk-lts.Need-overflow-sub-finished (walk-claims t) (walk_at t) walk.Post invariant-loop decreases-loop
-walk-sub-finished t c = fewer t c.before.before.before
+walk-returns-3 : (t : ℕ) → walk-lts.Need-returns-in-Opens (walk-claims t) (walk_at t) walk.Post invariant-loop-tally decreases-loop-tally
+walk-returns-3 t c =
+    let a : Acted t = c.before.before.before.before.before.before in
+    kept t (begun (b t a)) _ (both_out (arm t a) c.in-Opens.is c.branch-w.result (explored t a c.branch-w.result c.branch-w.ensures) _ (c.both.ensures ∙ ap (λ k. both_of (tally-at t a) k c.branch-w.result.untaken (line (lined (joined a))).extra c.branch-w.result.taken) (count t a)))
 
-walk-returns-4 : (t : ℕ) → walk-lts.Need-returns-4 (walk-claims t) (walk_at t) walk.Post invariant-loop decreases-loop
+walk-sub-finished : (t : ℕ) → walk-lts.Need-overflow_sub-budget-in-Halts (walk-claims t) (walk_at t) walk.Post invariant-loop-tally decreases-loop-tally
+walk-sub-finished t c = fewer t c.before.before
+
+walk-returns-4 : (t : ℕ) → walk-lts.Need-returns-in-Halts (walk-claims t) (walk_at t) walk.Post invariant-loop-tally decreases-loop-tally
 walk-returns-4 t c =
-    let a : Acted t = c.before.before.before.before in
-    kept t (begun (b t a)) _ (halts-out (arm t a) c.before.before.enum-told5.given.1 _ (c.finished.ensures ∙ ap (finished_of (tally-at t a)) (count t a)))
+    let a : Acted t = c.before.before.before in
+    kept t (begun (b t a)) _ (halts-out (arm t a) c.in-Halts.is _ (c.finished.ensures ∙ ap (finished_of (tally-at t a)) (count t a)))
 
-walk-sub-stuck-3 : (t : ℕ) → walk-lts.Need-overflow-sub-stuck-3 (walk-claims t) (walk_at t) walk.Post invariant-loop decreases-loop
-walk-sub-stuck-3 t c = fewer t c.before.before.before
+walk-sub-stuck-3 : (t : ℕ) → walk-lts.Need-overflow_sub-budget-in-Stuck (walk-claims t) (walk_at t) walk.Post invariant-loop-tally decreases-loop-tally
+walk-sub-stuck-3 t c = fewer t c.before.before
 
-walk-returns-5 : (t : ℕ) → walk-lts.Need-returns-5 (walk-claims t) (walk_at t) walk.Post invariant-loop decreases-loop
+walk-returns-5 : (t : ℕ) → walk-lts.Need-returns-in-Stuck (walk-claims t) (walk_at t) walk.Post invariant-loop-tally decreases-loop-tally
 walk-returns-5 t c =
-    let a : Acted t = c.before.before.before.before in
-    kept t (begun (b t a)) _ (stops-short (arm t a) c.before.before.enum-told6.given.1 _ (c.stuck3.ensures ∙ ap (refused_as _) (count t a)))
+    let a : Acted t = c.before.before.before in
+    kept t (begun (b t a)) _ (stops-short (arm t a) c.in-Stuck.is _ (c.stuck-in-Stuck.ensures ∙ ap (refused_as _) (count t a)))
 
-walk-returns-6 : (t : ℕ) → walk-lts.Need-returns-6 (walk-claims t) (walk_at t) walk.Post invariant-loop decreases-loop
-walk-returns-6 t c = kept t c.before.before.before.before _ (spent-out c.before.before.before.loop.invariant (omega (arith, c.before.if1.false)) _ c.refused.ensures)
+walk-returns-6 : (t : ℕ) → walk-lts.Need-returns (walk-claims t) (walk_at t) walk.Post invariant-loop-tally decreases-loop-tally
+walk-returns-6 t c = kept t c.before.before.before.before _ (spent-out c.loop-tally.invariant (omega (arith, c.loop-tally-test.false)) _ c.refused.ensures)
 
-pub +branch-explore-walk-spec : {M : Type 1} → statement M
-+branch-explore-walk-spec =
+pub +branch_explore_walk_spec : {M : Type 1} → statement M
++branch_explore_walk_spec =
     close μ-branch μ-explore μ-walk
     (λ t. branch-lts.spec (branch-claims t) (branch-at t) branch.Post
     (λ c κs. search rules)
@@ -744,7 +744,7 @@ pub +branch-explore-walk-spec : {M : Type 1} → statement M
     (λ c κs. search rules)
     (explore-walk-requires t)
     (explore-returns t))
-    λ t. walk-lts.spec (walk-claims t) (walk_at t) walk.Post invariant-loop decreases-loop
+    λ t. walk-lts.spec (walk-claims t) (walk_at t) walk.Post invariant-loop-tally decreases-loop-tally
     (λ c κs. search rules)
     (walk-loop-holds t)
     (walk-reachable-requires t)

@@ -4,29 +4,29 @@ use borrow.Author.Rules.{rules}
 use Rattle.merge_origins.proofs.keep.Statement.{statement}
 use Rattle.merge_origins.proofs.keep.Tie as tie
 
-returns : tie.Need-returns
+returns : tie.Need-returns-then-was-eq0
 returns c =
-    let p = c.before.before in
-    let t = p.before.before in
-    let w = t.before.before.last_of in
-    let s = t.before.before.before.before.before in
-    put-kept s.args.kept.now p.put.new.0 s.args.g s.args.l w.result w.ensures (first-kept s.args.l w.result t.if1.true) p.put.ensures
+    let p = c in
+    let t = p in
+    let w = t.last_of-was in
+    let s = t in
+    put-kept s.args.kept.now p.put.new.kept s.args.g s.args.l w.result w.ensures (first-kept s.args.l w.result t.if-was-eq0.true) p.put.ensures
 
-returns-2 : tie.Need-returns-2
+returns-2 : tie.Need-returns-then-was-l
 returns-2 c =
-    let p = c.before.before in
-    let t = p.before.before in
-    let e = t.before.before.before in
-    let w = e.before.before.last_of in
-    let s = e.before.before.before.before.before in
-    put-kept s.args.kept.now p.put2.new.0 s.args.g s.args.l w.result w.ensures (more-kept s.args.l w.result e.if1.false t.if2.true) p.put2.ensures
+    let p = c in
+    let t = p in
+    let e = t in
+    let w = e.last_of-was in
+    let s = e in
+    put-kept s.args.kept.now p.put-then-was-l.new.kept s.args.g s.args.l w.result w.ensures (more-kept s.args.l w.result e.if-was-eq0.false t.if-was-l.true) p.put-then-was-l.ensures
 
-returns-3 : tie.Need-returns-3
+returns-3 : tie.Need-returns-else-was-l
 returns-3 c =
-    let e = c.before.before.before in
-    let w = e.before.before.last_of in
-    let s = e.before.before.before.before.before in
-    stays-kept s.args.kept.now s.args.g s.args.l w.result w.ensures (less-kept s.args.l w.result e.if1.false c.if2.false)
+    let e = c in
+    let w = e.last_of-was in
+    let s = e in
+    stays-kept s.args.kept.now s.args.g s.args.l w.result w.ensures (less-kept s.args.l w.result e.if-was-eq0.false c.if-was-l.false)
 
 pub keep_spec : {M : Type 1} → statement M
 keep_spec =

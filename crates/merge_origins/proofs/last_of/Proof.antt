@@ -9,8 +9,8 @@ returns : tie.Need-returns
 unfolding last_at
 returns c = refl
 
-pub last-of-spec : {M : Type 1} → statement M
-last-of-spec =
+pub last_of_spec : {M : Type 1} → statement M
+last_of_spec =
     tie.close
     (tie.spec
     (λ c. search rules)

@@ -68,7 +68,7 @@ encode-fields-requires c κs =
     let z = c in
     let t = turn z.before in
     let l = t.loop-k in
-    let n = part_length (ns t) l.fields l.fields l.k _ (small t) l.inv.1 l.inv.1 (there t) (part z.before) l.fields l.inv.1 in
+    let n = part_length (ns t) l.fields l.fields l.k _ (small t) l.invariant.1 l.invariant.1 (there t) (part z.before) l.fields l.invariant.1 in
     ((begun t).requires.0, omega (arith, n, fits z.before))
 
 loop-again : tie.Need-loop-k-preserved invariant-loop-k decreases-loop-k
@@ -78,13 +78,13 @@ loop-again c =
     let t = turn z.before.before.before.before in
     let l = t.loop-k in
     let w = k z.before.before.before.before * 16 + z.size_of.result - k z.before.before.before.before * 16 in
-    let p = m.encode_fields.new.1.1.0 in
+    let p = m.encode_fields.new.fields in
     let n : length p ≡ length (take w (drop (l.k * 16) l.fields)) = search rules in
-    let long = part_length (ns t) l.fields l.fields l.k w (small t) l.inv.1 l.inv.1 (there t) (part z.before.before.before.before) l.fields l.inv.1 in
+    let long = part_length (ns t) l.fields l.fields l.k w (small t) l.invariant.1 l.invariant.1 (there t) (part z.before.before.before.before) l.fields l.invariant.1 in
     let q = m.encode_fields.ensures ∙ ap (λ (i : ℕ). map confine (take i (drop (l.k * 16) (begun t).args.blocks))) long in (
       omega (arith, there t),
-      same_len_mid (l.k * 16) w l.fields p n ∙ l.inv.1,
-      block-encoded (ns t) l.fields l.fields l.k w (small t) l.inv.1 l.inv.1 (there t) (part z.before.before.before.before) (begun t).args.blocks p (n ∙ long) q l.inv.2,
+      same_len_mid (l.k * 16) w l.fields p n ∙ l.invariant.1,
+      block-encoded (ns t) l.fields l.fields l.k w (small t) l.invariant.1 l.invariant.1 (there t) (part z.before.before.before.before) (begun t).args.blocks p (n ∙ long) q l.invariant.2,
     )
 
 same_length : tie.Need-shape_of-fields invariant-loop-k decreases-loop-k

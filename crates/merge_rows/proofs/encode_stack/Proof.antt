@@ -31,14 +31,14 @@ loop-again c =
     let l = at-loop.loop-i in (
       omega arith,
       rw length-set l.invariant.1,
-      encoded-next l.entries (drop a.low a.t1) _ l.i c.encode.result (omega arith) (rw length-drop (omega (arith, start.requires))) (c.encode.ensures ∙ ap confine (sym (get_or-drop a.low a.t1 l.i _))) l.invariant.2,
+      encoded-next l.entries (drop a.low a.stack) _ l.i c.encode.result (omega arith) (rw length-drop (omega (arith, start.requires))) (c.encode.ensures ∙ ap confine (sym (get_or-drop a.low a.stack l.i _))) l.invariant.2,
     )
 
 returns : tie.Need-returns invariant-loop-i decreases-loop-i
 returns c =
     let l = c.loop-i in
     let a = c.args in
-    encoded-all l.entries (drop a.low a.t1) _ l.i (omega arith) l.invariant.1 l.invariant.2
+    encoded-all l.entries (drop a.low a.stack) _ l.i (omega arith) l.invariant.1 l.invariant.2
 
 pub encode_stack_spec : {M : Type 1} → statement M
 encode_stack_spec =

@@ -18,7 +18,7 @@ returns c =
     let ns = sizes_of a.code.now in
     let at = a.w.state.at in
     let m : get_or a.row.now 0 0 ≡ 0 = search rules in
-    slot_held ns at p.new.0 p.ensures.0
+    slot_held ns at p.new.row p.ensures.0
     ∙ first-joined _ _ (arrival_of ns a.w) p.ensures.1
     ∙ ap (λ (s : Slot). join s (arrival_of ns a.w)) (sym (slot-empty ns at a.row.now m))
 

@@ -3,7 +3,6 @@ use mathlib.Core.Path.{◌≡◌, sym, ap, ◌∙◌}
 use mathlib.Core.Bool.{Bool}
 use native.Mathlib.Omega.{arith}
 use lib.ListN.{length, length-set}
-use borrow.Author.Tests.{not-true, not-false}
 use Rattle.machine_state.specs.HeldProgram.{sizes_of}
 use Rattle.merge_rows.specs.HeldRows.{of_states}
 use Rattle.merge_rows.proofs.RowLaws.{row-unlike, row-met}
@@ -16,10 +15,10 @@ returns c =
     let at-merge-states = c in
     let start = at-merge-states in
     let m = at-merge-states.merge_states in
-    let n : length m.new.0 ≡ 197 = omega arith in
+    let n : length m.new.row ≡ 197 = omega arith in
     λ x y.
-    row-unlike _ x m.new.0 _ _ n
-    (ap (λ (b : Bool). of_states (sizes_of start.args.code.now) x b m.new.0) (sym (not-true m.result c.if-not-merge_states.true)) ∙ m.ensures.0 x y)
+    row-unlike _ x m.new.row _ _ n
+    (ap (λ (b : Bool). of_states (sizes_of start.args.code.now) x b m.new.row) (sym (c.if-not-merge_states.true)) ∙ m.ensures.0 x y)
 
 slice-write-row-3 : tie.Need-bounds-row-3-2
 slice-write-row-3 c = simp length-set (omega arith)
@@ -32,10 +31,10 @@ returns-2 c =
     let start = at-merge-states in
     let a = start.args in
     let m = at-merge-states.merge_states in
-    let n : length m.new.0 ≡ 197 = omega arith in
+    let n : length m.new.row ≡ 197 = omega arith in
     λ x y.
-    row-met _ x a.row.now m.new.0 a.came.now _ _ _ n m.ensures.1 start.requires.3 at-larger.larger-cycles.ensures c.larger-words.ensures
-    (ap (λ (b : Bool). of_states (sizes_of start.args.code.now) x b m.new.0) (sym (not-false m.result at-if1.if-not-merge_states.false)) ∙ m.ensures.0 x y)
+    row-met _ x a.row.now m.new.row a.came.now _ _ _ n m.ensures.1 start.requires.3 at-larger.larger-cycles.ensures c.larger-words.ensures
+    (ap (λ (b : Bool). of_states (sizes_of start.args.code.now) x b m.new.row) (sym (at-if1.if-not-merge_states.false)) ∙ m.ensures.0 x y)
 
 pub meet_spec : {M : Type 1} → statement M
 meet_spec =

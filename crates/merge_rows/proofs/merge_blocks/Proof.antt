@@ -14,7 +14,6 @@ use Rattle.merge_cells.specs.HeldCodes.{decoded_cells}
 use Rattle.merge_theory.specs.Merge.{merge_lists}
 use Rattle.merge_rows.specs.HeldRows.{of_cells}
 use borrow.Rule.Slice.PartMut.{same_len_mid}
-use borrow.Author.Tests.{not-true, not-false}
 use Rattle.merge_rows.proofs.FieldLaws.{Small, small_of, blocks-length, block-merged, block-unlike, part_length}
 use Rattle.merge_rows.proofs.ZipLaws.{Partly, none_made, all_made}
 use Rattle.merge_rows.proofs.merge_blocks.Statement.{statement}
@@ -77,8 +76,8 @@ merge-cells-requires c κs =
     let t = turn z.before.before in
     let l = t.loop-k in
     let a = (begun t).args in
-    let length-of = part_length (ns t) l.held a.came.now l.k _ (small t) l.inv.1 (begun t).requires.1 (there t) (part z.before.before) in
-    length-of l.held l.inv.1 ∙ sym (length-of a.came.now (begun t).requires.1)
+    let length-of = part_length (ns t) l.held a.came.now l.k _ (small t) l.invariant.1 (begun t).requires.1 (there t) (part z.before.before) in
+    length-of l.held l.invariant.1 ∙ sym (length-of a.came.now (begun t).requires.1)
 
 same_length : tie.Need-shape_of-held-then-not-merge_cells invariant-loop-k decreases-loop-k
 same_length c =
@@ -86,7 +85,7 @@ same_length c =
     let z = m in
     let l = (turn z.before.before.before.before.before.before).loop-k in
     let n : length m.merge_cells.new.held ≡ length (take (k z.before.before.before.before.before.before * 16 + z.size_of.result - k z.before.before.before.before.before.before * 16) (drop (l.k * 16) l.held)) = c.before.before.held-1.given.0 in
-    same_len_mid (l.k * 16) (k z.before.before.before.before.before.before * 16 + z.size_of.result - k z.before.before.before.before.before.before * 16) l.held m.merge_cells.new.held n ∙ l.inv.1 ∙ sym (begun (turn z.before.before.before.before.before.before)).requires.0
+    same_len_mid (l.k * 16) (k z.before.before.before.before.before.before * 16 + z.size_of.result - k z.before.before.before.before.before.before * 16) l.held m.merge_cells.new.held n ∙ l.invariant.1 ∙ sym (begun (turn z.before.before.before.before.before.before)).requires.0
 
 returns : tie.Need-returns-then-not-merge_cells invariant-loop-k decreases-loop-k
 returns c =
@@ -95,7 +94,7 @@ returns c =
     let t = turn z.before.before.before.before.before.before in
     let l = t.loop-k in
     let a = (begun t).args in
-    sym (block-unlike (ns t) l.held a.came.now l.k _ (small t) l.inv.1 (begun t).requires.1 (there t) (part z.before.before.before.before.before.before) _ (ap (λ (b : Bool). of_cells b m.merge_cells.new.held) (sym (not-true m.merge_cells.result c.if-not-merge_cells.true)) ∙ m.merge_cells.ensures) l.inv.2)
+    sym (block-unlike (ns t) l.held a.came.now l.k _ (small t) l.invariant.1 (begun t).requires.1 (there t) (part z.before.before.before.before.before.before) _ (ap (λ (b : Bool). of_cells b m.merge_cells.new.held) (sym (c.if-not-merge_cells.true)) ∙ m.merge_cells.ensures) l.invariant.2)
 
 loop-again : tie.Need-loop-k-preserved invariant-loop-k decreases-loop-k
 loop-again c =
@@ -107,11 +106,11 @@ loop-again c =
     let w = k z.before.before.before.before.before.before * 16 + z.size_of.result - k z.before.before.before.before.before.before * 16 in
     let p = m.merge_cells.new.held in
     let n : length p ≡ length (take w (drop (l.k * 16) l.held)) = c.before.before.held-1.given.0 in
-    let length-of = part_length (ns t) l.held a.came.now l.k w (small t) l.inv.1 (begun t).requires.1 (there t) (part z.before.before.before.before.before.before) in
-    let q = ap (λ (b : Bool). of_cells b p) (sym (not-false m.merge_cells.result c.if-not-merge_cells.false)) ∙ m.merge_cells.ensures in (
+    let length-of = part_length (ns t) l.held a.came.now l.k w (small t) l.invariant.1 (begun t).requires.1 (there t) (part z.before.before.before.before.before.before) in
+    let q = ap (λ (b : Bool). of_cells b p) (sym (c.if-not-merge_cells.false)) ∙ m.merge_cells.ensures in (
       omega (arith, there t),
-      same_len_mid (l.k * 16) w l.held p n ∙ l.inv.1,
-      block-merged (ns t) l.held a.came.now l.k w (small t) l.inv.1 (begun t).requires.1 (there t) (part z.before.before.before.before.before.before) _ p (n ∙ length-of l.held l.inv.1) q l.inv.2,
+      same_len_mid (l.k * 16) w l.held p n ∙ l.invariant.1,
+      block-merged (ns t) l.held a.came.now l.k w (small t) l.invariant.1 (begun t).requires.1 (there t) (part z.before.before.before.before.before.before) _ p (n ∙ length-of l.held l.invariant.1) q l.invariant.2,
     )
 
 returns-2 : tie.Need-returns invariant-loop-k decreases-loop-k

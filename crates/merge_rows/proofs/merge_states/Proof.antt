@@ -5,7 +5,6 @@ use mathlib.Core.Bool.{Bool}
 use mathlib.Core.List.{List}
 use native.Mathlib.Omega.{arith}
 use lib.ListN.{length, get_or, set, length-set}
-use borrow.Author.Tests.{not-true, not-false}
 use borrow.Rule.Slice.PartMut.{put_mid}
 use Rattle.cells.specs.Try.{done}
 use Rattle.merge_cells.specs.HeldCodes.{decoded_cell}
@@ -71,7 +70,7 @@ module _ (c : tie.In-Is) where
   accu = ap of_merged (sym c.in-Is.is) ∙ numbers.merge_numbers-merged.ensures
 
   height : f u ≡ unused_of (get_or (came u) 1 0)
-  height = numbers.if-free-other.left ∙ u.unused-other.ensures
+  height = numbers.if-free-other.false ∙ u.unused-other.ensures
 
   long : length (set (row u) 4 x) ≡ 197
   long = rw length-set (start u).requires.0
@@ -101,7 +100,7 @@ returns-3 c =
     let m = c in
     let v = u (k m.before.before.before) in
     let l = lent m.before.before.before (search rules) in
-    let e = ap (λ (b : Bool). of_cells b (p m.before.before.before)) (sym (not-true m.merge_cells.result c.if-not-merge_cells.true)) ∙ m.merge_cells.ensures in (
+    let e = ap (λ (b : Bool). of_cells b (p m.before.before.before)) (sym (c.if-not-merge_cells.true)) ∙ m.merge_cells.ensures in (
       λ a b. stacks-unlike (ns v) a b (row v) (came v) (f v) (x (k m.before.before.before)) (one v).unused-free.ensures (height (k m.before.before.before)) (start v).requires.0 e,
       stacked-start (ns v) 0 0 (row v) (came v) (f v) (x (k m.before.before.before)) (one v).unused-free.ensures (height (k m.before.before.before)) (start v).requires.0 (p m.before.before.before) l,
     )
@@ -142,7 +141,7 @@ returns-4 c =
     let v = u (k m) in
     let l = lent m (search rules) in
     let n = fields-length b.before.before (search rules) (search rules) in
-    let s = ap (λ (t : Bool). of_cells t (p m)) (sym (not-false m.merge_cells.result b.if-not-merge_cells.false)) ∙ m.merge_cells.ensures in (
+    let s = ap (λ (t : Bool). of_cells t (p m)) (sym (b.if-not-merge_cells.false)) ∙ m.merge_cells.ensures in (
       λ a d. rows-merged (ns v) a d (row v) (came v) (f v) (x (k m)) (one v).unused-free.ensures (height (k m)) (start v).requires.0 (p m) l (q b.before.before) n b.merge_blocks.result (accu (k m)) s b.merge_blocks.ensures,
       start-merged (ns v) 0 0 (row v) (came v) (f v) (x (k m)) (one v).unused-free.ensures (height (k m)) (start v).requires.0 (p m) l (q b.before.before) n,
     )

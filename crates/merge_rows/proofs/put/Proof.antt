@@ -45,7 +45,7 @@ module _ (m : tie.After-encode_stack) where
   e = m.before.before.before
 
   abbrev p : List ℕ
-  p = m.encode_stack.last.1.1.0
+  p = m.encode_stack.new.entries
 
   module _ (q : length p ≡ length (part (5 + free e) 69 (head e))) where
     lent : length p ≡ 69 - (5 + free e)
@@ -73,7 +73,7 @@ module _ (b : tie.After-encode_blocks) where
   m = b.before.before.before.before
 
   abbrev q : List ℕ
-  q = b.encode_blocks.last.1.0
+  q = b.encode_blocks.new.fields
 
   abbrev entries : List ℕ
   entries = put_mid (5 + free (e m)) (69 - (5 + free (e m))) (head (e m)) (p m)

@@ -45,8 +45,8 @@ returns-3 c =
     let a = (begun e.before.before.before.before).args in
     let j = at_join.join in
     let at : a.w.state.at ≡ first_address_of a.code.now + k e.before.before.before.before = omega (arith, e.if-at-first.false) in
-    let l : length j.new.0 ≡ length (part (197 * k e.before.before.before.before) (197 * k e.before.before.before.before + 197) a.rows.now) = search rules in
-    λ b _. sent (sizes_of a.code.now) (first_address_of a.code.now) (k e.before.before.before.before) a.rows.now j.new.0 a.w (few e.before.before.before.before) (begun e.before.before.before.before).requires.0 l at j.ensures b
+    let l : length j.new.row ≡ length (part (197 * k e.before.before.before.before) (197 * k e.before.before.before.before + 197) a.rows.now) = search rules in
+    λ b _. sent (sizes_of a.code.now) (first_address_of a.code.now) (k e.before.before.before.before) a.rows.now j.new.row a.w (few e.before.before.before.before) (begun e.before.before.before.before).requires.0 l at j.ensures b
 
 pub send_spec : {M : Type 1} → statement M
 send_spec =

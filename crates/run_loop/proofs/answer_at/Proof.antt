@@ -11,17 +11,17 @@ use Rattle.run_loop.proofs.RunLaws.{answer-out, answer-in}
 use Rattle.run_loop.proofs.answer_at.Statement.{statement}
 use Rattle.run_loop.proofs.answer_at.Tie as tie
 
-returns : tie.Need-returns
-returns c = c.exactly.ensures ∙ answer-out _ _ c.before.if1.true
+returns : tie.Need-returns-then-answers-taken
+returns c = c.exactly.ensures ∙ answer-out _ _ c.if-answers-taken.true
 
-returns-2 : tie.Need-returns-2
+returns-2 : tie.Need-returns
 returns-2 c =
-    let a = c.before.before.before.args in
-    let f : SFits w32 (get_or a.answers.now a.taken (pos 0)) = record { sfits = search (rules, c.before.exactly-arg.given) } in
-    c.exactly2.ensures ∙ ap exactly (to_z-of_z w32 _ f) ∙ answer-in _ _ c.before.before.if1.false
+    let a = c.args in
+    let f : SFits w32 (get_or a.answers.now a.taken (pos 0)) = record { sfits = search (rules, c.before.exactly-arg-1.given) } in
+    c.exactly-2.ensures ∙ ap exactly (to_z-of_z w32 _ f) ∙ answer-in _ _ c.if-answers-taken.false
 
-pub answer-at-spec : {M : Type 1} → statement M
-answer-at-spec =
+pub answer_at_spec : {M : Type 1} → statement M
+answer_at_spec =
     tie.close
     (tie.spec
     (λ c κs. search rules)

@@ -6,7 +6,7 @@ use Rattle.run_loop.proofs.run.Tie as tie
 
 returns : tie.Need-returns
 returns c =
-    let e = run-judged _ _ _ _ _ c.judge.result (c.judge.ensures _ _) c.before.after.ensures.0 in
+    let e = run-judged _ _ _ _ _ c.judge.result (c.judge.ensures _ _) c.after-r.ensures.0 in
     (e, within-bound _ _ _ _ c.judge.result e)
 
 pub run_spec : {M : Type 1} → statement M
