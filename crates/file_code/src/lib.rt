@@ -1,5 +1,7 @@
 // A code line of a routine file: it is cut into its words, and the rows of the refusal table are put to them. The meaning is in specs/ here
 // and of `file_format`.
+#![tactic(auto)]
+
 ghost use Rattle.std.specs.Prelude.{true, cond, ◌&&◌, ◌≡◌, ℕ, suc, ◌<◌, ◌≤◌, pos, ◌+ℤ◌, List, [], length, get_or};
 ghost use Rattle.text.specs.Text.{line_words, place_among, among};
 ghost use Rattle.text_decimals.specs.Decimal.{numeral};

@@ -1,4 +1,6 @@
 // The tests of one line of a routine file. The meaning is in specs/ here and of `file_format`.
+#![tactic(auto)]
+
 ghost use Rattle.std.specs.Prelude.{true, ◌&&◌, ◌≡◌, ℕ, ◌<◌, List, [], drop, ltb};
 ghost use Rattle.text.specs.Text.{line_words, all};
 ghost use Rattle.text_decimals.specs.Decimal.{numeral};

@@ -1,4 +1,6 @@
 // The file of a seed, written into lent memory. The meaning is in specs/ of `generate_file`.
+#![tactic(auto)]
+
 ghost use Rattle.std.specs.Prelude.{◌≡◌, true, cond, ◌++◌, suc, ◌+◌, ◌*◌, ◌%◌, ◌≤◌, ◌<◌, ltb, length, drop};
 ghost use Rattle.text_decimals.specs.Memory.{over};
 ghost use Rattle.text_decimals.specs.Decimal.{decimal};

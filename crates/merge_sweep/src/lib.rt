@@ -1,4 +1,6 @@
 // The merging bound: one pass over the code's addresses in rising order, which merges the states where ways meet. The meaning is in specs/.
+#![tactic(auto)]
+
 ghost use Rattle.std.specs.Prelude.{◌≡◌, List, true, ℕ, suc, ◌+◌, ◌<◌, ◌≤◌, max, length};
 ghost use Rattle.cells.specs.HeldConfined.{Kept};
 ghost use Rattle.cells.specs.Cells.{unknown};

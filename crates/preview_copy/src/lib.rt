@@ -1,4 +1,6 @@
 // A routine file with one instruction replaced. The meaning is in specs/.
+#![tactic(auto)]
+
 ghost use Rattle.std.specs.Prelude.{◌≡◌, ◌++◌, ◌+◌, ◌≤◌, ◌<◌, length, drop};
 ghost use Rattle.text.specs.Text.{bytes, lines};
 ghost use Rattle.file_format.specs.Layout.{body, lines_of_code};

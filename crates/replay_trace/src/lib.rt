@@ -1,4 +1,6 @@
 // The text of a card's trace: its refusals, and the steps that it records. The meaning is in specs/.
+#![tactic(auto)]
+
 ghost use Rattle.std.specs.Prelude.{◌≡◌, ◌≤◌, length, get_or};
 ghost use Rattle.text.specs.Text.{lines, no_line};
 ghost use Rattle.replay_trace.specs.Traces.{trace_limit, cycle_range, entry_laid_out, text_laid_out, line_laid_out, entry_in_range, text_in_range, earliest, trace_acceptance, entry_of};

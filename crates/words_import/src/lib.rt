@@ -1,4 +1,6 @@
 // The import: the compiler's words to lines of code. The meaning is in specs/ of `words`.
+#![tactic(auto)]
+
 ghost use Rattle.std.specs.Prelude.{◌≡◌, ◌+◌, ◌*◌, ◌≤◌, ◌<◌, ◌++◌, length, drop};
 ghost use Rattle.text_decimals.specs.Memory.{over};
 ghost use Rattle.instructions.specs.HeldColumns.{Begins, Joined};

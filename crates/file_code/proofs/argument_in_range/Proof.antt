@@ -11,26 +11,26 @@ use borrow.Author.Rules.{rules}
 use Rattle.file_code.proofs.argument_in_range.Statement.{statement}
 use Rattle.file_code.proofs.argument_in_range.Tie as tie
 
-is-read-within-requires : tie.Need-is-read-within-requires
+is-read-within-requires : tie.Need-is_read_within-requires
 is-read-within-requires c κs = near-range 0 62000 (omega arith) (omega arith) c.addresses.ensures
 
-is-read-within-requires-2 : tie.Need-is-read-within-requires-2
+is-read-within-requires-2 : tie.Need-is_read_within-requires-in-Within
 unfolding range_of
-is-read-within-requires-2 c κs = subst Near (ap range_of c.before.a.given.1) c.before.before.before.requires
+is-read-within-requires-2 c κs = subst Near (ap range_of c.in-Within.is) c.requires
 
-returns : tie.Need-returns
+returns : tie.Need-returns-in-Target
 unfolding argument_in_range
-returns c = λ w e. arm (argument_in_range w) c.before.before.enum_told.given.1 (c.is-read-within.ensures w e ∙ ap (λ r. within r (value w)) c.before.addresses.ensures)
+returns c = λ w e. arm (argument_in_range w) c.in-Target.is (c.is_read_within.ensures w e ∙ ap (λ r. within r (value w)) c.addresses.ensures)
 
-returns-2 : tie.Need-returns-2
+returns-2 : tie.Need-returns-in-Within
 unfolding argument_in_range
-returns-2 c = λ w e. arm (argument_in_range w) c.before.before.a.given.1 (c.is-read-within2.ensures w e)
+returns-2 c = λ w e. arm (argument_in_range w) c.in-Within.is (c.is_read_within-in-Within.ensures w e)
 
-returns-3 : tie.Need-returns-3
-returns-3 c = λ w e. no_number w c.before.args.a c.match.keys3
+returns-3 : tie.Need-returns-in_default
+returns-3 c = λ w e. no_number w c.args.a c.in_default.in_default-own.keys3
 
-pub argument-in-range-spec : {M : Type 1} → statement M
-argument-in-range-spec =
+pub argument_in_range_spec : {M : Type 1} → statement M
+argument_in_range_spec =
     tie.close
     (tie.spec
     (λ c. search rules)

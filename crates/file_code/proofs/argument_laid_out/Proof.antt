@@ -7,32 +7,30 @@ use borrow.Author.Rules.{rules}
 use Rattle.file_code.proofs.argument_laid_out.Statement.{statement}
 use Rattle.file_code.proofs.argument_laid_out.Tie as tie
 
-returns : tie.Need-returns
+returns : tie.Need-returns-in-Absent
 unfolding argument_laid_out
-returns c = arm (argument_laid_out c.before.before.before.before.before.args.w.now) c.before.before.enum_told.given.1 c.same.ensures
+returns c = arm (argument_laid_out c.args.w.now) c.in-Absent.is c.same.ensures
 
-returns-2 : tie.Need-returns-2
+returns-2 : tie.Need-returns-in-Target
 unfolding argument_laid_out
-returns-2 c = arm (argument_laid_out c.before.before.before.before.args.w.now) c.before.enum-told2.given.1 (c.is-spelt.ensures _ c.before.before.before.before.requires)
+returns-2 c = arm (argument_laid_out c.args.w.now) c.in-Target.is (c.is_spelt.ensures _ c.requires)
 
-returns-3 : tie.Need-returns-3
+returns-3 : tie.Need-returns-in-Primitive
 unfolding argument_laid_out
-returns-3 c = arm (argument_laid_out c.before.before.before.before.before.args.w.now) c.before.before.enum-told3.given.1 (ap not c.same2.ensures)
+returns-3 c = arm (argument_laid_out c.args.w.now) c.in-Primitive.is (ap not c.same-in-Primitive.ensures)
 
-returns-4 : tie.Need-returns-4
+returns-4 : tie.Need-returns-in-Within
 unfolding argument_laid_out
-returns-4 c = arm (argument_laid_out c.before.before.before.before.args.w.now) c.before.enum-told4.given.1 (c.is-spelt2.ensures _ c.before.before.before.before.requires)
+returns-4 c = arm (argument_laid_out c.args.w.now) c.in-Within.is (c.is_spelt-in-Within.ensures _ c.requires)
 
-pub argument-laid-out-spec : {M : Type 1} → statement M
-argument-laid-out-spec =
+pub argument_laid_out_spec : {M : Type 1} → statement M
+argument_laid_out_spec =
     tie.close
     (tie.spec
     (λ c. search rules)
-    (λ c. search rules)
     (λ c κs. search rules)
     (λ c. search rules)
     (λ c κs. search rules)
-    (λ c. search rules)
     (λ c. search rules)
     (λ c κs. search rules)
     (λ c. search rules)

@@ -7,14 +7,14 @@ use borrow.Author.Rules.{rules}
 use Rattle.file_code.proofs.argument_named.Statement.{statement}
 use Rattle.file_code.proofs.argument_named.Tie as tie
 
-returns : tie.Need-returns
-returns c = let a = c.before.before.before.args in no_call (list a.primitives.now) a.w.now a.a c.match.keys2
+returns : tie.Need-returns-in_default
+returns c = let a = c.args in no_call (list a.primitives.now) a.w.now a.a c.in_default.in_default-own.keys2
 
-returns-2 : tie.Need-returns-2
+returns-2 : tie.Need-returns
 unfolding argument_named
 returns-2 c =
-    let a = c.before.before.before.before.before.args in
-    arm (argument_named (list a.primitives.now) a.w.now) c.before.enum_told.given.1 c.is-listed.ensures
+    let a = c.args in
+    arm (argument_named (list a.primitives.now) a.w.now) c.in-Primitive.is c.is_listed.ensures
 
-pub argument-named-spec : {M : Type 1} → statement M
-argument-named-spec = tie.close (tie.spec (λ c. search rules) returns (λ c κs. search rules) returns-2)
+pub argument_named_spec : {M : Type 1} → statement M
+argument_named_spec = tie.close (tie.spec (λ c. search rules) returns (λ c κs. search rules) returns-2)

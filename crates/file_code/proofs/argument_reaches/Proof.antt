@@ -10,15 +10,15 @@ use borrow.Author.Rules.{rules}
 use Rattle.file_code.proofs.argument_reaches.Statement.{statement}
 use Rattle.file_code.proofs.argument_reaches.Tie as tie
 
-returns : tie.Need-returns
-returns c = λ w e. let a = c.before.args in no_target a.first a.count w a.a c.match.keys2
+returns : tie.Need-returns-in_default
+returns c = λ w e. let a = c.args in no_target a.first a.count w a.a c.in_default.in_default-own.keys2
 
-returns-2 : tie.Need-returns-2
+returns-2 : tie.Need-returns
 returns-2 c = λ w e.
-    let start = c.before.before.before in
+    let start = c in
     let a = start.args in
-    arm (argument_reaches a.first a.count w) c.before.enum_told.given.1
-    (c.is-reached.ensures w e ∙ ap (λ z. argument_reaches z a.count w Target) (to_z-of_z w64 a.first start.ranges.first))
+    arm (argument_reaches a.first a.count w) c.in-Target.is
+    (c.is_reached.ensures w e ∙ ap (λ z. argument_reaches z a.count w Target) (to_z-of_z w64 a.first start.ranges.first))
 
-pub argument-reaches-spec : {M : Type 1} → statement M
-argument-reaches-spec = tie.close (tie.spec (λ c. search rules) returns (λ c κs. search rules) returns-2)
+pub argument_reaches_spec : {M : Type 1} → statement M
+argument_reaches_spec = tie.close (tie.spec (λ c. search rules) returns (λ c κs. search rules) returns-2)

@@ -11,29 +11,29 @@ use Rattle.file_code.proofs.code_priced.Statement.{statement}
 use Rattle.file_code.proofs.code_priced.Tie as tie
 
 -- OP names the kind at a place
-found : (c : tie.After-known-told) → place_among c.before.before.before.before.before.args.op.now kind_names ≡ At c.before.kind.given.0.0
-found c = sym c.before.before.before.before.before.requires.0 ∙ c.before.kind.given.1
+found : (c : tie.In-At) → place_among c.args.op.now kind_names ≡ At c.in-At.k
+found c = sym c.requires.0 ∙ c.in-At.is
 
-element-copy-out-known : tie.Need-element-copy-out-known
-element-copy-out-known c = kind-below _ (found c)
+element-copy-out-known : tie.Need-bounds-kept-k
+element-copy-out-known c = kind-below _ (found c.before)
 
-returns-2 : tie.Need-returns-2
+returns-2 : tie.Need-returns-then-known-gt0
 returns-2 c =
-    let k = c.before.before in
-    let s = k.before.before.before.before.before.requires.1 in
-    (kept-known _ _ s _ (found k) refl c.if1.true, s)
+    let k = c in
+    let s = k.requires.1 in
+    (kept-known _ _ s _ (found k.before.before.before) refl c.if-known-gt0.true, s)
 
-element-write-kept : tie.Need-element-write-kept
-element-write-kept c = kind-below _ (found c.before.before.before.before)
+element-write-kept : tie.Need-bounds-kept-k-2
+element-write-kept c = kind-below _ (found c.before.before.before.before.before)
 
-returns-3 : tie.Need-returns-3
+returns-3 : tie.Need-returns
 returns-3 c =
-    let k = c.before.before.before.before in
-    let s = k.before.before.before.before.before.requires.1 in
-    (c.before.is-listed2.ensures, kept_more _ _ s _ (found k) (c.one-or-two.ensures ∙ ap (λ b. cond b 1 2) c.before.is-listed2.ensures))
+    let k = c in
+    let s = k.requires.1 in
+    (c.is_listed-listed.ensures, kept_more _ _ s _ (found k.before.before.before.before.before) (c.one_or_two.ensures ∙ ap (λ b. cond b 1 2) c.is_listed-listed.ensures))
 
-pub code-priced-spec : {M : Type 1} → statement M
-code-priced-spec =
+pub code_priced_spec : {M : Type 1} → statement M
+code_priced_spec =
     tie.close
     (tie.spec
     (λ c. search rules)

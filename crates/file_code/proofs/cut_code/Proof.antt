@@ -14,40 +14,40 @@ use borrow.Author.Rules.{rules}
 use Rattle.file_code.proofs.cut_code.Statement.{statement}
 use Rattle.file_code.proofs.cut_code.Tie as tie
 
-after-word-requires : tie.Need-after-word-requires
+after-word-requires : tie.Need-after_word-rest-requires
 unfolding line_words
-after-word-requires c κs = c.piece-length.ensures
+after-word-requires c κs = c.piece_length-e.ensures
 
-after-word-requires-2 : tie.Need-after-word-requires-2
+after-word-requires-2 : tie.Need-after_word-last-requires
 unfolding line_words
-after-word-requires-2 c κs = c.piece-length2.ensures
+after-word-requires-2 c κs = c.piece_length-f.ensures
 
 -- a first word is no longer than its line
 fitting : (l : List ℕ) {n : ℕ} → n ≡ first_length 32 l → n ≡ length (take n l)
 fitting l {n} e = sym (length-take-le n l (omega (arith, first-le 32 l, e)))
 
-slice-aggregate-kind-in : tie.Need-slice-aggregate-kind-in
-slice-aggregate-kind-in c = fitting _ c.before.before.before.piece-length2.ensures
+slice-aggregate-kind-in : tie.Need-slice_bounds-kind_in-end
+slice-aggregate-kind-in c = fitting _ c.piece_length-f.ensures
 
 returns : tie.Need-returns
 returns c =
-    let p = c.before.before in
-    let line = p.before.before.before.before.before.before.before.args.line.now in
-    let rest = p.before.before.before.after-word in
-    let last = p.before.after-word2 in
-    let one = p.before.before.before.before.piece-length.ensures in
-    let two = p.before.before.piece-length2.ensures in
-    let n = cut-lengths line rest.result.now last.result.now one rest.ensures two last.ensures p.piece-length3.ensures in
-    let o = cut-op line rest.result.now last.result.now one rest.ensures two last.ensures p.piece-length3.ensures in
+    let p = c in
+    let line = p.args.line.now in
+    let rest = p.after_word-rest in
+    let last = p.after_word-last in
+    let one = p.piece_length-e.ensures in
+    let two = p.piece_length-f.ensures in
+    let n = cut-lengths line rest.result.now last.result.now one rest.ensures two last.ensures p.piece_length-g.ensures in
+    let o = cut-op line rest.result.now last.result.now one rest.ensures two last.ensures p.piece_length-g.ensures in
     record {
-      kind = c.kind-in.ensures ∙ ap (λ w. place_among w kind_names) o;
+      kind = c.kind_in-kind.ensures ∙ ap (λ w. place_among w kind_names) o;
       at_length = n.0;
       op_length = n.1;
       arg_length = n.2;
     }
 
-pub cut-code-spec : {M : Type 1} → statement M
-cut-code-spec =
+pub cut_code_spec : {M : Type 1} → statement M
+cut_code_spec =
     tie.close
     (tie.spec
     (λ c κs. search rules)

@@ -18,36 +18,36 @@ use Rattle.file_code.proofs.test_code.Tie as tie
 in-range : (start : tie.Start) → within first_addresses (to_z w64 (of_z w64 start.args.first)) ≡ true
 in-range start = ap (within first_addresses) (to_z-of_z w64 start.args.first start.ranges.first) ∙ start.requires.0
 
-test-argument-requires : tie.Need-test-argument-requires
-test-argument-requires c κs = let s = c.before.before.before in (in-range s, (s.requires.1.0, s.requires.1.1))
+test-argument-requires : tie.Need-test_argument-argument-requires
+test-argument-requires c κs = let s = c in (in-range s.before.before.before, (s.requires.1.0, s.requires.1.1))
 
-is-read-within-requires : tie.Need-is-read-within-requires
-is-read-within-requires c κs = subst Near (sym c.at-range.ensures) (near-at-range c.before.before.before.before.before.before.before.before.before.args.k)
+is-read-within-requires : tie.Need-is_read_within-requires
+is-read-within-requires c κs = subst Near (sym c.at_range.ensures) (near-at-range c.args.k)
 
-is-address-requires : tie.Need-is-address-requires
-is-address-requires c κs = let s = c.before.before.before.before.before.before.before.before.before.before.before in (in-range s, s.requires.1.0.1)
+is-address-requires : tie.Need-is_address-requires
+is-address-requires c κs = let s = c in (in-range s.before.before.before.before.before.before.before.before.before.before.before, s.requires.1.0.1)
 
 returns : tie.Need-returns
 unfolding code_is_forward
 returns c = λ line word w kind.
-    let r = c.before.before.before.before.before.before.before.before.before.before in
-    let t = r.before in
-    let start = t.before.before.before.before in
+    let r = c in
+    let t = r in
+    let start = t in
     let a = start.args in
     let ps = list a.primitives.now in
-    let e = t.test-argument.ensures in
+    let e = t.test_argument-argument.ensures in
     let z = to_z-of_z w64 a.first start.ranges.first in
-    let n = r.read-numeral.ensures in
+    let n = r.read_numeral-n.ensures in
     record {
-      layout = laid-line a.k line word (c.before.before.before.before.before.before.before.before.before.is-spelt.ensures _ n) (on_line argument_laid_out line w kind e.layout) c.before.before.before.before.before.before.before.before.both.ensures c.before.before.before.before.before.before.before.both2.ensures;
-      range = ranged-line a.k line word c.before.before.before.before.before.before.at-range.ensures (c.before.before.before.before.before.is-read-within.ensures _ n) (on_line argument_in_range line w kind e.range) c.before.before.before.before.both3.ensures;
-      name = named-line a.k line word a.first ps (c.before.before.before.is_Address.ensures _ n ∙ ap (λ x. same (value a.own.now) (x +ℤ pos a.k)) z) (c.before.before.is_Known.ensures _ kind) (on_line (argument_named ps) line w kind e.name) c.before.both4.ensures c.both5.ensures;
+      layout = laid-line a.k line word (c.is_spelt.ensures _ n) (on_line argument_laid_out line w kind e.layout) c.both-spelt.ensures c.both-layout.ensures;
+      range = ranged-line a.k line word c.at_range.ensures (c.is_read_within.ensures _ n) (on_line argument_in_range line w kind e.range) c.both-range.ensures;
+      name = named-line a.k line word a.first ps (c.is_address.ensures _ n ∙ ap (λ x. same (value a.own.now) (x +ℤ pos a.k)) z) (c.is_known.ensures _ kind) (on_line (argument_named ps) line w kind e.name) c.both-known.ensures c.both-name.ensures;
       target = on_line (argument_reaches a.first a.count) line w kind (e.target ∙ ap (λ x. argument_of (argument_reaches x a.count a.w.now) a.kind) z);
       forward = on_line (argument_forward (a.first +ℤ pos a.k)) line w kind (e.forward ∙ ap (λ x. argument_of (argument_forward (x +ℤ pos a.k) a.w.now) a.kind) z);
     }
 
-pub test-code-spec : {M : Type 1} → statement M
-test-code-spec =
+pub test_code_spec : {M : Type 1} → statement M
+test_code_spec =
     tie.close
     (tie.spec
     test-argument-requires

@@ -7,15 +7,19 @@ use borrow.Author.Rules.{rules}
 use Rattle.file_lines.proofs.all_listed.Statement.{statement}
 use Rattle.file_lines.proofs.all_listed.Tie as tie
 
-returns : tie.Need-returns
+returns : tie.Need-returns-then-same
 unfolding all
 returns c =
-    sym (ap (all (word_test c.before.before.before.before.args.t)) (list-none c.before.before.before.before.args.line.now (sym c.before.same.ensures ∙ c.if1.true)))
+    sym (ap (all (word_test c.args.t)) (list-none c.args.line.now (sym c.same.ensures ∙ c.if-same.true)))
 
-returns-2 : tie.Need-returns-2
+returns-2 : tie.Need-returns
 returns-2 c =
-    c.All-words.ensures ∙ sym (ap (all (word_test c.before.before.before.before.before.args.t)) (list-words c.before.before.before.before.before.args.line.now (sym c.before.before.same.ensures ∙ c.before.if1.false)))
+    c.all_words.ensures ∙ sym (ap (all (word_test c.args.t)) (list-words c.args.line.now (sym c.same.ensures ∙ c.if-same.false)))
 
-pub all-listed-spec : {M : Type 1} → statement M
-all-listed-spec =
-    tie.close (tie.spec (λ c. search rules) (λ c κs. search rules) returns (λ c κs. search rules) returns-2)
+pub all_listed_spec : {M : Type 1} → statement M
+all_listed_spec =
+    tie.close (tie.spec
+    (λ c κs. search rules)
+    returns
+    (λ c κs. search rules)
+    returns-2)

@@ -6,7 +6,6 @@ use native.Mathlib.Omega.{arith}
 use native.Mathlib.Nat.{le_of_lt}
 use lib.ListN.{length}
 use lib.Seq.{length-take-le}
-use borrow.Author.Tests.{not-true, not-false}
 use Rattle.text.specs.Text.{line_words, all}
 use Rattle.text.proofs.ScanLaws.{first_length}
 use Rattle.file_lines.specs.HeldLines.{word_test}
@@ -15,45 +14,45 @@ use borrow.Author.Rules.{rules}
 use Rattle.file_lines.proofs.all_words.Statement.{statement}
 use Rattle.file_lines.proofs.all_words.Tie as tie
 
-abbrev invariant-loop : tie.invariant-loop
-invariant-loop t line rest₀ e₀ rest e = (e ≡ first_length 32 rest) × (length rest ≤ length line) × (all (word_test t) (line_words line) ≡ all (word_test t) (line_words rest))
+abbrev invariant-loop-e : tie.invariant-loop-e
+invariant-loop-e t line rest₀ e₀ rest e = (e ≡ first_length 32 rest) × (length rest ≤ length line) × (all (word_test t) (line_words line) ≡ all (word_test t) (line_words rest))
 
-abbrev decreases-loop : tie.decreases-loop
-decreases-loop t line rest₀ e₀ rest e = length rest
+abbrev decreases-loop-e : tie.decreases-loop-e
+decreases-loop-e t line rest₀ e₀ rest e = length rest
 
-loop-holds : tie.Need-loop-init invariant-loop decreases-loop
-loop-holds c = (c.piece-length.ensures, omega arith, refl)
+loop-holds : tie.Need-loop-e-init invariant-loop-e decreases-loop-e
+loop-holds c = (c.piece_length-e.ensures, omega arith, refl)
 
-slice-aggregate-word-passes : tie.Need-slice-aggregate-word-passes invariant-loop decreases-loop
-slice-aggregate-word-passes c = sym (length-take-le _ _ (le_of_lt c.before.loop-test.true))
+slice-aggregate-word-passes : tie.Need-slice_bounds-word_passes-end invariant-loop-e decreases-loop-e
+slice-aggregate-word-passes c = sym (length-take-le _ _ (le_of_lt c.loop-e-test.true))
 
-returns : tie.Need-returns invariant-loop decreases-loop
+returns : tie.Need-returns-then-not-word_passes invariant-loop-e decreases-loop-e
 returns c =
-    let l = c.before.before.before.before in
-    sym (l.loop.invariant.2 ∙ all-stop (word_test c.before.before.before.before.before.before.before.args.t) l.loop.rest.now l.loop.e l.loop.invariant.0 c.before.before.before.loop-test.true (sym c.before.word-passes.ensures ∙ not-true _ c.if1.true))
+    let l = c in
+    sym (l.loop-e.invariant.2 ∙ all-stop (word_test c.args.t) l.loop-e.rest.now l.loop-e.e l.loop-e.invariant.0 c.loop-e-test.true (sym c.word_passes.ensures ∙ c.if-not-word_passes.true))
 
-loop-again : tie.Need-loop-preserved invariant-loop decreases-loop
+loop-again : tie.Need-loop-e-preserved invariant-loop-e decreases-loop-e
 loop-again c =
-    let at-loop-test = c.before.before.before.before.before in
-    let l = at-loop-test.before in
-    let start = l.before.before.before in (
-      c.piece-length2.ensures,
+    let at-loop-test = c in
+    let l = at-loop-test in
+    let start = l in (
+      c.piece_length-e-in-loop-e.ensures,
       omega arith,
-      l.loop.invariant.2 ∙ all-next (word_test start.args.t) l.loop.rest.now l.loop.e l.loop.invariant.0 at-loop-test.loop-test.true (sym c.before.before.before.word-passes.ensures ∙ not-false _ c.before.before.if1.false),
+      l.loop-e.invariant.2 ∙ all-next (word_test start.args.t) l.loop-e.rest.now l.loop-e.e l.loop-e.invariant.0 at-loop-test.loop-e-test.true (sym c.word_passes.ensures ∙ c.if-not-word_passes.false),
     )
 
-returns-2 : tie.Need-returns-2 invariant-loop decreases-loop
+returns-2 : tie.Need-returns invariant-loop-e decreases-loop-e
 returns-2 c =
-    let l = c.before.before in
-    c.word-passes2.ensures
-    ∙ sym (l.loop.invariant.2 ∙ all-last (word_test c.before.before.before.before.before.args.t) l.loop.rest.now l.loop.e l.loop.invariant.0 c.before.loop-test.false)
+    let l = c in
+    c.word_passes-2.ensures
+    ∙ sym (l.loop-e.invariant.2 ∙ all-last (word_test c.args.t) l.loop-e.rest.now l.loop-e.e l.loop-e.invariant.0 c.loop-e-test.false)
 
-pub all-words-spec : {M : Type 1} → statement M
-all-words-spec =
+pub all_words_spec : {M : Type 1} → statement M
+all_words_spec =
     tie.close
     (tie.spec
-    invariant-loop
-    decreases-loop
+    invariant-loop-e
+    decreases-loop-e
     (λ c κs. search rules)
     loop-holds
     slice-aggregate-word-passes

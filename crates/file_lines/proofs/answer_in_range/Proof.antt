@@ -8,12 +8,12 @@ use borrow.Author.Rules.{rules}
 use Rattle.file_lines.proofs.answer_in_range.Statement.{statement}
 use Rattle.file_lines.proofs.answer_in_range.Tie as tie
 
-is-within-requires : tie.Need-is-within-requires
-is-within-requires c κs = subst Near (sym c.number-range.ensures) near-numbers
+is-within-requires : tie.Need-is_within-requires
+is-within-requires c κs = subst Near (sym c.number_range.ensures) near-numbers
 
 returns : tie.Need-returns
 returns c =
-    c.is_Within.ensures ∙ ap (λ r. within r (value c.before.before.before.args.line.now)) c.before.number-range.ensures
+    c.is_within.ensures ∙ ap (λ r. within r (value c.args.line.now)) c.number_range.ensures
 
-pub answer-in-range-spec : {M : Type 1} → statement M
-answer-in-range-spec = tie.close (tie.spec (λ c κs. search rules) is-within-requires returns)
+pub answer_in_range_spec : {M : Type 1} → statement M
+answer_in_range_spec = tie.close (tie.spec (λ c κs. search rules) is-within-requires returns)

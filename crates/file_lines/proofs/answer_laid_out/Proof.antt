@@ -7,12 +7,12 @@ use borrow.Author.Rules.{rules}
 use Rattle.file_lines.proofs.answer_laid_out.Statement.{statement}
 use Rattle.file_lines.proofs.answer_laid_out.Tie as tie
 
-returns : tie.Need-returns
+returns : tie.Need-returns-then-k-ge64
 returns c =
-    and-false (is_numeral (numeral c.before.before.args.line.now)) (le-ltb c.before.before.args.k 64 c.if1.true)
+    and-false (is_numeral (numeral c.args.line.now)) (le-ltb c.args.k 64 c.if-k-ge64.true)
 
-returns-2 : tie.Need-returns-2
-returns-2 c = and-true (lt-ltb c.before.before.before.args.k 64 c.before.if1.false) c.is-numeral.ensures
+returns-2 : tie.Need-returns
+returns-2 c = and-true (lt-ltb c.args.k 64 c.if-k-ge64.false) c.is_numeral.ensures
 
-pub answer-laid-out-spec : {M : Type 1} → statement M
-answer-laid-out-spec = tie.close (tie.spec returns (λ c κs. search rules) returns-2)
+pub answer_laid_out_spec : {M : Type 1} → statement M
+answer_laid_out_spec = tie.close (tie.spec returns (λ c κs. search rules) returns-2)

@@ -10,17 +10,17 @@ use borrow.Author.Rules.{rules}
 use Rattle.file_lines.proofs.cells_pass.Statement.{statement}
 use Rattle.file_lines.proofs.cells_pass.Tie as tie
 
-returns : tie.Need-returns
+returns : tie.Need-returns-then-holds_cells
 unfolding on_cells
 returns c =
-    let a = c.before.before.before.before.args in
-    arm (λ b. cond b (all (word_test a.t) (list a.line.now)) true) (sym c.before.before.holds-cells.ensures ∙ c.before.if1.true) c.all_listed.ensures
+    let a = c.args in
+    arm (λ b. cond b (all (word_test a.t) (list a.line.now)) true) (sym c.holds_cells.ensures ∙ c.if-holds_cells.true) c.all_listed.ensures
 
-returns-2 : tie.Need-returns-2
+returns-2 : tie.Need-returns
 unfolding on_cells
 returns-2 c =
-    let a = c.before.before.before.args in
-    arm (λ b. cond b (all (word_test a.t) (list a.line.now)) true) (sym c.before.holds-cells.ensures ∙ c.if1.false) refl
+    let a = c.args in
+    arm (λ b. cond b (all (word_test a.t) (list a.line.now)) true) (sym c.holds_cells.ensures ∙ c.if-holds_cells.false) refl
 
-pub cells-pass-spec : {M : Type 1} → statement M
-cells-pass-spec = tie.close (tie.spec (λ c κs. search rules) (λ c κs. search rules) returns returns-2)
+pub cells_pass_spec : {M : Type 1} → statement M
+cells_pass_spec = tie.close (tie.spec (λ c κs. search rules) (λ c κs. search rules) returns returns-2)

@@ -26,18 +26,18 @@ not-cells Words ws o = refl
 not-cells Extra ws o = refl
 not-cells Cell ws o = absurd (miss (0 ∷ 1 ∷ 2 ∷ 3 ∷ []) 4 tt o)
 
-enum_told : tie.Need-enum-told
+enum_told : tie.Need-enum_told-1
 enum_told c = search rules
 
-returns : tie.Need-returns
+returns : tie.Need-returns-in-Cell
 unfolding column_laid_out word_test
 returns c =
-    arm (λ k. column_laid_out k (list c.before.before.before.before.args.line.now)) c.before.enum_told.given.1 c.all_listed.ensures
+    arm (λ k. column_laid_out k (list c.args.line.now)) c.in-Cell.is c.all_listed.ensures
 
-returns-2 : tie.Need-returns-2
+returns-2 : tie.Need-returns
 unfolding word_test
-returns-2 c = let a = c.before.before.before.args in c.all-listed2.ensures ∙ not-cells a.c (list a.line.now) c.before.match.keys2
+returns-2 c = let a = c.args in c.all_listed-2.ensures ∙ not-cells a.c (list a.line.now) c.in_default.in_default-own.keys2
 
-pub column-laid-out-spec : {M : Type 1} → statement M
-column-laid-out-spec =
+pub column_laid_out_spec : {M : Type 1} → statement M
+column_laid_out_spec =
     tie.close (tie.spec enum_told (λ c κs. search rules) returns (λ c κs. search rules) returns-2)

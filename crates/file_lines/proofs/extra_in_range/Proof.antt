@@ -9,51 +9,49 @@ use borrow.Author.Rules.{rules}
 use Rattle.file_lines.proofs.extra_in_range.Statement.{statement}
 use Rattle.file_lines.proofs.extra_in_range.Tie as tie
 
-is-within-requires : tie.Need-is-within-requires
-is-within-requires c κs = near-range 0 65535 (omega arith) (omega arith) c.extra-counts.ensures
+is-within-requires : tie.Need-is_within-requires
+is-within-requires c κs = near-range 0 65535 (omega arith) (omega arith) c.extra_counts.ensures
 
-returns : tie.Need-returns
+returns : tie.Need-returns-then-same
 returns c =
-    let k = c.before.before.before in
-    let a = k.before.before.before.before.args in
-    c.is_Within.ensures ∙ ap (λ r. within r (value a.w.now)) (c.before.extra-counts.ensures ∙ sym (range-first a.name.now (sym k.same.ensures ∙ c.before.before.if1.true)))
+    let k = c in
+    let a = k.args in
+    c.is_within.ensures ∙ ap (λ r. within r (value a.w.now)) (c.extra_counts.ensures ∙ sym (range-first a.name.now (sym k.same.ensures ∙ c.if-same.true)))
 
-is-within-requires-2 : tie.Need-is-within-requires-2
-is-within-requires-2 c κs = near-range 0 65535 (omega arith) (omega arith) c.extra-counts2.ensures
+is-within-requires-2 : tie.Need-is_within-requires-then-same-2
+is-within-requires-2 c κs = near-range 0 65535 (omega arith) (omega arith) c.extra_counts-then-same-2.ensures
 
-returns-2 : tie.Need-returns-2
+returns-2 : tie.Need-returns-then-same-2
 returns-2 c =
-    let at-if1 = c.before.before.before.before.before in
-    let k = at-if1.before in
-    let start = k.before.before.before.before in
+    let at-if1 = c in
+    let k = at-if1 in
+    let start = k in
     let a = start.args in
-    c.is-within2.ensures
+    c.is_within-then-same-2.ensures
     ∙ ap (λ r. within r (value a.w.now))
-    (c.before.extra-counts2.ensures ∙ sym (range-second a.name.now (sym k.same.ensures ∙ at-if1.if1.false) (sym c.before.before.before.same2.ensures ∙ c.before.before.if2.true)))
+    (c.extra_counts-then-same-2.ensures ∙ sym (range-second a.name.now (sym k.same.ensures ∙ at-if1.if-same.false) (sym c.same-2.ensures ∙ c.if-same-2.true)))
 
-is-within-requires-3 : tie.Need-is-within-requires-3
+is-within-requires-3 : tie.Need-is_within-requires-2
 is-within-requires-3 c κs = near-range 0 0 (omega arith) (omega arith) c.no_extra.ensures
 
-returns-3 : tie.Need-returns-3
+returns-3 : tie.Need-returns
 returns-3 c =
-    let at-if1 = c.before.before.before.before.before in
-    let k = at-if1.before in
-    let start = k.before.before.before.before in
+    let at-if1 = c in
+    let k = at-if1 in
+    let start = k in
     let a = start.args in
-    c.is-within3.ensures
+    c.is_within-2.ensures
     ∙ ap (λ r. within r (value a.w.now))
-    (c.before.no_extra.ensures ∙ sym (range_other a.name.now (sym k.same.ensures ∙ at-if1.if1.false) (sym c.before.before.before.same2.ensures ∙ c.before.before.if2.false)))
+    (c.no_extra.ensures ∙ sym (range_other a.name.now (sym k.same.ensures ∙ at-if1.if-same.false) (sym c.same-2.ensures ∙ c.if-same-2.false)))
 
-pub extra-in-range-spec : {M : Type 1} → statement M
-extra-in-range-spec =
+pub extra_in_range_spec : {M : Type 1} → statement M
+extra_in_range_spec =
     tie.close
     (tie.spec
-    (λ c. search rules)
     (λ c κs. search rules)
     (λ c κs. search rules)
     is-within-requires
     returns
-    (λ c. search rules)
     (λ c κs. search rules)
     (λ c κs. search rules)
     is-within-requires-2

@@ -9,7 +9,6 @@ use native.Mathlib.Omega.{arith}
 use native.Mathlib.Nat.{le_of_lt}
 use lib.ListN.{length, get_or}
 use lib.Seq.{length-take-le}
-use borrow.Author.Tests.{not-true, not-false}
 use Rattle.numbers.specs.Numbers.{within}
 use Rattle.text.specs.Text.{line_words}
 use Rattle.text.proofs.ScanLaws.{first_length}
@@ -23,50 +22,50 @@ use Rattle.file_lines.proofs.extras_in_range.Tie as tie
 named : (above n w : List ℕ) {b : Bool} → n ≡ get_or (line_words above) 0 [] → within (extra_range n) (value w) ≡ b → within (extra_range (get_or (line_words above) 0 [])) (value w) ≡ b
 named above n w e h = ap (λ n. within (extra_range n) (value w)) (sym e) ∙ h
 
-abbrev invariant-loop : tie.invariant-loop
-invariant-loop names line above₀ rest₀ e₀ above rest e =
+abbrev invariant-loop-e : tie.invariant-loop-e
+invariant-loop-e names line above₀ rest₀ e₀ above rest e =
     (e ≡ first_length 32 rest) × (length rest ≤ length line) × (extras_in_range (line_words names) (line_words line) ≡ extras_in_range (line_words above) (line_words rest))
 
-abbrev decreases-loop : tie.decreases-loop
-decreases-loop names line above₀ rest₀ e₀ above rest e = length rest
+abbrev decreases-loop-e : tie.decreases-loop-e
+decreases-loop-e names line above₀ rest₀ e₀ above rest e = length rest
 
-loop-holds : tie.Need-loop-init invariant-loop decreases-loop
-loop-holds c = (c.piece-length.ensures, omega arith, refl)
+loop-holds : tie.Need-loop-e-init invariant-loop-e decreases-loop-e
+loop-holds c = (c.piece_length-e.ensures, omega arith, refl)
 
-slice-aggregate-extra-in-range : tie.Need-slice-aggregate-extra-in-range invariant-loop decreases-loop
-slice-aggregate-extra-in-range c = sym (length-take-le _ _ (le_of_lt c.before.before.loop-test.true))
+slice-aggregate-extra-in-range : tie.Need-slice_bounds-extra_in_range-end invariant-loop-e decreases-loop-e
+slice-aggregate-extra-in-range c = sym (length-take-le _ _ (le_of_lt c.loop-e-test.true))
 
-returns : tie.Need-returns invariant-loop decreases-loop
+returns : tie.Need-returns-then-not-extra_in_range invariant-loop-e decreases-loop-e
 returns c =
-    let l = c.before.before.before.before.before.loop in
-    sym (l.invariant.2 ∙ extras-stop (line_words l.above.now) l.rest.now l.e l.invariant.0 c.before.before.before.before.loop-test.true (named l.above.now _ _ c.before.before.before.word_at.ensures (sym c.before.extra-in-range.ensures ∙ not-true _ c.if1.true)))
+    let l = c.loop-e in
+    sym (l.invariant.2 ∙ extras-stop (line_words l.above.now) l.rest.now l.e l.invariant.0 c.loop-e-test.true (named l.above.now _ _ c.word_at-name.ensures (sym c.extra_in_range.ensures ∙ c.if-not-extra_in_range.true)))
 
-loop-again : tie.Need-loop-preserved invariant-loop decreases-loop
+loop-again : tie.Need-loop-e-preserved invariant-loop-e decreases-loop-e
 loop-again c =
-    let at-extra-in-range = c.before.before.before.before in
-    let at-word-at = at-extra-in-range.before.before in
-    let at-loop-test = at-word-at.before in
-    let at-loop = at-loop-test.before in
-    let l = at-loop.loop in (
-      c.piece-length2.ensures,
+    let at-extra-in-range = c in
+    let at-word-at = at-extra-in-range in
+    let at-loop-test = at-word-at in
+    let at-loop = at-loop-test in
+    let l = at-loop.loop-e in (
+      c.piece_length-e-in-loop-e.ensures,
       omega arith,
       l.invariant.2
-          ∙ extras-next (line_words l.above.now) l.rest.now l.e l.invariant.0 at-loop-test.loop-test.true (named l.above.now _ _ at-word-at.word_at.ensures (sym at-extra-in-range.extra-in-range.ensures ∙ not-false _ c.before.before.before.if1.false))
-          ∙ sym (c.before.before.next-names.ensures _),
+          ∙ extras-next (line_words l.above.now) l.rest.now l.e l.invariant.0 at-loop-test.loop-e-test.true (named l.above.now _ _ at-word-at.word_at-name.ensures (sym at-extra-in-range.extra_in_range.ensures ∙ c.if-not-extra_in_range.false))
+          ∙ sym (c.next_names-next.ensures _),
     )
 
-returns-2 : tie.Need-returns-2 invariant-loop decreases-loop
+returns-2 : tie.Need-returns invariant-loop-e decreases-loop-e
 returns-2 c =
-    let l = c.before.before.before.loop in
-    c.extra-in-range2.ensures ∙ ap (λ n. within (extra_range n) (value l.rest.now)) c.before.word-at2.ensures
-    ∙ sym (l.invariant.2 ∙ extras-last (line_words l.above.now) l.rest.now l.e l.invariant.0 c.before.before.loop-test.false)
+    let l = c.loop-e in
+    c.extra_in_range-2.ensures ∙ ap (λ n. within (extra_range n) (value l.rest.now)) c.word_at.ensures
+    ∙ sym (l.invariant.2 ∙ extras-last (line_words l.above.now) l.rest.now l.e l.invariant.0 c.loop-e-test.false)
 
-pub extras-in-range-spec : {M : Type 1} → statement M
-extras-in-range-spec =
+pub extras_in_range_spec : {M : Type 1} → statement M
+extras_in_range_spec =
     tie.close
     (tie.spec
-    invariant-loop
-    decreases-loop
+    invariant-loop-e
+    decreases-loop-e
     (λ c κs. search rules)
     loop-holds
     (λ c κs. search rules)

@@ -8,18 +8,22 @@ use borrow.Author.Rules.{rules}
 use Rattle.file_lines.proofs.extras_listed.Statement.{statement}
 use Rattle.file_lines.proofs.extras_listed.Tie as tie
 
-returns : tie.Need-returns
+returns : tie.Need-returns-then-same
 unfolding extras_in_range
 returns c =
-    let a = c.before.before.before.before.before.args in
-    sym (ap (extras_in_range (list a.names.now)) (list-none a.line.now (sym c.before.same.ensures ∙ c.if1.true)))
+    let a = c.args in
+    sym (ap (extras_in_range (list a.names.now)) (list-none a.line.now (sym c.same.ensures ∙ c.if-same.true)))
 
-returns-2 : tie.Need-returns-2
+returns-2 : tie.Need-returns
 returns-2 c =
-    let a = c.before.before.before.before.before.before.args in
-    c.extras-in-range.ensures ∙ names-listed a.names.now _ ∙ sym (ap (extras_in_range (list a.names.now)) (list-words a.line.now (sym c.before.before.same.ensures ∙ c.before.if1.false)))
+    let a = c.args in
+    c.extras_in_range.ensures ∙ names-listed a.names.now _ ∙ sym (ap (extras_in_range (list a.names.now)) (list-words a.line.now (sym c.same.ensures ∙ c.if-same.false)))
 
-pub extras-listed-spec : {M : Type 1} → statement M
-extras-listed-spec =
+pub extras_listed_spec : {M : Type 1} → statement M
+extras_listed_spec =
     tie.close
-    (tie.spec (λ c. search rules) (λ c κs. search rules) returns (λ c κs. search rules) returns-2)
+    (tie.spec
+    (λ c κs. search rules)
+    returns
+    (λ c κs. search rules)
+    returns-2)

@@ -6,7 +6,6 @@ use native.Mathlib.Omega.{arith}
 use native.Mathlib.Nat.{le_of_lt}
 use lib.ListN.{length}
 use lib.Seq.{length-take-le}
-use borrow.Author.Tests.{not-true, not-false}
 use Rattle.text.specs.Text.{line_words}
 use Rattle.text.proofs.ScanLaws.{first_length, past}
 use Rattle.instructions.proofs.ColumnLaws.{kind-below}
@@ -17,69 +16,69 @@ use borrow.Author.Rules.{rules}
 use Rattle.file_lines.proofs.kinds_named.Statement.{statement}
 use Rattle.file_lines.proofs.kinds_named.Tie as tie
 
-abbrev invariant-loop : tie.invariant-loop
-invariant-loop line keyed starts names seen₀ rest₀ e₀ seen rest e =
+abbrev invariant-loop-e : tie.invariant-loop-e
+invariant-loop-e line keyed starts names seen₀ rest₀ e₀ seen rest e =
     (e ≡ first_length 32 rest) × (length rest ≤ length line) × (well_named Kinds (line_words line) ≡ all_new seen (line_words rest))
 
-abbrev decreases-loop : tie.decreases-loop
-decreases-loop line keyed starts names seen₀ rest₀ e₀ seen rest e = length rest
+abbrev decreases-loop-e : tie.decreases-loop-e
+decreases-loop-e line keyed starts names seen₀ rest₀ e₀ seen rest e = length rest
 
-loop-holds : tie.Need-loop-init invariant-loop decreases-loop
-loop-holds c = (c.piece-length.ensures, omega arith, kinds-new _)
+loop-holds : tie.Need-loop-e-init invariant-loop-e decreases-loop-e
+loop-holds c = (c.piece_length-e.ensures, omega arith, kinds-new _)
 
-slice-aggregate-kind-in : tie.Need-slice-aggregate-kind-in invariant-loop decreases-loop
+slice-aggregate-kind-in : tie.Need-slice_bounds-kind_in-end invariant-loop-e decreases-loop-e
 slice-aggregate-kind-in c = search rules
 
-slice-aggregate-kind-in-2 : tie.Need-slice-aggregate-kind-in-2 invariant-loop decreases-loop
-slice-aggregate-kind-in-2 c = sym (length-take-le _ _ (le_of_lt c.before.before.before.before.loop-test.true))
+slice-aggregate-kind-in-2 : tie.Need-slice_bounds-kind_in-end-in-loop-e invariant-loop-e decreases-loop-e
+slice-aggregate-kind-in-2 c = sym (length-take-le _ _ (le_of_lt c.loop-e-test.true))
 
-kind-in-requires : tie.Need-kind-in-requires invariant-loop decreases-loop
+kind-in-requires : tie.Need-kind_in-kind-requires invariant-loop-e decreases-loop-e
 kind-in-requires c κs =
-    let n = c.before.before.before.before.before.before.before in
-    (n.before.before.keyed-kinds.ensures, n.before.name-starts.ensures, n.all-names.ensures)
+    let n = c in
+    (n.keyed_kinds-keyed.ensures, n.name_starts-starts.ensures, n.all_names-names.ensures)
 
-mark-requires : tie.Need-mark-requires invariant-loop decreases-loop
-mark-requires c κs = λ i e. kind-below _ (sym c.before.kind-in.ensures ∙ e)
+mark-requires : tie.Need-mark-requires invariant-loop-e decreases-loop-e
+mark-requires c κs = λ i e. kind-below _ (sym c.kind_in-kind.ensures ∙ e)
 
-returns : tie.Need-returns invariant-loop decreases-loop
+returns : tie.Need-returns-then-not-mark invariant-loop-e decreases-loop-e
 returns c =
-    let k = c.before.before.before in
-    let t = k.before.before.before.before.before in
-    let l = t.before.loop in
-    sym (l.invariant.2 ∙ new-stop l.seen l.rest.now l.e l.invariant.0 k.kind-in.ensures t.loop-test.true (sym c.before.mark.ensures.0 ∙ not-true _ c.if1.true))
+    let k = c in
+    let t = k in
+    let l = t.loop-e in
+    sym (l.invariant.2 ∙ new-stop l.seen l.rest.now l.e l.invariant.0 k.kind_in-kind.ensures t.loop-e-test.true (sym c.mark.ensures.0 ∙ c.if-not-mark.true))
 
-loop-again : tie.Need-loop-preserved invariant-loop decreases-loop
+loop-again : tie.Need-loop-e-preserved invariant-loop-e decreases-loop-e
 loop-again c =
-    let m = c.before.before.before in
-    let k = m.before.before in
-    let t = k.before.before.before.before.before in
-    let l = t.before.loop in (
-      c.piece-length2.ensures,
+    let m = c in
+    let k = m in
+    let t = k in
+    let l = t.loop-e in (
+      c.piece_length-e-in-loop-e.ensures,
       omega (arith, l.invariant.1),
-      l.invariant.2 ∙ new-next l.seen l.rest.now l.e l.invariant.0 k.kind-in.ensures t.loop-test.true (sym m.mark.ensures.0 ∙ not-false _ c.before.before.if1.false) ∙ ap (λ s. all_new s (line_words (past l.e l.rest.now))) (sym m.mark.ensures.1),
+      l.invariant.2 ∙ new-next l.seen l.rest.now l.e l.invariant.0 k.kind_in-kind.ensures t.loop-e-test.true (sym m.mark.ensures.0 ∙ c.if-not-mark.false) ∙ ap (λ s. all_new s (line_words (past l.e l.rest.now))) (sym m.mark.ensures.1),
     )
 
-kind-in-requires-2 : tie.Need-kind-in-requires-2 invariant-loop decreases-loop
+kind-in-requires-2 : tie.Need-kind_in-last-requires invariant-loop-e decreases-loop-e
 kind-in-requires-2 c κs =
-    let n = c.before.before.before.before.before.before in
-    (n.before.before.keyed-kinds.ensures, n.before.name-starts.ensures, n.all-names.ensures)
+    let n = c in
+    (n.keyed_kinds-keyed.ensures, n.name_starts-starts.ensures, n.all_names-names.ensures)
 
-mark-requires-2 : tie.Need-mark-requires-2 invariant-loop decreases-loop
-mark-requires-2 c κs = λ i e. kind-below _ (sym c.before.kind-in2.ensures ∙ e)
+mark-requires-2 : tie.Need-mark-requires-2 invariant-loop-e decreases-loop-e
+mark-requires-2 c κs = λ i e. kind-below _ (sym c.kind_in-last.ensures ∙ e)
 
-returns-2 : tie.Need-returns-2 invariant-loop decreases-loop
+returns-2 : tie.Need-returns invariant-loop-e decreases-loop-e
 returns-2 c =
-    let k = c.before.before in
-    let t = k.before.before.before.before in
-    let l = t.before.loop in
-    c.mark2.ensures.0 ∙ sym (l.invariant.2 ∙ new-last l.seen l.rest.now l.e l.invariant.0 k.kind-in2.ensures t.loop-test.false)
+    let k = c in
+    let t = k in
+    let l = t.loop-e in
+    c.mark-2.ensures.0 ∙ sym (l.invariant.2 ∙ new-last l.seen l.rest.now l.e l.invariant.0 k.kind_in-last.ensures t.loop-e-test.false)
 
-pub kinds-named-spec : {M : Type 1} → statement M
-kinds-named-spec =
+pub kinds_named_spec : {M : Type 1} → statement M
+kinds_named_spec =
     tie.close
     (tie.spec
-    invariant-loop
-    decreases-loop
+    invariant-loop-e
+    decreases-loop-e
     (λ c κs. search rules)
     (λ c κs. search rules)
     (λ c κs. search rules)

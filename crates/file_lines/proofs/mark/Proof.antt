@@ -5,24 +5,24 @@ use borrow.Author.Rules.{rules}
 use Rattle.file_lines.proofs.mark.Statement.{statement}
 use Rattle.file_lines.proofs.mark.Tie as tie
 
-returns : tie.Need-returns
+returns : tie.Need-returns-in_default
 unfolding is_new marked
 returns c =
-    let e = c.enum_told.given.1 in
-    let seen = c.before.before.args.seen.now in
+    let e = c.in_default.is in
+    let seen = c.args.seen.now in
     (sym (ap (is_new seen) e), sym (ap (marked seen) e))
 
-element-copy-out-before : tie.Need-element-copy-out-before
-element-copy-out-before c = c.before.before.before.requires _ c.before.kind.given.1
+element-copy-out-before : tie.Need-bounds-seen-k
+element-copy-out-before c = c.requires _ c.in-At.is
 
-element-write-seen : tie.Need-element-write-seen
-element-write-seen c = c.before.before.before.before.requires _ c.before.before.kind.given.1
+element-write-seen : tie.Need-bounds-seen-k-2
+element-write-seen c = c.requires _ c.in-At.is
 
-returns-2 : tie.Need-returns-2
+returns-2 : tie.Need-returns
 unfolding is_new marked
 returns-2 c =
-    let e = c.before.before.kind.given.1 in
-    let seen = c.before.before.before.before.args.seen.now in
+    let e = c.in-At.is in
+    let seen = c.args.seen.now in
     (sym (ap (is_new seen) e), sym (ap (marked seen) e))
 
 pub mark_spec : {M : Type 1} → statement M

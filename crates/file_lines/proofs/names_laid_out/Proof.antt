@@ -8,48 +8,47 @@ use borrow.Author.Rules.{rules}
 use Rattle.file_lines.proofs.names_laid_out.Statement.{statement}
 use Rattle.file_lines.proofs.names_laid_out.Tie as tie
 
-enum_told : tie.Need-enum-told
+enum_told : tie.Need-enum_told-1
 enum_told c = search rules
 
-returns : tie.Need-returns
+returns : tie.Need-returns-in-Limits
 unfolding names_laid_out
 returns c =
-    arm (λ s. names_laid_out s c.before.before.before.before.before.args.line.now) c.before.before.enum_told.given.1 c.same.ensures
+    arm (λ s. names_laid_out s c.args.line.now) c.in-Limits.is c.same.ensures
 
-returns-2 : tie.Need-returns-2
+returns-2 : tie.Need-returns-in-Kinds
 unfolding names_laid_out
-returns-2 c = arm (λ s. names_laid_out s c.before.before.before.args.line.now) c.enum-told2.given.1 refl
+returns-2 c = arm (λ s. names_laid_out s c.args.line.now) c.in-Kinds.is refl
 
-returns-3 : tie.Need-returns-3
+returns-3 : tie.Need-returns-in-Primitives
 unfolding names_laid_out
 returns-3 c =
-    arm (λ s. names_laid_out s c.before.before.before.before.args.line.now) c.before.enum-told3.given.1 (ap (λ n. leb n 32) c.count-listed.ensures)
+    arm (λ s. names_laid_out s c.args.line.now) c.in-Primitives.is (ap (λ n. leb n 32) c.count_listed.ensures)
 
-returns-4 : tie.Need-returns-4
+returns-4 : tie.Need-returns-in-Cells
 unfolding names_laid_out
 returns-4 c =
-    arm (λ s. names_laid_out s c.before.before.before.before.args.line.now) c.before.enum-told4.given.1 (ap (ltb 0) c.count-listed2.ensures ∙ filled (list c.before.before.before.before.args.line.now))
+    arm (λ s. names_laid_out s c.args.line.now) c.in-Cells.is (ap (ltb 0) c.count_listed-in-Cells.ensures ∙ filled (list c.args.line.now))
 
-returns-5 : tie.Need-returns-5
+returns-5 : tie.Need-returns-in-Fields
 unfolding names_laid_out
-returns-5 c = arm (λ s. names_laid_out s c.before.before.before.args.line.now) c.enum-told5.given.1 refl
+returns-5 c = arm (λ s. names_laid_out s c.args.line.now) c.in-Fields.is refl
 
-returns-6 : tie.Need-returns-6
+returns-6 : tie.Need-returns-in-Instructions
 unfolding names_laid_out
 returns-6 c =
-    arm (λ s. names_laid_out s c.before.before.before.before.before.args.line.now) c.before.before.enum-told6.given.1 c.same2.ensures
+    arm (λ s. names_laid_out s c.args.line.now) c.in-Instructions.is c.same-in-Instructions.ensures
 
-returns-7 : tie.Need-returns-7
+returns-7 : tie.Need-returns-in-Answers
 unfolding names_laid_out
 returns-7 c =
-    arm (λ s. names_laid_out s c.before.before.before.before.before.args.line.now) c.before.before.enum-told7.given.1 c.same3.ensures
+    arm (λ s. names_laid_out s c.args.line.now) c.in-Answers.is c.same-in-Answers.ensures
 
-pub names-laid-out-spec : {M : Type 1} → statement M
-names-laid-out-spec =
+pub names_laid_out_spec : {M : Type 1} → statement M
+names_laid_out_spec =
     tie.close
     (tie.spec
     enum_told
-    (λ c. search rules)
     (λ c κs. search rules)
     (λ c. search rules)
     (λ c. search rules)
@@ -58,9 +57,7 @@ names-laid-out-spec =
     (λ c κs. search rules)
     (λ c. search rules)
     (λ c. search rules)
-    (λ c. search rules)
     (λ c κs. search rules)
-    (λ c. search rules)
     (λ c. search rules)
     (λ c κs. search rules)
     returns

@@ -7,36 +7,36 @@ use borrow.Author.Rules.{rules}
 use Rattle.file_lines.proofs.values_in_range.Statement.{statement}
 use Rattle.file_lines.proofs.values_in_range.Tie as tie
 
-enum_told : tie.Need-enum-told
+enum_told : tie.Need-enum_told-1
 enum_told c = search rules
 
-returns : tie.Need-returns
+returns : tie.Need-returns-in-Limit
 unfolding column_in_range word_test
 returns c =
-    arm (λ k. column_in_range k (list c.before.before.before.before.before.args.names.now) (list c.before.before.before.before.before.args.line.now)) c.before.enum_told.given.1 c.limits-in-range.ensures
+    arm (λ k. column_in_range k (list c.args.names.now) (list c.args.line.now)) c.in-Limit.is c.limits_in_range.ensures
 
-returns-2 : tie.Need-returns-2
+returns-2 : tie.Need-returns-in-Cycles
 unfolding column_in_range word_test
 returns-2 c =
-    arm (λ k. column_in_range k (list c.before.before.before.before.before.args.names.now) (list c.before.before.before.before.before.args.line.now)) c.before.enum-told2.given.1 c.all_listed.ensures
+    arm (λ k. column_in_range k (list c.args.names.now) (list c.args.line.now)) c.in-Cycles.is c.all_listed.ensures
 
-returns-3 : tie.Need-returns-3
+returns-3 : tie.Need-returns-in-Words
 unfolding column_in_range word_test
 returns-3 c =
-    arm (λ k. column_in_range k (list c.before.before.before.before.before.args.names.now) (list c.before.before.before.before.before.args.line.now)) c.before.enum-told3.given.1 c.all-listed2.ensures
+    arm (λ k. column_in_range k (list c.args.names.now) (list c.args.line.now)) c.in-Words.is c.all_listed-in-Words.ensures
 
-returns-4 : tie.Need-returns-4
+returns-4 : tie.Need-returns-in-Extra
 unfolding column_in_range
 returns-4 c =
-    arm (λ k. column_in_range k (list c.before.before.before.before.before.args.names.now) (list c.before.before.before.before.before.args.line.now)) c.before.enum-told4.given.1 c.extras-listed.ensures
+    arm (λ k. column_in_range k (list c.args.names.now) (list c.args.line.now)) c.in-Extra.is c.extras_listed.ensures
 
-returns-5 : tie.Need-returns-5
+returns-5 : tie.Need-returns-in-Cell
 unfolding column_in_range word_test
 returns-5 c =
-    arm (λ k. column_in_range k (list c.before.before.before.before.before.args.names.now) (list c.before.before.before.before.before.args.line.now)) c.before.enum-told5.given.1 c.all-listed3.ensures
+    arm (λ k. column_in_range k (list c.args.names.now) (list c.args.line.now)) c.in-Cell.is c.all_listed-in-Cell.ensures
 
-pub values-in-range-spec : {M : Type 1} → statement M
-values-in-range-spec =
+pub values_in_range_spec : {M : Type 1} → statement M
+values_in_range_spec =
     tie.close
     (tie.spec
     enum_told

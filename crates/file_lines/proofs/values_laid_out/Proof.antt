@@ -8,20 +8,20 @@ use borrow.Author.Rules.{rules}
 use Rattle.file_lines.proofs.values_laid_out.Statement.{statement}
 use Rattle.file_lines.proofs.values_laid_out.Tie as tie
 
-returns : tie.Need-returns
+returns : tie.Need-returns-then-count_listed
 unfolding values_laid_out
 returns c =
-    and-true (eq-eqb _ _ (sym c.before.before.before.count-listed.ensures ∙ c.before.if1.true ∙ c.before.before.count-listed2.ensures)) c.column-laid-out.ensures
+    and-true (eq-eqb _ _ (sym c.count_listed.ensures ∙ c.if-count_listed.true ∙ c.count_listed-2.ensures)) c.column_laid_out.ensures
 
-returns-2 : tie.Need-returns-2
+returns-2 : tie.Need-returns
 unfolding values_laid_out
 returns-2 c =
-    let start = c.before.before.before.before.before in
+    let start = c in
     and-false (column_laid_out start.args.c (list start.args.line.now))
-    (ne_eqb _ _ (λ e. c.if1.false (c.before.before.count-listed.ensures ∙ e ∙ sym c.before.count-listed2.ensures)))
+    (ne_eqb _ _ (λ e. c.if-count_listed.false (c.count_listed.ensures ∙ e ∙ sym c.count_listed-2.ensures)))
 
-pub values-laid-out-spec : {M : Type 1} → statement M
-values-laid-out-spec =
+pub values_laid_out_spec : {M : Type 1} → statement M
+values_laid_out_spec =
     tie.close
     (tie.spec
     (λ c κs. search rules)

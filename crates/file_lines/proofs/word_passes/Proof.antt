@@ -9,62 +9,62 @@ use borrow.Author.Rules.{rules}
 use Rattle.file_lines.proofs.word_passes.Statement.{statement}
 use Rattle.file_lines.proofs.word_passes.Tie as tie
 
-enum_told : tie.Need-enum-told
+enum_told : tie.Need-enum_told-1
 enum_told c = search rules
 
-is-within-requires : tie.Need-is-within-requires
-is-within-requires c κs = near-range 0 65535 (omega arith) (omega arith) c.cycle-counts.ensures
+is-within-requires : tie.Need-is_within-requires
+is-within-requires c κs = near-range 0 65535 (omega arith) (omega arith) c.cycle_counts.ensures
 
-is-within-requires-2 : tie.Need-is-within-requires-2
+is-within-requires-2 : tie.Need-is_within-requires-in-Words
 is-within-requires-2 c κs = near-range 0 255 (omega arith) (omega arith) c.word_counts.ensures
 
-returns : tie.Need-returns
+returns : tie.Need-returns-in-Filled
 unfolding word_test
 returns c =
-    arm (λ t. word_test t c.before.before.before.args.w.now) c.enum_told.given.1 (filled c.before.before.before.args.w.now)
+    arm (λ t. word_test t c.args.w.now) c.in-Filled.is (filled c.args.w.now)
 
-returns-2 : tie.Need-returns-2
+returns-2 : tie.Need-returns-in-Numeral
 unfolding word_test
 returns-2 c =
-    arm (λ t. word_test t c.before.before.before.before.args.w.now) c.before.enum-told2.given.1 c.is-numeral.ensures
+    arm (λ t. word_test t c.args.w.now) c.in-Numeral.is c.is_numeral.ensures
 
-returns-3 : tie.Need-returns-3
+returns-3 : tie.Need-returns-in-Cycles
 unfolding word_test
 returns-3 c =
-    arm (λ t. word_test t c.before.before.before.before.before.args.w.now) c.before.before.enum-told3.given.1 (c.is_Within.ensures ∙ ap (λ r. within r (value c.before.before.before.before.before.args.w.now)) c.before.cycle-counts.ensures)
+    arm (λ t. word_test t c.args.w.now) c.in-Cycles.is (c.is_within.ensures ∙ ap (λ r. within r (value c.args.w.now)) c.cycle_counts.ensures)
 
-returns-4 : tie.Need-returns-4
+returns-4 : tie.Need-returns-in-Words
 unfolding word_test
 returns-4 c =
-    arm (λ t. word_test t c.before.before.before.before.before.args.w.now) c.before.before.enum-told4.given.1 (c.is-within2.ensures ∙ ap (λ r. within r (value c.before.before.before.before.before.args.w.now)) c.before.word_counts.ensures)
+    arm (λ t. word_test t c.args.w.now) c.in-Words.is (c.is_within-in-Words.ensures ∙ ap (λ r. within r (value c.args.w.now)) c.word_counts.ensures)
 
-returns-5 : tie.Need-returns-5
+returns-5 : tie.Need-returns-in-Cell
 unfolding word_test
 returns-5 c =
-    arm (λ t. word_test t c.before.before.before.before.args.w.now) c.before.enum-told5.given.1 c.is-cell.ensures
+    arm (λ t. word_test t c.args.w.now) c.in-Cell.is c.is_cell.ensures
 
-returns-6 : tie.Need-returns-6
+returns-6 : tie.Need-returns-in-CellRange
 unfolding word_test
 returns-6 c =
-    arm (λ t. word_test t c.before.before.before.before.args.w.now) c.before.enum-told6.given.1 c.cell-in-range.ensures
+    arm (λ t. word_test t c.args.w.now) c.in-CellRange.is c.cell_in_range.ensures
 
-returns-7 : tie.Need-returns-7
+returns-7 : tie.Need-returns-in-Present
 unfolding word_test
 returns-7 c =
-    arm (λ t. word_test t c.before.before.before.before.before.args.w.now) c.before.before.t.given.1 c.cell-present.ensures
+    arm (λ t. word_test t c.args.w.now) c.in-Present.is c.cell_present.ensures
 
-returns-8 : tie.Need-returns-8
+returns-8 : tie.Need-returns-in-Known
 unfolding word_test
 returns-8 c =
-    arm (λ t. word_test t c.before.before.before.before.args.w.now) c.before.enum-told7.given.1 c.is-single.ensures
+    arm (λ t. word_test t c.args.w.now) c.in-Known.is c.is_single.ensures
 
-returns-9 : tie.Need-returns-9
+returns-9 : tie.Need-returns-in-Primitive
 unfolding word_test
 returns-9 c =
-    arm (λ t. word_test t c.before.before.before.before.args.w.now) c.before.enum-told8.given.1 c.is_name.ensures
+    arm (λ t. word_test t c.args.w.now) c.in-Primitive.is c.is_name.ensures
 
-pub word-passes-spec : {M : Type 1} → statement M
-word-passes-spec =
+pub word_passes_spec : {M : Type 1} → statement M
+word_passes_spec =
     tie.close
     (tie.spec
     enum_told

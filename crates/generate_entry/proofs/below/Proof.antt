@@ -10,5 +10,5 @@ returns : tie.Need-returns
 unfolding below
 returns c = rw add-one refl
 
-pub below-spec : {M : Type 1} → statement M
-below-spec = tie.close (tie.spec (λ c. search rules) (λ c. search rules) (λ c. search rules) (λ c. search rules) returns)
+pub below_spec : {M : Type 1} → statement M
+below_spec = tie.close (tie.spec (λ c. search rules) (λ c. search rules) (λ c. search rules) (λ c. search rules) returns)

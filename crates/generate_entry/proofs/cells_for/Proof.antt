@@ -4,14 +4,14 @@ use borrow.Author.Rules.{rules}
 use Rattle.generate_entry.proofs.cells_for.Statement.{statement}
 use Rattle.generate_entry.proofs.cells_for.Tie as tie
 
-returns : tie.Need-returns
-returns c = let k = c.before.before in let s = k.before.before in handles-for s.args.seed s.args.k k.before.before.requires.0 k.before.after.ensures k.kind-of.ensures c.before.accesses.ensures c.if1.true
+returns : tie.Need-returns-then-accesses
+returns c = let k = c in let s = k in handles-for s.args.seed s.args.k k.requires.0 k.after.ensures k.kind_of-kind.ensures c.accesses.ensures c.if-accesses.true
 
-returns-2 : tie.Need-returns-2
-returns-2 c = let k = c.before.before.before in let s = k.before.before in plain-for s.args.seed s.args.k k.before.before.requires.0 k.before.after.ensures k.kind-of.ensures c.before.before.accesses.ensures c.before.if1.false c.plain_Cells.ensures
+returns-2 : tie.Need-returns
+returns-2 c = let k = c in let s = k in plain-for s.args.seed s.args.k k.requires.0 k.after.ensures k.kind_of-kind.ensures c.accesses.ensures c.if-accesses.false c.plain_cells.ensures
 
-pub cells-for-spec : {M : Type 1} → statement M
-cells-for-spec =
+pub cells_for_spec : {M : Type 1} → statement M
+cells_for_spec =
     tie.close
     (tie.spec
     (λ c. search rules)

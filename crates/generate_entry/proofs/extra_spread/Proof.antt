@@ -3,14 +3,14 @@ use Rattle.generate_entry.proofs.CellLaws.{extra-if, extra-if-not, extra-other}
 use Rattle.generate_entry.proofs.extra_spread.Statement.{statement}
 use Rattle.generate_entry.proofs.extra_spread.Tie as tie
 
-returns : tie.Need-returns
-returns c = extra-if c.before.args.i c.if1.true
+returns : tie.Need-returns-then-i-eq53
+returns c = extra-if c.args.i c.if-i-eq53.true
 
-returns-2 : tie.Need-returns-2
-returns-2 c = extra-if-not c.before.before.args.i c.before.if1.false c.if2.true
+returns-2 : tie.Need-returns-then-i-eq54
+returns-2 c = extra-if-not c.args.i c.if-i-eq53.false c.if-i-eq54.true
 
-returns-3 : tie.Need-returns-3
-returns-3 c = extra-other c.before.before.args.i c.before.if1.false c.if2.false
+returns-3 : tie.Need-returns
+returns-3 c = extra-other c.args.i c.if-i-eq53.false c.if-i-eq54.false
 
-pub extra-spread-spec : {M : Type 1} → statement M
-extra-spread-spec = tie.close (tie.spec returns returns-2 returns-3)
+pub extra_spread_spec : {M : Type 1} → statement M
+extra_spread_spec = tie.close (tie.spec returns returns-2 returns-3)

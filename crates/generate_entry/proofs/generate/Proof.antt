@@ -6,14 +6,14 @@ use borrow.Author.Rules.{rules}
 use Rattle.generate_entry.proofs.generate.Statement.{statement}
 use Rattle.generate_entry.proofs.generate.Tie as tie
 
-returns : tie.Need-returns
-returns c = let a = c.before.before.args in gives-refusal _ _ (generate-short a.seed (length a.out.now) c.if1.true) _
+returns : tie.Need-returns-then-out-lt32768
+returns c = let a = c.args in gives-refusal _ _ (generate-short a.seed (length a.out.now) c.if-out-lt32768.true) _
 
-returns-2 : tie.Need-returns-2
-returns-2 c = let a = c.before.before.before.args in gives-refusal _ _ (generate-zero a.seed (length a.out.now) c.before.if1.false c.if2.true) _
+returns-2 : tie.Need-returns-then-seed-eq0
+returns-2 c = let a = c.args in gives-refusal _ _ (generate-zero a.seed (length a.out.now) c.if-out-lt32768.false c.if-seed-eq0.true) _
 
-returns-3 : tie.Need-returns-3
-returns-3 c = let p = c.before.before in let a = c.before.before.before.before.before.before.before.args in gives-report _ _ (generate-made a.seed (length a.out.now) c.before.before.before.before.before.if1.false c.before.before.before.before.if2.false) _ p.put-file.ensures.0 _ _ p.put-file.ensures.1
+returns-3 : tie.Need-returns
+returns-3 c = let p = c in let a = c.args in gives-report _ _ (generate-made a.seed (length a.out.now) c.if-out-lt32768.false c.if-seed-eq0.false) _ p.put_file-n.ensures.0 _ _ p.put_file-n.ensures.1
 
-pub generate-spec : {M : Type 1} → statement M
-generate-spec = tie.close (tie.spec returns returns-2 (λ c κs. search rules) (λ c. search rules) returns-3)
+pub generate_spec : {M : Type 1} → statement M
+generate_spec = tie.close (tie.spec returns returns-2 (λ c κs. search rules) (λ c. search rules) returns-3)

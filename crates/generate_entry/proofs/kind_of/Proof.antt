@@ -14,11 +14,11 @@ first n k d h = rw (lt-ltb k n h) refl
 last : (n k d : ℕ) → n ≤ k → 60 ≡ cond (ltb k n) (d % 61) 60
 last n k d h = rw (le-ltb k n h) refl
 
-returns : tie.Need-returns
-returns c = first c.before.args.n c.before.args.k c.before.args.d c.if1.true
+returns : tie.Need-returns-then-k-n
+returns c = first c.args.n c.args.k c.args.d c.if-k-n.true
 
-returns-2 : tie.Need-returns-2
-returns-2 c = last c.before.args.n c.before.args.k c.before.args.d c.if1.false
+returns-2 : tie.Need-returns
+returns-2 c = last c.args.n c.args.k c.args.d c.if-k-n.false
 
-pub kind-of-spec : {M : Type 1} → statement M
-kind-of-spec = tie.close (tie.spec (λ c. search rules) returns returns-2)
+pub kind_of_spec : {M : Type 1} → statement M
+kind_of_spec = tie.close (tie.spec (λ c. search rules) returns returns-2)

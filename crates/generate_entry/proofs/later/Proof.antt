@@ -7,7 +7,7 @@ use Rattle.generate_entry.proofs.later.Statement.{statement}
 use Rattle.generate_entry.proofs.later.Tie as tie
 
 returns : tie.Need-returns
-returns c = c.after.ensures ∙ ap (λ x. after (1 + 2 * x + c.before.args.i) c.before.args.seed) c.before.requires.0
+returns c = c.after.ensures ∙ ap (λ x. after (1 + 2 * x + c.args.i) c.args.seed) c.requires.0
 
-pub later-spec : {M : Type 1} → statement M
-later-spec = tie.close (tie.spec (λ c. search rules) (λ c. search rules) (λ c. search rules) (λ c κs. search rules) returns)
+pub later_spec : {M : Type 1} → statement M
+later_spec = tie.close (tie.spec (λ c. search rules) (λ c. search rules) (λ c. search rules) (λ c κs. search rules) returns)

@@ -3,11 +3,11 @@ use Rattle.generate_entry.proofs.CellLaws.{limit-first, limit-second}
 use Rattle.generate_entry.proofs.limit_spread.Statement.{statement}
 use Rattle.generate_entry.proofs.limit_spread.Tie as tie
 
-returns : tie.Need-returns
-returns c = limit-first c.before.args.i c.if1.true
+returns : tie.Need-returns-then-i-eq0
+returns c = limit-first c.args.i c.if-i-eq0.true
 
-returns-2 : tie.Need-returns-2
-returns-2 c = limit-second c.before.args.i c.if1.false
+returns-2 : tie.Need-returns
+returns-2 c = limit-second c.args.i c.if-i-eq0.false
 
-pub limit-spread-spec : {M : Type 1} → statement M
-limit-spread-spec = tie.close (tie.spec returns returns-2)
+pub limit_spread_spec : {M : Type 1} → statement M
+limit_spread_spec = tie.close (tie.spec returns returns-2)

@@ -8,5 +8,5 @@ returns : tie.Need-returns
 unfolding next
 returns c = refl
 
-pub next-spec : {M : Type 1} → statement M
-next-spec = tie.close (tie.spec returns)
+pub next_spec : {M : Type 1} → statement M
+next_spec = tie.close (tie.spec returns)

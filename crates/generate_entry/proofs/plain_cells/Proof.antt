@@ -4,11 +4,11 @@ use borrow.Author.Rules.{rules}
 use Rattle.generate_entry.proofs.plain_cells.Statement.{statement}
 use Rattle.generate_entry.proofs.plain_cells.Tie as tie
 
-returns : tie.Need-returns
-returns c = open-cells c.before.before.args.seed c.before.next.result c.before.next.ensures c.if1.true
+returns : tie.Need-returns-then-next-eq1
+returns c = open-cells c.args.seed c.next.result c.next.ensures c.if-next-eq1.true
 
-returns-2 : tie.Need-returns-2
-returns-2 c = known-cells c.before.before.args.seed c.before.next.result c.before.next.ensures c.if1.false
+returns-2 : tie.Need-returns
+returns-2 c = known-cells c.args.seed c.next.result c.next.ensures c.if-next-eq1.false
 
-pub plain-cells-spec : {M : Type 1} → statement M
-plain-cells-spec = tie.close (tie.spec (λ c κs. search rules) returns returns-2)
+pub plain_cells_spec : {M : Type 1} → statement M
+plain_cells_spec = tie.close (tie.spec (λ c κs. search rules) returns returns-2)

@@ -10,17 +10,17 @@ use borrow.Author.Rules.{rules}
 use Rattle.generate_entry.proofs.put_amount.Statement.{statement}
 use Rattle.generate_entry.proofs.put_amount.Tie as tie
 
-add-put-decimal : tie.Need-overflow-add-put-decimal
-add-put-decimal c = let s = c.before.before.before in let b = below-under s.args.spread s.args.d s.requires.1 in omega (arith, s.requires, c.below.ensures)
+add-put-decimal : tie.Need-overflow_add-least
+add-put-decimal c = let s = c in let b = below-under s.args.spread s.args.d s.requires.1 in omega (arith, s.requires, c.below.ensures)
 
-put-decimal-requires : tie.Need-put-decimal-requires
-put-decimal-requires c κs = let s = c.before.before.before in let b = below-under s.args.spread s.args.d s.requires.1 in omega (arith, s.requires, decimal-length 10 (s.args.least + c.below.result) (omega (arith, s.requires, c.below.ensures)) (omega arith))
+put-decimal-requires : tie.Need-put_decimal-requires
+put-decimal-requires c κs = let s = c in let b = below-under s.args.spread s.args.d s.requires.1 in omega (arith, s.requires, decimal-length 10 (s.args.least + c.below.result) (omega (arith, s.requires, c.below.ensures)) (omega arith))
 
 returns : tie.Need-returns
-returns c = let b = c.before.before.before in let s = b.before.before.before in put_as _ _ (ap (λ x. decimal (s.args.least + x)) (sym b.below.ensures)) c.before.before.put-decimal.ensures
+returns c = let b = c in let s = b in put_as _ _ (ap (λ x. decimal (s.args.least + x)) (sym b.below.ensures)) c.put_decimal.ensures
 
-pub put-amount-spec : {M : Type 1} → statement M
-put-amount-spec =
+pub put_amount_spec : {M : Type 1} → statement M
+put_amount_spec =
     tie.close
     (tie.spec
     (λ c κs. search rules)

@@ -9,57 +9,57 @@ use Rattle.generate_entry.proofs.RowingLaws.{aims-before, Coding, coding-starts,
 use Rattle.generate_entry.proofs.put_code.Statement.{statement}
 use Rattle.generate_entry.proofs.put_code.Tie as tie
 
-abbrev invariant-loop : tie.invariant-loop
-invariant-loop out₀ at seed n e₀ t₀ u₀ k₀ out e t u k = Coding seed n out₀ at out e t u k
+abbrev invariant-loop-k : tie.invariant-loop-k
+invariant-loop-k out₀ at seed n e₀ t₀ u₀ k₀ out e t u k = Coding seed n out₀ at out e t u k
 
-abbrev decreases-loop : tie.decreases-loop
-decreases-loop out₀ at seed n e₀ t₀ u₀ k₀ out e t u k = suc n - k
+abbrev decreases-loop-k : tie.decreases-loop-k
+decreases-loop-k out₀ at seed n e₀ t₀ u₀ k₀ out e t u k = suc n - k
 
-add-after : tie.Need-overflow-add-after invariant-loop decreases-loop
+add-after : tie.Need-overflow_add-n invariant-loop-k decreases-loop-k
 add-after c = omega arith
 
-loop-holds : tie.Need-loop-init invariant-loop decreases-loop
-loop-holds c = let s = c.before.before.before in coding-starts s.args.seed s.args.n s.requires.0 s.args.out.now s.args.at (omega (arith, s.requires.2)) c.before.next.ensures c.after.ensures
+loop-holds : tie.Need-loop-k-init invariant-loop-k decreases-loop-k
+loop-holds c = let s = c in coding-starts s.args.seed s.args.n s.requires.0 s.args.out.now s.args.at (omega (arith, s.requires.2)) c.next-t.ensures c.after-u.ensures
 
-put-line-requires : tie.Need-put-line-requires invariant-loop decreases-loop
+put-line-requires : tie.Need-put_line-e-requires invariant-loop-k decreases-loop-k
 put-line-requires c κs =
-    let i = c.before in
-    let l = c.before.before.before.before.before in
-    let s = l.before.before.before.before in
-    let d = c.before.before.before.next2.result in (
-      kind-under s.args.n l.loop.k d i.kind-of.ensures,
+    let i = c in
+    let l = c in
+    let s = l in
+    let d = c.next-c.result in (
+      kind-under s.args.n l.loop-k.k d i.kind_of-kind.ensures,
       omega (arith, s.requires.1),
       s.requires.1,
-      (λ q. aims-before s.args.n l.loop.k d (subst (λ m. (kind_at m).argument ≡ Target) i.kind-of.ensures q)),
-      omega (arith, s.requires.2, l.loop.invariant.short, l.loop.invariant.long),
+      (λ q. aims-before s.args.n l.loop-k.k d (subst (λ m. (kind_at m).argument ≡ Target) i.kind_of-kind.ensures q)),
+      omega (arith, s.requires.2, l.loop-k.invariant.short, l.loop-k.invariant.long),
     )
 
-add-k : tie.Need-overflow-add-k invariant-loop decreases-loop
+add-k : tie.Need-overflow_add-k invariant-loop-k decreases-loop-k
 add-k c = omega arith
 
-loop-less : tie.Need-loop-smaller invariant-loop decreases-loop
+loop-less : tie.Need-loop-k-smaller invariant-loop-k decreases-loop-k
 loop-less c = omega arith
 
-loop-again : tie.Need-loop-preserved invariant-loop decreases-loop
+loop-again : tie.Need-loop-k-preserved invariant-loop-k decreases-loop-k
 loop-again c =
-    let p = c.before.before in
-    let i = c.before.before.before.before in
-    let l = c.before.before.before.before.before.before.before.before in
-    let s = l.before.before.before.before in
-    coding-next s.args.seed s.args.n s.requires.0 l.loop.invariant (omega arith) (omega (arith, s.requires.1)) i.before.before.next2.ensures i.before.next3.ensures i.kind-of.ensures p.put-line.ensures p.put-line.auto.0
+    let p = c in
+    let i = c in
+    let l = c in
+    let s = l in
+    coding-next s.args.seed s.args.n s.requires.0 l.loop-k.invariant (omega arith) (omega (arith, s.requires.1)) i.next-c.ensures i.next-d.ensures i.kind_of-kind.ensures p.put_line-e.ensures p.put_line-e.auto.out
 
-same_length : tie.Need-same-length invariant-loop decreases-loop
-same_length c = c.before.loop.invariant.long
+same_length : tie.Need-shape_of-out invariant-loop-k decreases-loop-k
+same_length c = c.loop-k.invariant.long
 
-returns : tie.Need-returns invariant-loop decreases-loop
-returns c = let l = c.before in let s = l.before.before.before.before in coding-ends s.args.seed s.args.n s.requires.0 l.loop.invariant (omega arith)
+returns : tie.Need-returns invariant-loop-k decreases-loop-k
+returns c = let l = c in let s = l in coding-ends s.args.seed s.args.n s.requires.0 l.loop-k.invariant (omega arith)
 
-pub put-code-spec : {M : Type 1} → statement M
-put-code-spec =
+pub put_code_spec : {M : Type 1} → statement M
+put_code_spec =
     tie.close
     (tie.spec
-    invariant-loop
-    decreases-loop
+    invariant-loop-k
+    decreases-loop-k
     (λ c κs. search rules)
     add-after
     (λ c κs. search rules)

@@ -38,44 +38,43 @@ fits c = omega (arith, (begin c).requires, file-short (seed c))
 abbrev w0 : (c : tie.After-next) → At 0 0 (begin c).args.out.now
 w0 c = begins-first c (fits c)
 
-abbrev w1 : (c : tie.After-put-prices) → At 1 c.put-prices.result c.put-prices.new.0
-w1 c = next (w0 c.before.before) c.put-prices.ensures
+abbrev w1 : (c : tie.After-put_prices-a) → At 1 c.put_prices-a.result c.put_prices-a.new.out
+w1 c = next (w0 c.before.before) c.put_prices-a.ensures
 
-abbrev w2 : (c : tie.After-put-start) → At 2 c.put-start.result c.put-start.new.0
-w2 c = next (w1 c.before.before.before.before) c.put-start.ensures
+abbrev w2 : (c : tie.After-put_start-b) → At 2 c.put_start-b.result c.put_start-b.new.out
+w2 c = next (w1 c.before.before.before.before) c.put_start-b.ensures
 
-abbrev w3 : (c : tie.After-put) → At 3 c.put.result c.put.new.0
-w3 c = next (w2 c.before.before.before.before.before) c.put.ensures
+abbrev w3 : (c : tie.After-put-c) → At 3 c.put-c.result c.put-c.new.out
+w3 c = next (w2 c.before.before.before.before.before.before) c.put-c.ensures
 
-abbrev w4 : (c : tie.After-put-code) → At 4 c.put-code.result c.put-code.new.0
-w4 c = let w = w3 c.before.before.before.before in next-as w (ap (λ m. code_from (seed w.start) 0 (suc m)) (number w.start)) c.put-code.ensures
+abbrev w4 : (c : tie.After-put_code) → At 4 c.put_code.result c.put_code.new.out
+w4 c = let w = w3 c.before.before.before.before in next-as w (ap (λ m. code_from (seed w.start) 0 (suc m)) (number w.start)) c.put_code.ensures
 
-put-start-requires : tie.Need-put-start-requires
+put-start-requires : tie.Need-put_start-b-requires
 put-start-requires c κs =
     let w = w1 c.before.before.before in
     let t = w.start in
-    (number t, omega arith, omega (arith, (begin t).pre, kept w, w.wrote.ends, prices-short (seed t)))
+    (number t, omega arith, omega (arith, (begin t).requires, kept w, w.wrote.ends, prices-short (seed t)))
 
-put-code-requires : tie.Need-put-code-requires
+put-code-requires : tie.Need-put_code-requires
 put-code-requires c κs =
     let w = w3 c.before.before.before in
     let t = w.start in
-    (number t, omega arith, omega (arith, (begin t).pre, kept w, simp length-append at w.wrote.ends, prices-short (seed t), start-short (seed t)))
+    (number t, omega arith, omega (arith, (begin t).requires, kept w, simp length-append at w.wrote.ends, prices-short (seed t), start-short (seed t)))
 
 returns : tie.Need-returns
 unfolding file
 returns c = finished-first (w4 c.before.before)
 
-pub put-file-spec : {M : Type 1} → statement M
-put-file-spec =
+pub put_file_spec : {M : Type 1} → statement M
+put_file_spec =
     tie.close
     (tie.spec
     (λ c κs. search rules)
     (λ c. search rules)
     (λ c κs. (number c.before, omega arith, omega (arith, (begin c.before).requires)))
     put-start-requires
-    (λ c. search rules)
-    (λ c κs. room (w2 c.before.before.before.before))
+    (λ c κs. room (w2 c.before.before.before.before.before))
     put-code-requires
     (λ c. search rules)
     returns)

@@ -10,25 +10,24 @@ use borrow.Author.Rules.{rules}
 use Rattle.generate_entry.proofs.put_handle.Statement.{statement}
 use Rattle.generate_entry.proofs.put_handle.Tie as tie
 
-put-decimal-requires : tie.Need-put-decimal-requires
-put-decimal-requires c κs = let p = c.before.before.before in let s = p.before.before.before.before in omega (arith, s.requires, p.put.ensures.0, p.put.auto.0, decimal-length 1 (s.args.d % 2) (omega arith) (omega arith))
+put-decimal-requires : tie.Need-put_decimal-requires
+put-decimal-requires c κs = let p = c in let s = p in omega (arith, s.requires, p.put-e.ensures.0, p.put-e.auto.out, decimal-length 1 (s.args.d % 2) (omega arith) (omega arith))
 
 returns : tie.Need-returns
 unfolding handle_word
 returns c =
-    let p2 = c.before.before in
-    let p1 = p2.before.before.before.before in
-    let s = p1.before.before.before.before in
+    let p2 = c in
+    let p1 = p2 in
+    let s = p1 in
     let w0 = wrote_none s.args.out.now s.args.at (omega (arith, s.requires)) in
-    let w1 = wrote-more w0 (bytes "#") p1.put.ensures in
-    let w2 = wrote-more w1 (decimal (s.args.d % 2)) p2.put-decimal.ensures in
+    let w1 = wrote-more w0 (bytes "#") p1.put-e.ensures in
+    let w2 = wrote-more w1 (decimal (s.args.d % 2)) p2.put_decimal.ensures in
     (w2.ends, w2.holds)
 
-pub put-handle-spec : {M : Type 1} → statement M
-put-handle-spec =
+pub put_handle_spec : {M : Type 1} → statement M
+put_handle_spec =
     tie.close
     (tie.spec
-    (λ c. search rules)
     (λ c κs. search rules)
     (λ c. search rules)
     put-decimal-requires

@@ -13,22 +13,21 @@ use Rattle.generate_entry.proofs.put_limits.Tie as tie
 returns : tie.Need-returns
 unfolding limit_lines
 returns c =
-    let p3 = c.before.before in
-    let p2 = p3.before.before.before.before in
-    let p1 = p2.before.before.before.before in
-    let s = p1.before.before.before.before in
+    let p3 = c in
+    let p2 = p3 in
+    let p1 = p2 in
+    let s = p1 in
     let seed = s.args.seed in
     let w0 = wrote_none s.args.out.now 0 (omega arith) in
-    let w1 = wrote-more w0 (bytes "BUDGET TICK\n") p1.put.ensures in
-    let w2 = wrote-more w1 (row Limits 2 false (later seed 0)) (p2.put-values.ensures.0, p2.put-values.ensures.1.0) in
-    let w3 = wrote-more w2 (row Names 61 false 0) (p3.put-row.ensures.0, p3.put-row.ensures.1.0) in
-    (w3.ends, (w3.holds, omega (arith, p3.put-row.ensures.1.1, p2.put-values.ensures.1.1, p1.put.ensures.0)))
+    let w1 = wrote-more w0 (bytes "BUDGET TICK\n") p1.put-l1.ensures in
+    let w2 = wrote-more w1 (row Limits 2 false (later seed 0)) (p2.put_values-l2.ensures.0, p2.put_values-l2.ensures.1.0) in
+    let w3 = wrote-more w2 (row Names 61 false 0) (p3.put_row.ensures.0, p3.put_row.ensures.1.0) in
+    (w3.ends, (w3.holds, omega (arith, p3.put_row.ensures.1.1, p2.put_values-l2.ensures.1.1, p1.put-l1.ensures.0)))
 
-pub put-limits-spec : {M : Type 1} → statement M
-put-limits-spec =
+pub put_limits_spec : {M : Type 1} → statement M
+put_limits_spec =
     tie.close
     (tie.spec
-    (λ c. search rules)
     (λ c κs. search rules)
     (λ c κs. search rules)
     (λ c κs. search rules)

@@ -34,46 +34,43 @@ fits s = simp length-append (omega (arith, s.requires.4, number_short s, name-sh
 abbrev w0 : (s : tie.Start) → At 0 s.args.at s.args.out.now
 w0 s = begins s (fits s)
 
-abbrev w1 : (c : tie.After-put-decimal) → At 1 c.put-decimal.result c.put-decimal.new.0
-w1 c = next (w0 c.before.before.before) c.put-decimal.ensures
+abbrev w1 : (c : tie.After-put_decimal-a) → At 1 c.put_decimal-a.result c.put_decimal-a.new.out
+w1 c = next (w0 c.before.before.before) c.put_decimal-a.ensures
 
-abbrev w2 : (c : tie.After-put) → At 2 c.put.result c.put.new.0
-w2 c = next (w1 c.before.before.before.before.before) c.put.ensures
+abbrev w2 : (c : tie.After-put-b) → At 2 c.put-b.result c.put-b.new.out
+w2 c = next (w1 c.before.before.before.before.before.before) c.put-b.ensures
 
-abbrev w3 : (c : tie.After-put-name) → At 3 c.put-name.result c.put-name.new.0
-w3 c = next (w2 c.before.before.before.before) c.put-name.ensures
+abbrev w3 : (c : tie.After-put_name-c) → At 3 c.put_name-c.result c.put_name-c.new.out
+w3 c = next (w2 c.before.before.before.before) c.put_name-c.ensures
 
-abbrev w4 : (c : tie.After-put2) → At 4 c.put2.result c.put2.new.0
-w4 c = next (w3 c.before.before.before.before.before) c.put2.ensures
+abbrev w4 : (c : tie.After-put-e) → At 4 c.put-e.result c.put-e.new.out
+w4 c = next (w3 c.before.before.before.before.before.before) c.put-e.ensures
 
-abbrev w5 : (c : tie.After-put-argument) → At 5 c.put-argument.result c.put-argument.new.0
-w5 c = next (w4 c.before.before.before.before) c.put-argument.ensures
+abbrev w5 : (c : tie.After-put_argument-f) → At 5 c.put_argument-f.result c.put_argument-f.new.out
+w5 c = next (w4 c.before.before.before.before) c.put_argument-f.ensures
 
-abbrev w6 : (c : tie.After-put3) → At 6 c.put3.result c.put3.new.0
-w6 c = next (w5 c.before.before.before.before.before) c.put3.ensures
+abbrev w6 : (c : tie.After-put) → At 6 c.put.result c.put.new.out
+w6 c = next (w5 c.before.before.before.before.before.before) c.put.ensures
 
-put-argument-requires : tie.Need-put-argument-requires
+put-argument-requires : tie.Need-put_argument-f-requires
 put-argument-requires c κs =
     let w = w4 c.before.before.before in
     let s = w.start in
-    (s.pre.0, s.pre.2, s.pre.3, omega (arith, s.pre.4, kept w, simp length-append at w.wrote.ends, number_short s, name-short s.args.kind))
+    (s.requires.0, s.requires.2, s.requires.3, omega (arith, s.requires.4, kept w, simp length-append at w.wrote.ends, number_short s, name-short s.args.kind))
 
 returns : tie.Need-returns
 unfolding line_of
 returns c = finished (w6 c.before.before)
 
-pub put-line-spec : {M : Type 1} → statement M
-put-line-spec =
+pub put_line_spec : {M : Type 1} → statement M
+put_line_spec =
     tie.close
     (tie.spec
     (λ c κs. room (w0 c.before.before))
-    (λ c. search rules)
-    (λ c κs. room (w1 c.before.before.before.before))
-    (λ c κs. let w = w2 c.before.before.before in (w.start.pre.0, room w))
-    (λ c. search rules)
-    (λ c κs. room (w3 c.before.before.before.before))
+    (λ c κs. room (w1 c.before.before.before.before.before))
+    (λ c κs. let w = w2 c.before.before.before in (w.start.requires.0, room w))
+    (λ c κs. room (w3 c.before.before.before.before.before))
     put-argument-requires
-    (λ c. search rules)
-    (λ c κs. room (w5 c.before.before.before.before))
+    (λ c κs. room (w5 c.before.before.before.before.before))
     (λ c. search rules)
     returns)

@@ -11,30 +11,30 @@ use borrow.Author.Rules.{rules}
 use Rattle.generate_entry.proofs.put_number.Statement.{statement}
 use Rattle.generate_entry.proofs.put_number.Tie as tie
 
-put-decimal-requires : tie.Need-put-decimal-requires
-put-decimal-requires c κs = let s = c.before.before.before in omega (arith, s.requires, decimal-length 1 (s.args.d / 4 % 8) (omega arith) (omega arith))
+put-decimal-requires : tie.Need-put_decimal-requires
+put-decimal-requires c κs = let s = c in omega (arith, s.requires, decimal-length 1 (s.args.d / 4 % 8) (omega arith) (omega arith))
 
-returns : tie.Need-returns
-returns c = let p = c.before.before in let s = p.before.before.before.before in put_as _ _ (small-number s.args.d p.before.before.if1.true) p.put-decimal.ensures
+returns : tie.Need-returns-then-d-eq0
+returns c = let p = c in let s = p in put_as _ _ (small-number s.args.d p.if-d-eq0.true) p.put_decimal.ensures
 
-number-in-requires : tie.Need-number-in-requires
-number-in-requires c κs = range-sound c.number-range.ensures
+number-in-requires : tie.Need-number_in-z-requires
+number-in-requires c κs = range-sound c.number_range.ensures
 
-put-integer-requires : tie.Need-put-integer-requires
-put-integer-requires c κs = let p = c.before in let s = p.before.before.before.before in omega (arith, s.requires, integer-room p.before.number-range.result s.args.d (range-sound p.before.number-range.ensures) p.number-in.ensures)
+put-integer-requires : tie.Need-put_integer-requires
+put-integer-requires c κs = let p = c in let s = p in omega (arith, s.requires, integer-room p.number_range.result s.args.d (range-sound p.number_range.ensures) p.number_in-z.ensures)
 
-returns-2 : tie.Need-returns-2
+returns-2 : tie.Need-returns
 returns-2 c =
-    let p = c.before.before in
-    let z = p.before.before in
-    let r = z.before in
-    let s = r.before.before.before in
+    let p = c in
+    let z = p in
+    let r = z in
+    let s = r in
     put_as _ _
-    (any-number s.args.d r.before.if1.false ∙ ap (λ x. integer (number_in x s.args.d)) (sym r.number-range.ensures) ∙ integer-as r.number-range.result s.args.d (range-sound r.number-range.ensures) z.number-in.ensures)
-    p.put-integer.ensures
+    (any-number s.args.d r.if-d-eq0.false ∙ ap (λ x. integer (number_in x s.args.d)) (sym r.number_range.ensures) ∙ integer-as r.number_range.result s.args.d (range-sound r.number_range.ensures) z.number_in-z.ensures)
+    p.put_integer.ensures
 
-pub put-number-spec : {M : Type 1} → statement M
-put-number-spec =
+pub put_number_spec : {M : Type 1} → statement M
+put_number_spec =
     tie.close
     (tie.spec
     (λ c. search rules)

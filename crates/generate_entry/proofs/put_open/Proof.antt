@@ -5,17 +5,16 @@ use borrow.Author.Rules.{rules}
 use Rattle.generate_entry.proofs.put_open.Statement.{statement}
 use Rattle.generate_entry.proofs.put_open.Tie as tie
 
-returns : tie.Need-returns
-returns c = let p = c.before.before in let s = p.before.before.before.before.before in put_as _ _ (open-word s.args.d p.before.before.before.if1.true) p.put.ensures
+returns : tie.Need-returns-then-d-eq0
+returns c = let p = c in let s = p in put_as _ _ (open-word s.args.d p.if-d-eq0.true) p.put.ensures
 
-returns-2 : tie.Need-returns-2
-returns-2 c = let p = c.before.before in let s = p.before.before.before.before in put_as _ _ (closed-word s.args.d p.before.before.if1.false) p.put-number.ensures
+returns-2 : tie.Need-returns
+returns-2 c = let p = c in let s = p in put_as _ _ (closed-word s.args.d p.if-d-eq0.false) p.put_number.ensures
 
-pub put-open-spec : {M : Type 1} → statement M
-put-open-spec =
+pub put_open_spec : {M : Type 1} → statement M
+put_open_spec =
     tie.close
     (tie.spec
-    (λ c. search rules)
     (λ c κs. search rules)
     (λ c. search rules)
     returns

@@ -9,18 +9,18 @@ use Rattle.generate_entry.proofs.put_prices.Tie as tie
 returns : tie.Need-returns
 unfolding prices
 returns c =
-    let p3 = c.before.before in
-    let p2 = p3.before.before.before.before in
-    let p1 = p2.before.before.before.before in
-    let s = p1.before.before.before in
+    let p3 = c in
+    let p2 = p3 in
+    let p1 = p2 in
+    let s = p1 in
     let seed = s.args.seed in
     let w0 = wrote_none s.args.out.now 0 (omega arith) in
-    let w1 = wrote-more w0 (limit_lines seed) (p1.put-limits.ensures.0, p1.put-limits.ensures.1.0) in
-    let w2 = wrote-more w1 (kind_prices seed) (p2.put-kinds.ensures.0, p2.put-kinds.ensures.1.0) in
-    let w3 = wrote-more w2 (primitive_prices seed) p3.put-primitives.ensures in
+    let w1 = wrote-more w0 (limit_lines seed) (p1.put_limits-a.ensures.0, p1.put_limits-a.ensures.1.0) in
+    let w2 = wrote-more w1 (kind_prices seed) (p2.put_kinds-b.ensures.0, p2.put_kinds-b.ensures.1.0) in
+    let w3 = wrote-more w2 (primitive_prices seed) p3.put_primitives.ensures in
     (w3.ends, w3.holds)
 
-pub put-prices-spec : {M : Type 1} → statement M
-put-prices-spec =
+pub put_prices_spec : {M : Type 1} → statement M
+put_prices_spec =
     tie.close
     (tie.spec (λ c κs. search rules) (λ c κs. search rules) (λ c κs. search rules) (λ c. search rules) returns)

@@ -7,19 +7,19 @@ use borrow.Author.Rules.{rules}
 use Rattle.generate_entry.proofs.target.Statement.{statement}
 use Rattle.generate_entry.proofs.target.Tie as tie
 
-cast-result : tie.Need-overflow-cast-result
-cast-result c = record { fits = omega (arith, mod-lt c.before.args.d {m = c.before.args.n - c.before.args.k} (omega (arith, c.before.requires))) }
+cast-result : tie.Need-overflow_cast-result
+cast-result c = record { fits = omega (arith, mod-lt c.args.d {m = c.args.n - c.args.k} (omega (arith, c.requires))) }
 
-sub-result : tie.Need-overflow-sub-result
-sub-result c = omega (arith, mod-lt c.before.args.d {m = c.before.args.n - c.before.args.k} (omega (arith, c.before.requires)))
+sub-result : tie.Need-overflow_sub-result
+sub-result c = omega (arith, mod-lt c.args.d {m = c.args.n - c.args.k} (omega (arith, c.requires)))
 
-returns : tie.Need-returns
-returns c = aimed c.before.args.n c.before.args.k c.before.args.d c.if1.true
+returns : tie.Need-returns-then-d-left-eq0
+returns c = aimed c.args.n c.args.k c.args.d c.if-d-left-eq0.true
 
-returns-2 : tie.Need-returns-2
-returns-2 c = closing c.before.args.n c.before.args.k c.before.args.d c.if1.false
+returns-2 : tie.Need-returns
+returns-2 c = closing c.args.n c.args.k c.args.d c.if-d-left-eq0.false
 
-pub target-spec : {M : Type 1} → statement M
-target-spec =
+pub target_spec : {M : Type 1} → statement M
+target_spec =
     tie.close
     (tie.spec (λ c. search rules) (λ c. search rules) (λ c. search rules) (λ c. search rules) cast-result sub-result returns returns-2)

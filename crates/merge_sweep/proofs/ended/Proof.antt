@@ -3,5 +3,5 @@ use borrow.Author.Rules.{rules}
 use Rattle.merge_sweep.proofs.ended.Statement.{statement}
 use Rattle.merge_sweep.proofs.ended.Tie as tie
 
-pub ended-spec : {M : Type 1} → statement M
-ended-spec = tie.close (tie.spec (λ c κs. search rules) (λ c κs. search rules) (λ c. search rules))
+pub ended_spec : {M : Type 1} → statement M
+ended_spec = tie.close (tie.spec (λ c κs. search rules) (λ c κs. search rules) (λ c. search rules))

@@ -6,25 +6,25 @@ use borrow.Author.Rules.{rules}
 use Rattle.merge_sweep.proofs.found.Statement.{statement}
 use Rattle.merge_sweep.proofs.found.Tie as tie
 
-returns : tie.Need-returns
+returns : tie.Need-returns-then-mark-eq0
 returns c =
-    let a = c.before.before.before.args in
-    let e : get_or a.row.now 0 0 ≡ 0 = c.if1.true in
+    let a = c.args in
+    let e : get_or a.row.now 0 0 ≡ 0 = c.if-mark-eq0.true in
     (λ ns. came-nothing ns a.at a.row.now a.w e, λ ns. tt)
 
-returns-2 : tie.Need-returns-2
+returns-2 : tie.Need-returns-then-mark-eq1
 returns-2 c =
-    let a = c.before.before.before.before.before.args in
-    let e : get_or a.row.now 0 0 ≡ 1 = c.before.if2.true in
-    let t = c.take in
+    let a = c.args in
+    let e : get_or a.row.now 0 0 ≡ 1 = c.if-mark-eq1.true in
+    let t = c.take-held in
     (λ ns. came-way ns a.at a.row.now t.result e (t.ensures.0 ns), λ ns. (t.ensures.1.1, (t.ensures.1.0.0, t.ensures.1.0.1 ns)))
 
-returns-3 : tie.Need-returns-3
+returns-3 : tie.Need-returns
 returns-3 c =
-    let a = c.before.before.before.before.args in
+    let a = c.args in
     let n : get_or a.row.now 0 0 ≡ 0 → ⊥ = search rules in
     let m : get_or a.row.now 0 0 ≡ 1 → ⊥ = search rules in
     (λ ns. came-unlike ns a.at a.row.now a.w n m, λ ns. tt)
 
-pub found-spec : {M : Type 1} → statement M
-found-spec = tie.close (tie.spec (λ c. search rules) returns (λ c κs. search rules) returns-2 returns-3)
+pub found_spec : {M : Type 1} → statement M
+found_spec = tie.close (tie.spec (λ c. search rules) returns (λ c κs. search rules) returns-2 returns-3)

@@ -4,7 +4,6 @@ use mathlib.Core.Path.{◌≡◌, ◌∙◌}
 use mathlib.Core.Bool.{true}
 use mathlib.Core.List.{List}
 use lib.ListN.{get_or}
-use borrow.Author.Tests.{not-true, not-false}
 use Rattle.machine_state.specs.HeldProgram.{sizes_of}
 use Rattle.merge_rows.specs.HeldRows.{slot_in}
 use Rattle.merge_rows.proofs.RowLaws.{slot-empty}
@@ -15,7 +14,7 @@ use Rattle.merge_sweep.proofs.reach.Statement.{statement}
 use Rattle.merge_sweep.proofs.reach.Tie as tie
 
 -- the way goes to the next address
-module _ (c : tie.Else1) where
+module _ (c : tie.Else-not-here) where
   abbrev start : tie.Start
   start = c.before.before
 
@@ -23,43 +22,43 @@ module _ (c : tie.Else1) where
   ns = sizes_of start.args.code.now
 
   taken : start.args.here ≡ true
-  taken = not-false start.args.here c.if1.false
+  taken = c.if-not-here.false
 
   here : Comes ns true start.args.w start.args.at
-  here = comes-here ns start.args.here start.args.w start.args.at taken start.pre.1
+  here = comes-here ns start.args.here start.args.w start.args.at taken start.requires.1
 
-returns : tie.Need-returns
+returns : tie.Need-returns-then-not-here
 returns c =
-    let t = c.before.before in
-    let a = t.before.before.args in
+    let t = c in
+    let a = t.args in
     let ns = sizes_of a.code.now in
-    (c.found.ensures.0 ns ∙ with_none ns a.here a.w _ (not-true a.here t.if1.true), c.found.ensures.1 ns)
+    (c.found.ensures.0 ns ∙ with_none ns a.here a.w _ (t.if-not-here.true), c.found.ensures.1 ns)
 
-returns-2 : tie.Need-returns-2
+returns-2 : tie.Need-returns-then-mark-eq0
 returns-2 c =
-    let e = c.before.before in
-    let a = (start e).args in
-    let m : get_or a.row.now 0 0 ≡ 0 = c.if2.true in
-    (with_first (ns e) a.here a.w _ (taken e) (slot-empty (ns e) a.at a.row.now m), here e)
+    let e = c in
+    let a = (start e.before.before).args in
+    let m : get_or a.row.now 0 0 ≡ 0 = c.if-mark-eq0.true in
+    (with_first (ns e.before.before) a.here a.w _ (taken e.before.before) (slot-empty (ns e.before.before) a.at a.row.now m), here e.before.before)
 
 join-requires : tie.Need-join-requires
 join-requires c κs =
-    let e = c.before.before.before in
-    ((start e).requires.0, (here e).1, (start e).requires.2)
+    let e = c in
+    ((start e.before.before.before).requires.0, (here e.before.before.before).1, (start e.before.before.before).requires.2)
 
-returns-3 : tie.Need-returns-3
+returns-3 : tie.Need-returns
 returns-3 c =
-    let at_join = c.before.before.before.before in
-    let e = at_join.before.before.before.before in
-    let a = (start e).args in
+    let at_join = c in
+    let e = at_join in
+    let a = (start e.before.before.before.before.before.before.before).args in
     let j = at_join.join in (
-      c.found2.ensures.0 (ns e)
-          ∙ with-next (ns e) a.here a.w a.at (λ i. slot_in (ns e) i a.row.now) (λ i. slot_in (ns e) i j.new.0) (taken e) (here e).0 j.ensures,
-      c.found2.ensures.1 (ns e),
+      c.found-2.ensures.0 (ns e.before.before.before.before.before.before.before)
+          ∙ with-next (ns e.before.before.before.before.before.before.before) a.here a.w a.at (λ i. slot_in (ns e.before.before.before.before.before.before.before) i a.row.now) (λ i. slot_in (ns e.before.before.before.before.before.before.before) i j.new.row) (taken e.before.before.before.before.before.before.before) (here e.before.before.before.before.before.before.before).0 j.ensures,
+      c.found-2.ensures.1 (ns e.before.before.before.before.before.before.before),
     )
 
-pub reach-spec : {M : Type 1} → statement M
-reach-spec =
+pub reach_spec : {M : Type 1} → statement M
+reach_spec =
     tie.close
     (tie.spec
     (λ c κs. search rules)

@@ -3,5 +3,5 @@ use borrow.Author.Rules.{rules}
 use Rattle.merge_sweep.proofs.reached.Statement.{statement}
 use Rattle.merge_sweep.proofs.reached.Tie as tie
 
-pub reached-spec : {M : Type 1} → statement M
-reached-spec = tie.close (tie.spec (λ c κs. search rules) (λ c. search rules) (λ c. search rules))
+pub reached_spec : {M : Type 1} → statement M
+reached_spec = tie.close (tie.spec (λ c κs. search rules) (λ c. search rules) (λ c. search rules))

@@ -7,11 +7,11 @@ use borrow.Author.Rules.{rules}
 use Rattle.merge_sweep.proofs.sweep.Statement.{statement}
 use Rattle.merge_sweep.proofs.sweep.Tie as tie
 
-sweep-by-requires : tie.Need-sweep-by-requires
+sweep-by-requires : tie.Need-sweep_by-requires
 sweep-by-requires c κs =
-    let s = c.before.before.before in
+    let s = c in
     let code = s.args.code.now in
     (s.requires.0, (s.requires.1.0, ((refl, all-empty (sizes_of code) (first_address_of code) (rows_of code) 201925), s.requires.1.1)))
 
-pub sweep-spec : {M : Type 1} → statement M
-sweep-spec = tie.close (tie.spec (λ c. search rules) sweep-by-requires (λ c. search rules) (λ c. search rules))
+pub sweep_spec : {M : Type 1} → statement M
+sweep_spec = tie.close (tie.spec (λ c. search rules) sweep-by-requires (λ c. search rules) (λ c. search rules))

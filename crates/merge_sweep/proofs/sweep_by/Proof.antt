@@ -16,19 +16,19 @@ use borrow.Author.Rules.{rules}
 use Rattle.merge_sweep.proofs.sweep_by.Statement.{statement}
 use Rattle.merge_sweep.proofs.sweep_by.Tie as tie
 
-abbrev invariant-loop : tie.invariant-loop
-invariant-loop code rows₀ kept₀ n j₀ p₀ rows kept j p =
+abbrev invariant-loop-j : tie.invariant-loop-j
+invariant-loop-j code rows₀ kept₀ n j₀ p₀ rows kept j p =
     let start = whole (sizes_of code) p₀.way.blocks p₀.way.state in
     Going (program_of code) (sizes_of code) (first_address_of code) n (merged (program_of code) start)
     (beside (step (program_of code) unknown) (span (program_of code) start) p₀.way.state.at (only start) nowhence)
     rows kept j p
 
-abbrev decreases-loop : tie.decreases-loop
-decreases-loop code rows₀ kept₀ n j₀ p₀ rows kept j p = n - j
+abbrev decreases-loop-j : tie.decreases-loop-j
+decreases-loop-j code rows₀ kept₀ n j₀ p₀ rows kept j p = n - j
 
-loop-holds : tie.Need-loop-init invariant-loop decreases-loop
+loop-holds : tie.Need-loop-j-init invariant-loop-j decreases-loop-j
 loop-holds c =
-    let start = c.before.before.before.before.before in
+    let start = c in
     let a = start.args in
     let limits = start.requires.0 in
     let empty = start.requires.1.1.0 in
@@ -36,71 +36,71 @@ loop-holds c =
     a.kept.now start.requires.1.1.1.0 start.requires.1.1.1.1
 
 -- the address of row j is gone through
-module _ (c : tie.After-visit invariant-loop decreases-loop) where
-  abbrev turn : tie.In-loop invariant-loop decreases-loop
+module _ (c : tie.After-visit-p invariant-loop-j decreases-loop-j) where
+  abbrev turn : tie.In-loop-j invariant-loop-j decreases-loop-j
   turn = c.before.before.before
 
-  abbrev start : tie.Start invariant-loop decreases-loop
-  start = turn.before.before.before.before.before.before.before
+  abbrev start : tie.Start invariant-loop-j decreases-loop-j
+  start = turn.before.before.before.before.before.before.before.before
 
-  few : turn.before.loop.j < 1025
-  few = omega (arith, turn.loop-test.taken, start.pre.0.0.lines)
+  few : turn.loop-j.j < 1025
+  few = omega (arith, turn.loop-j-test.true, start.requires.0.0.lines)
 
-visit-requires : tie.Need-visit-requires invariant-loop decreases-loop
+visit-requires : tie.Need-visit-p-requires invariant-loop-j decreases-loop-j
 visit-requires c κs =
-    let t = c.before.before in
-    let i = t.before.loop.invariant in
-    ((t.before.before.before.before.before.before.before.requires.0.0, i.goals, omega (arith, t.loop-test.true)), i.ready)
+    let t = c in
+    let i = t.loop-j.invariant in
+    ((t.requires.0.0, i.goals, omega (arith, t.loop-j-test.true)), i.ready)
 
-same_length : tie.Need-same-length invariant-loop decreases-loop
-same_length c = let m = c.before.before.before.before.before.before.before in m.visit.ensures.0.rows ∙ sym (start m).requires.1.1.0.0
+same_length : tie.Need-shape_of-rows-in_default invariant-loop-j decreases-loop-j
+same_length c = let m = c in m.visit-p.ensures.0.rows ∙ sym (start m.before.before.before.before.before.before).requires.1.1.0.0
 
-same-length-2 : tie.Need-same-length-2 invariant-loop decreases-loop
+same-length-2 : tie.Need-shape_of-kept-in_default invariant-loop-j decreases-loop-j
 same-length-2 c =
-    let m = c.before.before.before.before.before.before.before in
-    c.before.before.before.before.kept.given ∙ (turn m).before.loop.invariant.goals ∙ sym (start m).requires.1.1.1.0
+    let m = c in
+    c.before.before.before.kept-1.given ∙ (turn m.before.before.before.before.before.before).loop-j.invariant.goals ∙ sym (start m.before.before.before.before.before.before).requires.1.1.1.0
 
-returns : tie.Need-returns invariant-loop decreases-loop
+returns : tie.Need-returns-in_default invariant-loop-j decreases-loop-j
 returns c =
-    let m = c.before.before.before.before.before.before.before in
-    let t = turn m in
-    let i = t.before.loop.inv in
-    let f = few m in
-    let told = c.enum-told2.given.1 in
-    let shows = ends i t.loop-test.taken _ m.visit.result _ told (m.visit.ensures.1.0 i.tab i.report i.found i.agrees) in (
+    let m = c in
+    let t = turn m.before.before.before.before.before.before in
+    let i = t.loop-j.invariant in
+    let f = few m.before.before.before.before.before.before in
+    let told = c.in_default.is in
+    let shows = ends i t.loop-j-test.true _ m.visit-p.result _ told (m.visit-p.ensures.1.0 i.tab i.report i.found i.agrees) in (
       shows,
-      (figures-all (t.before.loop.j + 1) _ (omega arith) m.visit.ensures.0.figures, λ q h. not-accepted m.visit.result.found _ _ q told shows h),
+      (figures-all (t.loop-j.j + 1) _ (omega arith) m.visit-p.ensures.0.figures, λ q h. not-accepted m.visit-p.result.found _ _ q told shows h),
     )
 
-loop-again : tie.Need-loop-preserved invariant-loop decreases-loop
+loop-again : tie.Need-loop-j-preserved invariant-loop-j decreases-loop-j
 loop-again c =
-    let m = c.before.before.before.before.before.before.before in
-    let t = turn m in
-    let i = t.before.loop.inv in
-    goes_on i t.loop-test.taken _ m.visit.result _ m.visit.ensures.0 c.enum_told.given.1 (m.visit.ensures.1.0 i.tab i.report i.found i.agrees)
-    (c.before.before.before.before.kept.given ∙ i.goals) (m.visit.ensures.1.1 i.tab i.kept i.agrees i.keeps)
+    let m = c in
+    let t = turn m.before.before.before.before.before.before in
+    let i = t.loop-j.invariant in
+    goes_on i t.loop-j-test.true _ m.visit-p.result _ m.visit-p.ensures.0 c.in-Accepted.is (m.visit-p.ensures.1.0 i.tab i.report i.found i.agrees)
+    (c.before.before.before.kept-1.given ∙ i.goals) (m.visit-p.ensures.1.1 i.tab i.kept i.agrees i.keeps)
 
-same-length-3 : tie.Need-same-length-3 invariant-loop decreases-loop
-same-length-3 c = c.before.before.loop.invariant.ready.rows ∙ sym c.before.before.before.before.before.before.before.before.requires.1.1.0.0
+same-length-3 : tie.Need-shape_of-rows invariant-loop-j decreases-loop-j
+same-length-3 c = c.loop-j.invariant.ready.rows ∙ sym c.requires.1.1.0.0
 
-same-length-4 : tie.Need-same-length-4 invariant-loop decreases-loop
-same-length-4 c = c.before.before.loop.invariant.goals ∙ sym c.before.before.before.before.before.before.before.before.requires.1.1.1.0
+same-length-4 : tie.Need-shape_of-kept invariant-loop-j decreases-loop-j
+same-length-4 c = c.loop-j.invariant.goals ∙ sym c.requires.1.1.1.0
 
-returns-2 : tie.Need-returns-2 invariant-loop decreases-loop
+returns-2 : tie.Need-returns invariant-loop-j decreases-loop-j
 returns-2 c =
-    let l = c.before.before.loop in
-    let start = c.before.before.before.before.before.before.before.before in
+    let l = c.loop-j in
+    let start = c in
     let i = l.invariant in
     let few : lines_in start.args.code.now ≤ 1024 = start.requires.0.0.lines in
     let within : l.j ≤ lines_in start.args.code.now + 1 = i.within in
     (finishes i (omega arith), (figures-all l.j _ (omega arith) i.ready.figures, λ q h. finishes-kept i (omega arith)))
 
-pub sweep-by-spec : {M : Type 1} → statement M
-sweep-by-spec =
+pub sweep_by_spec : {M : Type 1} → statement M
+sweep_by_spec =
     tie.close
     (tie.spec
-    invariant-loop
-    decreases-loop
+    invariant-loop-j
+    decreases-loop-j
     (λ c. search rules)
     (λ c. search rules)
     (λ c. search rules)
@@ -114,7 +114,7 @@ sweep-by-spec =
     same_length
     same-length-2
     returns
-    (λ c. let f = few c.before.before.before.before.before.before.before in search rules)
+    (λ c. let f = few c.before.before.before.before.before.before in search rules)
     (λ c. search rules)
     loop-again
     same-length-3

@@ -24,12 +24,12 @@ use Rattle.merge_sweep.proofs.visit.Statement.{statement}
 use Rattle.merge_sweep.proofs.visit.Tie as tie
 
 -- what has come to the address of row k
-module _ (c : tie.After-rows) where
-  abbrev came : tie.After-reach
+module _ (c : tie.After-rows-1) where
+  abbrev came : tie.After-reach-came
   came = c.before
 
   abbrev start : tie.Start
-  start = came.before.before.before.before.before.before
+  start = came.before.before.before.before.before.before.before
 
   abbrev k : ℕ
   k = start.args.j
@@ -38,7 +38,7 @@ module _ (c : tie.After-rows) where
   rs = start.args.rows.now
 
   abbrev r : List ℕ
-  r = came.reach.last.0
+  r = came.reach-came.new.row
 
   abbrev ns : List ℕ
   ns = sizes_of start.args.code.now
@@ -53,19 +53,19 @@ module _ (c : tie.After-rows) where
   act = step (program_of start.args.code.now) unknown
 
   abbrev mark : Mark
-  mark = came.reach.result.mark
+  mark = came.reach-came.result.mark
 
   abbrev way : Way
-  way = came.reach.result.way
+  way = came.reach-came.result.way
 
   abbrev back : List ℕ
   back = put_mid (197 * k) (197 * k + 197 - 197 * k) rs r
 
   few : k < 1025
-  few = omega (arith, start.pre.0.0.lines, start.pre.0.2)
+  few = omega (arith, start.requires.0.0.lines, start.requires.0.2)
 
   ready : Ready ns first n k rs start.args.p
-  ready = start.pre.1
+  ready = start.requires.1
 
   module _ (l : length r ≡ length (part (197 * k) (197 * k + 197) rs)) where
     under : Under ns first n k k back
@@ -78,70 +78,70 @@ module _ (c : tie.After-rows) where
     agrees = back-agree ns first n k rs r start.args.p few ready l
 
     slots : (tab : Table) → Agrees ns first n k tab rs start.args.p.here start.args.p.way → slot (tab (first + k)) ≡ came_as ns mark way
-    slots = here-slot ns first n k rs r start.args.p few ready l mark way came.reach.ensures.0 start.pre.0.2
+    slots = here-slot ns first n k rs r start.args.p few ready l mark way came.reach-came.ensures.0 start.requires.0.2
 
     spent : mark ≡ Is → (way.cycles ≤ most k) × (way.words ≤ most k)
-    spent told = way-spent ns mark way (most k) told (here-spent ns first n k rs r start.args.p few ready l mark way came.reach.ensures.0 start.pre.0.2)
+    spent told = way-spent ns mark way (most k) told (here-spent ns first n k rs r start.args.p few ready l mark way came.reach-came.ensures.0 start.requires.0.2)
 
   held : mark ≡ Is → Held ns Is way (first + k)
-  held told = subst (λ (x : Mark). Held ns x way (first + k)) told came.reach.ensures.1
+  held told = subst (λ (x : Mark). Held ns x way (first + k)) told came.reach-came.ensures.1
 
 carry-requires : tie.Need-carry-requires
 carry-requires c κs =
-    let b = c.before.before.before.before.before.before.before in
-    let l : length (r b) ≡ length (part (197 * k b) (197 * k b + 197) (rs b)) = search rules in
-    let told = c.before.before.enum-told3.given.1 in
-    let h = held b told in
-    let m = spent b l told in
-    ((start b).requires.0.0, ((rows_back (ns b) (first b) (n b) (k b) (rs b) (r b) (start b).args.p (few b) (ready b) l, (start b).requires.0.1, (start b).requires.0.2), ((h.1, h.0, m.0, m.1, (ready b).figures), under b l)))
+    let b = c in
+    let l : length (r b.before.before.before.before.before.before) ≡ length (part (197 * k b.before.before.before.before.before.before) (197 * k b.before.before.before.before.before.before + 197) (rs b.before.before.before.before.before.before)) = search rules in
+    let told = c.in-Is.is in
+    let h = held b.before.before.before.before.before.before told in
+    let m = spent b.before.before.before.before.before.before l told in
+    ((start b.before.before.before.before.before.before).requires.0.0, ((rows_back (ns b.before.before.before.before.before.before) (first b.before.before.before.before.before.before) (n b.before.before.before.before.before.before) (k b.before.before.before.before.before.before) (rs b.before.before.before.before.before.before) (r b.before.before.before.before.before.before) (start b.before.before.before.before.before.before).args.p (few b.before.before.before.before.before.before) (ready b.before.before.before.before.before.before) l, (start b.before.before.before.before.before.before).requires.0.1, (start b.before.before.before.before.before.before).requires.0.2), ((h.1, h.0, m.0, m.1, (ready b.before.before.before.before.before.before).figures), under b.before.before.before.before.before.before l)))
 
-returns : tie.Need-returns
+returns : tie.Need-returns-in-Nothing
 returns c =
-    let b = c.before.before.before.before.before in
-    let l : length (r b) ≡ length (part (197 * k b) (197 * k b + 197) (rs b)) = search rules in (
-      stays-ready (ns b) (first b) (n b) (k b) (back b) (sums b l) (rows_back (ns b) (first b) (n b) (k b) (rs b) (r b) (start b).args.p (few b) (ready b) l) (start b).args.p.found (way b) (figures-more (k b) (start b).args.p.found (ready b).figures),
+    let b = c in
+    let l : length (r b.before.before.before.before) ≡ length (part (197 * k b.before.before.before.before) (197 * k b.before.before.before.before + 197) (rs b.before.before.before.before)) = search rules in (
+      stays-ready (ns b.before.before.before.before) (first b.before.before.before.before) (n b.before.before.before.before) (k b.before.before.before.before) (back b.before.before.before.before) (sums b.before.before.before.before l) (rows_back (ns b.before.before.before.before) (first b.before.before.before.before) (n b.before.before.before.before) (k b.before.before.before.before) (rs b.before.before.before.before) (r b.before.before.before.before) (start b.before.before.before.before).args.p (few b.before.before.before.before) (ready b.before.before.before.before) l) (start b.before.before.before.before).args.p.found (way b.before.before.before.before) (figures-more (k b.before.before.before.before) (start b.before.before.before.before).args.p.found (ready b.before.before.before.before).figures),
       (
         λ tab q g agree.
-            moved-onto (sends-nothing (act b) (first b + k b) (ns b) (mark b) (way b) _ (slots b l tab agree) tab c.enum_told.given.1) q g
-            (λ rest. visit-nothing (act b) rest (first b + k b) tab q (ns b) (mark b) (way b) _ (slots b l tab agree) c.enum_told.given.1)
-            (stays-agree (ns b) (first b) (n b) (k b) (back b) (sums b l) tab (way b) (agrees b l tab agree)),
-        λ tab o agree keeps. subst (Keeps (first b) (start b).args.kept.now) (departs-nothing (act b) (first b + k b) (ns b) (mark b) (way b) _ (slots b l tab agree) o c.enum_told.given.1) keeps,
+            moved-onto (sends-nothing (act b.before.before.before.before) (first b.before.before.before.before + k b.before.before.before.before) (ns b.before.before.before.before) (mark b.before.before.before.before) (way b.before.before.before.before) _ (slots b.before.before.before.before l tab agree) tab c.in-Nothing.is) q g
+            (λ rest. visit-nothing (act b.before.before.before.before) rest (first b.before.before.before.before + k b.before.before.before.before) tab q (ns b.before.before.before.before) (mark b.before.before.before.before) (way b.before.before.before.before) _ (slots b.before.before.before.before l tab agree) c.in-Nothing.is)
+            (stays-agree (ns b.before.before.before.before) (first b.before.before.before.before) (n b.before.before.before.before) (k b.before.before.before.before) (back b.before.before.before.before) (sums b.before.before.before.before l) tab (way b.before.before.before.before) (agrees b.before.before.before.before l tab agree)),
+        λ tab o agree keeps. subst (Keeps (first b.before.before.before.before) (start b.before.before.before.before).args.kept.now) (departs-nothing (act b.before.before.before.before) (first b.before.before.before.before + k b.before.before.before.before) (ns b.before.before.before.before) (mark b.before.before.before.before) (way b.before.before.before.before) _ (slots b.before.before.before.before l tab agree) o c.in-Nothing.is) keeps,
       ),
     )
 
-returns-2 : tie.Need-returns-2
+returns-2 : tie.Need-returns-in-Unlike
 returns-2 c =
-    let b = c.before.before.before.before.before.before in
-    let l : length (r b) ≡ length (part (197 * k b) (197 * k b + 197) (rs b)) = search rules in (
-      stays-ready (ns b) (first b) (n b) (k b) (back b) (sums b l) (rows_back (ns b) (first b) (n b) (k b) (rs b) (r b) (start b).args.p (few b) (ready b) l) c.refused.result (way b) (refused-figures (k b + 1) _ _ c.refused.ensures),
+    let b = c in
+    let l : length (r b.before.before.before.before.before) ≡ length (part (197 * k b.before.before.before.before.before) (197 * k b.before.before.before.before.before + 197) (rs b.before.before.before.before.before)) = search rules in (
+      stays-ready (ns b.before.before.before.before.before) (first b.before.before.before.before.before) (n b.before.before.before.before.before) (k b.before.before.before.before.before) (back b.before.before.before.before.before) (sums b.before.before.before.before.before l) (rows_back (ns b.before.before.before.before.before) (first b.before.before.before.before.before) (n b.before.before.before.before.before) (k b.before.before.before.before.before) (rs b.before.before.before.before.before) (r b.before.before.before.before.before) (start b.before.before.before.before.before).args.p (few b.before.before.before.before.before) (ready b.before.before.before.before.before) l) c.refused.result (way b.before.before.before.before.before) (refused-figures (k b.before.before.before.before.before + 1) _ _ c.refused.ensures),
       (
         λ tab q g agree.
-            stopped (NoMeeting (first b + k b)) (refused-verdict _ _ c.refused.ensures)
-            (λ rest. visit-unlike (act b) rest (first b + k b) tab q (ns b) (mark b) (way b) _ (slots b l tab agree) c.before.enum-told2.given.1),
-        λ tab o agree keeps. subst (Keeps (first b) (start b).args.kept.now) (departs-unlike (act b) (first b + k b) (ns b) (mark b) (way b) _ (slots b l tab agree) o c.before.enum-told2.given.1) keeps,
+            stopped (NoMeeting (first b.before.before.before.before.before + k b.before.before.before.before.before)) (refused-verdict _ _ c.refused.ensures)
+            (λ rest. visit-unlike (act b.before.before.before.before.before) rest (first b.before.before.before.before.before + k b.before.before.before.before.before) tab q (ns b.before.before.before.before.before) (mark b.before.before.before.before.before) (way b.before.before.before.before.before) _ (slots b.before.before.before.before.before l tab agree) c.in-Unlike.is),
+        λ tab o agree keeps. subst (Keeps (first b.before.before.before.before.before) (start b.before.before.before.before.before).args.kept.now) (departs-unlike (act b.before.before.before.before.before) (first b.before.before.before.before.before + k b.before.before.before.before.before) (ns b.before.before.before.before.before) (mark b.before.before.before.before.before) (way b.before.before.before.before.before) _ (slots b.before.before.before.before.before l tab agree) o c.in-Unlike.is) keeps,
       ),
     )
 
-returns-3 : tie.Need-returns-3
+returns-3 : tie.Need-returns-in-Is
 returns-3 c =
-    let m = c.before.before.before.before in
-    let t = m.before.before.before in
-    let b = t.before.before.before.before.before in
-    let l : length (r b) ≡ length (part (197 * k b) (197 * k b + 197) (rs b)) = search rules in
-    let told = t.enum-told3.given.1 in (
+    let m = c in
+    let t = m in
+    let b = t in
+    let l : length (r b.before.before.before.before.before.before.before.before.before.before.before) ≡ length (part (197 * k b.before.before.before.before.before.before.before.before.before.before.before) (197 * k b.before.before.before.before.before.before.before.before.before.before.before + 197) (rs b.before.before.before.before.before.before.before.before.before.before.before)) = search rules in
+    let told = t.in-Is.is in (
       m.carry.ensures.0,
       (
         λ tab q g agree.
             moved_as
-            (λ rest. visit-way (act b) rest (first b + k b) tab q (ns b) (mark b) (way b) _ (slots b l tab agree) told (held b told).0)
-            (sends-way (act b) (first b + k b) (ns b) (mark b) (way b) _ (slots b l tab agree) told (held b told).0 tab)
-            (m.carry.ensures.1.0 tab q g (agrees b l tab agree)),
-        λ tab o agree keeps. subst (Keeps (first b) _) (departs-way (act b) (first b + k b) (ns b) (mark b) (way b) _ (slots b l tab agree) told (held b told).0 o) (m.carry.ensures.1.1 o keeps),
+            (λ rest. visit-way (act b.before.before.before.before.before.before.before.before.before.before.before) rest (first b.before.before.before.before.before.before.before.before.before.before.before + k b.before.before.before.before.before.before.before.before.before.before.before) tab q (ns b.before.before.before.before.before.before.before.before.before.before.before) (mark b.before.before.before.before.before.before.before.before.before.before.before) (way b.before.before.before.before.before.before.before.before.before.before.before) _ (slots b.before.before.before.before.before.before.before.before.before.before.before l tab agree) told (held b.before.before.before.before.before.before.before.before.before.before.before told).0)
+            (sends-way (act b.before.before.before.before.before.before.before.before.before.before.before) (first b.before.before.before.before.before.before.before.before.before.before.before + k b.before.before.before.before.before.before.before.before.before.before.before) (ns b.before.before.before.before.before.before.before.before.before.before.before) (mark b.before.before.before.before.before.before.before.before.before.before.before) (way b.before.before.before.before.before.before.before.before.before.before.before) _ (slots b.before.before.before.before.before.before.before.before.before.before.before l tab agree) told (held b.before.before.before.before.before.before.before.before.before.before.before told).0 tab)
+            (m.carry.ensures.1.0 tab q g (agrees b.before.before.before.before.before.before.before.before.before.before.before l tab agree)),
+        λ tab o agree keeps. subst (Keeps (first b.before.before.before.before.before.before.before.before.before.before.before) _) (departs-way (act b.before.before.before.before.before.before.before.before.before.before.before) (first b.before.before.before.before.before.before.before.before.before.before.before + k b.before.before.before.before.before.before.before.before.before.before.before) (ns b.before.before.before.before.before.before.before.before.before.before.before) (mark b.before.before.before.before.before.before.before.before.before.before.before) (way b.before.before.before.before.before.before.before.before.before.before.before) _ (slots b.before.before.before.before.before.before.before.before.before.before.before l tab agree) told (held b.before.before.before.before.before.before.before.before.before.before.before told).0 o) (m.carry.ensures.1.1 o keeps),
       ),
     )
 
-pub visit-spec : {M : Type 1} → statement M
-visit-spec =
+pub visit_spec : {M : Type 1} → statement M
+visit_spec =
     tie.close
     (tie.spec
     (λ c. search rules)

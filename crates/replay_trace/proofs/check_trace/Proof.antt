@@ -10,34 +10,34 @@ use Rattle.replay_trace.proofs.check_trace.Statement.{statement}
 use Rattle.replay_trace.proofs.check_trace.Tie as tie
 
 -- row 2 refuses no line
-row-layout : (c : tie.After-enum-told) → earliest line_laid_out 0 (lines c.before.before.before.before.before.before.args.trace.now) ≡ Nowhere
+row-layout : (c : tie.In_default) → earliest line_laid_out 0 (lines c.args.trace.now) ≡ Nowhere
 unfolding line_test
-row-layout c = sym c.before.before.earliest.ensures ∙ c.enum_told.given.1
+row-layout c = sym c.earliest-layout.ensures ∙ c.in_default.is
 
-returns : tie.Need-returns
-returns c = check-long _ c.if1.true
+returns : tie.Need-returns-then-trace-gt131072
+returns c = check-long _ c.if-trace-gt131072.true
 
-returns-2 : tie.Need-returns-2
-returns-2 c = check-empty _ c.before.if1.false c.if2.true
+returns-2 : tie.Need-returns-then-trace-eq0
+returns-2 c = check-empty _ c.if-trace-gt131072.false c.if-trace-eq0.true
 
-returns-3 : tie.Need-returns-3
+returns-3 : tie.Need-returns-in-Line
 unfolding line_test
-returns-3 c = check-layout _ c.before.before.before.before.before.if1.false c.before.before.before.before.if2.false _ (sym c.before.before.before.earliest.ensures ∙ c.before.layout.given.1)
+returns-3 c = check-layout _ c.if-trace-gt131072.false c.if-trace-eq0.false _ (sym c.earliest-layout.ensures ∙ c.in-Line.is)
 
-returns-4 : tie.Need-returns-4
+returns-4 : tie.Need-returns-in-Line-range
 unfolding line_test
 returns-4 c =
-    let c1 = c.before.before.before.before in
-    let at-if2 = c1.before.before.before in
-    let at-if1 = at-if2.before in
-    check-range _ at-if1.if1.false at-if2.if2.false _ (row-layout c1) (sym c.before.before.before.earliest2.ensures ∙ c.before.range.given.1)
+    let c1 = c in
+    let at-if2 = c1 in
+    let at-if1 = at-if2 in
+    check-range _ at-if1.if-trace-gt131072.false at-if2.if-trace-eq0.false _ (row-layout c1.before.before) (sym c.earliest-range.ensures ∙ c.in-Line-range.is)
 
-returns-5 : tie.Need-returns-5
+returns-5 : tie.Need-returns
 unfolding line_test
-returns-5 c = check-accepted _ c.before.before.before.before.before.before.before.if1.false c.before.before.before.before.before.before.if2.false (row-layout c.before.before.before) (sym c.before.before.earliest2.ensures ∙ c.enum-told2.given.1)
+returns-5 c = check-accepted _ c.if-trace-gt131072.false c.if-trace-eq0.false (row-layout c.before.before) (sym c.earliest-range.ensures ∙ c.in_default-range.is)
 
-pub check-trace-spec : {M : Type 1} → statement M
-check-trace-spec =
+pub check_trace_spec : {M : Type 1} → statement M
+check_trace_spec =
     tie.close
     (tie.spec
     returns

@@ -9,29 +9,29 @@ use borrow.Author.Rules.{rules}
 use Rattle.replay_trace.proofs.entry_in_range.Statement.{statement}
 use Rattle.replay_trace.proofs.entry_in_range.Tie as tie
 
-is-within-requires : tie.Need-is-within-requires
+is-within-requires : tie.Need-is_within-requires
 is-within-requires c κs = near-range 0 62000 (omega arith) (omega arith) c.addresses.ensures
 
-is-within-requires-2 : tie.Need-is-within-requires-2
-is-within-requires-2 c κs = near-range 0 4000000000 (omega arith) (omega arith) c.cycle-range.ensures
+is-within-requires-2 : tie.Need-is_within-requires-then-is_within
+is-within-requires-2 c κs = near-range 0 4000000000 (omega arith) (omega arith) c.cycle_range.ensures
 
-returns : tie.Need-returns
+returns : tie.Need-returns-then-is_within
 unfolding entry_in_range
 returns c =
-    let at-addresses = c.before.before.before.before in
-    let at-word-at2 = at-addresses.before in
-    let at-word-at = at-word-at2.before in
-    and-true (sym (c.before.before.before.is_Within.ensures ∙ ap₂ (λ r w. within r (value w)) at-addresses.addresses.ensures at-word-at.word_at.ensures) ∙ c.before.before.if1.true)
-    (c.is-within2.ensures ∙ ap₂ (λ r w. within r (value w)) c.before.cycle-range.ensures at-word-at2.word-at2.ensures)
+    let at-addresses = c in
+    let at-word-at2 = at-addresses in
+    let at-word-at = at-word-at2 in
+    and-true (sym (c.is_within.ensures ∙ ap₂ (λ r w. within r (value w)) at-addresses.addresses.ensures at-word-at.word_at-at.ensures) ∙ c.if-is_within.true)
+    (c.is_within-then-is_within.ensures ∙ ap₂ (λ r w. within r (value w)) c.cycle_range.ensures at-word-at2.word_at-cycles.ensures)
 
-returns-2 : tie.Need-returns-2
+returns-2 : tie.Need-returns
 unfolding entry_in_range
 returns-2 c =
-    and-false (within cycle_range (value (recorded_cycles c.before.before.before.before.before.before.args.line.now)))
-    (sym (c.before.is_Within.ensures ∙ ap₂ (λ r w. within r (value w)) c.before.before.addresses.ensures c.before.before.before.before.word_at.ensures) ∙ c.if1.false)
+    and-false (within cycle_range (value (recorded_cycles c.args.line.now)))
+    (sym (c.is_within.ensures ∙ ap₂ (λ r w. within r (value w)) c.addresses.ensures c.word_at-at.ensures) ∙ c.if-is_within.false)
 
-pub entry-in-range-spec : {M : Type 1} → statement M
-entry-in-range-spec =
+pub entry_in_range_spec : {M : Type 1} → statement M
+entry_in_range_spec =
     tie.close
     (tie.spec
     (λ c κs. search rules)

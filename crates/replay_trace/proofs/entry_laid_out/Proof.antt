@@ -11,36 +11,36 @@ use borrow.Author.Rules.{rules}
 use Rattle.replay_trace.proofs.entry_laid_out.Statement.{statement}
 use Rattle.replay_trace.proofs.entry_laid_out.Tie as tie
 
-returns : tie.Need-returns
+returns : tie.Need-returns-then-count_words-ne2
 unfolding entry_laid_out
 returns c =
-    let line = c.before.before.before.args.line.now in
-    and-stop _ (is_numeral (numeral (at line))) (is_numeral (numeral (recorded_cycles line))) (ne_eqb (length (line_words line)) 2 (λ e. c.if1.true (c.before.count-words.ensures ∙ e)))
+    let line = c.args.line.now in
+    and-stop _ (is_numeral (numeral (at line))) (is_numeral (numeral (recorded_cycles line))) (ne_eqb (length (line_words line)) 2 (λ e. c.if-count_words-ne2.true (c.count_words.ensures ∙ e)))
 
-returns-2 : tie.Need-returns-2
+returns-2 : tie.Need-returns-then-is_numeral
 unfolding entry_laid_out
 returns-2 c =
-    let at-word-at = c.before.before.before.before in
-    let at-if1 = at-word-at.before in
-    let at-count-words = at-if1.before in
-    let start = at-count-words.before.before in
+    let at-word-at = c in
+    let at-if1 = at-word-at in
+    let at-count-words = at-if1 in
+    let start = at-count-words in
     let line = start.args.line.now in
-    and-through _ _ _ (eq-eqb (length (line_words line)) 2 (sym at-count-words.count-words.ensures ∙ at-if1.if1.false))
-    (and-true (sym (c.before.before.is-numeral.ensures ∙ ap (λ w. is_numeral (numeral w)) at-word-at.word_at.ensures) ∙ c.before.if2.true)
-    (c.is-numeral2.ensures ∙ ap (λ w. is_numeral (numeral w)) c.before.before.before.word-at2.ensures))
+    and-through _ _ _ (eq-eqb (length (line_words line)) 2 (sym at-count-words.count_words.ensures ∙ at-if1.if-count_words-ne2.false))
+    (and-true (sym (c.is_numeral.ensures ∙ ap (λ w. is_numeral (numeral w)) at-word-at.word_at-at.ensures) ∙ c.if-is_numeral.true)
+    (c.is_numeral-then-is_numeral.ensures ∙ ap (λ w. is_numeral (numeral w)) c.word_at-cycles.ensures))
 
-returns-3 : tie.Need-returns-3
+returns-3 : tie.Need-returns
 unfolding entry_laid_out
 returns-3 c =
-    let at-if1 = c.before.before.before.before in
-    let at-count-words = at-if1.before in
-    let start = at-count-words.before.before in
+    let at-if1 = c in
+    let at-count-words = at-if1 in
+    let start = at-count-words in
     let line = start.args.line.now in
-    and-through _ _ _ (eq-eqb (length (line_words line)) 2 (sym at-count-words.count-words.ensures ∙ at-if1.if1.false))
-    (and-false (is_numeral (numeral (recorded_cycles line))) (sym (c.before.is-numeral.ensures ∙ ap (λ w. is_numeral (numeral w)) c.before.before.before.word_at.ensures) ∙ c.if2.false))
+    and-through _ _ _ (eq-eqb (length (line_words line)) 2 (sym at-count-words.count_words.ensures ∙ at-if1.if-count_words-ne2.false))
+    (and-false (is_numeral (numeral (recorded_cycles line))) (sym (c.is_numeral.ensures ∙ ap (λ w. is_numeral (numeral w)) c.word_at-at.ensures) ∙ c.if-is_numeral.false))
 
-pub entry-laid-out-spec : {M : Type 1} → statement M
-entry-laid-out-spec =
+pub entry_laid_out_spec : {M : Type 1} → statement M
+entry_laid_out_spec =
     tie.close
     (tie.spec
     (λ c κs. search rules)

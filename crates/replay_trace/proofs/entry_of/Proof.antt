@@ -10,10 +10,10 @@ use Rattle.replay_trace.proofs.entry_of.Tie as tie
 returns : tie.Need-returns
 unfolding entry_of
 returns c =
-    (c.before.before.natural-in.ensures ∙ ap (natural_in addresses) c.before.before.before.word_at.ensures, c.natural-in2.ensures ∙ ap (natural_in cycle_range) c.before.word-at2.ensures)
+    (c.natural_in-at.ensures ∙ ap (natural_in addresses) c.word_at.ensures, c.natural_in-cycles.ensures ∙ ap (natural_in cycle_range) c.word_at-2.ensures)
 
-pub entry-of-spec : {M : Type 1} → statement M
-entry-of-spec =
+pub entry_of_spec : {M : Type 1} → statement M
+entry_of_spec =
     tie.close
     (tie.spec
     (λ c κs. search rules)

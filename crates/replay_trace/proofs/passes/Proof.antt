@@ -9,21 +9,21 @@ use borrow.Author.Rules.{rules}
 use Rattle.replay_trace.proofs.passes.Statement.{statement}
 use Rattle.replay_trace.proofs.passes.Tie as tie
 
-returns : tie.Need-returns
+returns : tie.Need-returns-in-Layout
 unfolding line_test
 returns c =
-    let start = c.before.before.before.before in
-    arm (λ t. line_test t start.args.k (get_or (lines start.args.rest.now) 0 no_line)) c.before.enum_told.given.1 c.line-laid-out.ensures
+    let start = c in
+    arm (λ t. line_test t start.args.k (get_or (lines start.args.rest.now) 0 no_line)) c.in-Layout.is c.line_laid_out.ensures
 
-returns-2 : tie.Need-returns-2
+returns-2 : tie.Need-returns-in-Range
 unfolding line_test line_in_range
 returns-2 c =
-    let start = c.before.before.before.before.before in
-    arm (λ t. line_test t start.args.k (get_or (lines start.args.rest.now) 0 no_line)) c.before.before.enum-told2.given.1
-    (c.in-range.ensures ∙ ap (text_in_range start.args.k) c.before.first-line.ensures)
+    let start = c in
+    arm (λ t. line_test t start.args.k (get_or (lines start.args.rest.now) 0 no_line)) c.in-Range.is
+    (c.in_range.ensures ∙ ap (text_in_range start.args.k) c.first_line.ensures)
 
-pub passes-spec : {M : Type 1} → statement M
-passes-spec =
+pub passes_spec : {M : Type 1} → statement M
+passes_spec =
     tie.close
     (tie.spec
     (λ c. search rules)

@@ -12,30 +12,30 @@ use Rattle.words_import.proofs.check_import.Statement.{statement}
 use Rattle.words_import.proofs.check_import.Tie as tie
 
 -- the count is that of the primitives
-counted : (c : tie.After-count-listed) → c.count-listed.result ≡ length (primitives_of c.before.before.before.before.before.before.before.args.primitives.now)
-counted c = c.count-listed.ensures ∙ ap (λ t. length (list t)) c.before.first-line.ensures ∙ ap length (sym (primitives-are c.before.before.before.before.before.before.before.args.primitives.now))
+counted : (c : tie.After-count_listed-listed) → c.count_listed-listed.result ≡ length (primitives_of c.args.primitives.now)
+counted c = c.count_listed-listed.ensures ∙ ap (λ t. length (list t)) c.first_line.ensures ∙ ap length (sym (primitives-are c.args.primitives.now))
 
-code-fault-requires : tie.Need-code-fault-requires
+code-fault-requires : tie.Need-code_fault-requires
 code-fault-requires c κs =
-    let few = accepted-few c.before.before.before.before.before.before.before.args.primitives.now (sym c.before.before.before.before.check-primitives.ensures ∙ c.before.before.enum_told.given.1) in
+    let few = accepted-few c.args.primitives.now (sym c.check_primitives.ensures ∙ c.in-Accepted.is) in
     omega (arith, few, counted c)
 
-returns : tie.Need-returns
+returns : tie.Need-returns-in-Refused
 returns c =
-    let s = c.before.before.before.before.before.before in
-    sym (import-refused s.args.words.now s.args.primitives.now _ (sym c.before.before.before.check-primitives.ensures ∙ c.before.refusal.given.1))
+    let s = c in
+    sym (import-refused s.args.words.now s.args.primitives.now _ (sym c.check_primitives.ensures ∙ c.in-Refused.is))
 
-returns-2 : tie.Need-returns-2
+returns-2 : tie.Need-returns-in-Accepted
 returns-2 c =
-    let at-enum-told = c.before.before.before.before in
-    let at-check-primitives = at-enum-told.before.before in
-    let s = at-check-primitives.before.before.before in
-    c.fault-verdict.ensures
-    ∙ ap fault_verdict (c.before.code-fault.ensures ∙ ap (λ n. code_fault n (words_of s.args.words.now)) (counted c.before.before))
-    ∙ sym (import-next s.args.words.now s.args.primitives.now (sym at-check-primitives.check-primitives.ensures ∙ at-enum-told.enum_told.given.1))
+    let at-enum-told = c in
+    let at-check-primitives = at-enum-told in
+    let s = at-check-primitives in
+    c.fault_verdict.ensures
+    ∙ ap fault_verdict (c.code_fault.ensures ∙ ap (λ n. code_fault n (words_of s.args.words.now)) (counted c.before.before))
+    ∙ sym (import-next s.args.words.now s.args.primitives.now (sym at-check-primitives.check_primitives.ensures ∙ at-enum-told.in-Accepted.is))
 
-pub check-import-spec : {M : Type 1} → statement M
-check-import-spec =
+pub check_import_spec : {M : Type 1} → statement M
+check_import_spec =
     tie.close
     (tie.spec
     (λ c κs. search rules)

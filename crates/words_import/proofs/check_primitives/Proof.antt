@@ -7,21 +7,21 @@ use borrow.Author.Rules.{rules}
 use Rattle.words_import.proofs.check_primitives.Statement.{statement}
 use Rattle.words_import.proofs.check_primitives.Tie as tie
 
-returns : tie.Need-returns
-returns c = sym (primitives-empty _ c.if1.true)
+returns : tie.Need-returns-then-text-eq0
+returns c = sym (primitives-empty _ c.if-text-eq0.true)
 
-returns-2 : tie.Need-returns-2
-returns-2 c = sym (primitives-more c.before.before.before.before.args.text.now _ (omega (arith, c.before.before.if1.false)) c.before.next-lines.ensures.0 c.if2.true)
+returns-2 : tie.Need-returns-then-rest-gt0
+returns-2 c = sym (primitives-more c.args.text.now _ (omega (arith, c.if-text-eq0.false)) c.next_lines-rest.ensures.0 c.if-rest-gt0.true)
 
-returns-3 : tie.Need-returns-3
+returns-3 : tie.Need-returns
 returns-3 c =
-    let n = c.before.before.before in
-    c.check-names.ensures
-    ∙ ap line_verdict c.before.first-line.ensures
-    ∙ sym (primitives-one n.before.before.before.args.text.now n.next-lines.result.now (omega (arith, n.before.if1.false)) n.next-lines.ensures.0 (omega (arith, c.before.before.if2.false)))
+    let n = c in
+    c.check_names.ensures
+    ∙ ap line_verdict c.first_line.ensures
+    ∙ sym (primitives-one n.args.text.now n.next_lines-rest.result.now (omega (arith, n.if-text-eq0.false)) n.next_lines-rest.ensures.0 (omega (arith, c.if-rest-gt0.false)))
 
-pub check-primitives-spec : {M : Type 1} → statement M
-check-primitives-spec =
+pub check_primitives_spec : {M : Type 1} → statement M
+check_primitives_spec =
     tie.close
     (tie.spec
     returns

@@ -5,16 +5,16 @@ use borrow.Author.Rules.{rules}
 use Rattle.words_import.proofs.fault_verdict.Statement.{statement}
 use Rattle.words_import.proofs.fault_verdict.Tie as tie
 
-enum_told : tie.Need-enum-told
+enum_told : tie.Need-enum_told-1
 enum_told c = search rules
 
-returns : tie.Need-returns
+returns : tie.Need-returns-in-Missing
 unfolding fault_verdict
-returns c = sym (ap fault_verdict c.enum_told.given.1)
+returns c = sym (ap fault_verdict c.in-Missing.is)
 
-returns-2 : tie.Need-returns-2
+returns-2 : tie.Need-returns-in-At
 unfolding fault_verdict
-returns-2 c = sym (ap fault_verdict c.before.place.given.1)
+returns-2 c = sym (ap fault_verdict c.in-At.is)
 
-pub fault-verdict-spec : {M : Type 1} → statement M
-fault-verdict-spec = tie.close (tie.spec enum_told (λ c. search rules) returns returns-2)
+pub fault_verdict_spec : {M : Type 1} → statement M
+fault_verdict_spec = tie.close (tie.spec enum_told (λ c. search rules) returns returns-2)

@@ -21,64 +21,63 @@ abbrev whole : tie.Start → List ℕ
 whole s = argument_in (list s.args.primitives.now) s.args.numbers.now s.args.index s.args.argument s.args.takes
 
 -- the start, from where it is asked what the kind takes
-abbrev start : tie.After-shared-slice-known2 → tie.Start
+abbrev start : tie.After-shared_slice_known-2-1 → tie.Start
 start c = c.before.before.before
 
-passed : (c : tie.After-shared-slice-known2) → to_z w32 (of_z w32 (start c).args.argument) ≡ (start c).args.argument
+passed : (c : tie.After-shared_slice_known-2-1) → to_z w32 (of_z w32 (start c).args.argument) ≡ (start c).args.argument
 passed c = to_z-of_z w32 (start c).args.argument (start c).ranges.argument
 
 -- ARG by what the kind takes
-absent : (c : tie.After-enum-told) → whole (start c.before.before) ≡ bytes "-"
-absent c = argument-absent _ _ _ _ c.enum_told.given.1
+absent : (c : tie.In-Absent) → whole (start c.before) ≡ bytes "-"
+absent c = argument-absent _ _ _ _ c.in-Absent.is
 
-target : (c : tie.After-index-of) → whole (start c.before.before.before.before.before) ≡ decimal c.index_of.result
+target : (c : tie.After-index_of-n) → whole (start c.before.before.before.before) ≡ decimal c.index_of-n.result
 target c =
-    let l = c.before.before in
-    let k = l.before.before.before in
-    argument-target _ _ _ _ l.before.enum-told2.given.1
-    (l.landing.ensures ∙ ap (λ z. pos (suc (start k).args.index) +ℤ z) (passed k))
+    let l = c in
+    let k = l in
+    argument-target _ _ _ _ l.in-Target.is
+    (l.landing.ensures ∙ ap (λ z. pos (suc (start k.before.before.before.before).args.index) +ℤ z) (passed k.before.before.before.before))
     (to_z-of_z w64 _ (search rules))
-    c.before.number_at.ensures
-    c.index_of.ensures
+    c.number_at.ensures
+    c.index_of-n.ensures
 
-primitive : (c : tie.After-listed-at) → whole (start c.before.before.before.before) ≡ c.listed_at.result.now
+primitive : (c : tie.After-listed_at-name) → whole (start c.before.before.before) ≡ c.listed_at-name.result.now
 primitive c =
-    let t = c.before.before in
-    let k = t.before.before in
-    argument-primitive _ _ _ _ t.enum-told3.given.1 (passed k) c.before.magnitude.ensures c.listed_at.ensures
+    let t = c in
+    let k = t in
+    argument-primitive _ _ _ _ t.in-Primitive.is (passed k.before.before.before) c.magnitude.ensures c.listed_at-name.ensures
 
-within : (c : tie.After-enum-told4) → whole (start c.before.before) ≡ integer (to_z w32 (of_z w32 (start c.before.before).args.argument))
-within c = let k = c.before.before in argument-within _ _ _ _ c.enum-told4.given.1 (passed k)
+within : (c : tie.In-Within) → whole (start c.before) ≡ integer (to_z w32 (of_z w32 (start c.before).args.argument))
+within c = let k = c in argument-within _ _ _ _ c.in-Within.is (passed k.before)
 
 put-requires : tie.Need-put-requires
-put-requires c κs = let t = c.before.before in room_as _ (absent t) (start t.before.before).requires.1
+put-requires c κs = let t = c in room_as _ (absent t.before.before.before) (start t.before.before.before.before).requires.1
 
-put-decimal-requires : tie.Need-put-decimal-requires
-put-decimal-requires c κs = room_as _ (target c.before) (start c.before.before.before.before.before.before).requires.1
+put-decimal-requires : tie.Need-put_decimal-requires
+put-decimal-requires c κs = room_as _ (target c.before) (start c.before.before.before.before.before).requires.1
 
-put-requires-2 : tie.Need-put-requires-2
-put-requires-2 c κs = room_as _ (primitive c.before) (start c.before.before.before.before.before).requires.1
+put-requires-2 : tie.Need-put-requires-in-Primitive
+put-requires-2 c κs = room_as _ (primitive c.before) (start c.before.before.before.before).requires.1
 
-put-integer-requires : tie.Need-put-integer-requires
-put-integer-requires c κs = room_as _ (within c.before) (start c.before.before.before).requires.1
+put-integer-requires : tie.Need-put_integer-requires
+put-integer-requires c κs = room_as _ (within c.before) (start c.before.before).requires.1
 
-returns : tie.Need-returns
-returns c = let p = c.before.before in put_as _ _ (absent p.before.before.before) p.put.ensures
+returns : tie.Need-returns-in-Absent
+returns c = let p = c in put_as _ _ (absent p.before.before.before.before.before.before) p.put.ensures
 
-returns-2 : tie.Need-returns-2
-returns-2 c = let p = c.before.before in put_as _ _ (target p.before.before) p.put-decimal.ensures
+returns-2 : tie.Need-returns-in-Target
+returns-2 c = let p = c in put_as _ _ (target p.before.before.before.before) p.put_decimal.ensures
 
-returns-3 : tie.Need-returns-3
-returns-3 c = let p = c.before.before in put_as _ _ (primitive p.before.before) p.put2.ensures
+returns-3 : tie.Need-returns-in-Primitive
+returns-3 c = let p = c in put_as _ _ (primitive p.before.before.before.before) p.put-in-Primitive.ensures
 
-returns-4 : tie.Need-returns-4
-returns-4 c = let p = c.before.before in put_as _ _ (within p.before.before) p.put-integer.ensures
+returns-4 : tie.Need-returns-in-Within
+returns-4 c = let p = c in put_as _ _ (within p.before.before.before.before) p.put_integer.ensures
 
-pub put-argument-spec : {M : Type 1} → statement M
-put-argument-spec =
+pub put_argument_spec : {M : Type 1} → statement M
+put_argument_spec =
     tie.close
     (tie.spec
-    (λ c. search rules)
     (λ c. search rules)
     put-requires
     (λ c. search rules)

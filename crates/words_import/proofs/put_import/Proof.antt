@@ -8,32 +8,32 @@ use borrow.Author.Rules.{rules}
 use Rattle.words_import.proofs.put_import.Statement.{statement}
 use Rattle.words_import.proofs.put_import.Tie as tie
 
-numbers-of-requires : tie.Need-numbers-of-requires
+numbers-of-requires : tie.Need-numbers_of-numbers-requires
 numbers-of-requires c κs =
-    let s = c.before.before.before.before in
+    let s = c in
     import-readable s.args.words.now s.args.primitives.now s.requires.0
 
-put-code-requires : tie.Need-put-code-requires
+put-code-requires : tie.Need-put_code-requires
 put-code-requires c κs =
-    let s = c.before.before.before.before.before.before.before in
+    let s = c in
     let bs = s.args.words.now in
     let line = s.args.primitives.now in (
       import-readable bs line s.requires.0,
-      c.before.before.Numbers-of.ensures,
-      short-by line _ c.before.before.before.first-line.ensures (accepted-short line (import-line bs line s.requires.0)),
+      c.numbers_of-numbers.ensures,
+      short-by line _ c.first_line-line.ensures (accepted-short line (import-line bs line s.requires.0)),
       omega (arith, s.requires.1),
     )
 
 returns : tie.Need-returns
 returns c =
-    let p = c.before.before in
-    let f = p.before.before.before.before in
-    let s = f.before.before.before.before in
-    let e = import-text s.args.words.now s.args.primitives.now _ f.first-line.ensures in
-    (p.put-code.ensures.0 ∙ ap length (sym e), p.put-code.ensures.1 ∙ ap (λ t. t ++ drop (length t) s.args.out.now) (sym e))
+    let p = c in
+    let f = p in
+    let s = f in
+    let e = import-text s.args.words.now s.args.primitives.now _ f.first_line-line.ensures in
+    (p.put_code.ensures.0 ∙ ap length (sym e), p.put_code.ensures.1 ∙ ap (λ t. t ++ drop (length t) s.args.out.now) (sym e))
 
-pub put-import-spec : {M : Type 1} → statement M
-put-import-spec =
+pub put_import_spec : {M : Type 1} → statement M
+put_import_spec =
     tie.close
     (tie.spec
     (λ c κs. search rules)

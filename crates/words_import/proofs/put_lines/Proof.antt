@@ -22,47 +22,47 @@ use Rattle.words_import.proofs.WritingLaws.{Writing, written-short, writing-star
 use Rattle.words_import.proofs.put_lines.Statement.{statement}
 use Rattle.words_import.proofs.put_lines.Tie as tie
 
-abbrev invariant-loop : tie.invariant-loop
-invariant-loop out₀ at primitives numbers words coded starts names codes lows highs e₀ rest₀ index₀ count₀ feed out e rest index count = Writing (list primitives) out₀ at (words_of words) out e index count (words_of rest)
+abbrev invariant-loop-rest : tie.invariant-loop-rest
+invariant-loop-rest out₀ at primitives numbers words coded starts names codes lows highs e₀ rest₀ index₀ count₀ feed out e rest index count = Writing (list primitives) out₀ at (words_of words) out e index count (words_of rest)
 
-abbrev decreases-loop : tie.decreases-loop
-decreases-loop out₀ at primitives numbers words coded starts names codes lows highs e₀ rest₀ index₀ count₀ feed out e rest index count = length rest
+abbrev decreases-loop-rest : tie.decreases-loop-rest
+decreases-loop-rest out₀ at primitives numbers words coded starts names codes lows highs e₀ rest₀ index₀ count₀ feed out e rest index count = length rest
 
 -- the places of a turn: from the loop's test back to the start, from where the instruction is known to the test, from the end of the turn
 -- to where the instruction is known
-abbrev start : tie.At-loop invariant-loop decreases-loop → tie.Start invariant-loop decreases-loop
+abbrev start : tie.At-loop-rest invariant-loop-rest decreases-loop-rest → tie.Start invariant-loop-rest decreases-loop-rest
 start c = c.before.before.before.before.before.before.before.before.before.before.before
 
-abbrev test : tie.After-known-told invariant-loop decreases-loop → tie.At-loop invariant-loop decreases-loop
-test c = c.before.before.before.before.before.before
+abbrev test : tie.In-Instruction invariant-loop-rest decreases-loop-rest → tie.At-loop-rest invariant-loop-rest decreases-loop-rest
+test c = c.before.before.before.before
 
-abbrev known : tie.After-put-op invariant-loop decreases-loop → tie.After-known-told invariant-loop decreases-loop
+abbrev known : tie.After-put_op-a invariant-loop-rest decreases-loop-rest → tie.In-Instruction invariant-loop-rest decreases-loop-rest
 known c = c.before.before.before.before
 
-abbrev named : tie.After-put-argument invariant-loop decreases-loop → tie.After-put-op invariant-loop decreases-loop
+abbrev named : tie.After-put_argument-b invariant-loop-rest decreases-loop-rest → tie.After-put_op-a invariant-loop-rest decreases-loop-rest
 named c = c.before.before.before.before.before.before.before.before
 
-abbrev ended : tie.After-size-of invariant-loop decreases-loop → tie.After-put invariant-loop decreases-loop
+abbrev ended : tie.After-size_of-index invariant-loop-rest decreases-loop-rest → tie.After-put-e invariant-loop-rest decreases-loop-rest
 ended c = c.before.before.before.before
 
-abbrev read : tie.After-size-of invariant-loop decreases-loop → tie.After-known-told invariant-loop decreases-loop
+abbrev read : tie.After-size_of-index invariant-loop-rest decreases-loop-rest → tie.In-Instruction invariant-loop-rest decreases-loop-rest
 read c = known (named (ended c).before.before.before.before.before)
 
 -- the instruction that is read: its kind and its argument
-abbrev kind : tie.After-known-told invariant-loop decreases-loop → ℕ
-kind c = c.before.k.given.0.0
+abbrev kind : tie.In-Instruction invariant-loop-rest decreases-loop-rest → ℕ
+kind c = c.in-Instruction.k
 
-abbrev argument : tie.After-known-told invariant-loop decreases-loop → ℤ
-argument c = c.before.k.given.0.1.0
+abbrev argument : tie.In-Instruction invariant-loop-rest decreases-loop-rest → ℤ
+argument c = c.in-Instruction.argument
 
-instruction : (c : tie.After-known-told invariant-loop decreases-loop) → Read (test c).loop.index (kind c) (argument c) (words_of (test c).loop.rest.now)
-instruction c = head_read _ _ _ _ (sym c.before.before.before.read_head.ensures ∙ c.before.k.given.1)
+instruction : (c : tie.In-Instruction invariant-loop-rest decreases-loop-rest) → Read (test c).loop-rest.index (kind c) (argument c) (words_of (test c).loop-rest.rest.now)
+instruction c = head_read _ _ _ _ (sym c.read_head.ensures ∙ c.in-Instruction.is)
 
-argument-fits : (c : tie.After-known-told invariant-loop decreases-loop) → SFits w32 (argument c)
+argument-fits : (c : tie.In-Instruction invariant-loop-rest decreases-loop-rest) → SFits w32 (argument c)
 argument-fits c = search rules
 
 -- the parts of its line: AT and OP, ARG, and the line feed
-module _ (c : tie.After-known-told invariant-loop decreases-loop) where
+module _ (c : tie.In-Instruction invariant-loop-rest decreases-loop-rest) where
   abbrev primitives : List (List ℕ)
   primitives = list (start (test c)).args.primitives.now
 
@@ -70,115 +70,115 @@ module _ (c : tie.After-known-told invariant-loop decreases-loop) where
   numbers = (start (test c)).args.numbers.now
 
   abbrev parts : List (List ℕ)
-  parts = op_in (test c).loop.count (kind c) ∷ argument_in primitives numbers (test c).loop.index (argument c) (kind_at (kind c)).argument ∷ bytes "\n" ∷ []
+  parts = op_in (test c).loop-rest.count (kind c) ∷ argument_in primitives numbers (test c).loop-rest.index (argument c) (kind_at (kind c)).argument ∷ bytes "\n" ∷ []
 
-  fits : (test c).loop.e + length (joined [] parts) ≤ length (test c).loop.out
+  fits : (test c).loop-rest.e + length (joined [] parts) ≤ length (test c).loop-rest.out
   unfolding line_in
   fits =
       let l = test c in
       let s = start l in
-      let r = writing-room l.loop.inv (instruction c) in
-      let y = written-short primitives s.pre.2 s.pre.1 l.loop.count l.loop.index (kind c) (argument c) (argument-fits c) r.0 (instruction c).known in
-      omega (arith, y, r, s.pre.3, l.loop.inv.short, l.loop.inv.long)
+      let r = writing-room l.loop-rest.invariant (instruction c) in
+      let y = written-short primitives s.requires.2 s.requires.1 l.loop-rest.count l.loop-rest.index (kind c) (argument c) (argument-fits c) r.0 (instruction c).known in
+      omega (arith, y, r, s.requires.3, l.loop-rest.invariant.short, l.loop-rest.invariant.long)
 
 -- the first n parts stand in o, up to e
 abbrev At : ℕ → ℕ → List ℕ → Type 0
-At = Place (λ (c : tie.After-known-told invariant-loop decreases-loop). (test c).loop.out) (λ c. (test c).loop.e) parts
+At = Place (λ (c : tie.In-Instruction invariant-loop-rest decreases-loop-rest). (test c).loop-rest.out) (λ c. (test c).loop-rest.e) parts
 
-abbrev w0 : (c : tie.After-known-told invariant-loop decreases-loop) → At 0 (test c).loop.e (test c).loop.out
+abbrev w0 : (c : tie.In-Instruction invariant-loop-rest decreases-loop-rest) → At 0 (test c).loop-rest.e (test c).loop-rest.out
 w0 c = begins c (fits c)
 
-abbrev w1 : (c : tie.After-put-op invariant-loop decreases-loop) → At 1 c.put-op.result c.put-op.new.0
-w1 c = next (w0 (known c)) c.put-op.ensures
+abbrev w1 : (c : tie.After-put_op-a invariant-loop-rest decreases-loop-rest) → At 1 c.put_op-a.result c.put_op-a.new.out
+w1 c = next (w0 (known c)) c.put_op-a.ensures
 
 -- ARG as it is passed on
-passed : (c : tie.After-argument-in invariant-loop decreases-loop)
+passed : (c : tie.After-argument_in-takes invariant-loop-rest decreases-loop-rest)
     → let i = known c.before.before.before.before.before.before in
-    argument_in (primitives i) (numbers i) (test i).loop.index (to_z w32 (of_z w32 (argument i))) c.argument-in.result ≡ argument_in (primitives i) (numbers i) (test i).loop.index (argument i) (kind_at (kind i)).argument
+    argument_in (primitives i) (numbers i) (test i).loop-rest.index (to_z w32 (of_z w32 (argument i))) c.argument_in-takes.result ≡ argument_in (primitives i) (numbers i) (test i).loop-rest.index (argument i) (kind_at (kind i)).argument
 passed c =
     let i = known c.before.before.before.before.before.before in
-    ap₂ (λ z a. argument_in (primitives i) (numbers i) (test i).loop.index z a) (to_z-of_z w32 (argument i) (argument-fits i)) (c.argument-in.ensures _ refl)
+    ap₂ (λ z a. argument_in (primitives i) (numbers i) (test i).loop-rest.index z a) (to_z-of_z w32 (argument i) (argument-fits i)) (c.argument_in-takes.ensures _ refl)
 
-abbrev w2 : (c : tie.After-put-argument invariant-loop decreases-loop) → At 2 c.put-argument.result c.put-argument.new.0
-w2 c = next-as (w1 (named c)) (passed c.before.before) c.put-argument.ensures
+abbrev w2 : (c : tie.After-put_argument-b invariant-loop-rest decreases-loop-rest) → At 2 c.put_argument-b.result c.put_argument-b.new.out
+w2 c = next-as (w1 (named c)) (passed c.before.before) c.put_argument-b.ensures
 
-abbrev w3 : (c : tie.After-put invariant-loop decreases-loop) → At 3 c.put.result c.put.new.0
-w3 c = next (w2 c.before.before.before.before.before) c.put.ensures
+abbrev w3 : (c : tie.After-put-e invariant-loop-rest decreases-loop-rest) → At 3 c.put-e.result c.put-e.new.out
+w3 c = next (w2 c.before.before.before.before.before.before) c.put-e.ensures
 
-loop-holds : tie.Need-loop-init invariant-loop decreases-loop
+loop-holds : tie.Need-loop-rest-init invariant-loop-rest decreases-loop-rest
 loop-holds c =
-    let s = c.before.before.before.before.before.before.before.before.before.before in
+    let s = c in
     writing-starts (list s.args.primitives.now) s.args.out.now s.args.at _ s.requires.0 (omega (arith, s.requires.3))
 
-returns : tie.Need-returns invariant-loop decreases-loop
+returns : tie.Need-returns-in_default invariant-loop-rest decreases-loop-rest
 returns c =
-    let h = c.before.before in
-    let l = h.before.before.before in
-    writing-reads l.loop.invariant (words-some l.loop.rest.now h.before.before.loop-test.true) (sym h.read_head.ensures ∙ c.enum_told.given.1)
+    let h = c in
+    let l = h in
+    writing-reads l.loop-rest.invariant (words-some l.loop-rest.rest.now h.loop-rest-test.true) (sym h.read_head.ensures ∙ c.in_default.is)
 
-put-op-requires : tie.Need-put-op-requires invariant-loop decreases-loop
+put-op-requires : tie.Need-put_op-a-requires invariant-loop-rest decreases-loop-rest
 put-op-requires c κs =
-    let i = c.before.before.before in
-    let t = (test i).before in
-    ((t.before.before.before.before.name-starts.ensures, t.before.before.before.all-names.ensures), ((instruction i).known, room (w0 i)))
+    let i = c in
+    let t = (test i.before.before.before).before in
+    ((t.name_starts-starts.ensures, t.all_names-names.ensures), ((instruction i.before.before.before).known, room (w0 i.before.before.before)))
 
-argument-in-requires : tie.Need-argument-in-requires invariant-loop decreases-loop
+argument-in-requires : tie.Need-argument_in-takes-requires invariant-loop-rest decreases-loop-rest
 argument-in-requires c κs =
     let i = known c.before.before.before.before.before in
     let t = (test i).before in
-    ((t.before.before.argument-codes.ensures, t.before.range-lows.ensures, t.range-highs.ensures), λ j e. rw (one_place refl e) at (instruction i).known)
+    ((t.argument_codes-codes.ensures, t.range_lows-lows.ensures, t.range_highs-highs.ensures), λ j e. rw (one_place refl e) at (instruction i).known)
 
-put-argument-requires : tie.Need-put-argument-requires invariant-loop decreases-loop
+put-argument-requires : tie.Need-put_argument-b-requires invariant-loop-rest decreases-loop-rest
 put-argument-requires c κs =
-    let p = c.before.before.before.before.before.before.before in
-    let i = known p in
-    ((writing-room (test i).loop.inv (instruction i)).1, room_as (w1 p) (passed c.before))
+    let p = c in
+    let i = known p.before.before.before.before.before.before.before in
+    ((writing-room (test i).loop-rest.invariant (instruction i)).1, room_as (w1 p.before.before.before.before.before.before.before) (passed c.before))
 
-put-requires : tie.Need-put-requires invariant-loop decreases-loop
-put-requires c κs = room (w2 c.before.before.before.before)
+put-requires : tie.Need-put-e-requires invariant-loop-rest decreases-loop-rest
+put-requires c κs = room (w2 c.before.before.before.before.before)
 
-after-requires : tie.Need-after-requires invariant-loop decreases-loop
+after-requires : tie.Need-after-next-requires invariant-loop-rest decreases-loop-rest
 after-requires c κs =
-    let i = known (named c.before.before.before.before.before.before.before) in
-    ((instruction i).known, head-fits _ _ _ (sym i.before.before.before.read_head.ensures ∙ i.before.k.given.1))
+    let i = known (named c.before.before.before.before.before.before.before.before) in
+    ((instruction i).known, head-fits _ _ _ (sym i.read_head.ensures ∙ i.in-Instruction.is))
 
-size-of-requires : tie.Need-size-of-requires invariant-loop decreases-loop
-size-of-requires c κs = (instruction (known (named c.before.before.before.before.before.before.before.before))).known
+size-of-requires : tie.Need-size_of-index-requires invariant-loop-rest decreases-loop-rest
+size-of-requires c κs = (instruction (known (named c.before.before.before.before.before.before.before.before.before))).known
 
-add-index : tie.Need-overflow-add-index invariant-loop decreases-loop
+add-index : tie.Need-overflow_add-index invariant-loop-rest decreases-loop-rest
 add-index c =
     let i = read c in
-    let r = writing-room (test i).loop.inv (instruction i) in
+    let r = writing-room (test i).loop-rest.invariant (instruction i) in
     let s = size_small (kind i) in
-    omega (arith, c.size-of.ensures, r)
+    omega (arith, c.size_of-index.ensures, r)
 
-add-count : tie.Need-overflow-add-count invariant-loop decreases-loop
+add-count : tie.Need-overflow_add-count invariant-loop-rest decreases-loop-rest
 add-count c =
     let i = read c in
-    let r = writing-room (test i).loop.inv (instruction i) in
+    let r = writing-room (test i).loop-rest.invariant (instruction i) in
     omega (arith, r)
 
-loop-less : tie.Need-loop-smaller invariant-loop decreases-loop
-loop-less c = let s = size_small (kind (read c)) in omega (arith, c.before.after.ensures.1)
+loop-less : tie.Need-loop-rest-smaller invariant-loop-rest decreases-loop-rest
+loop-less c = let s = size_small (kind (read c)) in omega (arith, c.after-next.ensures.1)
 
-loop-again : tie.Need-loop-preserved invariant-loop decreases-loop
+loop-again : tie.Need-loop-rest-preserved invariant-loop-rest decreases-loop-rest
 unfolding line_in
 loop-again c =
     let i = read c in
     let l = test i in
     let s = start l in
     let w = w3 (ended c) in
-    writing-next l.loop.inv (instruction i) s.args.numbers.now s.pre.1 s.pre.2 (argument-fits i) (finished w) (kept w) c.size-of.ensures c.before.after.ensures.0
+    writing-next l.loop-rest.invariant (instruction i) s.args.numbers.now s.requires.1 s.requires.2 (argument-fits i) (finished w) (kept w) c.size_of-index.ensures c.after-next.ensures.0
 
-returns-2 : tie.Need-returns-2 invariant-loop decreases-loop
-returns-2 c = writing-ends c.before.loop.invariant (entries_none _ c.before.loop.rest.now (omega arith))
+returns-2 : tie.Need-returns invariant-loop-rest decreases-loop-rest
+returns-2 c = writing-ends c.loop-rest.invariant (entries_none _ c.loop-rest.rest.now (omega arith))
 
-pub put-lines-spec : {M : Type 1} → statement M
-put-lines-spec =
+pub put_lines_spec : {M : Type 1} → statement M
+put_lines_spec =
     tie.close
     (tie.spec
-    invariant-loop
-    decreases-loop
+    invariant-loop-rest
+    decreases-loop-rest
     (λ c κs. search rules)
     (λ c κs. search rules)
     (λ c κs. search rules)
@@ -186,16 +186,15 @@ put-lines-spec =
     (λ c κs. search rules)
     (λ c κs. search rules)
     loop-holds
-    (λ c κs. c.before.before.before.before.before.before.before.before.coded-kinds.ensures)
+    (λ c κs. c.coded_kinds-coded.ensures)
     (λ c. search rules)
     (λ c. search rules)
-    (λ c. c.before.before.before.before.before.loop.invariant.long)
+    (λ c. c.loop-rest.invariant.long)
     returns
     (λ c. search rules)
     put-op-requires
     argument-in-requires
     put-argument-requires
-    (λ c. search rules)
     put-requires
     after-requires
     size-of-requires
@@ -203,5 +202,5 @@ put-lines-spec =
     add-count
     loop-less
     loop-again
-    (λ c. c.before.loop.invariant.long)
+    (λ c. c.loop-rest.invariant.long)
     returns-2)

@@ -26,31 +26,29 @@ fits s = s.requires.1.1
 abbrev w0 : (s : tie.Start) → At 0 s.args.at s.args.out.now
 w0 s = begins s (fits s)
 
-abbrev w1 : (c : tie.After-put-decimal) → At 1 c.put-decimal.result c.put-decimal.new.0
-w1 c = next (w0 c.before.before.before.before) c.put-decimal.ensures
+abbrev w1 : (c : tie.After-put_decimal-a) → At 1 c.put_decimal-a.result c.put_decimal-a.new.out
+w1 c = next (w0 c.before.before.before.before) c.put_decimal-a.ensures
 
-abbrev w2 : (c : tie.After-put) → At 2 c.put.result c.put.new.0
-w2 c = next (w1 c.before.before.before.before.before) c.put.ensures
+abbrev w2 : (c : tie.After-put-b) → At 2 c.put-b.result c.put-b.new.out
+w2 c = next (w1 c.before.before.before.before.before.before) c.put-b.ensures
 
-abbrev w3 : (c : tie.After-put-name-in) → At 3 c.put-name-in.result c.put-name-in.new.0
-w3 c = next (w2 c.before.before.before.before) c.put-name-in.ensures
+abbrev w3 : (c : tie.After-put_name_in-c) → At 3 c.put_name_in-c.result c.put_name_in-c.new.out
+w3 c = next (w2 c.before.before.before.before) c.put_name_in-c.ensures
 
-abbrev w4 : (c : tie.After-put2) → At 4 c.put2.result c.put2.new.0
-w4 c = next (w3 c.before.before.before.before.before) c.put2.ensures
+abbrev w4 : (c : tie.After-put) → At 4 c.put.result c.put.new.out
+w4 c = next (w3 c.before.before.before.before.before.before) c.put.ensures
 
 returns : tie.Need-returns
 unfolding op_in
 returns c = finished (w4 c.before.before)
 
-pub put-op-spec : {M : Type 1} → statement M
-put-op-spec =
+pub put_op_spec : {M : Type 1} → statement M
+put_op_spec =
     tie.close
     (tie.spec
     (λ c κs. room (w0 c.before.before.before))
-    (λ c. search rules)
-    (λ c κs. room (w1 c.before.before.before.before))
-    (λ c κs. let w = w2 c.before.before.before in (w.start.pre.0, (w.start.pre.1.0, room w)))
-    (λ c. search rules)
-    (λ c κs. room (w3 c.before.before.before.before))
+    (λ c κs. room (w1 c.before.before.before.before.before))
+    (λ c κs. let w = w2 c.before.before.before in (w.start.requires.0, (w.start.requires.1.0, room w)))
+    (λ c κs. room (w3 c.before.before.before.before.before))
     (λ c. search rules)
     returns)
