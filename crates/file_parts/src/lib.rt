@@ -1,4 +1,6 @@
 // The parts of the routine that a text holds, as arrays. The meaning is in specs/ here and of `file_format`.
+#![tactic(auto)]
+
 ghost use Rattle.std.specs.Prelude.{◌≡◌, cond, List, [], map, ℕ, ◌+◌, ◌*◌, ◌%◌, ◌≤◌, ◌<◌, ltb, pos, length, get_or, take, drop};
 ghost use Rattle.text.specs.Text.{lines, no_line, index_of, find};
 ghost use Rattle.text.specs.declared.Place.TheVariants.{At};

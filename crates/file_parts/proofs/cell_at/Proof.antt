@@ -7,7 +7,7 @@ use Rattle.file_parts.proofs.cell_at.Statement.{statement}
 use Rattle.file_parts.proofs.cell_at.Tie as tie
 
 returns : tie.Need-returns
-returns c = c.cell-of.ensures ∙ cell-is (list c.before.before.before.args.values.now) c.before.listed_at.result.now c.before.before.before.args.i c.before.listed_at.ensures
+returns c = c.cell_of.ensures ∙ cell-is (list c.args.values.now) c.listed_at.result.now c.args.i c.listed_at.ensures
 
-pub cell-at-spec : {M : Type 1} → statement M
-cell-at-spec = tie.close (tie.spec (λ c κs. search rules) (λ c κs. search rules) returns)
+pub cell_at_spec : {M : Type 1} → statement M
+cell_at_spec = tie.close (tie.spec (λ c κs. search rules) (λ c κs. search rules) returns)

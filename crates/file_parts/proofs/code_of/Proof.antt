@@ -6,32 +6,32 @@ use borrow.Author.Rules.{rules}
 use Rattle.file_parts.proofs.code_of.Statement.{statement}
 use Rattle.file_parts.proofs.code_of.Tie as tie
 
-add-result : tie.Need-overflow-add-result
+add-result : tie.Need-overflow_add-result
 add-result c =
     omega (
       arith,
-      c.before.before.before.before.operation-at.ensures,
-      operation-small (kind_at c.before.before.before.before.before.args.k).operation,
-      cond-most c.before.before.before.pushes-at.result c.before.before.where-true.ensures,
+      c.operation_at-operation.ensures,
+      operation-small (kind_at c.args.k).operation,
+      cond-most c.pushes_at.result c.where_true-pushed.ensures,
     )
 
-add-result-2 : tie.Need-overflow-add-result-2
+add-result-2 : tie.Need-overflow_add-result-2
 add-result-2 c =
     omega (
       arith,
-      c.before.before.before.before.operation-at.ensures,
-      operation-small (kind_at c.before.before.before.before.before.args.k).operation,
-      cond-most c.before.before.before.pushes-at.result c.before.before.where-true.ensures,
-      cond-most c.before.calls_at.result c.where-true2.ensures,
+      c.operation_at-operation.ensures,
+      operation-small (kind_at c.args.k).operation,
+      cond-most c.pushes_at.result c.where_true-pushed.ensures,
+      cond-most c.calls_at.result c.where_true-called.ensures,
     )
 
 returns : tie.Need-returns
 returns c =
-    coded (kind_at c.before.before.before.before.before.args.k) c.before.before.before.before.operation-at.ensures
-    c.before.before.before.pushes-at.ensures c.before.before.where-true.ensures c.before.calls_at.ensures c.where-true2.ensures
+    coded (kind_at c.args.k) c.operation_at-operation.ensures
+    c.pushes_at.ensures c.where_true-pushed.ensures c.calls_at.ensures c.where_true-called.ensures
 
-pub code-of-spec : {M : Type 1} → statement M
-code-of-spec =
+pub code_of_spec : {M : Type 1} → statement M
+code_of_spec =
     tie.close
     (tie.spec
     (λ c κs. search rules)

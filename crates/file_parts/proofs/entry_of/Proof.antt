@@ -18,39 +18,39 @@ use Rattle.file_parts.proofs.entry_of.Statement.{statement}
 use Rattle.file_parts.proofs.entry_of.Tie as tie
 
 -- the kind that OP names
-kind-is : (c : tie.After-index-of) → c.index_of.result ≡ find (op c.before.before.before.before.before.before.args.text.now) kind_names
-kind-is c = found kind_names _ _ _ c.index_of.ensures c.before.before.before.before.before.before.requires.0.0.kind refl
+kind-is : (c : tie.After-index_of) → c.index_of.result ≡ find (op c.args.text.now) kind_names
+kind-is c = found kind_names _ _ _ c.index_of.ensures c.requires.0.0.kind refl
 
-operand-of-requires : tie.Need-operand-of-requires
+operand-of-requires : tie.Need-operand_of-operand-requires
 operand-of-requires c κs =
-    let start = c.before.before.before.before.before.before in
+    let start = c in
     (omega (arith, kind-is c, kind-small (op start.args.text.now)), start.requires.0.1 ∙ ap (λ k. (kind_at k).argument) (sym c.index_of.ensures))
 
 returns : tie.Need-returns
 returns c =
-    let at_kind = c.before.before.before.before.before.before.before.before.before.before.before in
-    let start = at_kind.before.before.before.before.before.before in
+    let at_kind = c in
+    let start = at_kind in
     let a = start.args in
     let k = at_kind.index_of.result in
     let text = a.text.now in
     let ps = prices_on a.primitives.now a.cycles.now a.words.now in
-    let w = at_kind.before.arg-in.ensures in
-    let o = c.before.before.before.before.before.before.before.before.before.before.operand-of in
-    let j = c.before.before.before.before.before.before.before.before.place-called.ensures in
+    let w = at_kind.arg_in-arg.ensures in
+    let o = c.operand_of-operand in
+    let j = c.place_called-j.ensures in
     λ ks xs p.
-    let coded : Coded (kind_at k) (get_or a.kept.now a.slot 0) = subst (λ o. Coded (kind_at o) (get_or a.kept.now a.slot 0)) (sym (kind-is at_kind)) p.coded in
+    let coded : Coded (kind_at k) (get_or a.kept.now a.slot 0) = subst (λ o. Coded (kind_at o) (get_or a.kept.now a.slot 0)) (sym (kind-is at_kind.before.before.before.before.before.before.before.before.before.before.before.before)) p.coded in
     let r : Read ks xs ps text (kind_at k) _ _ _ _ _ =
     record {
       coded = coded;
-      operand = λ ns. to_z-of_z w32 o.result (search (o.type-inv, rules)) ∙ o.ensures ns ∙ ap (λ (v : List ℕ). operand (kind_at k) (argument_value ns v (kind_at k).argument)) w;
-      cycles = ap₂ ◌+◌ p.cycles (called-price ps.names ps.cycles coded.calls c.before.before.before.before.before.before.before.cycle-counts.ensures w j c.before.before.before.before.before.before.price-called.ensures.0);
-      words = ap₂ ◌+◌ p.words (called-price ps.names ps.words coded.calls c.before.before.before.before.before.word_counts.ensures w j c.before.before.before.before.price-called2.ensures.0);
+      operand = λ ns. to_z-of_z w32 o.result (search (o.type_inv, rules)) ∙ o.ensures ns ∙ ap (λ (v : List ℕ). operand (kind_at k) (argument_value ns v (kind_at k).argument)) w;
+      cycles = ap₂ ◌+◌ p.cycles (called-price ps.names ps.cycles coded.calls c.cycle_counts.ensures w j c.price_called-more_cycles.ensures.0);
+      words = ap₂ ◌+◌ p.words (called-price ps.names ps.words coded.calls c.word_counts.ensures w j c.price_called-more_words.ensures.0);
       extra = p.extra;
     } in
-    (entry-is ks xs ps text (kind_at k) _ _ _ _ _ r (ap kind_at (kind-is at_kind)), code-small ks xs ps text (kind_at k) _ _ _ _ _ r)
+    (entry-is ks xs ps text (kind_at k) _ _ _ _ _ r (ap kind_at (kind-is at_kind.before.before.before.before.before.before.before.before.before.before.before.before)), code-small ks xs ps text (kind_at k) _ _ _ _ _ r)
 
-pub entry-of-spec : {M : Type 1} → statement M
-entry-of-spec =
+pub entry_of_spec : {M : Type 1} → statement M
+entry_of_spec =
     tie.close
     (tie.spec
     (λ c κs. search rules)

@@ -17,35 +17,35 @@ use borrow.Author.Rules.{rules}
 use Rattle.file_parts.proofs.fill.Statement.{statement}
 use Rattle.file_parts.proofs.fill.Tie as tie
 
-abbrev invariant-loop : tie.invariant-loop
-invariant-loop values from start size filled₀ i₀ filled i =
+abbrev invariant-loop-i : tie.invariant-loop-i
+invariant-loop-i values from start size filled₀ i₀ filled i =
     (i ≤ size) × (length filled ≡ 128) × (take start filled ≡ take start filled₀) × (take i (drop start filled) ≡ take i (drop from (cells_of (list values))))
 
-abbrev decreases-loop : tie.decreases-loop
-decreases-loop values from start size filled₀ i₀ filled i = size - i
+abbrev decreases-loop-i : tie.decreases-loop-i
+decreases-loop-i values from start size filled₀ i₀ filled i = size - i
 
-loop-holds : tie.Need-loop-init invariant-loop decreases-loop
+loop-holds : tie.Need-loop-i-init invariant-loop-i decreases-loop-i
 loop-holds c = (omega arith, search (rules, length-images), refl, refl)
 
-add-cell-at : tie.Need-overflow-add-cell-at invariant-loop decreases-loop
-add-cell-at c = omega (arith, list_length c.before.before.before.args.values.now)
+add-cell-at : tie.Need-overflow_add-from invariant-loop-i decreases-loop-i
+add-cell-at c = omega (arith, list_length c.args.values.now)
 
-loop-again : tie.Need-loop-preserved invariant-loop decreases-loop
+loop-again : tie.Need-loop-i-preserved invariant-loop-i decreases-loop-i
 loop-again c =
-    let l = c.before.before.loop in
-    let start = c.before.before.before.before in
+    let l = c.loop-i in
+    let start = c in
     let cs = cells_of (list start.args.values.now) in
     let e = cells-length (list start.args.values.now) in (
       omega arith,
       rw length-set l.invariant.1,
       take-set-le start.args.start l.filled _ _ (omega arith) ∙ l.invariant.2,
-      fill-past l.filled cs start.args.start start.args.from l.i _ (exactly (pos 0)) (omega arith) (omega arith) c.Cell-at.ensures l.invariant.3,
+      fill-past l.filled cs start.args.start start.args.from l.i _ (exactly (pos 0)) (omega arith) (omega arith) c.cell_at-cell.ensures l.invariant.3,
     )
 
-returns : tie.Need-returns invariant-loop decreases-loop
+returns : tie.Need-returns invariant-loop-i decreases-loop-i
 returns c =
-    let l = c.before.loop in
-    let start = c.before.before.before in
+    let l = c.loop-i in
+    let start = c in
     let e : l.i ≡ start.args.size = omega arith in
     (l.invariant.2, rw e at l.invariant.3)
 
@@ -53,8 +53,8 @@ pub fill_spec : {M : Type 1} → statement M
 fill_spec =
     tie.close
     (tie.spec
-    invariant-loop
-    decreases-loop
+    invariant-loop-i
+    decreases-loop-i
     loop-holds
     add-cell-at
     (λ c κs. search rules)

@@ -10,24 +10,28 @@ use borrow.Author.Rules.{rules}
 use Rattle.file_parts.proofs.is_code.Statement.{statement}
 use Rattle.file_parts.proofs.is_code.Tie as tie
 
-returns : tie.Need-returns
+returns : tie.Need-returns-then-rest-eq0
 returns c =
-    let start = c.before.before.before in
-    left-none start.args.n (lines start.args.rest.now) (ap length (lines_none start.args.rest.now (omega (arith, c.if1.true))))
+    let start = c in
+    left-none start.args.n (lines start.args.rest.now) (ap length (lines_none start.args.rest.now (omega (arith, c.if-rest-eq0.true))))
 
-returns-2 : tie.Need-returns-2
+returns-2 : tie.Need-returns-then-n-eq0
 returns-2 c =
-    let start = c.before.before.before.before in
-    left-first start.args.n (lines start.args.rest.now) c.if2.true (lines-some start.args.rest.now (omega (arith, c.before.if1.false)))
+    let start = c in
+    left-first start.args.n (lines start.args.rest.now) c.if-n-eq0.true (lines-some start.args.rest.now (omega (arith, c.if-rest-eq0.false)))
 
 slice-aggregate-same : tie.Need-slice-aggregate-same
 slice-aggregate-same c = refl
 
-returns-3 : tie.Need-returns-3
+returns-3 : tie.Need-returns
 returns-3 c =
-    let start = c.before.before.before.before.before.before in
+    let start = c in
     ap not (c.same.ensures ∙ ap (λ w. equals w (bytes "ANSWER")) start.requires)
-    ∙ left-next start.args.n (lines start.args.rest.now) (λ e. omega (arith, c.before.before.if2.false)) (lines-some start.args.rest.now (omega (arith, c.before.before.before.if1.false)))
+    ∙ left-next start.args.n (lines start.args.rest.now) (λ e. omega (arith, c.if-n-eq0.false)) (lines-some start.args.rest.now (omega (arith, c.if-rest-eq0.false)))
 
-pub is-code-spec : {M : Type 1} → statement M
-is-code-spec = tie.close (tie.spec returns returns-2 slice-aggregate-same (λ c κs. search rules) returns-3)
+pub is_code_spec : {M : Type 1} → statement M
+is_code_spec = tie.close (tie.spec
+    returns
+    returns-2
+    (λ c κs. search rules)
+    returns-3)

@@ -6,7 +6,7 @@ use Rattle.file_parts.proofs.natural_at.Statement.{statement}
 use Rattle.file_parts.proofs.natural_at.Tie as tie
 
 returns : tie.Need-returns
-returns c = c.natural-of.ensures ∙ ap (natural_in c.before.before.before.args.range) c.before.listed_at.ensures
+returns c = c.natural_of.ensures ∙ ap (natural_in c.args.range) c.listed_at.ensures
 
-pub natural-at-spec : {M : Type 1} → statement M
-natural-at-spec = tie.close (tie.spec (λ c κs. search rules) (λ c κs. search rules) returns)
+pub natural_at_spec : {M : Type 1} → statement M
+natural_at_spec = tie.close (tie.spec (λ c κs. search rules) (λ c κs. search rules) returns)

@@ -18,37 +18,37 @@ use Rattle.file_parts.proofs.operand_of.Tie as tie
 takes : (start : tie.Start) {a : Argument} → start.args.takes ≡ a → (kind_at start.args.k).argument ≡ a
 takes start e = sym start.requires.1 ∙ e
 
-number-of-requires : tie.Need-number-of-requires
-number-of-requires c κs = addresses-fit _ (target-range c.range_at.ensures c.before.before.before.before.requires.1 c.before.enum-told2.given.1)
+number-of-requires : tie.Need-number_of-requires
+number-of-requires c κs = addresses-fit _ (target-range c.range_at.ensures c.requires.1 c.in-Target.is)
 
-number-of-requires-2 : tie.Need-number-of-requires-2
-number-of-requires-2 c κs = numbers_fit _ c.number-range.ensures
+number-of-requires-2 : tie.Need-number_of-requires-in-Within
+number-of-requires-2 c κs = numbers_fit _ c.number_range.ensures
 
-returns : tie.Need-returns
+returns : tie.Need-returns-in-Absent
 returns c =
-    let start = c.before.before.before.before in
-    λ ps. to_z-of_z w32 _ (search rules) ∙ c.fixed-at.ensures ∙ operand-absent (kind_at start.args.k) ps start.args.w.now (takes start c.before.enum_told.given.1)
+    let start = c in
+    λ ps. to_z-of_z w32 _ (search rules) ∙ c.fixed_at.ensures ∙ operand-absent (kind_at start.args.k) ps start.args.w.now (takes start.before.before.before c.in-Absent.is)
 
-returns-2 : tie.Need-returns-2
+returns-2 : tie.Need-returns-in-Target
 returns-2 c =
-    let start = c.before.before.before.before.before in
-    let q = c.before.before.enum-told2.given.1 in
-    λ ps. to_z-of_z w32 _ (search rules) ∙ c.number_of_lem.ensures ∙ ap (λ (r : Range). inside r (value start.args.w.now)) (target-range c.before.range_at.ensures start.requires.1 q)
-    ∙ operand-target (kind_at start.args.k) ps start.args.w.now (takes start q)
+    let start = c in
+    let q = c.in-Target.is in
+    λ ps. to_z-of_z w32 _ (search rules) ∙ c.number_of_lem.ensures ∙ ap (λ (r : Range). inside r (value start.args.w.now)) (target-range c.range_at.ensures start.requires.1 q)
+    ∙ operand-target (kind_at start.args.k) ps start.args.w.now (takes start.before.before.before.before q)
 
-returns-3 : tie.Need-returns-3
+returns-3 : tie.Need-returns-in-Primitive
 returns-3 c =
-    let start = c.before.before.before.before in
-    λ ps. to_z-of_z w32 _ (search rules) ∙ c.fixed-at2.ensures ∙ operand-primitive (kind_at start.args.k) ps start.args.w.now (takes start c.before.enum-told3.given.1)
+    let start = c in
+    λ ps. to_z-of_z w32 _ (search rules) ∙ c.fixed_at-in-Primitive.ensures ∙ operand-primitive (kind_at start.args.k) ps start.args.w.now (takes start.before.before.before c.in-Primitive.is)
 
-returns-4 : tie.Need-returns-4
+returns-4 : tie.Need-returns-in-Within
 returns-4 c =
-    let start = c.before.before.before.before.before in
-    λ ps. to_z-of_z w32 _ (search rules) ∙ c.number-of2.ensures ∙ ap (λ (r : Range). inside r (value start.args.w.now)) c.before.number-range.ensures
-    ∙ operand-within (kind_at start.args.k) ps start.args.w.now _ (takes start c.before.before.enum-told4.given.1)
+    let start = c in
+    λ ps. to_z-of_z w32 _ (search rules) ∙ c.number_of-in-Within.ensures ∙ ap (λ (r : Range). inside r (value start.args.w.now)) c.number_range.ensures
+    ∙ operand-within (kind_at start.args.k) ps start.args.w.now _ (takes start.before.before.before.before c.in-Within.is)
 
-pub operand-of-spec : {M : Type 1} → statement M
-operand-of-spec =
+pub operand_of_spec : {M : Type 1} → statement M
+operand_of_spec =
     tie.close
     (tie.spec
     (λ c. search rules)

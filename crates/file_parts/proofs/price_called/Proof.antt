@@ -6,14 +6,14 @@ use borrow.Author.Rules.{rules}
 use Rattle.file_parts.proofs.price_called.Statement.{statement}
 use Rattle.file_parts.proofs.price_called.Tie as tie
 
-natural-at-requires : tie.Need-natural-at-requires
-natural-at-requires c κs = price-natural _ c.before.before.requires
+natural-at-requires : tie.Need-natural_at-requires
+natural-at-requires c κs = price-natural _ c.requires
 
-returns : tie.Need-returns
+returns : tie.Need-returns-then-called
 returns c =
-    let start = c.before.before.before in
-    let h = natural-small start.args.range start.requires (list start.args.primitives.now) start.args.i c.natural-at.ensures in
-    (when_true c.before.if1.true c.natural-at.ensures, (let s = start.requires.small in omega arith))
+    let start = c in
+    let h = natural-small start.args.range start.requires (list start.args.primitives.now) start.args.i c.natural_at.ensures in
+    (when_true c.if-called.true c.natural_at.ensures, (let s = start.requires.small in omega arith))
 
-pub price-called-spec : {M : Type 1} → statement M
-price-called-spec = tie.close (tie.spec natural-at-requires returns (λ c. search rules))
+pub price_called_spec : {M : Type 1} → statement M
+price_called_spec = tie.close (tie.spec natural-at-requires returns (λ c. search rules))

@@ -12,13 +12,13 @@ use Rattle.file_parts.proofs.put_entry.Tie as tie
 
 returns : tie.Need-returns
 returns c =
-    let a = c.before.before.args in
+    let a = c.args in
     let e = a.entry in
-    let fitting : SFits w32 e.operand = search (c.before.struct_told.given, rules) in
-    ap (λ o. put_line a.code.now (11 + a.n * 5) e.code o e.cycles e.words e.extra) (c.word_of.ensures ∙ ap (residue 32) (to_z-of_z w32 e.operand fitting))
+    let fitting : SFits w32 e.operand = search (c.before.before.struct_told-1.given, rules) in
+    ap (λ o. put_line a.code.now (11 + a.n * 5) e.code o e.cycles e.words e.extra) (c.word_of-operand.ensures ∙ ap (residue 32) (to_z-of_z w32 e.operand fitting))
 
-pub put-entry-spec : {M : Type 1} → statement M
-put-entry-spec =
+pub put_entry_spec : {M : Type 1} → statement M
+put_entry_spec =
     tie.close
     (tie.spec
     (λ c. search rules)

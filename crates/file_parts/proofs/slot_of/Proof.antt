@@ -6,11 +6,11 @@ use borrow.Author.Rules.{rules}
 use Rattle.file_parts.proofs.slot_of.Statement.{statement}
 use Rattle.file_parts.proofs.slot_of.Tie as tie
 
-mul-result : tie.Need-overflow-mul-result
-mul-result c = let h = c.before.before.before.requires _ c.before.kind.given.1 in search rules
+mul-result : tie.Need-overflow_mul-result
+mul-result c = let h = c.requires _ c.in-At.is in search rules
 
-returns : tie.Need-returns
-returns c = arm slot_of c.before.kind.given.1 refl
+returns : tie.Need-returns-in-At
+returns c = arm slot_of c.in-At.is refl
 
-pub slot-of-spec : {M : Type 1} → statement M
-slot-of-spec = tie.close (tie.spec (λ c. search rules) mul-result (λ c. search rules) returns (λ c. search rules))
+pub slot_of_spec : {M : Type 1} → statement M
+slot_of_spec = tie.close (tie.spec (λ c. search rules) mul-result (λ c. search rules) returns (λ c. search rules))
