@@ -1,3 +1,4 @@
 pub mod PrintLaws
 pub mod GivenLaws
 pub mod ReadLaws
+pub mod WriteLaws

@@ -1,23 +1,10 @@
--- Laws of what a read answered. Assumes nothing.
-use Prim.Native.Nat.{ℕ, ◌<◌}
-use mathlib.Core.Path.{◌≡◌, refl, sym, ap}
-use mathlib.Core.Bool.{true, false, false≢true}
-use native.Mathlib.Omega.{arith}
-use lib.IntN.{ℤ, pos, negsuc}
-use lib.Signed.{non_neg, lt_z}
-use borrow.Author.Tests.{ltb-true}
-use Rattle.io.specs.Counts.{clamp_len}
+-- Laws of what is read. Assumes nothing.
+use Rattle.std.proofs.Common.{◌≡◌, ℕ, ◌+◌, ◌≤◌, List, ◌++◌, length, take, drop, ap, ◌∙◌, length-take-le}
+use borrow.Rule.Slice.PartMut.{put_mid, post_of, take_put}
+use lib.Seq.{take-add, take-append-le, drop_at}
 
--- it failed, or it did not
-pub is_negative : (z : ℤ) → lt_z z (pos 0) ≡ true → false ≡ non_neg z
-is_negative (pos n) e = absurd (omega (arith, ltb-true n 0 e))
-is_negative (negsuc n) e = refl
-
-pub is-natural : (z : ℤ) → lt_z z (pos 0) ≡ false → true ≡ non_neg z
-is-natural (pos n) e = refl
-is-natural (negsuc n) e = absurd (false≢true (sym e))
-
--- no byte came, though there was room
-pub at-end : (z : ℤ) (m room : ℕ) → lt_z z (pos 0) ≡ false → m ≡ clamp_len z room → m ≡ 0 → 0 < room → z ≡ pos 0
-at-end (pos n) m room e q h l = let k : n ≡ 0 = omega arith in ap pos k
-at-end (negsuc n) m room e q h l = absurd (false≢true (sym e))
+-- what is put at a is after the first a bytes
+pub take-put : (a k m : ℕ) (xs ys : List ℕ) → a ≤ length xs → m ≤ length ys → take (a + m) (put_mid a k xs ys) ≡ take a xs ++ take m ys
+take-put a k m xs ys h g =
+    take-add a m (put_mid a k xs ys) ∙ ap (λ l. l ++ take m (drop a (put_mid a k xs ys))) (take_put a k xs ys h)
+    ∙ ap (λ l. take a xs ++ take m l) (drop_at (take a xs) (ys ++ post_of a k xs) a (length-take-le a xs h)) ∙ ap (λ l. take a xs ++ l) (take-append-le m ys (post_of a k xs) g)

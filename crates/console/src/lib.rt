@@ -1,5 +1,9 @@
 // Input and output of the programs. What the bytes mean is in the crates below.
-ghost use Rattle.std.specs.Prelude.{◌≡◌, take};
+#![tactic(auto)]
+
+ghost use Rattle.std.specs.Prelude.{◌≡◌, ◌⊎◌, length, take};
+ghost use Rattle.std.specs.Io.KnownBytes.{Appends, Consumes, IsAtEnd};
+ghost use Rattle.std.specs.Bool.{OnTrue};
 ghost use Rattle.io.specs.Counts.{IsPrefixLen};
 ghost use Rattle.text_decimals.specs.Decimal.{numeral};
 ghost use Rattle.console.specs.HeldGiven.{given};
@@ -7,10 +11,13 @@ ghost use Rattle.console.specs.Read.{Whole};
 ghost use Rattle.console.specs.Line.{line, Held};
 
 use answers::Answer;
-use libc::{STDERR_FILENO, STDIN_FILENO, STDOUT_FILENO};
+use std::env::Env;
+use std::fs::Files;
+use std::io::{Read, Write};
+use std::{fs, str};
 use text_decimals::Numeral;
 
-// What was read: how many bytes came, whether that is a whole text, and what the last read answered.
+// What was read: how many bytes came, whether that is a whole text, and what the last read answered, -1 where it failed.
 #[derive(Clone, Copy)]
 pub struct Input {
     pub length: usize,
@@ -38,23 +45,42 @@ pub fn number_of(word: &[u8]) -> Given
     Given::Number(z as u32)
 }
 
-// Reads from a descriptor to its end, or until text is full. A read that fails ends it, and then the text is not whole.
-pub fn read_from(descriptor: i32, text: &mut [u8]) -> Input
+// Puts an argument of the program at the start of word, and answers its length, 0 for one that is missing, empty or longer.
+pub fn argument<E: Env>(rt: &E, i: usize, word: &mut [u8]) -> usize
+    ensures { IsPrefixLen result word.new }
+{
+    match rt.arg(i, word) {
+        Ok(n) => n,
+        Err(_) => 0,
+    }
+}
+
+// Opens the file at a path for reading, where it can be. A path that is not UTF-8 names no file.
+pub fn open<F: Files>(rt: &F, path: &[u8]) -> Option<F::File> {
+    let Ok(path) = str::from_utf8(path) else {
+        return None;
+    };
+    fs::open(rt, path).ok()
+}
+
+// Reads to the end, or until text is full. A read that fails ends it, and then the text is not whole.
+pub fn read_from<R: Read>(reader: &mut R, text: &mut [u8]) -> Input
     ensures prefix_len { IsPrefixLen result.length text.new }
     ensures whole { Whole result.length result.is_whole result.last text.new }
+    ensures bytes { Consumes (R.remaining reader.old) (R.remaining reader.new) (take result.length text.new) }
+    ensures end { OnTrue result.is_whole ((result.length ≡ length text.new) ⊎ IsAtEnd (R.remaining reader.new)) }
 {
     let mut n = 0;
     let mut last: isize = 0;
     while n < text.len() {
-        last = libc::read(descriptor, &mut text[n..]);
-        if last < 0 {
+        let Ok(more) = reader.read(&mut text[n..]) else {
             return Input {
                 length: n,
                 is_whole: false,
-                last: last,
+                last: -1,
             };
-        }
-        let more = io::count(last, &text[n..]);
+        };
+        last = more as isize;
         if more == 0 {
             break;
         }
@@ -68,28 +94,46 @@ pub fn read_from(descriptor: i32, text: &mut [u8]) -> Input
 }
 
 // Reads standard input likewise.
-pub fn read_text(text: &mut [u8]) -> Input
+pub fn read_text(rt: &HostRuntime, text: &mut [u8]) -> Input
     ensures prefix_len { IsPrefixLen result.length text.new }
     ensures whole { Whole result.length result.is_whole result.last text.new }
 {
-    read_from(STDIN_FILENO, text)
+    let mut input = rt.stdin();
+    read_from(&mut input, text)
+}
+
+// Writes all of bytes, or stops at the first write that takes nothing or fails.
+pub fn write_all<W: Write>(writer: &mut W, bytes: &[u8]) -> bool
+    ensures { OnTrue result (Appends (W.contents writer.old) (W.contents writer.new) bytes.now) }
+{
+    let mut n = 0;
+    while n < bytes.len() {
+        let Ok(taken) = writer.write(&bytes[n..]) else {
+            return false;
+        };
+        if taken == 0 {
+            return false;
+        }
+        n += taken;
+    }
+    true
 }
 
 // Says on standard error why there is no answer.
-pub fn say(message: &[u8]) {
-    io::write_all(STDERR_FILENO, message);
+pub fn say(rt: &HostRuntime, message: &[u8]) {
+    write_all(&mut rt.stderr(), message);
 }
 
 // Says on standard error that a read failed: a part of a text is given no answer.
-pub fn read_failed() {
-    say(b"the input could not be read\n");
+pub fn read_failed(rt: &HostRuntime) {
+    say(rt, b"the input could not be read\n");
 }
 
 // Writes all of bytes to standard output.
-pub fn write(bytes: &[u8]) {
-    let is_written = io::write_all(STDOUT_FILENO, bytes);
+pub fn write(rt: &HostRuntime, bytes: &[u8]) {
+    let is_written = write_all(&mut rt.stdout(), bytes);
     if !is_written {
-        say(b"the output could not be written\n");
+        say(rt, b"the output could not be written\n");
     }
 }
 

@@ -1,4 +1,6 @@
 // Prints the routine file of the seed that is the first argument, or a refusal.
+#![tactic(auto)]
+
 ghost use Rattle.std.specs.Prelude.{◌≡◌, ◌≤◌, length, take};
 ghost use Rattle.io.specs.Counts.{IsPrefixLen};
 ghost use Rattle.console.specs.Line.{printed};
@@ -16,16 +18,16 @@ fn answer(seed: u32, out: &mut [u8]) -> usize
     console::put_line(answer, out)
 }
 
-fn main() {
+fn main(rt: HostRuntime) {
     // an argument that is missing, empty or longer has the length 0
     let mut digits = [0u8; 10];
-    let n = os::arg(1, &mut digits);
+    let n = console::argument(&rt, 1, &mut digits);
     let seed = console::number_of(&digits[..n]);
     let Given::Number(s) = seed else {
-        console::say(b"generate SEED: SEED is no number of 32 bits\n");
+        console::say(&rt, b"generate SEED: SEED is no number of 32 bits\n");
         return;
     };
     let mut file = [0u8; 32768];
     let length = answer(s, &mut file);
-    console::write(&file[..length]);
+    console::write(&rt, &file[..length]);
 }

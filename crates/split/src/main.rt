@@ -1,9 +1,13 @@
 // Reads a routine file and the text of its cuts from the files that the two arguments name, and prints the report of the bound by cases, or a
 // refusal.
+#![tactic(auto)]
+
 ghost use Rattle.std.specs.Prelude.{◌≡◌, ◌≤◌, length, take};
 ghost use Rattle.io.specs.Counts.{IsPrefixLen};
 ghost use Rattle.console.specs.Line.{printed};
 ghost use Rattle.split_entry.specs.Answers.{split_answer};
+
+use std::fs::File;
 
 // Puts what is printed for a text and its cuts at the start of out, and answers how many bytes it is.
 fn answer(text: &[u8], cuts: &[u8], out: &mut [u8]) -> usize
@@ -16,49 +20,48 @@ fn answer(text: &[u8], cuts: &[u8], out: &mut [u8]) -> usize
 }
 
 // Prints the answer for the two files that are open.
-fn split_from(routine: i32, listed: i32) {
+fn split_from(rt: &HostRuntime, routine: &mut File, listed: &mut File) {
     // one byte more than a routine file may have, and one more than the cuts
     let mut text = [0u8; 32769];
     let of_routine = console::read_from(routine, &mut text);
     let mut cuts = [0u8; 4097];
     let of_cuts = console::read_from(listed, &mut cuts);
     if !of_routine.is_whole || !of_cuts.is_whole {
-        console::read_failed();
+        console::read_failed(rt);
         return;
     }
     let n = of_routine.length;
     let m = of_cuts.length;
     let mut report = [0u8; 128];
     let length = answer(&text[..n], &cuts[..m], &mut report);
-    console::write(&report[..length]);
+    console::write(rt, &report[..length]);
 }
 
 // Prints the answer for the routine file that is open, and for the cuts at a path.
-fn split_with(routine: i32, path: &[u8]) {
-    let listed = os::open_read(path);
-    if listed < 0 {
-        console::say(b"the file of the cuts could not be opened\n");
+fn split_with(rt: &HostRuntime, routine: &mut File, path: &[u8]) {
+    let Some(mut listed) = console::open(rt, path) else {
+        console::say(rt, b"the file of the cuts could not be opened\n");
         return;
-    }
-    split_from(routine, listed);
-    libc::close(listed);
+    };
+    split_from(rt, routine, &mut listed);
 }
 
-fn main() {
+fn main(rt: HostRuntime) {
     // an argument that is missing, empty or longer has the length 0
     let mut path = [0u8; 4095];
-    let named = os::arg(1, &mut path);
+    let named = console::argument(&rt, 1, &mut path);
     let mut second = [0u8; 4095];
-    let beside = os::arg(2, &mut second);
+    let beside = console::argument(&rt, 2, &mut second);
     if named == 0 || beside == 0 {
-        console::say(b"split ROUTINE CUTS: an argument is missing, empty or too long\n");
+        console::say(
+            &rt,
+            b"split ROUTINE CUTS: an argument is missing, empty or too long\n",
+        );
         return;
     }
-    let routine = os::open_read(&path[..named]);
-    if routine < 0 {
-        console::say(b"the routine file could not be opened\n");
+    let Some(mut routine) = console::open(&rt, &path[..named]) else {
+        console::say(&rt, b"the routine file could not be opened\n");
         return;
-    }
-    split_with(routine, &second[..beside]);
-    libc::close(routine);
+    };
+    split_with(&rt, &mut routine, &second[..beside]);
 }

@@ -3,51 +3,50 @@ use answers::Answer;
 use refusals::Refusal;
 
 // Prints the line of a refusal.
-fn print_refusal(refusal: Refusal) {
-    io::write_all(1, b"REFUSED ");
-    io::print_decimal(1, refusals::number(refusal));
-    io::write_all(1, b" ");
-    io::print_decimal(1, refusals::place(refusal));
-    io::write_all(1, b"\n");
+fn print_refusal(rt: &HostRuntime, refusal: Refusal) {
+    let number = refusals::number(refusal);
+    let place = refusals::place(refusal);
+    let _ = println!(rt; "REFUSED {number} {place}");
 }
 
 // Prints the first n bytes.
-fn print_report(n: usize, bytes: &[u8]) {
+fn print_report(rt: &HostRuntime, n: usize, bytes: &[u8]) {
     if n <= bytes.len() {
-        console::write(&bytes[..n]);
+        console::write(rt, &bytes[..n]);
     }
 }
 
 // Prints the report, which is at the start of bytes, or the line of the refusal.
-fn print(answer: Answer, bytes: &[u8]) {
+fn print(rt: &HostRuntime, answer: Answer, bytes: &[u8]) {
     match answer {
-        Answer::Reported(n) => print_report(n, bytes),
-        Answer::Refused(refusal) => print_refusal(refusal),
+        Answer::Reported(n) => print_report(rt, n, bytes),
+        Answer::Refused(refusal) => print_refusal(rt, refusal),
     }
 }
 
 // Prints the answer of the bound, then that of the run, with out lent for the report.
-fn show(text: &[u8], out: &mut [u8]) {
+fn show(rt: &HostRuntime, text: &[u8], out: &mut [u8]) {
     let bounded = bound_entry::bound(text, out);
-    print(bounded, out);
+    print(rt, bounded, out);
     let ran = run_entry::run(text, out);
-    print(ran, out);
+    print(rt, ran, out);
 }
 
 // Prints the name of a case and the answers to its text. The case lent_127 lends a byte too few.
-fn tell(name: &[u8], text: &[u8]) {
-    io::write_all(1, name);
-    io::write_all(1, b"\n");
+fn tell(rt: &HostRuntime, name: &[u8], text: &[u8]) {
+    let mut output = rt.stdout();
+    console::write_all(&mut output, name);
+    console::write_all(&mut output, b"\n");
     let mut report = [0u8; 128];
     if text::same(name, b"lent_127") {
-        show(text, &mut report[..127]);
+        show(rt, text, &mut report[..127]);
     } else {
-        show(text, &mut report);
+        show(rt, text, &mut report);
     }
 }
 
 // Tells of the first case, and answers how many bytes it takes; 0 where it is not whole.
-fn tell_case(cases: &[u8]) -> usize {
+fn tell_case(rt: &HostRuntime, cases: &[u8]) -> usize {
     let e = text::piece_length(cases, b'\n');
     if cases.len() <= e {
         return 0;
@@ -61,15 +60,15 @@ fn tell_case(cases: &[u8]) -> usize {
     if rest[n] != b'\n' {
         return 0;
     }
-    tell(text::word_at(line, 0), &rest[0..n]);
+    tell(rt, text::word_at(line, 0), &rest[0..n]);
     e + n + 2
 }
 
 // Tells of each case, up to the first that is not whole.
-pub fn tell_all(cases: &[u8]) {
+pub fn tell_all(rt: &HostRuntime, cases: &[u8]) {
     let mut at = 0;
     while at < cases.len() {
-        let size = tell_case(&cases[at..]);
+        let size = tell_case(rt, &cases[at..]);
         if size == 0 {
             return;
         }

@@ -1,4 +1,6 @@
 // Reads a routine file from standard input, and prints its run as a card would record it, or its refusal.
+#![tactic(auto)]
+
 ghost use Rattle.std.specs.Prelude.{◌≡◌, ◌≤◌, length, take};
 ghost use Rattle.io.specs.Counts.{IsPrefixLen};
 ghost use Rattle.trace_entry.specs.Answers.{trace_answer};
@@ -14,16 +16,16 @@ fn answer(text: &[u8], out: &mut [u8]) -> usize
     console::put_line(answer, out)
 }
 
-fn main() {
+fn main(rt: HostRuntime) {
     // one byte more than a routine file may have
     let mut text = [0u8; 32769];
-    let input = console::read_text(&mut text);
+    let input = console::read_text(&rt, &mut text);
     if !input.is_whole {
-        console::read_failed();
+        console::read_failed(&rt);
         return;
     }
     let n = input.length;
     let mut lines = [0u8; 32768];
     let length = answer(&text[..n], &mut lines);
-    console::write(&lines[..length]);
+    console::write(&rt, &lines[..length]);
 }
