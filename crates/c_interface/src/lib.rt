@@ -1,5 +1,5 @@
 // The public functions for C: each calls the function of its entry crate, and tells the answer as one number. The meaning is in specs/ of the
-// entry crates and of `c_answers`.
+// entry crates and of `c_answers`. `c_interface_c` exports each under its name.
 ghost use Rattle.std.specs.Prelude.{◌≡◌, length};
 ghost use Rattle.answers.specs.Answers.{memory_limit, memory, answer_of, Delivers};
 ghost use Rattle.report_theory.specs.Answers.{bound_answer, merge_answer, run_answer};
@@ -26,8 +26,7 @@ ghost use Rattle.generate_entry.specs.Answers.{generator_limit, generate_answer}
 ghost use Rattle.c_answers.specs.Told.{word_of, told_length, Tells, RefusesWord};
 
 // `bound_entry::bound` for C: see include/tickbound.h.
-#[unsafe(no_mangle)]
-pub extern "C" fn tickbound_bound(text: &[u8], out: &mut [u8]) -> u64
+pub fn tickbound_bound(text: &[u8], out: &mut [u8]) -> u64
     ensures value { result ≡ word_of (answer_of (bound_answer text.now (length out.old))) }
     ensures out_after { out.new ≡ memory (bound_answer text.now (length out.old)) out.old }
     ensures tells { Tells memory_limit (bound_answer text.now (length out.old)) result }
@@ -42,8 +41,7 @@ pub extern "C" fn tickbound_bound(text: &[u8], out: &mut [u8]) -> u64
 }
 
 // `merge_entry::merge` for C.
-#[unsafe(no_mangle)]
-pub extern "C" fn tickbound_merge(text: &[u8], out: &mut [u8]) -> u64
+pub fn tickbound_merge(text: &[u8], out: &mut [u8]) -> u64
     ensures value { result ≡ word_of (answer_of (merge_answer text.now (length out.old))) }
     ensures out_after { out.new ≡ memory (merge_answer text.now (length out.old)) out.old }
     ensures tells { Tells memory_limit (merge_answer text.now (length out.old)) result }
@@ -59,8 +57,7 @@ pub extern "C" fn tickbound_merge(text: &[u8], out: &mut [u8]) -> u64
 }
 
 // `run_entry::run` for C.
-#[unsafe(no_mangle)]
-pub extern "C" fn tickbound_run(text: &[u8], out: &mut [u8]) -> u64
+pub fn tickbound_run(text: &[u8], out: &mut [u8]) -> u64
     ensures value { result ≡ word_of (answer_of (run_answer text.now (length out.old))) }
     ensures out_after { out.new ≡ memory (run_answer text.now (length out.old)) out.old }
     ensures tells { Tells memory_limit (run_answer text.now (length out.old)) result }
@@ -73,8 +70,7 @@ pub extern "C" fn tickbound_run(text: &[u8], out: &mut [u8]) -> u64
 }
 
 // `words_entry::import` for C.
-#[unsafe(no_mangle)]
-pub extern "C" fn tickbound_import(words: &[u8], primitives: &[u8], out: &mut [u8]) -> u64
+pub fn tickbound_import(words: &[u8], primitives: &[u8], out: &mut [u8]) -> u64
     ensures value { result ≡ word_of (answer_of (import_answer words.now primitives.now (length out.old))) }
     ensures out_after { out.new ≡ memory (import_answer words.now primitives.now (length out.old)) out.old }
     ensures tells { Tells conversion_limit (import_answer words.now primitives.now (length out.old)) result }
@@ -84,8 +80,7 @@ pub extern "C" fn tickbound_import(words: &[u8], primitives: &[u8], out: &mut [u
 }
 
 // `words_entry::export` for C.
-#[unsafe(no_mangle)]
-pub extern "C" fn tickbound_export(text: &[u8], out: &mut [u8]) -> u64
+pub fn tickbound_export(text: &[u8], out: &mut [u8]) -> u64
     ensures value { result ≡ word_of (answer_of (export_answer text.now (length out.old))) }
     ensures out_after { out.new ≡ memory (export_answer text.now (length out.old)) out.old }
     ensures tells { Tells conversion_limit (export_answer text.now (length out.old)) result }
@@ -95,8 +90,7 @@ pub extern "C" fn tickbound_export(text: &[u8], out: &mut [u8]) -> u64
 }
 
 // `replay_entry::replay` for C.
-#[unsafe(no_mangle)]
-pub extern "C" fn tickbound_replay(text: &[u8], trace: &[u8], out: &mut [u8]) -> u64
+pub fn tickbound_replay(text: &[u8], trace: &[u8], out: &mut [u8]) -> u64
     ensures value { result ≡ word_of (answer_of (replay_answer text.now trace.now (length out.old))) }
     ensures out_after { out.new ≡ memory (replay_answer text.now trace.now (length out.old)) out.old }
     ensures tells { Tells memory_limit (replay_answer text.now trace.now (length out.old)) result }
@@ -107,8 +101,7 @@ pub extern "C" fn tickbound_replay(text: &[u8], trace: &[u8], out: &mut [u8]) ->
 }
 
 // `split_entry::split` for C.
-#[unsafe(no_mangle)]
-pub extern "C" fn tickbound_split(text: &[u8], cuts: &[u8], out: &mut [u8]) -> u64
+pub fn tickbound_split(text: &[u8], cuts: &[u8], out: &mut [u8]) -> u64
     ensures value { result ≡ word_of (answer_of (split_answer text.now cuts.now (length out.old))) }
     ensures out_after { out.new ≡ memory (split_answer text.now cuts.now (length out.old)) out.old }
     ensures tells { Tells memory_limit (split_answer text.now cuts.now (length out.old)) result }
@@ -124,13 +117,7 @@ pub extern "C" fn tickbound_split(text: &[u8], cuts: &[u8], out: &mut [u8]) -> u
 }
 
 // `preview_entry::preview` for C.
-#[unsafe(no_mangle)]
-pub extern "C" fn tickbound_preview(
-    text: &[u8],
-    address: u32,
-    instruction: &[u8],
-    out: &mut [u8],
-) -> u64
+pub fn tickbound_preview(text: &[u8], address: u32, instruction: &[u8], out: &mut [u8]) -> u64
     ensures value { result ≡ word_of (answer_of (preview_answer text.now address instruction.now (length out.old))) }
     ensures out_after { out.new ≡ memory (preview_answer text.now address instruction.now (length out.old)) out.old }
     ensures tells { Tells memory_limit (preview_answer text.now address instruction.now (length out.old)) result }
@@ -140,8 +127,7 @@ pub extern "C" fn tickbound_preview(
 }
 
 // `nearest_entry::nearest` for C.
-#[unsafe(no_mangle)]
-pub extern "C" fn tickbound_nearest(text: &[u8], out: &mut [u8]) -> u64
+pub fn tickbound_nearest(text: &[u8], out: &mut [u8]) -> u64
     ensures value { result ≡ word_of (answer_of (nearest_answer text.now (length out.old))) }
     ensures out_after { out.new ≡ memory (nearest_answer text.now (length out.old)) out.old }
     ensures tells { Tells memory_limit (nearest_answer text.now (length out.old)) result }
@@ -151,8 +137,7 @@ pub extern "C" fn tickbound_nearest(text: &[u8], out: &mut [u8]) -> u64
 }
 
 // `generate_entry::generate` for C.
-#[unsafe(no_mangle)]
-pub extern "C" fn tickbound_generate(seed: u32, out: &mut [u8]) -> u64
+pub fn tickbound_generate(seed: u32, out: &mut [u8]) -> u64
     ensures value { result ≡ word_of (answer_of (generate_answer seed (length out.old))) }
     ensures out_after { out.new ≡ memory (generate_answer seed (length out.old)) out.old }
     ensures tells { Tells generator_limit (generate_answer seed (length out.old)) result }
@@ -162,8 +147,7 @@ pub extern "C" fn tickbound_generate(seed: u32, out: &mut [u8]) -> u64
 }
 
 // `explain_entry::explain` for C.
-#[unsafe(no_mangle)]
-pub extern "C" fn tickbound_explain(text: &[u8], out: &mut [u8]) -> u64
+pub fn tickbound_explain(text: &[u8], out: &mut [u8]) -> u64
     ensures value { result ≡ word_of (answer_of (explain_answer text.now (length out.old))) }
     ensures out_after { out.new ≡ memory (explain_answer text.now (length out.old)) out.old }
     ensures tells { Tells explanation_limit (explain_answer text.now (length out.old)) result }
@@ -173,8 +157,7 @@ pub extern "C" fn tickbound_explain(text: &[u8], out: &mut [u8]) -> u64
 }
 
 // `explain_merge_entry::explain_merge` for C.
-#[unsafe(no_mangle)]
-pub extern "C" fn tickbound_explain_merge(text: &[u8], out: &mut [u8]) -> u64
+pub fn tickbound_explain_merge(text: &[u8], out: &mut [u8]) -> u64
     ensures value { result ≡ word_of (answer_of (explain_merge_answer text.now (length out.old))) }
     ensures out_after { out.new ≡ memory (explain_merge_answer text.now (length out.old)) out.old }
     ensures tells { Tells explanation_limit (explain_merge_answer text.now (length out.old)) result }
@@ -184,8 +167,7 @@ pub extern "C" fn tickbound_explain_merge(text: &[u8], out: &mut [u8]) -> u64
 }
 
 // `decide_entry::decide` for C.
-#[unsafe(no_mangle)]
-pub extern "C" fn tickbound_decide(text: &[u8], out: &mut [u8]) -> u64
+pub fn tickbound_decide(text: &[u8], out: &mut [u8]) -> u64
     ensures value { result ≡ word_of (answer_of (decide_answer text.now (length out.old))) }
     ensures out_after { out.new ≡ memory (decide_answer text.now (length out.old)) out.old }
     ensures tells { Tells memory_limit (decide_answer text.now (length out.old)) result }
@@ -198,8 +180,7 @@ pub extern "C" fn tickbound_decide(text: &[u8], out: &mut [u8]) -> u64
 }
 
 // `decide_split_entry::decide_split` for C.
-#[unsafe(no_mangle)]
-pub extern "C" fn tickbound_decide_split(text: &[u8], cuts: &[u8], out: &mut [u8]) -> u64
+pub fn tickbound_decide_split(text: &[u8], cuts: &[u8], out: &mut [u8]) -> u64
     ensures value { result ≡ word_of (answer_of (decide_split_answer text.now cuts.now (length out.old))) }
     ensures out_after { out.new ≡ memory (decide_split_answer text.now cuts.now (length out.old)) out.old }
     ensures tells { Tells memory_limit (decide_split_answer text.now cuts.now (length out.old)) result }
@@ -211,8 +192,7 @@ pub extern "C" fn tickbound_decide_split(text: &[u8], cuts: &[u8], out: &mut [u8
 }
 
 // `trace_entry::trace` for C.
-#[unsafe(no_mangle)]
-pub extern "C" fn tickbound_trace(text: &[u8], out: &mut [u8]) -> u64
+pub fn tickbound_trace(text: &[u8], out: &mut [u8]) -> u64
     ensures value { result ≡ word_of (answer_of (trace_answer text.now (length out.old))) }
     ensures out_after { out.new ≡ memory (trace_answer text.now (length out.old)) out.old }
     ensures tells { Tells trace_memory (trace_answer text.now (length out.old)) result }
