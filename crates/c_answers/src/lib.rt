@@ -1,4 +1,6 @@
 // An answer told to C as one number. The meaning is in specs/.
+#![tactic(auto)]
+
 ghost use Rattle.std.specs.Prelude.{◌≡◌};
 ghost use Rattle.answers.specs.declared.Answer.TheVariants.{Refused};
 ghost use Rattle.c_answers.specs.Told.{word_of};

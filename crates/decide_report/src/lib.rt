@@ -1,4 +1,6 @@
 // What is decided of a routine, and by which bound, put into lent memory. The meaning is in specs/.
+#![tactic(auto)]
+
 ghost use Rattle.std.specs.Prelude.{◌≡◌, ◌++◌, ◌+◌, ◌≤◌, length, drop};
 ghost use Rattle.text_decimals.specs.Memory.{over};
 ghost use Rattle.decide_report.specs.Decision.{decision_words, decision_text};

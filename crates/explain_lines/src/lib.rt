@@ -1,4 +1,6 @@
 // The lines of a walk, written into lent memory. The meaning is in specs/.
+#![tactic(auto)]
+
 ghost use Rattle.std.specs.Prelude.{◌≡◌, ◌+◌, ◌-◌, ◌≤◌, length, get_or, drop};
 ghost use Rattle.text.specs.Text.{no_line, lines};
 ghost use Rattle.text_decimals.specs.Memory.{over};

@@ -1,4 +1,6 @@
 // The costliest way of the merging bound: found backwards from STOP, and its lines written into lent memory. The meaning is in specs/.
+#![tactic(auto)]
+
 ghost use Rattle.std.specs.Prelude.{◌≡◌, [], ℕ, ◌+◌, ◌≤◌, ◌<◌, length, drop};
 ghost use Rattle.text.specs.Text.{lines};
 ghost use Rattle.text_decimals.specs.Memory.{over};

@@ -1,4 +1,6 @@
 // One step of the walk along a path. The meaning is in specs/.
+#![tactic(auto)]
+
 ghost use Rattle.std.specs.Prelude.{◌≡◌};
 ghost use Rattle.machine_state.specs.HeldProgram.{program_of, sizes_of, IsProgram};
 ghost use Rattle.machine_state.specs.HeldState.{WellFormed};

@@ -1,4 +1,6 @@
 // The rows of the refusal table over the lines of a text. The meaning is in specs/.
+#![tactic(auto)]
+
 ghost use Rattle.std.specs.Prelude.{◌≡◌, true, ◌&&◌, List, ◌⊎◌, ℕ, ◌≤◌, length};
 ghost use Rattle.text.specs.Text.{Line, lines, place_among, among};
 ghost use Rattle.text.specs.declared.Place.TheVariants.{At};

@@ -1,4 +1,6 @@
 // The one way in: whether a text is read by an entry point, where so many bytes are lent. The meaning is in specs/.
+#![tactic(auto)]
+
 ghost use Rattle.std.specs.Prelude.{◌≡◌};
 ghost use Rattle.file_check.specs.HeldChecks.{read_by, check_of};
 ghost use Rattle.file_entry.specs.Held.{admitted};

@@ -1,4 +1,6 @@
 // The reader: the routine of a text that passes the rows of the refusal table. The meaning is in specs/.
+#![tactic(auto)]
+
 ghost use Rattle.text.specs.Text.{lines};
 ghost use Rattle.file_format.specs.Rows.{Passes};
 ghost use Rattle.file_format.specs.Routine.{routine_of};

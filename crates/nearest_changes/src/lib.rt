@@ -1,4 +1,6 @@
 // The cells of a start by their places in the file, and one of them changed. The meaning is in specs/.
+#![tactic(auto)]
+
 ghost use Rattle.std.specs.Prelude.{◌≡◌, ◌≤◌, ◌<◌, length};
 ghost use Rattle.machine_state.specs.HeldProgram.{sizes_of, IsProgram};
 ghost use Rattle.machine_state.specs.HeldState.{view, WellFormed, blocks_of, whole};

@@ -1,4 +1,6 @@
 // The nearest number that moves the bound, on texts and lent memory. The meaning is in specs/.
+#![tactic(auto)]
+
 ghost use Rattle.std.specs.Prelude.{◌≡◌, ◌++◌, ◌+◌, ◌≤◌, length, drop};
 ghost use Rattle.text_decimals.specs.Memory.{over};
 ghost use Rattle.file_reader.specs.HeldRoutine.{Limited};

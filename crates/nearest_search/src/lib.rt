@@ -1,5 +1,7 @@
 // The search for the nearest number that moves the bound: each trial changes one cell of the start and explores again. The meaning is in
 // specs/.
+#![tactic(auto)]
+
 ghost use Rattle.std.specs.Prelude.{◌≡◌, ◌<◌};
 ghost use Rattle.machine_state.specs.HeldState.{whole};
 ghost use Rattle.machine_state.specs.HeldProgram.{program_of, sizes_of};

@@ -1,4 +1,6 @@
 // The replay on texts and lent memory. The meaning is in specs/.
+#![tactic(auto)]
+
 ghost use Rattle.std.specs.Prelude.{◌≡◌, ◌++◌, ◌≤◌, length, drop};
 ghost use Rattle.text.specs.Text.{lines};
 ghost use Rattle.file_reader.specs.HeldRoutine.{Limited};

@@ -1,4 +1,6 @@
 // The replay of a card's trace on the plain machine. The meaning is in specs/.
+#![tactic(auto)]
+
 ghost use Rattle.std.specs.Prelude.{◌≡◌, cond, suc, ◌+◌, ◌≤◌, ◌<◌, length};
 ghost use Rattle.text.specs.Text.{is_empty, lines};
 ghost use Rattle.machine_state.specs.HeldProgram.{program_of, sizes_of, IsProgram};

@@ -1,4 +1,6 @@
 // The printed report and the line of a refusal, written into lent memory. The meaning is in specs/.
+#![tactic(auto)]
+
 ghost use Rattle.std.specs.Prelude.{◌≡◌, ◌++◌, ◌+◌, ◌≤◌, length, drop};
 ghost use Rattle.text_decimals.specs.Memory.{over};
 ghost use Rattle.answers.specs.Answers.{memory, answer_of};

@@ -49,7 +49,7 @@ module _ (ls : List Line) where
       go nowhere q h ih = later q (ih h)
       go (line n) q h ih = let k : r ≡ c.refusal n = cc in this q k
 
-  first-checked : {cs : List Check} {r : Refusal} → FirstRow ls r cs → checked cs ls ≡ readings.unread r
+  first-checked : {r : Refusal} {cs : List Check} → FirstRow ls r cs → checked cs ls ≡ readings.unread r
   unfolding checked or_else
   first-checked (this q e) = rw (q, e) refl
   first-checked (later q f) = rw q (first-checked f)

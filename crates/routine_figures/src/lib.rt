@@ -1,4 +1,6 @@
 // The bound, the merging bound and the run of a routine that was read: its arrays lent to the loops. Entry points share them.
+#![tactic(auto)]
+
 ghost use Rattle.std.specs.Prelude.{◌≡◌};
 ghost use Rattle.bound_theory.specs.Tree.{bound};
 ghost use Rattle.bound_theory.specs.Run.{run};

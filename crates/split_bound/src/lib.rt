@@ -1,5 +1,7 @@
 // The bound by cases: cells of a start are cut at numbers, each case is bounded by merging, and the largest figures are reported. The meaning
 // is in the specs of `split_theory`.
+#![tactic(auto)]
+
 ghost use Rattle.std.specs.Prelude.{◌≡◌, ◌≤◌, ◌<◌};
 ghost use Rattle.machine_state.specs.HeldProgram.{program_of, sizes_of, IsProgram};
 ghost use Rattle.machine_state.specs.HeldState.{WellFormed, whole};

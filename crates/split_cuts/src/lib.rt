@@ -1,4 +1,6 @@
 // The text of the cuts: its refusals, and the cuts that it lists. The meaning is in specs/.
+#![tactic(auto)]
+
 ghost use Rattle.std.specs.Prelude.{◌≡◌, ◌++◌, ◌≤◌, length, get_or};
 ghost use Rattle.text.specs.Text.{lines, no_line};
 ghost use Rattle.file_format.specs.Layout.{list};

@@ -1,4 +1,6 @@
 // The import and the export on lent memory. The meaning is in specs/.
+#![tactic(auto)]
+
 ghost use Rattle.std.specs.Prelude.{◌≡◌, length};
 ghost use Rattle.answers.specs.Answers.{memory, answer_of};
 ghost use Rattle.words_entry.specs.Answers.{import_answer, export_answer};

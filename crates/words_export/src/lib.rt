@@ -1,4 +1,6 @@
 // The export: the code of a routine file to the compiler's words. The meaning is in specs/ of `words`.
+#![tactic(auto)]
+
 ghost use Rattle.std.specs.Prelude.{◌≡◌, List, ◌++◌, ℕ, suc, ◌+◌, ◌*◌, ◌≤◌, ◌<◌, pos, nat_abs, ◌-ℤ◌, length, get_or, take, drop};
 ghost use Rattle.text.specs.Text.{no_line, lines, find};
 ghost use Rattle.text_decimals.specs.Memory.{over};

@@ -6,13 +6,13 @@ use borrow.Author.Rules.{rules}
 use Rattle.c_answers.proofs.word_of.Statement.{statement}
 use Rattle.c_answers.proofs.word_of.Tie as tie
 
-returns : tie.Need-returns
-returns c = word-reported _ _ c.before.answer.given.1
+returns : tie.Need-returns-in-Reported
+returns c = word-reported _ _ c.in-Reported.is
 
-returns-2 : tie.Need-returns-2
-returns-2 c = arm word_of c.before.before.answer2.given.1 c.refusal-word.ensures
+returns-2 : tie.Need-returns-in-Refused
+returns-2 c = arm word_of c.in-Refused.is c.refusal_word.ensures
 
-pub word-of-spec : {M : Type 1} → statement M
-word-of-spec =
+pub word_of_spec : {M : Type 1} → statement M
+word_of_spec =
     tie.close
     (tie.spec (λ c. search rules) (λ c. search rules) (λ c κs. search rules) returns returns-2)

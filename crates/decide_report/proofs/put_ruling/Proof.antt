@@ -9,88 +9,82 @@ use Rattle.decide_report.proofs.put_ruling.Tie as tie
 
 put-requires : tie.Need-put-requires
 put-requires c κs =
-    let s = c.before.before.before.before.before.before in
-    let e = words-over s.args.source s.args.tick s.args.cycles c.before.before.before.enum_told.given.1 c.before.before.if1.true in
+    let s = c in
+    let e = words-over s.args.source s.args.tick s.args.cycles c.in-First.is c.if-tick-cycles.true in
     omega (arith, s.requires, ap length e)
 
-put-requires-2 : tie.Need-put-requires-2
+put-requires-2 : tie.Need-put-requires-else-tick-cycles
 put-requires-2 c κs =
-    let s = c.before.before.before.before.before.before in
-    let e = words-fit-first s.args.source s.args.tick s.args.cycles c.before.before.before.enum_told.given.1 c.before.before.if1.false in
+    let s = c in
+    let e = words-fit-first s.args.source s.args.tick s.args.cycles c.in-First.is c.if-tick-cycles.false in
     omega (arith, s.requires, ap length e)
 
-put-requires-3 : tie.Need-put-requires-3
+put-requires-3 : tie.Need-put-requires-then-tick-cycles-2
 put-requires-3 c κs =
-    let s = c.before.before.before.before.before.before in
-    let e = words-undecided s.args.source s.args.tick s.args.cycles c.before.before.before.enum-told2.given.1 c.before.before.if2.true in
+    let s = c in
+    let e = words-undecided s.args.source s.args.tick s.args.cycles c.in-Merging.is c.if-tick-cycles-2.true in
     omega (arith, s.requires, ap length e)
 
-put-requires-4 : tie.Need-put-requires-4
+put-requires-4 : tie.Need-put-requires-else-tick-cycles-2
 put-requires-4 c κs =
-    let s = c.before.before.before.before.before.before in
-    let e = words-fit-merging s.args.source s.args.tick s.args.cycles c.before.before.before.enum-told2.given.1 c.before.before.if2.false in
+    let s = c in
+    let e = words-fit-merging s.args.source s.args.tick s.args.cycles c.in-Merging.is c.if-tick-cycles-2.false in
     omega (arith, s.requires, ap length e)
 
-put-requires-5 : tie.Need-put-requires-5
+put-requires-5 : tie.Need-put-requires-then-tick-cycles-3
 put-requires-5 c κs =
-    let s = c.before.before.before.before.before.before in
-    let e = words-undecided-split s.args.source s.args.tick s.args.cycles c.before.before.before.enum-told3.given.1 c.before.before.if3.true in
+    let s = c in
+    let e = words-undecided-split s.args.source s.args.tick s.args.cycles c.in-Split.is c.if-tick-cycles-3.true in
     omega (arith, s.requires, ap length e)
 
-put-requires-6 : tie.Need-put-requires-6
+put-requires-6 : tie.Need-put-requires-else-tick-cycles-3
 put-requires-6 c κs =
-    let s = c.before.before.before.before.before.before in
-    let e = words-fit-split s.args.source s.args.tick s.args.cycles c.before.before.before.enum-told3.given.1 c.before.before.if3.false in
+    let s = c in
+    let e = words-fit-split s.args.source s.args.tick s.args.cycles c.in-Split.is c.if-tick-cycles-3.false in
     omega (arith, s.requires, ap length e)
 
-returns : tie.Need-returns
+returns : tie.Need-returns-then-tick-cycles
 returns c =
-    let s = c.before.before.before.before.before.before.before.before.before in
-    rw (words-over s.args.source s.args.tick s.args.cycles c.before.before.before.before.before.before.enum_told.given.1 c.before.before.before.before.before.if1.true) c.before.before.put.ensures
+    let s = c in
+    rw (words-over s.args.source s.args.tick s.args.cycles c.in-First.is c.if-tick-cycles.true) c.put.ensures
 
-returns-2 : tie.Need-returns-2
+returns-2 : tie.Need-returns-else-tick-cycles
 returns-2 c =
-    let s = c.before.before.before.before.before.before.before.before.before in
-    rw (words-fit-first s.args.source s.args.tick s.args.cycles c.before.before.before.before.before.before.enum_told.given.1 c.before.before.before.before.before.if1.false) c.before.before.put2.ensures
+    let s = c in
+    rw (words-fit-first s.args.source s.args.tick s.args.cycles c.in-First.is c.if-tick-cycles.false) c.put-else-tick-cycles.ensures
 
-returns-3 : tie.Need-returns-3
+returns-3 : tie.Need-returns-then-tick-cycles-2
 returns-3 c =
-    let s = c.before.before.before.before.before.before.before.before.before in
-    rw (words-undecided s.args.source s.args.tick s.args.cycles c.before.before.before.before.before.before.enum-told2.given.1 c.before.before.before.before.before.if2.true) c.before.before.put3.ensures
+    let s = c in
+    rw (words-undecided s.args.source s.args.tick s.args.cycles c.in-Merging.is c.if-tick-cycles-2.true) c.put-then-tick-cycles-2.ensures
 
-returns-4 : tie.Need-returns-4
+returns-4 : tie.Need-returns-else-tick-cycles-2
 returns-4 c =
-    let s = c.before.before.before.before.before.before.before.before.before in
-    rw (words-fit-merging s.args.source s.args.tick s.args.cycles c.before.before.before.before.before.before.enum-told2.given.1 c.before.before.before.before.before.if2.false) c.before.before.put4.ensures
+    let s = c in
+    rw (words-fit-merging s.args.source s.args.tick s.args.cycles c.in-Merging.is c.if-tick-cycles-2.false) c.put-else-tick-cycles-2.ensures
 
-returns-5 : tie.Need-returns-5
+returns-5 : tie.Need-returns-then-tick-cycles-3
 returns-5 c =
-    let s = c.before.before.before.before.before.before.before.before.before in
-    rw (words-undecided-split s.args.source s.args.tick s.args.cycles c.before.before.before.before.before.before.enum-told3.given.1 c.before.before.before.before.before.if3.true) c.before.before.put5.ensures
+    let s = c in
+    rw (words-undecided-split s.args.source s.args.tick s.args.cycles c.in-Split.is c.if-tick-cycles-3.true) c.put-then-tick-cycles-3.ensures
 
-returns-6 : tie.Need-returns-6
+returns-6 : tie.Need-returns-else-tick-cycles-3
 returns-6 c =
-    let s = c.before.before.before.before.before.before.before.before.before in
-    rw (words-fit-split s.args.source s.args.tick s.args.cycles c.before.before.before.before.before.before.enum-told3.given.1 c.before.before.before.before.before.if3.false) c.before.before.put6.ensures
+    let s = c in
+    rw (words-fit-split s.args.source s.args.tick s.args.cycles c.in-Split.is c.if-tick-cycles-3.false) c.put-else-tick-cycles-3.ensures
 
-pub put-ruling-spec : {M : Type 1} → statement M
-put-ruling-spec =
+pub put_ruling_spec : {M : Type 1} → statement M
+put_ruling_spec =
     tie.close
     (tie.spec
     (λ c. search rules)
-    (λ c. search rules)
     put-requires
-    (λ c. search rules)
     put-requires-2
     (λ c. search rules)
-    (λ c. search rules)
     put-requires-3
-    (λ c. search rules)
     put-requires-4
     (λ c. search rules)
-    (λ c. search rules)
     put-requires-5
-    (λ c. search rules)
     put-requires-6
     (λ c. search rules)
     returns

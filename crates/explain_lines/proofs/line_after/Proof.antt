@@ -4,18 +4,18 @@ use Rattle.explain_lines.proofs.CursorLaws.{after_more, after_none}
 use Rattle.explain_lines.proofs.line_after.Statement.{statement}
 use Rattle.explain_lines.proofs.line_after.Tie as tie
 
-returns : tie.Need-returns
+returns : tie.Need-returns-then-e-rest
 returns c =
-    let s = c.before.before.before.before in
-    (search rules, after_more s.args.body.now s.args.byte s.requires c.before.piece-length.result c.before.piece-length.ensures c.if1.true)
+    let s = c in
+    (search rules, after_more s.args.body.now s.args.byte s.requires c.piece_length-e.result c.piece_length-e.ensures c.if-e-rest.true)
 
-returns-2 : tie.Need-returns-2
+returns-2 : tie.Need-returns
 returns-2 c =
-    let s = c.before.before.before.before in
-    (search rules, after_none s.args.body.now s.args.byte s.requires c.before.piece-length.result c.before.piece-length.ensures c.if1.false)
+    let s = c in
+    (search rules, after_none s.args.body.now s.args.byte s.requires c.piece_length-e.result c.piece_length-e.ensures c.if-e-rest.false)
 
-pub line-after-spec : {M : Type 1} → statement M
-line-after-spec =
+pub line_after_spec : {M : Type 1} → statement M
+line_after_spec =
     tie.close
     (tie.spec
     (λ c. search rules)

@@ -6,7 +6,7 @@ use Rattle.explain_lines.proofs.line_under.Statement.{statement}
 use Rattle.explain_lines.proofs.line_under.Tie as tie
 
 returns : tie.Need-returns
-returns c = c.first-line.ensures ∙ stands-under c.before.before.before.requires
+returns c = c.first_line.ensures ∙ stands-under c.requires
 
-pub line-under-spec : {M : Type 1} → statement M
-line-under-spec = tie.close (tie.spec (λ c. search rules) (λ c. search rules) (λ c. search rules) (λ c κs. search rules) returns)
+pub line_under_spec : {M : Type 1} → statement M
+line_under_spec = tie.close (tie.spec (λ c. search rules) (λ c. search rules) (λ c. search rules) (λ c κs. search rules) returns)

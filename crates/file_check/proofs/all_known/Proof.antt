@@ -7,7 +7,7 @@ use Rattle.file_check.proofs.all_known.Tie as tie
 
 returns : tie.Need-returns
 unfolding all_known word_test
-returns c = c.cells-pass.ensures
+returns c = c.cells_pass.ensures
 
-pub all-known-spec : {M : Type 1} → statement M
-all-known-spec = tie.close (tie.spec (λ c κs. search rules) returns)
+pub all_known_spec : {M : Type 1} → statement M
+all_known_spec = tie.close (tie.spec (λ c κs. search rules) returns)

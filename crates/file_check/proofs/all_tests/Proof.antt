@@ -19,5 +19,5 @@ each b Known = refl
 returns : tie.Need-returns
 returns c = each c.args.passes
 
-pub all-tests-spec : {M : Type 1} → statement M
-all-tests-spec = tie.close (tie.spec returns)
+pub all_tests_spec : {M : Type 1} → statement M
+all_tests_spec = tie.close (tie.spec returns)

@@ -2,18 +2,17 @@
 use mathlib.Core.Path.{sym, ap₂}
 use mathlib.Core.Bool.{◌&&◌}
 use Rattle.file_lines.proofs.LineLaws.{and-stop}
-use Rattle.file_check.proofs.ArmLaws.{not-true, not-false}
 use Rattle.file_check.proofs.all_three.Statement.{statement}
 use Rattle.file_check.proofs.all_three.Tie as tie
 
-returns : tie.Need-returns
-returns c = let a = c.before.args in and-stop a.ended a.filled a.laid (not-true a.ended c.if1.true)
+returns : tie.Need-returns-then-not-ended
+returns c = let a = c.args in and-stop a.ended a.filled a.laid (c.if-not-ended.true)
 
-returns-2 : tie.Need-returns-2
-returns-2 c = let a = c.before.before.args in sym (ap₂ (λ x y. x && y && a.laid) (not-false a.ended c.before.if1.false) c.if2.true)
+returns-2 : tie.Need-returns-then-filled
+returns-2 c = let a = c.args in sym (ap₂ (λ x y. x && y && a.laid) (c.if-not-ended.false) c.if-filled.true)
 
-returns-3 : tie.Need-returns-3
-returns-3 c = let a = c.before.before.args in sym (ap₂ (λ x y. x && y && a.laid) (not-false a.ended c.before.if1.false) c.if2.false)
+returns-3 : tie.Need-returns-else-filled
+returns-3 c = let a = c.args in sym (ap₂ (λ x y. x && y && a.laid) (c.if-not-ended.false) c.if-filled.false)
 
-pub all-three-spec : {M : Type 1} → statement M
-all-three-spec = tie.close (tie.spec returns returns-2 returns-3)
+pub all_three_spec : {M : Type 1} → statement M
+all_three_spec = tie.close (tie.spec returns returns-2 returns-3)

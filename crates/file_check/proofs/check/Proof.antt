@@ -8,22 +8,22 @@ use borrow.Author.Rules.{rules}
 use Rattle.file_check.proofs.check.Statement.{statement}
 use Rattle.file_check.proofs.check.Tie as tie
 
-returns : tie.Need-returns
-returns c = check-long _ _ c.if1.true
+returns : tie.Need-returns-then-text-gt32768
+returns c = check-long _ _ c.if-text-gt32768.true
 
-check-rows-requires : tie.Need-check-rows-requires
+check-rows-requires : tie.Need-check_rows-requires
 check-rows-requires c κs =
-    let found = c.before.before.before.before.before in
-    let placed = c.before.before.before.before.before.before.before.before.before.before.before.before in
-    let short = placed.before.if1.false in
-    let eight : length found.blocks_named.result.sizes ≡ 8 = search (found.blocks_named.type-inv, rules, length-images) in
-    (short, (context-found _ _ _ _ _ short c.before.before.before.before.before.before.before.before.before.before.line-in.ensures c.before.before.before.before.before.before.before.before.line-in2.ensures c.before.before.before.before.before.before.line-in3.ensures _ found.blocks_named.ensures eight c.before.before.before.body-in.ensures _ _ c.before.before.address_first.ensures c.before.count_code.ensures, placed.starts-of.ensures))
+    let found = c in
+    let placed = c in
+    let short = placed.if-text-gt32768.false in
+    let eight : length found.blocks_named-named.result.sizes ≡ 8 = search (found.blocks_named-named.type_inv, rules, length-images) in
+    (short, (context-found _ _ _ _ _ short c.line_in-kinds.ensures c.line_in-primitives.ensures c.line_in-fields.ensures _ found.blocks_named-named.ensures eight c.body_in-body.ensures _ _ c.first_address-first.ensures c.count_code-count.ensures, placed.starts_of-places.ensures))
 
-returns-2 : tie.Need-returns-2
-returns-2 c = c.check-rows.ensures
+returns-2 : tie.Need-returns
+returns-2 c = c.check_rows.ensures
 
-pub check-spec : {M : Type 1} → statement M
-check-spec =
+pub check_spec : {M : Type 1} → statement M
+check_spec =
     tie.close
     (tie.spec
     returns

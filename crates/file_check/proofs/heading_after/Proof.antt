@@ -6,17 +6,17 @@ use borrow.Author.Rules.{rules}
 use Rattle.file_check.proofs.heading_after.Statement.{statement}
 use Rattle.file_check.proofs.heading_after.Tie as tie
 
-returns : tie.Need-returns
+returns : tie.Need-returns-then-heading-gt0
 unfolding heading_after
-returns c = rw (lt-ltb 0 c.before.before.args.heading c.if1.true)
+returns c = rw (lt-ltb 0 c.args.heading c.if-heading-gt0.true)
 
-returns-2 : tie.Need-returns-2
+returns-2 : tie.Need-returns-then-is_heading
 unfolding heading_after
-returns-2 c = rw (le-ltb 0 c.before.before.before.before.args.heading c.before.before.if1.false, sym c.before.is-heading.ensures ∙ c.if2.true)
+returns-2 c = rw (le-ltb 0 c.args.heading c.if-heading-gt0.false, sym c.is_heading.ensures ∙ c.if-is_heading.true)
 
-returns-3 : tie.Need-returns-3
+returns-3 : tie.Need-returns-else-is_heading
 unfolding heading_after
-returns-3 c = rw (le-ltb 0 c.before.before.before.before.args.heading c.before.before.if1.false, sym c.before.is-heading.ensures ∙ c.if2.false)
+returns-3 c = rw (le-ltb 0 c.args.heading c.if-heading-gt0.false, sym c.is_heading.ensures ∙ c.if-is_heading.false)
 
-pub heading-after-spec : {M : Type 1} → statement M
-heading-after-spec = tie.close (tie.spec returns (λ c κs. search rules) returns-2 returns-3)
+pub heading_after_spec : {M : Type 1} → statement M
+heading_after_spec = tie.close (tie.spec returns (λ c κs. search rules) returns-2 returns-3)

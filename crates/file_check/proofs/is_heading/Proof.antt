@@ -7,13 +7,16 @@ use borrow.Author.Rules.{rules}
 use Rattle.file_check.proofs.is_heading.Statement.{statement}
 use Rattle.file_check.proofs.is_heading.Tie as tie
 
-returns : tie.Need-returns
+returns : tie.Need-returns-then-i-gt-LINES
 unfolding is_heading
-returns c = rw (lt-ltb (length layout) c.before.before.before.before.args.i c.before.before.if1.true) c.same.ensures
+returns c = rw (lt-ltb (length layout) c.args.i c.if-i-gt-LINES.true) c.same.ensures
 
-returns-2 : tie.Need-returns-2
+returns-2 : tie.Need-returns
 unfolding is_heading
-returns-2 c = rw (le-ltb (length layout) c.before.before.args.i c.if1.false)
+returns-2 c = rw (le-ltb (length layout) c.args.i c.if-i-gt-LINES.false)
 
-pub is-heading-spec : {M : Type 1} → statement M
-is-heading-spec = tie.close (tie.spec (λ c. search rules) (λ c κs. search rules) returns returns-2)
+pub is_heading_spec : {M : Type 1} → statement M
+is_heading_spec = tie.close (tie.spec
+    (λ c κs. search rules)
+    returns
+    returns-2)

@@ -4,8 +4,8 @@ use borrow.Author.Rules.{rules}
 use Rattle.file_check.proofs.is_priced.Statement.{statement}
 use Rattle.file_check.proofs.is_priced.Tie as tie
 
-returns-2 : tie.Need-returns-2
-returns-2 c = (λ e. never c.before.before.before.args.due c.if1.false e, c.before.before.before.requires.1)
+returns-2 : tie.Need-returns
+returns-2 c = (λ e. never c.args.due c.if-due.false e, c.requires.1)
 
-pub is-priced-spec : {M : Type 1} → statement M
-is-priced-spec = tie.close (tie.spec (λ c κs. search rules) (λ c. search rules) returns-2)
+pub is_priced_spec : {M : Type 1} → statement M
+is_priced_spec = tie.close (tie.spec (λ c κs. search rules) (λ c. search rules) returns-2)

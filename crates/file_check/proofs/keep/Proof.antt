@@ -22,7 +22,7 @@ each e r t n l g a p o f k Forward = f
 each e r t n l g a p o f k Known = k
 
 returns : tie.Need-returns
-returns c = each _ _ _ _ c.before.before.before.before.before.before.earlier.ensures c.before.before.before.before.before.earlier2.ensures c.before.before.before.before.earlier3.ensures c.before.before.before.earlier4.ensures c.before.before.earlier5.ensures c.before.earlier6.ensures c.earlier7.ensures
+returns c = each _ _ _ _ c.earlier-layout.ensures c.earlier-range.ensures c.earlier-name.ensures c.earlier-price.ensures c.earlier-target.ensures c.earlier-forward.ensures c.earlier-known.ensures
 
 pub keep_spec : {M : Type 1} → statement M
 keep_spec =

@@ -7,24 +7,24 @@ use borrow.Author.Rules.{rules}
 use Rattle.file_check.proofs.laid_out.Statement.{statement}
 use Rattle.file_check.proofs.laid_out.Tie as tie
 
-returns : tie.Need-returns
+returns : tie.Need-returns-in-Names
 unfolding is_laid_out
-returns c = let a = c.before.before.before.before.before.before.args in arm (λ o. is_laid_out (lines a.text.now) o a.line.now) c.before.before.role.given.1 c.names-laid-out.ensures
+returns c = let a = c.args in arm (λ o. is_laid_out (lines a.text.now) o a.line.now) c.in-Names.is c.names_laid_out.ensures
 
-returns-2 : tie.Need-returns-2
+returns-2 : tie.Need-returns-in-Values
 returns-2 c =
-    let a = c.before.before.before.before.before.before.before.args in
-    arm (λ o. is_laid_out (lines a.text.now) o a.line.now) c.before.before.before.role2.given.1 (laid-values (lines a.text.now) a.line.now _ _ _ _ c.before.line-in.ensures c.values-laid-out.ensures)
+    let a = c.args in
+    arm (λ o. is_laid_out (lines a.text.now) o a.line.now) c.in-Values.is (laid-values (lines a.text.now) a.line.now _ _ _ _ c.line_in.ensures c.values_laid_out.ensures)
 
-returns-3 : tie.Need-returns-3
-returns-3 c = code_other _ _ c.enum_told.given.1 c.before.before.before.before.requires.0
+returns-3 : tie.Need-returns-in-Code
+returns-3 c = code_other _ _ c.in-Code.is c.requires.0
 
-returns-4 : tie.Need-returns-4
+returns-4 : tie.Need-returns-in-Answer
 unfolding is_laid_out
-returns-4 c = let a = c.before.before.before.before.before.before.args in arm (λ o. is_laid_out (lines a.text.now) o a.line.now) c.before.before.role3.given.1 c.answer-laid-out.ensures
+returns-4 c = let a = c.args in arm (λ o. is_laid_out (lines a.text.now) o a.line.now) c.in-Answer.is c.answer_laid_out.ensures
 
-pub laid-out-spec : {M : Type 1} → statement M
-laid-out-spec =
+pub laid_out_spec : {M : Type 1} → statement M
+laid_out_spec =
     tie.close
     (tie.spec
     (λ c. search rules)

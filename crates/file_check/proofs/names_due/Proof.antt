@@ -4,8 +4,8 @@ use borrow.Author.Rules.{rules}
 use Rattle.file_check.proofs.names_due.Statement.{statement}
 use Rattle.file_check.proofs.names_due.Tie as tie
 
-returns-2 : tie.Need-returns-2
-returns-2 c = λ e. never c.before.before.args.due c.before.if1.false e
+returns-2 : tie.Need-returns
+returns-2 c = λ e. never c.args.due c.if-due.false e
 
-pub names-due-spec : {M : Type 1} → statement M
-names-due-spec = tie.close (tie.spec (λ c. search rules) (λ c. search rules) returns-2)
+pub names_due_spec : {M : Type 1} → statement M
+names_due_spec = tie.close (tie.spec (λ c. search rules) (λ c. search rules) returns-2)

@@ -18,5 +18,5 @@ each Known = refl
 returns : tie.Need-returns
 returns c = each
 
-pub none-refused-spec : {M : Type 1} → statement M
-none-refused-spec = tie.close (tie.spec returns)
+pub none_refused_spec : {M : Type 1} → statement M
+none_refused_spec = tie.close (tie.spec returns)

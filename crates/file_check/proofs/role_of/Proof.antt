@@ -10,29 +10,29 @@ use borrow.Author.Rules.{rules}
 use Rattle.file_check.proofs.role_of.Statement.{statement}
 use Rattle.file_check.proofs.role_of.Tie as tie
 
-returns : tie.Need-returns
+returns : tie.Need-returns-then-i-lt-LINES
 unfolding role_of
-returns c = rw (lt-ltb c.before.before.before.args.i (length layout) c.before.if1.true) c.role-at.ensures
+returns c = rw (lt-ltb c.args.i (length layout) c.if-i-lt-LINES.true) c.role_at.ensures
 
-sub-t5 : tie.Need-overflow-sub-t5
-sub-t5 c = let h = heading-before _ _ c.before.before.before.requires c.if2.true in omega arith
+sub-t5 : tie.Need-overflow_sub-result
+sub-t5 c = let h = heading-before _ _ c.requires c.if-heading-gt0.true in omega arith
 
-sub-t6 : tie.Need-overflow-sub-t6
-sub-t6 c = let h = heading-before _ _ c.before.before.before.requires c.if2.true in omega arith
+sub-t6 : tie.Need-overflow_sub-result-then-heading-gt0
+sub-t6 c = let h = heading-before _ _ c.requires c.if-heading-gt0.true in omega arith
 
-returns-2 : tie.Need-returns-2
+returns-2 : tie.Need-returns-then-heading-gt0
 unfolding role_of
-returns-2 c = rw (le-ltb c.before.before.before.args.i (length layout) c.before.if1.false, lt-ltb 0 c.before.before.before.args.heading c.if2.true)
+returns-2 c = rw (le-ltb c.args.i (length layout) c.if-i-lt-LINES.false, lt-ltb 0 c.args.heading c.if-heading-gt0.true)
 
-returns-3 : tie.Need-returns-3
+returns-3 : tie.Need-returns-then-is_heading
 unfolding role_of
-returns-3 c = rw (le-ltb c.before.before.before.before.before.args.i (length layout) c.before.before.before.if1.false, le-ltb 0 c.before.before.before.before.before.args.heading c.before.before.if2.false, sym c.before.is-heading.ensures ∙ c.if3.true)
+returns-3 c = rw (le-ltb c.args.i (length layout) c.if-i-lt-LINES.false, le-ltb 0 c.args.heading c.if-heading-gt0.false, sym c.is_heading.ensures ∙ c.if-is_heading.true)
 
-returns-4 : tie.Need-returns-4
+returns-4 : tie.Need-returns
 unfolding role_of
-returns-4 c = rw (le-ltb c.before.before.before.before.before.args.i (length layout) c.before.before.before.if1.false, le-ltb 0 c.before.before.before.before.before.args.heading c.before.before.if2.false, sym c.before.is-heading.ensures ∙ c.if3.false)
+returns-4 c = rw (le-ltb c.args.i (length layout) c.if-i-lt-LINES.false, le-ltb 0 c.args.heading c.if-heading-gt0.false, sym c.is_heading.ensures ∙ c.if-is_heading.false)
 
-pub role-of-spec : {M : Type 1} → statement M
-role-of-spec =
+pub role_of_spec : {M : Type 1} → statement M
+role_of_spec =
     tie.close
     (tie.spec (λ c κs. search rules) returns sub-t5 sub-t6 returns-2 (λ c κs. search rules) returns-3 returns-4)

@@ -56,8 +56,8 @@ loop-again c =
     let text = i.args.text.now in
     let h : l.n < 64 = omega (arith, below i.before.before.before.before, i.requires) in
     let v =
-    to_z-of_z w32 c.before.number_of_lem.result (search rules)
-    ∙ c.before.number_of_lem.ensures
+    to_z-of_z w32 c.number_of-v.result (search rules)
+    ∙ c.number_of-v.ensures
     ∙ ap₂ (λ (r : Range) (w : List ℕ). inside r (value w)) c.number_range.ensures c.first_line-line.ensures
     ∙ line-is answer (lines text) (lines l.rest.now) l.n l.invariant.2 in (
       omega arith,

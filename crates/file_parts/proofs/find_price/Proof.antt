@@ -99,7 +99,7 @@ returns-2 c =
     let e = at.slot_of-slot.ensures in
     let f = c.is_kept.ensures in
     let i = kinds-at.index_listed-i.ensures ∙ ap (λ w. find w (list a.kinds.now)) kinds-at.op_in.ensures in
-    let p = price-found (prices_on a.kinds.now a.cycles.now a.words.now) (list a.extras.now) (op a.text.now) a.cut.kind q kinds-at.index_of.ensures c.before.before.before.before.before.before.before.code_of_lem.ensures i c.cycle_counts.ensures c.natural_at.ensures c.word_counts.ensures c.natural_at-2.ensures c.extra_counts.ensures c.natural_at-3.ensures in
+    let p = price-found (prices_on a.kinds.now a.cycles.now a.words.now) (list a.extras.now) (op a.text.now) a.cut.kind q kinds-at.index_of.ensures c.code_of-code.ensures i c.cycle_counts.ensures c.natural_at.ensures c.word_counts.ensures c.natural_at-2.ensures c.extra_counts.ensures c.natural_at-3.ensures in
     (e, (price-put _ _ _ s _ _ q e _ _ _ _ _ f p, kept_put _ _ _ s _ _ q e _ _ _ _ _ f p))
 
 pub find_price_spec : {M : Type 1} → statement M

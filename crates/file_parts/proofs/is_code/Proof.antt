@@ -1,5 +1,5 @@
 -- `file_parts::is_code` meets its contract. Assumes nothing.
-use mathlib.Core.Path.{refl, ap, ◌∙◌}
+use mathlib.Core.Path.{ap, ◌∙◌}
 use mathlib.Core.Bool.{not}
 use native.Mathlib.Omega.{arith}
 use lib.ListN.{length}
@@ -19,9 +19,6 @@ returns-2 : tie.Need-returns-then-n-eq0
 returns-2 c =
     let start = c in
     left-first start.args.n (lines start.args.rest.now) c.if-n-eq0.true (lines-some start.args.rest.now (omega (arith, c.if-rest-eq0.false)))
-
-slice-aggregate-same : tie.Need-slice-aggregate-same
-slice-aggregate-same c = refl
 
 returns-3 : tie.Need-returns
 returns-3 c =

@@ -33,7 +33,7 @@ returns-2 : tie.Need-returns-in-Target
 returns-2 c =
     let start = c in
     let q = c.in-Target.is in
-    λ ps. to_z-of_z w32 _ (search rules) ∙ c.number_of_lem.ensures ∙ ap (λ (r : Range). inside r (value start.args.w.now)) (target-range c.range_at.ensures start.requires.1 q)
+    λ ps. to_z-of_z w32 _ (search rules) ∙ c.number_of.ensures ∙ ap (λ (r : Range). inside r (value start.args.w.now)) (target-range c.range_at.ensures start.requires.1 q)
     ∙ operand-target (kind_at start.args.k) ps start.args.w.now (takes start.before.before.before.before q)
 
 returns-3 : tie.Need-returns-in-Primitive

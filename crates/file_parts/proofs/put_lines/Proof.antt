@@ -90,7 +90,7 @@ module _ (c : tie.In-loop-kinds invariant-loop-kinds decreases-loop-kinds) where
   among = omega (arith, at.loop-kinds.invariant.3, some, code-among (lines start.args.body.now))
 
 slice-aggregate-cut-code : tie.Need-slice_bounds-cut_code-end invariant-loop-kinds decreases-loop-kinds
-slice-aggregate-cut-code c = let t = (tables (at c.before.before.before).before.before).before.before.before in search (t.all_names-table.ok, t.all_names-table.ensures, rules)
+slice-aggregate-cut-code c = let t = (tables (at c.before.before.before).before.before).before.before.before in search (t.all_names-table.type_inv, t.all_names-table.ensures, rules)
 
 cut-code-requires : tie.Need-cut_code-cut-requires invariant-loop-kinds decreases-loop-kinds
 cut-code-requires c κs =

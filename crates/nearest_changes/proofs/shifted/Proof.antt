@@ -8,30 +8,30 @@ use borrow.Author.Rules.{rules}
 use Rattle.nearest_changes.proofs.shifted.Statement.{statement}
 use Rattle.nearest_changes.proofs.shifted.Tie as tie
 
-cast-result : tie.Need-overflow-cast-result
-cast-result c = let s = c.before in cast_fits s.args.v s.ranges.v
+cast-result : tie.Need-overflow_cast-result
+cast-result c = let s = c in cast_fits s.args.v s.ranges.v
 
-add-result : tie.Need-overflow-add-result
-add-result c = let s = c.before in amount-fits ◌+ℤ◌ sum_fits s.args.v s.ranges.v s.args.n s.requires
+add-result : tie.Need-overflow_add-result
+add-result c = let s = c in amount-fits ◌+ℤ◌ sum_fits s.args.v s.ranges.v s.args.n s.requires
 
-returns : tie.Need-returns
+returns : tie.Need-returns-then-d-eq1
 returns c =
-    let s = c.before in
-    amount-read ◌+ℤ◌ sum_fits s.args.v s.ranges.v s.args.n s.requires ∙ sym (shift-up s.args.d s.args.n s.args.v c.if1.true)
+    let s = c in
+    amount-read ◌+ℤ◌ sum_fits s.args.v s.ranges.v s.args.n s.requires ∙ sym (shift-up s.args.d s.args.n s.args.v c.if-d-eq1.true)
 
-cast-result-3 : tie.Need-overflow-cast-result-3
-cast-result-3 c = let s = c.before in cast_fits s.args.v s.ranges.v
+cast-result-3 : tie.Need-overflow_cast-result-2
+cast-result-3 c = let s = c in cast_fits s.args.v s.ranges.v
 
-sub-result : tie.Need-overflow-sub-result
-sub-result c = let s = c.before in amount-fits ◌-ℤ◌ difference-fits s.args.v s.ranges.v s.args.n s.requires
+sub-result : tie.Need-overflow_sub-result
+sub-result c = let s = c in amount-fits ◌-ℤ◌ difference-fits s.args.v s.ranges.v s.args.n s.requires
 
-returns-2 : tie.Need-returns-2
+returns-2 : tie.Need-returns
 returns-2 c =
-    let s = c.before in
-    amount-read ◌-ℤ◌ difference-fits s.args.v s.ranges.v s.args.n s.requires ∙ sym (shift-down s.args.d s.args.n s.args.v c.if1.false)
+    let s = c in
+    amount-read ◌-ℤ◌ difference-fits s.args.v s.ranges.v s.args.n s.requires ∙ sym (shift-down s.args.d s.args.n s.args.v c.if-d-eq1.false)
 
-pub shifted-spec : {M : Type 1} → statement M
-shifted-spec =
+pub shifted_spec : {M : Type 1} → statement M
+shifted_spec =
     tie.close
     (tie.spec
     cast-result

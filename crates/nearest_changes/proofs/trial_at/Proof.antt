@@ -11,55 +11,54 @@ use Rattle.nearest_changes.specs.Changes.{number_at}
 use Rattle.nearest_changes.specs.Held.{of_single, shift}
 use Rattle.nearest_changes.proofs.TrialLaws.{cast_fits, cast_is, trial-none, trial-out, trial-in}
 use borrow.Author.Rules.{rules}
-use borrow.Author.Tests.{not-true, not-false}
 use Rattle.nearest_changes.proofs.trial_at.Statement.{statement}
 use Rattle.nearest_changes.proofs.trial_at.Tie as tie
 
-returns : tie.Need-returns
+returns : tie.Need-returns-in_default
 returns c =
-    let s = c.before.before.before.before in
-    trial-none _ s.args.j _ c.before.before.before.position-of.ensures (sym (ap of_single c.enum_told.given.1) ∙ c.before.before.number_at.ensures)
+    let s = c in
+    trial-none _ s.args.j _ c.position_of-p.ensures (sym (ap of_single c.in_default.is) ∙ c.number_at-held.ensures)
 
 -- the place that was found
-abbrev placed : tie.After-known-told → tie.After-position-of
-placed c = c.before.before.before.before
+abbrev placed : tie.In-Number → tie.After-position_of-p
+placed c = c.before.before
 
 -- the number that the cell holds, and what it is changed to
-holds : (c : tie.After-known-told) →
+holds : (c : tie.In-Number) →
     let q = placed c in
-    let s = q.before in
-    done c.before.held.given.0.0 ≡ number_at q.position-of.result (whole (sizes_of s.args.code.now) s.args.blocks s.args.start)
-holds c = sym (ap of_single c.before.held.given.1) ∙ c.before.before.before.number_at.ensures
+    let s = q in
+    done c.in-Number.n ≡ number_at q.position_of-p.result (whole (sizes_of s.args.code.now) s.args.blocks s.args.start)
+holds c = sym (ap of_single c.in-Number.is) ∙ c.number_at-held.ensures
 
-changed : (c : tie.After-shifted) →
-    let j = (placed c.before).before.args.j in
-    c.shifted.result ≡ shift (j % 2) (j / 2 / 193 + 1) c.before.before.held.given.0.0
+changed : (c : tie.After-shifted-v) →
+    let j = (placed c.before).args.j in
+    c.shifted-v.result ≡ shift (j % 2) (j / 2 / 193 + 1) c.in-Number.n
 changed c =
-    let j = (placed c.before).before.args.j in
-    c.shifted.ensures ∙ ap (shift (j % 2) (j / 2 / 193 + 1)) (to_z-of_z w32 c.before.before.held.given.0.0 (search rules))
+    let j = (placed c.before).args.j in
+    c.shifted-v.ensures ∙ ap (shift (j % 2) (j / 2 / 193 + 1)) (to_z-of_z w32 c.in-Number.n (search rules))
 
 -- the test is that of the range
-tested : (c : tie.After-within) → within numbers c.before.before.shifted.result ≡ c.within.result
-tested c = sym (c.within.ensures ∙ ap₂ within c.before.number-range.ensures (to_z-of_z w64 c.before.before.shifted.result (search rules)))
+tested : (c : tie.After-within) → within numbers c.shifted-v.result ≡ c.within.result
+tested c = sym (c.within.ensures ∙ ap₂ within c.number_range.ensures (to_z-of_z w64 c.shifted-v.result (search rules)))
 
-returns-2 : tie.Need-returns-2
+returns-2 : tie.Need-returns-then-not-within
 returns-2 c =
-    let moved = c.before.before.before in
-    let q = placed moved.before in
-    trial-out _ q.before.args.j _ q.position-of.ensures _ _ (holds moved.before) (changed moved) (tested c.before ∙ not-true _ c.if1.true)
+    let moved = c in
+    let q = placed moved.before.before.before.before in
+    trial-out _ q.args.j _ q.position_of-p.ensures _ _ (holds moved.before.before.before.before) (changed moved.before.before.before) (tested c.before ∙ c.if-not-within.true)
 
-cast-t15 : tie.Need-overflow-cast-t15
-cast-t15 c = cast_fits c.before.before.before.shifted.result (search rules) (tested c.before ∙ not-false _ c.if1.false)
+cast-t15 : tie.Need-overflow_cast-result
+cast-t15 c = cast_fits c.shifted-v.result (search rules) (tested c.before ∙ c.if-not-within.false)
 
-returns-3 : tie.Need-returns-3
+returns-3 : tie.Need-returns
 returns-3 c =
-    let moved = c.before.before.before in
-    let q = placed moved.before in
-    let w = tested c.before ∙ not-false _ c.if1.false in
-    trial-in _ q.before.args.j _ q.position-of.ensures _ _ (holds moved.before) (changed moved) _ w (cast_is moved.shifted.result (search rules) w)
+    let moved = c in
+    let q = placed moved.before.before.before.before in
+    let w = tested c.before ∙ c.if-not-within.false in
+    trial-in _ q.args.j _ q.position_of-p.ensures _ _ (holds moved.before.before.before.before) (changed moved.before.before.before) _ w (cast_is moved.shifted-v.result (search rules) w)
 
-pub trial-at-spec : {M : Type 1} → statement M
-trial-at-spec =
+pub trial_at_spec : {M : Type 1} → statement M
+trial_at_spec =
     tie.close
     (tie.spec
     (λ c κs. search rules)

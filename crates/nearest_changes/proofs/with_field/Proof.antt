@@ -16,64 +16,64 @@ use borrow.Author.Rules.{rules}
 use Rattle.nearest_changes.proofs.with_field.Statement.{statement}
 use Rattle.nearest_changes.proofs.with_field.Tie as tie
 
-places : (s : tie.Start) → length s.args.t3 ≡ 128
+places : (s : tie.Start) → length s.args.blocks ≡ 128
 places s = search (rules, length-images)
 
-fits : (s : tie.Start) → Fits (sizes_of s.args.code.now) s.args.t3
-fits s = fits_all s.args.code.now s.requires.0 s.args.t3 (places s)
+fits : (s : tie.Start) → Fits (sizes_of s.args.code.now) s.args.blocks
+fits s = fits_all s.args.code.now s.requires.0 s.args.blocks (places s)
 
 -- the slot that was found
-found : (c : tie.After-known-told2)
-    → let at_p = c.before.before.before.before.before.before in
-    slot (sizes_of at_p.before.before.args.code.now) (handle at_p.p.given.0.0) at_p.p.given.0.1.0 ≡ done c.before.field.given.0.0
+found : (c : tie.In-At)
+    → let at_p = c in
+    slot (sizes_of at_p.args.code.now) (handle at_p.in-Field.k) at_p.in-Field.n ≡ done c.in-At.j
 found c =
-    let at-handle = c.before.before.before.before in
-    let at_p = at-handle.before.before in
-    let start = at_p.before.before in
-    ap (λ h. slot (sizes_of start.args.code.now) h at_p.p.given.0.1.0) (sym at-handle.handle.ensures) ∙ sym c.before.before.before.slot_of.ensures ∙ ap of_slot c.before.field.given.1
+    let at-handle = c in
+    let at_p = at-handle in
+    let start = at_p in
+    ap (λ h. slot (sizes_of start.args.code.now) h at_p.in-Field.n) (sym at-handle.handle.ensures) ∙ sym c.slot_of-field.ensures ∙ ap of_slot c.in-At.is
 
-within : (c : tie.After-known-told2) → c.before.field.given.0.0 < 128
+within : (c : tie.In-At) → c.in-At.j < 128
 within c =
-    let c1 = c.before.before.before.before in
-    let s = c1.before.before.before.before in
-    omega (arith, slot-in _ s.args.t3 s.args.start (fits s) _ _ _ (found c), places s)
+    let c1 = c in
+    let s = c1 in
+    omega (arith, slot-in _ s.args.blocks s.args.start (fits s.before.before.before.before) _ _ _ (found c), places s.before.before.before.before)
 
-enum_told : tie.Need-enum-told
+enum_told : tie.Need-enum_told-1
 enum_told c = search rules
 
-returns : tie.Need-returns
+returns : tie.Need-returns-in_default
 returns c =
-    let at_p = c.before.before.before.before.before in
-    let s = at_p.before.before in
-    let e = ap (λ h. slot (sizes_of s.args.code.now) h at_p.p.given.0.1.0) (sym c.before.before.before.handle.ensures) ∙ sym c.before.before.slot_of.ensures ∙ ap of_slot c.enum-told3.given.1 in
-    field-present (sizes_of s.args.code.now) s.args.t3 s.args.start (fits s) _ _ (subst (λ q. Present q (whole (sizes_of s.args.code.now) s.args.t3 s.args.start)) at_p.p.given.1 s.requires.2) e
+    let at_p = c in
+    let s = at_p in
+    let e = ap (λ h. slot (sizes_of s.args.code.now) h at_p.in-Field.n) (sym c.handle.ensures) ∙ sym c.slot_of-field.ensures ∙ ap of_slot c.in_default.is in
+    field-present (sizes_of s.args.code.now) s.args.blocks s.args.start (fits s.before.before.before.before) _ _ (subst (λ q. Present q (whole (sizes_of s.args.code.now) s.args.blocks s.args.start)) at_p.in-Field.is s.requires.2) e
 
-mul-blocks : tie.Need-overflow-mul-blocks
+mul-blocks : tie.Need-offset_bounds-blocks-j
 mul-blocks c = omega (arith, within c)
 
-array-set-from-blocks : tie.Need-array-set-from-blocks
+array-set-from-blocks : tie.Need-bounds-blocks-j
 array-set-from-blocks c = within c
 
-returns-2 : tie.Need-returns-2
+returns-2 : tie.Need-returns-in-Accu
 returns-2 c =
-    let s = c.before.before in
-    (accu-blocks (sizes_of s.args.code.now) s.args.t3 s.args.start _ s.args.c c.enum_told.given.1, refl)
+    let s = c in
+    (accu-blocks (sizes_of s.args.code.now) s.args.blocks s.args.start _ s.args.c c.in-Accu.is, refl)
 
-returns-3 : tie.Need-returns-3
+returns-3 : tie.Need-returns-in-Entry
 returns-3 c =
-    let s = c.before.before in
-    (entry-blocks (sizes_of s.args.code.now) s.args.t3 s.args.start _ s.args.c _ c.enum-told2.given.1, refl)
+    let s = c in
+    (entry-blocks (sizes_of s.args.code.now) s.args.blocks s.args.start _ s.args.c _ c.in-Entry.is, refl)
 
-returns-4 : tie.Need-returns-4
+returns-4 : tie.Need-returns-in-At
 returns-4 c =
-    let at_p = c.before.before.before.before.before.before in
-    let s = at_p.before.before in
-    let j = c.before.field.given.0.0 in
-    let w = whole (sizes_of s.args.code.now) s.args.t3 s.args.start in
-    (field-set (sizes_of s.args.code.now) s.args.t3 s.args.start (fits s) _ _ j s.args.c (found c) ∙ ap (λ q. (replace_at q s.args.c w).blocks) (sym at_p.p.given.1), length-set s.args.t3 j s.args.c)
+    let at_p = c in
+    let s = at_p in
+    let j = c.in-At.j in
+    let w = whole (sizes_of s.args.code.now) s.args.blocks s.args.start in
+    (field-set (sizes_of s.args.code.now) s.args.blocks s.args.start (fits s.before.before.before.before) _ _ j s.args.c (found c) ∙ ap (λ q. (replace_at q s.args.c w).blocks) (sym at_p.in-Field.is), length-set s.args.blocks j s.args.c)
 
-pub with-field-spec : {M : Type 1} → statement M
-with-field-spec =
+pub with_field_spec : {M : Type 1} → statement M
+with_field_spec =
     tie.close
     (tie.spec
     enum_told

@@ -34,31 +34,29 @@ fits s = s.requires
 abbrev w0 : (s : tie.Start) → At 0 0 s.args.out.now
 w0 s = begins-first s (fits s)
 
-abbrev w1 : (c : tie.After-put-name) → At 1 c.put-name.result c.put-name.new.0
-w1 c = next (w0 c.before.before.before) c.put-name.ensures
+abbrev w1 : (c : tie.After-put_name-a) → At 1 c.put_name-a.result c.put_name-a.new.out
+w1 c = next (w0 c.before.before.before) c.put_name-a.ensures
 
-abbrev w2 : (c : tie.After-put) → At 2 c.put.result c.put.new.0
-w2 c = next (w1 c.before.before.before.before.before) c.put.ensures
+abbrev w2 : (c : tie.After-put-b) → At 2 c.put-b.result c.put-b.new.out
+w2 c = next (w1 c.before.before.before.before.before.before) c.put-b.ensures
 
-abbrev w3 : (c : tie.After-put-integer) → At 3 c.put-integer.result c.put-integer.new.0
-w3 c = let w = w2 c.before.before.before.before.before in next-as w (passed w.start) c.put-integer.ensures
+abbrev w3 : (c : tie.After-put_integer-c) → At 3 c.put_integer-c.result c.put_integer-c.new.out
+w3 c = let w = w2 c.before.before.before.before.before in next-as w (passed w.start) c.put_integer-c.ensures
 
-abbrev w4 : (c : tie.After-put2) → At 4 c.put2.result c.put2.new.0
-w4 c = next (w3 c.before.before.before.before.before) c.put2.ensures
+abbrev w4 : (c : tie.After-put) → At 4 c.put.result c.put.new.out
+w4 c = next (w3 c.before.before.before.before.before.before) c.put.ensures
 
 returns : tie.Need-returns
 unfolding line_of
 returns c = finished-first (w4 c.before.before)
 
-pub put-change-spec : {M : Type 1} → statement M
-put-change-spec =
+pub put_change_spec : {M : Type 1} → statement M
+put_change_spec =
     tie.close
     (tie.spec
     (λ c κs. omega (arith, room (w0 c.before.before)))
-    (λ c. search rules)
-    (λ c κs. room (w1 c.before.before.before.before))
+    (λ c κs. room (w1 c.before.before.before.before.before))
     (λ c κs. let w = w2 c.before.before.before.before in room_as w (passed w.start))
-    (λ c. search rules)
-    (λ c κs. room (w3 c.before.before.before.before))
+    (λ c κs. room (w3 c.before.before.before.before.before))
     (λ c. search rules)
     returns)

@@ -18,56 +18,56 @@ use borrow.Author.Rules.{rules}
 use Rattle.nearest_search.proofs.first_moved.Statement.{statement}
 use Rattle.nearest_search.proofs.first_moved.Tie as tie
 
-abbrev invariant-loop : tie.invariant-loop
-invariant-loop code start fields budget figure read j₀ j =
+abbrev invariant-loop-j : tie.invariant-loop-j
+invariant-loop-j code start fields budget figure read j₀ j =
     let s = whole (sizes_of code) fields start in
     Left (λ x. moved figure (bound (program_of code) budget (applied x s))) (trial_of s) 24704 (nearest (λ t. moved figure (bound (program_of code) budget t)) s) j
 
-abbrev decreases-loop : tie.decreases-loop
-decreases-loop code start fields budget figure read j₀ j = 24704 - j
+abbrev decreases-loop-j : tie.decreases-loop-j
+decreases-loop-j code start fields budget figure read j₀ j = 24704 - j
 
-loop-holds : tie.Need-loop-init invariant-loop decreases-loop
+loop-holds : tie.Need-loop-j-init invariant-loop-j decreases-loop-j
 loop-holds c =
     let s = c in
     let x = s.requires.0 in
     trials-left (sizes_of s.args.code.now) s.args.blocks s.args.start x.explorable.formed x.formed.sizes (omega (arith, sizes-count s.args.code.now x.formed, x.formed.blocks)) _
 
-array-read-if1 : tie.Need-array-read-if1 invariant-loop decreases-loop
+array-read-if1 : tie.Need-bounds-read-k invariant-loop-j decreases-loop-j
 array-read-if1 c = omega arith
 
-try-change-requires : tie.Need-try-change-requires invariant-loop decreases-loop
-try-change-requires c κs = let s = c.before.before.before in (s.requires.0, c.before.loop-test.true)
+try-change-requires : tie.Need-try_change-hit-requires invariant-loop-j decreases-loop-j
+try-change-requires c κs = let s = c in (s.requires.0, c.loop-j-test.true)
 
-returns : tie.Need-returns invariant-loop decreases-loop
+returns : tie.Need-returns-in-At invariant-loop-j decreases-loop-j
 returns c =
-    let tried = c.before.before.before in
-    let turn = tried.before.before in
-    turn-hit _ _ 24704 _ turn.before.loop.j _ turn.loop-test.true turn.before.loop.invariant (sym (ap of_hit c.before.hit.given.1) ∙ tried.try-change.ensures)
+    let tried = c in
+    let turn = tried in
+    turn-hit _ _ 24704 _ turn.loop-j.j _ turn.loop-j-test.true turn.loop-j.invariant (sym (ap of_hit c.in-At.is) ∙ tried.try_change-hit.ensures)
 
-add-j : tie.Need-overflow-add-j invariant-loop decreases-loop
-add-j c = omega (arith, c.before.loop-test.true)
+add-j : tie.Need-overflow_add-j invariant-loop-j decreases-loop-j
+add-j c = omega (arith, c.loop-j-test.true)
 
-loop-less : tie.Need-loop-smaller invariant-loop decreases-loop
-loop-less c = omega (arith, c.before.loop-test.true)
+loop-less : tie.Need-loop-j-smaller invariant-loop-j decreases-loop-j
+loop-less c = omega (arith, c.loop-j-test.true)
 
-loop-again : tie.Need-loop-preserved invariant-loop decreases-loop
+loop-again : tie.Need-loop-j-preserved invariant-loop-j decreases-loop-j
 loop-again c =
-    let s = c.before.before.before in
-    let l = c.before.before.loop in
-    turn-miss _ _ 24704 _ l.j c.before.loop-test.true l.invariant
-    (⊎_elim (λ w. sym (ap of_hit w.3.given.1) ∙ w.1.ensures)
-    (λ w. passed_over _ s.args.budget s.args.figure _ s.requires.1 l.j (sym (s.requires.2.each (l.j / 2 % 193) (mod-lt (l.j / 2) (omega arith))) ∙ w.left))
-    c.if1.branch)
+    let s = c in
+    let l = c.loop-j in
+    turn-miss _ _ 24704 _ l.j c.loop-j-test.true l.invariant
+    (⊎_elim (λ w. sym (ap of_hit w.in_default.is) ∙ w.try_change-hit.ensures)
+    (λ w. passed_over _ s.args.budget s.args.figure _ s.requires.1 l.j (sym (s.requires.2.each (l.j / 2 % 193) (mod-lt (l.j / 2) (omega arith))) ∙ w.if-read-k.false))
+    c.if-read-k.branch-raw)
 
-returns-2 : tie.Need-returns-2 invariant-loop decreases-loop
-returns-2 c = turns-over _ _ 24704 _ c.before.loop.j c.loop-test.false c.before.loop.invariant
+returns-2 : tie.Need-returns invariant-loop-j decreases-loop-j
+returns-2 c = turns-over _ _ 24704 _ c.loop-j.j c.loop-j-test.false c.loop-j.invariant
 
-pub first-moved-spec : {M : Type 1} → statement M
-first-moved-spec =
+pub first_moved_spec : {M : Type 1} → statement M
+first_moved_spec =
     tie.close
     (tie.spec
-    invariant-loop
-    decreases-loop
+    invariant-loop-j
+    decreases-loop-j
     loop-holds
     array-read-if1
     try-change-requires

@@ -14,31 +14,31 @@ use borrow.Author.Rules.{rules}
 use Rattle.nearest_search.proofs.is_read.Statement.{statement}
 use Rattle.nearest_search.proofs.is_read.Tie as tie
 
-number-at-requires : tie.Need-number-at-requires
+number-at-requires : tie.Need-number_at-held-requires
 number-at-requires c κs = let s = c in (s.requires.formed, s.requires.explorable.formed)
 
-returns : tie.Need-returns
+returns : tie.Need-returns-in_default
 returns c =
-    let s = c.before.before.before in
-    read_none _ s.args.budget s.args.figure _ s.args.p (sym (ap of_single c.enum-told2.given.1) ∙ c.before.before.number_at.ensures)
+    let s = c in
+    read_none _ s.args.budget s.args.figure _ s.args.p (sym (ap of_single c.in_default.is) ∙ c.number_at-held.ensures)
 
 -- the number that the cell holds
-holds : (c : tie.After-enum-told) →
-    let s = c.before.before.before in
-    done c.enum_told.given.0.0 ≡ number_at s.args.p (whole (sizes_of s.args.code.now) s.args.blocks s.args.start)
-holds c = sym (ap of_single c.enum_told.given.1) ∙ c.before.before.number_at.ensures
+holds : (c : tie.In-Number) →
+    let s = c in
+    done c.in-Number.field-0 ≡ number_at s.args.p (whole (sizes_of s.args.code.now) s.args.blocks s.args.start)
+holds c = sym (ap of_single c.in-Number.is) ∙ c.number_at-held.ensures
 
-is-moved-by-requires : tie.Need-is-moved-by-requires
-is-moved-by-requires c κs = let s = c.before.before.before.before in (s.requires, number-present s.args.p _ _ (sym (holds c.before)))
+is-moved-by-requires : tie.Need-is_moved_by-requires
+is-moved-by-requires c κs = let s = c in (s.requires, number-present s.args.p _ _ (sym (holds c.before)))
 
-returns-2 : tie.Need-returns-2
+returns-2 : tie.Need-returns
 returns-2 c =
-    let s = c.before.before.before.before.before in
+    let s = c in
     read_some _ s.args.budget s.args.figure _ s.args.p _ _ (holds c.before.before)
-    (c.is-moved-by.ensures ∙ ap (λ x. moved s.args.figure (bound (program_of s.args.code.now) s.args.budget (replace_at s.args.p x (whole (sizes_of s.args.code.now) s.args.blocks s.args.start)))) c.before.handle.ensures)
+    (c.is_moved_by.ensures ∙ ap (λ x. moved s.args.figure (bound (program_of s.args.code.now) s.args.budget (replace_at s.args.p x (whole (sizes_of s.args.code.now) s.args.blocks s.args.start)))) c.handle.ensures)
 
-pub is-read-spec : {M : Type 1} → statement M
-is-read-spec =
+pub is_read_spec : {M : Type 1} → statement M
+is_read_spec =
     tie.close
     (tie.spec
     number-at-requires

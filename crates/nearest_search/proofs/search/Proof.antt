@@ -10,39 +10,39 @@ use borrow.Author.Rules.{rules}
 use Rattle.nearest_search.proofs.search.Statement.{statement}
 use Rattle.nearest_search.proofs.search.Tie as tie
 
-explore-requires : tie.Need-explore-requires
+explore-requires : tie.Need-explore-found-requires
 explore-requires c κs = let s = c in (s.requires.formed, s.requires.explorable)
 
 -- what is found shows the bound of the start
-shown : (c : tie.After-explore) →
-    let s = c.before in
-    Shows c.explore.result (bound (program_of s.args.code.now) s.args.budget (whole (sizes_of s.args.code.now) s.args.blocks s.args.start))
-shown c = shows-bound _ _ _ _ _ refl c.explore.ensures.0.shows
+shown : (c : tie.After-explore-found) →
+    let s = c in
+    Shows c.explore-found.result (bound (program_of s.args.code.now) s.args.budget (whole (sizes_of s.args.code.now) s.args.blocks s.args.start))
+shown c = shows-bound _ _ _ _ _ refl c.explore-found.ensures.0.shows
 
-returns : tie.Need-returns
+returns : tie.Need-returns-in-Refused
 returns c =
-    let found = c.before.before.before in
-    search-refused _ _ _ found.explore.result _ (shown found) c.before.verdict.given.1
+    let found = c in
+    search-refused _ _ _ found.explore-found.result _ (shown found.before) c.in-Refused.is
 
-first-moved-requires : tie.Need-first-moved-requires
+first-moved-requires : tie.Need-first_moved-hit-requires
 first-moved-requires c κs =
-    let found = c.before.before.before in
-    (found.before.requires, reported _ _ _ found.explore.result (shown found) c.before.enum_told.given.1, c.cells-read.ensures)
+    let found = c in
+    (found.requires, reported _ _ _ found.explore-found.result (shown found.before.before) c.in_default.is, c.cells_read-read.ensures)
 
-returns-2 : tie.Need-returns-2
+returns-2 : tie.Need-returns-in-At
 returns-2 c =
-    let moved = c.before.before.before in
-    let told = moved.before.before in
-    searched _ _ _ told.before.before.explore.result _ (shown told.before.before) told.enum_told.given.1 (sym (ap of_hit c.before.hit.given.1) ∙ moved.first-moved.ensures)
+    let moved = c in
+    let told = moved in
+    searched _ _ _ told.explore-found.result _ (shown told.before.before.before.before) told.in_default.is (sym (ap of_hit c.in-At.is) ∙ moved.first_moved-hit.ensures)
 
-returns-3 : tie.Need-returns-3
+returns-3 : tie.Need-returns-in-Nowhere
 returns-3 c =
-    let moved = c.before.before in
-    let told = moved.before.before in
-    searched _ _ _ told.before.before.explore.result _ (shown told.before.before) told.enum_told.given.1 (sym (ap of_hit c.enum-told2.given.1) ∙ moved.first-moved.ensures)
+    let moved = c in
+    let told = moved in
+    searched _ _ _ told.explore-found.result _ (shown told.before.before.before.before) told.in_default.is (sym (ap of_hit c.in-Nowhere.is) ∙ moved.first_moved-hit.ensures)
 
-pub search-spec : {M : Type 1} → statement M
-search-spec =
+pub search_spec : {M : Type 1} → statement M
+search_spec =
     tie.close
     (tie.spec
     explore-requires

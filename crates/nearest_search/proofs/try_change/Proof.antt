@@ -17,60 +17,60 @@ use borrow.Author.Rules.{rules}
 use Rattle.nearest_search.proofs.try_change.Statement.{statement}
 use Rattle.nearest_search.proofs.try_change.Tie as tie
 
-trial-at-requires : tie.Need-trial-at-requires
+trial-at-requires : tie.Need-trial_at-trial-requires
 trial-at-requires c κs = let s = c in (s.requires.0.formed, s.requires.0.explorable.formed, s.requires.1)
 
-returns : tie.Need-returns
+returns : tie.Need-returns-in_default
 returns c =
-    let s = c.before.before.before in
-    tried-nothing _ s.args.budget s.args.figure _ _ (sym (ap of_trial c.enum_told.given.1) ∙ c.before.before.trial-at.ensures)
+    let s = c in
+    tried-nothing _ s.args.budget s.args.figure _ _ (sym (ap of_trial c.in_default.is) ∙ c.trial_at-trial.ensures)
 
 -- where the function begins, and the change that is tried
-abbrev begun : tie.After-known-told → tie.Start
-begun c = c.before.before.before.before
+abbrev begun : tie.In-Of → tie.Start
+begun c = c.before.before
 
-abbrev change : tie.After-known-told → Change
-change c = c.before.trial.given.0.0
+abbrev change : tie.In-Of → Change
+change c = c.in-Of.change
 
-tried : (c : tie.After-known-told) →
+tried : (c : tie.In-Of) →
     let s = begun c in
     change c ∷ [] ≡ trial_of (whole (sizes_of s.args.code.now) s.args.blocks s.args.start) s.args.j
-tried c = sym (ap of_trial c.before.trial.given.1) ∙ c.before.before.before.trial-at.ensures
+tried c = sym (ap of_trial c.in-Of.is) ∙ c.trial_at-trial.ensures
 
-is-moved-by-requires : tie.Need-is-moved-by-requires
+is-moved-by-requires : tie.Need-is_moved_by-requires
 is-moved-by-requires c κs =
-    let told = c.before.before in
-    let s = begun told in
-    (s.pre.0, trial-present _ s.args.j _ (tried told))
+    let told = c in
+    let s = begun told.before.before in
+    (s.requires.0, trial-present _ s.args.j _ (tried told.before.before))
 
 -- what is asked of it
-asked : (c : tie.After-is-moved-by) →
-    let told = c.before.before.before in
-    let s = begun told in
-    let x = change told in
-    c.is-moved-by.result ≡ moved s.args.figure (bound (program_of s.args.code.now) s.args.budget (replace_at x.place (exactly x.value) (whole (sizes_of s.args.code.now) s.args.blocks s.args.start)))
+asked : (c : tie.After-is_moved_by) →
+    let told = c in
+    let s = begun told.before.before.before in
+    let x = change told.before.before.before in
+    c.is_moved_by.result ≡ moved s.args.figure (bound (program_of s.args.code.now) s.args.budget (replace_at x.place (exactly x.value) (whole (sizes_of s.args.code.now) s.args.blocks s.args.start)))
 asked c =
-    let told = c.before.before.before in
-    let s = begun told in
-    let x = change told in
-    c.is-moved-by.ensures
+    let told = c in
+    let s = begun told.before.before.before in
+    let x = change told.before.before.before in
+    c.is_moved_by.ensures
     ∙ ap (λ a. moved s.args.figure (bound (program_of s.args.code.now) s.args.budget (replace_at x.place a (whole (sizes_of s.args.code.now) s.args.blocks s.args.start))))
-    (c.before.exactly.ensures ∙ ap exactly (to_z-of_z w32 x.value (search rules)))
+    (c.exactly-c.ensures ∙ ap exactly (to_z-of_z w32 x.value (search rules)))
 
-returns-2 : tie.Need-returns-2
+returns-2 : tie.Need-returns-then-is_moved_by
 returns-2 c =
-    let told = c.before.before.before.before in
-    let s = begun told in
-    tried-hit _ s.args.budget s.args.figure _ _ (change told) (tried told) (sym c.if1.true ∙ asked c.before)
+    let told = c in
+    let s = begun told.before.before.before.before in
+    tried-hit _ s.args.budget s.args.figure _ _ (change told.before.before.before.before) (tried told.before.before.before.before) (sym c.if-is_moved_by.true ∙ asked c.before)
 
-returns-3 : tie.Need-returns-3
+returns-3 : tie.Need-returns
 returns-3 c =
-    let told = c.before.before.before.before in
-    let s = begun told in
-    tried-miss _ s.args.budget s.args.figure _ _ (change told) (tried told) (sym c.if1.false ∙ asked c.before)
+    let told = c in
+    let s = begun told.before.before.before.before in
+    tried-miss _ s.args.budget s.args.figure _ _ (change told.before.before.before.before) (tried told.before.before.before.before) (sym c.if-is_moved_by.false ∙ asked c.before)
 
-pub try-change-spec : {M : Type 1} → statement M
-try-change-spec =
+pub try_change_spec : {M : Type 1} → statement M
+try_change_spec =
     tie.close
     (tie.spec
     trial-at-requires

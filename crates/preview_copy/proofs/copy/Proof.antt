@@ -12,19 +12,19 @@ returns : tie.Need-returns-then-place-first
 returns c =
     let d = c in
     let s = d in
-    gives-refusal _ _ (copy-below s.args.text.now s.requires.0 s.requires.1 s.args.address s.args.instruction.now _ d.body_of-body.ensures _ _ d.before.address_first.ensures d.count_code-count.ensures (omega (arith, c.if-place-first.true))) _
+    gives-refusal _ _ (copy-below s.args.text.now s.requires.0 s.requires.1 s.args.address s.args.instruction.now _ d.body_of-body.ensures _ _ d.before.first_address-first.ensures d.count_code-count.ensures (omega (arith, c.if-place-first.true))) _
 
 returns-2 : tie.Need-returns-then-count-place
 returns-2 c =
     let d = c in
     let s = d in
-    gives-refusal _ _ (copy-above s.args.text.now s.requires.0 s.requires.1 s.args.address s.args.instruction.now _ d.body_of-body.ensures _ _ d.before.address_first.ensures d.count_code-count.ensures (omega (arith, c.if-place-first.false)) (omega (arith, c.if-count-place.true))) _
+    gives-refusal _ _ (copy-above s.args.text.now s.requires.0 s.requires.1 s.args.address s.args.instruction.now _ d.body_of-body.ensures _ _ d.before.first_address-first.ensures d.count_code-count.ensures (omega (arith, c.if-place-first.false)) (omega (arith, c.if-count-place.true))) _
 
 put-copy-requires : tie.Need-put_copy-requires
 put-copy-requires c κs =
     let d = c in
     let s = d in
-    let i = copy-inside s.args.text.now s.requires.0 s.requires.1 s.args.address s.args.instruction.now _ d.body_of-body.ensures _ _ d.before.address_first.ensures d.count_code-count.ensures (omega (arith, c.if-place-first.false)) (omega (arith, c.if-count-place.false)) in
+    let i = copy-inside s.args.text.now s.requires.0 s.requires.1 s.args.address s.args.instruction.now _ d.body_of-body.ensures _ _ d.before.first_address-first.ensures d.count_code-count.ensures (omega (arith, c.if-place-first.false)) (omega (arith, c.if-count-place.false)) in
     (s.requires.0, s.requires.1, i.0.0, i.0.1, s.requires.2)
 
 returns-3 : tie.Need-returns
@@ -36,7 +36,7 @@ returns-3 c =
     let at-first-address = d in
     let at-body-of = at-first-address in
     let s = at-body-of in
-    let i = copy-inside s.args.text.now s.requires.0 s.requires.1 s.args.address s.args.instruction.now _ at-body-of.body_of-body.ensures _ _ at-first-address.address_first.ensures d.count_code-count.ensures (omega (arith, at-if1.if-place-first.false)) (omega (arith, at-if2.if-count-place.false)) in
+    let i = copy-inside s.args.text.now s.requires.0 s.requires.1 s.args.address s.args.instruction.now _ at-body-of.body_of-body.ensures _ _ at-first-address.first_address-first.ensures d.count_code-count.ensures (omega (arith, at-if1.if-place-first.false)) (omega (arith, at-if2.if-count-place.false)) in
     (e.put_copy.ensures.0 ∙ ap answer_of (sym i.1), e.put_copy.ensures.1 ∙ ap (λ a. memory a s.args.out.now) (sym i.1))
 
 pub copy_spec : {M : Type 1} → statement M

@@ -6,8 +6,8 @@ use borrow.Author.Rules.{rules}
 use Rattle.replay_entry.proofs.followed.Statement.{statement}
 use Rattle.replay_entry.proofs.followed.Tie as tie
 
-slice-aggregate-replay : tie.Need-slice-aggregate-replay
-slice-aggregate-replay c = let s = c.before.before.before.before.before.before.before.before in sym (taken _ s.args.routine.answers.values (omega (arith, s.requires.0.places, s.requires.0.answered)))
+slice-aggregate-replay : tie.Need-slice_bounds-replay-end
+slice-aggregate-replay c = let s = c in sym (taken _ s.args.routine.answers.values (omega (arith, s.requires.0.places, s.requires.0.answered)))
 
-pub followed-spec : {M : Type 1} → statement M
-followed-spec = tie.close (tie.spec (λ c. search rules) slice-aggregate-replay (λ c κs. search rules) (λ c. search rules))
+pub followed_spec : {M : Type 1} → statement M
+followed_spec = tie.close (tie.spec (λ c. search rules) slice-aggregate-replay (λ c κs. search rules) (λ c. search rules))

@@ -12,15 +12,15 @@ use Rattle.replay_steps.specs.Held.{of_replayed}
 use Rattle.replay_steps.proofs.after_stop.Statement.{statement}
 use Rattle.replay_steps.proofs.after_stop.Tie as tie
 
-returns : tie.Need-returns
+returns : tie.Need-returns-then-rest-eq0
 unfolding of_replayed
-returns c = let s = c.before.args in sym (ap (λ ls. cond (is_empty ls) agreed (differed (suc s.n))) (lines_none s.rest.now (omega arith)))
+returns c = let s = c.args in sym (ap (λ ls. cond (is_empty ls) agreed (differed (suc s.n))) (lines_none s.rest.now (omega arith)))
 
-returns-2 : tie.Need-returns-2
+returns-2 : tie.Need-returns
 unfolding of_replayed
 returns-2 c =
-    let s = c.before.args in
+    let s = c.args in
     ap differed (add-one s.n) ∙ sym (ap (λ ls. cond (is_empty ls) agreed (differed (suc s.n))) (lines-first s.rest.now (omega arith)))
 
-pub after-stop-spec : {M : Type 1} → statement M
-after-stop-spec = tie.close (tie.spec returns (λ c. search rules) returns-2)
+pub after_stop_spec : {M : Type 1} → statement M
+after_stop_spec = tie.close (tie.spec returns (λ c. search rules) returns-2)

@@ -29,46 +29,42 @@ fits s = s.requires.1
 abbrev w0 : (s : tie.Start) → At 0 0 s.args.out.now
 w0 s = begins-first s (fits s)
 
-abbrev w1 : (c : tie.After-put) → At 1 c.put.result c.put.new.0
-w1 c = next (w0 c.before.before.before.before) c.put.ensures
+abbrev w1 : (c : tie.After-put-a) → At 1 c.put-a.result c.put-a.new.out
+w1 c = next (w0 c.before.before.before.before.before) c.put-a.ensures
 
-abbrev w2 : (c : tie.After-put-figures) → At 2 c.put-figures.result c.put-figures.new.0
-w2 c = next (w1 c.before.before.before.before) c.put-figures.ensures
+abbrev w2 : (c : tie.After-put_figures-b) → At 2 c.put_figures-b.result c.put_figures-b.new.out
+w2 c = next (w1 c.before.before.before.before) c.put_figures-b.ensures
 
-abbrev w3 : (c : tie.After-put2) → At 3 c.put2.result c.put2.new.0
-w3 c = next (w2 c.before.before.before.before.before) c.put2.ensures
+abbrev w3 : (c : tie.After-put-c) → At 3 c.put-c.result c.put-c.new.out
+w3 c = next (w2 c.before.before.before.before.before.before) c.put-c.ensures
 
-abbrev w4 : (c : tie.After-put-decimal) → At 4 c.put-decimal.result c.put-decimal.new.0
-w4 c = next-as (w3 c.before.before.before.before.before) (ap decimal c.before.before.share.ensures) c.put-decimal.ensures
+abbrev w4 : (c : tie.After-put_decimal-d) → At 4 c.put_decimal-d.result c.put_decimal-d.new.out
+w4 c = next-as (w3 c.before.before.before.before.before) (ap decimal c.share-n.ensures) c.put_decimal-d.ensures
 
-abbrev w5 : (c : tie.After-put3) → At 5 c.put3.result c.put3.new.0
-w5 c = next (w4 c.before.before.before.before.before) c.put3.ensures
+abbrev w5 : (c : tie.After-put-e) → At 5 c.put-e.result c.put-e.new.out
+w5 c = next (w4 c.before.before.before.before.before.before) c.put-e.ensures
 
-abbrev w6 : (c : tie.After-put-path) → At 6 c.put-path.result c.put-path.new.0
-w6 c = next (w5 c.before.before.before.before) c.put-path.ensures
+abbrev w6 : (c : tie.After-put_path-f) → At 6 c.put_path-f.result c.put_path-f.new.out
+w6 c = next (w5 c.before.before.before.before) c.put_path-f.ensures
 
-abbrev w7 : (c : tie.After-put4) → At 7 c.put4.result c.put4.new.0
-w7 c = next (w6 c.before.before.before.before.before) c.put4.ensures
+abbrev w7 : (c : tie.After-put) → At 7 c.put.result c.put.new.out
+w7 c = next (w6 c.before.before.before.before.before.before) c.put.ensures
 
 returns : tie.Need-returns
 unfolding bound_text report_of figures
 returns c = finished-first (w7 c.before.before)
 
-pub put-bound-spec : {M : Type 1} → statement M
-put-bound-spec =
+pub put_bound_spec : {M : Type 1} → statement M
+put_bound_spec =
     tie.close
     (tie.spec
-    (λ c. search rules)
-    (λ c κs. room (w0 c.before.before.before))
+    (λ c κs. room (w0 c.before.before.before.before))
     (λ c κs. room (w1 c.before.before.before))
-    (λ c. search rules)
-    (λ c κs. room (w2 c.before.before.before.before))
+    (λ c κs. room (w2 c.before.before.before.before.before))
     (λ c κs. search rules)
-    (λ c κs. room_as (w3 c.before.before.before.before) (ap decimal c.before.share.ensures))
-    (λ c. search rules)
-    (λ c κs. room (w4 c.before.before.before.before))
+    (λ c κs. room_as (w3 c.before.before.before.before) (ap decimal c.share-n.ensures))
+    (λ c κs. room (w4 c.before.before.before.before.before))
     (λ c κs. room (w5 c.before.before.before))
-    (λ c. search rules)
-    (λ c κs. room (w6 c.before.before.before.before))
+    (λ c κs. room (w6 c.before.before.before.before.before))
     (λ c. search rules)
     returns)

@@ -25,44 +25,41 @@ fits s = s.requires
 abbrev w0 : (s : tie.Start) → At 0 s.args.at s.args.out.now
 w0 s = begins s (fits s)
 
-abbrev w1 : (c : tie.After-put-decimal) → At 1 c.put-decimal.result c.put-decimal.new.0
-w1 c = next (w0 c.before.before.before) c.put-decimal.ensures
+abbrev w1 : (c : tie.After-put_decimal-a) → At 1 c.put_decimal-a.result c.put_decimal-a.new.out
+w1 c = next (w0 c.before.before.before) c.put_decimal-a.ensures
 
-abbrev w2 : (c : tie.After-put) → At 2 c.put.result c.put.new.0
-w2 c = next (w1 c.before.before.before.before.before) c.put.ensures
+abbrev w2 : (c : tie.After-put-b) → At 2 c.put-b.result c.put-b.new.out
+w2 c = next (w1 c.before.before.before.before.before.before) c.put-b.ensures
 
-abbrev w3 : (c : tie.After-put-decimal2) → At 3 c.put-decimal2.result c.put-decimal2.new.0
-w3 c = next (w2 c.before.before.before.before) c.put-decimal2.ensures
+abbrev w3 : (c : tie.After-put_decimal-c) → At 3 c.put_decimal-c.result c.put_decimal-c.new.out
+w3 c = next (w2 c.before.before.before.before) c.put_decimal-c.ensures
 
-abbrev w4 : (c : tie.After-put2) → At 4 c.put2.result c.put2.new.0
-w4 c = next (w3 c.before.before.before.before.before) c.put2.ensures
+abbrev w4 : (c : tie.After-put-d) → At 4 c.put-d.result c.put-d.new.out
+w4 c = next (w3 c.before.before.before.before.before.before) c.put-d.ensures
 
-abbrev w5 : (c : tie.After-put-decimal3) → At 5 c.put-decimal3.result c.put-decimal3.new.0
-w5 c = next (w4 c.before.before.before.before) c.put-decimal3.ensures
+abbrev w5 : (c : tie.After-put_decimal-e) → At 5 c.put_decimal-e.result c.put_decimal-e.new.out
+w5 c = next (w4 c.before.before.before.before) c.put_decimal-e.ensures
 
-abbrev w6 : (c : tie.After-put3) → At 6 c.put3.result c.put3.new.0
-w6 c = next (w5 c.before.before.before.before.before) c.put3.ensures
+abbrev w6 : (c : tie.After-put-f) → At 6 c.put-f.result c.put-f.new.out
+w6 c = next (w5 c.before.before.before.before.before.before) c.put-f.ensures
 
-abbrev w7 : (c : tie.After-put-decimal4) → At 7 c.put-decimal4.result c.put-decimal4.new.0
-w7 c = next (w6 c.before.before.before.before) c.put-decimal4.ensures
+abbrev w7 : (c : tie.After-put_decimal) → At 7 c.put_decimal.result c.put_decimal.new.out
+w7 c = next (w6 c.before.before.before.before) c.put_decimal.ensures
 
 returns : tie.Need-returns
 unfolding figures report_of
 returns c = finished (w7 c.before.before)
 
-pub put-figures-spec : {M : Type 1} → statement M
-put-figures-spec =
+pub put_figures_spec : {M : Type 1} → statement M
+put_figures_spec =
     tie.close
     (tie.spec
     (λ c κs. room (w0 c.before.before))
-    (λ c. search rules)
-    (λ c κs. room (w1 c.before.before.before.before))
+    (λ c κs. room (w1 c.before.before.before.before.before))
     (λ c κs. room (w2 c.before.before.before))
-    (λ c. search rules)
-    (λ c κs. room (w3 c.before.before.before.before))
+    (λ c κs. room (w3 c.before.before.before.before.before))
     (λ c κs. room (w4 c.before.before.before))
-    (λ c. search rules)
-    (λ c κs. room (w5 c.before.before.before.before))
+    (λ c κs. room (w5 c.before.before.before.before.before))
     (λ c κs. room (w6 c.before.before.before))
     (λ c. search rules)
     returns)

@@ -10,51 +10,50 @@ use Rattle.report.proofs.PathLaws.{Continues, path-none, path-starts, path_room,
 use Rattle.report.proofs.put_path.Statement.{statement}
 use Rattle.report.proofs.put_path.Tie as tie
 
-abbrev invariant-loop : tie.invariant-loop
-invariant-loop out₀ at path rest₀ e₀ out rest e = Continues out₀ out at e path rest
+abbrev invariant-loop-rest : tie.invariant-loop-rest
+invariant-loop-rest out₀ at path rest₀ e₀ out rest e = Continues out₀ out at e path rest
 
-abbrev decreases-loop : tie.decreases-loop
-decreases-loop out₀ at path rest₀ e₀ out rest e = rest
+abbrev decreases-loop-rest : tie.decreases-loop-rest
+decreases-loop-rest out₀ at path rest₀ e₀ out rest e = rest
 
-put-requires : tie.Need-put-requires invariant-loop decreases-loop
+put-requires : tie.Need-put-requires invariant-loop-rest decreases-loop-rest
 put-requires c κs =
-    let s = c.before.before.before.before in
-    omega (arith, ap length (path-none s.args.path c.before.before.if1.true))
+    let s = c in
+    omega (arith, ap length (path-none s.args.path c.if-path-lt2.true))
 
-returns : tie.Need-returns invariant-loop decreases-loop
+returns : tie.Need-returns-then-path-lt2 invariant-loop-rest decreases-loop-rest
 returns c =
-    let a = c.before.before.before.before.before.before.before.args in
-    let z = sym (path-none a.path c.before.before.before.before.before.if1.true) in
-    let p = c.before.before.put.ensures in
+    let a = c.args in
+    let z = sym (path-none a.path c.if-path-lt2.true) in
+    let p = c.put.ensures in
     (p.0 ∙ ap (λ t. a.at + length t) z, p.1 ∙ ap (over a.out.now a.at) z)
 
-loop-holds : tie.Need-loop-init invariant-loop decreases-loop
+loop-holds : tie.Need-loop-rest-init invariant-loop-rest decreases-loop-rest
 loop-holds c =
-    let s = c.before.before in
-    path-starts s.args.out.now s.args.at s.args.path c.if1.false s.requires
+    let s = c in
+    path-starts s.args.out.now s.args.at s.args.path c.if-path-lt2.false s.requires
 
-slice-write-out : tie.Need-slice-write-out invariant-loop decreases-loop
-slice-write-out c = path_room c.before.before.loop.invariant c.before.loop-test.true
+slice-write-out : tie.Need-bounds-out-e invariant-loop-rest decreases-loop-rest
+slice-write-out c = path_room c.loop-rest.invariant c.loop-rest-test.true
 
-add-e : tie.Need-overflow-add-e invariant-loop decreases-loop
-add-e c = omega (arith, path_room c.before.before.loop.invariant c.before.loop-test.true)
+add-e : tie.Need-overflow_add-e invariant-loop-rest decreases-loop-rest
+add-e c = omega (arith, path_room c.loop-rest.invariant c.loop-rest-test.true)
 
-loop-again : tie.Need-loop-preserved invariant-loop decreases-loop
-loop-again c = path-next c.before.before.loop.invariant c.before.loop-test.true _ c.letter.ensures
+loop-again : tie.Need-loop-rest-preserved invariant-loop-rest decreases-loop-rest
+loop-again c = path-next c.loop-rest.invariant c.loop-rest-test.true _ c.letter.ensures
 
-same-length-2 : tie.Need-same-length-2 invariant-loop decreases-loop
-same-length-2 c = c.before.loop.invariant.long
+same-length-2 : tie.Need-shape_of-out invariant-loop-rest decreases-loop-rest
+same-length-2 c = c.loop-rest.invariant.long
 
-returns-2 : tie.Need-returns-2 invariant-loop decreases-loop
-returns-2 c = path-ends c.before.loop.invariant c.before.before.if1.false (omega arith)
+returns-2 : tie.Need-returns invariant-loop-rest decreases-loop-rest
+returns-2 c = path-ends c.loop-rest.invariant c.if-path-lt2.false (omega arith)
 
-pub put-path-spec : {M : Type 1} → statement M
-put-path-spec =
+pub put_path_spec : {M : Type 1} → statement M
+put_path_spec =
     tie.close
     (tie.spec
-    invariant-loop
-    decreases-loop
-    (λ c. search rules)
+    invariant-loop-rest
+    decreases-loop-rest
     put-requires
     (λ c. search rules)
     returns

@@ -25,36 +25,33 @@ fits s = s.requires
 abbrev w0 : (s : tie.Start) → At 0 0 s.args.out.now
 w0 s = begins-first s (fits s)
 
-abbrev w1 : (c : tie.After-put) → At 1 c.put.result c.put.new.0
-w1 c = next (w0 c.before.before.before.before) c.put.ensures
+abbrev w1 : (c : tie.After-put-a) → At 1 c.put-a.result c.put-a.new.out
+w1 c = next (w0 c.before.before.before.before.before) c.put-a.ensures
 
-abbrev w2 : (c : tie.After-put-decimal) → At 2 c.put-decimal.result c.put-decimal.new.0
-w2 c = next (w1 c.before.before.before.before) c.put-decimal.ensures
+abbrev w2 : (c : tie.After-put_decimal-b) → At 2 c.put_decimal-b.result c.put_decimal-b.new.out
+w2 c = next (w1 c.before.before.before.before) c.put_decimal-b.ensures
 
-abbrev w3 : (c : tie.After-put2) → At 3 c.put2.result c.put2.new.0
-w3 c = next (w2 c.before.before.before.before.before) c.put2.ensures
+abbrev w3 : (c : tie.After-put-c) → At 3 c.put-c.result c.put-c.new.out
+w3 c = next (w2 c.before.before.before.before.before.before) c.put-c.ensures
 
-abbrev w4 : (c : tie.After-put-decimal2) → At 4 c.put-decimal2.result c.put-decimal2.new.0
-w4 c = next (w3 c.before.before.before.before) c.put-decimal2.ensures
+abbrev w4 : (c : tie.After-put_decimal-d) → At 4 c.put_decimal-d.result c.put_decimal-d.new.out
+w4 c = next (w3 c.before.before.before.before) c.put_decimal-d.ensures
 
-abbrev w5 : (c : tie.After-put3) → At 5 c.put3.result c.put3.new.0
-w5 c = next (w4 c.before.before.before.before.before) c.put3.ensures
+abbrev w5 : (c : tie.After-put) → At 5 c.put.result c.put.new.out
+w5 c = next (w4 c.before.before.before.before.before.before) c.put.ensures
 
 returns : tie.Need-returns
 unfolding refusal_line
 returns c = finished-first (w5 c.before.before)
 
-pub put-refusal-spec : {M : Type 1} → statement M
-put-refusal-spec =
+pub put_refusal_spec : {M : Type 1} → statement M
+put_refusal_spec =
     tie.close
     (tie.spec
-    (λ c. search rules)
-    (λ c κs. room (w0 c.before.before.before))
+    (λ c κs. room (w0 c.before.before.before.before))
     (λ c κs. room (w1 c.before.before.before))
-    (λ c. search rules)
-    (λ c κs. room (w2 c.before.before.before.before))
+    (λ c κs. room (w2 c.before.before.before.before.before))
     (λ c κs. room (w3 c.before.before.before))
-    (λ c. search rules)
-    (λ c κs. room (w4 c.before.before.before.before))
+    (λ c κs. room (w4 c.before.before.before.before.before))
     (λ c. search rules)
     returns)

@@ -25,27 +25,25 @@ fits s = s.requires
 abbrev w0 : (s : tie.Start) → At 0 0 s.args.out.now
 w0 s = begins-first s (fits s)
 
-abbrev w1 : (c : tie.After-put) → At 1 c.put.result c.put.new.0
-w1 c = next (w0 c.before.before.before.before) c.put.ensures
+abbrev w1 : (c : tie.After-put-a) → At 1 c.put-a.result c.put-a.new.out
+w1 c = next (w0 c.before.before.before.before.before) c.put-a.ensures
 
-abbrev w2 : (c : tie.After-put-figures) → At 2 c.put-figures.result c.put-figures.new.0
-w2 c = next (w1 c.before.before.before.before) c.put-figures.ensures
+abbrev w2 : (c : tie.After-put_figures-b) → At 2 c.put_figures-b.result c.put_figures-b.new.out
+w2 c = next (w1 c.before.before.before.before) c.put_figures-b.ensures
 
-abbrev w3 : (c : tie.After-put2) → At 3 c.put2.result c.put2.new.0
-w3 c = next (w2 c.before.before.before.before.before) c.put2.ensures
+abbrev w3 : (c : tie.After-put) → At 3 c.put.result c.put.new.out
+w3 c = next (w2 c.before.before.before.before.before.before) c.put.ensures
 
 returns : tie.Need-returns
 unfolding run_text
 returns c = finished-first (w3 c.before.before)
 
-pub put-run-spec : {M : Type 1} → statement M
-put-run-spec =
+pub put_run_spec : {M : Type 1} → statement M
+put_run_spec =
     tie.close
     (tie.spec
-    (λ c. search rules)
-    (λ c κs. room (w0 c.before.before.before))
+    (λ c κs. room (w0 c.before.before.before.before))
     (λ c κs. room (w1 c.before.before.before))
-    (λ c. search rules)
-    (λ c κs. room (w2 c.before.before.before.before))
+    (λ c κs. room (w2 c.before.before.before.before.before))
     (λ c. search rules)
     returns)

@@ -6,8 +6,8 @@ use Rattle.routine_figures.proofs.explored.Tie as tie
 
 returns : tie.Need-returns
 returns c =
-    let s = c.before.before.before.before.before in
+    let s = c in
     (explored-shows s.args.routine s.requires _ c.explore.ensures.0, explored-shareable s.args.routine s.requires _ c.explore.ensures.1.1.1)
 
-pub explored-spec : {M : Type 1} → statement M
-explored-spec = tie.close (tie.spec (λ c κs. search rules) returns)
+pub explored_spec : {M : Type 1} → statement M
+explored_spec = tie.close (tie.spec (λ c κs. search rules) returns)

@@ -13,12 +13,12 @@ places s = search (rules, length-images)
 
 merge-requires : tie.Need-merge-requires
 merge-requires c κs =
-    let s = c.before.before.before.before in
+    let s = c in
     let at = s.requires.placed in
-    ((s.requires.program, s.requires.formed, places s, s.requires.numeric), (omega arith, omega arith))
+    ((s.requires.program, s.requires.formed, places s.before.before.before.before, s.requires.numeric), (omega arith, omega arith))
 
 returns : tie.Need-returns
-returns c = let s = c.before.before.before.before.before in (c.merge.ensures.0, swept-shareable _ c.merge.ensures.1)
+returns c = let s = c in (c.merge.ensures.0, swept-shareable _ c.merge.ensures.1)
 
-pub swept-spec : {M : Type 1} → statement M
-swept-spec = tie.close (tie.spec merge-requires returns)
+pub swept_spec : {M : Type 1} → statement M
+swept_spec = tie.close (tie.spec merge-requires returns)

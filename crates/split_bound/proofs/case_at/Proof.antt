@@ -15,30 +15,30 @@ use Rattle.split_bound.proofs.case_at.Tie as tie
 places : (s : tie.Start) → length s.args.blocks ≡ 128
 places s = search (rules, length-images)
 
-position-of-requires : tie.Need-position-of-requires
-position-of-requires c κs = let s = c.before in s.requires.2.places s.args.i s.requires.3
+position-of-requires : tie.Need-position_of-p-requires
+position-of-requires c κs = let s = c in s.requires.2.places s.args.i s.requires.3
 
-with-entry-requires : tie.Need-with-entry-requires
-with-entry-requires c κs = let s = c.before.before in (s.requires.0, s.requires.1, subst (λ p. Present p (whole (sizes_of s.args.code.now) s.args.blocks s.args.start)) (sym c.position-of.ensures) s.requires.4)
+with-entry-requires : tie.Need-with_entry-state-requires
+with-entry-requires c κs = let s = c in (s.requires.0, s.requires.1, subst (λ p. Present p (whole (sizes_of s.args.code.now) s.args.blocks s.args.start)) (sym c.position_of-p.ensures) s.requires.4)
 
-with-field-requires : tie.Need-with-field-requires
-with-field-requires c κs = let s = c.before.before.before in (s.requires.0, s.requires.1, subst (λ p. Present p (whole (sizes_of s.args.code.now) s.args.blocks s.args.start)) (sym c.before.position-of.ensures) s.requires.4)
+with-field-requires : tie.Need-with_field-changed-requires
+with-field-requires c κs = let s = c in (s.requires.0, s.requires.1, subst (λ p. Present p (whole (sizes_of s.args.code.now) s.args.blocks s.args.start)) (sym c.position_of-p.ensures) s.requires.4)
 
 returns : tie.Need-returns
 returns c =
-    let s = c.before.before.before.before in
+    let s = c in
     let a = s.args in
-    let p = c.before.before.position-of.result in
-    let e = whole-replaced (sizes_of a.code.now) a.blocks c.with-field.result a.start c.before.with-entry.result p a.c c.before.with-entry.ensures.0 c.with-field.ensures.0 in
+    let p = c.position_of-p.result in
+    let e = whole-replaced (sizes_of a.code.now) a.blocks c.with_field-changed.result a.start c.with_entry-state.result p a.c c.with_entry-state.ensures.0 c.with_field-changed.ensures.0 in
     record {
-      is = e ∙ ap (λ q. replace_at q a.c (whole (sizes_of a.code.now) a.blocks a.start)) c.before.before.position-of.ensures;
-      formed = c.before.with-entry.ensures.1;
-      room = c.with-field.ensures.1 ∙ places s;
-      at = ap (λ u. u.at) c.before.with-entry.ensures.0 ∙ replace-at p a.c (view a.start);
+      is = e ∙ ap (λ q. replace_at q a.c (whole (sizes_of a.code.now) a.blocks a.start)) c.position_of-p.ensures;
+      formed = c.with_entry-state.ensures.1;
+      room = c.with_field-changed.ensures.1 ∙ places s.before.before.before.before;
+      at = ap (λ u. u.at) c.with_entry-state.ensures.0 ∙ replace-at p a.c (view a.start);
     }
 
-pub case-at-spec : {M : Type 1} → statement M
-case-at-spec =
+pub case_at_spec : {M : Type 1} → statement M
+case_at_spec =
     tie.close
     (tie.spec
     (λ c. search rules)

@@ -11,17 +11,17 @@ use borrow.Author.Rules.{rules}
 use Rattle.split_bound.proofs.cut_at.Statement.{statement}
 use Rattle.split_bound.proofs.cut_at.Tie as tie
 
-position-of-requires : tie.Need-position-of-requires
-position-of-requires c κs = let s = c.before.before in s.requires.2.places s.args.i s.requires.3
+position-of-requires : tie.Need-position_of-p-requires
+position-of-requires c κs = let s = c in s.requires.2.places s.args.i s.requires.3
 
 returns : tie.Need-returns
 returns c =
-    let s = c.before.before.before.before.before in
+    let s = c in
     let w = whole (sizes_of s.args.code.now) s.args.blocks s.args.start in
-    c.parts-at.ensures ∙ ap₂ (λ n p. parts_at n (cell_at p w)) (to_z-of_z w32 (cut_in s.args.cuts s.args.i).number (search rules)) c.before.before.position-of.ensures
+    c.parts_at.ensures ∙ ap₂ (λ n p. parts_at n (cell_at p w)) (to_z-of_z w32 (cut_in s.args.cuts s.args.i).number (search rules)) c.position_of-p.ensures
 
-pub cut-at-spec : {M : Type 1} → statement M
-cut-at-spec =
+pub cut_at_spec : {M : Type 1} → statement M
+cut_at_spec =
     tie.close
     (tie.spec
     (λ c. search rules)

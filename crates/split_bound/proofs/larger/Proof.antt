@@ -6,26 +6,26 @@ use borrow.Author.Rules.{rules}
 use Rattle.split_bound.proofs.larger.Statement.{statement}
 use Rattle.split_bound.proofs.larger.Tie as tie
 
-returns : tie.Need-returns
+returns : tie.Need-returns-in_default
 unfolding larger_by larger_of
-returns c = sym (ap (larger_by c.before.before.args.f c.before.before.args.g) c.enum-told2.given.1)
+returns c = sym (ap (larger_by c.args.f c.args.g) c.in_default.is)
 
-returns-2 : tie.Need-returns-2
+returns-2 : tie.Need-returns
 unfolding larger_by larger_of
 returns-2 c =
-    let a = c.before.before.before.before.before.before.args in
+    let a = c.args in
     (λ i. record {
       verdict = Accepted;
-      used = c.larger4.ensures i;
-      cycles = c.before.before.before.larger.ensures i;
-      words = c.before.before.larger2.ensures i;
-      depth = c.before.larger3.ensures i;
+      used = c.larger-used.ensures i;
+      cycles = c.larger-cycles.ensures i;
+      words = c.larger-words.ensures i;
+      depth = c.larger-depth.ensures i;
       path = 1;
     })
-    ∙ sym (ap (larger_by a.f a.g) c.before.before.before.before.enum_told.given.1)
+    ∙ sym (ap (larger_by a.f a.g) c.in-Accepted.is)
 
-pub larger-spec : {M : Type 1} → statement M
-larger-spec =
+pub larger_spec : {M : Type 1} → statement M
+larger_spec =
     tie.close
     (tie.spec
     (λ c. search rules)

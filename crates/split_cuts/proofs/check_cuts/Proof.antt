@@ -11,51 +11,51 @@ use Rattle.split_cuts.proofs.check_cuts.Statement.{statement}
 use Rattle.split_cuts.proofs.check_cuts.Tie as tie
 
 -- row 2 refuses no line
-row-layout : (c : tie.After-enum-told) → earliest line_laid_out 0 (lines c.before.before.before.before.before.before.before.before.args.cuts.now) ≡ Nowhere
+row-layout : (c : tie.In_default) → earliest line_laid_out 0 (lines c.args.cuts.now) ≡ Nowhere
 unfolding line_test
-row-layout c = sym c.before.before.earliest.ensures ∙ c.enum_told.given.1
+row-layout c = sym c.earliest-layout.ensures ∙ c.in_default.is
 
 -- and row 3 none
-row-range : (c : tie.After-enum-told2) → earliest line_in_range 0 (lines c.before.before.before.before.before.before.before.before.before.before.before.args.cuts.now) ≡ Nowhere
+row-range : (c : tie.In_default-range) → earliest line_in_range 0 (lines c.args.cuts.now) ≡ Nowhere
 unfolding line_test
-row-range c = sym c.before.before.earliest2.ensures ∙ c.enum-told2.given.1
+row-range c = sym c.earliest-range.ensures ∙ c.in_default-range.is
 
-returns : tie.Need-returns
-returns c = check-long _ _ c.if1.true
+returns : tie.Need-returns-then-cuts-gt4096
+returns c = check-long _ _ c.if-cuts-gt4096.true
 
-returns-2 : tie.Need-returns-2
-returns-2 c = check-empty _ _ c.before.if1.false c.if2.true
+returns-2 : tie.Need-returns-then-cuts-eq0
+returns-2 c = check-empty _ _ c.if-cuts-gt4096.false c.if-cuts-eq0.true
 
-returns-3 : tie.Need-returns-3
+returns-3 : tie.Need-returns-in-Line
 unfolding line_test refused_at
 returns-3 c =
-    by_rows _ _ c.before.before.before.before.before.if1.false c.before.before.before.before.if2.false (sym c.before.before.before.earliest.ensures ∙ c.before.layout.given.1) refl refl
+    by_rows _ _ c.if-cuts-gt4096.false c.if-cuts-eq0.false (sym c.earliest-layout.ensures ∙ c.in-Line.is) refl refl
 
-returns-4 : tie.Need-returns-4
+returns-4 : tie.Need-returns-in-Line-range
 unfolding line_test refused_at
 returns-4 c =
-    let told = c.before.before.before.before in
-    let at-if2 = told.before.before.before in
-    by_rows _ _ at-if2.before.if1.false at-if2.if2.false (row-layout told) (sym c.before.before.before.earliest2.ensures ∙ c.before.range.given.1) refl
+    let told = c in
+    let at-if2 = told in
+    by_rows _ _ at-if2.if-cuts-gt4096.false at-if2.if-cuts-eq0.false (row-layout told.before.before) (sym c.earliest-range.ensures ∙ c.in-Line-range.is) refl
 
-returns-5 : tie.Need-returns-5
+returns-5 : tie.Need-returns-in-Line-name
 unfolding line_test refused_at
 returns-5 c =
-    let told2 = c.before.before.before.before in
-    let told = told2.before.before.before in
-    let at-if2 = told.before.before.before in
-    by_rows _ _ at-if2.before.if1.false at-if2.if2.false (row-layout told) (row-range told2) (sym c.before.before.before.earliest3.ensures ∙ c.before.name.given.1)
+    let told2 = c in
+    let told = told2 in
+    let at-if2 = told in
+    by_rows _ _ at-if2.if-cuts-gt4096.false at-if2.if-cuts-eq0.false (row-layout told.before.before.before.before) (row-range told2.before.before) (sym c.earliest-name.ensures ∙ c.in-Line-name.is)
 
-returns-6 : tie.Need-returns-6
+returns-6 : tie.Need-returns
 unfolding line_test refused_at
 returns-6 c =
-    let told2 = c.before.before.before in
-    let told = told2.before.before.before in
-    let at-if2 = told.before.before.before in
-    by_rows _ _ at-if2.before.if1.false at-if2.if2.false (row-layout told) (row-range told2) (sym c.before.before.earliest3.ensures ∙ c.enum-told3.given.1)
+    let told2 = c in
+    let told = told2 in
+    let at-if2 = told in
+    by_rows _ _ at-if2.if-cuts-gt4096.false at-if2.if-cuts-eq0.false (row-layout told.before.before.before.before) (row-range told2.before.before) (sym c.earliest-name.ensures ∙ c.in_default-name.is)
 
-pub check-cuts-spec : {M : Type 1} → statement M
-check-cuts-spec =
+pub check_cuts_spec : {M : Type 1} → statement M
+check_cuts_spec =
     tie.close
     (tie.spec
     returns

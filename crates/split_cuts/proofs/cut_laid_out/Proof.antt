@@ -13,33 +13,33 @@ use borrow.Author.Rules.{rules}
 use Rattle.split_cuts.proofs.cut_laid_out.Statement.{statement}
 use Rattle.split_cuts.proofs.cut_laid_out.Tie as tie
 
-returns : tie.Need-returns
+returns : tie.Need-returns-then-count_words-ne2
 unfolding cut_laid_out
 returns c =
-    let line = c.before.before.before.args.line.now in
-    and-stop _ (not (is_empty (cell_name line))) (is_numeral (numeral (from_word line))) (ne_eqb (length (line_words line)) 2 (λ e. c.if1.true (c.before.count-words.ensures ∙ e)))
+    let line = c.args.line.now in
+    and-stop _ (not (is_empty (cell_name line))) (is_numeral (numeral (from_word line))) (ne_eqb (length (line_words line)) 2 (λ e. c.if-count_words-ne2.true (c.count_words.ensures ∙ e)))
 
-returns-2 : tie.Need-returns-2
+returns-2 : tie.Need-returns-then-name-gt0
 unfolding cut_laid_out
 returns-2 c =
-    let at-if1 = c.before.before.before.before in
-    let at-count-words = at-if1.before in
-    let line = at-count-words.before.before.args.line.now in
-    and-through _ _ _ (eq-eqb (length (line_words line)) 2 (sym at-count-words.count-words.ensures ∙ at-if1.if1.false))
-    (and-true (name-there c.before.before.before.word_at.ensures c.before.if2.true)
-    (c.is-numeral.ensures ∙ ap (λ w. is_numeral (numeral w)) c.before.before.word-at2.ensures))
+    let at-if1 = c in
+    let at-count-words = at-if1 in
+    let line = at-count-words.args.line.now in
+    and-through _ _ _ (eq-eqb (length (line_words line)) 2 (sym at-count-words.count_words.ensures ∙ at-if1.if-count_words-ne2.false))
+    (and-true (name-there c.word_at-name.ensures c.if-name-gt0.true)
+    (c.is_numeral.ensures ∙ ap (λ w. is_numeral (numeral w)) c.word_at-from.ensures))
 
-returns-3 : tie.Need-returns-3
+returns-3 : tie.Need-returns
 unfolding cut_laid_out
 returns-3 c =
-    let at-if1 = c.before.before.before in
-    let at-count-words = at-if1.before in
-    let line = at-count-words.before.before.args.line.now in
-    and-through _ _ _ (eq-eqb (length (line_words line)) 2 (sym at-count-words.count-words.ensures ∙ at-if1.if1.false))
-    (and-false (is_numeral (numeral (from_word line))) (name-lacks c.before.before.word_at.ensures c.if2.false))
+    let at-if1 = c in
+    let at-count-words = at-if1 in
+    let line = at-count-words.args.line.now in
+    and-through _ _ _ (eq-eqb (length (line_words line)) 2 (sym at-count-words.count_words.ensures ∙ at-if1.if-count_words-ne2.false))
+    (and-false (is_numeral (numeral (from_word line))) (name-lacks c.word_at-name.ensures c.if-name-gt0.false))
 
-pub cut-laid-out-spec : {M : Type 1} → statement M
-cut-laid-out-spec =
+pub cut_laid_out_spec : {M : Type 1} → statement M
+cut_laid_out_spec =
     tie.close
     (tie.spec
     (λ c κs. search rules)

@@ -10,42 +10,42 @@ use Rattle.replay_trace.proofs.TraceLaws.{Scanned, scan-start, scan-fails, scan-
 use Rattle.split_cuts.proofs.earliest.Statement.{statement}
 use Rattle.split_cuts.proofs.earliest.Tie as tie
 
-abbrev invariant-loop : tie.invariant-loop
-invariant-loop test cuts cells fields rest₀ passed₀ rest passed = Scanned (line_test test (list cells ++ list fields)) cuts rest passed
+abbrev invariant-loop-rest : tie.invariant-loop-rest
+invariant-loop-rest test cuts cells fields rest₀ passed₀ rest passed = Scanned (line_test test (list cells ++ list fields)) cuts rest passed
 
-abbrev decreases-loop : tie.decreases-loop
-decreases-loop test cuts cells fields rest₀ passed₀ rest passed = length rest
+abbrev decreases-loop-rest : tie.decreases-loop-rest
+decreases-loop-rest test cuts cells fields rest₀ passed₀ rest passed = length rest
 
-loop-holds : tie.Need-loop-init invariant-loop decreases-loop
+loop-holds : tie.Need-loop-rest-init invariant-loop-rest decreases-loop-rest
 loop-holds c = scan-start _ _
 
-add-passed : tie.Need-overflow-add-passed invariant-loop decreases-loop
-add-passed c = let v = c.before.before.before.before.loop.invariant.size in let r = c.before.before.before.before.before.before.before.before.requires in omega arith
+add-passed : tie.Need-overflow_add-passed invariant-loop-rest decreases-loop-rest
+add-passed c = let v = c.loop-rest.invariant.size in let r = c.requires in omega arith
 
-loop-less : tie.Need-loop-smaller invariant-loop decreases-loop
-loop-less c = let h = c.next-lines.ensures.1 in let s = c.before.before.before.loop-test.true in omega arith
+loop-less : tie.Need-loop-rest-smaller invariant-loop-rest decreases-loop-rest
+loop-less c = let h = c.next_lines-next.ensures.1 in let s = c.loop-rest-test.true in omega arith
 
-loop-again : tie.Need-loop-preserved invariant-loop decreases-loop
-loop-again c = scan-goes c.before.before.before.before.loop.invariant c.before.before.before.loop-test.true c.before.before.passes.ensures c.before.if1.true _ c.next-lines.ensures.0 c.next-lines.ensures.1
+loop-again : tie.Need-loop-rest-preserved invariant-loop-rest decreases-loop-rest
+loop-again c = scan-goes c.loop-rest.invariant c.loop-rest-test.true c.passes.ensures c.if-passes.true _ c.next_lines-next.ensures.0 c.next_lines-next.ensures.1
 
-add-t11 : tie.Need-overflow-add-t11 invariant-loop decreases-loop
-add-t11 c = let v = c.before.before.before.loop.invariant.size in let r = c.before.before.before.before.before.before.before.requires in omega arith
+add-t11 : tie.Need-overflow_add-result invariant-loop-rest decreases-loop-rest
+add-t11 c = let v = c.loop-rest.invariant.size in let r = c.requires in omega arith
 
-cast-t12 : tie.Need-overflow-cast-t12 invariant-loop decreases-loop
-cast-t12 c = let v = c.before.before.before.loop.invariant.size in let r = c.before.before.before.before.before.before.before.requires in omega arith
+cast-t12 : tie.Need-overflow_cast-result invariant-loop-rest decreases-loop-rest
+cast-t12 c = let v = c.loop-rest.invariant.size in let r = c.requires in omega arith
 
-returns : tie.Need-returns invariant-loop decreases-loop
-returns c = scan-fails c.before.before.before.loop.invariant c.before.before.loop-test.true c.before.passes.ensures c.if1.false
+returns : tie.Need-returns-else-passes invariant-loop-rest decreases-loop-rest
+returns c = scan-fails c.loop-rest.invariant c.loop-rest-test.true c.passes.ensures c.if-passes.false
 
-returns-2 : tie.Need-returns-2 invariant-loop decreases-loop
-returns-2 c = scan-ends c.before.loop.invariant c.loop-test.false
+returns-2 : tie.Need-returns invariant-loop-rest decreases-loop-rest
+returns-2 c = scan-ends c.loop-rest.invariant c.loop-rest-test.false
 
-pub earliest-spec : {M : Type 1} → statement M
-earliest-spec =
+pub earliest_spec : {M : Type 1} → statement M
+earliest_spec =
     tie.close
     (tie.spec
-    invariant-loop
-    decreases-loop
+    invariant-loop-rest
+    decreases-loop-rest
     loop-holds
     (λ c κs. search rules)
     (λ c κs. search rules)

@@ -9,18 +9,18 @@ use borrow.Author.Rules.{rules}
 use Rattle.split_cuts.proofs.in_range.Statement.{statement}
 use Rattle.split_cuts.proofs.in_range.Tie as tie
 
-is-within-requires : tie.Need-is-within-requires
-is-within-requires c κs = subst Near (sym c.number-range.ensures) near-numbers
+is-within-requires : tie.Need-is_within-requires
+is-within-requires c κs = subst Near (sym c.number_range.ensures) near-numbers
 
-returns : tie.Need-returns
-returns c = let start = c.before.before in sym (names-ranged start.args.k start.args.line.now c.if1.true)
+returns : tie.Need-returns-then-k-eq0
+returns c = let start = c in sym (names-ranged start.args.k start.args.line.now c.if-k-eq0.true)
 
-returns-2 : tie.Need-returns-2
+returns-2 : tie.Need-returns
 returns-2 c =
-    let start = c.before.before.before.before.before in
-    c.is_Within.ensures
-    ∙ ap₂ (λ r w. within r (value w)) c.before.number-range.ensures c.before.before.word_at.ensures
-    ∙ sym (cut-ranged start.args.k start.args.line.now c.before.before.before.if1.false)
+    let start = c in
+    c.is_within.ensures
+    ∙ ap₂ (λ r w. within r (value w)) c.number_range.ensures c.word_at-from.ensures
+    ∙ sym (cut-ranged start.args.k start.args.line.now c.if-k-eq0.false)
 
-pub in-range-spec : {M : Type 1} → statement M
-in-range-spec = tie.close (tie.spec returns (λ c κs. search rules) (λ c κs. search rules) is-within-requires returns-2)
+pub in_range_spec : {M : Type 1} → statement M
+in_range_spec = tie.close (tie.spec returns (λ c κs. search rules) (λ c κs. search rules) is-within-requires returns-2)

@@ -8,19 +8,19 @@ use borrow.Author.Rules.{rules}
 use Rattle.split_cuts.proofs.line_laid_out.Statement.{statement}
 use Rattle.split_cuts.proofs.line_laid_out.Tie as tie
 
-line-ends-requires : tie.Need-line-ends-requires
-line-ends-requires c κs = ap length c.first-line.ensures
+line-ends-requires : tie.Need-line_ends-ended-requires
+line-ends-requires c κs = ap length c.first_line-line.ensures
 
-returns : tie.Need-returns
+returns : tie.Need-returns-then-ended
 unfolding line_laid_out
-returns c = and-true (sym c.before.before.line-ends.ensures ∙ c.before.if1.true) (c.laid_out.ensures ∙ ap (text_laid_out c.before.before.before.before.before.args.k) c.before.before.before.first-line.ensures)
+returns c = and-true (sym c.line_ends-ended.ensures ∙ c.if-ended.true) (c.laid_out.ensures ∙ ap (text_laid_out c.args.k) c.first_line-line.ensures)
 
-returns-2 : tie.Need-returns-2
+returns-2 : tie.Need-returns
 unfolding line_laid_out
 returns-2 c =
-    let start = c.before.before.before.before in
-    and-false (text_laid_out start.args.k (get_or (lines start.args.rest.now) 0 no_line).text) (sym c.before.line-ends.ensures ∙ c.if1.false)
+    let start = c in
+    and-false (text_laid_out start.args.k (get_or (lines start.args.rest.now) 0 no_line).text) (sym c.line_ends-ended.ensures ∙ c.if-ended.false)
 
-pub line-laid-out-spec : {M : Type 1} → statement M
-line-laid-out-spec =
+pub line_laid_out_spec : {M : Type 1} → statement M
+line_laid_out_spec =
     tie.close (tie.spec (λ c κs. search rules) line-ends-requires (λ c κs. search rules) returns returns-2)

@@ -9,12 +9,12 @@ use borrow.Author.Rules.{rules}
 use Rattle.split_cuts.proofs.number_of.Statement.{statement}
 use Rattle.split_cuts.proofs.number_of.Tie as tie
 
-number-of-requires : tie.Need-number-of-requires
-number-of-requires c κs = numbers_fit _ c.before.number-range.ensures
+number-of-requires : tie.Need-number_of-requires
+number-of-requires c κs = numbers_fit _ c.number_range.ensures
 
 returns : tie.Need-returns
 returns c =
-    to_z-of_z w32 c.number_of_lem.result (search rules) ∙ c.number_of_lem.ensures ∙ ap₂ (λ r w. inside r (value w)) c.before.before.number-range.ensures c.before.word_at.ensures
+    to_z-of_z w32 c.number_of.result (search rules) ∙ c.number_of.ensures ∙ ap₂ (λ r w. inside r (value w)) c.number_range.ensures c.word_at.ensures
 
-pub number-of-spec : {M : Type 1} → statement M
-number-of-spec = tie.close (tie.spec (λ c κs. search rules) (λ c κs. search rules) number-of-requires returns)
+pub number_of_spec : {M : Type 1} → statement M
+number_of_spec = tie.close (tie.spec (λ c κs. search rules) (λ c κs. search rules) number-of-requires returns)

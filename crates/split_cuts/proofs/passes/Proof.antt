@@ -11,28 +11,28 @@ use borrow.Author.Rules.{rules}
 use Rattle.split_cuts.proofs.passes.Statement.{statement}
 use Rattle.split_cuts.proofs.passes.Tie as tie
 
-returns : tie.Need-returns
+returns : tie.Need-returns-in-Layout
 unfolding line_test
 returns c =
-    let a = c.before.before.before.before.before.before.args in
-    arm (λ t. line_test t (list a.cells.now ++ list a.fields.now) a.k (get_or (lines a.rest.now) 0 no_line)) c.before.enum_told.given.1 c.line-laid-out.ensures
+    let a = c.args in
+    arm (λ t. line_test t (list a.cells.now ++ list a.fields.now) a.k (get_or (lines a.rest.now) 0 no_line)) c.in-Layout.is c.line_laid_out.ensures
 
-returns-2 : tie.Need-returns-2
+returns-2 : tie.Need-returns-in-Range
 unfolding line_test line_in_range
 returns-2 c =
-    let a = c.before.before.before.before.before.before.before.args in
-    arm (λ t. line_test t (list a.cells.now ++ list a.fields.now) a.k (get_or (lines a.rest.now) 0 no_line)) c.before.before.enum-told2.given.1
-    (c.in-range.ensures ∙ ap (text_in_range a.k) c.before.first-line.ensures)
+    let a = c.args in
+    arm (λ t. line_test t (list a.cells.now ++ list a.fields.now) a.k (get_or (lines a.rest.now) 0 no_line)) c.in-Range.is
+    (c.in_range.ensures ∙ ap (text_in_range a.k) c.first_line.ensures)
 
-returns-3 : tie.Need-returns-3
+returns-3 : tie.Need-returns-in-Name
 unfolding line_test line_named
 returns-3 c =
-    let a = c.before.before.before.before.before.before.before.args in
-    arm (λ t. line_test t (list a.cells.now ++ list a.fields.now) a.k (get_or (lines a.rest.now) 0 no_line)) c.before.before.enum-told3.given.1
-    (c.named.ensures ∙ ap (text_named (list a.cells.now ++ list a.fields.now) a.k) c.before.first-line2.ensures)
+    let a = c.args in
+    arm (λ t. line_test t (list a.cells.now ++ list a.fields.now) a.k (get_or (lines a.rest.now) 0 no_line)) c.in-Name.is
+    (c.named.ensures ∙ ap (text_named (list a.cells.now ++ list a.fields.now) a.k) c.first_line-in-Name.ensures)
 
-pub passes-spec : {M : Type 1} → statement M
-passes-spec =
+pub passes_spec : {M : Type 1} → statement M
+passes_spec =
     tie.close
     (tie.spec
     (λ c. search rules)

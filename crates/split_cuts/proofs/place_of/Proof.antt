@@ -11,7 +11,10 @@ use Rattle.split_cuts.proofs.place_of.Tie as tie
 
 returns : tie.Need-returns
 unfolding parted_by line_words digits decimal from position_of all_positions name_of find place_number
-returns c = c.index_of.ensures ∙ ap (λ r. index_of r.place) c.before.find.ensures
+returns c = c.index_of.ensures ∙ ap (λ r. index_of r.place) c.find-found.ensures
 
-pub place-of-spec : {M : Type 1} → statement M
-place-of-spec = tie.close (tie.spec (λ c. search rules) (λ c κs. search rules) (λ c κs. search rules) returns)
+pub place_of_spec : {M : Type 1} → statement M
+place_of_spec = tie.close (tie.spec
+    (λ c κs. search rules)
+    (λ c κs. search rules)
+    returns)

@@ -15,36 +15,36 @@ use borrow.Author.Rules.{rules}
 use Rattle.words_entry.proofs.export.Statement.{statement}
 use Rattle.words_entry.proofs.export.Tie as tie
 
-enum_told : tie.Need-enum-told
+enum_told : tie.Need-enum_told-1
 enum_told c = search rules
 
-put-export-requires : tie.Need-put-export-requires
+put-export-requires : tie.Need-put_export-length-requires
 put-export-requires c κs =
-    let k = c.before.before.before in
-    let s = k.before.before.before in
-    let accepts = sym k.check.ensures ∙ c.before.enum_told.given.1 in
+    let k = c in
+    let s = k in
+    let accepts = sym k.check-verdict.ensures ∙ c.in-Accepted.is in
     (accepted-passes Bound 32768 _ s.args.text.now accepts, accepted-enough Bound 32768 _ s.args.text.now accepts)
 
-returns : tie.Need-returns
+returns : tie.Need-returns-in-Accepted
 unfolding read_by
 returns c =
-    let p = c.before.before in
-    let k = p.before.before.before.before in
-    let s = k.before.before.before in
+    let p = c in
+    let k = p in
+    let s = k in
     let text = s.args.text.now in
-    let accepts = sym k.check.ensures ∙ p.before.before.enum_told.given.1 in
-    gives-report _ _ (export-made text (length s.args.out.now) (accepted-enough Bound 32768 _ text accepts) _ (accepted-read Bound 32768 _ text accepts)) _ p.put-export.ensures.0 _ _ p.put-export.ensures.1
+    let accepts = sym k.check-verdict.ensures ∙ p.in-Accepted.is in
+    gives-report _ _ (export-made text (length s.args.out.now) (accepted-enough Bound 32768 _ text accepts) _ (accepted-read Bound 32768 _ text accepts)) _ p.put_export-length.ensures.0 _ _ p.put_export-length.ensures.1
 
-returns-2 : tie.Need-returns-2
+returns-2 : tie.Need-returns-in-Refused
 unfolding export_answer read_by
 returns-2 c =
-    let k = c.before.before.before in
-    let s = k.before.before.before in
+    let k = c in
+    let s = k in
     let text = s.args.text.now in
-    check-refuses (λ x. reported (export_bytes (lines text))) (read_bound text) 32768 (length s.args.out.now) _ (sym k.check.ensures ∙ c.before.verdict.given.1) _
+    check-refuses (λ x. reported (export_bytes (lines text))) (read_bound text) 32768 (length s.args.out.now) _ (sym k.check-verdict.ensures ∙ c.in-Refused.is) _
 
-pub export-spec : {M : Type 1} → statement M
-export-spec =
+pub export_spec : {M : Type 1} → statement M
+export_spec =
     tie.close
     (tie.spec
     (λ c κs. search rules)

@@ -8,35 +8,35 @@ use borrow.Author.Rules.{rules}
 use Rattle.words_entry.proofs.import.Statement.{statement}
 use Rattle.words_entry.proofs.import.Tie as tie
 
-returns : tie.Need-returns
+returns : tie.Need-returns-then-out-lt32768
 returns c =
-    let a = c.before.before.before.before.args in
-    gives-refusal _ _ (import-short a.words.now a.primitives.now (length a.out.now) c.if1.true) _
+    let a = c.args in
+    gives-refusal _ _ (import-short a.words.now a.primitives.now (length a.out.now) c.if-out-lt32768.true) _
 
-enum_told : tie.Need-enum-told
+enum_told : tie.Need-enum_told-1
 enum_told c = search rules
 
-put-import-requires : tie.Need-put-import-requires
+put-import-requires : tie.Need-put_import-n-requires
 put-import-requires c κs =
-    (sym c.before.before.before.check-import.ensures ∙ c.before.enum_told.given.1, omega (arith, c.before.before.before.before.if1.false))
+    (sym c.check_import-verdict.ensures ∙ c.in-Accepted.is, omega (arith, c.if-out-lt32768.false))
 
-returns-2 : tie.Need-returns-2
+returns-2 : tie.Need-returns-in-Accepted
 returns-2 c =
-    let p = c.before.before in
-    let k = p.before.before.before.before in
-    let a = k.before.before.before.before.before.args in
-    let e = sym k.check-import.ensures ∙ p.before.before.enum_told.given.1 in
-    gives-report _ _ (import-made a.words.now a.primitives.now (length a.out.now) k.before.if1.false e) _ p.put-import.ensures.0 _ _ p.put-import.ensures.1
+    let p = c in
+    let k = p in
+    let a = k.args in
+    let e = sym k.check_import-verdict.ensures ∙ p.in-Accepted.is in
+    gives-report _ _ (import-made a.words.now a.primitives.now (length a.out.now) k.if-out-lt32768.false e) _ p.put_import-n.ensures.0 _ _ p.put_import-n.ensures.1
 
-returns-3 : tie.Need-returns-3
+returns-3 : tie.Need-returns-in-Refused
 returns-3 c =
-    let k = c.before.before.before in
-    let a = k.before.before.before.before.before.args in
-    let e = sym k.check-import.ensures ∙ c.before.verdict.given.1 in
-    gives-refusal _ _ (import-refused a.words.now a.primitives.now (length a.out.now) k.before.if1.false _ e) _
+    let k = c in
+    let a = k.args in
+    let e = sym k.check_import-verdict.ensures ∙ c.in-Refused.is in
+    gives-refusal _ _ (import-refused a.words.now a.primitives.now (length a.out.now) k.if-out-lt32768.false _ e) _
 
-pub import-spec : {M : Type 1} → statement M
-import-spec =
+pub import_spec : {M : Type 1} → statement M
+import_spec =
     tie.close
     (tie.spec
     returns

@@ -17,44 +17,44 @@ use Rattle.words_export.proofs.argument_word.Statement.{statement}
 use Rattle.words_export.proofs.argument_word.Tie as tie
 
 -- the start, from where it is known what the kind takes
-abbrev start : tie.After-argument-at → tie.Start
+abbrev start : tie.After-argument_at → tie.Start
 start c = c.before.before.before.before
 
 -- a primitive's place
-small : (c : tie.After-index-listed) → c.index_listed.result ≤ 32
+small : (c : tie.After-index_listed) → c.index_listed.result ≤ 32
 small c =
-    let s = start c.before.before.before in
-    omega (arith, c.index_listed.ensures, place-few s.args.w.now (list s.args.primitives.now), s.pre.2)
+    let s = start c.before.before in
+    omega (arith, c.index_listed.ensures, place-few s.args.w.now (list s.args.primitives.now), s.requires.2)
 
-target-index-requires : tie.Need-target-index-requires
+target-index-requires : tie.Need-target_index-requires
 target-index-requires c κs =
-    let k = c.before.before in
-    let s = start k in
-    let e = sym k.argument-at.ensures ∙ c.enum-told2.given.1 in
-    (s.pre.0, e, s.pre.3, subst (Leads s.args.first (length s.args.indices.now) s.args.w.now) e s.pre.4)
+    let k = c in
+    let s = start k.before in
+    let e = sym k.argument_at.ensures ∙ c.in-Target.is in
+    (s.requires.0, e, s.requires.3, subst (Leads s.args.first (length s.args.indices.now) s.args.w.now) e s.requires.4)
 
-returns : tie.Need-returns
-returns c = sym (argument-absent _ _ _ _ _ (sym c.before.before.argument-at.ensures ∙ c.enum_told.given.1))
+returns : tie.Need-returns-in-Absent
+returns c = sym (argument-absent _ _ _ _ _ (sym c.argument_at.ensures ∙ c.in-Absent.is))
 
-returns-2 : tie.Need-returns-2
+returns-2 : tie.Need-returns-in-Target
 returns-2 c =
-    let t = c.before.before in
-    let k = t.before.before in
-    to_z-of_z w32 _ (search rules) ∙ c.offset-to.ensures ∙ ap (λ n. pos n -ℤ pos (suc (start k).args.index)) c.before.target-index.ensures.0 ∙ sym (argument-target _ _ _ _ _ (sym k.argument-at.ensures ∙ t.enum-told2.given.1))
+    let t = c in
+    let k = t in
+    to_z-of_z w32 _ (search rules) ∙ c.offset_to.ensures ∙ ap (λ n. pos n -ℤ pos (suc (start k.before.before.before).args.index)) c.target_index.ensures.0 ∙ sym (argument-target _ _ _ _ _ (sym k.argument_at.ensures ∙ t.in-Target.is))
 
-returns-3 : tie.Need-returns-3
+returns-3 : tie.Need-returns-in-Primitive
 returns-3 c =
-    let t = c.before in
-    to_z_pos w32 _ (omega (arith, small c)) ∙ ap pos c.index_listed.ensures ∙ sym (argument-primitive _ _ _ _ _ (sym t.before.before.argument-at.ensures ∙ t.enum-told3.given.1))
+    let t = c in
+    to_z_pos w32 _ (omega (arith, small c)) ∙ ap pos c.index_listed.ensures ∙ sym (argument-primitive _ _ _ _ _ (sym t.argument_at.ensures ∙ t.in-Primitive.is))
 
-returns-4 : tie.Need-returns-4
+returns-4 : tie.Need-returns-in-Within
 returns-4 c =
-    let t = c.before.before in
-    let k = t.before.before in
-    to_z-of_z w32 _ (search rules) ∙ c.number_of_lem.ensures ∙ ap (λ r. inside r (value (start k).args.w.now)) c.before.number-range.ensures ∙ sym (argument-within _ _ _ _ _ (sym k.argument-at.ensures ∙ t.enum-told4.given.1))
+    let t = c in
+    let k = t in
+    to_z-of_z w32 _ (search rules) ∙ c.number_of.ensures ∙ ap (λ r. inside r (value (start k.before.before.before).args.w.now)) c.number_range.ensures ∙ sym (argument-within _ _ _ _ _ (sym k.argument_at.ensures ∙ t.in-Within.is))
 
-pub argument-word-spec : {M : Type 1} → statement M
-argument-word-spec =
+pub argument_word_spec : {M : Type 1} → statement M
+argument_word_spec =
     tie.close
     (tie.spec
     (λ c κs. search rules)
@@ -67,7 +67,7 @@ argument-word-spec =
     (λ c. omega (arith, small c))
     (λ c. search rules)
     (λ c κs. search rules)
-    (λ c κs. numbers_fit _ c.number-range.ensures)
+    (λ c κs. numbers_fit _ c.number_range.ensures)
     returns
     returns-2
     returns-3

@@ -12,9 +12,9 @@ use Rattle.words_export.proofs.kind_of.Tie as tie
 
 returns : tie.Need-returns
 returns c =
-    let line = c.before.before.before.before.args.line.now in
-    let e : c.index_of.result ≡ find (op line) kind_names = found kind_names _ _ _ c.index_of.ensures c.before.kind-named.ensures c.before.before.word_at.ensures in
+    let line = c.args.line.now in
+    let e : c.index_of.result ≡ find (op line) kind_names = found kind_names _ _ _ c.index_of.ensures c.kind_named.ensures c.word_at.ensures in
     (e, omega (arith, e, kind-small (op line)))
 
-pub kind-of-spec : {M : Type 1} → statement M
-kind-of-spec = tie.close (tie.spec (λ c κs. search rules) (λ c κs. search rules) (λ c κs. search rules) returns)
+pub kind_of_spec : {M : Type 1} → statement M
+kind_of_spec = tie.close (tie.spec (λ c κs. search rules) (λ c κs. search rules) (λ c κs. search rules) returns)

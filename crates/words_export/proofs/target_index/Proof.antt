@@ -14,36 +14,36 @@ use Rattle.words_export.proofs.target_index.Statement.{statement}
 use Rattle.words_export.proofs.target_index.Tie as tie
 
 -- the range of targets
-ranged : (c : tie.After-range-at) → c.range_at.result ≡ addresses
-ranged c = target-range c.range_at.ensures refl c.before.before.before.requires.1
+ranged : (c : tie.After-range_at) → c.range_at.result ≡ addresses
+ranged c = target-range c.range_at.ensures refl c.requires.1
 
 -- the address
-held : (c : tie.After-natural-of) → c.natural-of.result ≡ nat_abs (inside addresses (value c.before.before.before.before.args.w.now))
-held c = c.natural-of.ensures ∙ ap (λ r. natural_in r c.before.before.before.before.args.w.now) (ranged c.before)
+held : (c : tie.After-natural_of-address) → c.natural_of-address.result ≡ nat_abs (inside addresses (value c.args.w.now))
+held c = c.natural_of-address.ensures ∙ ap (λ r. natural_in r c.args.w.now) (ranged c.before)
 
-led : (c : tie.After-natural-of) → Address c.before.before.before.before.args.first (length c.before.before.before.before.args.indices.now) (inside addresses (value c.before.before.before.before.args.w.now))
-led c = let s = c.before.before.before.before in target-address s.requires.2 s.requires.3
+led : (c : tie.After-natural_of-address) → Address c.args.first (length c.args.indices.now) (inside addresses (value c.args.w.now))
+led c = let s = c in target-address s.requires.2 s.requires.3
 
-natural-of-requires : tie.Need-natural-of-requires
+natural-of-requires : tie.Need-natural_of-address-requires
 natural-of-requires c κs = record { least = 0; greatest = 62000; is = ranged c; small = (omega arith, omega arith) }
 
-sub-result : tie.Need-overflow-sub-result
+sub-result : tie.Need-overflow_sub-result
 sub-result c = omega (arith, held c, (led c).above)
 
-shared-slice-read-result : tie.Need-shared-slice-read-result
+shared-slice-read-result : tie.Need-bounds-indices-address
 shared-slice-read-result c = omega (arith, held c.before, (led c.before).above, (led c.before).below)
 
-cast-result : tie.Need-overflow-cast-result
-cast-result c = let s = c.before.before.before.before.before in omega (arith, s.requires.2.small (c.before.natural-of.result - s.args.first))
+cast-result : tie.Need-overflow_cast-result
+cast-result c = let s = c in omega (arith, s.requires.2.small (c.natural_of-address.result - s.args.first))
 
 returns : tie.Need-returns
 returns c =
-    let s = c.before.before.before.before.before in
+    let s = c in
     let e = ap (λ n. n - s.args.first) (held c.before) ∙ sym (led c.before).line in
-    (ap (λ j. get_or s.args.indices.now j 0) e, s.requires.2.small (c.before.natural-of.result - s.args.first))
+    (ap (λ j. get_or s.args.indices.now j 0) e, s.requires.2.small (c.natural_of-address.result - s.args.first))
 
-pub target-index-spec : {M : Type 1} → statement M
-target-index-spec =
+pub target_index_spec : {M : Type 1} → statement M
+target_index_spec =
     tie.close
     (tie.spec
     (λ c κs. search rules)

@@ -23,10 +23,10 @@ use Rattle.words_import.proofs.put_lines.Statement.{statement}
 use Rattle.words_import.proofs.put_lines.Tie as tie
 
 abbrev invariant-loop-rest : tie.invariant-loop-rest
-invariant-loop-rest out₀ at primitives numbers words coded starts names codes lows highs e₀ rest₀ index₀ count₀ feed out e rest index count = Writing (list primitives) out₀ at (words_of words) out e index count (words_of rest)
+invariant-loop-rest out₀ at primitives numbers words coded starts names codes lows highs e₀ rest₀ index₀ count₀ out e rest index count = Writing (list primitives) out₀ at (words_of words) out e index count (words_of rest)
 
 abbrev decreases-loop-rest : tie.decreases-loop-rest
-decreases-loop-rest out₀ at primitives numbers words coded starts names codes lows highs e₀ rest₀ index₀ count₀ feed out e rest index count = length rest
+decreases-loop-rest out₀ at primitives numbers words coded starts names codes lows highs e₀ rest₀ index₀ count₀ out e rest index count = length rest
 
 -- the places of a turn: from the loop's test back to the start, from where the instruction is known to the test, from the end of the turn
 -- to where the instruction is known
@@ -46,7 +46,7 @@ abbrev ended : tie.After-size_of-index invariant-loop-rest decreases-loop-rest �
 ended c = c.before.before.before.before
 
 abbrev read : tie.After-size_of-index invariant-loop-rest decreases-loop-rest → tie.In-Instruction invariant-loop-rest decreases-loop-rest
-read c = known (named (ended c).before.before.before.before.before)
+read c = known (named (ended c).before.before.before.before.before.before)
 
 -- the instruction that is read: its kind and its argument
 abbrev kind : tie.In-Instruction invariant-loop-rest decreases-loop-rest → ℕ
