@@ -1,4 +1,6 @@
 // The merging bound of a routine file, on texts and lent memory. The meaning is in the specs/ of `report_theory`.
+#![tactic(auto)]
+
 ghost use Rattle.std.specs.Prelude.{◌≡◌, length};
 ghost use Rattle.file_reader.specs.HeldRoutine.{Limited};
 ghost use Rattle.answers.specs.Answers.{memory, answer_of, report_length, Delivers};

@@ -1,4 +1,6 @@
 // The bound by cases of a routine that was read. The meaning is in the specs of `split_theory`.
+#![tactic(auto)]
+
 ghost use Rattle.std.specs.Prelude.{◌≤◌, length};
 ghost use Rattle.text.specs.Text.{lines};
 ghost use Rattle.bound_figures.specs.HeldFigures.{Shows};

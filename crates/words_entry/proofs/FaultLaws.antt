@@ -164,6 +164,7 @@ fault-found n c lo (unreadable i ∷ []) (unread l) = (record { there = fault-he
     go : (j : ℕ) → (j ≡ i) ⊎ FaultIn n (suc c) [] j → i ≤ j
     go j (inl e) = omega arith
     go j (inr g) = fault-none g
+fault-found n c lo (unreadable i ∷ (e ∷ es)) r = elim r [ ]
 fault-found n c lo (item x ∷ es) (next l r) = first (fault-found n (suc c) (x.index + size_of x.kind) es r) (ltb c 1024) refl
   where
     after : (j : ℕ) → FaultIn n (suc c) es j → x.index + size_of x.kind ≤ j
@@ -323,6 +324,7 @@ offset-found : (xs : List Item) (lo : ℕ) (es : List Decoded) → Rising lo es 
 unfolding items offset_fault
 offset-found xs lo [] none = λ j a. astray-none a
 offset-found xs lo (unreadable i ∷ []) (unread l) = λ j a. astray-none a
+offset-found xs lo (unreadable i ∷ (e ∷ es)) r = elim r [ ]
 offset-found xs lo (item x ∷ es) (next l r) = go (offset-found xs (x.index + size_of x.kind) es r) (lands xs x (kind_at x.kind).argument) refl
   where
     after : (j : ℕ) → AstrayIn xs (items es) j → x.index + size_of x.kind ≤ j

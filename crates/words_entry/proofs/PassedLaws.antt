@@ -228,7 +228,7 @@ module _ {first : ℕ} {ls ms : List Line} (f : Lowers first ls ms) (parted : Ev
   line-passes known-row h = refl
 
 -- all lines of code
-lines-pass : {first n k : ℕ} {ls ms is js : List Line} → Lowers first ls ms → Every (Free 32) (listed (names primitives) ls) → (row : Row) → Lower (listed (names primitives) ls) n first k is js →
+lines-pass : {first n : ℕ} {ls ms : List Line} {k : ℕ} {is js : List Line} → Lowers first ls ms → Every (Free 32) (listed (names primitives) ls) → (row : Row) → Lower (listed (names primitives) ls) n first k is js →
     Coded (test row ls) k is → Coded (test row ms) k js
 lines-pass f p row ends coded.none = coded.none
 lines-pass f p row (follows {l} x r) (coded.next h c) = coded.next (line-passes f p l x row h) (lines-pass f p row r c)
@@ -248,6 +248,7 @@ module _ {t u : Role → Line → Bool} (same : (r : Role) → is_code r ≡ fal
 
   answers-covered : (k : ℕ) (bs : List Line) → Covered t (answer_roles k bs) bs → Covered u (answer_roles k bs) bs
   unfolding answer_roles
+  answers-covered zero [] c = elim c [ ]
   answers-covered (suc k) [] c = rest
   answers-covered k (b ∷ bs) (passed p c) = passed (same (answer k) refl b p) (answers-covered (suc k) bs c)
 

@@ -5,15 +5,15 @@ use borrow.Author.Rules.{rules}
 use Rattle.bound_entry.proofs.bound_routine.Statement.{statement}
 use Rattle.bound_entry.proofs.bound_routine.Tie as tie
 
-put-found-requires : tie.Need-put-found-requires
+put-found-requires : tie.Need-put_found-requires
 unfolding bound_routine
-put-found-requires c κs = (c.before.explored.ensures.1, found-printable _ _ _ _ c.before.explored.ensures.0 c.before.before.before.requires.1)
+put-found-requires c κs = (c.explored-found.ensures.1, found-printable _ _ _ _ c.explored-found.ensures.0 c.requires.1)
 
 returns : tie.Need-returns
 unfolding bound_routine
-returns c = found-gives _ 0 _ _ c.before.before.before.before.explored.ensures.0 _ _ _ c.before.before.put-found.ensures
+returns c = found-gives _ 0 _ _ c.explored-found.ensures.0 _ _ _ c.put_found.ensures
 
-pub bound-routine-spec : {M : Type 1} → statement M
-bound-routine-spec =
+pub bound_routine_spec : {M : Type 1} → statement M
+bound_routine_spec =
     tie.close
     (tie.spec (λ c κs. search rules) put-found-requires (λ c. search rules) returns)

@@ -5,15 +5,15 @@ use borrow.Author.Rules.{rules}
 use Rattle.merge_entry.proofs.merge_routine.Statement.{statement}
 use Rattle.merge_entry.proofs.merge_routine.Tie as tie
 
-put-found-requires : tie.Need-put-found-requires
+put-found-requires : tie.Need-put_found-requires
 unfolding merge_routine
-put-found-requires c κs = (c.before.swept.ensures.1, found-printable _ _ _ _ c.before.swept.ensures.0 c.before.before.before.requires.1)
+put-found-requires c κs = (c.swept-found.ensures.1, found-printable _ _ _ _ c.swept-found.ensures.0 c.requires.1)
 
 returns : tie.Need-returns
 unfolding merge_routine
-returns c = found-gives _ 0 _ _ c.before.before.before.before.swept.ensures.0 _ _ _ c.before.before.put-found.ensures
+returns c = found-gives _ 0 _ _ c.swept-found.ensures.0 _ _ _ c.put_found.ensures
 
-pub merge-routine-spec : {M : Type 1} → statement M
-merge-routine-spec =
+pub merge_routine_spec : {M : Type 1} → statement M
+merge_routine_spec =
     tie.close
     (tie.spec (λ c κs. search rules) put-found-requires (λ c. search rules) returns)

@@ -16,16 +16,16 @@ places s = search (rules, length-images)
 
 split-requires : tie.Need-split-requires
 split-requires c κs =
-    let s = c.before.before.before.before.before.before.before in
+    let s = c in
     let l = s.requires.0 in
     let at = l.placed in
-    (record { program = l.program; formed = l.formed; room = places s; numeric = l.numeric; placed = (omega arith, omega arith) }, c.before.before.cuts-of.ensures.1, omega arith, refl)
+    (record { program = l.program; formed = l.formed; room = places s.before.before.before.before.before.before.before; numeric = l.numeric; placed = (omega arith, omega arith) }, c.cuts_of-held.ensures.1, omega arith, refl)
 
 returns : tie.Need-returns
 returns c =
-    let r = c.before.before.before.before.before.before.before.before.before.args.routine in (
-      subst (Shows c.before.split.result) (ap (λ xs. split (program_of r.code) xs (whole (sizes_of r.code) r.blocks r.start)) c.before.before.before.before.cuts-of.ensures.0) c.before.split.ensures.0,
-      record { cycles = omega (arith, c.before.split.ensures.1.cycles) },
+    let r = c.args.routine in (
+      subst (Shows c.split.result) (ap (λ xs. split (program_of r.code) xs (whole (sizes_of r.code) r.blocks r.start)) c.cuts_of-held.ensures.0) c.split.ensures.0,
+      record { cycles = omega (arith, c.split.ensures.1.cycles) },
     )
 
 pub bounded_spec : {M : Type 1} → statement M
