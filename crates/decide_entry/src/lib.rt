@@ -1,4 +1,6 @@
 // Whether a routine fits in its tick, on texts and lent memory. The meaning is in specs/.
+#![tactic(auto)]
+
 ghost use Rattle.std.specs.Prelude.{◌≡◌, true, length};
 ghost use Rattle.bound_theory.specs.Tree.{bound, refused};
 ghost use Rattle.file_reader.specs.HeldRoutine.{Limited};

@@ -1,4 +1,6 @@
 // The explanation on texts and lent memory: the steps of the worst path. The meaning is in specs/.
+#![tactic(auto)]
+
 ghost use Rattle.std.specs.Prelude.{◌≡◌, ◌++◌, ◌+◌, ◌≤◌, length, drop};
 ghost use Rattle.text.specs.Text.{lines};
 ghost use Rattle.text_decimals.specs.Memory.{over};

@@ -1,4 +1,6 @@
 // A preview of a routine file, on texts and lent memory. The meaning is in specs/.
+#![tactic(auto)]
+
 ghost use Rattle.std.specs.Prelude.{◌≡◌, ◌≤◌, length};
 ghost use Rattle.text.specs.Text.{lines};
 ghost use Rattle.file_format.specs.Rows.{Passes};

@@ -17,34 +17,34 @@ use borrow.Author.Rules.{rules}
 use Rattle.preview_entry.proofs.preview.Statement.{statement}
 use Rattle.preview_entry.proofs.preview.Tie as tie
 
-enum_told : tie.Need-enum-told
+enum_told : tie.Need-enum_told-1
 enum_told c = search rules
 
-bound-copy-requires : tie.Need-bound-copy-requires
+bound-copy-requires : tie.Need-bound_copy-requires
 unfolding read_by
 bound-copy-requires c κs =
-    let k = c.before.before.before in
-    let s = k.before.before.before.before in
+    let k = c in
+    let s = k in
     let text = s.args.text.now in
-    let accepts = sym k.check.ensures ∙ c.before.enum_told.given.1 in
+    let accepts = sym k.check-verdict.ensures ∙ c.in-Accepted.is in
     let r = read-passes text _ (accepted-read Bound 128 _ text accepts) in
     (r.0, r.2, accepted-enough Bound 128 _ text accepts)
 
-returns : tie.Need-returns
-returns c = c.before.before.bound-copy.ensures
+returns : tie.Need-returns-in-Accepted
+returns c = c.bound_copy.ensures
 
-returns-2 : tie.Need-returns-2
+returns-2 : tie.Need-returns-in-Refused
 unfolding preview_answer read_by
 returns-2 c =
-    let k = c.before.before.before in
-    let s = k.before.before.before.before in
+    let k = c in
+    let s = k in
     let text = s.args.text.now in
     let n = length s.args.out.now in
     check-refuses (λ x. cond (in_code x.code s.args.address) (bound_answer (patched (lines text) s.args.address s.args.instruction.now) n) (refused (BadName s.args.address)))
-    (read_bound text) 128 n _ (sym k.check.ensures ∙ c.before.verdict.given.1) _
+    (read_bound text) 128 n _ (sym k.check-verdict.ensures ∙ c.in-Refused.is) _
 
-pub preview-spec : {M : Type 1} → statement M
-preview-spec =
+pub preview_spec : {M : Type 1} → statement M
+preview_spec =
     tie.close
     (tie.spec
     (λ c κs. search rules)
