@@ -5,7 +5,7 @@ use mathlib.Core.Path.{◌≡◌, refl, sym, ap, ◌∙◌, subst}
 use mathlib.Core.List.{List, ◌++◌}
 use native.Mathlib.Omega.{arith}
 use lib.ListN.{length, take, drop, length-append}
-use lib.Seq.{take-append_seam, length-take-le}
+use lib.Seq.{take-append_seam}
 use Rattle.io.specs.Counts.{IsPrefixLen}
 use Rattle.text_decimals.proofs.DecimalLaws.{decimal-length}
 use Rattle.refusals.specs.declared.Refusal.{Refusal}
@@ -14,17 +14,11 @@ use Rattle.report.specs.Report.{refusal_line, refusal_text}
 use Rattle.report.proofs.PutLaws.{refusal-length}
 use Rattle.answers.specs.Answers.{Answer, reported, refused, memory, answer_of}
 use Rattle.answers.specs.declared.Answer as code
-use Rattle.answers.specs.declared.Answer.TheVariants.{Reported, Refused}
+use Rattle.answers.specs.declared.Answer.TheVariants.{Refused}
 use Rattle.console.specs.Line.{line, Held, printed}
 
 pub refusal-fits : (k p : ℕ) → k < 2 ^ 64 → p < 2 ^ 64 → length (refusal_line k p) ≤ 128
 refusal-fits k p h g = omega (arith, refusal-length k p, decimal-length 20 k (omega arith) (omega arith), decimal-length 20 p (omega arith) (omega arith))
-
--- a report is there already
-pub reported-line : (x : code.Answer) (n : ℕ) (bytes : List ℕ) → x ≡ Reported n → Held x bytes → IsPrefixLen n bytes × (take n bytes ≡ line x bytes)
-reported-line x n bytes e h =
-    let l : n ≤ length bytes = subst (λ (y : code.Answer). Held y bytes) e h in
-    ((l, sym (length-take-le n bytes l)), subst (λ (y : code.Answer). take n bytes ≡ line y bytes) (sym e) refl)
 
 pub refused-held : (x : code.Answer) (r : Refusal) (bytes : List ℕ) → x ≡ Refused r → Held x bytes → 128 ≤ length bytes
 refused-held x r bytes e h = subst (λ (y : code.Answer). Held y bytes) e h
