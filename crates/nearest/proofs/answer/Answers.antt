@@ -1,0 +1,11 @@
+-- What is printed is what the answer and its memory say.
+use Rattle.std.proofs.Common.{◌∙◌, length}
+use Rattle.nearest_entry.specs.Answers.{nearest_answer}
+use Rattle.console.proofs.PrintLaws.{line-held, line-printed}
+use Rattle.nearest.proofs.answer.Goals as goal
+
+pub put_line-requires : goal.put_line-requires
+put_line-requires c = line-held (nearest_answer c.args.text.now (length c.args.out.now)) c.args.out.now c.nearest-answer.ensures.value c.nearest-answer.ensures.out_after c.requires
+
+pub returns-clause-out_after : goal.returns-clause-out_after
+returns-clause-out_after c = c.put_line.ensures.bytes_after ∙ line-printed (nearest_answer c.args.text.now (length c.args.out.now)) c.args.out.now c.nearest-answer.ensures.value c.nearest-answer.ensures.out_after
