@@ -1,5 +1,7 @@
 // The public functions for C: each calls the function of its entry crate, and tells the answer as one number. The meaning is in specs/ of the
 // entry crates and of `c_answers`. `c_interface_c` exports each under its name.
+#![tactic(auto)]
+
 ghost use Rattle.std.specs.Prelude.{◌≡◌, length};
 ghost use Rattle.answers.specs.Answers.{memory_limit, memory, answer_of, Delivers};
 ghost use Rattle.report_theory.specs.Answers.{bound_answer, merge_answer, run_answer};

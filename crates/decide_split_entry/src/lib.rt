@@ -1,4 +1,6 @@
 // Whether a routine fits in its tick by the bound by cases, on texts and lent memory. The meaning is in specs/.
+#![tactic(auto)]
+
 ghost use Rattle.std.specs.Prelude.{◌≡◌, ◌≤◌, length};
 ghost use Rattle.text.specs.Text.{lines};
 ghost use Rattle.file_format.specs.Routine.{routine_of};

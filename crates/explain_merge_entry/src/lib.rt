@@ -1,4 +1,6 @@
 // The explanation of the merging bound on texts and lent memory: a costliest way through the merged states. The meaning is in specs/.
+#![tactic(auto)]
+
 ghost use Rattle.std.specs.Prelude.{◌≡◌, ◌++◌, ◌+◌, ◌≤◌, length, drop};
 ghost use Rattle.text.specs.Text.{lines};
 ghost use Rattle.text_decimals.specs.Memory.{over};

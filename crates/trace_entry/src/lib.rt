@@ -1,4 +1,6 @@
 // The run of a routine file as a card would record it, on texts and lent memory. The meaning is in specs/.
+#![tactic(auto)]
+
 ghost use Rattle.std.specs.Prelude.{◌≡◌, ◌++◌, ◌+◌, ◌≤◌, ◌<◌, length, drop};
 ghost use Rattle.text_decimals.specs.Memory.{over};
 ghost use Rattle.machine_state.specs.HeldProgram.{program_of, sizes_of, IsProgram};

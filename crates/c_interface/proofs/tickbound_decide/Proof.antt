@@ -8,10 +8,10 @@ use Rattle.c_interface.proofs.tickbound_decide.Tie as tie
 
 returns : tie.Need-returns
 returns c =
-    let b = c.before.before.before.decide.ensures in
+    let b = c.decide-decided.ensures in
     let w = c.word_of.ensures ∙ ap word_of b.0 in
     let l = decide-length _ _ _ b.0 _ c.word_of.ensures in
     (w, (b.1.0, (decide-tells _ _ _ w, rw l at b.1.1)))
 
-pub tickbound-decide-spec : {M : Type 1} → statement M
-tickbound-decide-spec = tie.close (tie.spec (λ c κs. search rules) (λ c κs. search rules) (λ c. search rules) returns)
+pub tickbound_decide_spec : {M : Type 1} → statement M
+tickbound_decide_spec = tie.close (tie.spec (λ c κs. search rules) (λ c κs. search rules) (λ c. search rules) returns)

@@ -8,10 +8,10 @@ use Rattle.c_interface.proofs.tickbound_decide_split.Tie as tie
 
 returns : tie.Need-returns
 returns c =
-    let b = c.before.before.before.decide-split.ensures in
+    let b = c.decide_split-decided.ensures in
     let w = c.word_of.ensures ∙ ap word_of b.0 in
     let l = decide-split-length _ _ _ _ b.0 _ c.word_of.ensures in
     (w, (b.1.0, (decide-split-tells _ _ _ _ w, rw l at b.1.1)))
 
-pub tickbound-decide-split-spec : {M : Type 1} → statement M
-tickbound-decide-split-spec = tie.close (tie.spec (λ c κs. search rules) (λ c κs. search rules) (λ c. search rules) returns)
+pub tickbound_decide_split_spec : {M : Type 1} → statement M
+tickbound_decide_split_spec = tie.close (tie.spec (λ c κs. search rules) (λ c κs. search rules) (λ c. search rules) returns)

@@ -8,9 +8,9 @@ use Rattle.c_interface.proofs.tickbound_explain_merge.Tie as tie
 
 returns : tie.Need-returns
 returns c =
-    let b = c.before.before.before.explain-merge.ensures in
+    let b = c.explain_merge-explained.ensures in
     let w = c.word_of.ensures ∙ ap word_of b.0 in
     (w, (b.1, explain-merge-tells _ _ _ w))
 
-pub tickbound-explain-merge-spec : {M : Type 1} → statement M
-tickbound-explain-merge-spec = tie.close (tie.spec (λ c κs. search rules) (λ c κs. search rules) (λ c. search rules) returns)
+pub tickbound_explain_merge_spec : {M : Type 1} → statement M
+tickbound_explain_merge_spec = tie.close (tie.spec (λ c κs. search rules) (λ c κs. search rules) (λ c. search rules) returns)

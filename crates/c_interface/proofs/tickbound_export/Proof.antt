@@ -8,9 +8,9 @@ use Rattle.c_interface.proofs.tickbound_export.Tie as tie
 
 returns : tie.Need-returns
 returns c =
-    let b = c.before.before.before.export.ensures in
+    let b = c.export-exported.ensures in
     let w = c.word_of.ensures ∙ ap word_of b.0 in
     (w, (b.1, export-tells _ _ _ w))
 
-pub tickbound-export-spec : {M : Type 1} → statement M
-tickbound-export-spec = tie.close (tie.spec (λ c κs. search rules) (λ c κs. search rules) (λ c. search rules) returns)
+pub tickbound_export_spec : {M : Type 1} → statement M
+tickbound_export_spec = tie.close (tie.spec (λ c κs. search rules) (λ c κs. search rules) (λ c. search rules) returns)

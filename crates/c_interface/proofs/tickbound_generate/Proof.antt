@@ -8,9 +8,9 @@ use Rattle.c_interface.proofs.tickbound_generate.Tie as tie
 
 returns : tie.Need-returns
 returns c =
-    let b = c.before.before.before.generate.ensures in
+    let b = c.generate-generated.ensures in
     let w = c.word_of.ensures ∙ ap word_of b.0 in
     (w, (b.1, generate-tells _ _ _ w))
 
-pub tickbound-generate-spec : {M : Type 1} → statement M
-tickbound-generate-spec = tie.close (tie.spec (λ c κs. search rules) (λ c κs. search rules) (λ c. search rules) returns)
+pub tickbound_generate_spec : {M : Type 1} → statement M
+tickbound_generate_spec = tie.close (tie.spec (λ c κs. search rules) (λ c κs. search rules) (λ c. search rules) returns)

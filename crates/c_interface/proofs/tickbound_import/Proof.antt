@@ -8,9 +8,9 @@ use Rattle.c_interface.proofs.tickbound_import.Tie as tie
 
 returns : tie.Need-returns
 returns c =
-    let b = c.before.before.before.import.ensures in
+    let b = c.import-imported.ensures in
     let w = c.word_of.ensures ∙ ap word_of b.0 in
     (w, (b.1, import-tells _ _ _ _ w))
 
-pub tickbound-import-spec : {M : Type 1} → statement M
-tickbound-import-spec = tie.close (tie.spec (λ c κs. search rules) (λ c κs. search rules) (λ c. search rules) returns)
+pub tickbound_import_spec : {M : Type 1} → statement M
+tickbound_import_spec = tie.close (tie.spec (λ c κs. search rules) (λ c κs. search rules) (λ c. search rules) returns)

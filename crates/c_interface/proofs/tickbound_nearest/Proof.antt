@@ -8,9 +8,9 @@ use Rattle.c_interface.proofs.tickbound_nearest.Tie as tie
 
 returns : tie.Need-returns
 returns c =
-    let b = c.before.before.before.nearest.ensures in
+    let b = c.nearest-nearest.ensures in
     let w = c.word_of.ensures ∙ ap word_of b.0 in
     (w, (b.1, nearest-tells _ _ _ w))
 
-pub tickbound-nearest-spec : {M : Type 1} → statement M
-tickbound-nearest-spec = tie.close (tie.spec (λ c κs. search rules) (λ c κs. search rules) (λ c. search rules) returns)
+pub tickbound_nearest_spec : {M : Type 1} → statement M
+tickbound_nearest_spec = tie.close (tie.spec (λ c κs. search rules) (λ c κs. search rules) (λ c. search rules) returns)

@@ -9,9 +9,9 @@ use Rattle.c_interface.proofs.tickbound_preview.Tie as tie
 
 returns : tie.Need-returns
 returns c =
-    let b = c.before.before.before.preview.ensures in
+    let b = c.preview-previewed.ensures in
     let w = c.word_of.ensures ∙ ap word_of b.0 in
     (w, (b.1, preview-tells _ _ _ _ (omega arith) _ w))
 
-pub tickbound-preview-spec : {M : Type 1} → statement M
-tickbound-preview-spec = tie.close (tie.spec (λ c κs. search rules) (λ c κs. search rules) (λ c. search rules) returns)
+pub tickbound_preview_spec : {M : Type 1} → statement M
+tickbound_preview_spec = tie.close (tie.spec (λ c κs. search rules) (λ c κs. search rules) (λ c. search rules) returns)

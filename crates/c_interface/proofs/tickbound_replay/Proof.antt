@@ -8,10 +8,10 @@ use Rattle.c_interface.proofs.tickbound_replay.Tie as tie
 
 returns : tie.Need-returns
 returns c =
-    let b = c.before.before.before.replay.ensures in
+    let b = c.replay-replayed.ensures in
     let w = c.word_of.ensures ∙ ap word_of b.0 in
     let l = replay-length _ _ _ _ b.0 _ c.word_of.ensures in
     (w, (b.1.0, (replay-tells _ _ _ _ w, rw l at b.1.1)))
 
-pub tickbound-replay-spec : {M : Type 1} → statement M
-tickbound-replay-spec = tie.close (tie.spec (λ c κs. search rules) (λ c κs. search rules) (λ c. search rules) returns)
+pub tickbound_replay_spec : {M : Type 1} → statement M
+tickbound_replay_spec = tie.close (tie.spec (λ c κs. search rules) (λ c κs. search rules) (λ c. search rules) returns)

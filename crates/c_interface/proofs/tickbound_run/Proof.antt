@@ -8,11 +8,11 @@ use Rattle.c_interface.proofs.tickbound_run.Tie as tie
 
 returns : tie.Need-returns
 returns c =
-    let b = c.before.before.before.run.ensures in
+    let b = c.run-answer.ensures in
     let w = c.word_of.ensures ∙ ap word_of b.0 in
     let l = run_length _ _ _ b.0 _ c.word_of.ensures in
     let k = b.1.1 in
     (w, (b.1.0, (run-tells _ _ _ w, (rw l at k.0, (rw l at k.1.0, run-listed-word _ _ _ w)))))
 
-pub tickbound-run-spec : {M : Type 1} → statement M
-tickbound-run-spec = tie.close (tie.spec (λ c κs. search rules) (λ c κs. search rules) (λ c. search rules) returns)
+pub tickbound_run_spec : {M : Type 1} → statement M
+tickbound_run_spec = tie.close (tie.spec (λ c κs. search rules) (λ c κs. search rules) (λ c. search rules) returns)

@@ -31,17 +31,17 @@ fits s = rw (text-parts (lines s.args.body.now) s.args.routine s.args.found) at 
 abbrev w0 : (s : tie.Start) → At 0 0 s.args.out.now
 w0 s = begins-first s (fits s)
 
-abbrev w1 : (c : tie.After-put-bound) → At 1 c.put-bound.result c.put-bound.new.0
+abbrev w1 : (c : tie.After-put_bound-a) → At 1 c.put_bound-a.result c.put_bound-a.new.out
 w1 c =
-    let s = c.before.before.before.before.before in
-    let p = wrote-first s.args.out.now (bound_text s.args.routine.tick (report_in s.args.found)) _ _ c.put-bound.ensures in
-    next (w0 s) (p.ends, p.holds)
+    let s = c in
+    let p = wrote-first s.args.out.now (bound_text s.args.routine.tick (report_in s.args.found)) _ _ c.put_bound-a.ensures in
+    next (w0 s.before.before.before.before.before) (p.ends, p.holds)
 
-abbrev w2 : (c : tie.After-put) → At 2 c.put.result c.put.new.0
-w2 c = next (w1 c.before.before.before.before.before) c.put.ensures
+abbrev w2 : (c : tie.After-put-b) → At 2 c.put-b.result c.put-b.new.out
+w2 c = next (w1 c.before.before.before.before.before.before) c.put-b.ensures
 
-abbrev w3 : (c : tie.After-put-steps) → At 3 c.put-steps.result c.put-steps.new.1.1.1.0
-w3 c = next (w2 c.before.before.before.before) c.put-steps.ensures
+abbrev w3 : (c : tie.After-put_steps) → At 3 c.put_steps.result c.put_steps.new.out
+w3 c = next (w2 c.before.before.before.before) c.put_steps.ensures
 
 returns : tie.Need-returns
 returns c =
@@ -49,13 +49,12 @@ returns c =
     let a = w.start.args in
     rw (text-parts (lines a.body.now) a.routine a.found) (finished-first w)
 
-pub put-explanation-spec : {M : Type 1} → statement M
-put-explanation-spec =
+pub put_explanation_spec : {M : Type 1} → statement M
+put_explanation_spec =
     tie.close
     (tie.spec
-    (λ c κs. let w = w0 c.before.before.before.before in let s = w.start in ((s.pre.1, s.pre.2, s.pre.3), omega (arith, room w)))
-    (λ c. search rules)
-    (λ c κs. room (w1 c.before.before.before.before))
-    (λ c κs. let w = w2 c.before.before.before in (w.start.pre.0, w.start.pre.5, w.start.pre.6, room w))
+    (λ c κs. let w = w0 c.before.before.before.before in let s = w.start in ((s.requires.1, s.requires.2, s.requires.3), omega (arith, room w)))
+    (λ c κs. room (w1 c.before.before.before.before.before))
+    (λ c κs. let w = w2 c.before.before.before in (w.start.requires.0, w.start.requires.5, w.start.requires.6, room w))
     (λ c. search rules)
     returns)

@@ -11,8 +11,8 @@ use Rattle.split_entry.proofs.check.Tie as tie
 returns : tie.Need-returns
 unfolding cuts_checked cells_named listed
 returns c =
-    let s = c.before.before.before.before.before in
-    c.check-cuts.ensures ∙ ap₂ (λ a b. cuts_acceptance (list a ++ list b) s.args.cuts.now) c.before.before.text_of.ensures c.before.text-of2.ensures
+    let s = c in
+    c.check_cuts.ensures ∙ ap₂ (λ a b. cuts_acceptance (list a ++ list b) s.args.cuts.now) c.text_of-cells.ensures c.text_of-fields.ensures
 
-pub check-spec : {M : Type 1} → statement M
-check-spec = tie.close (tie.spec (λ c κs. search rules) (λ c κs. search rules) (λ c κs. search rules) returns)
+pub check_spec : {M : Type 1} → statement M
+check_spec = tie.close (tie.spec (λ c κs. search rules) (λ c κs. search rules) (λ c κs. search rules) returns)

@@ -16,37 +16,37 @@ use Rattle.split_entry.proofs.split_passing.Statement.{statement}
 use Rattle.split_entry.proofs.split_passing.Tie as tie
 
 -- the routine that was read is that of the text
-is_read : (c : tie.After-routine-of) → routine_in c.routine-of.result ≡ routine_of (lines c.before.before.before.before.before.before.before.args.text.now)
+is_read : (c : tie.After-routine_of-routine) → routine_in c.routine_of-routine.result ≡ routine_of (lines c.args.text.now)
 is_read c =
-    let s = c.before.before.before.before.before.before.before in
-    holds-is (routine_of (lines s.args.text.now)) c.routine-of.result c.routine-of.ensures.0
+    let s = c in
+    holds-is (routine_of (lines s.args.text.now)) c.routine_of-routine.result c.routine_of-routine.ensures.0
 
-passed : (c : tie.After-enum-told) → cuts_checked c.before.before.before.before.before.before.args.text.now c.before.before.before.before.before.before.args.cuts.now ≡ Accepted
-passed c = sym c.before.before.check.ensures ∙ c.enum_told.given.1
+passed : (c : tie.In-Accepted) → cuts_checked c.args.text.now c.args.cuts.now ≡ Accepted
+passed c = sym c.check-verdict.ensures ∙ c.in-Accepted.is
 
-split-routine-requires : tie.Need-split-routine-requires
+split-routine-requires : tie.Need-split_routine-requires
 unfolding cuts_checked
 split-routine-requires c κs =
-    let r = c.before in
-    let s = r.before.before.before.before.before.before.before in (
-      (r.routine-of.ensures.1, cuts-few _ s.args.cuts.now (passed r.before)),
-      cases-printable s.args.text.now s.args.cuts.now _ s.requires.0.passes (is_read r) (length s.args.out.now) s.requires.1,
+    let r = c in
+    let s = r in (
+      (r.routine_of-routine.ensures.1, cuts-few _ s.args.cuts.now (passed r.before.before)),
+      cases-printable s.args.text.now s.args.cuts.now _ s.requires.0.passes (is_read r.before) (length s.args.out.now) s.requires.1,
     )
 
-returns : tie.Need-returns
+returns : tie.Need-returns-in-Accepted
 returns c =
-    let r = c.before.before.before.before in
-    let s = r.before.before.before.before.before.before.before in
-    let q = ap (cases_routine s.args.cuts.now) (is_read r) ∙ sym (cuts-passed s.args.text.now s.args.cuts.now (routine_of (lines s.args.text.now)) (passed r.before)) in
-    (c.before.before.split-routine.ensures.0 ∙ ap answer_of q, c.before.before.split-routine.ensures.1 ∙ ap (λ a. memory a s.args.out.now) q)
+    let r = c in
+    let s = r in
+    let q = ap (cases_routine s.args.cuts.now) (is_read r.before.before.before.before) ∙ sym (cuts-passed s.args.text.now s.args.cuts.now (routine_of (lines s.args.text.now)) (passed r.before.before.before.before.before)) in
+    (c.split_routine.ensures.0 ∙ ap answer_of q, c.split_routine.ensures.1 ∙ ap (λ a. memory a s.args.out.now) q)
 
-returns-2 : tie.Need-returns-2
+returns-2 : tie.Need-returns-in-Refused
 returns-2 c =
-    let s = c.before.before.before.before.before.before.before in
-    gives-refusal _ _ (cuts-refused s.args.text.now s.args.cuts.now (routine_of (lines s.args.text.now)) _ (sym c.before.before.before.check.ensures ∙ c.before.verdict.given.1)) _
+    let s = c in
+    gives-refusal _ _ (cuts-refused s.args.text.now s.args.cuts.now (routine_of (lines s.args.text.now)) _ (sym c.check-verdict.ensures ∙ c.in-Refused.is)) _
 
-pub split-passing-spec : {M : Type 1} → statement M
-split-passing-spec =
+pub split_passing_spec : {M : Type 1} → statement M
+split_passing_spec =
     tie.close
     (tie.spec
     (λ c κs. search rules)

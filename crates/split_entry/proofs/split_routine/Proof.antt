@@ -5,13 +5,13 @@ use borrow.Author.Rules.{rules}
 use Rattle.split_entry.proofs.split_routine.Statement.{statement}
 use Rattle.split_entry.proofs.split_routine.Tie as tie
 
-put-found-requires : tie.Need-put-found-requires
+put-found-requires : tie.Need-put_found-requires
 unfolding cases_routine
-put-found-requires c κs = (c.before.bounded.ensures.1, found-printable _ _ _ _ c.before.bounded.ensures.0 c.before.before.before.before.requires.1)
+put-found-requires c κs = (c.bounded-found.ensures.1, found-printable _ _ _ _ c.bounded-found.ensures.0 c.requires.1)
 
 returns : tie.Need-returns
 unfolding cases_routine
-returns c = found-gives _ 0 _ _ c.before.before.before.before.bounded.ensures.0 _ _ _ c.before.before.put-found.ensures
+returns c = found-gives _ 0 _ _ c.bounded-found.ensures.0 _ _ _ c.put_found.ensures
 
-pub split-routine-spec : {M : Type 1} → statement M
-split-routine-spec = tie.close (tie.spec (λ c κs. search rules) put-found-requires (λ c. search rules) returns)
+pub split_routine_spec : {M : Type 1} → statement M
+split_routine_spec = tie.close (tie.spec (λ c κs. search rules) put-found-requires (λ c. search rules) returns)

@@ -11,35 +11,34 @@ use borrow.Author.Rules.{rules}
 use Rattle.trace_entry.proofs.put_trace.Statement.{statement}
 use Rattle.trace_entry.proofs.put_trace.Tie as tie
 
-put-requires : tie.Need-put-requires
+put-requires : tie.Need-put-e-requires
 put-requires c κs =
-    let s = c.before.before.before.before.before.before.before.before in
+    let s = c in
     omega (arith, s.requires.1, text-length (trace_in s.args.routine))
 
-slice-aggregate-put-entries : tie.Need-slice-aggregate-put-entries
+slice-aggregate-put-entries : tie.Need-slice_bounds-put_entries-end
 slice-aggregate-put-entries c =
-    let p = c.before.before.before.before.before in
-    let s = p.before.before.before.before.before.before.before.before.before in
+    let p = c in
+    let s = p in
     sym (taken _ s.args.routine.answers.values (omega (arith, s.requires.0.places, s.requires.0.answered)))
 
-put-entries-requires : tie.Need-put-entries-requires
+put-entries-requires : tie.Need-put_entries-requires
 put-entries-requires c κs =
-    let p = c.before.before.before.before.before in
-    let s = p.before.before.before.before.before.before.before.before.before in
-    ((s.requires.0.program, record { formed = s.requires.0.formed; steps = s.requires.0.budget }), omega (arith, s.requires.1, text-length (trace_in s.args.routine), p.put.ensures.0, p.put.auto.0))
+    let p = c in
+    let s = p in
+    ((s.requires.0.program, record { formed = s.requires.0.formed; steps = s.requires.0.budget }), omega (arith, s.requires.1, text-length (trace_in s.args.routine), p.put-e.ensures.0, p.put-e.auto.out))
 
 returns : tie.Need-returns
 unfolding trace_text
 returns c =
-    let p = c.before.before.before.before.before.before.before.before in
-    let s = p.before.before.before.before.before.before.before.before.before in
-    wrote-start (wrote-more (wrote-more (wrote_none s.args.out.now 0 zero-le) trace_names p.put.ensures) (entries_text (trace_in s.args.routine)) c.before.before.put_entries.ensures)
+    let p = c in
+    let s = p in
+    wrote-start (wrote-more (wrote-more (wrote_none s.args.out.now 0 zero-le) trace_names p.put-e.ensures) (entries_text (trace_in s.args.routine)) c.put_entries.ensures)
 
-pub put-trace-spec : {M : Type 1} → statement M
-put-trace-spec =
+pub put_trace_spec : {M : Type 1} → statement M
+put_trace_spec =
     tie.close
     (tie.spec
-    (λ c. search rules)
     put-requires
     (λ c. search rules)
     slice-aggregate-put-entries

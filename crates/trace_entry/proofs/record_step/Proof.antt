@@ -29,53 +29,53 @@ no_way x h p e = ⊎_elim
     (⊎_elim (λ (k : ◌≡◌ {A = ℕ} 2 1). omega arith) (λ (k : ◌≡◌ {A = ℕ} 2 3). omega arith))
     (subst (λ v. OneOf (0 ∷ 1 ∷ 3 ∷ []) (tag_of next.the_type v)) e h)
 
-returns : tie.Need-returns
+returns : tie.Need-returns-in-Stops
 returns c =
-    let b = c.before.before.before in
-    let x = b.before.step in
-    let took = b.taken-after in
-    let s = b.before.before.before in
-    let p = c.before.next.given in
+    let b = c in
+    let x = b.step-stepped in
+    let took = b.taken_after-asked in
+    let s = b in
+    let p = c.in-Stops in
     record {
-      makes = λ r st. stop-made _ _ _ _ _ _ r st x.result.next x.result.state x.result.blocks x.result.calls _ b.before.before.answer_at.ensures x.ensures.0 x.ensures.1.0 p.0.0 took.result (took.ensures.0 _) p.1;
-      costs = λ r st h. stop-costs _ _ _ _ _ _ r st x.result.next x.result.state x.result.blocks x.result.calls _ b.before.before.answer_at.ensures x.ensures.0 x.ensures.1.0 p.0.0 took.result (took.ensures.0 _) p.1;
-      goes_on = λ r st h. stop-stands _ _ _ _ _ _ r st x.result.next x.result.state x.result.blocks x.result.calls _ b.before.before.answer_at.ensures x.ensures.0 x.ensures.1.0 p.0.0 took.result (took.ensures.0 _) p.1;
+      makes = λ r st. stop-made _ _ _ _ _ _ r st x.result.next x.result.state x.result.blocks x.result.calls _ b.answer_at-answer.ensures x.ensures.0 x.ensures.1.0 p.p took.result (took.ensures.0 _) p.is;
+      costs = λ r st h. stop-costs _ _ _ _ _ _ r st x.result.next x.result.state x.result.blocks x.result.calls _ b.answer_at-answer.ensures x.ensures.0 x.ensures.1.0 p.p took.result (took.ensures.0 _) p.is;
+      goes_on = λ r st h. stop-stands _ _ _ _ _ _ r st x.result.next x.result.state x.result.blocks x.result.calls _ b.answer_at-answer.ensures x.ensures.0 x.ensures.1.0 p.p took.result (took.ensures.0 _) p.is;
       formed = s.requires.1;
       few = took.ensures.1;
     }
 
-returns-2 : tie.Need-returns-2
+returns-2 : tie.Need-returns-in_default-next
 returns-2 c =
-    let b = c.before.before in
-    let x = b.before.step in
-    let s = b.before.before.before in
+    let b = c in
+    let x = b.step-stepped in
+    let s = b in
     record {
-      makes = λ r st. still-stays _ _ _ _ _ _ r st x.result.next x.result.state x.result.blocks x.result.calls _ b.before.before.answer_at.ensures x.ensures.0 x.ensures.1.0 (no_stop _ c.before.match.keys2) (no_way _ c.match2.keys2);
+      makes = λ r st. still-stays _ _ _ _ _ _ r st x.result.next x.result.state x.result.blocks x.result.calls _ b.answer_at-answer.ensures x.ensures.0 x.ensures.1.0 (no_stop _ c.in_default.in_default-own.keys2) (no_way _ c.in_default-next.in_default-next-own.keys2);
       costs = λ r st h. absurd (false≢true h);
       goes_on = λ r st h. absurd (false≢true h);
       formed = s.requires.1;
       few = omega arith;
     }
 
-returns-3 : tie.Need-returns-3
+returns-3 : tie.Need-returns
 returns-3 c =
-    let at-next2 = c.before.before.before in
-    let b = at-next2.before.before.before in
-    let at-step = b.before in
-    let at-answer-at = at-step.before in
-    let x = at-step.step in
-    let took = b.taken-after in
-    let p = at-next2.next2.given in
+    let at-next2 = c in
+    let b = at-next2 in
+    let at-step = b in
+    let at-answer-at = at-step in
+    let x = at-step.step-stepped in
+    let took = b.taken_after-asked in
+    let p = at-next2.in-Goes in
     record {
-      makes = λ r st. step-made _ _ _ _ _ _ r st x.result.next x.result.state x.result.blocks x.result.calls _ at-answer-at.answer_at.ensures x.ensures.0 x.ensures.1.0 p.0.0 took.result (took.ensures.0 _) p.1;
-      costs = λ r st h. step-costs _ _ _ _ _ _ r st x.result.next x.result.state x.result.blocks x.result.calls _ at-answer-at.answer_at.ensures x.ensures.0 x.ensures.1.0 p.0.0 took.result (took.ensures.0 _) p.1;
-      goes_on = λ r st h. step-stands _ _ _ _ _ _ r st x.result.next x.result.state x.result.blocks x.result.calls _ at-answer-at.answer_at.ensures x.ensures.0 x.ensures.1.0 p.0.0 took.result (took.ensures.0 _) p.1;
+      makes = λ r st. step-made _ _ _ _ _ _ r st x.result.next x.result.state x.result.blocks x.result.calls _ at-answer-at.answer_at-answer.ensures x.ensures.0 x.ensures.1.0 p.p took.result (took.ensures.0 _) p.is;
+      costs = λ r st h. step-costs _ _ _ _ _ _ r st x.result.next x.result.state x.result.blocks x.result.calls _ at-answer-at.answer_at-answer.ensures x.ensures.0 x.ensures.1.0 p.p took.result (took.ensures.0 _) p.is;
+      goes_on = λ r st h. step-stands _ _ _ _ _ _ r st x.result.next x.result.state x.result.blocks x.result.calls _ at-answer-at.answer_at-answer.ensures x.ensures.0 x.ensures.1.0 p.p took.result (took.ensures.0 _) p.is;
       formed = x.ensures.1.1.0.0;
       few = took.ensures.1;
     }
 
-pub record-step-spec : {M : Type 1} → statement M
-record-step-spec =
+pub record_step_spec : {M : Type 1} → statement M
+record_step_spec =
     tie.close
     (tie.spec
     (λ c κs. search rules)
