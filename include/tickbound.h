@@ -4,8 +4,8 @@
  * instruction replaced, the nearest number that moves the bound and a routine file of a seed, for a loader in C.
  *
  * `tickbound install PREFIX` puts this header into PREFIX/include and the library to link with into PREFIX/lib:
- * `cc -I PREFIX/include .. -L PREFIX/lib -ltickbound`, on x86-64 Linux. In the repository `rt staticlib c_interface`
- * writes the same library to target/staticlib/libc_interface.a.
+ * `cc -I PREFIX/include .. -L PREFIX/lib -ltickbound`, on x86-64 Linux. In the repository `tests/build` puts the same
+ * library into target/staticlib/libc_interface.a.
  *
  * A loader asks for the decision, reads it, and loads where it is FITS and nowhere else (examples/loader.c):
  *
