@@ -93,19 +93,19 @@ typedef struct {
  * files of seeds). Each call was made on no more stack than the macro says. This is measured (tests/stack.c), not
  * proved. */
 #define TICKBOUND_DECIDE_STACK (2304 * 1024)        /* 1,758 */
-#define TICKBOUND_MERGE_STACK (2048 * 1024)         /* 1,676 */
-#define TICKBOUND_EXPLAIN_MERGE_STACK (2304 * 1024) /* 1,696 */
-#define TICKBOUND_SPLIT_STACK (2560 * 1024)         /* 1,823 */
-#define TICKBOUND_DECIDE_SPLIT_STACK (2560 * 1024)  /* 1,823 */
+#define TICKBOUND_MERGE_STACK (2048 * 1024)         /* 1,677 */
+#define TICKBOUND_EXPLAIN_MERGE_STACK (2304 * 1024) /* 1,697 */
+#define TICKBOUND_SPLIT_STACK (2560 * 1024)         /* 1,827 */
+#define TICKBOUND_DECIDE_SPLIT_STACK (2560 * 1024)  /* 1,824 */
 #define TICKBOUND_PREVIEW_STACK (256 * 1024)        /* 184 */
-#define TICKBOUND_EXPLAIN_STACK (256 * 1024)        /* 160 */
-#define TICKBOUND_NEAREST_STACK (256 * 1024)        /* 164 */
+#define TICKBOUND_EXPLAIN_STACK (256 * 1024)        /* 162 */
+#define TICKBOUND_NEAREST_STACK (256 * 1024)        /* 163 */
 #define TICKBOUND_BOUND_STACK (256 * 1024)          /* 152 */
 #define TICKBOUND_REPLAY_STACK (128 * 1024)         /* 59 */
 #define TICKBOUND_TRACE_STACK (128 * 1024)          /* 64 */
-#define TICKBOUND_RUN_STACK (128 * 1024)            /* 54 */
-#define TICKBOUND_IMPORT_STACK (64 * 1024)          /* 9 */
-#define TICKBOUND_EXPORT_STACK (64 * 1024)          /* 8 */
+#define TICKBOUND_RUN_STACK (128 * 1024)            /* 56 */
+#define TICKBOUND_IMPORT_STACK (64 * 1024)          /* 17 */
+#define TICKBOUND_EXPORT_STACK (64 * 1024)          /* 10 */
 #define TICKBOUND_GENERATE_STACK (64 * 1024)        /* 1 */
 
 /* Report memory that is enough for every report; with less a call is refused by 10. */
