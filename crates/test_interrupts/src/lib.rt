@@ -1,4 +1,6 @@
 // For the comparison in tests/ only: a run of a routine file, interrupted after a number of steps and bounded afresh. The meaning is in specs/.
+#![tactic(auto)]
+
 ghost use Rattle.std.specs.Prelude.{◌≡◌, ◌++◌, ◌≤◌, length, drop};
 ghost use Rattle.machine_state.specs.HeldProgram.{program_of, sizes_of, IsProgram};
 ghost use Rattle.machine_state.specs.HeldState.{whole};

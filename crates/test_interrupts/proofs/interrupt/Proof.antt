@@ -5,13 +5,13 @@ use Rattle.test_interrupts.proofs.InterruptLaws.{numbers-are}
 use Rattle.test_interrupts.proofs.interrupt.Statement.{statement}
 use Rattle.test_interrupts.proofs.interrupt.Tie as tie
 
-afresh-requires : tie.Need-afresh-requires
+afresh-requires : tie.Need-afresh-found-requires
 afresh-requires c κs =
-    let s = c.before.before.before in
-    (s.requires.0, record { formed = c.before.before.after.ensures.1.1; budget_fits = s.requires.1.1; openings_fit = omega arith })
+    let s = c in
+    (s.requires.0, record { formed = c.after-r.ensures.1.1; budget_fits = s.requires.1.1; openings_fit = omega arith })
 
 returns : tie.Need-returns
-returns c = numbers-are _ _ _ _ _ _ _ c.Numbers-of.ensures c.before.afresh.ensures _ c.before.before.before.before.after.ensures.0
+returns c = numbers-are _ _ _ _ _ _ _ c.numbers_of.ensures c.afresh-found.ensures _ c.after-r.ensures.0
 
-pub interrupt-spec : {M : Type 1} → statement M
-interrupt-spec = tie.close (tie.spec (λ c κs. search rules) afresh-requires (λ c κs. search rules) returns)
+pub interrupt_spec : {M : Type 1} → statement M
+interrupt_spec = tie.close (tie.spec (λ c κs. search rules) afresh-requires (λ c κs. search rules) returns)

@@ -8,14 +8,14 @@ use Rattle.test_interrupts.proofs.numbers_of.Statement.{statement}
 use Rattle.test_interrupts.proofs.numbers_of.Tie as tie
 
 -- the first number
-stopped-is : (c : tie.Joined1) → c.if1.stopped ≡ cond c.before.before.args.r.stopped 1 0
-stopped-is c = ⊎_elim (λ x. rw x.0.taken x.1) (λ x. rw x.0.left x.1) c.if1.branch
+stopped-is : (c : tie.Joined-r) → c.if-r.stopped ≡ cond c.args.r.stopped 1 0
+stopped-is c = ⊎_elim (λ x. rw x.if-r.true x.stopped-is) (λ x. rw x.if-r.false x.stopped-is) c.if-r.branch-raw
 
-told-of-requires : tie.Need-told-of-requires
+told-of-requires : tie.Need-told_of-told-requires
 told-of-requires c κs = search rules
 
 returns : tie.Need-returns
-returns c = numbered _ _ _ _ (stopped-is c.before) c.told_of.ensures
+returns c = numbered _ _ _ _ (stopped-is c.before) c.told_of-told.ensures
 
-pub numbers-of-spec : {M : Type 1} → statement M
-numbers-of-spec = tie.close (tie.spec told-of-requires returns)
+pub numbers_of_spec : {M : Type 1} → statement M
+numbers_of_spec = tie.close (tie.spec told-of-requires returns)

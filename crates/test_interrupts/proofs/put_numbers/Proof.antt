@@ -12,42 +12,42 @@ use Rattle.test_interrupts.proofs.InterruptLaws.{put_next, put_all}
 use Rattle.test_interrupts.proofs.put_numbers.Statement.{statement}
 use Rattle.test_interrupts.proofs.put_numbers.Tie as tie
 
-abbrev invariant-loop : tie.invariant-loop
-invariant-loop out₀ numbers i₀ out i = (i ≤ 13) × (length out ≡ length out₀) × (out ≡ over out₀ 0 (take i numbers))
+abbrev invariant-loop-i : tie.invariant-loop-i
+invariant-loop-i out₀ numbers i₀ out i = (i ≤ 13) × (length out ≡ length out₀) × (out ≡ over out₀ 0 (take i numbers))
 
-abbrev decreases-loop : tie.decreases-loop
-decreases-loop out₀ numbers i₀ out i = 13 - i
+abbrev decreases-loop-i : tie.decreases-loop-i
+decreases-loop-i out₀ numbers i₀ out i = 13 - i
 
-thirteen : (s : tie.Start invariant-loop decreases-loop) → length s.args.t2 ≡ 13
+thirteen : (s : tie.Start invariant-loop-i decreases-loop-i) → length s.args.numbers ≡ 13
 thirteen s = search rules
 
-loop-holds : tie.Need-loop-init invariant-loop decreases-loop
+loop-holds : tie.Need-loop-i-init invariant-loop-i decreases-loop-i
 loop-holds c = (omega arith, refl, paste-zero c.args.out.now 0 [])
 
-loop-again : tie.Need-loop-preserved invariant-loop decreases-loop
+loop-again : tie.Need-loop-i-preserved invariant-loop-i decreases-loop-i
 loop-again c =
-    let l = c.before in
-    let a = l.before.args in
-    let n = thirteen l.before in (
+    let l = c in
+    let a = l.args in
+    let n = thirteen l.before.before in (
       omega arith,
-      rw length-set l.loop.invariant.1,
-      put_next a.out.now a.t2 l.loop.i (omega (arith, l.before.requires)) (omega (arith, c.loop-test.true)) _ l.loop.invariant.2,
+      rw length-set l.loop-i.invariant.1,
+      put_next a.out.now a.numbers l.loop-i.i (omega (arith, l.requires)) (omega (arith, c.loop-i-test.true)) _ l.loop-i.invariant.2,
     )
 
-same_length : tie.Need-same-length invariant-loop decreases-loop
-same_length c = c.before.loop.invariant.1
+same_length : tie.Need-shape_of-out invariant-loop-i decreases-loop-i
+same_length c = c.loop-i.invariant.1
 
-returns : tie.Need-returns invariant-loop decreases-loop
+returns : tie.Need-returns invariant-loop-i decreases-loop-i
 returns c =
-    let l = c.before in
-    put_all l.before.args.out.now l.before.args.t2 l.loop.i (omega (arith, thirteen l.before, c.loop-test.false, l.loop.invariant.0)) _ l.loop.invariant.2
+    let l = c in
+    put_all l.args.out.now l.args.numbers l.loop-i.i (omega (arith, thirteen l.before.before, c.loop-i-test.false, l.loop-i.invariant.0)) _ l.loop-i.invariant.2
 
-pub put-numbers-spec : {M : Type 1} → statement M
-put-numbers-spec =
+pub put_numbers_spec : {M : Type 1} → statement M
+put_numbers_spec =
     tie.close
     (tie.spec
-    invariant-loop
-    decreases-loop
+    invariant-loop-i
+    decreases-loop-i
     loop-holds
     (λ c. search rules)
     (λ c. search rules)

@@ -12,44 +12,44 @@ use Rattle.test_interrupts.proofs.InterruptLaws.{tells-refusal, tells-numbers}
 use Rattle.test_interrupts.proofs.tickbound_test_after.Statement.{statement}
 use Rattle.test_interrupts.proofs.tickbound_test_after.Tie as tie
 
-enum_told : tie.Need-enum-told
+enum_told : tie.Need-enum_told-1
 enum_told c = search rules
 
-routine-of-requires : tie.Need-routine-of-requires
+routine-of-requires : tie.Need-routine_of-x-requires
 routine-of-requires c κs =
-    let k = c.before.before in
-    accepted-passes Run 13 _ k.before.before.before.args.text.now (sym k.check.ensures ∙ c.enum_told.given.1)
+    let k = c in
+    accepted-passes Run 13 _ k.args.text.now (sym k.check-verdict.ensures ∙ c.in-Accepted.is)
 
-interrupted-requires : tie.Need-interrupted-requires
-interrupted-requires c κs = c.routine-of.ensures.1
+interrupted-requires : tie.Need-interrupted-numbers-requires
+interrupted-requires c κs = c.routine_of-x.ensures.1
 
-put-numbers-requires : tie.Need-put-numbers-requires
+put-numbers-requires : tie.Need-put_numbers-requires
 put-numbers-requires c κs =
-    let k = c.before.before.before.before.before in
-    let s = k.before.before.before in
-    accepted-enough Run 13 (length s.args.out.now) s.args.text.now (sym k.check.ensures ∙ c.before.before.before.enum_told.given.1)
+    let k = c in
+    let s = k in
+    accepted-enough Run 13 (length s.args.out.now) s.args.text.now (sym k.check-verdict.ensures ∙ c.in-Accepted.is)
 
-returns : tie.Need-returns
+returns : tie.Need-returns-in-Accepted
 unfolding interrupt_answer read_by
 returns c =
-    let b = c.before.before in
-    let held = b.before.before.before.routine-of in
-    let k = b.before.before.before.before.before.before in
-    let s = k.before.before.before in
-    let accepts = sym k.check.ensures ∙ b.before.before.before.before.enum_told.given.1 in
+    let b = c in
+    let held = b.routine_of-x in
+    let k = b in
+    let s = k in
+    let accepts = sym k.check-verdict.ensures ∙ b.in-Accepted.is in
     let p = read-answers Run 13 (length s.args.out.now) s.args.text.now (λ x. reported (interrupted x s.args.n)) accepts held.result held.ensures.0 in
-    tells-numbers _ s.args.out.now _ (p ∙ ap reported (sym b.before.before.interrupted.ensures)) _ b.put-numbers.ensures
+    tells-numbers _ s.args.out.now _ (p ∙ ap reported (sym b.interrupted-numbers.ensures)) _ b.put_numbers.ensures
 
-returns-2 : tie.Need-returns-2
+returns-2 : tie.Need-returns-in-Refused
 unfolding interrupt_answer read_by
 returns-2 c =
-    let k = c.before.before.before.before in
-    let s = k.before.before.before in
-    let p = check-refused (λ x. reported (interrupted x s.args.n)) (read_run s.args.text.now) 13 (length s.args.out.now) _ (sym k.check.ensures ∙ c.before.before.verdict.given.1) in
+    let k = c in
+    let s = k in
+    let p = check-refused (λ x. reported (interrupted x s.args.n)) (read_run s.args.text.now) 13 (length s.args.out.now) _ (sym k.check-verdict.ensures ∙ c.in-Refused.is) in
     tells-refusal _ s.args.out.now _ p _ c.number.ensures
 
-pub tickbound-test-after-spec : {M : Type 1} → statement M
-tickbound-test-after-spec =
+pub tickbound_test_after_spec : {M : Type 1} → statement M
+tickbound_test_after_spec =
     tie.close
     (tie.spec
     (λ c κs. search rules)
